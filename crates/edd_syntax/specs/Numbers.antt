@@ -1,0 +1,99 @@
+-- The numbers of kinds and of attributes, and which kinds have which attributes.
+use Rattle.std.specs.Prelude.{ℕ, Bool, ◌==◌, List, [], ◌∷◌}
+use Rattle.std.specs.List.{list_any}
+use Rattle.edd_syntax.specs.declared.numbers.Kind.{Kind}
+use Rattle.edd_syntax.specs.declared.numbers.Kind.TheVariants.{Variable, Command, Menu, Collection, Method}
+use Rattle.edd_syntax.specs.declared.numbers.ItemNo.{ItemNo}
+use Rattle.edd_syntax.specs.declared.numbers.ItemNo.TheVariants as item_no
+use Rattle.edd_syntax.specs.declared.numbers.Attr.{Attr}
+use Rattle.edd_syntax.specs.declared.numbers.Attr.TheVariants as attr
+
+-- ---- kinds
+
+abbrev pub kind_number : Kind → ℕ
+kind_number Variable = 1
+kind_number Command = 2
+kind_number Menu = 3
+kind_number Collection = 4
+kind_number Method = 5
+
+abbrev pub same_kind : Kind → Kind → Bool
+same_kind a b = kind_number a == kind_number b
+
+-- the item of a kind by its number among the items of that kind
+abbrev pub item_number : Kind → ℕ → ItemNo
+item_number Variable n = item_no.Variable (record { 0 = n })
+item_number Command n = item_no.Command (record { 0 = n })
+item_number Menu n = item_no.Menu (record { 0 = n })
+item_number Collection n = item_no.Collection (record { 0 = n })
+item_number Method n = item_no.Method (record { 0 = n })
+
+abbrev pub kind_of : ItemNo → Kind
+kind_of (item_no.Variable n) = Variable
+kind_of (item_no.Command n) = Command
+kind_of (item_no.Menu n) = Menu
+kind_of (item_no.Collection n) = Collection
+kind_of (item_no.Method n) = Method
+
+-- the number of an item among the items of its kind
+abbrev pub index_of : ItemNo → ℕ
+index_of (item_no.Variable n) = n.0
+index_of (item_no.Command n) = n.0
+index_of (item_no.Menu n) = n.0
+index_of (item_no.Collection n) = n.0
+index_of (item_no.Method n) = n.0
+
+-- ---- attributes
+
+abbrev pub attr_number : Attr → ℕ
+attr_number attr.Label = 1
+attr_number attr.Help = 2
+attr_number attr.Class = 3
+attr_number attr.Handling = 4
+attr_number attr.ConstantUnit = 5
+attr_number attr.Validity = 6
+attr_number attr.DefaultValue = 7
+attr_number attr.MinValue = 8
+attr_number attr.MaxValue = 9
+attr_number attr.DisplayFormat = 10
+attr_number attr.EditFormat = 11
+attr_number attr.Enumerators = 12
+attr_number attr.Number = 13
+attr_number attr.Operation = 14
+attr_number attr.Transaction = 15
+attr_number attr.Request = 16
+attr_number attr.Reply = 17
+attr_number attr.ResponseCodes = 18
+attr_number attr.Items = 19
+attr_number attr.Members = 20
+attr_number attr.Definition = 21
+
+abbrev pub same_attr : Attr → Attr → Bool
+same_attr a b = attr_number a == attr_number b
+
+-- the kinds whose items may have an attribute
+abbrev pub kinds_with : Attr → List Kind
+kinds_with attr.Label = Variable ∷ Menu ∷ Collection ∷ Method ∷ []
+kinds_with attr.Help = Variable ∷ Menu ∷ Collection ∷ Method ∷ []
+kinds_with attr.Class = Variable ∷ Method ∷ []
+kinds_with attr.Handling = Variable ∷ []
+kinds_with attr.ConstantUnit = Variable ∷ []
+kinds_with attr.Validity = Variable ∷ Menu ∷ Method ∷ []
+kinds_with attr.DefaultValue = Variable ∷ []
+kinds_with attr.MinValue = Variable ∷ []
+kinds_with attr.MaxValue = Variable ∷ []
+kinds_with attr.DisplayFormat = Variable ∷ []
+kinds_with attr.EditFormat = Variable ∷ []
+kinds_with attr.Enumerators = Variable ∷ []
+kinds_with attr.Number = Command ∷ []
+kinds_with attr.Operation = Command ∷ []
+kinds_with attr.Transaction = Command ∷ []
+kinds_with attr.Request = Command ∷ []
+kinds_with attr.Reply = Command ∷ []
+kinds_with attr.ResponseCodes = Command ∷ []
+kinds_with attr.Items = Menu ∷ []
+kinds_with attr.Members = Collection ∷ []
+kinds_with attr.Definition = Method ∷ []
+
+abbrev pub has_attr : Kind → Attr → Bool
+has_attr kind a = list_any (same_kind kind) (kinds_with a)

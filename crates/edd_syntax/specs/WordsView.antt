@@ -1,0 +1,20 @@
+-- What texts, strings and answers in the code stand for.
+use Rattle.std.specs.Prelude.{map, string_bytes}
+use Rattle.edd_syntax.specs.declared.text.Text.{Text}
+use Rattle.edd_syntax.specs.declared.text.Text.TheVariants as written
+use Rattle.edd_syntax.specs.declared.words.Variant.{Variant}
+use Rattle.edd_syntax.specs.declared.words.Words.{Words}
+use Rattle.edd_syntax.specs.declared.words.Words.TheVariants as words
+use Rattle.edd_syntax.specs.Text as texts
+use Rattle.edd_syntax.specs.Words as strings
+
+abbrev pub text_of : Text → texts.Text
+text_of (written.Quoted raw) = texts.Quoted (string_bytes raw)
+text_of (written.Key name) = texts.Key (string_bytes name)
+
+abbrev pub variant_of : Variant → strings.Variant
+variant_of v = record { code = string_bytes v.code; text = string_bytes v.text }
+
+abbrev pub string_of : Words → strings.Words
+string_of (words.Variants first rest) = strings.Variants (variant_of first) (map variant_of rest.items)
+string_of (words.Key key) = strings.Key (string_bytes key.name)

@@ -1,0 +1,64 @@
+//! The operators of expressions, and the builtin functions of methods.
+
+/// An operator on two numbers that gives a number; in methods also before `=`.
+#[derive(Clone, Copy, PartialEq, Eq, Debug)]
+pub enum Operator {
+    Add,
+    Subtract,
+    Multiply,
+    Divide,
+    Remainder,
+    ShiftLeft,
+    ShiftRight,
+    And,
+    Or,
+    Xor,
+}
+
+/// A comparison of two numbers, which gives 0 or 1.
+#[derive(Clone, Copy, PartialEq, Eq, Debug)]
+pub enum Comparison {
+    Equal,
+    NotEqual,
+    Less,
+    LessOrEqual,
+    Greater,
+    GreaterOrEqual,
+}
+
+/// An operator before its operand: `+`, `-`, `!` and `~`.
+#[derive(Clone, Copy, PartialEq, Eq, Debug)]
+pub enum UnaryOperator {
+    Plus,
+    Minus,
+    Not,
+    Complement,
+}
+
+/// `++` and `--`, before or after a reference.
+#[derive(Clone, Copy, PartialEq, Eq, Debug)]
+pub enum IncrementOperator {
+    PreIncrement,
+    PostIncrement,
+    PreDecrement,
+    PostDecrement,
+}
+
+/// A function that methods may call.
+#[derive(Clone, Copy, PartialEq, Eq, Debug)]
+pub enum Builtin {
+    PutMessage,
+    Acknowledge,
+    Delay,
+    GetDevVarValue,
+    SelectFromList,
+    SendCommand,
+    SendCommandTrans,
+    SaveValues,
+    IvarValue,
+    LvarValue,
+    Iassign,
+    Lassign,
+    Abort,
+    ProcessAbort,
+}

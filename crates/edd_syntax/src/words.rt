@@ -1,0 +1,27 @@
+//! Strings in several languages.
+
+ghost use Rattle.std.specs.Prelude.{IsTrue, string_bytes};
+ghost use Rattle.edd_syntax.specs.Names.{is_name};
+ghost use Rattle.edd_syntax.specs.Words.{is_code};
+
+/// A text in one language. The code is two lower-case letters, two such pairs with a space between, or three digits.
+#[derive(Drop)]
+pub struct Variant {
+    pub code: String,
+    pub text: String,
+    pub ghost coded: { IsTrue (is_code (string_bytes code)) },
+}
+
+/// The name of a text of the dictionary.
+#[derive(Drop)]
+pub struct Key {
+    pub name: String,
+    pub ghost named: { IsTrue (is_name (string_bytes name)) },
+}
+
+/// A string of a description: one or more variants in the order of the source, or a key.
+#[derive(Drop)]
+pub enum Words {
+    Variants { first: Variant, rest: Vec<Variant> },
+    Key(Key),
+}
