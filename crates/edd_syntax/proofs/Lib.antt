@@ -1,1 +1,4 @@
 pub mod Bits
+pub mod TurnLaws
+pub mod WorkedRuns
+pub mod WorkedTexts

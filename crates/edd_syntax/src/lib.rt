@@ -2,8 +2,14 @@
 #![tactic(auto)]
 
 pub mod answer;
+pub mod cond;
+pub mod expr;
+pub mod item;
+pub mod laws;
 pub mod numbers;
 pub mod operators;
+pub mod reference;
+pub mod stmt;
 pub mod symbols;
 pub mod text;
 pub mod types;

@@ -1,4 +1,4 @@
-//! The types of variables and the classes of response codes.
+//! Words of the language that stand for one of a few things.
 
 /// The type of a variable.
 #[derive(Clone, Copy, PartialEq, Eq, Debug)]
@@ -7,6 +7,22 @@ pub enum VarType {
     UnsignedInteger,
     Enumerated,
     BitEnumerated,
+}
+
+/// How a variable may be used.
+#[derive(Clone, Copy, PartialEq, Eq, Debug)]
+pub enum Handling {
+    Read = 1,
+    Write,
+    ReadWrite,
+}
+
+/// What a command does.
+#[derive(Clone, Copy, PartialEq, Eq, Debug)]
+pub enum Operation {
+    Read = 1,
+    Write,
+    Command,
 }
 
 /// The class of a response code.

@@ -1,0 +1,209 @@
+-- Worked examples, computed.
+use Rattle.std.proofs.Common.{◌≡◌, refl, ℕ, ℤ, pos, negsuc, List, [], ◌∷◌, ◌++◌}
+use Rattle.std.specs.Prelude.{Some, None, codes}
+use Rattle.edd_syntax.specs.declared.numbers.VarNo.{VarNo}
+use Rattle.edd_syntax.specs.declared.numbers.ItemNo.TheVariants as item_no
+use Rattle.edd_syntax.specs.declared.operators.Operator.TheVariants as operator
+use Rattle.edd_syntax.specs.declared.operators.Comparison.TheVariants as comparison
+use Rattle.edd_syntax.specs.declared.operators.UnaryOperator.TheVariants as unary_operator
+use Rattle.edd_syntax.specs.declared.operators.IncrementOperator.TheVariants as increment
+use Rattle.edd_syntax.specs.declared.operators.Builtin.{Builtin}
+use Rattle.edd_syntax.specs.declared.operators.Builtin.TheVariants as builtin
+use Rattle.edd_syntax.specs.declared.types.VarType.TheVariants as var_type
+use Rattle.edd_syntax.specs.declared.answer.Trap.TheVariants as trap
+use Rattle.edd_syntax.specs.Text as texts
+use Rattle.edd_syntax.specs.Text.{Quoted}
+use Rattle.edd_syntax.specs.Reference.{Target, Local, Item, Function}
+use Rattle.edd_syntax.specs.Expression.{Expr, Literal, Reference, Unary, Binary, Compare, LogicalAnd, Assign, CompoundAssign, Increment, Call, Argument, Text, Value, arguments_from}
+use Rattle.edd_syntax.specs.Statement.{Stmt, Empty, Evaluate, Block, If, While, For, Switch, Break, Continue, Return, Part, Body, body_from, Declare, Statement, CaseLabel, DefaultLabel}
+use Rattle.edd_syntax.specs.TwosComplement.{wrap, store, operate, compare, apply}
+use Rattle.edd_syntax.specs.Words as strings
+use Rattle.edd_syntax.specs.Words.{Words, Variants, words_of, text_for, pieces, unescape, english}
+use Rattle.edd_syntax.specs.Device.{VariableType, Environment}
+use Rattle.edd_syntax.specs.MethodState as asks
+use Rattle.edd_syntax.specs.MethodState.{Request, Change, Answer, Go, Abort}
+use Rattle.edd_syntax.specs.Evaluation.{call, evaluate}
+use Rattle.edd_syntax.specs.Execution.{turns, execute, slots_of, slots_in, Ending, Ended, Aborted, Trapped, Waiting, OutOfTurns, Transcript, opening, run_body}
+
+-- ---- how the sources are written here
+
+abbrev E : Type 0
+E = Expr Target
+
+abbrev S : Type 0
+S = Stmt Target
+
+abbrev text : List ℕ → texts.Text
+text t = Quoted t
+
+abbrev says : List ℕ → Words
+says t = Variants (record { code = english; text = t }) []
+
+abbrev calls : Builtin → List (Argument Target) → E
+calls b arguments = Call (Function b) (arguments_from arguments)
+
+abbrev var_no : ℕ → VarNo
+var_no n = record { 0 = n }
+
+abbrev var : ℕ → Target
+var n = Item (item_no.Variable (var_no n))
+
+abbrev P : Type 0
+P = Part Target
+
+abbrev declare : ℕ → P
+declare n = Declare (record { place = Local n; value = None } ∷ [])
+
+abbrev do_ : S → P
+do_ s = Statement s
+
+abbrev eval : E → P
+eval e = Statement (Evaluate e)
+
+abbrev block : List P → S
+block parts = Block (body_from parts)
+
+abbrev ok : Answer
+ok = Go (pos 0) []
+
+abbrev print : List ℕ → S
+print t = Evaluate (calls builtin.PutMessage (Text (text t) ∷ []))
+
+abbrev put : List ℕ → Request
+put t = asks.PutMessage (says t)
+
+abbrev send : E → S
+send e = Evaluate (calls builtin.SendCommand (Value e ∷ []))
+
+abbrev sent : ℕ → Request
+sent n = asks.SendCommand (pos n)
+
+abbrev local : E
+local = Reference (Local 0)
+
+abbrev of_one : VariableType → Environment
+of_one t = record { variables = t ∷ [] }
+
+abbrev no_variables : Environment
+no_variables = record { variables = [] }
+
+abbrev int4 : Environment
+int4 = of_one (record { type = var_type.Integer; size = 4 })
+
+abbrev unsigned1 : Environment
+unsigned1 = of_one (record { type = var_type.UnsignedInteger; size = 1 })
+
+-- what a run that changes no variable comes to
+abbrev quiet : List Request → List ℤ → Ending → Transcript
+quiet requests values ending = record { requests = requests; changes = []; values = values; answers = []; ending = ending }
+
+-- ---- runs
+
+abbrev runs : ℕ → Environment → Body Target → List ℤ → List Answer → Transcript
+runs n env body values answers = run_body n env body (opening (slots_in body) values answers)
+
+-- `int i; for (i = 2; i > 0; i--) { PUT_MESSAGE("go"); }`
+countdown : Body Target
+countdown = body_from (declare 0 ∷ do_ (For
+    (Some (Assign (Local 0) (Literal 2)))
+    (Some (Compare comparison.Greater local (Literal 0)))
+    (Some (Increment increment.PostDecrement (Local 0)))
+    (block (do_ (print (codes "go")) ∷ []))) ∷ [])
+
+countdown_ends : runs 3 no_variables countdown [] (ok ∷ ok ∷ []) ≡ quiet (put (codes "go") ∷ put (codes "go") ∷ []) [] Ended
+unfolding countdown run_body execute turns evaluate call wrap operate compare words_of pieces unescape slots_of
+countdown_ends = refl
+
+-- with one answer it waits for the second
+countdown_waits : runs 3 no_variables countdown [] (ok ∷ []) ≡ quiet (put (codes "go") ∷ put (codes "go") ∷ []) [] Waiting
+unfolding countdown run_body execute turns evaluate call wrap operate compare words_of pieces unescape slots_of
+countdown_waits = refl
+
+-- with two turns of the loop it isn't over
+countdown_goes_on : runs 2 no_variables countdown [] (ok ∷ ok ∷ []) ≡ quiet (put (codes "go") ∷ put (codes "go") ∷ []) [] OutOfTurns
+unfolding countdown run_body execute turns evaluate call wrap operate compare words_of pieces unescape slots_of
+countdown_goes_on = refl
+
+-- `while (1) { }`
+forever : runs 1000 no_variables (body_from (do_ (While (Literal 1) (block [])) ∷ [])) [] [] ≡ quiet [] [] OutOfTurns
+unfolding run_body execute turns evaluate wrap slots_of
+forever = refl
+
+-- `x += ACKNOWLEDGE("a");` reads x before the answer sets it, and keeps the low 8 bits of 260
+adds_before : runs 1 unsigned1 (body_from (eval (CompoundAssign operator.Add (var 0) (calls builtin.Acknowledge (Text (text (codes "a")) ∷ []))) ∷ [])) (pos 250 ∷ []) (Go (pos 10) ((var_no 0, pos 1) ∷ []) ∷ [])
+    ≡ record { requests = asks.Acknowledge (says (codes "a")) ∷ []; changes = (var_no 0, pos 1) ∷ (var_no 0, pos 4) ∷ []; values = pos 4 ∷ []; answers = []; ending = Ended }
+unfolding run_body execute evaluate call wrap store operate words_of pieces unescape slots_of
+adds_before = refl
+
+-- `x = a op b;` over an INTEGER (4) that holds 7
+abbrev sets_x : E → Body Target
+sets_x e = body_from (eval (Assign (var 0) e) ∷ [])
+
+-- `x = -2147483648 / -1;`
+overflows : runs 1 int4 (sets_x (Binary operator.Divide (Unary unary_operator.Minus (Literal 2147483648)) (Unary unary_operator.Minus (Literal 1)))) (pos 7 ∷ []) []
+    ≡ quiet [] (pos 7 ∷ []) (Trapped trap.DivOverflow)
+unfolding run_body execute evaluate wrap operate apply slots_of
+overflows = refl
+
+-- `x = 5 % 0;`
+divides_by_zero : runs 1 int4 (sets_x (Binary operator.Remainder (Literal 5) (Literal 0))) (pos 7 ∷ []) []
+    ≡ quiet [] (pos 7 ∷ []) (Trapped trap.DivZero)
+unfolding run_body execute evaluate wrap operate slots_of
+divides_by_zero = refl
+
+-- `x = 1 << 32;`
+shifts_too_far : runs 1 int4 (sets_x (Binary operator.ShiftLeft (Literal 1) (Literal 32))) (pos 7 ∷ []) []
+    ≡ quiet [] (pos 7 ∷ []) (Trapped trap.BadShift)
+unfolding run_body execute evaluate wrap operate slots_of
+shifts_too_far = refl
+
+-- `switch (k) { case 1: PUT_MESSAGE("a"); default: PUT_MESSAGE("b"); break; case 2: return; }`
+falls_through : Body Target
+falls_through = body_from (do_ (Switch (Reference (var 0)) (body_from (CaseLabel (pos 1) ∷ do_ (print (codes "a")) ∷ DefaultLabel ∷ do_ (print (codes "b")) ∷ do_ Break ∷ CaseLabel (pos 2) ∷ do_ Return ∷ []))) ∷ [])
+
+falls_from_1 : runs 1 int4 falls_through (pos 1 ∷ []) (ok ∷ ok ∷ []) ≡ quiet (put (codes "a") ∷ put (codes "b") ∷ []) (pos 1 ∷ []) Ended
+unfolding falls_through run_body execute evaluate call wrap words_of pieces unescape slots_of
+falls_from_1 = refl
+
+returns_at_2 : runs 1 int4 falls_through (pos 2 ∷ []) [] ≡ quiet [] (pos 2 ∷ []) Ended
+unfolding falls_through run_body execute evaluate call wrap words_of pieces unescape slots_of
+returns_at_2 = refl
+
+default_at_3 : runs 1 int4 falls_through (pos 3 ∷ []) (ok ∷ []) ≡ quiet (put (codes "b") ∷ []) (pos 3 ∷ []) Ended
+unfolding falls_through run_body execute evaluate call wrap words_of pieces unescape slots_of
+default_at_3 = refl
+
+-- `int n; while (n < 3) { int t; t++; send_command(t); n++; }`: a declaration sets 0 in each turn
+redeclares : runs 4 no_variables (body_from (declare 0 ∷ do_ (While (Compare comparison.Less local (Literal 3)) (block (declare 1 ∷ eval (Increment increment.PostIncrement (Local 1)) ∷ do_ (send (Reference (Local 1))) ∷ eval (Increment increment.PostIncrement (Local 0)) ∷ []))) ∷ [])) [] (ok ∷ ok ∷ ok ∷ [])
+    ≡ quiet (sent 1 ∷ sent 1 ∷ sent 1 ∷ []) [] Ended
+unfolding run_body execute turns evaluate call wrap operate compare slots_of
+redeclares = refl
+
+-- `int i; for (i = 0; i < 3; i++) { if (i == 1) continue; send_command(i); }`
+continues : runs 4 no_variables (body_from (declare 0 ∷ do_ (For (Some (Assign (Local 0) (Literal 0))) (Some (Compare comparison.Less local (Literal 3))) (Some (Increment increment.PostIncrement (Local 0))) (block (do_ (If (Compare comparison.Equal local (Literal 1)) Continue) ∷ do_ (send local) ∷ []))) ∷ [])) [] (ok ∷ ok ∷ [])
+    ≡ quiet (sent 0 ∷ sent 2 ∷ []) [] Ended
+unfolding run_body execute turns evaluate call wrap operate compare slots_of
+continues = refl
+
+-- `if (0 && ACKNOWLEDGE("a")) ; PUT_MESSAGE("b");`
+short : Body Target
+short = body_from (do_ (If (LogicalAnd (Literal 0) (calls builtin.Acknowledge (Text (text (codes "a")) ∷ []))) Empty) ∷ do_ (print (codes "b")) ∷ [])
+
+asks_only_b : runs 1 no_variables short [] (ok ∷ []) ≡ quiet (put (codes "b") ∷ []) [] Ended
+unfolding short run_body execute evaluate call wrap words_of pieces unescape slots_of
+asks_only_b = refl
+
+aborts : runs 1 no_variables short [] (Abort ∷ []) ≡ quiet (put (codes "b") ∷ []) [] Aborted
+unfolding short run_body execute evaluate call wrap words_of pieces unescape slots_of
+aborts = refl
+
+-- `GET_DEV_VAR_VALUE("t", x); DELAY(x - 9, [k]); send_command_trans(1, x);`
+gets_value : runs 1 int4
+    (body_from (
+    eval (calls builtin.GetDevVarValue (Text (text (codes "t")) ∷ Value (Reference (var 0)) ∷ [])) ∷
+    eval (calls builtin.Delay (Value (Binary operator.Subtract (Reference (var 0)) (Literal 9)) ∷ Text (texts.Key (codes "k")) ∷ [])) ∷
+    eval (calls builtin.SendCommandTrans (Value (Literal 1) ∷ Value (Reference (var 0)) ∷ [])) ∷ []))
+    (pos 0 ∷ []) (Go (pos 0) ((var_no 0, pos 7) ∷ []) ∷ ok ∷ ok ∷ [])
+    ≡ record { requests = asks.GetDevVarValue (says (codes "t")) (var_no 0) ∷ asks.Delay (negsuc 1) (strings.Key (codes "k")) ∷ asks.SendCommandTrans (pos 1) (pos 7) ∷ []; changes = (var_no 0, pos 7) ∷ []; values = pos 7 ∷ []; answers = []; ending = Ended }
+unfolding run_body execute evaluate call wrap operate words_of pieces unescape slots_of
+gets_value = refl

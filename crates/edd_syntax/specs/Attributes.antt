@@ -1,0 +1,234 @@
+-- What the attributes of an item give under the values of a device.
+use Rattle.std.specs.Prelude.{ℕ, ◌+◌, ◌*◌, Bool, true, false, not, ◌&&◌, nat_le, if◌then◌else◌, ◌==◌, ℤ, pos, List, [], ◌∷◌, ◌++◌, map, slice_get, Option, Some, None, option_map, Ok, Err}
+use Rattle.edd_syntax.specs.declared.numbers.Kind.{Kind}
+use Rattle.edd_syntax.specs.declared.numbers.VarNo.{VarNo}
+use Rattle.edd_syntax.specs.declared.numbers.ItemNo.{ItemNo}
+use Rattle.edd_syntax.specs.declared.numbers.ItemNo.TheVariants as item_no
+use Rattle.edd_syntax.specs.declared.numbers.Attr.{Attr}
+use Rattle.edd_syntax.specs.declared.numbers.Attr.TheVariants as attr
+use Rattle.edd_syntax.specs.declared.numbers.AttrRef.{AttrRef}
+use Rattle.edd_syntax.specs.declared.types.ResponseClass.{ResponseClass}
+use Rattle.edd_syntax.specs.declared.types.Handling.{Handling}
+use Rattle.edd_syntax.specs.declared.types.Handling.TheVariants as handling
+use Rattle.edd_syntax.specs.declared.types.Operation.{Operation}
+use Rattle.edd_syntax.specs.declared.types.Operation.TheVariants as operation
+use Rattle.edd_syntax.specs.declared.item.MenuQualifiers.{MenuQualifiers}
+use Rattle.edd_syntax.specs.declared.item.DataQualifiers.{DataQualifiers}
+use Rattle.edd_syntax.specs.Text.{Text}
+use Rattle.edd_syntax.specs.Reference.{Target, Local, Item, Function}
+use Rattle.edd_syntax.specs.Expression.{Expr}
+use Rattle.edd_syntax.specs.Conditional.{Cond, Conds, Nil, Cons}
+use Rattle.edd_syntax.specs.Item as item
+use Rattle.edd_syntax.specs.Item.{kind_of_item, MenuEntry, DataItem, TypePart, TransactionPart, Attribute, Description}
+use Rattle.edd_syntax.specs.Words as words
+use Rattle.edd_syntax.specs.Words.{words_of, name_words}
+use Rattle.edd_syntax.specs.Numbers.{has_attr, same_attr}
+use Rattle.edd_syntax.specs.Device.{Environment, environment, item_at}
+use Rattle.edd_syntax.specs.AttributeValue.{Trapping, ◌>>=◌, value, chosen, all_chosen}
+
+-- one element of what an attribute gives
+pub data Record : Type 0 where
+  Words : words.Words → Record
+  Number : ℤ → Record
+  Entry : ItemNo → MenuQualifiers → Record
+  DataConst : ℕ → Record
+  DataVar : VarNo → (mask : Option ℕ) → DataQualifiers → Record
+  Enumerator : (value : ℤ) → (text : words.Words) → (help : Option words.Words) → Record
+  Response : (number : ℕ) → ResponseClass → (text : words.Words) → Record
+  Member : (name : words.Words) → ItemNo → (label help : Option words.Words) → Record
+
+abbrev pub handling_number : Handling → ℕ
+handling_number handling.Read = 1
+handling_number handling.Write = 2
+handling_number handling.ReadWrite = 3
+
+abbrev pub operation_number : Operation → ℕ
+operation_number operation.Read = 1
+operation_number operation.Write = 2
+operation_number operation.Command = 3
+
+abbrev pub bit : Bool → ℕ
+bit true = 1
+bit false = 0
+
+-- the qualifiers as the bits of a number
+abbrev pub menu_bits : MenuQualifiers → ℕ
+menu_bits q = bit q.display_value + 2 * bit q.read_only + 4 * bit q.hidden + 8 * bit q.review
+
+abbrev pub data_bits : DataQualifiers → ℕ
+data_bits q = bit q.info + 2 * bit q.index
+
+-- the item that a reference of a checked unit names, and the variable; there no other target stands in an attribute
+abbrev pub item_of : Target → ItemNo
+item_of (Item i) = i
+item_of (Local slot) = item_no.Variable (record { 0 = 0 })
+item_of (Function f) = item_no.Variable (record { 0 = 0 })
+
+abbrev pub variable_of_item : ItemNo → VarNo
+variable_of_item (item_no.Variable v) = v
+variable_of_item (item_no.Command n) = record { 0 = 0 }
+variable_of_item (item_no.Menu n) = record { 0 = 0 }
+variable_of_item (item_no.Collection n) = record { 0 = 0 }
+variable_of_item (item_no.Method n) = record { 0 = 0 }
+
+abbrev pub variable_of : Target → VarNo
+variable_of target = variable_of_item (item_of target)
+
+-- ---- what a written attribute gives
+
+-- the records under the values of a device, or the first trap
+abbrev pub Meaning : Type 0
+Meaning = List ℤ → Trapping (List Record)
+
+abbrev pub each : {V : Type 0} → (V → Record) → Trapping (List V) → Trapping (List Record)
+each f (Ok vs) = Ok (map f vs)
+each f (Err why) = Err why
+
+abbrev pub constant : List Record → Meaning
+constant rs = λ d. Ok rs
+
+abbrev pub entry : MenuEntry Target → Record
+entry (item.Text text) = Words (words_of text)
+entry (item.Reference to qualifiers) = Entry (item_of to) qualifiers
+
+abbrev pub data_item : DataItem Target → Record
+data_item (item.Constant n) = DataConst n
+data_item (item.Variable variable mask qualifiers) = DataVar (variable_of variable) mask qualifiers
+
+abbrev pub enumerator : item.Enumerator → Record
+enumerator e = Enumerator e.value (words_of e.text) (option_map words_of e.help)
+
+abbrev pub response : item.ResponseCode → Record
+response r = Response r.number r.class (words_of r.text)
+
+abbrev pub member : item.Member Target → Record
+member m = Member (name_words m.name) (item_of m.item) (option_map words_of m.label) (option_map words_of m.help)
+
+abbrev pub written_number : Option ℕ → List Record
+written_number (Some n) = Number (pos n) ∷ []
+written_number None = []
+
+-- a meaning under its attribute
+abbrev pub Named : Type 0
+Named = Attr × Meaning
+
+module _ (env : Environment) where
+  -- the values of a conditional, each as a record
+  abbrev pub one : {V : Type 0} → (V → Record) → Cond Target V → Meaning
+  one f c = λ d. each f (chosen env d c)
+
+  abbrev pub list : {V : Type 0} → (V → Record) → Conds Target V → Meaning
+  list f all = λ d. each f (all_chosen env d all)
+
+  abbrev pub texts : Cond Target Text → Meaning
+  texts = one (λ t. Words (words_of t))
+
+  abbrev pub all_values : List ℤ → List (Expr Target) → Trapping (List Record)
+  all_values d [] = Ok []
+  all_values d (e ∷ rest) = do
+    z ← value env d e
+    others ← all_values d rest
+    Ok (Number z ∷ others)
+
+  -- the value of the chosen expression
+  abbrev pub expressions : Cond Target (Expr Target) → Meaning
+  expressions c = λ d. chosen env d c >>= all_values d
+
+  -- ---- attributes by number
+
+  -- the elements of a type's list, in all of its parts
+  abbrev pub elements : List (TypePart Target) → Conds Target item.Enumerator
+  elements [] = Nil
+  elements (item.Element first ∷ rest) = Cons first (elements rest)
+  elements (_ ∷ rest) = elements rest
+
+  abbrev pub of_part : TypePart Target → List Named
+  of_part (item.DefaultValue c) = (attr.DefaultValue, expressions c) ∷ []
+  of_part (item.MinValue c) = (attr.MinValue, expressions c) ∷ []
+  of_part (item.MaxValue c) = (attr.MaxValue, expressions c) ∷ []
+  of_part (item.DisplayFormat c) = (attr.DisplayFormat, texts c) ∷ []
+  of_part (item.EditFormat c) = (attr.EditFormat, texts c) ∷ []
+  of_part (item.Element c) = []
+
+  abbrev pub of_parts : List (TypePart Target) → List Named
+  of_parts [] = []
+  of_parts (p ∷ rest) = of_part p ++ of_parts rest
+
+  -- the attributes that one written attribute stands for; transactions go by their position
+  abbrev pub of_attribute : Attribute Target → List Named
+  of_attribute (item.Label c) = (attr.Label, texts c) ∷ []
+  of_attribute (item.Help c) = (attr.Help, texts c) ∷ []
+  of_attribute (item.Class names) = (attr.Class, constant (map (λ n. Words (name_words n)) names)) ∷ []
+  of_attribute (item.Handling c) = (attr.Handling, one (λ h. Number (pos (handling_number h))) c) ∷ []
+  of_attribute (item.ConstantUnit c) = (attr.ConstantUnit, texts c) ∷ []
+  of_attribute (item.Validity c) = (attr.Validity, one (λ valid. Number (pos (bit valid))) c) ∷ []
+  of_attribute (item.TypeOf word parts) = (attr.Enumerators, list enumerator (elements parts)) ∷ of_parts parts
+  of_attribute (item.Number n) = (attr.Number, constant (Number (pos n) ∷ [])) ∷ []
+  of_attribute (item.Operation o) = (attr.Operation, constant (Number (pos (operation_number o)) ∷ [])) ∷ []
+  of_attribute (item.Transaction number parts) = []
+  of_attribute (item.ResponseCodes responses) = (attr.ResponseCodes, constant (map response responses)) ∷ []
+  of_attribute (item.Items entries) = (attr.Items, list entry entries) ∷ []
+  of_attribute (item.Members members) = (attr.Members, constant (map member members)) ∷ []
+  of_attribute (item.Definition body) = []
+
+  abbrev pub of_attributes : List (Attribute Target) → List Named
+  of_attributes [] = []
+  of_attributes (a ∷ rest) = of_attribute a ++ of_attributes rest
+
+  abbrev pub of_transaction_part : TransactionPart Target → Named
+  of_transaction_part (item.Request all) = (attr.Request, list data_item all)
+  of_transaction_part (item.Reply all) = (attr.Reply, list data_item all)
+
+  -- the attributes of each transaction, in the order of the source
+  abbrev pub transactions : List (Attribute Target) → List (List Named)
+  transactions [] = []
+  transactions (item.Transaction number parts ∷ rest) =
+      ((attr.Transaction, constant (written_number number)) ∷ map of_transaction_part parts) ∷ transactions rest
+  transactions (_ ∷ rest) = transactions rest
+
+-- the meaning of an attribute; one that isn't written gives nothing
+abbrev pub meaning_of : Attr → List Named → Meaning
+meaning_of a [] = constant []
+meaning_of a (m ∷ rest) = elim (same_attr m.0 a) [ true ↦ m.1 | false ↦ meaning_of a rest ]
+
+-- ---- reading
+
+-- HANDLING is both, and VALIDITY is true, where nothing is given
+abbrev pub or_default : Attr → List Record → List Record
+or_default attr.Handling [] = Number (pos 3) ∷ []
+or_default attr.Validity [] = Number (pos 1) ∷ []
+or_default _ rs = rs
+
+-- what a read of an attribute comes to
+pub data Reading : Type 0 where
+  -- there is no such item, it can't have the attribute, or it has no such transaction
+  NoItem : Reading
+  Gives : Trapping (List Record) → Reading
+
+abbrev pub gives : Attr → Meaning → List ℤ → Reading
+gives a meaning d = Gives (meaning d >>= λ rs. Ok (or_default a rs))
+
+abbrev pub gives_in : Attr → Option (List Named) → List ℤ → Reading
+gives_in a None d = NoItem
+gives_in a (Some transaction) d = gives a (meaning_of a transaction) d
+
+-- a DEFINITION is no attribute to be read
+abbrev pub is_readable : Kind → Attr → Bool
+is_readable kind a = has_attr kind a && not (same_attr a attr.Definition)
+
+abbrev pub is_of_transaction : Attr → Bool
+is_of_transaction attr.Transaction = true
+is_of_transaction attr.Request = true
+is_of_transaction attr.Reply = true
+is_of_transaction _ = false
+
+-- `sub` is the position of a transaction for its attributes, and else 0
+abbrev pub read_item : Environment → item.Item Target → Attr → (sub : ℕ) → List ℤ → Reading
+read_item env i a sub d =
+    if not (is_readable (kind_of_item i.sort) a) then NoItem
+    else (if is_of_transaction a then gives_in a (slice_get (transactions env i.attributes) sub) d
+    else (if sub == 0 then gives a (meaning_of a (of_attributes env i.attributes)) d else NoItem))
+
+-- the meaning of an attribute under the values of a device
+unfoldable pub read_attribute : Description Target → AttrRef → List ℤ → Reading
+read_attribute unit at d = elim (item_at unit at.item) [ Some i ↦ read_item (environment unit) i at.attr at.sub d | None ↦ NoItem ]

@@ -1,0 +1,195 @@
+-- What the statements of a method do, and a whole run.
+use Rattle.std.specs.Prelude.{ℕ, zero, suc, ◌+◌, true, false, ℤ, pos, List, [], ◌∷◌, length, replicate, Option, Some, None}
+use Rattle.std.specs.Ordering.{int_eq}
+use Rattle.edd_syntax.specs.declared.numbers.MethNo.{MethNo}
+use Rattle.edd_syntax.specs.declared.numbers.ItemNo.TheVariants as item_no
+use Rattle.edd_syntax.specs.declared.answer.Trap.{Trap}
+use Rattle.edd_syntax.specs.Reference.{Target}
+use Rattle.edd_syntax.specs.Expression.{Expr}
+use Rattle.edd_syntax.specs.Statement.{Declarator, Stmt, Empty, Evaluate, Block, If, IfElse, While, Do, For, Switch, Break, Continue, Return, Body, Nil, Cons, Declare, Statement, CaseLabel, DefaultLabel}
+use Rattle.edd_syntax.specs.Item.{Attribute, Definition, Description}
+use Rattle.edd_syntax.specs.TwosComplement.{wrap, is_zero}
+use Rattle.edd_syntax.specs.Device.{Environment, environment, item_at}
+use Rattle.edd_syntax.specs.MethodState as stops
+use Rattle.edd_syntax.specs.MethodState.{State, Request, Change, Answer, Stop, Outcome, Done, Stopped, Action, pure, stop, ◌>>=◌, ◌>>◌, assign}
+use Rattle.edd_syntax.specs.Evaluation.{evaluate}
+
+-- how a statement that isn't stopped ends
+pub data Completion : Type 0 where
+  Normal : Completion
+  Breaks : Completion
+  Continues : Completion
+  Returns : Completion
+
+-- goes on with the next statement
+abbrev pub next : Action Completion → Completion → Action Completion
+next rest Normal = rest
+next rest completion = pure completion
+
+-- goes on with what is left of a loop
+abbrev pub next_turn : Action Completion → Completion → Action Completion
+next_turn more Normal = more
+next_turn more Continues = more
+next_turn more Breaks = pure Normal
+next_turn more Returns = pure Returns
+
+-- ends a `switch`
+abbrev pub left : Completion → Action Completion
+left Breaks = pure Normal
+left completion = pure completion
+
+-- at most n turns that test first and end with the action `last`
+unfoldable pub turns : ℕ → (test : Action ℤ) → (body : Action Completion) → (last : Action ℤ) → Action Completion
+turns zero test body last = stop stops.OutOfTurns
+turns (suc n) test body last = do
+  a ← test
+  elim (is_zero a) [ true ↦ pure Normal | false ↦ body >>= next_turn (last >> turns n test body last) ]
+
+-- at most n turns that test last
+unfoldable pub turns_of_do : ℕ → (body : Action Completion) → (test : Action ℤ) → Action Completion
+turns_of_do zero body test = stop stops.OutOfTurns
+turns_of_do (suc n) body test = body >>= next_turn (do
+  a ← test
+  elim (is_zero a) [ true ↦ pure Normal | false ↦ turns_of_do n body test ])
+
+module _ (env : Environment) where
+  -- a part of `for` that may be missing; a missing test is true
+  abbrev pub optional : Option (Expr Target) → Action ℤ
+  optional (Some e) = evaluate env e
+  optional None = pure (pos 1)
+
+  -- a declaration without a value sets 0
+  abbrev pub initial : Option (Expr Target) → Action ℤ
+  initial (Some e) = evaluate env e
+  initial None = pure (pos 0)
+
+  abbrev pub declare : List (Declarator Target) → Action Completion
+  declare [] = pure Normal
+  declare (d ∷ rest) = do
+    value ← initial d.value
+    assign env d.place value
+    declare rest
+
+  -- the effect of a statement in which each entry of a loop has n turns
+  unfoldable mutual
+    pub execute : Stmt Target → ℕ → Action Completion
+    execute Empty n = pure Normal
+    execute (Evaluate e) n = evaluate env e >> pure Normal
+    execute (Block body) n = execute_all body n
+    execute (If condition first) n = do
+      a ← evaluate env condition
+      elim (is_zero a) [ true ↦ pure Normal | false ↦ execute first n ]
+    execute (IfElse condition first otherwise) n = do
+      a ← evaluate env condition
+      elim (is_zero a) [ true ↦ execute otherwise n | false ↦ execute first n ]
+    execute (While condition body) n = turns n (evaluate env condition) (execute body n) (pure (pos 0))
+    execute (Do body condition) n = turns_of_do n (execute body n) (evaluate env condition)
+    execute (For initial condition update body) n = do
+      optional initial
+      turns n (optional condition) (execute body n) (optional update)
+    execute (Switch on body) n = do
+      a ← evaluate env on
+      execute_case a body n (execute_default body n) >>= left
+    execute Break n = pure Breaks
+    execute Continue n = pure Continues
+    execute Return n = pure Returns
+
+    -- labels have no effect where a run comes to them
+    pub execute_all : Body Target → ℕ → Action Completion
+    execute_all Nil n = pure Normal
+    execute_all (Cons (Declare declarators) rest) n = declare declarators >>= next (execute_all rest n)
+    execute_all (Cons (Statement s) rest) n = execute s n >>= next (execute_all rest n)
+    execute_all (Cons (CaseLabel label) rest) n = execute_all rest n
+    execute_all (Cons DefaultLabel rest) n = execute_all rest n
+
+    -- from the first `case` whose label, as 32 bits, equals the value
+    pub execute_case : ℤ → Body Target → ℕ → (otherwise : Action Completion) → Action Completion
+    execute_case value Nil n otherwise = otherwise
+    execute_case value (Cons (Declare declarators) rest) n otherwise = execute_case value rest n otherwise
+    execute_case value (Cons (Statement s) rest) n otherwise = execute_case value rest n otherwise
+    execute_case value (Cons (CaseLabel label) rest) n otherwise =
+        elim (int_eq value (wrap 32 label)) [ true ↦ execute_all rest n | false ↦ execute_case value rest n otherwise ]
+    execute_case value (Cons DefaultLabel rest) n otherwise = execute_case value rest n otherwise
+
+    -- from `default`
+    pub execute_default : Body Target → ℕ → Action Completion
+    execute_default Nil n = pure Normal
+    execute_default (Cons (Declare declarators) rest) n = execute_default rest n
+    execute_default (Cons (Statement s) rest) n = execute_default rest n
+    execute_default (Cons (CaseLabel label) rest) n = execute_default rest n
+    execute_default (Cons DefaultLabel rest) n = execute_all rest n
+
+-- ---- runs
+
+-- the declarators of a method: its slots
+unfoldable mutual
+  pub slots_of : Stmt Target → ℕ
+  slots_of Empty = 0
+  slots_of (Evaluate e) = 0
+  slots_of Break = 0
+  slots_of Continue = 0
+  slots_of Return = 0
+  slots_of (Block body) = slots_in body
+  slots_of (If condition first) = slots_of first
+  slots_of (IfElse condition first otherwise) = slots_of first + slots_of otherwise
+  slots_of (While condition body) = slots_of body
+  slots_of (Do body condition) = slots_of body
+  slots_of (For initial condition update body) = slots_of body
+  slots_of (Switch on body) = slots_in body
+
+  pub slots_in : Body Target → ℕ
+  slots_in Nil = 0
+  slots_in (Cons (Declare declarators) rest) = length declarators + slots_in rest
+  slots_in (Cons (Statement s) rest) = slots_of s + slots_in rest
+  slots_in (Cons (CaseLabel label) rest) = slots_in rest
+  slots_in (Cons DefaultLabel rest) = slots_in rest
+
+-- how a run ends; out of turns is a run that goes on
+pub data Ending : Type 0 where
+  Ended : Ending
+  Aborted : Ending
+  Trapped : Trap → Ending
+  Waiting : Ending
+  OutOfTurns : Ending
+
+pub record Transcript : Type 0 where
+  pub requests : List Request
+  pub changes : List Change
+  pub values : List ℤ
+  pub answers : List Answer
+  pub ending : Ending
+
+abbrev pub transcript : Ending → State → Transcript
+transcript ending s = record { requests = s.requests; changes = s.changes; values = s.values; answers = s.answers; ending = ending }
+
+abbrev pub ending_of : Stop → Ending
+ending_of (stops.Trapped why) = Trapped why
+ending_of stops.Aborted = Aborted
+ending_of stops.Waiting = Waiting
+ending_of stops.OutOfTurns = OutOfTurns
+
+abbrev pub ended : Outcome Completion → Transcript
+ended (Done completion s) = transcript Ended s
+ended (Stopped why s) = transcript (ending_of why) s
+
+-- the state in which a method starts: all slots 0
+abbrev pub opening : (slots : ℕ) → List ℤ → List Answer → State
+opening slots values answers = record { slots = replicate slots (pos 0); values = values; requests = []; changes = []; answers = answers }
+
+-- the run of a body from a state, in which each entry of a loop has n turns
+unfoldable pub run_body : ℕ → Environment → Body Target → State → Transcript
+run_body n env body s = ended (execute_all env body n s)
+
+-- the written body of a method
+abbrev pub body_in : List (Attribute Target) → Body Target
+body_in [] = Nil
+body_in (Definition body ∷ rest) = body
+body_in (_ ∷ rest) = body_in rest
+
+abbrev pub body_of : Description Target → MethNo → Body Target
+body_of unit m = elim (item_at unit (item_no.Method m)) [ Some i ↦ body_in i.attributes | None ↦ Nil ]
+
+-- the run of a method under these device values and answers
+unfoldable pub run : ℕ → Description Target → MethNo → List ℤ → List Answer → Transcript
+run n unit m values answers =
+    let body = body_of unit m in run_body n (environment unit) body (opening (slots_in body) values answers)

@@ -1,0 +1,112 @@
+-- Items, their attributes, and the whole description.
+use Rattle.std.specs.Prelude.{ℕ, ℤ, Bool, List, Option}
+use Rattle.edd_syntax.specs.declared.numbers.Kind.{Kind}
+use Rattle.edd_syntax.specs.declared.numbers.Kind.TheVariants as kind
+use Rattle.edd_syntax.specs.declared.types.VarType.{VarType}
+use Rattle.edd_syntax.specs.declared.types.Handling as handling
+use Rattle.edd_syntax.specs.declared.types.Operation as operation
+use Rattle.edd_syntax.specs.declared.types.ResponseClass.{ResponseClass}
+use Rattle.edd_syntax.specs.declared.item.MenuQualifiers.{MenuQualifiers}
+use Rattle.edd_syntax.specs.declared.item.DataQualifiers.{DataQualifiers}
+use Rattle.edd_syntax.specs.Text as texts
+use Rattle.edd_syntax.specs.Text.{Name}
+use Rattle.edd_syntax.specs.Expression.{Expr}
+use Rattle.edd_syntax.specs.Conditional.{Cond, Conds}
+use Rattle.edd_syntax.specs.Statement.{Body}
+
+-- `{ value, text, help }`
+pub record Enumerator : Type 0 where
+  pub value : ℤ
+  pub text : texts.Text
+  pub help : Option texts.Text
+
+-- an entry of a menu
+pub data MenuEntry (R : Type 0) : Type 0 where
+  Text : texts.Text → MenuEntry R
+  Reference : (to : R) → MenuQualifiers → MenuEntry R
+
+-- a data item of a request or a reply: a constant octet, or a variable's octets
+pub data DataItem (R : Type 0) : Type 0 where
+  Constant : ℕ → DataItem R
+  Variable : (variable : R) → (mask : Option ℕ) → DataQualifiers → DataItem R
+
+-- `number, class, text`
+pub record ResponseCode : Type 0 where
+  pub number : ℕ
+  pub class : ResponseClass
+  pub text : texts.Text
+
+-- `name, item, label, help;`
+pub record Member (R : Type 0) : Type 0 where
+  pub name : Name
+  pub item : R
+  pub label : Option texts.Text
+  pub help : Option texts.Text
+
+-- the type as written, with its size in octets; a type of another word is kept by its word alone
+pub data TypeWord : Type 0 where
+  Known : VarType → (size : Option ℕ) → TypeWord
+  Other : (word : Name) → TypeWord
+
+-- what stands in the braces of a type
+pub data TypePart (R : Type 0) : Type 0 where
+  DefaultValue : Cond R (Expr R) → TypePart R
+  MinValue : Cond R (Expr R) → TypePart R
+  MaxValue : Cond R (Expr R) → TypePart R
+  DisplayFormat : Cond R texts.Text → TypePart R
+  EditFormat : Cond R texts.Text → TypePart R
+  -- an element of the list of enumerators
+  Element : Cond R Enumerator → TypePart R
+
+-- what stands in the braces of a transaction
+pub data TransactionPart (R : Type 0) : Type 0 where
+  Request : Conds R (DataItem R) → TransactionPart R
+  Reply : Conds R (DataItem R) → TransactionPart R
+
+-- an attribute as written
+pub data Attribute (R : Type 0) : Type 0 where
+  Label : Cond R texts.Text → Attribute R
+  Help : Cond R texts.Text → Attribute R
+  Class : List Name → Attribute R
+  Handling : Cond R handling.Handling → Attribute R
+  ConstantUnit : Cond R texts.Text → Attribute R
+  Validity : Cond R Bool → Attribute R
+  TypeOf : TypeWord → List (TypePart R) → Attribute R
+  Number : ℕ → Attribute R
+  Operation : operation.Operation → Attribute R
+  Transaction : (number : Option ℕ) → List (TransactionPart R) → Attribute R
+  ResponseCodes : List ResponseCode → Attribute R
+  Items : Conds R (MenuEntry R) → Attribute R
+  Members : List (Member R) → Attribute R
+  Definition : Body R → Attribute R
+
+-- what an item is; a collection has the kind of its members
+pub data ItemKind : Type 0 where
+  VariableItem : ItemKind
+  CommandItem : ItemKind
+  MenuItem : ItemKind
+  CollectionItem : (of : Kind) → ItemKind
+  MethodItem : ItemKind
+
+abbrev pub kind_of_item : ItemKind → Kind
+kind_of_item VariableItem = kind.Variable
+kind_of_item CommandItem = kind.Command
+kind_of_item MenuItem = kind.Menu
+kind_of_item (CollectionItem of) = kind.Collection
+kind_of_item MethodItem = kind.Method
+
+pub record Item (R : Type 0) : Type 0 where
+  pub sort : ItemKind
+  pub name : Name
+  pub attributes : List (Attribute R)
+
+-- manufacturer, device type, device revision and revision of the description
+pub record Identification : Type 0 where
+  pub manufacturer : ℕ
+  pub device_type : ℕ
+  pub device_revision : ℕ
+  pub dd_revision : ℕ
+
+pub record Description (R : Type 0) : Type 0 where
+  pub identification : Identification
+  pub items : List (Item R)

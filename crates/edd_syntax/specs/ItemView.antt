@@ -1,0 +1,128 @@
+-- What conditionals, items and their attributes in the code stand for.
+use Rattle.std.specs.Prelude.{List, [], ◌∷◌, map, option_map, string_bytes}
+use Rattle.edd_syntax.specs.declared.cond.Cond.{Cond, Row_of-Cond, end_of-Cond, more_of-Cond, Row_of-Arm, end_of-Arm, more_of-Arm}
+use Rattle.edd_syntax.specs.declared.cond.Cond.TheVariants.{Value, If', Select'}
+use Rattle.edd_syntax.specs.declared.cond.Arm.{Arm}
+use Rattle.edd_syntax.specs.declared.cond.Arm.TheVariants.{Case', Default'}
+use Rattle.edd_syntax.specs.declared.item.Item.{Item}
+use Rattle.edd_syntax.specs.declared.item.Item.TheVariants as item
+use Rattle.edd_syntax.specs.declared.item.Attribute.{Attribute}
+use Rattle.edd_syntax.specs.declared.item.Attribute.TheVariants as attribute
+use Rattle.edd_syntax.specs.declared.item.TypeWord.{TypeWord}
+use Rattle.edd_syntax.specs.declared.item.TypeWord.TheVariants as word
+use Rattle.edd_syntax.specs.declared.item.TypePart.{TypePart}
+use Rattle.edd_syntax.specs.declared.item.TypePart.TheVariants as part
+use Rattle.edd_syntax.specs.declared.item.TransactionPart.{TransactionPart}
+use Rattle.edd_syntax.specs.declared.item.TransactionPart.TheVariants as transaction
+use Rattle.edd_syntax.specs.declared.item.MenuEntry.{MenuEntry}
+use Rattle.edd_syntax.specs.declared.item.MenuEntry.TheVariants as entry
+use Rattle.edd_syntax.specs.declared.item.DataItem.{DataItem}
+use Rattle.edd_syntax.specs.declared.item.DataItem.TheVariants as data_item
+use Rattle.edd_syntax.specs.declared.item.Enumerator.{Enumerator}
+use Rattle.edd_syntax.specs.declared.item.ResponseCode.{ResponseCode}
+use Rattle.edd_syntax.specs.declared.item.Member.{Member}
+use Rattle.edd_syntax.specs.declared.item.Identification.{Identification}
+use Rattle.edd_syntax.specs.declared.reference.Path.{Path}
+use Rattle.edd_syntax.specs.declared.reference.Target.{Target}
+use Rattle.edd_syntax.specs.Reference as references
+use Rattle.edd_syntax.specs.Conditional as pure
+use Rattle.edd_syntax.specs.Item as items
+use Rattle.edd_syntax.specs.Statement as statement
+use Rattle.edd_syntax.specs.WordsView.{text_of}
+use Rattle.edd_syntax.specs.TreeView.{path_of, expr_of, part_of}
+
+-- ---- conditionals: g says what a value stands for
+
+unfoldable mutual
+  pub cond_of : {R S V W : Type 0} → (R → S) → (V → W) → Cond R V → pure.Cond S W
+  cond_of f g (Value v) = pure.Value (g v)
+  cond_of f g (If' test shape first shape' otherwise) =
+      pure.If (expr_of f test) (pure.conds_from (conds_in f g first)) (pure.conds_from (conds_in f g otherwise))
+  cond_of f g (Select' on shape arms) = pure.Select (expr_of f on) (pure.arms_from (arms_in f g arms))
+
+  pub arm_of : {R S V W : Type 0} → (R → S) → (V → W) → Arm R V → pure.Arm S W
+  arm_of f g (Case' label shape body) = pure.Case label (pure.conds_from (conds_in f g body))
+  arm_of f g (Default' line shape body) = pure.Default (pure.conds_from (conds_in f g body))
+
+  pub conds_in : {R S V W : Type 0} {n : _} → (R → S) → (V → W) → Row_of-Cond R V n → List (pure.Cond S W)
+  conds_in f g end_of-Cond = []
+  conds_in f g (more_of-Cond first rest) = cond_of f g first ∷ conds_in f g rest
+
+  pub arms_in : {R S V W : Type 0} {n : _} → (R → S) → (V → W) → Row_of-Arm R V n → List (pure.Arm S W)
+  arms_in f g end_of-Arm = []
+  arms_in f g (more_of-Arm first rest) = arm_of f g first ∷ arms_in f g rest
+
+-- the list of conditionals that a vector holds
+abbrev pub conds_of : {R S V W : Type 0} → (R → S) → (V → W) → List (Cond R V) → pure.Conds S W
+conds_of f g conds = pure.conds_from (map (cond_of f g) conds)
+
+-- ---- attributes
+
+abbrev pub enumerator_of : Enumerator → items.Enumerator
+enumerator_of e = record { value = e.value; text = text_of e.text; help = option_map text_of e.help }
+
+abbrev pub entry_of : {R S : Type 0} → (R → S) → MenuEntry R → items.MenuEntry S
+entry_of f (entry.Text text) = items.Text (text_of text)
+entry_of f (entry.Reference to qualifiers) = items.Reference (f to) qualifiers
+
+abbrev pub data_item_of : {R S : Type 0} → (R → S) → DataItem R → items.DataItem S
+data_item_of f (data_item.Constant line value) = items.Constant value
+data_item_of f (data_item.Variable line variable mask qualifiers) = items.Variable (f variable) mask qualifiers
+
+abbrev pub response_code_of : ResponseCode → items.ResponseCode
+response_code_of r = record { number = r.number; class = r.class; text = text_of r.text }
+
+abbrev pub member_of : {R S : Type 0} → (R → S) → Member R → items.Member S
+member_of f m = record { name = string_bytes m.name; item = f m.item; label = option_map text_of m.label; help = option_map text_of m.help }
+
+abbrev pub type_word_of : TypeWord → items.TypeWord
+type_word_of (word.Known type size) = items.Known type size
+type_word_of (word.Other text) = items.Other (string_bytes text)
+
+abbrev pub type_part_of : {R S : Type 0} → (R → S) → TypePart R → items.TypePart S
+type_part_of f (part.DefaultValue line value) = items.DefaultValue (cond_of f (expr_of f) value)
+type_part_of f (part.MinValue line value) = items.MinValue (cond_of f (expr_of f) value)
+type_part_of f (part.MaxValue line value) = items.MaxValue (cond_of f (expr_of f) value)
+type_part_of f (part.DisplayFormat line format) = items.DisplayFormat (cond_of f text_of format)
+type_part_of f (part.EditFormat line format) = items.EditFormat (cond_of f text_of format)
+type_part_of f (part.Element element) = items.Element (cond_of f enumerator_of element)
+
+abbrev pub transaction_part_of : {R S : Type 0} → (R → S) → TransactionPart R → items.TransactionPart S
+transaction_part_of f (transaction.Request all) = items.Request (conds_of f (data_item_of f) all.items)
+transaction_part_of f (transaction.Reply all) = items.Reply (conds_of f (data_item_of f) all.items)
+
+abbrev pub attribute_of : {R S : Type 0} → (R → S) → Attribute R → items.Attribute S
+attribute_of f (attribute.Label c) = items.Label (cond_of f text_of c)
+attribute_of f (attribute.Help c) = items.Help (cond_of f text_of c)
+attribute_of f (attribute.Class words) = items.Class (map string_bytes words.items)
+attribute_of f (attribute.Handling c) = items.Handling (cond_of f (λ h. h) c)
+attribute_of f (attribute.ConstantUnit c) = items.ConstantUnit (cond_of f text_of c)
+attribute_of f (attribute.Validity c) = items.Validity (cond_of f (λ b. b) c)
+attribute_of f (attribute.TypeOf word parts) = items.TypeOf (type_word_of word) (map (type_part_of f) parts.items)
+attribute_of f (attribute.Number n) = items.Number n
+attribute_of f (attribute.Operation operation) = items.Operation operation
+attribute_of f (attribute.Transaction number parts) = items.Transaction number (map (transaction_part_of f) parts.items)
+attribute_of f (attribute.ResponseCodes codes) = items.ResponseCodes (map response_code_of codes.items)
+attribute_of f (attribute.Items entries) = items.Items (conds_of f (entry_of f) entries.items)
+attribute_of f (attribute.Members members) = items.Members (map (member_of f) members.items)
+attribute_of f (attribute.Definition parts) = items.Definition (statement.body_from (map (part_of f) parts.items))
+
+-- ---- items
+
+abbrev pub item_of : {R S : Type 0} → (R → S) → Item R → items.Item S
+item_of f (item.Variable d) = record { sort = items.VariableItem; name = string_bytes d.name; attributes = map (attribute_of f) d.attributes.items }
+item_of f (item.Command d) = record { sort = items.CommandItem; name = string_bytes d.name; attributes = map (attribute_of f) d.attributes.items }
+item_of f (item.Menu d) = record { sort = items.MenuItem; name = string_bytes d.name; attributes = map (attribute_of f) d.attributes.items }
+item_of f (item.Collection d) = record { sort = items.CollectionItem d.of; name = string_bytes d.name; attributes = map (attribute_of f) d.attributes.items }
+item_of f (item.Method d) = record { sort = items.MethodItem; name = string_bytes d.name; attributes = map (attribute_of f) d.attributes.items }
+
+abbrev pub identification_of : Identification → items.Identification
+identification_of i = record { manufacturer = i.manufacturer; device_type = i.device_type; device_revision = i.device_revision; dd_revision = i.dd_revision }
+
+-- the items of a unit, whose references are names
+abbrev pub named_items : List (Item Path) → List (items.Item references.Path)
+named_items all = map (item_of path_of) all
+
+-- the items of a resolved unit
+abbrev pub numbered_items : List (Item Target) → List (items.Item Target)
+numbered_items all = map (item_of (λ r. r)) all

@@ -1,0 +1,142 @@
+-- The state of a method, what it asks of its host, what the host answers, and actions on the state.
+use Rattle.std.specs.Prelude.{◌<◌, ◌^◌, ℤ, pos, neg_ℤ, ◌-ℤ◌, ◌≤ℤ◌, List, [], ◌∷◌, ◌++◌, length, All, slice_index_or, slice_set, Result, Ok, Err}
+use Rattle.edd_syntax.specs.declared.numbers.VarNo.{VarNo}
+use Rattle.edd_syntax.specs.declared.numbers.ItemNo.{ItemNo}
+use Rattle.edd_syntax.specs.declared.numbers.ItemNo.TheVariants as item_no
+use Rattle.edd_syntax.specs.declared.answer.Trap.{Trap}
+use Rattle.edd_syntax.specs.Reference.{Target, Local, Item, Function}
+use Rattle.edd_syntax.specs.TwosComplement.{wrap, store}
+use Rattle.edd_syntax.specs.Words.{Words}
+use Rattle.edd_syntax.specs.Device.{Environment, type_of_variable, IsInRange, value_at}
+
+-- what a method asks of its host
+pub data Request : Type 0 where
+  PutMessage : (text : Words) → Request
+  Acknowledge : (text : Words) → Request
+  Delay : (seconds : ℤ) → (text : Words) → Request
+  GetDevVarValue : (text : Words) → (variable : VarNo) → Request
+  SelectFromList : (text choices : Words) → Request
+  SendCommand : (number : ℤ) → Request
+  SendCommandTrans : (number transaction : ℤ) → Request
+  SaveValues : Request
+
+-- a variable and its new value
+abbrev pub Change : Type 0
+Change = VarNo × ℤ
+
+-- what the host answers: a code, after it has set variables in order, or that the method ends
+pub data Answer : Type 0 where
+  Go : (code : ℤ) → (sets : List Change) → Answer
+  Abort : Answer
+
+-- an existing variable, and a value in its range
+abbrev pub IsValidSet : Environment → Change → Type 0
+IsValidSet env set = (set.0.0 < length env.variables) × IsInRange (type_of_variable env set.0) set.1
+
+-- an answer that a host may give: its code has 32 bits, and each of its sets is valid
+abbrev pub IsValidAnswer : Environment → Answer → Type 0
+IsValidAnswer env (Go code sets) = (neg_ℤ (pos (2 ^ 31)) ≤ℤ code) × (code ≤ℤ (pos (2 ^ 31) -ℤ pos 1)) × All (IsValidSet env) sets
+IsValidAnswer env Abort = Unit {0}
+
+pub record State : Type 0 where
+  -- the values of the locals
+  pub slots : List ℤ
+  -- the values of the device's variables
+  pub values : List ℤ
+  -- the requests and the changes so far
+  pub requests : List Request
+  pub changes : List Change
+  -- the answers that are left
+  pub answers : List Answer
+
+-- why a run stops before its end: a trap, an abort, a request without an answer, or a loop without a turn left
+pub data Stop : Type 0 where
+  Trapped : Trap → Stop
+  Aborted : Stop
+  Waiting : Stop
+  OutOfTurns : Stop
+
+-- what an action comes to: a result of the type A, or a stop, each with its state
+pub data Outcome (A : Type 0) : Type 0 where
+  Done : A → State → Outcome A
+  Stopped : Stop → State → Outcome A
+
+abbrev pub Action : Type 0 → Type 0
+Action A = State → Outcome A
+
+abbrev pub pure : {A : Type 0} → A → Action A
+pure x = λ s. Done x s
+
+abbrev pub stop : {A : Type 0} → Stop → Action A
+stop why = λ s. Stopped why s
+
+abbrev pub and_then : {A B : Type 0} → Outcome A → (A → Action B) → Outcome B
+and_then (Done x s) next = next x s
+and_then (Stopped why s) next = Stopped why s
+
+-- one action after another
+infixl 10 ◌>>=◌ ◌>>◌
+abbrev pub ◌>>=◌ : {A B : Type 0} → Action A → (A → Action B) → Action B
+first >>= next = λ s. and_then (first s) next
+
+abbrev pub ◌>>◌ : {A B : Type 0} → Action A → Action B → Action B
+first >> next = first >>= λ x. next
+
+-- the number, or the trap
+abbrev pub number : Result ℤ Trap → Action ℤ
+number (Ok z) = pure z
+number (Err why) = stop (Trapped why)
+
+-- ---- variables and slots
+
+-- a variable is read with 32 bits; no checked unit reads another item
+abbrev pub item_value : List ℤ → ItemNo → ℤ
+item_value values (item_no.Variable v) = wrap 32 (value_at values v)
+item_value values (item_no.Command n) = pos 0
+item_value values (item_no.Menu n) = pos 0
+item_value values (item_no.Collection n) = pos 0
+item_value values (item_no.Method n) = pos 0
+
+abbrev pub read_from : State → Target → ℤ
+read_from s (Local slot) = slice_index_or s.slots slot (pos 0)
+read_from s (Item i) = item_value s.values i
+read_from s (Function f) = pos 0
+
+abbrev pub read : Target → Action ℤ
+read target = λ s. Done (read_from s target) s
+
+-- the variable gets this value, and the change is noted
+abbrev pub change : VarNo → ℤ → State → State
+change v z s = record s { values = slice_set s.values v.0 z; changes = s.changes ++ (v, z) ∷ [] }
+
+-- a store keeps what fits the variable's type and size, and gives what is then read; no checked unit stores to another item
+abbrev pub assign_item : Environment → ItemNo → ℤ → Action ℤ
+assign_item env (item_no.Variable v) z =
+    let t = type_of_variable env v in
+    let kept = store t.type t.size z in
+    λ s. Done (wrap 32 kept) (change v kept s)
+assign_item env (item_no.Command n) z = pure z
+assign_item env (item_no.Menu n) z = pure z
+assign_item env (item_no.Collection n) z = pure z
+assign_item env (item_no.Method n) z = pure z
+
+abbrev pub assign : Environment → Target → ℤ → Action ℤ
+assign env (Local slot) z = λ s. Done z (record s { slots = slice_set s.slots slot z })
+assign env (Item i) z = assign_item env i z
+assign env (Function f) z = pure z
+
+-- ---- requests
+
+-- the sets of an answer, in order
+abbrev pub apply_sets : List Change → State → State
+apply_sets [] s = s
+apply_sets ((v, z) ∷ rest) s = apply_sets rest (change v z s)
+
+-- the next answer gives its code, after its sets
+abbrev pub answered : List Answer → Action ℤ
+answered [] = stop Waiting
+answered (Go code sets ∷ rest) = λ s. Done code (apply_sets sets (record s { answers = rest }))
+answered (Abort ∷ rest) = λ s. Stopped Aborted (record s { answers = rest })
+
+abbrev pub ask : Request → Action ℤ
+ask r = λ s. answered s.answers (record s { requests = s.requests ++ r ∷ [] })

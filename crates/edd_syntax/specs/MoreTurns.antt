@@ -1,0 +1,23 @@
+-- The law of more turns: an outcome that isn't for want of turns is the same where loops have more turns.
+use Rattle.std.specs.Prelude.{◌≡◌, ℕ, ◌≤◌}
+use Rattle.edd_syntax.specs.Reference.{Target}
+use Rattle.edd_syntax.specs.Statement.{Stmt}
+use Rattle.edd_syntax.specs.Device.{Environment}
+use Rattle.edd_syntax.specs.MethodState.{State, Outcome, Done, Stopped, Trapped, Aborted, Waiting, OutOfTurns, Action}
+use Rattle.edd_syntax.specs.Execution.{execute}
+
+-- the outcome isn't for want of turns
+abbrev pub IsOver : {A : Type 0} → Outcome A → Type 0
+IsOver (Done x s) = Unit {0}
+IsOver (Stopped (Trapped why) s) = Unit {0}
+IsOver (Stopped Aborted s) = Unit {0}
+IsOver (Stopped Waiting s) = Unit {0}
+IsOver (Stopped OutOfTurns s) = ⊥
+
+-- wherever the first is over, the second comes to the same
+abbrev pub Extends : {A : Type 0} → Action A → Action A → Type 0
+Extends first second = (s : State) → IsOver (first s) → second s ≡ first s
+
+-- what a statement comes to, other than for want of turns, stays where each loop has more turns
+abbrev pub StatementsStay : Type 0
+StatementsStay = (env : Environment) (statement : Stmt Target) (n m : ℕ) → n ≤ m → Extends (execute env statement n) (execute env statement m)

@@ -1,0 +1,174 @@
+//! Items and their attributes, over the type R of their references.
+
+use crate::cond::Cond;
+use crate::expr::Expr;
+use crate::numbers::Kind;
+use crate::stmt::Part;
+use crate::text::Text;
+use crate::types::{Handling, Operation, ResponseClass, VarType};
+
+/// `{ value, text, help }`
+#[derive(Drop)]
+pub struct Enumerator {
+    /// Where its brace stands.
+    pub line: u32,
+    pub value: i64,
+    pub text: Text,
+    pub help: Option<Text>,
+}
+
+/// The qualifiers of a menu's entry.
+#[derive(Clone, Copy, PartialEq, Eq, Debug)]
+pub struct MenuQualifiers {
+    pub display_value: bool,
+    pub read_only: bool,
+    pub hidden: bool,
+    pub review: bool,
+}
+
+/// An entry of a menu: a text, or a reference with qualifiers.
+#[derive(Drop)]
+pub enum MenuEntry<R> {
+    Text(Text),
+    Reference { to: R, qualifiers: MenuQualifiers },
+}
+
+/// The qualifiers of a data item.
+#[derive(Clone, Copy, PartialEq, Eq, Debug)]
+pub struct DataQualifiers {
+    pub info: bool,
+    pub index: bool,
+}
+
+/// A data item of a request or a reply.
+#[derive(Drop)]
+pub enum DataItem<R> {
+    Constant {
+        line: u32,
+        value: u32,
+    },
+    Variable {
+        line: u32,
+        variable: R,
+        mask: Option<u32>,
+        qualifiers: DataQualifiers,
+    },
+}
+
+/// `number, class, text`
+#[derive(Drop)]
+pub struct ResponseCode {
+    pub number: u32,
+    pub class: ResponseClass,
+    pub text: Text,
+}
+
+/// `name, item, label, help;`
+#[derive(Drop)]
+pub struct Member<R> {
+    pub name: String,
+    pub item: R,
+    pub label: Option<Text>,
+    pub help: Option<Text>,
+}
+
+/// The word of a type, with the size in octets that is written.
+#[derive(Drop)]
+pub enum TypeWord {
+    Known { kind: VarType, size: Option<u32> },
+    Other(String),
+}
+
+/// What stands in the braces of a type.
+#[derive(Drop)]
+pub enum TypePart<R> {
+    DefaultValue { line: u32, value: Cond<R, Expr<R>> },
+    MinValue { line: u32, value: Cond<R, Expr<R>> },
+    MaxValue { line: u32, value: Cond<R, Expr<R>> },
+    DisplayFormat { line: u32, format: Cond<R, Text> },
+    EditFormat { line: u32, format: Cond<R, Text> },
+    /// An element of the type's list of enumerators.
+    Element(Cond<R, Enumerator>),
+}
+
+/// What stands in the braces of a transaction.
+#[derive(Drop)]
+pub enum TransactionPart<R> {
+    Request(Vec<Cond<R, DataItem<R>>>),
+    Reply(Vec<Cond<R, DataItem<R>>>),
+}
+
+/// An attribute as it is written.
+#[derive(Drop)]
+pub enum Attribute<R> {
+    Label(Cond<R, Text>),
+    Help(Cond<R, Text>),
+    Class(Vec<String>),
+    Handling(Cond<R, Handling>),
+    ConstantUnit(Cond<R, Text>),
+    Validity(Cond<R, bool>),
+    TypeOf {
+        word: TypeWord,
+        parts: Vec<TypePart<R>>,
+    },
+    Number(u32),
+    Operation(Operation),
+    Transaction {
+        number: Option<u32>,
+        parts: Vec<TransactionPart<R>>,
+    },
+    ResponseCodes(Vec<ResponseCode>),
+    Items(Vec<Cond<R, MenuEntry<R>>>),
+    Members(Vec<Member<R>>),
+    Definition(Vec<Part<R>>),
+}
+
+#[derive(Drop)]
+pub struct VariableDef<R> {
+    pub name: String,
+    pub attributes: Vec<Attribute<R>>,
+}
+
+#[derive(Drop)]
+pub struct CommandDef<R> {
+    pub name: String,
+    pub attributes: Vec<Attribute<R>>,
+}
+
+#[derive(Drop)]
+pub struct MenuDef<R> {
+    pub name: String,
+    pub attributes: Vec<Attribute<R>>,
+}
+
+#[derive(Drop)]
+pub struct CollectionDef<R> {
+    /// The kind of its members.
+    pub of: Kind,
+    pub name: String,
+    pub attributes: Vec<Attribute<R>>,
+}
+
+#[derive(Drop)]
+pub struct MethodDef<R> {
+    pub name: String,
+    pub attributes: Vec<Attribute<R>>,
+}
+
+#[derive(Drop)]
+pub enum Item<R> {
+    Variable(VariableDef<R>),
+    Command(CommandDef<R>),
+    Menu(MenuDef<R>),
+    Collection(CollectionDef<R>),
+    Method(MethodDef<R>),
+}
+
+/// Manufacturer, device type, device revision and revision of the description.
+#[derive(Clone, Copy, PartialEq, Eq, Debug)]
+pub struct Identification {
+    pub manufacturer: u32,
+    pub device_type: u32,
+    pub device_revision: u32,
+    pub dd_revision: u32,
+}

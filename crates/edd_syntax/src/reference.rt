@@ -1,0 +1,19 @@
+//! What names refer to.
+
+use crate::numbers::ItemNo;
+use crate::operators::Builtin;
+
+/// `name`, or `c.m` for a member of a collection, and so on.
+#[derive(Drop)]
+pub struct Path {
+    pub base: String,
+    pub members: Vec<String>,
+}
+
+/// A slot of the method, an item, or a builtin function.
+#[derive(Clone, Copy, PartialEq, Eq, Debug)]
+pub enum Target {
+    Local(u8),
+    Item(ItemNo),
+    Function(Builtin),
+}

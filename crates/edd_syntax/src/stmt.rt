@@ -1,0 +1,47 @@
+//! Statements, over the type R of their references.
+
+use crate::expr::Expr;
+
+#[cycle(stmt)]
+#[derive(Drop)]
+pub enum Stmt<R> {
+    Empty,
+    Evaluate(Expr<R>),
+    Block(Vec<Part<R>>),
+    If(Expr<R>, Box<Stmt<R>>),
+    IfElse(Expr<R>, Box<Stmt<R>>, Box<Stmt<R>>),
+    While(Expr<R>, Box<Stmt<R>>),
+    Do(Box<Stmt<R>>, Expr<R>),
+    /// A missing condition is true.
+    For {
+        initial: Option<Expr<R>>,
+        condition: Option<Expr<R>>,
+        update: Option<Expr<R>>,
+        body: Box<Stmt<R>>,
+    },
+    Switch(Expr<R>, Vec<Part<R>>),
+    Break {
+        line: u32,
+    },
+    Continue {
+        line: u32,
+    },
+    Return,
+}
+
+/// What stands between braces. Labels stand between those of a `switch` alone.
+#[cycle(stmt)]
+#[derive(Drop)]
+pub enum Part<R> {
+    Declare(Vec<Declarator<R>>),
+    Statement(Stmt<R>),
+    CaseLabel { line: u32, label: i64 },
+    DefaultLabel { line: u32 },
+}
+
+/// A declared local, with its value if one is written.
+#[derive(Drop)]
+pub struct Declarator<R> {
+    pub place: R,
+    pub value: Option<Expr<R>>,
+}
