@@ -1,4 +1,5 @@
 pub mod Bits
+pub mod KeptItems
 pub mod TurnLaws
 pub mod WorkedRuns
 pub mod WorkedTexts

@@ -15,7 +15,7 @@ use Rattle.edd_syntax.specs.Text as texts
 use Rattle.edd_syntax.specs.Text.{Quoted}
 use Rattle.edd_syntax.specs.Reference.{Target, Local, Item, Function}
 use Rattle.edd_syntax.specs.Expression.{Expr, Literal, Reference, Unary, Binary, Compare, LogicalAnd, Assign, CompoundAssign, Increment, Call, Argument, Text, Value, arguments_from}
-use Rattle.edd_syntax.specs.Statement.{Stmt, Empty, Evaluate, Block, If, While, For, Switch, Break, Continue, Return, Part, Body, body_from, Declare, Statement, CaseLabel, DefaultLabel}
+use Rattle.edd_syntax.specs.Statement.{Stmt, Empty, Evaluate, Block, If, While, For, Switch, Break, Continue, Return, Part, Body, body_from, Declare, Statement, CaseLabel, DefaultLabel, slots_of, slots_in}
 use Rattle.edd_syntax.specs.TwosComplement.{wrap, store, operate, compare, apply}
 use Rattle.edd_syntax.specs.Words as strings
 use Rattle.edd_syntax.specs.Words.{Words, Variants, words_of, text_for, pieces, unescape, english}
@@ -23,7 +23,7 @@ use Rattle.edd_syntax.specs.Device.{VariableType, Environment}
 use Rattle.edd_syntax.specs.MethodState as asks
 use Rattle.edd_syntax.specs.MethodState.{Request, Change, Answer, Go, Abort}
 use Rattle.edd_syntax.specs.Evaluation.{call, evaluate}
-use Rattle.edd_syntax.specs.Execution.{turns, execute, slots_of, slots_in, Ending, Ended, Aborted, Trapped, Waiting, OutOfTurns, Transcript, opening, run_body}
+use Rattle.edd_syntax.specs.Execution.{turns, execute, Ending, Ended, Aborted, Trapped, Waiting, OutOfTurns, Transcript, opening, run_body}
 
 -- ---- how the sources are written here
 

@@ -1,12 +1,12 @@
 -- What the statements of a method do, and a whole run.
-use Rattle.std.specs.Prelude.{ℕ, zero, suc, ◌+◌, true, false, ℤ, pos, List, [], ◌∷◌, length, replicate, Option, Some, None}
+use Rattle.std.specs.Prelude.{ℕ, zero, suc, true, false, ℤ, pos, List, [], ◌∷◌, replicate, Option, Some, None}
 use Rattle.std.specs.Ordering.{int_eq}
 use Rattle.edd_syntax.specs.declared.numbers.MethNo.{MethNo}
 use Rattle.edd_syntax.specs.declared.numbers.ItemNo.TheVariants as item_no
 use Rattle.edd_syntax.specs.declared.answer.Trap.{Trap}
 use Rattle.edd_syntax.specs.Reference.{Target}
 use Rattle.edd_syntax.specs.Expression.{Expr}
-use Rattle.edd_syntax.specs.Statement.{Declarator, Stmt, Empty, Evaluate, Block, If, IfElse, While, Do, For, Switch, Break, Continue, Return, Body, Nil, Cons, Declare, Statement, CaseLabel, DefaultLabel}
+use Rattle.edd_syntax.specs.Statement.{Declarator, Stmt, Empty, Evaluate, Block, If, IfElse, While, Do, For, Switch, Break, Continue, Return, Body, Nil, Cons, Declare, Statement, CaseLabel, DefaultLabel, slots_in}
 use Rattle.edd_syntax.specs.Item.{Attribute, Definition, Description}
 use Rattle.edd_syntax.specs.TwosComplement.{wrap, is_zero}
 use Rattle.edd_syntax.specs.Device.{Environment, environment, item_at}
@@ -120,29 +120,6 @@ module _ (env : Environment) where
     execute_default (Cons DefaultLabel rest) n = execute_all rest n
 
 -- ---- runs
-
--- the declarators of a method: its slots
-unfoldable mutual
-  pub slots_of : Stmt Target → ℕ
-  slots_of Empty = 0
-  slots_of (Evaluate e) = 0
-  slots_of Break = 0
-  slots_of Continue = 0
-  slots_of Return = 0
-  slots_of (Block body) = slots_in body
-  slots_of (If condition first) = slots_of first
-  slots_of (IfElse condition first otherwise) = slots_of first + slots_of otherwise
-  slots_of (While condition body) = slots_of body
-  slots_of (Do body condition) = slots_of body
-  slots_of (For initial condition update body) = slots_of body
-  slots_of (Switch on body) = slots_in body
-
-  pub slots_in : Body Target → ℕ
-  slots_in Nil = 0
-  slots_in (Cons (Declare declarators) rest) = length declarators + slots_in rest
-  slots_in (Cons (Statement s) rest) = slots_of s + slots_in rest
-  slots_in (Cons (CaseLabel label) rest) = slots_in rest
-  slots_in (Cons DefaultLabel rest) = slots_in rest
 
 -- how a run ends; out of turns is a run that goes on
 pub data Ending : Type 0 where

@@ -12,6 +12,7 @@ pub mod MoreTurns
 pub mod Names
 pub mod Numbers
 pub mod Reference
+pub mod Size
 pub mod Statement
 pub mod Text
 pub mod Token
@@ -19,3 +20,4 @@ pub mod TreeView
 pub mod TwosComplement
 pub mod Words
 pub mod WordsView
+pub mod WellFormed

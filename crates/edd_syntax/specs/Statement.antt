@@ -1,5 +1,5 @@
 -- Statements of methods.
-use Rattle.std.specs.Prelude.{ℤ, List, [], ◌∷◌, Option}
+use Rattle.std.specs.Prelude.{ℕ, ◌+◌, ℤ, List, [], ◌∷◌, length, Option}
 use Rattle.edd_syntax.specs.Expression.{Expr}
 
 -- a declared local, with its value if one is written
@@ -37,3 +37,26 @@ mutual
 abbrev pub body_from : {R : Type 0} → List (Part R) → Body R
 body_from [] = Nil
 body_from (p ∷ rest) = Cons p (body_from rest)
+
+-- the declarators of a statement, each of which has a slot of its own
+unfoldable mutual
+  pub slots_of : {R : Type 0} → Stmt R → ℕ
+  slots_of Empty = 0
+  slots_of (Evaluate e) = 0
+  slots_of Break = 0
+  slots_of Continue = 0
+  slots_of Return = 0
+  slots_of (Block body) = slots_in body
+  slots_of (If condition first) = slots_of first
+  slots_of (IfElse condition first otherwise) = slots_of first + slots_of otherwise
+  slots_of (While condition body) = slots_of body
+  slots_of (Do body condition) = slots_of body
+  slots_of (For initial condition update body) = slots_of body
+  slots_of (Switch on body) = slots_in body
+
+  pub slots_in : {R : Type 0} → Body R → ℕ
+  slots_in Nil = 0
+  slots_in (Cons (Declare declarators) rest) = length declarators + slots_in rest
+  slots_in (Cons (Statement s) rest) = slots_of s + slots_in rest
+  slots_in (Cons (CaseLabel label) rest) = slots_in rest
+  slots_in (Cons DefaultLabel rest) = slots_in rest

@@ -13,5 +13,6 @@ pub mod stmt;
 pub mod symbols;
 pub mod text;
 pub mod types;
+pub mod unit;
 pub mod words;
 pub mod wrap;
