@@ -12,6 +12,8 @@ pub mod MoreTurns
 pub mod Names
 pub mod Numbers
 pub mod Reference
+pub mod Resolution
+pub mod ResolvedTrees
 pub mod Size
 pub mod Statement
 pub mod Text
