@@ -12,6 +12,9 @@ pub mod MoreTurns
 pub mod Names
 pub mod Numbers
 pub mod Reference
+pub mod NameRules
+pub mod NameUses
+pub mod Refusal
 pub mod Resolution
 pub mod ResolvedTrees
 pub mod Size

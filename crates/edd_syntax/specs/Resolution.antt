@@ -14,6 +14,7 @@ use Rattle.edd_syntax.specs.Reference.{Path, Target, Local, Item, Function}
 use Rattle.edd_syntax.specs.Numbers.{same_kind, item_number, kind_of}
 use Rattle.edd_syntax.specs.Item as item
 use Rattle.edd_syntax.specs.Item.{kind_of_item, ItemKind, VariableItem, CommandItem, MenuItem, CollectionItem, MethodItem, Attribute, Members, Member, Description}
+use Rattle.edd_syntax.specs.Statement.{Declarator}
 use Rattle.edd_syntax.specs.Device.{item_at}
 
 -- what stands under a name, the first of that name
@@ -139,8 +140,21 @@ variable_kinds = kind.Variable ∷ []
 abbrev pub entry_kinds : List Kind
 entry_kinds = kind.Variable ∷ kind.Menu ∷ kind.Collection ∷ kind.Method ∷ []
 
+-- the kinds that a member of an item may have; only collections have members
+abbrev pub member_kinds : ItemKind → List Kind
+member_kinds (CollectionItem of) = of ∷ []
+member_kinds VariableItem = []
+member_kinds CommandItem = []
+member_kinds MenuItem = []
+member_kinds MethodItem = []
+
 -- ---- locals
 
 -- the locals behind a declarator, whose slot is `next`
 abbrev pub declared : Path → (next : ℕ) → Scope → Scope
 declared place next scope = (place.base, next) ∷ scope
+
+-- the locals behind a declaration
+abbrev pub all_declared : Scope → (next : ℕ) → List (Declarator Path) → Scope
+all_declared scope next [] = scope
+all_declared scope next (d ∷ rest) = all_declared (declared d.place next scope) (next + 1) rest

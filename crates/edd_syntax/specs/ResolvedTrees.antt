@@ -1,7 +1,6 @@
 -- The trees of a unit with the meaning of each name in its place. A tree with a name that means nothing has none.
 use Rattle.std.specs.Prelude.{ℕ, ◌+◌, List, [], ◌∷◌, length, Option, Some, None}
 use Rattle.edd_syntax.specs.declared.numbers.Kind.{Kind}
-use Rattle.edd_syntax.specs.declared.numbers.Kind.TheVariants as kind
 use Rattle.edd_syntax.specs.Reference.{Path, Target, Local}
 use Rattle.edd_syntax.specs.Expression as expr
 use Rattle.edd_syntax.specs.Expression.{Expr, Literal, Decimal, Reference, Parentheses, Unary, Binary, Compare, LogicalAnd, LogicalOr, Conditional, Assign, CompoundAssign, Increment, Call, Text, Arguments}
@@ -10,8 +9,8 @@ use Rattle.edd_syntax.specs.Conditional.{Cond, Value, If, Select, Conds, Arms, N
 use Rattle.edd_syntax.specs.Statement as s
 use Rattle.edd_syntax.specs.Statement.{Declarator, Stmt, Body, Nil, Cons, Declare, Statement, CaseLabel, DefaultLabel, slots_of}
 use Rattle.edd_syntax.specs.Item as item
-use Rattle.edd_syntax.specs.Item.{ItemKind, VariableItem, CommandItem, MenuItem, CollectionItem, MethodItem, TypePart, TransactionPart, Attribute, Description}
-use Rattle.edd_syntax.specs.Resolution.{Scope, meaning, function_meant, variable_kinds, entry_kinds, member_kind, declared}
+use Rattle.edd_syntax.specs.Item.{ItemKind, TypePart, TransactionPart, Attribute, Description}
+use Rattle.edd_syntax.specs.Resolution.{Scope, meaning, function_meant, variable_kinds, entry_kinds, member_kinds, declared, all_declared}
 
 -- one after another, as long as each has a value
 infixl 10 ◌>>=◌
@@ -110,11 +109,6 @@ module _ (unit : Description Path) where
     others ← resolved_declarators (declared d.place next scope) (next + 1) rest
     Some (record { place = Local next; value = value } ∷ others)
 
-  -- the locals behind a declaration
-  abbrev pub all_declared : Scope → (next : ℕ) → List (Declarator Path) → Scope
-  all_declared scope next [] = scope
-  all_declared scope next (d ∷ rest) = all_declared (declared d.place next scope) (next + 1) rest
-
   unfoldable mutual
     pub resolved_stmt : Stmt Path → Scope → (next : ℕ) → Option (Stmt Target)
     resolved_stmt s.Empty scope next = Some s.Empty
@@ -202,14 +196,6 @@ module _ (unit : Description Path) where
   abbrev pub resolved_transaction_part : TransactionPart Path → Option (TransactionPart Target)
   resolved_transaction_part (item.Request all) = do all' ← resolved_conds at_attribute resolved_data all; Some (item.Request all')
   resolved_transaction_part (item.Reply all) = do all' ← resolved_conds at_attribute resolved_data all; Some (item.Reply all')
-
-  -- the kinds that a member of an item may have; only collections have members
-  abbrev pub member_kinds : ItemKind → List Kind
-  member_kinds (CollectionItem of) = of ∷ []
-  member_kinds VariableItem = []
-  member_kinds CommandItem = []
-  member_kinds MenuItem = []
-  member_kinds MethodItem = []
 
   abbrev pub resolved_attribute : ItemKind → Attribute Path → Option (Attribute Target)
   resolved_attribute sort (item.Label c) = do c' ← resolved_one c; Some (item.Label c')

@@ -6,6 +6,7 @@ pub mod cond;
 pub mod expr;
 pub mod item;
 pub mod laws;
+pub mod limits;
 pub mod numbers;
 pub mod operators;
 pub mod reference;
