@@ -1,3 +1,4 @@
+pub mod Accepted
 pub mod AttributeValue
 pub mod Attributes
 pub mod Conditional
@@ -16,9 +17,12 @@ pub mod NameRules
 pub mod NameUses
 pub mod Refusal
 pub mod Resolution
+pub mod Resolved
 pub mod ResolvedTrees
 pub mod Size
+pub mod Strings
 pub mod Statement
+pub mod SubsetRules
 pub mod Text
 pub mod Token
 pub mod TreeView

@@ -2,6 +2,7 @@
 #![tactic(auto)]
 
 pub mod answer;
+pub mod checked;
 pub mod cond;
 pub mod expr;
 pub mod item;
@@ -10,6 +11,7 @@ pub mod limits;
 pub mod numbers;
 pub mod operators;
 pub mod reference;
+pub mod resolved;
 pub mod stmt;
 pub mod symbols;
 pub mod text;
