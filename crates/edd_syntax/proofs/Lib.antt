@@ -1,5 +1,6 @@
 pub mod Bits
 pub mod KeptItems
 pub mod TurnLaws
+pub mod WorkedAttributes
 pub mod WorkedRuns
 pub mod WorkedTexts
