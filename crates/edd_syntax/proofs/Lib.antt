@@ -2,5 +2,6 @@ pub mod Bits
 pub mod KeptItems
 pub mod TurnLaws
 pub mod WorkedAttributes
+pub mod WorkedNames
 pub mod WorkedRuns
 pub mod WorkedTexts

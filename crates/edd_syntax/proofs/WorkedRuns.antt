@@ -1,6 +1,6 @@
 -- Worked examples, computed.
 use Rattle.std.proofs.Common.{◌≡◌, refl, ℕ, ℤ, pos, negsuc, List, [], ◌∷◌, ◌++◌}
-use Rattle.std.specs.Prelude.{Some, None, codes}
+use Rattle.std.specs.Prelude.{Option, Some, None, codes}
 use Rattle.edd_syntax.specs.declared.numbers.VarNo.{VarNo}
 use Rattle.edd_syntax.specs.declared.numbers.ItemNo.TheVariants as item_no
 use Rattle.edd_syntax.specs.declared.operators.Operator.TheVariants as operator
@@ -15,7 +15,7 @@ use Rattle.edd_syntax.specs.Text as texts
 use Rattle.edd_syntax.specs.Text.{Quoted}
 use Rattle.edd_syntax.specs.Reference.{Target, Local, Item, Function}
 use Rattle.edd_syntax.specs.Expression.{Expr, Literal, Reference, Unary, Binary, Compare, LogicalAnd, Assign, CompoundAssign, Increment, Call, Argument, Text, Value, arguments_from}
-use Rattle.edd_syntax.specs.Statement.{Stmt, Empty, Evaluate, Block, If, While, For, Switch, Break, Continue, Return, Part, Body, body_from, Declare, Statement, CaseLabel, DefaultLabel, slots_of, slots_in}
+use Rattle.edd_syntax.specs.Statement.{Stmt, Empty, Evaluate, Block, If, While, Do, For, Switch, Break, Continue, Return, Part, Body, body_from, Declare, Statement, CaseLabel, DefaultLabel, slots_of, slots_in}
 use Rattle.edd_syntax.specs.TwosComplement.{wrap, store, operate, compare, apply}
 use Rattle.edd_syntax.specs.Words as strings
 use Rattle.edd_syntax.specs.Words.{Words, Variants, words_of, text_for, pieces, unescape, english}
@@ -23,7 +23,7 @@ use Rattle.edd_syntax.specs.Device.{VariableType, Environment}
 use Rattle.edd_syntax.specs.MethodState as asks
 use Rattle.edd_syntax.specs.MethodState.{Request, Change, Answer, Go, Abort}
 use Rattle.edd_syntax.specs.Evaluation.{call, evaluate}
-use Rattle.edd_syntax.specs.Execution.{turns, execute, Ending, Ended, Aborted, Trapped, Waiting, OutOfTurns, Transcript, opening, run_body}
+use Rattle.edd_syntax.specs.Execution.{turns, turns_of_do, execute, Ending, Ended, Aborted, Trapped, Waiting, OutOfTurns, Transcript, opening, run_body}
 
 -- ---- how the sources are written here
 
@@ -207,3 +207,60 @@ gets_value : runs 1 int4
     ≡ record { requests = asks.GetDevVarValue (says (codes "t")) (var_no 0) ∷ asks.Delay (negsuc 1) (strings.Key (codes "k")) ∷ asks.SendCommandTrans (pos 1) (pos 7) ∷ []; changes = (var_no 0, pos 7) ∷ []; values = pos 7 ∷ []; answers = []; ending = Ended }
 unfolding run_body execute evaluate call wrap operate words_of pieces unescape slots_of
 gets_value = refl
+
+-- `iassign(u, -1); if (u == -1) PUT_MESSAGE("same");` over an UNSIGNED_INTEGER (4)
+unsigned4 : Environment
+unsigned4 = of_one (record { type = var_type.UnsignedInteger; size = 4 })
+
+abbrev minus_one : E
+minus_one = Unary unary_operator.Minus (Literal 1)
+
+stores_and_reads_back : runs 1 unsigned4
+    (body_from (eval (calls builtin.Iassign (Value (Reference (var 0)) ∷ Value minus_one ∷ [])) ∷
+    do_ (If (Compare comparison.Equal (Reference (var 0)) minus_one) (print (codes "same"))) ∷ []))
+    (pos 0 ∷ []) (ok ∷ [])
+    ≡ record { requests = put (codes "same") ∷ []; changes = (var_no 0, pos 4294967295) ∷ []; values = pos 4294967295 ∷ []; answers = []; ending = Ended }
+unfolding unsigned4 run_body execute evaluate call wrap store operate compare apply words_of pieces unescape slots_of
+stores_and_reads_back = refl
+
+-- ---- nested loops
+
+abbrev counts_up : (slot : ℕ) → Option E → S → S
+counts_up slot condition body = For (Some (Assign (Local slot) (Literal 0))) condition (Some (Increment increment.PostIncrement (Local slot))) body
+
+abbrev second : E
+second = Reference (Local 1)
+
+-- `for (i = 0; i < 2; i++) { for (j = 0; ; j++) { if (j == 2) break; send_command(10 * i + j); } send_command(99); }`
+inner_break_leaves_inner_loop : runs 3 no_variables
+    (body_from (declare 0 ∷ declare 1 ∷ do_ (counts_up 0 (Some (Compare comparison.Less local (Literal 2))) (block (
+    do_ (counts_up 1 None (block (
+    do_ (If (Compare comparison.Equal second (Literal 2)) Break) ∷
+    do_ (send (Binary operator.Add (Binary operator.Multiply (Literal 10) local) second)) ∷ []))) ∷
+    do_ (send (Literal 99)) ∷ []))) ∷ []))
+    [] (ok ∷ ok ∷ ok ∷ ok ∷ ok ∷ ok ∷ [])
+    ≡ quiet (sent 0 ∷ sent 1 ∷ sent 99 ∷ sent 10 ∷ sent 11 ∷ sent 99 ∷ []) [] Ended
+unfolding run_body execute turns evaluate call wrap operate compare slots_of
+inner_break_leaves_inner_loop = refl
+
+-- `int k; do { k++; if (k == 2) continue; send_command(k); } while (k < 3);`
+continue_goes_to_test_of_do : runs 3 no_variables
+    (body_from (declare 0 ∷ do_ (Do (block (
+    eval (Increment increment.PostIncrement (Local 0)) ∷
+    do_ (If (Compare comparison.Equal local (Literal 2)) Continue) ∷
+    do_ (send local) ∷ [])) (Compare comparison.Less local (Literal 3))) ∷ []))
+    [] (ok ∷ ok ∷ [])
+    ≡ quiet (sent 1 ∷ sent 3 ∷ []) [] Ended
+unfolding run_body execute turns_of_do evaluate call wrap operate compare slots_of
+continue_goes_to_test_of_do = refl
+
+-- `int i; while (i < 3) { i++; switch (i) { case 2: continue; default: break; } send_command(i); }`
+continue_leaves_switch : runs 4 no_variables
+    (body_from (declare 0 ∷ do_ (While (Compare comparison.Less local (Literal 3)) (block (
+    eval (Increment increment.PostIncrement (Local 0)) ∷
+    do_ (Switch local (body_from (CaseLabel (pos 2) ∷ do_ Continue ∷ DefaultLabel ∷ do_ Break ∷ []))) ∷
+    do_ (send local) ∷ []))) ∷ []))
+    [] (ok ∷ ok ∷ [])
+    ≡ quiet (sent 1 ∷ sent 3 ∷ []) [] Ended
+unfolding run_body execute turns evaluate call wrap operate compare slots_of
+continue_leaves_switch = refl

@@ -37,6 +37,26 @@ empty_text : words_of (Quoted []) ≡ says []
 unfolding words_of pieces unescape
 empty_text = refl
 
+-- `"a" " |b"`: the insides are joined, and the bar opens no code
+bar_without_code_is_text : words_of (Quoted (codes "a " ++ codes "|b")) ≡ says (codes "a |b")
+unfolding words_of pieces unescape
+bar_without_code_is_text = refl
+
+-- `|de|en|x`: the bar that closes a code opens none
+closing_bar_opens_nothing : words_of (Quoted (codes "|de|en|x")) ≡ Variants (record { code = codes "de"; text = codes "en|x" }) []
+unfolding words_of pieces unescape
+closing_bar_opens_nothing = refl
+
+-- `|en|` is the empty text
+english_code_alone : words_of (Quoted (codes "|en|")) ≡ says []
+unfolding words_of pieces unescape
+english_code_alone = refl
+
+-- three digits, and two pairs of letters
+other_codes : words_of (Quoted (codes "|001|a|en us|b")) ≡ Variants (record { code = codes "001"; text = codes "a" }) (record { code = codes "en us"; text = codes "b" } ∷ [])
+unfolding words_of pieces unescape
+other_codes = refl
+
 -- ---- kept values
 
 -- an UNSIGNED_INTEGER (4) keeps -1 as 4294967295, which a method reads as -1
