@@ -6,7 +6,9 @@ pub mod Device
 pub mod Evaluation
 pub mod Execution
 pub mod Expression
+pub mod Grammar
 pub mod Item
+pub mod ItemGrammar
 pub mod ItemView
 pub mod MethodState
 pub mod MoreTurns
@@ -20,6 +22,7 @@ pub mod Resolution
 pub mod Resolved
 pub mod ResolvedTrees
 pub mod Size
+pub mod StatementGrammar
 pub mod Strings
 pub mod Statement
 pub mod SubsetRules

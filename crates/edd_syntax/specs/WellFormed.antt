@@ -50,6 +50,23 @@ is_path p = is_name p.base && list_all is_name p.members
 abbrev pub is_plain : Path → Bool
 is_plain p = is_name p.base && not (is_not_empty p.members)
 
+-- an attribute of this kind of item
+abbrev pub belongs_to : {R : Type 0} → Kind → Attribute R → Bool
+belongs_to k (item.Label c) = has_attr k attr.Label
+belongs_to k (item.Help c) = has_attr k attr.Help
+belongs_to k (item.Class words) = has_attr k attr.Class
+belongs_to k (item.Handling c) = has_attr k attr.Handling
+belongs_to k (item.ConstantUnit c) = has_attr k attr.ConstantUnit
+belongs_to k (item.Validity c) = has_attr k attr.Validity
+belongs_to k (item.TypeOf word parts) = same_kind k kind.Variable
+belongs_to k (item.Number n) = has_attr k attr.Number
+belongs_to k (item.Operation o) = has_attr k attr.Operation
+belongs_to k (item.Transaction number parts) = has_attr k attr.Transaction
+belongs_to k (item.ResponseCodes responses) = has_attr k attr.ResponseCodes
+belongs_to k (item.Items entries) = has_attr k attr.Items
+belongs_to k (item.Members members) = has_attr k attr.Members
+belongs_to k (item.Definition body) = has_attr k attr.Definition
+
 -- ---- trees
 
 module _ {R : Type 0} (good plain : R → Bool) where
@@ -214,23 +231,6 @@ module _ {R : Type 0} (good plain : R → Bool) where
   is_attribute (item.Items entries) = are_conds is_entry entries
   is_attribute (item.Members members) = list_all is_member members
   is_attribute (item.Definition body) = is_body false body
-
-  -- an attribute of this kind of item
-  abbrev pub belongs_to : Kind → Attribute R → Bool
-  belongs_to k (item.Label c) = has_attr k attr.Label
-  belongs_to k (item.Help c) = has_attr k attr.Help
-  belongs_to k (item.Class words) = has_attr k attr.Class
-  belongs_to k (item.Handling c) = has_attr k attr.Handling
-  belongs_to k (item.ConstantUnit c) = has_attr k attr.ConstantUnit
-  belongs_to k (item.Validity c) = has_attr k attr.Validity
-  belongs_to k (item.TypeOf word parts) = same_kind k kind.Variable
-  belongs_to k (item.Number n) = has_attr k attr.Number
-  belongs_to k (item.Operation o) = has_attr k attr.Operation
-  belongs_to k (item.Transaction number parts) = has_attr k attr.Transaction
-  belongs_to k (item.ResponseCodes responses) = has_attr k attr.ResponseCodes
-  belongs_to k (item.Items entries) = has_attr k attr.Items
-  belongs_to k (item.Members members) = has_attr k attr.Members
-  belongs_to k (item.Definition body) = has_attr k attr.Definition
 
   -- an attribute that may stand in this kind of item, of a height within the limit
   abbrev pub stands_in : Kind → Attribute R → Bool
