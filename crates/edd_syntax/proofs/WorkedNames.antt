@@ -62,7 +62,7 @@ member_is_its_item = refl
 
 -- which keeps the low 8 bits of 300
 store_keeps_low_bits : run 1 (source the_x (sets the_x 300 ∷ [])) (record { 0 = 0 }) (pos 0 ∷ []) []
-    ≡ record { requests = []; changes = (record { 0 = 0 }, pos 44) ∷ []; values = pos 44 ∷ []; answers = []; ending = Ended }
+    ≡ record { requests = []; changes = record { variable = record { 0 = 0 }; value = pos 44 } ∷ []; values = pos 44 ∷ []; answers = []; ending = Ended }
 unfolding run run_body execute evaluate wrap store slots_of
 store_keeps_low_bits = refl
 

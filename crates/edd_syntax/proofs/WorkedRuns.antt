@@ -19,9 +19,11 @@ use Rattle.edd_syntax.specs.Statement.{Stmt, Empty, Evaluate, Block, If, While, 
 use Rattle.edd_syntax.specs.TwosComplement.{wrap, store, operate, compare, apply}
 use Rattle.edd_syntax.specs.Words as strings
 use Rattle.edd_syntax.specs.Words.{Words, Variants, words_of, text_for, pieces, unescape, english}
-use Rattle.edd_syntax.specs.Device.{VariableType, Environment}
+use Rattle.edd_syntax.specs.DeviceValues.{VariableType}
+use Rattle.edd_syntax.specs.Device.{Environment}
 use Rattle.edd_syntax.specs.MethodState as asks
-use Rattle.edd_syntax.specs.MethodState.{Request, Change, Answer, Go, Abort}
+use Rattle.edd_syntax.specs.MethodState.{Request}
+use Rattle.edd_syntax.specs.Answers.{Change, Answer, Go, Abort}
 use Rattle.edd_syntax.specs.Evaluation.{call, evaluate}
 use Rattle.edd_syntax.specs.Execution.{turns, turns_of_do, execute, Ending, Ended, Aborted, Trapped, Waiting, OutOfTurns, Transcript, opening, run_body}
 
@@ -44,6 +46,9 @@ calls b arguments = Call (Function b) (arguments_from arguments)
 
 abbrev var_no : ℕ → VarNo
 var_no n = record { 0 = n }
+
+abbrev changed : ℕ → ℤ → Change
+changed v z = record { variable = var_no v; value = z }
 
 abbrev var : ℕ → Target
 var n = Item (item_no.Variable (var_no n))
@@ -130,8 +135,8 @@ unfolding run_body execute turns evaluate wrap slots_of
 forever = refl
 
 -- `x += ACKNOWLEDGE("a");` reads x before the answer sets it, and keeps the low 8 bits of 260
-adds_before : runs 1 unsigned1 (body_from (eval (CompoundAssign operator.Add (var 0) (calls builtin.Acknowledge (Text (text (codes "a")) ∷ []))) ∷ [])) (pos 250 ∷ []) (Go (pos 10) ((var_no 0, pos 1) ∷ []) ∷ [])
-    ≡ record { requests = asks.Acknowledge (says (codes "a")) ∷ []; changes = (var_no 0, pos 1) ∷ (var_no 0, pos 4) ∷ []; values = pos 4 ∷ []; answers = []; ending = Ended }
+adds_before : runs 1 unsigned1 (body_from (eval (CompoundAssign operator.Add (var 0) (calls builtin.Acknowledge (Text (text (codes "a")) ∷ []))) ∷ [])) (pos 250 ∷ []) (Go (pos 10) ((changed 0 (pos 1)) ∷ []) ∷ [])
+    ≡ record { requests = asks.Acknowledge (says (codes "a")) ∷ []; changes = (changed 0 (pos 1)) ∷ (changed 0 (pos 4)) ∷ []; values = pos 4 ∷ []; answers = []; ending = Ended }
 unfolding run_body execute evaluate call wrap store operate words_of pieces unescape slots_of
 adds_before = refl
 
@@ -203,8 +208,8 @@ gets_value : runs 1 int4
     eval (calls builtin.GetDevVarValue (Text (text (codes "t")) ∷ Value (Reference (var 0)) ∷ [])) ∷
     eval (calls builtin.Delay (Value (Binary operator.Subtract (Reference (var 0)) (Literal 9)) ∷ Text (texts.Key (codes "k")) ∷ [])) ∷
     eval (calls builtin.SendCommandTrans (Value (Literal 1) ∷ Value (Reference (var 0)) ∷ [])) ∷ []))
-    (pos 0 ∷ []) (Go (pos 0) ((var_no 0, pos 7) ∷ []) ∷ ok ∷ ok ∷ [])
-    ≡ record { requests = asks.GetDevVarValue (says (codes "t")) (var_no 0) ∷ asks.Delay (negsuc 1) (strings.Key (codes "k")) ∷ asks.SendCommandTrans (pos 1) (pos 7) ∷ []; changes = (var_no 0, pos 7) ∷ []; values = pos 7 ∷ []; answers = []; ending = Ended }
+    (pos 0 ∷ []) (Go (pos 0) ((changed 0 (pos 7)) ∷ []) ∷ ok ∷ ok ∷ [])
+    ≡ record { requests = asks.GetDevVarValue (says (codes "t")) (var_no 0) ∷ asks.Delay (negsuc 1) (strings.Key (codes "k")) ∷ asks.SendCommandTrans (pos 1) (pos 7) ∷ []; changes = (changed 0 (pos 7)) ∷ []; values = pos 7 ∷ []; answers = []; ending = Ended }
 unfolding run_body execute evaluate call wrap operate words_of pieces unescape slots_of
 gets_value = refl
 
@@ -219,7 +224,7 @@ stores_and_reads_back : runs 1 unsigned4
     (body_from (eval (calls builtin.Iassign (Value (Reference (var 0)) ∷ Value minus_one ∷ [])) ∷
     do_ (If (Compare comparison.Equal (Reference (var 0)) minus_one) (print (codes "same"))) ∷ []))
     (pos 0 ∷ []) (ok ∷ [])
-    ≡ record { requests = put (codes "same") ∷ []; changes = (var_no 0, pos 4294967295) ∷ []; values = pos 4294967295 ∷ []; answers = []; ending = Ended }
+    ≡ record { requests = put (codes "same") ∷ []; changes = (changed 0 (pos 4294967295)) ∷ []; values = pos 4294967295 ∷ []; answers = []; ending = Ended }
 unfolding unsigned4 run_body execute evaluate call wrap store operate compare apply words_of pieces unescape slots_of
 stores_and_reads_back = refl
 

@@ -8,7 +8,8 @@ use Rattle.edd_syntax.specs.Reference.{Target, Local, Item, Function}
 use Rattle.edd_syntax.specs.Expression.{Expr, Literal, Decimal, Reference, Parentheses, Unary, Binary, Compare, LogicalAnd, LogicalOr, Conditional, Assign, CompoundAssign, Increment, Call}
 use Rattle.edd_syntax.specs.Conditional.{Cond, Value, If, Select, Conds, Nil, Cons, Arms, NoArms, ConsArm, Case, Default}
 use Rattle.edd_syntax.specs.TwosComplement.{wrap, truth, is_zero, operate, compare, apply}
-use Rattle.edd_syntax.specs.Device.{Environment, value_at}
+use Rattle.edd_syntax.specs.DeviceValues.{value_at}
+use Rattle.edd_syntax.specs.Device.{Environment}
 
 -- a result, or the first trap
 abbrev pub Trapping : Type 0 → Type 0

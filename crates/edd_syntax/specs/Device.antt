@@ -1,12 +1,11 @@
--- The items of a description by number, the types of its variables, and the values that a device holds.
-use Rattle.std.specs.Prelude.{ℕ, ◌-◌, ◌*◌, ◌^◌, ◌<◌, ℤ, pos, neg_ℤ, ◌-ℤ◌, ◌≤ℤ◌, List, [], ◌∷◌, length, map, filter, slice_get, slice_index_or, Option, unwrap_or, All}
-use Rattle.std.specs.List.{AllZip}
+-- The items of a description by number, and the types of its variables.
+use Rattle.std.specs.Prelude.{ℕ, List, [], ◌∷◌, map, filter, slice_get, Option, unwrap_or}
 use Rattle.edd_syntax.specs.declared.numbers.Kind.{Kind}
 use Rattle.edd_syntax.specs.declared.numbers.Kind.TheVariants as kind
 use Rattle.edd_syntax.specs.declared.numbers.VarNo.{VarNo}
 use Rattle.edd_syntax.specs.declared.numbers.ItemNo.{ItemNo}
-use Rattle.edd_syntax.specs.declared.types.VarType.{VarType}
 use Rattle.edd_syntax.specs.declared.types.VarType.TheVariants as var_type
+use Rattle.edd_syntax.specs.DeviceValues.{VariableType, type_at}
 use Rattle.edd_syntax.specs.Numbers.{same_kind, kind_of, index_of}
 use Rattle.edd_syntax.specs.Item.{Item, kind_of_item, Attribute, TypeOf, Known, Description}
 
@@ -20,11 +19,6 @@ abbrev pub item_at : {R : Type 0} → Description R → ItemNo → Option (Item 
 item_at unit i = slice_get (items_of (kind_of i) unit) (index_of i)
 
 -- ---- variables
-
--- the type of a variable, and its size in octets
-pub record VariableType : Type 0 where
-  pub type : VarType
-  pub size : ℕ
 
 -- an INTEGER of one octet
 abbrev pub smallest_type : VariableType
@@ -45,28 +39,4 @@ abbrev pub environment : {R : Type 0} → Description R → Environment
 environment unit = record { variables = map (λ i. written_type i.attributes) (items_of kind.Variable unit) }
 
 abbrev pub type_of_variable : Environment → VarNo → VariableType
-type_of_variable env v = slice_index_or env.variables v.0 smallest_type
-
--- ---- device values: one whole number for each variable, in the range of its type and size
-
-abbrev pub least : VarType → (size : ℕ) → ℤ
-least var_type.Integer size = neg_ℤ (pos (2 ^ (8 * size - 1)))
-least var_type.UnsignedInteger size = pos 0
-least var_type.Enumerated size = pos 0
-least var_type.BitEnumerated size = pos 0
-
-abbrev pub greatest : VarType → (size : ℕ) → ℤ
-greatest var_type.Integer size = pos (2 ^ (8 * size - 1)) -ℤ pos 1
-greatest var_type.UnsignedInteger size = pos (2 ^ (8 * size)) -ℤ pos 1
-greatest var_type.Enumerated size = pos (2 ^ (8 * size)) -ℤ pos 1
-greatest var_type.BitEnumerated size = pos (2 ^ (8 * size)) -ℤ pos 1
-
-abbrev pub IsInRange : VariableType → ℤ → Type 0
-IsInRange t z = (least t.type t.size ≤ℤ z) × (z ≤ℤ greatest t.type t.size)
-
-abbrev pub AreDeviceValues : Environment → List ℤ → Type 0
-AreDeviceValues env values = AllZip IsInRange env.variables values
-
--- the value of a variable
-abbrev pub value_at : List ℤ → VarNo → ℤ
-value_at values v = slice_index_or values v.0 (pos 0)
+type_of_variable env v = type_at env.variables v

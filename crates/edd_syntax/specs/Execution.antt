@@ -11,7 +11,8 @@ use Rattle.edd_syntax.specs.Item.{Attribute, Definition, Description}
 use Rattle.edd_syntax.specs.TwosComplement.{wrap, is_zero}
 use Rattle.edd_syntax.specs.Device.{Environment, environment, item_at}
 use Rattle.edd_syntax.specs.MethodState as stops
-use Rattle.edd_syntax.specs.MethodState.{State, Request, Change, Answer, Stop, Outcome, Done, Stopped, Action, pure, stop, ◌>>=◌, ◌>>◌, assign}
+use Rattle.edd_syntax.specs.MethodState.{State, Request, Stop, Outcome, Done, Stopped, Action, pure, stop, ◌>>=◌, ◌>>◌, assign}
+use Rattle.edd_syntax.specs.Answers.{Change, Answer}
 use Rattle.edd_syntax.specs.Evaluation.{evaluate}
 
 -- how a statement that isn't stopped ends

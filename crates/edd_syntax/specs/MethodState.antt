@@ -7,7 +7,9 @@ use Rattle.edd_syntax.specs.declared.answer.Trap.{Trap}
 use Rattle.edd_syntax.specs.Reference.{Target, Local, Item, Function}
 use Rattle.edd_syntax.specs.TwosComplement.{wrap, store}
 use Rattle.edd_syntax.specs.Words.{Words}
-use Rattle.edd_syntax.specs.Device.{Environment, type_of_variable, IsInRange, value_at}
+use Rattle.edd_syntax.specs.Answers.{Change, Answer, Go, Abort}
+use Rattle.edd_syntax.specs.DeviceValues.{IsInRange, value_at}
+use Rattle.edd_syntax.specs.Device.{Environment, type_of_variable}
 
 -- what a method asks of its host
 pub data Request : Type 0 where
@@ -20,18 +22,9 @@ pub data Request : Type 0 where
   SendCommandTrans : (number transaction : ℤ) → Request
   SaveValues : Request
 
--- a variable and its new value
-abbrev pub Change : Type 0
-Change = VarNo × ℤ
-
--- what the host answers: a code, after it has set variables in order, or that the method ends
-pub data Answer : Type 0 where
-  Go : (code : ℤ) → (sets : List Change) → Answer
-  Abort : Answer
-
 -- an existing variable, and a value in its range
 abbrev pub IsValidSet : Environment → Change → Type 0
-IsValidSet env set = (set.0.0 < length env.variables) × IsInRange (type_of_variable env set.0) set.1
+IsValidSet env set = (set.variable.0 < length env.variables) × IsInRange (type_of_variable env set.variable) set.value
 
 -- an answer that a host may give: its code has 32 bits, and each of its sets is valid
 abbrev pub IsValidAnswer : Environment → Answer → Type 0
@@ -107,7 +100,7 @@ read target = λ s. Done (read_from s target) s
 
 -- the variable gets this value, and the change is noted
 abbrev pub change : VarNo → ℤ → State → State
-change v z s = record s { values = slice_set s.values v.0 z; changes = s.changes ++ (v, z) ∷ [] }
+change v z s = record s { values = slice_set s.values v.0 z; changes = s.changes ++ record { variable = v; value = z } ∷ [] }
 
 -- a store keeps what fits the variable's type and size, and gives what is then read; no checked unit stores to another item
 abbrev pub assign_item : Environment → ItemNo → ℤ → Action ℤ
@@ -130,7 +123,7 @@ assign env (Function f) z = pure z
 -- the sets of an answer, in order
 abbrev pub apply_sets : List Change → State → State
 apply_sets [] s = s
-apply_sets ((v, z) ∷ rest) s = apply_sets rest (change v z s)
+apply_sets (set ∷ rest) s = apply_sets rest (change set.variable set.value s)
 
 -- the next answer gives its code, after its sets
 abbrev pub answered : List Answer → Action ℤ
