@@ -2,6 +2,7 @@ pub mod Bits
 pub mod KeptItems
 pub mod TurnLaws
 pub mod WorkedAttributes
+pub mod WorkedGrammar
 pub mod WorkedNames
 pub mod WorkedRefusals
 pub mod WorkedRuns

@@ -1,6 +1,6 @@
 -- The grammar of attributes, items and the whole unit. Words such as READ and INTEGER aren't reserved: they are names that mean
 -- something in their places.
-use Rattle.std.specs.Prelude.{◌≡◌, ◌≢◌, ◌⊎◌, ℕ, zero, suc, ◌≤◌, Bool, true, false, not, ◌&&◌, ◌||◌, IsTrue, List, [], ◌∷◌, Option, Some, None, All, codes}
+use Rattle.std.specs.Prelude.{◌≡◌, ◌≢◌, ◌⊎◌, ℕ, zero, suc, nat_le, Bool, true, false, not, ◌&&◌, ◌||◌, IsTrue, List, [], ◌∷◌, Option, Some, None, codes}
 use Rattle.std.specs.List.{list_all}
 use Rattle.std.specs.Str.{bytes_eq}
 use Rattle.edd_syntax.specs.declared.numbers.Kind.{Kind}
@@ -338,4 +338,4 @@ pub record Spells (tokens : List Token) (unit : Description Path) : Type 0 where
   pub items_from : List Token
   pub identification : IdentificationHere unit.identification tokens items_from
   pub items : ClosedHere ItemHere unit.items items_from []
-  pub heights : All (λ i. item_height i ≤ height_limit) unit.items
+  pub heights : IsTrue (list_all (λ i. nat_le (item_height i) height_limit) unit.items)
