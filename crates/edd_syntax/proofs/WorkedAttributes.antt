@@ -1,6 +1,6 @@
 -- Worked examples of attributes, computed.
 use Rattle.std.proofs.Common.{◌≡◌, refl, ℕ, ℤ, pos, List, [], ◌∷◌}
-use Rattle.std.specs.Prelude.{true, false, Some, None, Ok, Err, codes, Option}
+use Rattle.std.specs.Prelude.{true, false, Some, None, Ok, Err, codes}
 use Rattle.edd_syntax.specs.declared.numbers.VarNo.{VarNo}
 use Rattle.edd_syntax.specs.declared.numbers.Kind.TheVariants as kind
 use Rattle.edd_syntax.specs.declared.numbers.ItemNo.{ItemNo}

@@ -1,18 +1,17 @@
 -- Worked examples of the grammar: what some tokens spell, and what they don't.
-use Rattle.std.proofs.Common.{◌≡◌, refl, sym, subst, ℕ, ◌≤◌, pos, List, [], ◌∷◌, ◌++◌, inl, inr, arith}
-use Rattle.std.specs.Prelude.{Some, None, codes}
+use Rattle.std.proofs.Common.{◌≡◌, refl, sym, subst, List, [], ◌∷◌, inl, inr, arith}
+use Rattle.std.specs.Prelude.{Some, codes}
 use Rattle.edd_syntax.specs.declared.types.VarType.TheVariants as var_type
 use Rattle.edd_syntax.specs.declared.operators.Operator.TheVariants as operator
 use Rattle.edd_syntax.specs.declared.symbols.Keyword.{Keyword}
 use Rattle.edd_syntax.specs.declared.symbols.Keyword.TheVariants as word
-use Rattle.edd_syntax.specs.declared.symbols.Symbol.{Symbol}
 use Rattle.edd_syntax.specs.declared.symbols.Symbol.TheVariants as sign
 use Rattle.edd_syntax.specs.Text.{Name, Quoted}
 use Rattle.edd_syntax.specs.Token.{Token, Reserved, Identifier, Integer, String, Sign, word_token}
 use Rattle.edd_syntax.specs.Reference.{Path}
 use Rattle.edd_syntax.specs.Expression.{Expr, Literal, Reference, Binary, Conditional, Assign}
 use Rattle.edd_syntax.specs.Conditional.{Value}
-use Rattle.edd_syntax.specs.Statement.{Stmt, Empty, If, IfElse}
+use Rattle.edd_syntax.specs.Statement.{Empty, If, IfElse}
 use Rattle.edd_syntax.specs.Item as item
 use Rattle.edd_syntax.specs.Item.{Description, Attribute, TypeOf, Known, Label}
 use Rattle.edd_syntax.specs.Grammar.{InMethod, ExprHere}
@@ -85,9 +84,27 @@ pressure_is_spelled : Spells pressure_tokens pressure_unit
 pressure_is_spelled = record {
   items_from = variable_tokens;
   identification = (_, _, _, _, _, _, _, refl, inr refl, refl, inr refl, refl, inr refl, refl, inl refl);
-  items = ([], [], (_, label_tokens (type_tokens closing), refl, refl,
-      (type_tokens closing, type_tokens closing, (refl, label_is_spelled _), 0, refl,
-      (closing, closing, (refl, type_is_spelled _), 0, refl, refl))), 0, refl, refl);
+  items = (
+    [],
+    [],
+    (
+      _,
+      label_tokens (type_tokens closing),
+      refl,
+      refl,
+      (
+        type_tokens closing,
+        type_tokens closing,
+        (refl, label_is_spelled _),
+        0,
+        refl,
+        (closing, closing, (refl, type_is_spelled _), 0, refl, refl),
+      ),
+    ),
+    0,
+    refl,
+    refl,
+  );
   heights = refl;
 }
 

@@ -1,21 +1,21 @@
 -- Worked examples of names, computed.
-use Rattle.std.proofs.Common.{◌≡◌, refl, ℕ, pos, List, [], ◌∷◌, ◌++◌}
+use Rattle.std.proofs.Common.{◌≡◌, refl, ℕ, pos, List, [], ◌∷◌}
 use Rattle.std.specs.Prelude.{Some, None, codes, Option}
 use Rattle.edd_syntax.specs.declared.numbers.Kind.{Kind}
 use Rattle.edd_syntax.specs.declared.numbers.Kind.TheVariants as kind
 use Rattle.edd_syntax.specs.declared.numbers.ItemNo.TheVariants as item_no
 use Rattle.edd_syntax.specs.declared.types.VarType.TheVariants as var_type
-use Rattle.edd_syntax.specs.Text.{Name, Quoted}
+use Rattle.edd_syntax.specs.Text.{Name}
 use Rattle.edd_syntax.specs.Reference.{Path, Target, Local, Item}
-use Rattle.edd_syntax.specs.Expression.{Expr, Literal, Reference, Assign}
+use Rattle.edd_syntax.specs.Expression.{Literal, Reference, Assign}
 use Rattle.edd_syntax.specs.Conditional as cond
-use Rattle.edd_syntax.specs.Statement.{Evaluate, Block, Part, Body, body_from, Declare, Statement, slots_of}
+use Rattle.edd_syntax.specs.Statement.{Evaluate, Block, Part, body_from, Declare, Statement, slots_of}
 use Rattle.edd_syntax.specs.Item as item
 use Rattle.edd_syntax.specs.Item.{Description, Attribute, TypeOf, Known, Members, Definition}
 use Rattle.edd_syntax.specs.TwosComplement.{wrap, store}
 use Rattle.edd_syntax.specs.Evaluation.{evaluate}
 use Rattle.edd_syntax.specs.Execution.{execute, run, run_body, Ended}
-use Rattle.edd_syntax.specs.ResolvedTrees.{resolved_unit, resolved_stmt, resolved_expr, resolved_cond}
+use Rattle.edd_syntax.specs.ResolvedTrees.{resolved_unit, resolved_stmt, resolved_expr}
 use Rattle.edd_syntax.specs.Refusal.{Refusal, UnknownName, WrongKind, first_of}
 use Rattle.edd_syntax.specs.NameRules.{wrong_uses}
 

@@ -1,11 +1,10 @@
 -- Worked examples of refusals: for each rule a unit whose first broken rule it is, computed.
-use Rattle.std.proofs.Common.{◌≡◌, refl, ap, ◌∙◌, ℕ, zero, suc, pos, negsuc, List, [], ◌∷◌, ◌++◌}
-use Rattle.std.specs.Prelude.{true, false, Option, Some, None, codes, replicate}
+use Rattle.std.proofs.Common.{◌≡◌, refl, ap, ℕ, zero, suc, pos, negsuc, List, [], ◌∷◌, ◌++◌}
+use Rattle.std.specs.Prelude.{false, Some, None, codes, replicate}
 use Rattle.edd_syntax.specs.declared.limits.Limit.TheVariants as limit
 use Rattle.edd_syntax.specs.declared.numbers.Kind.TheVariants as kind
 use Rattle.edd_syntax.specs.declared.types.VarType.TheVariants as var_type
 use Rattle.edd_syntax.specs.declared.types.Operation.TheVariants as operation
-use Rattle.edd_syntax.specs.declared.item.MenuQualifiers.{MenuQualifiers}
 use Rattle.edd_syntax.specs.declared.item.DataQualifiers.{DataQualifiers}
 use Rattle.edd_syntax.specs.Text.{Name, Quoted}
 use Rattle.edd_syntax.specs.Reference.{Path}

@@ -1,5 +1,5 @@
 -- Which units are accepted, and why the others are refused.
-use Rattle.std.specs.Prelude.{◌≡◌, List, [], ◌∷◌, ◌++◌, Option, Some, None}
+use Rattle.std.specs.Prelude.{◌≡◌, List, [], ◌++◌, Option, Some, None}
 use Rattle.edd_syntax.specs.Reference.{Path, Target}
 use Rattle.edd_syntax.specs.Item.{Description}
 use Rattle.edd_syntax.specs.ResolvedTrees.{resolved_unit}

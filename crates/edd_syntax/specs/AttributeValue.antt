@@ -1,5 +1,5 @@
 -- The values of expressions in attributes, and what conditionals choose.
-use Rattle.std.specs.Prelude.{ℕ, true, false, not, ℤ, pos, List, [], ◌∷◌, ◌++◌, Result, Ok, Err}
+use Rattle.std.specs.Prelude.{true, false, not, ℤ, pos, List, [], ◌∷◌, ◌++◌, Result, Ok, Err}
 use Rattle.std.specs.Ordering.{int_eq}
 use Rattle.edd_syntax.specs.declared.numbers.ItemNo.{ItemNo}
 use Rattle.edd_syntax.specs.declared.numbers.ItemNo.TheVariants as item_no

@@ -1,5 +1,5 @@
 -- The items of a description by number, and the types of its variables.
-use Rattle.std.specs.Prelude.{ℕ, List, [], ◌∷◌, map, filter, slice_get, Option, unwrap_or}
+use Rattle.std.specs.Prelude.{List, [], ◌∷◌, map, filter, slice_get, Option, unwrap_or}
 use Rattle.edd_syntax.specs.declared.numbers.Kind.{Kind}
 use Rattle.edd_syntax.specs.declared.numbers.Kind.TheVariants as kind
 use Rattle.edd_syntax.specs.declared.numbers.VarNo.{VarNo}

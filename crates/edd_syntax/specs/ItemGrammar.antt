@@ -1,8 +1,7 @@
 -- The grammar of attributes, items and the whole unit. Words such as READ and INTEGER aren't reserved: they are names that mean
 -- something in their places.
-use Rattle.std.specs.Prelude.{◌≡◌, ◌≢◌, ◌⊎◌, ℕ, zero, suc, nat_le, Bool, true, false, not, ◌&&◌, ◌||◌, IsTrue, List, [], ◌∷◌, Option, Some, None, codes}
+use Rattle.std.specs.Prelude.{◌≡◌, ◌⊎◌, ℕ, zero, suc, nat_le, Bool, true, false, not, IsTrue, List, [], ◌∷◌, Option, Some, None, codes}
 use Rattle.std.specs.List.{list_all}
-use Rattle.std.specs.Str.{bytes_eq}
 use Rattle.edd_syntax.specs.declared.numbers.Kind.{Kind}
 use Rattle.edd_syntax.specs.declared.numbers.Kind.TheVariants as kind
 use Rattle.edd_syntax.specs.declared.types.VarType.{VarType}
@@ -37,7 +36,6 @@ use Rattle.edd_syntax.specs.StatementGrammar.{LabelHere, OneHere, ListHere, Elem
 -- the next token is this name
 abbrev pub NextName : Name → List Token → List Token → Type 0
 NextName name here rest = Next (Identifier name) here rest
-
 
 -- ---- repetitions
 

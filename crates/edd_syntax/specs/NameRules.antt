@@ -1,6 +1,6 @@
 -- The rules of a description on counts, names and attributes, each as the list of its breaches in the order of the source. Of two
 -- things that clash the later one is the breach.
-use Rattle.std.specs.Prelude.{ℕ, ◌+◌, Bool, true, false, not, ◌||◌, nat_lt, if◌then◌else◌, List, [], ◌∷◌, ◌++◌, length, map, filter, sum, Option, Some, None, codes}
+use Rattle.std.specs.Prelude.{ℕ, Bool, true, false, not, nat_lt, if◌then◌else◌, List, [], ◌∷◌, ◌++◌, length, map, filter, sum, Option, Some, None, codes}
 use Rattle.std.specs.List.{list_any, flat_map}
 use Rattle.edd_syntax.specs.declared.limits.Limit.TheVariants as limit
 use Rattle.edd_syntax.specs.declared.numbers.Kind.{Kind}
@@ -14,7 +14,7 @@ use Rattle.edd_syntax.specs.Statement.{Declarator, Stmt, Body, Nil, Cons, Declar
 use Rattle.edd_syntax.specs.Item as item
 use Rattle.edd_syntax.specs.Item.{kind_of_item, TypePart, TransactionPart, Attribute, Item, Description}
 use Rattle.edd_syntax.specs.Size.{unit_nodes}
-use Rattle.edd_syntax.specs.Resolution.{Scope, look_up, count_of, item_named, member_at, item_of_member, builtins}
+use Rattle.edd_syntax.specs.Resolution.{look_up, count_of, item_named, member_at, item_of_member, builtins}
 use Rattle.edd_syntax.specs.NameUses.{Use, OfItem, OfFunction, unit_uses}
 use Rattle.edd_syntax.specs.Refusal.{Refusal, TooMany, DuplicateName, DuplicateAttribute, MissingAttribute, UnknownName, WrongKind, is_name_in, refused_if, repeated}
 

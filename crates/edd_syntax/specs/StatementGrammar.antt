@@ -4,13 +4,13 @@ use Rattle.edd_syntax.specs.declared.operators.Operator.TheVariants as operator
 use Rattle.edd_syntax.specs.declared.symbols.Keyword.{Keyword}
 use Rattle.edd_syntax.specs.declared.symbols.Keyword.TheVariants as word
 use Rattle.edd_syntax.specs.declared.symbols.Symbol.TheVariants as sign
-use Rattle.edd_syntax.specs.Token.{Token, Reserved, Identifier, Integer, Sign}
+use Rattle.edd_syntax.specs.Token.{Token, Reserved, Integer, Sign}
 use Rattle.edd_syntax.specs.Reference.{Path}
 use Rattle.edd_syntax.specs.Expression.{Expr}
 use Rattle.edd_syntax.specs.Conditional as cond
 use Rattle.edd_syntax.specs.Conditional.{Cond, Value, Select, Conds, Arms, NoArms, ConsArm, Case, Default}
 use Rattle.edd_syntax.specs.Statement.{Declarator, Stmt, Empty, Evaluate, Block, If, IfElse, While, Do, For, Switch, Break, Continue, Return, Body, Nil, Cons, Declare, Statement, CaseLabel, DefaultLabel}
-use Rattle.edd_syntax.specs.Grammar.{Next, NextSign, NextWord, OptionalSign, PlainHere, Place, InAttribute, InMethod, ExprHere, ConditionHere}
+use Rattle.edd_syntax.specs.Grammar.{Next, NextSign, NextWord, OptionalSign, PlainHere, InAttribute, InMethod, ExprHere, ConditionHere}
 
 -- an integer, or its negative
 abbrev pub LabelHere : ℤ → List Token → List Token → Type 0

@@ -1,5 +1,5 @@
 -- The tokens of the language, as far as the grammar tells them apart.
-use Rattle.std.specs.Prelude.{ℕ, List, [], ◌∷◌, find, Option, Some, None, codes}
+use Rattle.std.specs.Prelude.{ℕ, List, [], ◌∷◌, find, Some, None, codes}
 use Rattle.std.specs.Str.{bytes_eq}
 use Rattle.edd_syntax.specs.declared.symbols.Keyword.{Keyword}
 use Rattle.edd_syntax.specs.declared.symbols.Keyword.TheVariants as keyword

@@ -61,6 +61,7 @@ mod tests {
             (64, 18446744073709551616, 0),
         ];
         for (width, z, kept) in rows {
+            assert!(rt; (1..=64).contains(&width));
             assert_eq!(rt; wrap(width, z), kept, "{z} in {width} bits");
         }
     }
