@@ -1,0 +1,71 @@
+//! Decimals in expressions.
+
+ghost use Rattle.std.specs.Prelude.{◌≡◌, [], ◌∷◌, ◌++◌, map};
+ghost use Rattle.edd_syntax.specs.Expression.{arguments_from};
+ghost use Rattle.edd_syntax.specs.TreeView.{expr_of, argument_of};
+ghost use Rattle.edd_syntax.specs.SubsetRules.{decimals, argument_decimals};
+ghost use Rattle.edd_syntax.specs.Refusal.{first_of, FloatValue};
+ghost use Rattle.edd_types.specs.Found.{found};
+
+use edd_syntax::expr::{Argument, Expr};
+use edd_syntax::reference::Target;
+
+/// The line of the first decimal in an expression, if it has one.
+#[cycle(decimals)]
+#[tactic(auto, using(crate::proofs::FirstLaws::firsts))]
+pub fn check_decimals(e: &Expr<Target>) -> Result<(), u32>
+    ensures { found FloatValue result ≡ first_of (decimals (expr_of (λ r. r) e.now)) }
+{
+    match e {
+        Expr::Literal(_) | Expr::Reference(_) | Expr::Increment(_, _) => Ok(()),
+        Expr::Decimal { line } => Err(*line),
+        Expr::Parentheses(inner) => check_decimals(inner),
+        Expr::Unary(_, inner) => check_decimals(inner),
+        Expr::Binary(_, a, b) => {
+            check_decimals(a)?;
+            check_decimals(b)
+        }
+        Expr::Compare(_, a, b) => {
+            check_decimals(a)?;
+            check_decimals(b)
+        }
+        Expr::LogicalAnd(a, b) => {
+            check_decimals(a)?;
+            check_decimals(b)
+        }
+        Expr::LogicalOr(a, b) => {
+            check_decimals(a)?;
+            check_decimals(b)
+        }
+        Expr::Conditional(test, a, b) => {
+            check_decimals(test)?;
+            check_decimals(a)?;
+            check_decimals(b)
+        }
+        Expr::Assign(_, value) => check_decimals(value),
+        Expr::CompoundAssign(_, _, value) => check_decimals(value),
+        Expr::Call { arguments, .. } => check_arguments(arguments),
+    }
+}
+
+#[cycle(decimals)]
+#[tactic(auto, using(crate::proofs::FirstLaws::firsts))]
+fn check_arguments(arguments: &[Argument<Target>]) -> Result<(), u32>
+    ensures { found FloatValue result ≡ first_of (argument_decimals (arguments_from (map (argument_of (λ r. r)) arguments.now))) }
+{
+    for argument in arguments {
+        check_argument(argument)?;
+    }
+    Ok(())
+}
+
+#[cycle(decimals)]
+#[tactic(auto, using(crate::proofs::FirstLaws::firsts))]
+fn check_argument(argument: &Argument<Target>) -> Result<(), u32>
+    ensures { found FloatValue result ≡ first_of (argument_decimals (arguments_from (argument_of (λ r. r) argument.now ∷ []))) }
+{
+    match argument {
+        Argument::Text(_) => Ok(()),
+        Argument::Value(e) => check_decimals(e),
+    }
+}
