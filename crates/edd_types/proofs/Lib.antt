@@ -1,1 +1,2 @@
+pub mod ArgumentLists
 pub mod FirstLaws

@@ -1,11 +1,13 @@
-use Rattle.std.proofs.Common.{◌≡◌, drop, map}
+use Rattle.std.proofs.Common.{◌≡◌}
 use Rattle.edd_syntax.specs.Expression.{arguments_from}
 use Rattle.edd_syntax.specs.TreeView.{argument_of}
 use Rattle.edd_syntax.specs.SubsetRules.{argument_decimals}
-use Rattle.edd_syntax.specs.Refusal.{first_of}
+use Rattle.edd_types.proofs.FirstLaws.{first_from}
+use Rattle.edd_types.proofs.ArgumentLists.{argument_decimals_split}
 use Rattle.edd_types.proofs.decimals.+decimals.Given as goal
 
--- the first decimal of all arguments is the first of those that are left
+-- the arguments so far have no decimal
 abbrev pub invariant-check_arguments-loop-argument : goal.invariant-check_arguments-loop-argument
 invariant-check_arguments-loop-argument l =
-    first_of (argument_decimals (arguments_from (map (argument_of (λ r. r)) (drop l.argument-index l.arguments)))) ≡ first_of (argument_decimals (arguments_from (map (argument_of (λ r. r)) l.arguments)))
+    first_from (λ xs. argument_decimals (arguments_from xs)) (argument_of (λ r. r)) argument_decimals_split l.argument-index l.arguments
+    ≡ first_from (λ xs. argument_decimals (arguments_from xs)) (argument_of (λ r. r)) argument_decimals_split 0 l.arguments
