@@ -1,2 +1,2 @@
-pub mod ArgumentLists
+pub mod Splits
 pub mod FirstLaws

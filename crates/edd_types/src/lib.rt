@@ -1,5 +1,6 @@
 //! The check of a description against the profile.
 #![tactic(auto)]
 
+mod breaks;
 mod decimals;
 pub mod fault;

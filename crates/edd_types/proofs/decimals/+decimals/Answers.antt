@@ -5,7 +5,7 @@ use Rattle.edd_syntax.specs.Refusal.{first_of, FloatValue}
 use Rattle.edd_syntax.specs.TreeView.{argument_of}
 use Rattle.edd_syntax.proofs.TreeRows.{call_is}
 use Rattle.edd_types.proofs.FirstLaws.{found_err, goes_on, stops_at}
-use Rattle.edd_types.proofs.ArgumentLists.{argument_decimals_split}
+use Rattle.edd_types.proofs.Splits.{argument_decimals_split}
 use Rattle.edd_types.proofs.decimals.+decimals.Goals as goal
 
 pub check_decimals-returns-in-Call : goal.check_decimals-returns-in-Call
