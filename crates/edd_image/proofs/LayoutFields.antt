@@ -1,0 +1,248 @@
+-- The fields of a layout are its parts.
+use Rattle.std.proofs.Common.{◌≡◌, ℕ, ◌+◌, ◌*◌, List, [], ◌++◌, length, refl, sym, ap, ◌∙◌, append_assoc, append-nil, arith, length-append}
+use Rattle.std.proofs.lemmas.Nat.{from_be_bytes-to_be_bytes_2, from_be_bytes-to_be_bytes_4}
+use Rattle.std.specs.List.{flat_map}
+use Rattle.edd_image.specs.declared.parts.Counts.{Counts}
+use Rattle.edd_image.specs.declared.unit.Version.{Version}
+use Rattle.edd_image.specs.Layout.{Sections, AreSections, variable_row, name_row, attribute_row, string_row, item_count, layout_length, magic, identification, counts, lengths, header, layout}
+use Rattle.edd_image.specs.Fields.{number_at, header_zero, total_length, counts_in, attribute_count, names_length, code_length, strings_length, name_rows_start, attribute_rows_start, code_start, string_rows_start, name_bytes_start, string_bytes_start, sections_end}
+use Rattle.edd_image.specs.Contents.{Span, VariableFields, NameFields, AttributeFields, Contents, contents_in, contents_of}
+use Rattle.edd_image.proofs.LayoutRows.{part_read, variables_read, names_read, attributes_read, strings_read, variables_length, names_length_is, attributes_length, strings_length_is}
+
+-- ---- the header
+
+same_counts : {a a' b b' c c' d d' e e' f f' g g' h h' i i' j j' : ℕ} → a ≡ a' → b ≡ b' → c ≡ c' → d ≡ d' → e ≡ e' → f ≡ f' → g ≡ g' → h ≡ h' → i ≡ i' → j ≡ j'
+    → ◌≡◌ {A = Counts} (record { variables = a; commands = b; menus = c; collections = d; methods = e; strings = f; manufacturer = g; device_type = h; device_revision = i; dd_revision = j })
+    (record { variables = a'; commands = b'; menus = c'; collections = d'; methods = e'; strings = f'; manufacturer = g'; device_type = h'; device_revision = i'; dd_revision = j' })
+same_counts p q r s t u v w x y = cc
+
+counts_read : (s : Sections) → AreSections s → counts_in (layout s) ≡ s.counts
+unfolding layout header magic identification counts lengths number_at
+counts_read s are = same_counts
+    (from_be_bytes-to_be_bytes_2 s.counts.variables are.counts_fit.variables)
+    (from_be_bytes-to_be_bytes_2 s.counts.commands are.counts_fit.commands)
+    (from_be_bytes-to_be_bytes_2 s.counts.menus are.counts_fit.menus)
+    (from_be_bytes-to_be_bytes_2 s.counts.collections are.counts_fit.collections)
+    (from_be_bytes-to_be_bytes_2 s.counts.methods are.counts_fit.methods)
+    (from_be_bytes-to_be_bytes_2 s.counts.strings are.counts_fit.strings)
+    (from_be_bytes-to_be_bytes_4 s.counts.manufacturer are.counts_fit.manufacturer)
+    (from_be_bytes-to_be_bytes_4 s.counts.device_type are.counts_fit.device_type)
+    (from_be_bytes-to_be_bytes_4 s.counts.device_revision are.counts_fit.device_revision)
+    (from_be_bytes-to_be_bytes_4 s.counts.dd_revision are.counts_fit.dd_revision)
+
+zero_read : (s : Sections) → header_zero (layout s) ≡ 0
+unfolding layout header magic identification counts lengths number_at
+zero_read s = refl
+
+pub total_read : (s : Sections) → AreSections s → total_length (layout s) ≡ layout_length s
+unfolding layout header magic identification counts lengths number_at
+total_read s are = from_be_bytes-to_be_bytes_4 (layout_length s) are.total_fits
+
+attribute_count_read : (s : Sections) → AreSections s → attribute_count (layout s) ≡ length s.attributes
+unfolding layout header magic identification counts lengths number_at
+attribute_count_read s are = from_be_bytes-to_be_bytes_4 (length s.attributes) (let h = are.total_fits in omega arith)
+
+names_length_read : (s : Sections) → AreSections s → names_length (layout s) ≡ length s.name_bytes
+unfolding layout header magic identification counts lengths number_at
+names_length_read s are = from_be_bytes-to_be_bytes_4 (length s.name_bytes) (let h = are.total_fits in omega arith)
+
+pub code_length_read : (s : Sections) → AreSections s → code_length (layout s) ≡ length s.code
+unfolding layout header magic identification counts lengths number_at
+code_length_read s are = from_be_bytes-to_be_bytes_4 (length s.code) (let h = are.total_fits in omega arith)
+
+strings_length_read : (s : Sections) → AreSections s → strings_length (layout s) ≡ length s.string_bytes
+unfolding layout header magic identification counts lengths number_at
+strings_length_read s are = from_be_bytes-to_be_bytes_4 (length s.string_bytes) (let h = are.total_fits in omega arith)
+
+pub header_length_is : (s : Sections) → length (header s) ≡ 56
+unfolding header magic identification counts lengths
+header_length_is s = refl
+
+-- ---- where the sections start
+
+name_rows_read : (s : Sections) → AreSections s → name_rows_start (layout s) ≡ 56 + 4 * length s.variables
+unfolding name_rows_start
+name_rows_read s are =
+    let c = ap (λ (x : Counts). x.variables) (counts_read s are) in
+    let n = are.variables_counted in
+    omega arith
+
+attribute_rows_read : (s : Sections) → AreSections s → attribute_rows_start (layout s) ≡ 56 + 4 * length s.variables + 8 * length s.names
+unfolding attribute_rows_start
+attribute_rows_read s are =
+    let c = ap (λ (x : Counts). item_count x) (counts_read s are) in
+    let n = are.names_counted in
+    let p = name_rows_read s are in
+    omega arith
+
+code_read : (s : Sections) → AreSections s → code_start (layout s) ≡ 56 + 4 * length s.variables + 8 * length s.names + 16 * length s.attributes
+unfolding code_start
+code_read s are =
+    let c = attribute_count_read s are in
+    let p = attribute_rows_read s are in
+    omega arith
+
+string_rows_read : (s : Sections) → AreSections s → string_rows_start (layout s) ≡ 56 + 4 * length s.variables + 8 * length s.names + 16 * length s.attributes + length s.code
+unfolding string_rows_start
+string_rows_read s are =
+    let c = code_length_read s are in
+    let p = code_read s are in
+    omega arith
+
+name_bytes_read : (s : Sections) → AreSections s → name_bytes_start (layout s) ≡ 56 + 4 * length s.variables + 8 * length s.names + 16 * length s.attributes + length s.code + 8 * length s.strings
+unfolding name_bytes_start
+name_bytes_read s are =
+    let c = ap (λ (x : Counts). x.strings) (counts_read s are) in
+    let n = are.strings_counted in
+    let p = string_rows_read s are in
+    omega arith
+
+string_bytes_read : (s : Sections) → AreSections s → string_bytes_start (layout s) ≡ 56 + 4 * length s.variables + 8 * length s.names + 16 * length s.attributes + length s.code + 8 * length s.strings + length s.name_bytes
+unfolding string_bytes_start
+string_bytes_read s are =
+    let c = names_length_read s are in
+    let p = name_bytes_read s are in
+    omega arith
+
+pub end_read : (s : Sections) → AreSections s → sections_end (layout s) ≡ layout_length s
+unfolding sections_end
+end_read s are =
+    let c = strings_length_read s are in
+    let p = string_bytes_read s are in
+    omega arith
+
+-- ---- pieces in front taken together
+
+split_2 : (a b rest : List ℕ) → a ++ (b ++ rest) ≡ (a ++ b) ++ rest
+split_2 a b rest = sym (append_assoc a b rest)
+
+split_3 : (a b c rest : List ℕ) → a ++ (b ++ (c ++ rest)) ≡ (a ++ (b ++ c)) ++ rest
+split_3 a b c rest = simp append_assoc
+
+split_4 : (a b c d rest : List ℕ) → a ++ (b ++ (c ++ (d ++ rest))) ≡ (a ++ (b ++ (c ++ d))) ++ rest
+split_4 a b c d rest = simp append_assoc
+
+split_5 : (a b c d e rest : List ℕ) → a ++ (b ++ (c ++ (d ++ (e ++ rest)))) ≡ (a ++ (b ++ (c ++ (d ++ e)))) ++ rest
+split_5 a b c d e rest = simp append_assoc
+
+split_6 : (a b c d e f rest : List ℕ) → a ++ (b ++ (c ++ (d ++ (e ++ (f ++ rest))))) ≡ (a ++ (b ++ (c ++ (d ++ (e ++ f))))) ++ rest
+split_6 a b c d e f rest = simp append_assoc
+
+-- the last piece, with nothing behind it
+split_7 : (a b c d e f g h : List ℕ) → a ++ (b ++ (c ++ (d ++ (e ++ (f ++ (g ++ h)))))) ≡ (a ++ (b ++ (c ++ (d ++ (e ++ (f ++ g)))))) ++ (h ++ [])
+split_7 a b c d e f g h = simp (append_assoc, append-nil)
+
+-- ---- the sections
+
+module _ (s : Sections) (are : AreSections s) where
+  variables_are : (contents_in (layout s)).variables ≡ (contents_of s).variables
+  unfolding contents_in layout
+  variables_are = variables_read (layout s) _ 56 s.variables (header s) _ refl (ap (λ (c : Counts). c.variables) (counts_read s are) ∙ are.variables_counted) (sym (header_length_is s))
+
+  names_are : (contents_in (layout s)).names ≡ (contents_of s).names
+  unfolding contents_in layout
+  names_are =
+      let a = header s in
+      let b = flat_map variable_row s.variables in
+      let size = variables_length s.variables in
+      let sizes = length-append a b in
+      let head = header_length_is s in
+      let start = name_rows_read s are in
+      names_read (layout s) _ _ s.names are.names_fit (a ++ b) _ (split_2 a b _) (ap (λ (c : Counts). item_count c) (counts_read s are) ∙ are.names_counted) (omega arith)
+
+  attributes_are : (contents_in (layout s)).attributes ≡ (contents_of s).attributes
+  unfolding contents_in layout
+  attributes_are =
+      let a = header s in
+      let b = flat_map variable_row s.variables in
+      let c = flat_map name_row s.names in
+      let head = header_length_is s in
+      let size = variables_length s.variables in
+      let size_names = names_length_is s.names in
+      let start = attribute_rows_read s are in
+      attributes_read (layout s) _ _ s.attributes are.attributes_fit (a ++ (b ++ c)) _ (split_3 a b c _) (attribute_count_read s are) (omega (arith, length-append a (b ++ c), length-append b c))
+
+  code_is : (contents_in (layout s)).code ≡ s.code
+  unfolding contents_in layout
+  code_is =
+      let a = header s in
+      let b = flat_map variable_row s.variables in
+      let c = flat_map name_row s.names in
+      let d = flat_map attribute_row s.attributes in
+      let head = header_length_is s in
+      let size = variables_length s.variables in
+      let size_names = names_length_is s.names in
+      let size_attributes = attributes_length s.attributes in
+      let start = code_read s are in
+      part_read (layout s) _ _ (a ++ (b ++ (c ++ d))) s.code _ (split_4 a b c d _) (omega (arith, length-append a (b ++ (c ++ d)), length-append b (c ++ d), length-append c d)) (code_length_read s are)
+
+  strings_are : (contents_in (layout s)).strings ≡ (contents_of s).strings
+  unfolding contents_in layout
+  strings_are =
+      let a = header s in
+      let b = flat_map variable_row s.variables in
+      let c = flat_map name_row s.names in
+      let d = flat_map attribute_row s.attributes in
+      let e = s.code in
+      let head = header_length_is s in
+      let size = variables_length s.variables in
+      let size_names = names_length_is s.names in
+      let size_attributes = attributes_length s.attributes in
+      let start = string_rows_read s are in
+      strings_read (layout s) _ _ s.strings are.strings_fit (a ++ (b ++ (c ++ (d ++ e)))) _ (split_5 a b c d e _) (ap (λ (n : Counts). n.strings) (counts_read s are) ∙ are.strings_counted)
+      (omega (arith, length-append a (b ++ (c ++ (d ++ e))), length-append b (c ++ (d ++ e)), length-append c (d ++ e), length-append d e))
+
+  name_bytes_are : (contents_in (layout s)).name_bytes ≡ s.name_bytes
+  unfolding contents_in layout
+  name_bytes_are =
+      let a = header s in
+      let b = flat_map variable_row s.variables in
+      let c = flat_map name_row s.names in
+      let d = flat_map attribute_row s.attributes in
+      let e = s.code in
+      let f = flat_map string_row s.strings in
+      let head = header_length_is s in
+      let size = variables_length s.variables in
+      let size_names = names_length_is s.names in
+      let size_attributes = attributes_length s.attributes in
+      let size_strings = strings_length_is s.strings in
+      let start = name_bytes_read s are in
+      part_read (layout s) _ _ (a ++ (b ++ (c ++ (d ++ (e ++ f))))) s.name_bytes s.string_bytes (split_6 a b c d e f _)
+      (omega (arith, length-append a (b ++ (c ++ (d ++ (e ++ f)))), length-append b (c ++ (d ++ (e ++ f))), length-append c (d ++ (e ++ f)), length-append d (e ++ f), length-append e f))
+      (names_length_read s are)
+
+  string_bytes_are : (contents_in (layout s)).string_bytes ≡ s.string_bytes
+  unfolding contents_in layout
+  string_bytes_are =
+      let a = header s in
+      let b = flat_map variable_row s.variables in
+      let c = flat_map name_row s.names in
+      let d = flat_map attribute_row s.attributes in
+      let e = s.code in
+      let f = flat_map string_row s.strings in
+      let g = s.name_bytes in
+      let head = header_length_is s in
+      let size = variables_length s.variables in
+      let size_names = names_length_is s.names in
+      let size_attributes = attributes_length s.attributes in
+      let size_strings = strings_length_is s.strings in
+      let start = string_bytes_read s are in
+      part_read (layout s) _ _ (a ++ (b ++ (c ++ (d ++ (e ++ (f ++ g)))))) s.string_bytes [] (split_7 a b c d e f g s.string_bytes)
+      (omega (arith, length-append a (b ++ (c ++ (d ++ (e ++ (f ++ g))))), length-append b (c ++ (d ++ (e ++ (f ++ g)))), length-append c (d ++ (e ++ (f ++ g))), length-append d (e ++ (f ++ g)), length-append e (f ++ g), length-append f g))
+      (strings_length_read s are)
+
+-- ---- together
+
+same_contents : {v v' : Version} {p p' : ℕ} {c c' : Counts} {vs vs' : List VariableFields} {ns ns' : List NameFields} {rs rs' : List AttributeFields} {xs xs' : List ℕ} {ss ss' : List Span} {nb nb' sb sb' : List ℕ}
+    → v ≡ v' → p ≡ p' → c ≡ c' → vs ≡ vs' → ns ≡ ns' → rs ≡ rs' → xs ≡ xs' → ss ≡ ss' → nb ≡ nb' → sb ≡ sb'
+    → ◌≡◌ {A = Contents} (record { version = v; padding = p; counts = c; variables = vs; names = ns; attributes = rs; code = xs; strings = ss; name_bytes = nb; string_bytes = sb })
+    (record { version = v'; padding = p'; counts = c'; variables = vs'; names = ns'; attributes = rs'; code = xs'; strings = ss'; name_bytes = nb'; string_bytes = sb' })
+same_contents a b d e f g h i j k = cc
+
+version_read : (s : Sections) → (contents_in (layout s)).version ≡ (contents_of s).version
+unfolding contents_in layout header magic identification counts lengths number_at
+version_read s = refl
+
+pub contents_are : (s : Sections) → AreSections s → contents_in (layout s) ≡ contents_of s
+unfolding contents_in
+contents_are s are = same_contents (version_read s) (zero_read s) (counts_read s are) (variables_are s are) (names_are s are) (attributes_are s are) (code_is s are) (strings_are s are) (name_bytes_are s are) (string_bytes_are s are)

@@ -1,0 +1,12 @@
+pub mod AnsweredStates
+pub mod Cutting
+pub mod LayoutFields
+pub mod LayoutRows
+pub mod LayoutValid
+pub mod Lengths
+pub mod ReadIsSpelled
+pub mod Readings
+pub mod Spelled
+pub mod StringsRead
+pub mod WorkedEdits
+pub mod WorkedImages

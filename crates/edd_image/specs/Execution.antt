@@ -1,0 +1,137 @@
+-- Answers, and the run of at most so many steps under answers.
+use Rattle.std.specs.Prelude.{◌≡◌, ℕ, zero, suc, ℤ, List, [], ◌∷◌, ◌++◌, Option, Some, None, unwrap_or, if◌then◌else◌, ⊤, FitsSigned, slice_get, slice_set}
+use Rattle.std.specs.Int.{w32}
+use Rattle.edd_syntax.specs.declared.answer.Trap.{Trap}
+use Rattle.edd_syntax.specs.DeviceValues.{is_in_range}
+use Rattle.edd_syntax.specs.Answers.{Change, Answer, Go, Abort}
+use Rattle.edd_image.specs.declared.records.Request.{Request}
+use Rattle.edd_image.specs.declared.records.Status.{Status}
+use Rattle.edd_image.specs.declared.records.Status.TheVariants as status
+use Rattle.edd_image.specs.declared.records.Emitted.{Emitted}
+use Rattle.edd_image.specs.declared.records.Emitted.TheVariants as emitted
+use Rattle.edd_image.specs.Steps.{State, Environment, Effect, step}
+
+-- ---- answers
+
+-- why an answer can't be taken: it sets a variable that doesn't exist, or to a value out of its range
+pub data SetFault : Type 0 where
+  BadVariable : SetFault
+  OutOfRange : SetFault
+
+abbrev pub set_fault : Environment → Change → Option SetFault
+set_fault env set = elim (slice_get env.types set.variable.0) [
+  | None ↦ Some BadVariable
+  | Some t ↦ if is_in_range t set.value then None else Some OutOfRange
+]
+
+-- the fault of the first set that has one
+abbrev pub sets_fault : Environment → List Change → Option SetFault
+sets_fault env [] = None
+sets_fault env (set ∷ rest) = elim (set_fault env set) [ Some fault ↦ Some fault | None ↦ sets_fault env rest ]
+
+abbrev pub answer_fault : Environment → Answer → Option SetFault
+answer_fault env (Go code sets) = sets_fault env sets
+answer_fault env Abort = None
+
+-- the code is one of 32 bits, and each set names a variable and a value in its range
+abbrev pub IsValidAnswer : Environment → Answer → Type 0
+IsValidAnswer env (Go code sets) = FitsSigned w32 code × (sets_fault env sets ≡ None)
+IsValidAnswer env Abort = ⊤
+
+-- the values after the sets, in their order
+abbrev pub values_set : List ℤ → List Change → List ℤ
+values_set values [] = values
+values_set values (set ∷ rest) = values_set (slice_set values set.variable.0 set.value) rest
+
+-- the event of an answer to a state that asks
+abbrev pub answered : State → Answer → Effect
+answered s (Go code sets) = record {
+  state = record s { operands = code ∷ s.operands; values = values_set s.values sets; status = status.Running };
+  emitted = emitted.Nothing;
+  changes = sets;
+}
+answered s Abort = record { state = record s { status = status.Aborted }; emitted = emitted.Nothing; changes = [] }
+
+-- ---- runs
+
+-- how a run ends
+pub data Ending : Type 0 where
+  Ended : Ending
+  Aborted : Ending
+  Trapped : Trap → Ending
+  -- a request has no answer left
+  Waiting : Ending
+  -- all steps were taken, any request made was answered, and the state is running
+  OutOfSteps : Ending
+  -- the next answer can't be taken
+  Bad : SetFault → Ending
+  -- a running state has no step, which never happens in a valid image
+  Stuck : Ending
+
+-- what a run comes to: the requests and the changes that it made, in order, the state that it reaches, the answers left
+pub record Outcome : Type 0 where
+  pub requests : List Request
+  pub changes : List Change
+  pub state : State
+  pub answers : List Answer
+  pub ending : Ending
+
+-- a state in which no request stands, or why there is none: it is over, or the request that stands isn't answered
+pub record Meeting : Type 0 where
+  pub changes : List Change
+  pub state : State
+  pub answers : List Answer
+  pub ending : Option Ending
+
+abbrev pub nothing_met : State → List Answer → Option Ending → Meeting
+nothing_met s answers ending = record { changes = []; state = s; answers = answers; ending = ending }
+
+abbrev pub after_answer : Effect → List Answer → Answer → Meeting
+after_answer e rest (Go code sets) = record { changes = e.changes; state = e.state; answers = rest; ending = None }
+after_answer e rest Abort = record { changes = e.changes; state = e.state; answers = rest; ending = Some Aborted }
+
+-- the request that stands is met by the next answer; an answer that can't be taken stays the next, and the request stands
+abbrev pub meet_request : Environment → State → List Answer → Meeting
+meet_request env s [] = nothing_met s [] (Some Waiting)
+meet_request env s (answer ∷ rest) = elim (answer_fault env answer) [
+  | Some fault ↦ nothing_met s (answer ∷ rest) (Some (Bad fault))
+  | None ↦ after_answer (answered s answer) rest answer
+]
+
+abbrev pub meet_by : Environment → Status → State → List Answer → Meeting
+meet_by env status.Running s answers = nothing_met s answers None
+meet_by env (status.Asking r) s answers = meet_request env s answers
+meet_by env status.Ended s answers = nothing_met s answers (Some Ended)
+meet_by env status.Aborted s answers = nothing_met s answers (Some Aborted)
+meet_by env (status.Trapped why) s answers = nothing_met s answers (Some (Trapped why))
+
+abbrev pub meet : Environment → State → List Answer → Meeting
+meet env s answers = meet_by env s.status s answers
+
+-- the run is over where the meeting left it
+abbrev pub closed : Meeting → Ending → Outcome
+closed m ending = record { requests = []; changes = m.changes; state = m.state; answers = m.answers; ending = ending }
+
+abbrev pub request_in : Emitted → List Request
+request_in emitted.Nothing = []
+request_in (emitted.Record r) = []
+request_in (emitted.Request r) = r ∷ []
+
+-- the rest of a run, after these requests and changes
+abbrev pub preceded : List Request → List Change → Outcome → Outcome
+preceded requests changes rest = record rest { requests = requests ++ rest.requests; changes = changes ++ rest.changes }
+
+-- a run goes on with a step and what comes behind it, unless it is over or has no step
+abbrev pub go_on : Meeting → Option Ending → Option Effect → (Effect → Outcome) → Outcome
+go_on m (Some ending) x behind = closed m ending
+go_on m None None behind = closed m Stuck
+go_on m None (Some e) behind = preceded (request_in e.emitted) (m.changes ++ e.changes) (behind e)
+
+-- At most n steps, each request met at once by the next answer, also one that stands at the start; an answer counts no step.
+unfoldable pub execute : Environment → (n : ℕ) → State → List Answer → Outcome
+execute env zero s answers = let m = meet env s answers in closed m (unwrap_or m.ending OutOfSteps)
+execute env (suc n) s answers = let m = meet env s answers in go_on m m.ending (step env m.state) (λ e. execute env n e.state m.answers)
+
+-- an outcome that is out of steps, and at most n steps more from where it stopped
+abbrev pub resumed : Environment → (n : ℕ) → Outcome → Outcome
+resumed env n o = preceded o.requests o.changes (execute env n o.state o.answers)

@@ -1,0 +1,129 @@
+-- The fields of an image: numbers at places, the highest byte first.
+use Rattle.std.specs.Prelude.{ℕ, ◌+◌, ◌*◌, ◌==◌, Bool, ◌&&◌, List, take, drop, slice_index}
+use Rattle.std.specs.Int.{Width, w16, w32, byte_len, from_be_bytes}
+use Rattle.edd_image.specs.declared.parts.Counts.{Counts}
+use Rattle.edd_image.specs.Layout.{item_count}
+
+-- the number whose bytes stand at the place
+unfoldable pub number_at : Width → List ℕ → ℕ → ℕ
+number_at w bytes place = from_be_bytes w (take (byte_len w) (drop place bytes))
+
+-- ---- the header
+
+abbrev pub header_length : ℕ
+header_length = 56
+
+-- `EDI1`
+abbrev pub has_magic : List ℕ → Bool
+has_magic b = slice_index b 0 == 0x45 && (slice_index b 1 == 0x44 && (slice_index b 2 == 0x49 && slice_index b 3 == 0x31))
+
+abbrev pub version_number : List ℕ → ℕ
+version_number b = number_at w16 b 4
+
+-- the zero behind the version
+abbrev pub header_zero : List ℕ → ℕ
+header_zero b = number_at w16 b 6
+
+abbrev pub total_length : List ℕ → ℕ
+total_length b = number_at w32 b 8
+
+-- the identification and the six counts
+abbrev pub counts_in : List ℕ → Counts
+counts_in b = record {
+  variables = number_at w16 b 28;
+  commands = number_at w16 b 30;
+  menus = number_at w16 b 32;
+  collections = number_at w16 b 34;
+  methods = number_at w16 b 36;
+  strings = number_at w16 b 38;
+  manufacturer = number_at w32 b 12;
+  device_type = number_at w32 b 16;
+  device_revision = number_at w32 b 20;
+  dd_revision = number_at w32 b 24;
+}
+
+abbrev pub attribute_count : List ℕ → ℕ
+attribute_count b = number_at w32 b 40
+
+abbrev pub names_length : List ℕ → ℕ
+names_length b = number_at w32 b 44
+
+abbrev pub code_length : List ℕ → ℕ
+code_length b = number_at w32 b 48
+
+abbrev pub strings_length : List ℕ → ℕ
+strings_length b = number_at w32 b 52
+
+-- ---- where the sections start, one behind the other
+
+abbrev pub variable_rows_start : ℕ
+variable_rows_start = header_length
+
+unfoldable pub name_rows_start : List ℕ → ℕ
+name_rows_start b = variable_rows_start + 4 * (counts_in b).variables
+
+unfoldable pub attribute_rows_start : List ℕ → ℕ
+attribute_rows_start b = name_rows_start b + 8 * item_count (counts_in b)
+
+unfoldable pub code_start : List ℕ → ℕ
+code_start b = attribute_rows_start b + 16 * attribute_count b
+
+unfoldable pub string_rows_start : List ℕ → ℕ
+string_rows_start b = code_start b + code_length b
+
+unfoldable pub name_bytes_start : List ℕ → ℕ
+name_bytes_start b = string_rows_start b + 8 * (counts_in b).strings
+
+unfoldable pub string_bytes_start : List ℕ → ℕ
+string_bytes_start b = name_bytes_start b + names_length b
+
+-- the place behind the last section
+unfoldable pub sections_end : List ℕ → ℕ
+sections_end b = string_bytes_start b + strings_length b
+
+-- ---- the fields of a row that stands at a place
+
+abbrev pub variable_type : List ℕ → ℕ → ℕ
+variable_type b row = slice_index b row
+
+abbrev pub variable_size : List ℕ → ℕ → ℕ
+variable_size b row = slice_index b (row + 1)
+
+abbrev pub variable_zero : List ℕ → ℕ → ℕ
+variable_zero b row = number_at w16 b (row + 2)
+
+abbrev pub name_start : List ℕ → ℕ → ℕ
+name_start b row = number_at w32 b row
+
+abbrev pub name_length : List ℕ → ℕ → ℕ
+name_length b row = number_at w16 b (row + 4)
+
+abbrev pub name_zero : List ℕ → ℕ → ℕ
+name_zero b row = number_at w16 b (row + 6)
+
+abbrev pub attribute_kind : List ℕ → ℕ → ℕ
+attribute_kind b row = slice_index b row
+
+abbrev pub attribute_attr : List ℕ → ℕ → ℕ
+attribute_attr b row = slice_index b (row + 1)
+
+abbrev pub attribute_item : List ℕ → ℕ → ℕ
+attribute_item b row = number_at w16 b (row + 2)
+
+abbrev pub attribute_sub : List ℕ → ℕ → ℕ
+attribute_sub b row = number_at w16 b (row + 4)
+
+abbrev pub attribute_zero : List ℕ → ℕ → ℕ
+attribute_zero b row = number_at w16 b (row + 6)
+
+abbrev pub attribute_start : List ℕ → ℕ → ℕ
+attribute_start b row = number_at w32 b (row + 8)
+
+abbrev pub attribute_length : List ℕ → ℕ → ℕ
+attribute_length b row = number_at w32 b (row + 12)
+
+abbrev pub string_start : List ℕ → ℕ → ℕ
+string_start b row = number_at w32 b row
+
+abbrev pub string_length : List ℕ → ℕ → ℕ
+string_length b row = number_at w32 b (row + 4)

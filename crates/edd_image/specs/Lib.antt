@@ -1,0 +1,13 @@
+pub mod Contents
+pub mod Decoding
+pub mod Execution
+pub mod Fields
+pub mod Layout
+pub mod Reading
+pub mod References
+pub mod Spelling
+pub mod Steps
+pub mod Strings
+pub mod Units
+pub mod Validity
+pub mod Worked

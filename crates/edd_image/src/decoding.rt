@@ -1,0 +1,362 @@
+//! Reading an instruction from the bytes of a unit.
+
+ghost use Rattle.std.specs.Prelude.{◌≡◌, ◌<◌, ◌≤◌, length, IfSome, option_map, Some};
+ghost use Rattle.std.specs.Int.{w16, w32, w64};
+ghost use Rattle.edd_image.specs.Decoding.{byte_from, number_from, signed_from, item_from, optional_string, basic_from, operator_of, comparison_of, unary_of, jump_from, entry_from, data_from, enumerator_from, response_from, member_from, record_from, ask_of, ask_from, instruction_from, instruction_at};
+
+use crate::instruction::{Ask, Instruction};
+use crate::numbers::item_of;
+use edd_syntax::numbers::{ItemNo, StrNo, VarNo};
+use edd_syntax::operators::{Comparison, Operator};
+
+#[tactic(auto, unfolding(crate::specs::Decoding::byte_from))]
+fn byte_from(bytes: &[u8]) -> Option<(u8, &[u8])>
+    ensures { option_map (λ x. (x.0, x.1.now)) result ≡ byte_from bytes.now }
+{
+    match bytes {
+        [] => None,
+        [byte, rest @ ..] => Some((*byte, rest)),
+    }
+}
+
+#[tactic(auto, unfolding(crate::specs::Decoding::number_from))]
+fn u16_from(bytes: &[u8]) -> Option<(u16, &[u8])>
+    ensures { option_map (λ x. (x.0, x.1.now)) result ≡ number_from w16 bytes.now }
+{
+    if bytes.len() < 2 {
+        return None;
+    }
+    let (front, rest) = bytes.split_at(2);
+    let number = u16::from_be_bytes([front[0], front[1]]);
+    Some((number, rest))
+}
+
+#[tactic(auto, unfolding(crate::specs::Decoding::number_from))]
+fn u32_from(bytes: &[u8]) -> Option<(u32, &[u8])>
+    ensures { option_map (λ x. (x.0, x.1.now)) result ≡ number_from w32 bytes.now }
+{
+    if bytes.len() < 4 {
+        return None;
+    }
+    let (front, rest) = bytes.split_at(4);
+    let number = u32::from_be_bytes([front[0], front[1], front[2], front[3]]);
+    Some((number, rest))
+}
+
+#[tactic(auto, unfolding(crate::specs::Decoding::signed_from))]
+fn i64_from(bytes: &[u8]) -> Option<(i64, &[u8])>
+    ensures { option_map (λ x. (x.0, x.1.now)) result ≡ signed_from w64 bytes.now }
+{
+    if bytes.len() < 8 {
+        return None;
+    }
+    let (front, rest) = bytes.split_at(8);
+    let number = i64::from_be_bytes([
+        front[0], front[1], front[2], front[3], front[4], front[5], front[6], front[7],
+    ]);
+    Some((number, rest))
+}
+
+fn optional_string(number: u16) -> Option<StrNo>
+    ensures { result ≡ optional_string number }
+{
+    if number == 0xffff {
+        None
+    } else {
+        Some(StrNo(number))
+    }
+}
+
+#[tactic(auto, unfolding(crate::specs::Decoding::item_from))]
+fn item_from(bytes: &[u8]) -> Option<(ItemNo, &[u8])>
+    ensures { option_map (λ x. (x.0, x.1.now)) result ≡ item_from bytes.now }
+{
+    let (kind, rest) = byte_from(bytes)?;
+    let (number, rest) = u16_from(rest)?;
+    let item = item_of(kind, number)?;
+    Some((item, rest))
+}
+
+#[tactic(auto, unfolding(crate::specs::Decoding::basic_from))]
+fn basic_from(code: u8, bytes: &[u8]) -> Option<(Instruction, &[u8])>
+    ensures { option_map (λ x. (x.0, x.1.now)) result ≡ basic_from code bytes.now }
+{
+    match code {
+        0x00 => Some((Instruction::End, bytes)),
+        0x01 => {
+            let (number, rest) = u32_from(bytes)?;
+            Some((Instruction::Push(number), rest))
+        }
+        0x02 => {
+            let (number, rest) = u16_from(bytes)?;
+            Some((Instruction::Variable(VarNo(number)), rest))
+        }
+        0x03 => {
+            let (number, rest) = u16_from(bytes)?;
+            Some((Instruction::Store(VarNo(number)), rest))
+        }
+        0x04 => {
+            let (number, rest) = u16_from(bytes)?;
+            Some((Instruction::GetLocal(number), rest))
+        }
+        0x05 => {
+            let (number, rest) = u16_from(bytes)?;
+            Some((Instruction::SetLocal(number), rest))
+        }
+        0x06 => Some((Instruction::Pop, bytes)),
+        0x07 => Some((Instruction::Duplicate, bytes)),
+        _ => None,
+    }
+}
+
+#[tactic(auto, unfolding(crate::specs::Decoding::operator_of))]
+fn operator_of(code: u8) -> Option<Operator>
+    ensures { result ≡ operator_of code }
+{
+    match code {
+        0x10 => Some(Operator::Add),
+        0x11 => Some(Operator::Subtract),
+        0x12 => Some(Operator::Multiply),
+        0x13 => Some(Operator::Divide),
+        0x14 => Some(Operator::Remainder),
+        0x15 => Some(Operator::ShiftLeft),
+        0x16 => Some(Operator::ShiftRight),
+        0x17 => Some(Operator::And),
+        0x18 => Some(Operator::Or),
+        0x19 => Some(Operator::Xor),
+        _ => None,
+    }
+}
+
+#[tactic(auto, unfolding(crate::specs::Decoding::comparison_of))]
+fn comparison_of(code: u8) -> Option<Comparison>
+    ensures { result ≡ comparison_of code }
+{
+    match code {
+        0x1a => Some(Comparison::Equal),
+        0x1b => Some(Comparison::NotEqual),
+        0x1c => Some(Comparison::Less),
+        0x1d => Some(Comparison::LessOrEqual),
+        0x1e => Some(Comparison::Greater),
+        0x1f => Some(Comparison::GreaterOrEqual),
+        _ => None,
+    }
+}
+
+#[tactic(auto, unfolding(crate::specs::Decoding::unary_of))]
+fn unary_of(code: u8) -> Option<Instruction>
+    ensures { result ≡ unary_of code }
+{
+    match code {
+        0x20 => Some(Instruction::Negate),
+        0x21 => Some(Instruction::Not),
+        0x22 => Some(Instruction::Complement),
+        _ => None,
+    }
+}
+
+#[tactic(auto, unfolding(crate::specs::Decoding::jump_from))]
+fn jump_from(code: u8, bytes: &[u8]) -> Option<(Instruction, &[u8])>
+    ensures { option_map (λ x. (x.0, x.1.now)) result ≡ jump_from code bytes.now }
+{
+    match code {
+        0x30 => {
+            let (target, rest) = u32_from(bytes)?;
+            Some((Instruction::Jump(target), rest))
+        }
+        0x31 => {
+            let (target, rest) = u32_from(bytes)?;
+            Some((Instruction::JumpIfZero(target), rest))
+        }
+        0x32 => {
+            let (target, rest) = u32_from(bytes)?;
+            Some((Instruction::JumpIfNotZero(target), rest))
+        }
+        0x33 => {
+            let (label, rest) = i64_from(bytes)?;
+            let (target, rest) = u32_from(rest)?;
+            Some((Instruction::Case { label, target }, rest))
+        }
+        _ => None,
+    }
+}
+
+#[tactic(auto, unfolding(crate::specs::Decoding::entry_from))]
+fn entry_from(bytes: &[u8]) -> Option<(Instruction, &[u8])>
+    ensures { option_map (λ x. (x.0, x.1.now)) result ≡ entry_from bytes.now }
+{
+    let (item, rest) = item_from(bytes)?;
+    let (quals, rest) = u16_from(rest)?;
+    if quals < 16 {
+        Some((Instruction::Item { item, quals }, rest))
+    } else {
+        None
+    }
+}
+
+#[tactic(auto, unfolding(crate::specs::Decoding::data_from))]
+fn data_from(bytes: &[u8]) -> Option<(Instruction, &[u8])>
+    ensures { option_map (λ x. (x.0, x.1.now)) result ≡ data_from bytes.now }
+{
+    let (number, rest) = u16_from(bytes)?;
+    let (mask, rest) = u32_from(rest)?;
+    let (quals, rest) = byte_from(rest)?;
+    if quals < 4 {
+        let var = VarNo(number);
+        Some((Instruction::DataVar { var, mask, quals }, rest))
+    } else {
+        None
+    }
+}
+
+#[tactic(auto, unfolding(crate::specs::Decoding::enumerator_from))]
+fn enumerator_from(bytes: &[u8]) -> Option<(Instruction, &[u8])>
+    ensures { option_map (λ x. (x.0, x.1.now)) result ≡ enumerator_from bytes.now }
+{
+    let (value, rest) = i64_from(bytes)?;
+    let (text, rest) = u16_from(rest)?;
+    let (help, rest) = u16_from(rest)?;
+    let text = StrNo(text);
+    let help = optional_string(help);
+    Some((Instruction::Enumerator { value, text, help }, rest))
+}
+
+#[tactic(auto, unfolding(crate::specs::Decoding::response_from))]
+fn response_from(bytes: &[u8]) -> Option<(Instruction, &[u8])>
+    ensures { option_map (λ x. (x.0, x.1.now)) result ≡ response_from bytes.now }
+{
+    let (number, rest) = u32_from(bytes)?;
+    let (class, rest) = byte_from(rest)?;
+    let (text, rest) = u16_from(rest)?;
+    if class < 7 {
+        let text = StrNo(text);
+        Some((
+            Instruction::Response {
+                number,
+                class,
+                text,
+            },
+            rest,
+        ))
+    } else {
+        None
+    }
+}
+
+#[tactic(auto, unfolding(crate::specs::Decoding::member_from))]
+fn member_from(bytes: &[u8]) -> Option<(Instruction, &[u8])>
+    ensures { option_map (λ x. (x.0, x.1.now)) result ≡ member_from bytes.now }
+{
+    let (name, rest) = u16_from(bytes)?;
+    let (item, rest) = item_from(rest)?;
+    let (label, rest) = u16_from(rest)?;
+    let (help, rest) = u16_from(rest)?;
+    let name = StrNo(name);
+    let label = optional_string(label);
+    let help = optional_string(help);
+    Some((
+        Instruction::Member {
+            name,
+            item,
+            label,
+            help,
+        },
+        rest,
+    ))
+}
+
+#[tactic(auto, unfolding(crate::specs::Decoding::record_from))]
+fn record_from(code: u8, bytes: &[u8]) -> Option<(Instruction, &[u8])>
+    ensures { option_map (λ x. (x.0, x.1.now)) result ≡ record_from code bytes.now }
+{
+    match code {
+        0x40 => {
+            let (text, rest) = u16_from(bytes)?;
+            Some((Instruction::Text(StrNo(text)), rest))
+        }
+        0x41 => Some((Instruction::Number, bytes)),
+        0x42 => entry_from(bytes),
+        0x43 => {
+            let (constant, rest) = byte_from(bytes)?;
+            Some((Instruction::DataConst(constant), rest))
+        }
+        0x44 => data_from(bytes),
+        0x45 => enumerator_from(bytes),
+        0x46 => response_from(bytes),
+        0x47 => member_from(bytes),
+        _ => None,
+    }
+}
+
+#[tactic(auto, unfolding(crate::specs::Decoding::ask_of))]
+fn ask_of(number: u8, s: u16, t: u16) -> Option<Ask>
+    ensures { result ≡ ask_of number s t }
+{
+    match number {
+        5 => Some(Ask::SelectFromList(StrNo(s), StrNo(t))),
+        4 => Some(Ask::GetDevVarValue(StrNo(s), VarNo(t))),
+        _ if t > 0 => None,
+        1 => Some(Ask::PutMessage(StrNo(s))),
+        2 => Some(Ask::Acknowledge(StrNo(s))),
+        3 => Some(Ask::Delay(StrNo(s))),
+        _ if s > 0 => None,
+        6 => Some(Ask::SendCommand),
+        7 => Some(Ask::SendCommandTrans),
+        8 => Some(Ask::SaveValues),
+        _ => None,
+    }
+}
+
+#[tactic(auto, unfolding(crate::specs::Decoding::ask_from))]
+fn ask_from(bytes: &[u8]) -> Option<(Instruction, &[u8])>
+    ensures { option_map (λ x. (x.0, x.1.now)) result ≡ ask_from bytes.now }
+{
+    let (number, rest) = byte_from(bytes)?;
+    let (s, rest) = u16_from(rest)?;
+    let (t, rest) = u16_from(rest)?;
+    let request = ask_of(number, s, t)?;
+    Some((Instruction::Ask(request), rest))
+}
+
+#[tactic(auto, unfolding(crate::specs::Decoding::instruction_from))]
+fn instruction_from(bytes: &[u8]) -> Option<(Instruction, &[u8])>
+    ensures { option_map (λ x. (x.0, x.1.now)) result ≡ instruction_from bytes.now }
+{
+    let [code, rest @ ..] = bytes else {
+        return None;
+    };
+    let code = *code;
+    if code < 0x10 {
+        basic_from(code, rest)
+    } else if code < 0x1a {
+        let operator = operator_of(code)?;
+        Some((Instruction::Operate(operator), rest))
+    } else if code < 0x20 {
+        let comparison = comparison_of(code)?;
+        Some((Instruction::Compare(comparison), rest))
+    } else if code < 0x30 {
+        let instruction = unary_of(code)?;
+        Some((instruction, rest))
+    } else if code < 0x40 {
+        jump_from(code, rest)
+    } else if code < 0x50 {
+        record_from(code, rest)
+    } else if code == 0x50 {
+        ask_from(rest)
+    } else if code == 0x51 {
+        Some((Instruction::Abort, rest))
+    } else {
+        None
+    }
+}
+
+/// The instruction at a place and the place after it, where a whole instruction stands there.
+#[tactic(auto, unfolding(crate::specs::Decoding::instruction_at))]
+pub fn decode(code: &[u8], place: usize) -> Option<(Instruction, usize)>
+    requires { place ≤ length code.now }
+    ensures value { result ≡ instruction_at code.now place }
+    ensures inside { IfSome result (λ found. (place < found.1) × (found.1 ≤ length code.now)) }
+{
+    let (instruction, rest) = instruction_from(&code[place..])?;
+    Some((instruction, code.len() - rest.len()))
+}

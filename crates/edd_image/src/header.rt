@@ -1,0 +1,176 @@
+//! The fields of the header, and where the sections start.
+
+ghost use Rattle.std.specs.Prelude.{◌≡◌, ◌≤◌, length};
+ghost use Rattle.edd_image.specs.Fields.{has_magic, version_number, header_zero, total_length, counts_in, attribute_count, names_length, code_length, strings_length, header_length, name_rows_start, attribute_rows_start, code_start, string_rows_start, name_bytes_start, string_bytes_start, sections_end};
+
+use crate::fields::{u8_at, u16_at, u32_at};
+use crate::parts::Counts;
+
+/// How many bytes the header has. The variable rows stand behind it.
+pub const HEADER_LENGTH: usize = 56;
+
+/// Whether the image begins with `EDI1`.
+pub fn has_magic(bytes: &[u8]) -> bool
+    requires { header_length ≤ length bytes.now }
+    ensures { result ≡ has_magic bytes.now }
+{
+    u8_at(bytes, 0) == 0x45
+        && u8_at(bytes, 1) == 0x44
+        && u8_at(bytes, 2) == 0x49
+        && u8_at(bytes, 3) == 0x31
+}
+
+/// The version of the layout.
+pub fn version_number(bytes: &[u8]) -> u16
+    requires { header_length ≤ length bytes.now }
+    ensures { result ≡ version_number bytes.now }
+{
+    u16_at(bytes, 4)
+}
+
+/// The zero behind the version.
+pub fn header_zero(bytes: &[u8]) -> u16
+    requires { header_length ≤ length bytes.now }
+    ensures { result ≡ header_zero bytes.now }
+{
+    u16_at(bytes, 6)
+}
+
+/// How many bytes the image has.
+pub fn total_length(bytes: &[u8]) -> u32
+    requires { header_length ≤ length bytes.now }
+    ensures { result ≡ total_length bytes.now }
+{
+    u32_at(bytes, 8)
+}
+
+/// The manufacturer's number.
+pub fn manufacturer(bytes: &[u8]) -> u32
+    requires { header_length ≤ length bytes.now }
+    ensures { result ≡ (counts_in bytes.now).manufacturer }
+{
+    u32_at(bytes, 12)
+}
+
+/// The number of the type of device.
+pub fn device_type(bytes: &[u8]) -> u32
+    requires { header_length ≤ length bytes.now }
+    ensures { result ≡ (counts_in bytes.now).device_type }
+{
+    u32_at(bytes, 16)
+}
+
+/// The revision of the device.
+pub fn device_revision(bytes: &[u8]) -> u32
+    requires { header_length ≤ length bytes.now }
+    ensures { result ≡ (counts_in bytes.now).device_revision }
+{
+    u32_at(bytes, 20)
+}
+
+/// The revision of the description.
+pub fn dd_revision(bytes: &[u8]) -> u32
+    requires { header_length ≤ length bytes.now }
+    ensures { result ≡ (counts_in bytes.now).dd_revision }
+{
+    u32_at(bytes, 24)
+}
+
+/// How many variables there are.
+pub fn variable_count(bytes: &[u8]) -> u16
+    requires { header_length ≤ length bytes.now }
+    ensures { result ≡ (counts_in bytes.now).variables }
+{
+    u16_at(bytes, 28)
+}
+
+/// How many commands there are.
+pub fn command_count(bytes: &[u8]) -> u16
+    requires { header_length ≤ length bytes.now }
+    ensures { result ≡ (counts_in bytes.now).commands }
+{
+    u16_at(bytes, 30)
+}
+
+/// How many menus there are.
+pub fn menu_count(bytes: &[u8]) -> u16
+    requires { header_length ≤ length bytes.now }
+    ensures { result ≡ (counts_in bytes.now).menus }
+{
+    u16_at(bytes, 32)
+}
+
+/// How many collections there are.
+pub fn collection_count(bytes: &[u8]) -> u16
+    requires { header_length ≤ length bytes.now }
+    ensures { result ≡ (counts_in bytes.now).collections }
+{
+    u16_at(bytes, 34)
+}
+
+/// How many methods there are.
+pub fn method_count(bytes: &[u8]) -> u16
+    requires { header_length ≤ length bytes.now }
+    ensures { result ≡ (counts_in bytes.now).methods }
+{
+    u16_at(bytes, 36)
+}
+
+/// How many strings there are.
+pub fn string_count(bytes: &[u8]) -> u16
+    requires { header_length ≤ length bytes.now }
+    ensures { result ≡ (counts_in bytes.now).strings }
+{
+    u16_at(bytes, 38)
+}
+
+/// How many attribute rows there are.
+pub fn attribute_count(bytes: &[u8]) -> u32
+    requires { header_length ≤ length bytes.now }
+    ensures { result ≡ attribute_count bytes.now }
+{
+    u32_at(bytes, 40)
+}
+
+/// How many bytes the names have.
+pub fn names_length(bytes: &[u8]) -> u32
+    requires { header_length ≤ length bytes.now }
+    ensures { result ≡ names_length bytes.now }
+{
+    u32_at(bytes, 44)
+}
+
+/// How many bytes the code has.
+pub fn code_length(bytes: &[u8]) -> u32
+    requires { header_length ≤ length bytes.now }
+    ensures { result ≡ code_length bytes.now }
+{
+    u32_at(bytes, 48)
+}
+
+/// How many bytes the strings have.
+pub fn strings_length(bytes: &[u8]) -> u32
+    requires { header_length ≤ length bytes.now }
+    ensures { result ≡ strings_length bytes.now }
+{
+    u32_at(bytes, 52)
+}
+
+/// The identification and the six counts.
+pub fn counts(bytes: &[u8]) -> Counts
+    requires { header_length ≤ length bytes.now }
+    ensures { result ≡ counts_in bytes.now }
+{
+    Counts {
+        variables: variable_count(bytes),
+        commands: command_count(bytes),
+        menus: menu_count(bytes),
+        collections: collection_count(bytes),
+        methods: method_count(bytes),
+        strings: string_count(bytes),
+        manufacturer: manufacturer(bytes),
+        device_type: device_type(bytes),
+        device_revision: device_revision(bytes),
+        dd_revision: dd_revision(bytes),
+    }
+}

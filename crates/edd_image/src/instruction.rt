@@ -1,0 +1,72 @@
+//! The instructions of a unit.
+
+use edd_syntax::numbers::{ItemNo, StrNo, VarNo};
+use edd_syntax::operators::{Comparison, Operator};
+
+/// A request as an instruction names it: its numbers come from the operands.
+#[derive(Clone, Copy, PartialEq, Eq, Debug)]
+pub enum Ask {
+    PutMessage(StrNo),
+    Acknowledge(StrNo),
+    Delay(StrNo),
+    GetDevVarValue(StrNo, VarNo),
+    SelectFromList(StrNo, StrNo),
+    SendCommand,
+    SendCommandTrans,
+    SaveValues,
+}
+
+/// One instruction. A target is a place: a count of bytes from the start of the unit.
+#[derive(Clone, Copy, PartialEq, Eq, Debug)]
+pub enum Instruction {
+    End,
+    Push(u32),
+    Variable(VarNo),
+    Store(VarNo),
+    GetLocal(u16),
+    SetLocal(u16),
+    Pop,
+    Duplicate,
+    Operate(Operator),
+    Compare(Comparison),
+    Negate,
+    Not,
+    Complement,
+    Jump(u32),
+    JumpIfZero(u32),
+    JumpIfNotZero(u32),
+    Case {
+        label: i64,
+        target: u32,
+    },
+    Text(StrNo),
+    Number,
+    Item {
+        item: ItemNo,
+        quals: u16,
+    },
+    DataConst(u8),
+    DataVar {
+        var: VarNo,
+        mask: u32,
+        quals: u8,
+    },
+    Enumerator {
+        value: i64,
+        text: StrNo,
+        help: Option<StrNo>,
+    },
+    Response {
+        number: u32,
+        class: u8,
+        text: StrNo,
+    },
+    Member {
+        name: StrNo,
+        item: ItemNo,
+        label: Option<StrNo>,
+        help: Option<StrNo>,
+    },
+    Ask(Ask),
+    Abort,
+}

@@ -1,0 +1,57 @@
+//! Laws of the definitions, for the crates above.
+
+ghost use Rattle.std.specs.Prelude.{◌≡◌, ℕ, ◌+◌, ◌≤◌, List, ◌++◌, length, drop, Some};
+ghost use Rattle.edd_image.specs.declared.instruction.Instruction.{Instruction};
+ghost use Rattle.edd_image.specs.Decoding.{instruction_at};
+ghost use Rattle.edd_image.specs.Layout.{Sections, AreSections, layout};
+ghost use Rattle.edd_image.specs.Contents.{contents_in, contents_of};
+ghost use Rattle.edd_image.specs.Validity.{code_limit, IsSound, IsValid};
+ghost use Rattle.edd_syntax.specs.Answers.{Answer};
+ghost use Rattle.edd_syntax.specs.Words.{Words};
+ghost use Rattle.edd_image.specs.declared.records.Request.{Request};
+ghost use Rattle.edd_image.specs.declared.records.Status.TheVariants.{Asking};
+ghost use Rattle.edd_image.specs.declared.unit.Context.{Context};
+ghost use Rattle.edd_image.specs.Strings.{WordsFit, string_bytes, string_in};
+ghost use Rattle.edd_image.specs.Steps.{State, Environment, IsState};
+ghost use Rattle.edd_image.specs.Execution.{OutOfSteps, IsValidAnswer, answered, execute, resumed};
+ghost use Rattle.edd_image.specs.Spelling.{AreBytes, spelling, IsSpelled};
+
+/// An instruction that was spelled is read again, whatever stands around it.
+pub fn spelled_is_read()
+    ensures { (before after : List ℕ) (i : Instruction) → IsSpelled i
+        → instruction_at (before ++ (spelling i ++ after)) (length before) ≡ Some (i, length before + length (spelling i)) }
+{}
+
+/// An instruction that is read is spelled by the bytes from its place to the next.
+pub fn read_is_spelled()
+    ensures { (code : List ℕ) (place : ℕ) (i : Instruction) (next : ℕ) → AreBytes code → instruction_at code place ≡ Some (i, next)
+        → IsSpelled i × (drop place code ≡ spelling i ++ drop next code) }
+{}
+
+/// The fields of a layout are its parts.
+pub fn fields_are_parts()
+    ensures { (s : Sections) → AreSections s → contents_in (layout s) ≡ contents_of s }
+{}
+
+/// A layout whose code is within the limit, whose rows keep the rules and whose names, strings and units are valid is a valid
+/// image.
+pub fn sound_parts_are_valid()
+    ensures { (s : Sections) → AreSections s → length s.code ≤ code_limit → IsSound (contents_of s) → IsValid (layout s) }
+{}
+
+/// A run that is out of steps after `j` goes on for `k` more as if it had not been cut.
+pub fn runs_may_be_cut()
+    ensures { (env : Environment) (j k : ℕ) (s : State) (answers : List Answer) → (execute env j s answers).ending ≡ OutOfSteps
+        → execute env (j + k) s answers ≡ resumed env k (execute env j s answers) }
+{}
+
+/// A string that was written is read again.
+pub fn written_strings_are_read()
+    ensures { (w : Words) → WordsFit w → string_in (string_bytes w) ≡ Some w }
+{}
+
+/// A valid answer to a state that asks gives a state again.
+pub fn answers_keep_the_state()
+    ensures { (context : Context) (env : Environment) (s : State) (r : Request) (answer : Answer) → IsState context env s → s.status ≡ Asking r → IsValidAnswer env answer
+        → IsState context env (answered s answer).state }
+{}

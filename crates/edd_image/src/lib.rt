@@ -1,0 +1,51 @@
+//! The image of a description: its layout, its units and their instructions.
+#![tactic(auto)]
+
+mod decoding;
+mod fields;
+mod header;
+mod instruction;
+mod laws;
+mod numbers;
+mod parts;
+mod records;
+mod rows;
+mod rules;
+mod starts;
+mod unit;
+mod worked;
+mod writing;
+
+pub use decoding::decode;
+pub use fields::{u8_at, u16_at, u32_at};
+pub use header::{
+    HEADER_LENGTH, attribute_count, code_length, collection_count, command_count, counts,
+    dd_revision, device_revision, device_type, has_magic, header_zero, manufacturer, menu_count,
+    method_count, names_length, string_count, strings_length, total_length, variable_count,
+    version_number,
+};
+pub use instruction::{Ask, Instruction};
+pub use laws::{
+    answers_keep_the_state, fields_are_parts, read_is_spelled, runs_may_be_cut,
+    sound_parts_are_valid, spelled_is_read, written_strings_are_read,
+};
+pub use numbers::{attr_of, item_of, type_of};
+pub use parts::{AttributeRow, Counts, NameRow, Parts, StringRow, VarKind};
+pub use records::{Emitted, Record, Request, Status};
+pub use rows::{
+    ATTRIBUTE_ROW, NAME_ROW, STRING_ROW, VARIABLE_ROW, attribute_attr, attribute_item,
+    attribute_kind, attribute_length, attribute_start, attribute_sub, attribute_zero, name_length,
+    name_start, name_zero, string_length, string_start, variable_size, variable_type,
+    variable_zero,
+};
+pub use rules::{Rule, UnitRule};
+pub use starts::{
+    attribute_rows_start, code_start, name_bytes_start, name_rows_start, sections_end,
+    string_bytes_start, string_rows_start,
+};
+pub use unit::{Context, Sort, Version, Way};
+pub use worked::{edits_break_their_rules, label_is_read, worked_images_are_valid, worked_layouts};
+pub use writing::{CODE_LIMIT, WriteFault, write};
+
+#[cfg(test)]
+mod tests;

@@ -1,0 +1,70 @@
+//! What an image is made of.
+
+ghost use Rattle.std.specs.Prelude.{◌≡◌, ◌+◌, ◌*◌, ◌<◌, ◌^◌, vec_len};
+
+use edd_syntax::numbers::{Attr, ItemNo};
+use edd_syntax::types::VarType;
+
+/// The type and the size of a variable, in octets.
+#[derive(Clone, Copy, PartialEq, Eq, Debug)]
+pub struct VarKind {
+    pub var_type: VarType,
+    pub size: u8,
+}
+
+/// Where an item's name stands among the name bytes.
+#[derive(Clone, Copy, PartialEq, Eq, Debug)]
+pub struct NameRow {
+    pub start: u32,
+    pub length: u16,
+}
+
+/// An attribute of an item, and where its unit stands in the code. `sub` is a transaction's position for TRANSACTION,
+/// REQUEST and REPLY, the number of slots for DEFINITION, and else 0.
+#[derive(Clone, Copy, PartialEq, Eq, Debug)]
+pub struct AttributeRow {
+    pub item: ItemNo,
+    pub attr: Attr,
+    pub sub: u16,
+    pub start: u32,
+    pub length: u32,
+}
+
+/// Where a string stands among the string bytes.
+#[derive(Clone, Copy, PartialEq, Eq, Debug)]
+pub struct StringRow {
+    pub start: u32,
+    pub length: u32,
+}
+
+/// How many there are of what has a number, and the four identification numbers of the description.
+#[derive(Clone, Copy, PartialEq, Eq, Debug)]
+pub struct Counts {
+    pub variables: u16,
+    pub commands: u16,
+    pub menus: u16,
+    pub collections: u16,
+    pub methods: u16,
+    pub strings: u16,
+    pub manufacturer: u32,
+    pub device_type: u32,
+    pub device_revision: u32,
+    pub dd_revision: u32,
+}
+
+/// The sections of an image in their order. Names stand by kind and number.
+#[derive(Debug, Drop)]
+pub struct Parts {
+    pub counts: Counts,
+    pub variables: Vec<VarKind>,
+    pub names: Vec<NameRow>,
+    pub attributes: Vec<AttributeRow>,
+    pub code: Vec<u8>,
+    pub strings: Vec<StringRow>,
+    pub name_bytes: Vec<u8>,
+    pub string_bytes: Vec<u8>,
+    ghost variables_counted: { counts.variables ≡ vec_len variables },
+    ghost names_counted: { counts.variables + counts.commands + counts.menus + counts.collections + counts.methods ≡ vec_len names },
+    ghost strings_counted: { counts.strings ≡ vec_len strings },
+    ghost fits: { 56 + 4 * vec_len variables + 8 * vec_len names + 16 * vec_len attributes + vec_len code + 8 * vec_len strings + vec_len name_bytes + vec_len string_bytes < 2 ^ 32 },
+}

@@ -1,0 +1,84 @@
+//! Where the sections start. The variable rows stand behind the header, and each section behind the one before it.
+
+ghost use Rattle.std.specs.Prelude.{◌≡◌, ◌≤◌, ◌<◌, ◌+◌, ◌*◌, ◌^◌, length};
+ghost use Rattle.edd_image.specs.Fields.{header_length, name_rows_start, attribute_rows_start, code_start, string_rows_start, name_bytes_start, string_bytes_start, sections_end};
+
+use crate::header::{
+    HEADER_LENGTH, attribute_count, code_length, collection_count, command_count, menu_count,
+    method_count, names_length, string_count, strings_length, variable_count,
+};
+
+/// Where the name rows start.
+#[tactic(auto, unfolding(crate::specs::Fields::name_rows_start))]
+pub fn name_rows_start(bytes: &[u8]) -> usize
+    requires { header_length ≤ length bytes.now }
+    ensures start { result ≡ name_rows_start bytes.now }
+    ensures small { result < 2 ^ 20 }
+{
+    HEADER_LENGTH + 4 * variable_count(bytes) as usize
+}
+
+/// Where the attribute rows start.
+#[tactic(auto, unfolding(crate::specs::Fields::attribute_rows_start))]
+pub fn attribute_rows_start(bytes: &[u8]) -> usize
+    requires { header_length ≤ length bytes.now }
+    ensures start { result ≡ attribute_rows_start bytes.now }
+    ensures small { result < 2 ^ 24 }
+{
+    let items = variable_count(bytes) as usize
+        + command_count(bytes) as usize
+        + menu_count(bytes) as usize
+        + collection_count(bytes) as usize
+        + method_count(bytes) as usize;
+    name_rows_start(bytes) + 8 * items
+}
+
+/// Where the code starts.
+#[tactic(auto, unfolding(crate::specs::Fields::code_start))]
+pub fn code_start(bytes: &[u8]) -> usize
+    requires { header_length ≤ length bytes.now }
+    ensures start { result ≡ code_start bytes.now }
+    ensures small { result < 2 ^ 37 }
+{
+    attribute_rows_start(bytes) + 16 * attribute_count(bytes) as usize
+}
+
+/// Where the string rows start.
+#[tactic(auto, unfolding(crate::specs::Fields::string_rows_start))]
+pub fn string_rows_start(bytes: &[u8]) -> usize
+    requires { header_length ≤ length bytes.now }
+    ensures start { result ≡ string_rows_start bytes.now }
+    ensures small { result < 2 ^ 38 }
+{
+    code_start(bytes) + code_length(bytes) as usize
+}
+
+/// Where the bytes of the names start.
+#[tactic(auto, unfolding(crate::specs::Fields::name_bytes_start))]
+pub fn name_bytes_start(bytes: &[u8]) -> usize
+    requires { header_length ≤ length bytes.now }
+    ensures start { result ≡ name_bytes_start bytes.now }
+    ensures small { result < 2 ^ 39 }
+{
+    string_rows_start(bytes) + 8 * string_count(bytes) as usize
+}
+
+/// Where the bytes of the strings start.
+#[tactic(auto, unfolding(crate::specs::Fields::string_bytes_start))]
+pub fn string_bytes_start(bytes: &[u8]) -> usize
+    requires { header_length ≤ length bytes.now }
+    ensures start { result ≡ string_bytes_start bytes.now }
+    ensures small { result < 2 ^ 40 }
+{
+    name_bytes_start(bytes) + names_length(bytes) as usize
+}
+
+/// The place behind the last section.
+#[tactic(auto, unfolding(crate::specs::Fields::sections_end))]
+pub fn sections_end(bytes: &[u8]) -> usize
+    requires { header_length ≤ length bytes.now }
+    ensures start { result ≡ sections_end bytes.now }
+    ensures small { result < 2 ^ 41 }
+{
+    string_bytes_start(bytes) + strings_length(bytes) as usize
+}

@@ -1,0 +1,217 @@
+//! What the rules on a unit speak of.
+
+ghost use Rattle.std.specs.Prelude.{◌≡◌};
+ghost use Rattle.edd_image.specs.Units.{takes, onward, jump, is_allowed};
+ghost use Rattle.edd_image.specs.References.{names_exist, string_exists, optional_string_exists, variable_exists, item_exists, request_exists};
+
+use crate::instruction::{Ask, Instruction};
+use crate::parts::Counts;
+use edd_syntax::numbers::{ItemNo, StrNo, VarNo};
+
+/// A version of the layout.
+#[derive(Clone, Copy, PartialEq, Eq, Debug)]
+pub enum Version {
+    One,
+}
+
+/// Whether a unit gives an attribute or runs a method.
+#[derive(Clone, Copy, PartialEq, Eq, Debug)]
+pub enum Sort {
+    Attribute,
+    Method,
+}
+
+/// Where a unit stands: the image's version and counts, the unit's sort and, for a method, its number of slots.
+#[derive(Clone, Copy, PartialEq, Eq, Debug)]
+pub struct Context {
+    pub version: Version,
+    pub counts: Counts,
+    pub sort: Sort,
+    pub slots: u16,
+}
+
+/// A way from an instruction to the next: the place, and how many operands it puts there in place of those that it took.
+#[derive(Clone, Copy, PartialEq, Eq, Debug)]
+pub struct Way {
+    pub to: usize,
+    pub leaves: u8,
+}
+
+impl Instruction {
+    /// How many operands it takes off the stack, or reads there.
+    pub fn takes(self) -> u8
+        ensures { result ≡ takes self }
+    {
+        match self {
+            Instruction::Store(_)
+            | Instruction::SetLocal(_)
+            | Instruction::Pop
+            | Instruction::Duplicate
+            | Instruction::Negate
+            | Instruction::Not
+            | Instruction::Complement
+            | Instruction::JumpIfZero(_)
+            | Instruction::JumpIfNotZero(_)
+            | Instruction::Case { .. }
+            | Instruction::Number
+            | Instruction::Ask(Ask::Delay(_))
+            | Instruction::Ask(Ask::SendCommand) => 1,
+            Instruction::Operate(_)
+            | Instruction::Compare(_)
+            | Instruction::Ask(Ask::SendCommandTrans) => 2,
+            _ => 0,
+        }
+    }
+
+    /// The way to the instruction after it, at `next`.
+    pub fn onward(self, next: usize) -> Option<Way>
+        ensures { result ≡ onward self next }
+    {
+        let leaves = match self {
+            Instruction::End | Instruction::Jump(_) | Instruction::Abort => return None,
+            Instruction::Duplicate => 2,
+            Instruction::Push(_)
+            | Instruction::Variable(_)
+            | Instruction::Store(_)
+            | Instruction::GetLocal(_)
+            | Instruction::SetLocal(_)
+            | Instruction::Operate(_)
+            | Instruction::Compare(_)
+            | Instruction::Negate
+            | Instruction::Not
+            | Instruction::Complement
+            | Instruction::Case { .. }
+            | Instruction::Ask(_) => 1,
+            _ => 0,
+        };
+        Some(Way { to: next, leaves })
+    }
+
+    /// The way to its target.
+    pub fn jump(self) -> Option<Way>
+        ensures { result ≡ jump self }
+    {
+        match self {
+            Instruction::Jump(target)
+            | Instruction::JumpIfZero(target)
+            | Instruction::JumpIfNotZero(target)
+            | Instruction::Case { target, .. } => Some(Way {
+                to: target as usize,
+                leaves: 0,
+            }),
+            _ => None,
+        }
+    }
+
+    /// Whether a unit of this sort may have it in an image of this version.
+    pub fn is_allowed(self, version: Version, sort: Sort) -> bool
+        ensures { result ≡ is_allowed version sort self }
+    {
+        let Version::One = version;
+        match sort {
+            Sort::Attribute => !matches!(
+                self,
+                Instruction::Store(_)
+                    | Instruction::GetLocal(_)
+                    | Instruction::SetLocal(_)
+                    | Instruction::Ask(_)
+                    | Instruction::Abort
+            ),
+            Sort::Method => !matches!(
+                self,
+                Instruction::Text(_)
+                    | Instruction::Number
+                    | Instruction::Item { .. }
+                    | Instruction::DataConst(_)
+                    | Instruction::DataVar { .. }
+                    | Instruction::Enumerator { .. }
+                    | Instruction::Response { .. }
+                    | Instruction::Member { .. }
+            ),
+        }
+    }
+}
+
+impl Counts {
+    /// Whether there is such a string.
+    pub fn has_string(self, string: StrNo) -> bool
+        ensures { result ≡ string_exists self string }
+    {
+        string.0 < self.strings
+    }
+
+    /// Whether there is such a string, where one is named.
+    pub fn has_optional_string(self, string: Option<StrNo>) -> bool
+        ensures { result ≡ optional_string_exists self string }
+    {
+        match string {
+            None => true,
+            Some(string) => self.has_string(string),
+        }
+    }
+
+    /// Whether there is such a variable.
+    pub fn has_variable(self, variable: VarNo) -> bool
+        ensures { result ≡ variable_exists self variable }
+    {
+        variable.0 < self.variables
+    }
+
+    /// Whether there is such an item.
+    pub fn has_item(self, item: ItemNo) -> bool
+        ensures { result ≡ item_exists self item }
+    {
+        match item {
+            ItemNo::Variable(number) => number.0 < self.variables,
+            ItemNo::Command(number) => number.0 < self.commands,
+            ItemNo::Menu(number) => number.0 < self.menus,
+            ItemNo::Collection(number) => number.0 < self.collections,
+            ItemNo::Method(number) => number.0 < self.methods,
+        }
+    }
+
+    /// Whether there is all that a request names.
+    pub fn has_request(self, request: Ask) -> bool
+        ensures { result ≡ request_exists self request }
+    {
+        match request {
+            Ask::PutMessage(s) | Ask::Acknowledge(s) | Ask::Delay(s) => self.has_string(s),
+            Ask::GetDevVarValue(s, variable) => self.has_string(s) && self.has_variable(variable),
+            Ask::SelectFromList(s, t) => self.has_string(s) && self.has_string(t),
+            Ask::SendCommand | Ask::SendCommandTrans | Ask::SaveValues => true,
+        }
+    }
+}
+
+impl Context {
+    /// Whether there is all that an instruction names.
+    pub fn has_names(self, instruction: Instruction) -> bool
+        ensures { result ≡ names_exist self instruction }
+    {
+        let counts = self.counts;
+        match instruction {
+            Instruction::Variable(v) | Instruction::Store(v) => counts.has_variable(v),
+            Instruction::DataVar { var, .. } => counts.has_variable(var),
+            Instruction::GetLocal(slot) | Instruction::SetLocal(slot) => slot < self.slots,
+            Instruction::Text(s) => counts.has_string(s),
+            Instruction::Response { text, .. } => counts.has_string(text),
+            Instruction::Item { item, .. } => counts.has_item(item),
+            Instruction::Enumerator { text, help, .. } => {
+                counts.has_string(text) && counts.has_optional_string(help)
+            }
+            Instruction::Member {
+                name,
+                item,
+                label,
+                help,
+            } => {
+                counts.has_string(name)
+                    && counts.has_item(item)
+                    && counts.has_optional_string(label)
+                    && counts.has_optional_string(help)
+            }
+            Instruction::Ask(request) => counts.has_request(request),
+            _ => true,
+        }
+    }
+}

@@ -1,0 +1,260 @@
+//! The bytes of an image from its parts.
+
+ghost use Rattle.std.specs.Prelude.{◌≡◌, ◌≤◌, ◌<◌, ◌++◌, ◌↔◌, OnOk, IfOk, IsOk, vec_len};
+ghost use Rattle.std.specs.List.{AllByRecursion, flat_map};
+ghost use Rattle.edd_image.specs.declared.writing.WriteFault.TheVariants.{Memory};
+ghost use Rattle.edd_syntax.specs.Numbers.{kind_number, kind_of, index_of, attr_number};
+ghost use Rattle.edd_image.specs.Layout.{sections_of, magic, lengths, layout_length, identification, counts, header, layout, type_code, variable_row, name_row, attribute_key, attribute_row, string_row, u16, u32, CountsFit, AreSections, NameFits, AttributeFits, StringFits};
+
+use crate::parts::{AttributeRow, Counts, NameRow, Parts, StringRow, VarKind};
+use edd_syntax::numbers::{Attr, ItemNo};
+use edd_syntax::types::VarType;
+use std::alloc::{AllocError, Global};
+
+/// Why an image could not be written.
+#[derive(Clone, Copy, Debug, PartialEq, Eq)]
+pub enum WriteFault {
+    /// 41: more than 16,777,216 bytes of code.
+    CodeTooLong,
+    /// 50: want of memory.
+    Memory,
+}
+
+impl From<AllocError> for WriteFault {
+    ghost from_gives = { λ _ e. e ≡ Memory };
+
+    fn from(_error: AllocError) -> WriteFault {
+        WriteFault::Memory
+    }
+}
+
+/// The most bytes of code.
+pub const CODE_LIMIT: usize = 16_777_216;
+
+fn type_code(var_type: VarType) -> u8
+    ensures { result ≡ type_code var_type }
+{
+    match var_type {
+        VarType::Integer => 1,
+        VarType::UnsignedInteger => 2,
+        VarType::Enumerated => 3,
+        VarType::BitEnumerated => 4,
+    }
+}
+
+fn kind_number(item: ItemNo) -> u8
+    ensures { result ≡ kind_number (kind_of item) }
+{
+    match item {
+        ItemNo::Variable(_) => 1,
+        ItemNo::Command(_) => 2,
+        ItemNo::Menu(_) => 3,
+        ItemNo::Collection(_) => 4,
+        ItemNo::Method(_) => 5,
+    }
+}
+
+fn index_of(item: ItemNo) -> u16
+    ensures { result ≡ index_of item }
+{
+    match item {
+        ItemNo::Variable(number) => number.0,
+        ItemNo::Command(number) => number.0,
+        ItemNo::Menu(number) => number.0,
+        ItemNo::Collection(number) => number.0,
+        ItemNo::Method(number) => number.0,
+    }
+}
+
+fn attr_number(attr: Attr) -> u8
+    ensures { result ≡ attr_number attr }
+{
+    attr as u8
+}
+
+fn put_u16(out: &mut Vec<u8>, number: u16) -> Result<(), AllocError>
+    ensures { OnOk result (out.new.items ≡ out.old.items ++ u16 number) }
+{
+    out.extend_from_slice(&number.to_be_bytes())
+}
+
+fn put_u32(out: &mut Vec<u8>, number: u32) -> Result<(), AllocError>
+    ensures { OnOk result (out.new.items ≡ out.old.items ++ u32 number) }
+{
+    out.extend_from_slice(&number.to_be_bytes())
+}
+
+fn put_variable(out: &mut Vec<u8>, kind: VarKind) -> Result<(), AllocError>
+    ensures { OnOk result (out.new.items ≡ out.old.items ++ variable_row kind) }
+{
+    out.push(type_code(kind.var_type))?;
+    out.push(kind.size)?;
+    put_u16(out, 0)
+}
+
+fn put_name(out: &mut Vec<u8>, row: NameRow) -> Result<(), AllocError>
+    ensures bytes { OnOk result (out.new.items ≡ out.old.items ++ name_row row) }
+    ensures fits { NameFits row }
+{
+    put_u32(out, row.start)?;
+    put_u16(out, row.length)?;
+    put_u16(out, 0)
+}
+
+fn put_attribute_key(out: &mut Vec<u8>, row: AttributeRow) -> Result<(), AllocError>
+    ensures { OnOk result (out.new.items ≡ out.old.items ++ attribute_key row) }
+{
+    out.push(kind_number(row.item))?;
+    out.push(attr_number(row.attr))?;
+    put_u16(out, index_of(row.item))?;
+    put_u16(out, row.sub)?;
+    put_u16(out, 0)
+}
+
+fn put_attribute(out: &mut Vec<u8>, row: AttributeRow) -> Result<(), AllocError>
+    ensures bytes { OnOk result (out.new.items ≡ out.old.items ++ attribute_row row) }
+    ensures fits { AttributeFits row }
+{
+    put_attribute_key(out, row)?;
+    put_u32(out, row.start)?;
+    put_u32(out, row.length)
+}
+
+fn put_string(out: &mut Vec<u8>, row: StringRow) -> Result<(), AllocError>
+    ensures bytes { OnOk result (out.new.items ≡ out.old.items ++ string_row row) }
+    ensures fits { StringFits row }
+{
+    put_u32(out, row.start)?;
+    put_u32(out, row.length)
+}
+
+#[tactic(auto, unfolding(crate::specs::Layout::identification))]
+fn put_identification(out: &mut Vec<u8>, numbers: Counts) -> Result<(), AllocError>
+    ensures { OnOk result (out.new.items ≡ out.old.items ++ identification numbers) }
+{
+    put_u32(out, numbers.manufacturer)?;
+    put_u32(out, numbers.device_type)?;
+    put_u32(out, numbers.device_revision)?;
+    put_u32(out, numbers.dd_revision)
+}
+
+#[tactic(auto, unfolding(crate::specs::Layout::counts))]
+fn put_counts(out: &mut Vec<u8>, numbers: Counts) -> Result<(), AllocError>
+    ensures bytes { OnOk result (out.new.items ≡ out.old.items ++ counts numbers) }
+    ensures fit { CountsFit numbers }
+{
+    put_u16(out, numbers.variables)?;
+    put_u16(out, numbers.commands)?;
+    put_u16(out, numbers.menus)?;
+    put_u16(out, numbers.collections)?;
+    put_u16(out, numbers.methods)?;
+    put_u16(out, numbers.strings)
+}
+
+#[tactic(auto, unfolding(crate::specs::Layout::magic))]
+fn put_magic(out: &mut Vec<u8>) -> Result<(), AllocError>
+    ensures { OnOk result (out.new.items ≡ out.old.items ++ magic) }
+{
+    out.extend_from_slice(b"EDI1")?;
+    put_u16(out, 1)?;
+    put_u16(out, 0)
+}
+
+#[tactic(auto, unfolding(crate::specs::Layout::lengths))]
+fn put_lengths(out: &mut Vec<u8>, parts: &Parts) -> Result<(), AllocError>
+    ensures { OnOk result (out.new.items ≡ out.old.items ++ lengths (sections_of parts.now)) }
+{
+    put_u32(out, parts.attributes.len() as u32)?;
+    put_u32(out, parts.name_bytes.len() as u32)?;
+    put_u32(out, parts.code.len() as u32)?;
+    put_u32(out, parts.string_bytes.len() as u32)
+}
+
+fn layout_length(parts: &Parts) -> u32
+    ensures { result ≡ layout_length (sections_of parts.now) }
+{
+    let rows = 4 * parts.variables.len() + 8 * parts.names.len() + 16 * parts.attributes.len();
+    let bytes = parts.name_bytes.len() + parts.string_bytes.len();
+    (56 + rows + parts.code.len() + 8 * parts.strings.len() + bytes) as u32
+}
+
+#[tactic(auto, unfolding(crate::specs::Layout::header))]
+fn put_header(out: &mut Vec<u8>, parts: &Parts) -> Result<(), AllocError>
+    ensures bytes { OnOk result (out.new.items ≡ out.old.items ++ header (sections_of parts.now)) }
+    ensures fit { OnOk result (CountsFit parts.now.counts) }
+{
+    put_magic(out)?;
+    put_u32(out, layout_length(parts))?;
+    put_identification(out, parts.counts)?;
+    put_counts(out, parts.counts)?;
+    put_lengths(out, parts)
+}
+
+fn put_variables(out: &mut Vec<u8>, rows: &[VarKind]) -> Result<(), AllocError>
+    ensures { OnOk result (out.new.items ≡ out.old.items ++ flat_map variable_row rows.now) }
+{
+    for row in rows {
+        put_variable(out, *row)?;
+    }
+    Ok(())
+}
+
+fn put_names(out: &mut Vec<u8>, rows: &[NameRow]) -> Result<(), AllocError>
+    ensures bytes { OnOk result (out.new.items ≡ out.old.items ++ flat_map name_row rows.now) }
+    ensures fit { OnOk result (AllByRecursion NameFits rows.now) }
+{
+    for row in rows {
+        put_name(out, *row)?;
+    }
+    Ok(())
+}
+
+fn put_attributes(out: &mut Vec<u8>, rows: &[AttributeRow]) -> Result<(), AllocError>
+    ensures bytes { OnOk result (out.new.items ≡ out.old.items ++ flat_map attribute_row rows.now) }
+    ensures fit { OnOk result (AllByRecursion AttributeFits rows.now) }
+{
+    for row in rows {
+        put_attribute(out, *row)?;
+    }
+    Ok(())
+}
+
+fn put_strings(out: &mut Vec<u8>, rows: &[StringRow]) -> Result<(), AllocError>
+    ensures bytes { OnOk result (out.new.items ≡ out.old.items ++ flat_map string_row rows.now) }
+    ensures fit { OnOk result (AllByRecursion StringFits rows.now) }
+{
+    for row in rows {
+        put_string(out, *row)?;
+    }
+    Ok(())
+}
+
+#[tactic(auto, unfolding(crate::specs::Layout::layout))]
+fn put_sections(out: &mut Vec<u8>, parts: &Parts) -> Result<(), AllocError>
+    ensures bytes { OnOk result (out.new.items ≡ out.old.items ++ layout (sections_of parts.now)) }
+    ensures fit { OnOk result (AreSections (sections_of parts.now)) }
+{
+    put_header(out, parts)?;
+    put_variables(out, &parts.variables)?;
+    put_names(out, &parts.names)?;
+    put_attributes(out, &parts.attributes)?;
+    out.extend_from_slice(&parts.code)?;
+    put_strings(out, &parts.strings)?;
+    out.extend_from_slice(&parts.name_bytes)?;
+    out.extend_from_slice(&parts.string_bytes)
+}
+
+/// The bytes of an image.
+pub fn write(alloc: Global, parts: &Parts) -> Result<Vec<u8>, WriteFault>
+    ensures layout { IfOk result (λ bytes. bytes.items ≡ layout (sections_of parts.now)) }
+    ensures fit { OnOk result (AreSections (sections_of parts.now)) }
+    ensures short { IsOk result → vec_len parts.now.code ≤ CODE_LIMIT }
+    ensures too_long { (result ≡ Err WriteFault.CodeTooLong) ↔ (CODE_LIMIT < vec_len parts.now.code) }
+{
+    if parts.code.len() > CODE_LIMIT {
+        return Err(WriteFault::CodeTooLong);
+    }
+    let mut bytes = Vec::new(alloc);
+    put_sections(&mut bytes, parts)?;
+    Ok(bytes)
+}

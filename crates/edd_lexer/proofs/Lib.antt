@@ -1,0 +1,17 @@
+pub mod Worked
+pub mod Runs
+pub mod ByteTests
+pub mod StringEnds
+pub mod Sound
+pub mod SoundSigns
+pub mod Complete
+pub mod CompleteSigns
+pub mod Whole
+pub mod Unique
+pub mod Texts
+pub mod ReservedWords
+pub mod Values
+pub mod LineWord
+pub mod Steps
+pub mod Loop
+pub mod Answered

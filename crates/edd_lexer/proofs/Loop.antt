@@ -1,0 +1,147 @@
+-- Reading one step after the other, as the loop does.
+use Rattle.std.proofs.Common.{◌≡◌, ℕ, ◌+◌, ◌-◌, ◌≤◌, ◌<◌, Bool, true, false, cond, ◌&&◌, ◌==◌, List, [], ◌∷◌, ◌++◌, take, drop, length, Option, Some, Result, Ok, Err, refl, sym, ap, ◌∙◌, append_assoc, length-append, length-take, length-drop, arith}
+use Rattle.std.specs.Prelude.{bytes_eq, slice_range}
+use Rattle.std.proofs.lemmas.List.{append-nil, drop_at, drop-drop}
+use Rattle.std.proofs.lemmas.Slice.Eq.{bytes_eq-Decides}
+use Rattle.edd_syntax.specs.Token.{Token}
+use Rattle.edd_lexer.specs.declared.token.TokenKind.{TokenKind}
+use Rattle.edd_lexer.specs.Bytes.{begins, front, in_line}
+use Rattle.edd_lexer.specs.Strings.{quote}
+use Rattle.edd_lexer.specs.Gaps.{Gap, blank, line_comment, block_comment, mark, behind_close}
+use Rattle.edd_lexer.specs.Tokens.{Lexeme, Stands, word, integer, decimal, string, sign, behind_byte_order_mark}
+use Rattle.edd_lexer.specs.Signs.{symbol_bytes}
+use Rattle.edd_lexer.specs.Faults.{Fault}
+use Rattle.edd_lexer.specs.Reading.{Step, token, gap, wrong, step_at, with_first, after_step, tokens_of}
+use Rattle.edd_lexer.specs.Views.{token_of, Follows, Leads}
+use Rattle.edd_lexer.proofs.Runs.{both, front_behind}
+use Rattle.edd_lexer.proofs.ByteTests.{next_here}
+use Rattle.edd_lexer.proofs.Sound.{Right}
+use Rattle.edd_lexer.proofs.SoundSigns.{step_right}
+use Rattle.edd_lexer.proofs.Whole.{token_shortens, gap_shortens, tokens_from, tokens_step, tokens_end}
+use Rattle.edd_lexer.proofs.Texts.{tokens_of_is, mark_le}
+
+-- ---- what stands behind a step is the end of what stands here
+
+-- what is left behind some bytes
+left : (here bytes rest : List ℕ) → here ≡ bytes ++ rest → rest ≡ drop (length here - length rest) here
+left here bytes rest whole =
+    let n : length bytes ≡ length here - length rest = omega (arith, length-append bytes rest, ap length whole) in
+    sym (ap (λ (t : List ℕ). drop (length here - length rest) t) whole ∙ drop_at bytes rest (length here - length rest) n)
+
+-- behind the end of a comment stands the end of it
+close_cut : (body rest : List ℕ) → behind_close body ≡ Some rest → (bytes : List ℕ) × (body ≡ bytes ++ rest)
+close_cut [] rest e = absurd cc
+close_cut (b ∷ body) rest e = go ((b == 42) && begins (λ c. c == 47) body) refl e (close_cut body rest)
+  where
+    go : (t : Bool) → ((b == 42) && begins (λ c. c == 47) body) ≡ t → (elim t as (λ _. Option (List ℕ)) [ true ↦ Some (drop 1 body) | false ↦ behind_close body ]) ≡ Some rest
+        → (behind_close body ≡ Some rest → (bytes : List ℕ) × (body ≡ bytes ++ rest)) → (bytes : List ℕ) × (b ∷ body ≡ bytes ++ rest)
+    go true t f more =
+        let same : drop 1 body ≡ rest = cc in
+        let slash = next_here 47 body (both (b == 42) (begins (λ c. c == 47) body) t).1 in
+        (b ∷ 47 ∷ [], ap (λ (x : List ℕ). b ∷ x) slash ∙ ap (λ (x : List ℕ). b ∷ 47 ∷ x) same)
+    go false t f more = let found = more f in (b ∷ found.0, ap (λ (x : List ℕ). b ∷ x) found.1)
+
+gap_left : (fresh : Bool) (here : List ℕ) (next : Bool) (rest : List ℕ) → Gap fresh here next rest → rest ≡ drop (length here - length rest) here
+gap_left fresh here next rest (blank {b = b} e) = left here (b ∷ []) rest refl
+gap_left fresh here next rest (line_comment {body = body}) = left here (47 ∷ 47 ∷ front in_line body) rest (ap (λ (x : List ℕ). 47 ∷ 47 ∷ x) (sym (front_behind in_line body)))
+gap_left fresh here next rest (block_comment {body = body} e) =
+    let found = close_cut body rest e in left here (47 ∷ 42 ∷ found.0) rest (ap (λ (x : List ℕ). 47 ∷ 42 ∷ x) found.1)
+gap_left fresh here next rest (mark {body = body} e) = left here (35 ∷ front in_line body) rest (ap (λ (x : List ℕ). 35 ∷ x) (sym (front_behind in_line body)))
+
+token_left : (here : List ℕ) (t : Token) (rest : List ℕ) → Stands here t rest → rest ≡ drop (length here - length rest) here
+token_left here t rest (word bytes whole name stop is) = left here bytes rest whole
+token_left here t rest (integer bytes n whole spelled fits free is) = left here bytes rest whole
+token_left here t rest (decimal bytes whole spelled free is) = left here bytes rest whole
+token_left here t rest (string inside raw whole closed good is) =
+    left here (quote ∷ (raw ++ quote ∷ [])) rest
+    (whole ∙ (ap (λ (x : List ℕ). quote ∷ x) closed.whole ∙ ap (λ (x : List ℕ). quote ∷ x) (sym (append_assoc raw (quote ∷ []) rest))))
+token_left here t rest (sign s whole free is) = left here (symbol_bytes s) rest whole
+
+right_leads : (fresh : Bool) (here : List ℕ) (s : Step) → Right fresh here s → Leads here s
+right_leads fresh here (token t rest) r = record { shorter = token_shortens here t rest r; is_end = token_left here t rest r }
+right_leads fresh here (gap next rest) r = record { shorter = gap_shortens fresh here next rest r; is_end = gap_left fresh here next rest r }
+right_leads fresh here (wrong fault) r = tt
+
+pub step_leads : (fresh : Bool) (here : List ℕ) → Leads here (step_at fresh here)
+unfolding step_at
+step_leads fresh [] = tt
+step_leads fresh (b ∷ here) = right_leads fresh (b ∷ here) (step_at fresh (b ∷ here)) (step_right fresh b here)
+
+-- ---- the loop
+
+-- the end of the end of a text
+pub end_of_end : (text here rest : List ℕ) → here ≡ drop (length text - length here) text → length here ≤ length text → Follows here rest → rest ≡ drop (length text - length rest) text
+end_of_end text here rest e le f =
+    let lt = f.shorter in
+    let n : (length text - length here) + (length here - length rest) ≡ length text - length rest = omega arith in
+    f.is_end ∙ (ap (λ (x : List ℕ). drop (length here - length rest) x) e
+    ∙ (drop-drop (length here - length rest) (length text - length here) text ∙ ap (λ (k : ℕ). drop k text) n))
+
+abbrev pub with_front : List Lexeme → Result (List Lexeme) Fault → Result (List Lexeme) Fault
+with_front before (Err fault) = Err fault
+with_front before (Ok more) = Ok (before ++ more)
+
+regroup : (before : List Lexeme) (t : Lexeme) (found : Result (List Lexeme) Fault) → with_front before (with_first t found) ≡ with_front (before ++ t ∷ []) found
+regroup before t (Err fault) = refl
+regroup before t (Ok more) = ap Ok (simp append_assoc)
+
+none_before : (found : Result (List Lexeme) Fault) → with_front [] found ≡ found
+none_before (Err fault) = refl
+none_before (Ok more) = refl
+
+pub from_start : (text : List ℕ) → with_front [] (tokens_from (length text) true (behind_byte_order_mark text)) ≡ tokens_of text
+from_start text = none_before (tokens_from (length text) true (behind_byte_order_mark text)) ∙ sym (tokens_of_is text)
+
+-- the start is an end of the text
+pub start_left : (text : List ℕ) → behind_byte_order_mark text ≡ drop (length text - length (behind_byte_order_mark text)) text
+start_left text = go (bytes_eq (take 3 text) (239 ∷ 187 ∷ 191 ∷ [])) refl
+  where
+    three : bytes_eq (take 3 text) (239 ∷ 187 ∷ 191 ∷ []) ≡ true → 3 ≤ length text
+    three e = let same : take 3 text ≡ 239 ∷ 187 ∷ 191 ∷ [] = (bytes_eq-Decides (take 3 text) (239 ∷ 187 ∷ 191 ∷ [])).0 e in omega (arith, ap length same, length-take 3 text)
+
+    go : (t : Bool) → bytes_eq (take 3 text) (239 ∷ 187 ∷ 191 ∷ []) ≡ t → cond t (drop 3 text) text ≡ drop (length text - length (cond t (drop 3 text) text)) text
+    go true e = let n : 3 ≡ length text - length (drop 3 text) = (let le : 3 ≤ length text = three e in omega (arith, length-drop 3 text)) in ap (λ (k : ℕ). drop k text) n
+    go false e = let n : 0 ≡ length text - length text = omega arith in ap (λ (k : ℕ). drop k text) n
+
+pub on_gap : (before : List Lexeme) (total : ℕ) (fresh : Bool) (here : List ℕ) (next : Bool) (rest : List ℕ) → 0 < length here → step_at fresh here ≡ gap next rest
+    → with_front before (tokens_from total fresh here) ≡ with_front before (tokens_from total next rest)
+on_gap before total fresh here next rest some e = ap (with_front before) (rw (tokens_step total fresh here some, e) refl)
+
+pub on_wrong : (before : List Lexeme) (total : ℕ) (fresh : Bool) (here : List ℕ) (fault : Fault) → 0 < length here → step_at fresh here ≡ wrong fault
+    → with_front before (tokens_from total fresh here) ≡ Err fault
+on_wrong before total fresh here fault some e =
+    let fails : tokens_from total fresh here ≡ Err fault = rw (tokens_step total fresh here some, e) refl in ap (with_front before) fails
+
+pub at_end : (before : List Lexeme) (total : ℕ) (fresh : Bool) (here : List ℕ) → length here ≡ 0 → with_front before (tokens_from total fresh here) ≡ Ok before
+at_end before total fresh here e = ap (with_front before) (tokens_end total fresh here e) ∙ ap Ok (append-nil before)
+
+-- the token that the step reads, cut out of the whole text
+abbrev pub lexeme_at : (text here rest : List ℕ) → TokenKind → Lexeme
+lexeme_at text here rest kind =
+    record {
+      token = token_of kind (slice_range text (length text - length here) (length text - length rest));
+      start = length text - length here;
+      end = length text - length rest;
+    }
+
+cut_is : (text here rest : List ℕ) → here ≡ drop (length text - length here) text → length here ≤ length text → length rest < length here
+    → slice_range text (length text - length here) (length text - length rest) ≡ take (length here - length rest) here
+cut_is text here rest e le lt =
+    let n : (length text - length rest) - (length text - length here) ≡ length here - length rest = omega arith in
+    ap (λ (k : ℕ). take k (drop (length text - length here) text)) n ∙ ap (λ (x : List ℕ). take (length here - length rest) x) (sym e)
+
+pub on_token : (before : List Lexeme) (text : List ℕ) (fresh : Bool) (here rest : List ℕ) (kind : TokenKind) → here ≡ drop (length text - length here) text → length here ≤ length text
+    → length rest < length here → step_at fresh here ≡ token (token_of kind (take (length here - length rest) here)) rest
+    → with_front before (tokens_from (length text) fresh here) ≡ with_front (before ++ lexeme_at text here rest kind ∷ []) (tokens_from (length text) false rest)
+on_token before text fresh here rest kind e le lt step =
+    let some : 0 < length here = omega arith in
+    let total = length text in
+    let L : Token → Lexeme = λ t. record { token = t; start = total - length here; end = total - length rest } in
+    let once : tokens_from total fresh here ≡ with_first (L (token_of kind (take (length here - length rest) here))) (tokens_from total false rest) =
+    tokens_step total fresh here some ∙ ap (λ (s : Step). after_step total (length here) s (λ n r. tokens_from total n r)) step in
+    let cut : L (token_of kind (take (length here - length rest) here)) ≡ lexeme_at text here rest kind =
+    ap (λ (x : List ℕ). L (token_of kind x)) (sym (cut_is text here rest e le lt)) in
+    ap (with_front before) (once ∙ ap (λ (l : Lexeme). with_first l (tokens_from total false rest)) cut)
+    ∙ regroup before (lexeme_at text here rest kind) (tokens_from total false rest)
+
+pub ruleset loop_starts = (from_start, start_left, mark_le)

@@ -1,0 +1,45 @@
+use Rattle.std.proofs.Common.{◌≡◌, Option, Err, length, map, sym, subst, ◌∙◌, arith}
+use Rattle.std.specs.Prelude.{IfSome}
+use Rattle.std.proofs.lemmas.List.{map_push}
+use Rattle.edd_lexer.specs.Faults.{Fault}
+use Rattle.edd_lexer.specs.Reading.{tokens_of}
+use Rattle.edd_lexer.specs.Views.{lexeme_of}
+use Rattle.edd_lexer.proofs.ByteTests.{not_zero, same_byte}
+use Rattle.edd_lexer.proofs.Loop.{on_wrong, on_gap, on_token, at_end, end_of_end}
+use Rattle.edd_lexer.proofs.lexer.tokens.Goals as goal
+
+pub returns-in-Wrong : goal.returns-in-Wrong
+returns-in-Wrong c =
+    let text = c.args.text.now in
+    let stops = on_wrong (map (lexeme_of text) c.loop-rest.tokens.items) (length text) c.loop-rest.fresh c.loop-rest.rest.now c.in-Wrong.fault (not_zero (length c.loop-rest.rest.now) (sym c.is_empty.ensures ∙ c.loop-rest-test.true)) (sym c.in-Wrong.ensures.read) in
+    let P : Option Fault → Type 0 = λ o. IfSome o (λ fault. tokens_of text ≡ Err fault) in
+    subst P (sym c.refusal.ensures) (sym c.loop-rest.invariant.read ∙ stops)
+
+pub loop-rest-preserved-in-Gap : goal.loop-rest-preserved-in-Gap
+loop-rest-preserved-in-Gap c =
+    let text = c.args.text.now in
+    let here = c.loop-rest.rest.now in
+    let same = on_gap (map (lexeme_of text) c.loop-rest.tokens.items) (length text) c.loop-rest.fresh here c.in-Gap.next c.in-Gap.behind.now (let lt = c.in-Gap.ensures.leads.shorter in omega arith) (sym c.in-Gap.ensures.read) in
+    record {
+      within = (let lt = c.in-Gap.ensures.leads.shorter in omega arith);
+      is_end = end_of_end text here c.in-Gap.behind.now c.loop-rest.invariant.is_end c.loop-rest.invariant.within c.in-Gap.ensures.leads;
+      read = sym same ∙ c.loop-rest.invariant.read;
+    }
+
+pub loop-rest-preserved : goal.loop-rest-preserved
+loop-rest-preserved c =
+    let text = c.args.text.now in
+    let here = c.loop-rest.rest.now in
+    let behind = c.in-Token.behind.now in
+    let same = on_token (map (lexeme_of text) c.loop-rest.tokens.items) text c.loop-rest.fresh here behind c.in-Token.kind c.loop-rest.invariant.is_end c.loop-rest.invariant.within
+    c.in-Token.ensures.leads.shorter (sym c.in-Token.ensures.read) in
+    record {
+      within = (let lt = c.in-Token.ensures.leads.shorter in omega arith);
+      is_end = end_of_end text here behind c.loop-rest.invariant.is_end c.loop-rest.invariant.within c.in-Token.ensures.leads;
+      read = rw (c.in_ok-push-in-Token.ensures.items, map_push) (sym same ∙ c.loop-rest.invariant.read);
+    }
+
+pub returns : goal.returns
+returns c =
+    let text = c.args.text.now in
+    sym c.loop-rest.invariant.read ∙ at_end (map (lexeme_of text) c.loop-rest.tokens.items) (length text) c.loop-rest.fresh c.loop-rest.rest.now (same_byte (length c.loop-rest.rest.now) 0 (sym c.is_empty.ensures ∙ c.loop-rest-test.false))

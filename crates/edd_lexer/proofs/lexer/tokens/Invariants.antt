@@ -1,0 +1,16 @@
+use Rattle.std.proofs.Common.{◌≡◌, ◌≤◌, ◌-◌, map, length, drop}
+use Rattle.edd_lexer.specs.Views.{lexeme_of}
+use Rattle.edd_lexer.specs.Reading.{tokens_of}
+use Rattle.edd_lexer.proofs.Whole.{tokens_from}
+use Rattle.edd_lexer.proofs.Loop.{with_front}
+use Rattle.edd_lexer.proofs.lexer.tokens.Given as goal
+
+abbrev pub invariant-loop-rest : goal.invariant-loop-rest
+invariant-loop-rest l = record {
+  within : length l.rest ≤ length l.fn.text;
+  is_end : l.rest ≡ drop (length l.fn.text - length l.rest) l.fn.text;
+  read : with_front (map (lexeme_of l.fn.text) l.tokens.items) (tokens_from (length l.fn.text) l.fresh l.rest) ≡ tokens_of l.fn.text;
+}
+
+abbrev pub decreases-loop-rest : goal.decreases-loop-rest
+decreases-loop-rest l = length l.rest

@@ -1,0 +1,11 @@
+pub mod Bytes
+pub mod Numbers
+pub mod Strings
+pub mod Signs
+pub mod Gaps
+pub mod Tokens
+pub mod Faults
+pub mod Reading
+pub mod Keywords
+pub mod Views
+pub mod Worked

@@ -1,0 +1,152 @@
+//! Bytes by what they may stand for, and runs of them.
+
+ghost use Rattle.std.specs.Prelude.{◌≡◌, ◌≤◌, length};
+ghost use Rattle.std.specs.Char.{is_ascii_digit, is_ascii_hexdigit};
+ghost use Rattle.edd_syntax.specs.Names as names;
+ghost use Rattle.edd_lexer.specs.Bytes as bytes;
+ghost use Rattle.edd_lexer.specs.Bytes.{begins, behind};
+ghost use Rattle.edd_lexer.specs.Reading as reading;
+ghost use Rattle.edd_lexer.specs.Tokens as tokens;
+
+pub fn is_blank(b: u8) -> bool
+    ensures { result ≡ bytes.is_blank b }
+{
+    b == b' ' || (b >= 9 && b <= 13)
+}
+
+pub fn is_line_blank(b: u8) -> bool
+    ensures { result ≡ bytes.is_line_blank b }
+{
+    is_blank(b) && b != b'\n'
+}
+
+pub fn begins_name(b: u8) -> bool
+    ensures { result ≡ names.begins_name b }
+{
+    (b >= b'A' && b <= b'Z') || (b >= b'a' && b <= b'z') || b == b'_'
+}
+
+pub fn goes_on_name(b: u8) -> bool
+    ensures { result ≡ names.goes_on_name b }
+{
+    begins_name(b) || (b >= b'0' && b <= b'9')
+}
+
+pub fn goes_on_number(b: u8) -> bool
+    ensures { result ≡ bytes.goes_on_number b }
+{
+    goes_on_name(b) || b == b'.'
+}
+
+/// What stands behind the name at the front.
+pub fn behind_name(text: &[u8]) -> &[u8]
+    ensures rest { result.now ≡ behind names.goes_on_name text.now }
+    ensures shorter { length result.now ≤ length text.now }
+{
+    let mut rest = text;
+    while let [first, tail @ ..] = rest {
+        if !goes_on_name(*first) {
+            return rest;
+        }
+        rest = tail;
+    }
+    rest
+}
+
+/// What stands behind the digits at the front.
+pub fn behind_digits(text: &[u8]) -> &[u8]
+    ensures rest { result.now ≡ behind is_ascii_digit text.now }
+    ensures shorter { length result.now ≤ length text.now }
+{
+    let mut rest = text;
+    while let [first, tail @ ..] = rest {
+        if !first.is_ascii_digit() {
+            return rest;
+        }
+        rest = tail;
+    }
+    rest
+}
+
+/// What stands behind the hexadecimal digits at the front.
+pub fn behind_hex_digits(text: &[u8]) -> &[u8]
+    ensures rest { result.now ≡ behind is_ascii_hexdigit text.now }
+    ensures shorter { length result.now ≤ length text.now }
+{
+    let mut rest = text;
+    while let [first, tail @ ..] = rest {
+        if !first.is_ascii_hexdigit() {
+            return rest;
+        }
+        rest = tail;
+    }
+    rest
+}
+
+/// What stands behind the blanks of this line.
+pub fn behind_line_blanks(text: &[u8]) -> &[u8]
+    ensures rest { result.now ≡ behind bytes.is_line_blank text.now }
+    ensures shorter { length result.now ≤ length text.now }
+{
+    let mut rest = text;
+    while let [first, tail @ ..] = rest {
+        if !is_line_blank(*first) {
+            return rest;
+        }
+        rest = tail;
+    }
+    rest
+}
+
+/// The end of the line.
+pub fn behind_line(text: &[u8]) -> &[u8]
+    ensures rest { result.now ≡ behind bytes.in_line text.now }
+    ensures shorter { length result.now ≤ length text.now }
+{
+    let mut rest = text;
+    while let [first, tail @ ..] = rest {
+        if *first == b'\n' {
+            return rest;
+        }
+        rest = tail;
+    }
+    rest
+}
+
+/// This byte is next.
+pub fn next_is(byte: u8, text: &[u8]) -> bool
+    ensures { result ≡ reading.next_is byte text.now }
+{
+    match text {
+        [first, ..] => *first == byte,
+        [] => false,
+    }
+}
+
+pub fn begins_digit(text: &[u8]) -> bool
+    ensures { result ≡ begins is_ascii_digit text.now }
+{
+    match text {
+        [first, ..] => first.is_ascii_digit(),
+        [] => false,
+    }
+}
+
+/// One more line where this byte ends one. A text within the limit has fewer lines than would fit.
+pub fn lines_after(lines: u32, b: u8) -> u32 {
+    if b == b'\n' {
+        lines.saturating_add(1)
+    } else {
+        lines
+    }
+}
+
+/// A text without the byte order mark that it may begin with.
+pub fn behind_byte_order_mark(text: &[u8]) -> &[u8]
+    ensures { result.now ≡ tokens.behind_byte_order_mark text.now }
+{
+    match text {
+        [0xEF, 0xBB, 0xBF, rest @ ..] => rest,
+        _ => text,
+    }
+}

@@ -1,0 +1,21 @@
+//! Laws of the definitions, and worked texts.
+
+ghost use Rattle.std.specs.Prelude.{◌≡◌, ℕ, List};
+ghost use Rattle.edd_lexer.specs.Tokens.{Lexeme, AreTokens};
+ghost use Rattle.edd_lexer.specs.Faults.{Fault, LexicalFault};
+ghost use Rattle.edd_lexer.specs.Worked.{HexExample, NumberExample, EscapeExample, DirectiveExample};
+
+/// A text has one list of tokens at most, one fault at most, and not both.
+pub fn one_reading()
+    ensures one_list { (text : List ℕ) (tokens others : List Lexeme) → AreTokens text tokens → AreTokens text others → tokens ≡ others }
+    ensures one_fault { (text : List ℕ) (fault other : Fault) → LexicalFault text fault → LexicalFault text other → fault ≡ other }
+    ensures not_both { (text : List ℕ) (tokens : List Lexeme) (fault : Fault) → AreTokens text tokens → ¬ (LexicalFault text fault) }
+{}
+
+/// The tokens of one text, and the faults of some.
+pub fn worked_texts()
+    ensures hex { HexExample }
+    ensures number { NumberExample }
+    ensures escape { EscapeExample }
+    ensures directive { DirectiveExample }
+{}

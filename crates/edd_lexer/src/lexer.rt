@@ -1,0 +1,266 @@
+//! Reading a text from left to right.
+
+ghost use Rattle.std.specs.Prelude.{◌≡◌, ◌+◌, ◌<◌, ◌≤◌, drop, length, IfOk, IfErr, IfSome, IsSome, MatchResult, ◌⊎◌, List, true, Some, map, ◌∷◌};
+ghost use Rattle.edd_syntax.specs.Token.{word_token};
+ghost use Rattle.edd_lexer.specs.Numbers as spelled;
+ghost use Rattle.edd_lexer.specs.Tokens.{Lexeme, AreTokens};
+ghost use Rattle.edd_lexer.specs.Faults.{LexicalFault};
+ghost use Rattle.edd_lexer.specs.Faults as kinds;
+ghost use Rattle.edd_lexer.specs.declared.fault.LexFault.TheVariants.{Memory};
+ghost use Rattle.edd_lexer.specs.Reading as reading;
+ghost use Rattle.edd_lexer.specs.Reading.{next_is, tokens_of};
+ghost use Rattle.edd_lexer.specs.Views.{token_of, lexeme_of, fault_of, step_of, Leads, Gives, Answers};
+
+use crate::bytes::{
+    begins_digit, begins_name, behind_byte_order_mark, behind_line, behind_name, is_blank,
+    lines_after, next_is,
+};
+use crate::fault::{Fault, LexFault};
+use crate::gaps::{behind_close, makes_mark};
+use crate::keywords::keyword;
+use crate::numbers::{Number, number_at};
+use crate::strings::string_end;
+use crate::symbols::{slash, symbol_at};
+use crate::token::{Token, TokenKind};
+use std::alloc::Global;
+
+// What begins at a place: a token or a gap, with how many lines end in it and what stands behind it, or a fault.
+#[derive(Clone, Copy)]
+enum Step<'a> {
+    Token(TokenKind, u32, &'a [u8]),
+    /// `true` says that only blanks stand behind it on its last line so far.
+    Gap(bool, u32, &'a [u8]),
+    Wrong(Fault),
+}
+
+// A reserved word or a name.
+#[tactic(auto, using(crate::proofs::ReservedWords::token_by_length))]
+fn word_kind(word: &[u8]) -> TokenKind
+    ensures { token_of result word.now ≡ word_token word.now }
+{
+    match keyword(word) {
+        Some(keyword) => TokenKind::Keyword(keyword),
+        None => TokenKind::Name,
+    }
+}
+
+#[tactic(auto, unfolding(crate::specs::Reading::word_at), using(crate::proofs::Runs::runs))]
+fn word_at(text: &[u8]) -> Step
+    ensures { step_of text.now result ≡ reading.word_at text.now }
+{
+    let rest = behind_name(text);
+    let length = text.len() - rest.len();
+    if length > 255 {
+        return Step::Wrong(Fault::BadCharacter);
+    }
+    Step::Token(word_kind(&text[..length]), 0, rest)
+}
+
+fn number_step(text: &[u8]) -> Step
+    ensures { step_of text.now result ≡ reading.number_at text.now }
+{
+    match number_at(text) {
+        Number::Integer(n, rest) => Step::Token(TokenKind::Integer(n), 0, rest),
+        Number::Decimal(rest) => Step::Token(TokenKind::Decimal, 0, rest),
+        Number::Bad => Step::Wrong(Fault::BadNumber),
+    }
+}
+
+// A string, with its opening quote.
+#[tactic(auto, unfolding(crate::specs::Reading::string_at))]
+fn string_at(text: &[u8]) -> Step
+    requires { 0 < length text.now }
+    ensures { step_of text.now result ≡ reading.string_at (drop 1 text.now) }
+{
+    match string_end(&text[1..]) {
+        Some(end) if end.good => Step::Token(TokenKind::String, end.lines, end.rest),
+        Some(_) => Step::Wrong(Fault::BadEscape),
+        None => Step::Wrong(Fault::OpenString),
+    }
+}
+
+// A block comment, with its slash.
+#[tactic(auto, unfolding(crate::specs::Reading::block_comment_at))]
+fn block_comment_at(text: &[u8]) -> Step
+    requires { 2 ≤ length text.now }
+    ensures { step_of text.now result ≡ reading.block_comment_at (drop 2 text.now) }
+{
+    match behind_close(&text[2..]) {
+        Some((lines, rest)) => Step::Gap(false, lines, rest),
+        None => Step::Wrong(Fault::OpenComment),
+    }
+}
+
+// A comment or a sign, with its slash.
+#[tactic(auto, unfolding(crate::specs::Reading::slash_at))]
+fn slash_at(text: &[u8]) -> Step
+    requires { 0 < length text.now }
+    ensures { step_of text.now result ≡ reading.slash_at (drop 1 text.now) }
+{
+    let rest = &text[1..];
+    if next_is(b'/', rest) {
+        return Step::Gap(false, 0, behind_line(&rest[1..]));
+    }
+    if next_is(b'*', rest) {
+        return block_comment_at(text);
+    }
+    let (symbol, behind) = slash(rest);
+    Step::Token(TokenKind::Symbol(symbol), 0, behind)
+}
+
+// A mark or a directive, with its `#`.
+#[tactic(auto, unfolding(crate::specs::Reading::hash_at))]
+fn hash_at(fresh: bool, text: &[u8]) -> Step
+    requires { 0 < length text.now }
+    ensures { step_of text.now result ≡ reading.hash_at fresh (drop 1 text.now) }
+{
+    if !fresh {
+        return Step::Wrong(Fault::BadCharacter);
+    }
+    let rest = &text[1..];
+    if makes_mark(rest) {
+        Step::Gap(false, 0, behind_line(rest))
+    } else {
+        Step::Wrong(Fault::Directive)
+    }
+}
+
+fn symbol_step<'a>(text: &[u8], first: u8, rest: &'a [u8]) -> Step<'a>
+    ensures { step_of text.now result ≡ reading.symbol_at first rest.now }
+{
+    match symbol_at(first, rest) {
+        Some((symbol, behind)) => Step::Token(TokenKind::Symbol(symbol), 0, behind),
+        None => Step::Wrong(Fault::BadCharacter),
+    }
+}
+
+// A number begins with this byte and what stands behind it.
+fn begins_number(first: u8, rest: &[u8]) -> bool
+    ensures { result ≡ spelled.begins_number (first ∷ rest.now) }
+{
+    first.is_ascii_digit() || (first == b'.' && begins_digit(rest))
+}
+
+#[tactic(auto, unfolding(crate::specs::Reading::step_at))]
+fn step_here(fresh: bool, text: &[u8]) -> Step
+    ensures { step_of text.now result ≡ reading.step_at fresh text.now }
+{
+    let [first, rest @ ..] = text else {
+        return Step::Wrong(Fault::BadCharacter);
+    };
+    let first = *first;
+    if is_blank(first) {
+        let ends = first == b'\n';
+        return Step::Gap(fresh || ends, u32::from(ends), rest);
+    }
+    if begins_name(first) {
+        return word_at(text);
+    }
+    if begins_number(first, rest) {
+        return number_step(text);
+    }
+    match first {
+        b'"' => string_at(text),
+        b'/' => slash_at(text),
+        b'#' => hash_at(fresh, text),
+        _ => symbol_step(text, first, rest),
+    }
+}
+
+// The same, with the fact that what stands behind it is an end of what stands here.
+#[tactic(auto, using(crate::proofs::Loop::step_leads))]
+fn next_step(fresh: bool, text: &[u8]) -> Step
+    ensures read { step_of text.now result ≡ reading.step_at fresh text.now }
+    ensures leads { Leads text.now (step_of text.now result) }
+{
+    step_here(fresh, text)
+}
+
+// The refusal for this fault.
+fn refusal(fault: Fault, line: u32) -> LexFault
+    ensures { fault_of result ≡ Some fault }
+{
+    match fault {
+        Fault::TooLong => LexFault::TooLong,
+        Fault::NotUtf8 => LexFault::NotUtf8 { line },
+        Fault::BadCharacter => LexFault::BadCharacter { line },
+        Fault::OpenComment => LexFault::OpenComment { line },
+        Fault::OpenString => LexFault::OpenString { line },
+        Fault::BadEscape => LexFault::BadEscape { line },
+        Fault::BadNumber => LexFault::BadNumber { line },
+        Fault::Directive => LexFault::Directive { line },
+    }
+}
+
+// The tokens of a text that is short enough and in UTF-8, or its first fault.
+#[tactic(auto, using(crate::proofs::Loop::loop_starts))]
+fn tokens(alloc: Global, text: &[u8]) -> Result<Vec<Token>, LexFault>
+    requires { length text.now ≤ 1048576 }
+    ensures { Gives text.now result (tokens_of text.now) }
+{
+    let mut tokens = Vec::new(alloc);
+    let mut rest = behind_byte_order_mark(text);
+    let mut fresh = true;
+    let mut line: u32 = 1;
+    while !rest.is_empty() {
+        match next_step(fresh, rest) {
+            Step::Wrong(fault) => return Err(refusal(fault, line)),
+            Step::Gap(next, lines, behind) => {
+                fresh = next;
+                line = line.saturating_add(lines);
+                rest = behind;
+            }
+            Step::Token(kind, lines, behind) => {
+                tokens.push(Token {
+                    start: (text.len() - rest.len()) as u32,
+                    end: (text.len() - behind.len()) as u32,
+                    line,
+                    kind,
+                })?;
+                fresh = false;
+                line = line.saturating_add(lines);
+                rest = behind;
+            }
+        }
+    }
+    Ok(tokens)
+}
+
+// The line that follows this part of a text.
+fn line_behind(text: &[u8]) -> u32 {
+    let mut line = 1;
+    for b in text {
+        line = lines_after(line, *b);
+    }
+    line
+}
+
+// The tokens of a text, or its fault.
+fn read(alloc: Global, text: &[u8]) -> Result<Vec<Token>, LexFault>
+    ensures { Answers text.now result }
+{
+    if text.len() > 1_048_576 {
+        return Err(LexFault::TooLong);
+    }
+    if let Err(fault) = str::from_utf8(text) {
+        let line = line_behind(&text[..fault.valid_up_to()]);
+        return Err(LexFault::NotUtf8 { line });
+    }
+    tokens(alloc, text)
+}
+
+/// The tokens of a text of the language: of at most 1,048,576 bytes, in UTF-8.
+///
+/// Spans count bytes of the whole text, a byte order mark included. Lines count from 1, and LF alone ends one; a token, a comment or
+/// a fault of several lines has the line on which it begins.
+pub fn lex(alloc: Global, text: &[u8]) -> Result<Vec<Token>, LexFault>
+    ensures tokens { IfOk result (λ list. AreTokens text.now (map (lexeme_of text.now) list.items)) }
+    ensures fault { IfErr result (λ e. IfSome (fault_of e) (λ fault. LexicalFault text.now fault)) }
+    ensures no_tokens { IfErr result (λ e. IfSome (fault_of e) (λ _. (lexemes : List Lexeme) → ¬ (AreTokens text.now lexemes))) }
+    ensures only_tokens { (lexemes : List Lexeme) → AreTokens text.now lexemes
+        → MatchResult result (λ list. lexemes ≡ map (lexeme_of text.now) list.items) (λ e. e ≡ Memory) }
+    ensures only_fault { (fault : kinds.Fault) → LexicalFault text.now fault
+        → MatchResult result (λ _. ⊥) (λ e. (e ≡ Memory) ⊎ (fault_of e ≡ Some fault)) }
+{
+    read(alloc, text)
+}

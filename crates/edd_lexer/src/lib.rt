@@ -1,0 +1,17 @@
+//! The tokens of a device description, or its first lexical fault.
+#![tactic(auto)]
+
+mod bytes;
+pub mod fault;
+mod gaps;
+mod keywords;
+pub mod laws;
+mod lexer;
+mod numbers;
+mod strings;
+mod symbols;
+#[cfg(test)]
+mod tests;
+pub mod token;
+
+pub use lexer::lex;

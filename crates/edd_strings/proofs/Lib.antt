@@ -1,0 +1,7 @@
+pub mod Chaining
+pub mod Numbering
+pub mod Pieces
+pub mod Sameness
+pub mod Spelling
+pub mod Unescaping
+pub mod Validity

@@ -1,0 +1,4 @@
+pub mod Chains
+pub mod Hashing
+pub mod Parts
+pub mod Strings

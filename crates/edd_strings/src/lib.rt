@@ -1,0 +1,22 @@
+//! Texts in several languages: the variants of a text of the source, the table of a description's strings, and the text
+//! for a language.
+#![tactic(auto)]
+
+mod choice;
+mod codes;
+mod equality;
+mod escapes;
+mod fault;
+mod hashing;
+mod index;
+mod parts;
+mod source;
+mod table;
+
+pub use choice::choose;
+pub use fault::StringFault;
+pub use source::{key, split};
+pub use table::Table;
+
+#[cfg(test)]
+mod tests;

@@ -1,0 +1,93 @@
+//! The table of a description's strings: each different string once, by its number.
+
+ghost use Rattle.std.specs.Prelude.{◌≡◌, ◌≢◌, ◌↔◌, ◌≤◌, [], IfErr, IfOk, IsErrOf, IsTrue, OnErr, length, map, take};
+ghost use Rattle.std.specs.List.{All, AllPairs, Contains};
+ghost use Rattle.edd_syntax.specs.Words.{are_words};
+ghost use Rattle.edd_syntax.specs.WordsView.{string_of};
+ghost use Rattle.edd_strings.specs.Strings.{Adds};
+
+use crate::fault::StringFault;
+use crate::index::Index;
+use edd_syntax::numbers::StrNo;
+use edd_syntax::words::Words;
+use std::alloc::Global;
+use std::marker::Model;
+
+/// How many strings a table holds at most.
+const MAX_STRINGS: usize = 65535;
+
+/// Different strings, by their numbers.
+#[derive(Drop)]
+pub struct Table {
+    strings: Vec<Words>,
+    index: Index,
+}
+
+impl Model for Table {
+    ghost use Rattle.std.specs.Prelude.{List, map};
+    ghost use Rattle.edd_syntax.specs.Words.{Words};
+    ghost use Rattle.edd_syntax.specs.WordsView.{string_of};
+
+    ghost Value = { List Words };
+
+    ghost use Rattle.edd_strings.specs.Chains.{IsIndexOf};
+    ghost use Rattle.edd_strings.specs.Strings.{AreStrings};
+
+    ghost view = { λ t. map string_of t.strings.items };
+
+    ghost invariant = { λ t. AreStrings (map string_of t.strings.items) × IsIndexOf (map string_of t.strings.items) t.index };
+}
+
+impl Table {
+    /// An empty table. It takes no memory.
+    pub fn new(alloc: Global) -> Table
+        ensures { result ≡ [] }
+    {
+        Table {
+            strings: Vec::new(alloc),
+            index: Index::new(alloc),
+        }
+    }
+
+    /// The number of a string, which is the next one where the table doesn't hold the string yet. A string that is refused is
+    /// dropped.
+    pub fn add(&mut self, words: Words) -> Result<StrNo, StringFault>
+        ensures ok { IfOk result (λ number. Adds self.old (string_of words) number.0 self.new) }
+        ensures err { OnErr result (self.new ≡ self.old) }
+        ensures too_many { IsErrOf result StringFault.TooMany ↔ (¬ (Contains self.old (string_of words)) × (length self.old ≡ 65535)) }
+        ensures no_escapes { result ≢ Err StringFault.BadEscape }
+    {
+        if let Some(number) = self.index.find(&self.strings, &words) {
+            return Ok(StrNo(number));
+        }
+        let number = self.strings.len();
+        if number >= MAX_STRINGS {
+            return Err(StringFault::TooMany);
+        }
+        self.strings.reserve(1)?;
+        self.index.push(&self.strings, &words)?;
+        self.strings.push(words).unwrap();
+        Ok(StrNo(number as u16))
+    }
+
+    /// The strings by their numbers.
+    pub fn words(&self) -> &[Words]
+        ensures value { map string_of result.now ≡ self.now }
+        ensures few { length self.now ≤ 65535 }
+        ensures different { AllPairs (λ s t. s ≢ t) self.now }
+        ensures valid { All (λ s. IsTrue (are_words s)) self.now }
+    {
+        self.strings.as_slice()
+    }
+
+    /// Keeps the first `count` strings, or all where there are fewer. It takes no memory.
+    pub fn cut(&mut self, count: u16)
+        ensures { self.new ≡ take count self.old }
+    {
+        while self.strings.len() > usize::from(count) {
+            let last = self.strings.len() - 1;
+            self.index.pop(&self.strings[last]);
+            self.strings.truncate(last);
+        }
+    }
+}
