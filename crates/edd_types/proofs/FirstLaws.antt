@@ -1,8 +1,9 @@
 -- The first breach in lists that stand one behind the other.
-use Rattle.std.proofs.Common.{◌≡◌, refl, sym, ap, ◌∙◌, ℕ, ◌+◌, ◌<◌, List, [], ◌∷◌, ◌++◌, length, get_or, drop, map, Option, Some, None, arith}
+use Rattle.std.proofs.Common.{◌≡◌, refl, sym, ap, ◌∙◌, ℕ, ◌+◌, ◌<◌, ◌≤◌, List, [], ◌∷◌, ◌++◌, length, get_or, drop, map, Option, Some, None, arith}
 use Rattle.std.proofs.lemmas.Bool.{false≢true}
 use Rattle.std.proofs.lemmas.Grind.{common_steps}
 use Rattle.std.proofs.lemmas.List.{at_drop_more}
+use Rattle.std.proofs.Math.ListN.{drop_of_length-le}
 use Rattle.std.specs.Prelude.{Result, Ok, Err, IsErr}
 use Rattle.edd_syntax.specs.Refusal.{Refusal, first_of}
 use Rattle.edd_types.specs.Found.{found}
@@ -39,3 +40,7 @@ module _ {X Y : Type 0} (breaches : List Y → List Refusal) (view : X → Y) (s
   -- at an element with a breach
   pub stops_at : (i : ℕ) (xs : List X) (x : X) (why : Refusal) → i < length xs → x ≡ get_or xs i x → Some why ≡ first_of (breaches (view x ∷ [])) → first_from i xs ≡ first_from 0 xs → Some why ≡ first_from 0 xs
   stops_at i xs x why h is some invariant = sym (first_of-append_some _ _ why some) ∙ sym (next_breach i xs x h is) ∙ invariant
+
+  -- behind the last element
+  pub at_the_end : breaches [] ≡ [] → (i : ℕ) (xs : List X) → length xs ≤ i → first_from i xs ≡ first_from 0 xs → None ≡ first_from 0 xs
+  at_the_end none i xs h invariant = sym (ap first_of none) ∙ ap (λ ys. first_of (breaches (map view ys))) (sym (drop_of_length-le xs h)) ∙ invariant

@@ -1,2 +1,3 @@
-pub mod Splits
 pub mod FirstLaws
+pub mod Splits
+pub mod ValueBreaches

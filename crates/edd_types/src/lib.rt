@@ -2,5 +2,6 @@
 #![tactic(auto)]
 
 mod breaks;
+mod constants;
 mod decimals;
 pub mod fault;
