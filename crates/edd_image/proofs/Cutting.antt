@@ -1,12 +1,12 @@
 -- A run may be cut where it is out of steps.
 use Rattle.std.proofs.Common.{◌≡◌, ℕ, zero, suc, ◌+◌, List, [], ◌∷◌, ◌++◌, Option, Some, None, refl, sym, ap, ◌∙◌, append_assoc, append-nil, arith, zero-add}
 use Rattle.std.specs.Prelude.{unwrap_or}
-use Rattle.edd_syntax.specs.Answers.{Change, Answer, Go, Abort}
+use Rattle.edd_syntax.specs.Answers.{Change, Answer, Go, Abort, SetFault, answer_fault}
 use Rattle.edd_image.specs.declared.records.Request.{Request}
 use Rattle.edd_image.specs.declared.records.Status.{Status}
 use Rattle.edd_image.specs.declared.records.Status.TheVariants as status
 use Rattle.edd_image.specs.Steps.{State, Environment, Effect, step}
-use Rattle.edd_image.specs.Execution.{SetFault, Ending, OutOfSteps, Outcome, Meeting, answer_fault, answered, after_answer, nothing_met, meet_by, meet, closed, request_in, preceded, go_on, execute, resumed}
+use Rattle.edd_image.specs.Execution.{Ending, OutOfSteps, Outcome, Meeting, answered, after_answer, nothing_met, meet_by, meet, closed, request_in, preceded, go_on, execute, resumed}
 
 -- ---- outcomes
 
@@ -23,7 +23,7 @@ preceded_twice a c b d o = same_outcome (sym (append_assoc a c o.requests)) (sym
 meeting_not_out : (env : Environment) (st : Status) (s : State) (answers : List Answer) → (meet_by env st s answers).ending ≡ Some OutOfSteps → ⊥
 meeting_not_out env status.Running s answers e = cc
 meeting_not_out env (status.Asking r) s [] e = cc
-meeting_not_out env (status.Asking r) s (a ∷ rest) e = by_fault (answer_fault env a) a e
+meeting_not_out env (status.Asking r) s (a ∷ rest) e = by_fault (answer_fault env.types a) a e
   where
     by_fault : (fault : Option SetFault) (a : Answer) → Meeting.ending (elim fault [ Some f ↦ nothing_met s (a ∷ rest) (Some (Ending.Bad f)) | None ↦ after_answer (answered s a) rest a ]) ≡ Some OutOfSteps → ⊥
     by_fault (Some f) a e = cc
@@ -37,7 +37,7 @@ meeting_not_out env (status.Trapped why) s answers e = cc
 meeting_runs : (env : Environment) (st : Status) (s : State) (answers : List Answer) → s.status ≡ st → (meet_by env st s answers).ending ≡ None → (meet_by env st s answers).state.status ≡ status.Running
 meeting_runs env status.Running s answers is e = is
 meeting_runs env (status.Asking r) s [] is e = absurd cc
-meeting_runs env (status.Asking r) s (a ∷ rest) is e = by_fault (answer_fault env a) a e
+meeting_runs env (status.Asking r) s (a ∷ rest) is e = by_fault (answer_fault env.types a) a e
   where
     by_fault : (fault : Option SetFault) (a : Answer) → Meeting.ending (elim fault [ Some f ↦ nothing_met s (a ∷ rest) (Some (Ending.Bad f)) | None ↦ after_answer (answered s a) rest a ]) ≡ None
         → State.status (Meeting.state (elim fault [ Some f ↦ nothing_met s (a ∷ rest) (Some (Ending.Bad f)) | None ↦ after_answer (answered s a) rest a ])) ≡ status.Running

@@ -9,7 +9,7 @@ use Rattle.edd_image.specs.declared.parts.Counts.{Counts}
 use Rattle.edd_image.specs.declared.unit.Version.{Version}
 use Rattle.edd_image.specs.declared.unit.Version.TheVariants.{One}
 use Rattle.edd_image.specs.Layout.{Sections, type_code, item_count}
-use Rattle.edd_image.specs.Fields.{version_number, header_zero, counts_in, attribute_count, names_length, code_length, strings_length, variable_rows_start, name_rows_start, attribute_rows_start, code_start, string_rows_start, name_bytes_start, string_bytes_start, variable_type, variable_size, variable_zero, name_start, name_length, name_zero, attribute_kind, attribute_attr, attribute_item, attribute_sub, attribute_zero, attribute_start, attribute_length, string_start, string_length}
+use Rattle.edd_image.specs.Fields.{version_number, header_zero, counts_in, attribute_count, names_length, code_length, strings_length, variable_rows_start, name_rows_start, attribute_rows_start, code_start, string_rows_start, name_bytes_start, string_bytes_start, variable_type, variable_size, variable_zero, name_start, name_length, name_zero, attribute_kind, attribute_number, attribute_item, attribute_sub, attribute_zero, attribute_start, attribute_length, string_start, string_length}
 
 -- where something stands in its section
 pub record Span : Type 0 where
@@ -66,7 +66,7 @@ name_fields b row = record { span = record { start = name_start b row; size = na
 abbrev pub attribute_fields : List ℕ → ℕ → AttributeFields
 attribute_fields b row = record {
   kind = attribute_kind b row;
-  attribute = attribute_attr b row;
+  attribute = attribute_number b row;
   item = attribute_item b row;
   sub = attribute_sub b row;
   padding = attribute_zero b row;

@@ -1,9 +1,7 @@
--- Answers, and the run of at most so many steps under answers.
-use Rattle.std.specs.Prelude.{◌≡◌, ℕ, zero, suc, ℤ, List, [], ◌∷◌, ◌++◌, Option, Some, None, unwrap_or, if◌then◌else◌, ⊤, FitsSigned, slice_get, slice_set}
-use Rattle.std.specs.Int.{w32}
+-- The event of an answer, and the run of at most so many steps under answers.
+use Rattle.std.specs.Prelude.{ℕ, zero, suc, List, [], ◌∷◌, ◌++◌, Option, Some, None, unwrap_or}
 use Rattle.edd_syntax.specs.declared.answer.Trap.{Trap}
-use Rattle.edd_syntax.specs.DeviceValues.{is_in_range}
-use Rattle.edd_syntax.specs.Answers.{Change, Answer, Go, Abort}
+use Rattle.edd_syntax.specs.Answers.{Change, Answer, Go, Abort, SetFault, answer_fault, values_set}
 use Rattle.edd_image.specs.declared.records.Request.{Request}
 use Rattle.edd_image.specs.declared.records.Status.{Status}
 use Rattle.edd_image.specs.declared.records.Status.TheVariants as status
@@ -11,37 +9,7 @@ use Rattle.edd_image.specs.declared.records.Emitted.{Emitted}
 use Rattle.edd_image.specs.declared.records.Emitted.TheVariants as emitted
 use Rattle.edd_image.specs.Steps.{State, Environment, Effect, step}
 
--- ---- answers
-
--- why an answer can't be taken: it sets a variable that doesn't exist, or to a value out of its range
-pub data SetFault : Type 0 where
-  BadVariable : SetFault
-  OutOfRange : SetFault
-
-abbrev pub set_fault : Environment → Change → Option SetFault
-set_fault env set = elim (slice_get env.types set.variable.0) [
-  | None ↦ Some BadVariable
-  | Some t ↦ if is_in_range t set.value then None else Some OutOfRange
-]
-
--- the fault of the first set that has one
-abbrev pub sets_fault : Environment → List Change → Option SetFault
-sets_fault env [] = None
-sets_fault env (set ∷ rest) = elim (set_fault env set) [ Some fault ↦ Some fault | None ↦ sets_fault env rest ]
-
-abbrev pub answer_fault : Environment → Answer → Option SetFault
-answer_fault env (Go code sets) = sets_fault env sets
-answer_fault env Abort = None
-
--- the code is one of 32 bits, and each set names a variable and a value in its range
-abbrev pub IsValidAnswer : Environment → Answer → Type 0
-IsValidAnswer env (Go code sets) = FitsSigned w32 code × (sets_fault env sets ≡ None)
-IsValidAnswer env Abort = ⊤
-
--- the values after the sets, in their order
-abbrev pub values_set : List ℤ → List Change → List ℤ
-values_set values [] = values
-values_set values (set ∷ rest) = values_set (slice_set values set.variable.0 set.value) rest
+-- ---- an answer
 
 -- the event of an answer to a state that asks
 abbrev pub answered : State → Answer → Effect
@@ -93,7 +61,7 @@ after_answer e rest Abort = record { changes = e.changes; state = e.state; answe
 -- the request that stands is met by the next answer; an answer that can't be taken stays the next, and the request stands
 abbrev pub meet_request : Environment → State → List Answer → Meeting
 meet_request env s [] = nothing_met s [] (Some Waiting)
-meet_request env s (answer ∷ rest) = elim (answer_fault env answer) [
+meet_request env s (answer ∷ rest) = elim (answer_fault env.types answer) [
   | Some fault ↦ nothing_met s (answer ∷ rest) (Some (Bad fault))
   | None ↦ after_answer (answered s answer) rest answer
 ]

@@ -104,8 +104,8 @@ name_zero b row = number_at w16 b (row + 6)
 abbrev pub attribute_kind : List ℕ → ℕ → ℕ
 attribute_kind b row = slice_index b row
 
-abbrev pub attribute_attr : List ℕ → ℕ → ℕ
-attribute_attr b row = slice_index b (row + 1)
+abbrev pub attribute_number : List ℕ → ℕ → ℕ
+attribute_number b row = slice_index b (row + 1)
 
 abbrev pub attribute_item : List ℕ → ℕ → ℕ
 attribute_item b row = number_at w16 b (row + 2)

@@ -6,14 +6,14 @@ ghost use Rattle.edd_image.specs.Decoding.{instruction_at};
 ghost use Rattle.edd_image.specs.Layout.{Sections, AreSections, layout};
 ghost use Rattle.edd_image.specs.Contents.{contents_in, contents_of};
 ghost use Rattle.edd_image.specs.Validity.{code_limit, IsSound, IsValid};
-ghost use Rattle.edd_syntax.specs.Answers.{Answer};
+ghost use Rattle.edd_syntax.specs.Answers.{Answer, IsValidAnswer};
 ghost use Rattle.edd_syntax.specs.Words.{Words};
 ghost use Rattle.edd_image.specs.declared.records.Request.{Request};
 ghost use Rattle.edd_image.specs.declared.records.Status.TheVariants.{Asking};
 ghost use Rattle.edd_image.specs.declared.unit.Context.{Context};
 ghost use Rattle.edd_image.specs.Strings.{WordsFit, string_bytes, string_in};
 ghost use Rattle.edd_image.specs.Steps.{State, Environment, IsState};
-ghost use Rattle.edd_image.specs.Execution.{OutOfSteps, IsValidAnswer, answered, execute, resumed};
+ghost use Rattle.edd_image.specs.Execution.{OutOfSteps, answered, execute, resumed};
 ghost use Rattle.edd_image.specs.Spelling.{AreBytes, spelling, IsSpelled};
 
 /// An instruction that was spelled is read again, whatever stands around it.
@@ -52,6 +52,6 @@ pub fn written_strings_are_read()
 
 /// A valid answer to a state that asks gives a state again.
 pub fn answers_keep_the_state()
-    ensures { (context : Context) (env : Environment) (s : State) (r : Request) (answer : Answer) → IsState context env s → s.status ≡ Asking r → IsValidAnswer env answer
+    ensures { (context : Context) (env : Environment) (s : State) (r : Request) (answer : Answer) → IsState context env s → s.status ≡ Asking r → IsValidAnswer env.types answer
         → IsState context env (answered s answer).state }
 {}

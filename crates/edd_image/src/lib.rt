@@ -33,9 +33,9 @@ pub use numbers::{attr_of, item_of, type_of};
 pub use parts::{AttributeRow, Counts, NameRow, Parts, StringRow, VarKind};
 pub use records::{Emitted, Record, Request, Status};
 pub use rows::{
-    ATTRIBUTE_ROW, NAME_ROW, STRING_ROW, VARIABLE_ROW, attribute_attr, attribute_item,
-    attribute_kind, attribute_length, attribute_start, attribute_sub, attribute_zero, name_length,
-    name_start, name_zero, string_length, string_start, variable_size, variable_type,
+    ATTRIBUTE_ROW, NAME_ROW, STRING_ROW, VARIABLE_ROW, attribute_item, attribute_kind,
+    attribute_length, attribute_number, attribute_start, attribute_sub, attribute_zero,
+    name_length, name_start, name_zero, string_length, string_start, variable_size, variable_type,
     variable_zero,
 };
 pub use rules::{Rule, UnitRule};

@@ -1,7 +1,7 @@
 //! The fields of a row. `row` is the place of its first byte.
 
 ghost use Rattle.std.specs.Prelude.{◌≡◌, ◌+◌, ◌≤◌, length};
-ghost use Rattle.edd_image.specs.Fields.{variable_type, variable_size, variable_zero, name_start, name_length, name_zero, attribute_kind, attribute_attr, attribute_item, attribute_sub, attribute_zero, attribute_start, attribute_length, string_start, string_length};
+ghost use Rattle.edd_image.specs.Fields.{variable_type, variable_size, variable_zero, name_start, name_length, name_zero, attribute_kind, attribute_number, attribute_item, attribute_sub, attribute_zero, attribute_start, attribute_length, string_start, string_length};
 
 use crate::fields::{u8_at, u16_at, u32_at};
 
@@ -74,9 +74,9 @@ pub fn attribute_kind(bytes: &[u8], row: usize) -> u8
 }
 
 /// The number of the attribute.
-pub fn attribute_attr(bytes: &[u8], row: usize) -> u8
+pub fn attribute_number(bytes: &[u8], row: usize) -> u8
     requires { row + ATTRIBUTE_ROW ≤ length bytes.now }
-    ensures { result ≡ attribute_attr bytes.now row }
+    ensures { result ≡ attribute_number bytes.now row }
 {
     u8_at(bytes, row + 1)
 }

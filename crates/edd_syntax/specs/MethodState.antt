@@ -1,5 +1,5 @@
 -- The state of a method, what it asks of its host, what the host answers, and actions on the state.
-use Rattle.std.specs.Prelude.{◌<◌, ◌^◌, ℤ, pos, neg_ℤ, ◌-ℤ◌, ◌≤ℤ◌, List, [], ◌∷◌, ◌++◌, length, All, slice_index_or, slice_set, Result, Ok, Err}
+use Rattle.std.specs.Prelude.{ℤ, pos, List, [], ◌∷◌, ◌++◌, slice_index_or, slice_set, Result, Ok, Err}
 use Rattle.edd_syntax.specs.declared.numbers.VarNo.{VarNo}
 use Rattle.edd_syntax.specs.declared.numbers.ItemNo.{ItemNo}
 use Rattle.edd_syntax.specs.declared.numbers.ItemNo.TheVariants as item_no
@@ -8,7 +8,7 @@ use Rattle.edd_syntax.specs.Reference.{Target, Local, Item, Function}
 use Rattle.edd_syntax.specs.TwosComplement.{wrap, store}
 use Rattle.edd_syntax.specs.Words.{Words}
 use Rattle.edd_syntax.specs.Answers.{Change, Answer, Go, Abort}
-use Rattle.edd_syntax.specs.DeviceValues.{IsInRange, value_at}
+use Rattle.edd_syntax.specs.DeviceValues.{value_at}
 use Rattle.edd_syntax.specs.Device.{Environment, type_of_variable}
 
 -- what a method asks of its host
@@ -21,15 +21,6 @@ pub data Request : Type 0 where
   SendCommand : (number : ℤ) → Request
   SendCommandTrans : (number transaction : ℤ) → Request
   SaveValues : Request
-
--- an existing variable, and a value in its range
-abbrev pub IsValidSet : Environment → Change → Type 0
-IsValidSet env set = (set.variable.0 < length env.variables) × IsInRange (type_of_variable env set.variable) set.value
-
--- an answer that a host may give: its code has 32 bits, and each of its sets is valid
-abbrev pub IsValidAnswer : Environment → Answer → Type 0
-IsValidAnswer env (Go code sets) = (neg_ℤ (pos (2 ^ 31)) ≤ℤ code) × (code ≤ℤ (pos (2 ^ 31) -ℤ pos 1)) × All (IsValidSet env) sets
-IsValidAnswer env Abort = Unit {0}
 
 pub record State : Type 0 where
   -- the values of the locals
