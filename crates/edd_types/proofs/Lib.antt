@@ -1,3 +1,4 @@
 pub mod FirstLaws
 pub mod Splits
+pub mod TypeBreaches
 pub mod ValueBreaches

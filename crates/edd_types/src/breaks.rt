@@ -35,13 +35,7 @@ pub fn check_breaks(s: &Stmt<Target>, in_loop: bool, in_switch: bool) -> Result<
                 Err(*line)
             }
         }
-        Stmt::Continue { line } => {
-            if in_loop {
-                Ok(())
-            } else {
-                Err(*line)
-            }
-        }
+        Stmt::Continue { line } => { if in_loop { Ok(()) } else { Err(*line) } }
     }
 }
 

@@ -47,7 +47,11 @@ fn check_cond(c: &Cond<Target, DataItem<Target>>) -> Result<(), u32>
 {
     match c {
         Cond::Value(item) => check_item(item),
-        Cond::If { first, otherwise, .. } => {
+        Cond::If {
+            first,
+            otherwise,
+            ..
+        } => {
             check_data(first)?;
             check_data(otherwise)
         }

@@ -5,3 +5,4 @@ mod breaks;
 mod constants;
 mod decimals;
 pub mod fault;
+mod types;
