@@ -1,3 +1,4 @@
+pub mod Arguments
 pub mod FirstLaws
 pub mod Splits
 pub mod TypeBreaches

@@ -2,6 +2,7 @@
 #![tactic(auto)]
 
 mod breaks;
+mod calls;
 mod constants;
 mod decimals;
 pub mod fault;

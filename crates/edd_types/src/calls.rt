@@ -1,0 +1,183 @@
+//! Calls of builtin functions.
+
+ghost use Rattle.std.specs.Prelude.{◌≡◌, [], ◌∷◌, map, if◌then◌else◌, Some, None};
+ghost use Rattle.edd_syntax.specs.Expression.{arguments_from};
+ghost use Rattle.edd_syntax.specs.TreeView.{expr_of, argument_of};
+ghost use Rattle.edd_syntax.specs.SubsetRules as rules;
+ghost use Rattle.edd_syntax.specs.SubsetRules.{all_fit, parameters, is_abort, call_breaches, call_mismatches, argument_mismatches};
+ghost use Rattle.edd_syntax.specs.Refusal.{first_of, Mismatch};
+ghost use Rattle.edd_types.specs.Found.{found};
+ghost use Rattle.edd_types.specs.Parameters.{parameter_of};
+
+use edd_syntax::expr::{Argument, Expr};
+use edd_syntax::numbers::ItemNo;
+use edd_syntax::operators::Builtin;
+use edd_syntax::reference::Target;
+
+fn is_text(argument: &Argument<Target>) -> bool
+    ensures { result ≡ rules.is_text (argument_of (λ r. r) argument.now) }
+{
+    match argument {
+        Argument::Text(_) => true,
+        Argument::Value(_) => false,
+    }
+}
+
+fn is_device_variable(argument: &Argument<Target>) -> bool
+    ensures { result ≡ rules.is_device_variable (argument_of (λ r. r) argument.now) }
+{
+    match argument {
+        Argument::Value(Expr::Reference(Target::Item(ItemNo::Variable(_)))) => true,
+        _ => false,
+    }
+}
+
+// What a function takes in a place.
+#[derive(Clone, Copy)]
+enum Parameter {
+    Text,
+    Number,
+    DeviceVariable,
+}
+
+fn fits(parameter: Parameter, argument: &Argument<Target>) -> bool
+    ensures { result ≡ rules.fits (parameter_of parameter) (argument_of (λ r. r) argument.now) }
+{
+    match parameter {
+        Parameter::Text => is_text(argument),
+        Parameter::Number => !is_text(argument),
+        Parameter::DeviceVariable => is_device_variable(argument),
+    }
+}
+
+#[tactic(auto, using(crate::proofs::Arguments::some_are_not_none))]
+fn are_none(arguments: &[Argument<Target>]) -> bool
+    ensures { result ≡ all_fit [] (arguments_from (map (argument_of (λ r. r)) arguments.now)) }
+{
+    match arguments {
+        [] => true,
+        [_, ..] => false,
+    }
+}
+
+#[tactic(auto, using(crate::proofs::Arguments::not_one))]
+fn is_one(first: Parameter, arguments: &[Argument<Target>]) -> bool
+    ensures { result ≡ all_fit (parameter_of first ∷ []) (arguments_from (map (argument_of (λ r. r)) arguments.now)) }
+{
+    match arguments {
+        [only] => fits(first, only),
+        _ => false,
+    }
+}
+
+#[tactic(auto, using(crate::proofs::Arguments::not_two))]
+fn are_two(first: Parameter, second: Parameter, arguments: &[Argument<Target>]) -> bool
+    ensures { result ≡ all_fit (parameter_of first ∷ parameter_of second ∷ []) (arguments_from (map (argument_of (λ r. r)) arguments.now)) }
+{
+    match arguments {
+        [one, other] => fits(first, one) && fits(second, other),
+        _ => false,
+    }
+}
+
+// The arguments are such as the function takes, in number and kind.
+fn all_fit(function: Builtin, arguments: &[Argument<Target>]) -> bool
+    ensures { result ≡ all_fit (parameters function) (arguments_from (map (argument_of (λ r. r)) arguments.now)) }
+{
+    use Parameter::{DeviceVariable, Number, Text};
+    match function {
+        Builtin::PutMessage | Builtin::Acknowledge => is_one(Text, arguments),
+        Builtin::Delay => are_two(Number, Text, arguments),
+        Builtin::GetDevVarValue => are_two(Text, DeviceVariable, arguments),
+        Builtin::SelectFromList => are_two(Text, Text, arguments),
+        Builtin::SendCommand => is_one(Number, arguments),
+        Builtin::SendCommandTrans => are_two(Number, Number, arguments),
+        Builtin::IvarValue | Builtin::LvarValue => is_one(DeviceVariable, arguments),
+        Builtin::Iassign | Builtin::Lassign => are_two(DeviceVariable, Number, arguments),
+        Builtin::SaveValues | Builtin::Abort | Builtin::ProcessAbort => are_none(arguments),
+    }
+}
+
+// An abort is a statement of its own.
+fn is_call(function: Target, arguments: &[Argument<Target>], is_statement: bool) -> bool
+    ensures { first_of (call_breaches is_statement function (arguments_from (map (argument_of (λ r. r)) arguments.now)))
+        ≡ (if result then None else Some Mismatch) }
+{
+    match function {
+        Target::Function(f) => {
+            let is_abort = matches!(f, Builtin::Abort | Builtin::ProcessAbort);
+            all_fit(f, arguments) && (is_statement || !is_abort)
+        }
+        Target::Local(_) | Target::Item(_) => false,
+    }
+}
+
+/// The line of the first call with arguments that its function does not take, or of an abort inside an expression.
+#[cycle(calls)]
+#[tactic(auto, using(crate::proofs::FirstLaws::firsts))]
+pub fn check_calls(e: &Expr<Target>, is_statement: bool) -> Result<(), u32>
+    ensures { found Mismatch result ≡ first_of (call_mismatches is_statement (expr_of (λ r. r) e.now)) }
+{
+    match e {
+        Expr::Literal(_) | Expr::Decimal { .. } | Expr::Reference(_) | Expr::Increment(_, _) => {
+            Ok(())
+        }
+        Expr::Parentheses(inner) => check_calls(inner, false),
+        Expr::Unary(_, inner) => check_calls(inner, false),
+        Expr::Binary(_, a, b) => {
+            check_calls(a, false)?;
+            check_calls(b, false)
+        }
+        Expr::Compare(_, a, b) => {
+            check_calls(a, false)?;
+            check_calls(b, false)
+        }
+        Expr::LogicalAnd(a, b) => {
+            check_calls(a, false)?;
+            check_calls(b, false)
+        }
+        Expr::LogicalOr(a, b) => {
+            check_calls(a, false)?;
+            check_calls(b, false)
+        }
+        Expr::Conditional(test, a, b) => {
+            check_calls(test, false)?;
+            check_calls(a, false)?;
+            check_calls(b, false)
+        }
+        Expr::Assign(_, value) => check_calls(value, false),
+        Expr::CompoundAssign(_, _, value) => check_calls(value, false),
+        Expr::Call {
+            line,
+            function,
+            arguments,
+        } => {
+            if !is_call(*function, arguments, is_statement) {
+                return Err(*line);
+            }
+            check_arguments(arguments)
+        }
+    }
+}
+
+#[cycle(calls)]
+#[tactic(auto, using(crate::proofs::FirstLaws::firsts))]
+fn check_arguments(arguments: &[Argument<Target>]) -> Result<(), u32>
+    ensures { found Mismatch result ≡ first_of (argument_mismatches (arguments_from (map (argument_of (λ r. r)) arguments.now))) }
+{
+    for argument in arguments {
+        check_argument(argument)?;
+    }
+    Ok(())
+}
+
+#[cycle(calls)]
+#[tactic(auto, using(crate::proofs::FirstLaws::firsts))]
+fn check_argument(argument: &Argument<Target>) -> Result<(), u32>
+    ensures { found Mismatch result ≡ first_of (argument_mismatches (arguments_from (argument_of (λ r. r) argument.now ∷ []))) }
+{
+    match argument {
+        Argument::Text(_) => Ok(()),
+        Argument::Value(e) => check_calls(e, false),
+    }
+}
