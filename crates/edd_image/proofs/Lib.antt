@@ -4,9 +4,13 @@ pub mod LayoutFields
 pub mod LayoutRows
 pub mod LayoutValid
 pub mod Lengths
+pub mod NextStates
+pub mod Progress
 pub mod ReadIsSpelled
 pub mod Readings
 pub mod Spelled
 pub mod StringsRead
+pub mod UniqueReadings
+pub mod Widths
 pub mod WorkedEdits
 pub mod WorkedImages

@@ -19,7 +19,7 @@ use Rattle.edd_image.specs.declared.records.Emitted.TheVariants as emitted
 use Rattle.edd_image.specs.References.{item_exists}
 use Rattle.edd_image.specs.Contents.{part, VariableFields, AttributeFields, Contents, contents_in}
 use Rattle.edd_image.specs.Validity.{type_of, is_of_transaction, sort_of, slots_of}
-use Rattle.edd_image.specs.Steps.{State, Environment, opening, step}
+use Rattle.edd_image.specs.Steps.{Effect, State, Environment, opening, step}
 
 -- ---- the rows of an image
 
@@ -61,13 +61,15 @@ with_record (emitted.Record r) (Ok rest) = Ok (r ∷ rest)
 with_record (emitted.Record r) (Err why) = Err why
 with_record (emitted.Request r) given = given
 
+-- what comes of a step and of what is behind it; a state without a step is at the end
+abbrev pub given_by : Option Effect → Status → (Effect → Option (Result (List Record) Trap)) → Option (Result (List Record) Trap)
+given_by None status behind = at_end status
+given_by (Some e) status behind = option_map (with_record e.emitted) (behind e)
+
 -- what at most n steps emit up to the end of the unit, or the trap that ends it; nothing where they don't come to the end
 unfoldable pub given_within : (n : ℕ) → Environment → State → Option (Result (List Record) Trap)
 given_within zero env s = at_end s.status
-given_within (suc n) env s = elim (step env s) [
-  | None ↦ at_end s.status
-  | Some e ↦ option_map (with_record e.emitted) (given_within n env e.state)
-]
+given_within (suc n) env s = given_by (step env s) s.status (λ e. given_within n env e.state)
 
 -- ---- what is read of an attribute
 

@@ -1,18 +1,22 @@
 //! Laws of the definitions, for the crates above.
 
-ghost use Rattle.std.specs.Prelude.{◌≡◌, ℕ, ◌+◌, ◌≤◌, List, ◌++◌, length, drop, Some};
+ghost use Rattle.std.specs.Prelude.{◌≡◌, ℕ, ℤ, ◌+◌, ◌≤◌, List, ◌++◌, length, drop, Some};
 ghost use Rattle.edd_image.specs.declared.instruction.Instruction.{Instruction};
 ghost use Rattle.edd_image.specs.Decoding.{instruction_at};
 ghost use Rattle.edd_image.specs.Layout.{Sections, AreSections, layout};
 ghost use Rattle.edd_image.specs.Contents.{contents_in, contents_of};
+ghost use Rattle.edd_image.specs.Units.{IsValidUnit};
 ghost use Rattle.edd_image.specs.Validity.{code_limit, IsSound, IsValid};
 ghost use Rattle.edd_syntax.specs.Answers.{Answer, IsValidAnswer};
+ghost use Rattle.edd_syntax.specs.declared.numbers.AttrRef.{AttrRef};
+ghost use Rattle.edd_syntax.specs.DeviceValues.{AreDeviceValues};
+ghost use Rattle.edd_image.specs.Reading.{Reading, IsReading};
 ghost use Rattle.edd_syntax.specs.Words.{Words};
 ghost use Rattle.edd_image.specs.declared.records.Request.{Request};
-ghost use Rattle.edd_image.specs.declared.records.Status.TheVariants.{Asking};
+ghost use Rattle.edd_image.specs.declared.records.Status.TheVariants.{Running, Asking};
 ghost use Rattle.edd_image.specs.declared.unit.Context.{Context};
 ghost use Rattle.edd_image.specs.Strings.{WordsFit, string_bytes, string_in};
-ghost use Rattle.edd_image.specs.Steps.{State, Environment, IsState};
+ghost use Rattle.edd_image.specs.Steps.{State, Environment, Effect, IsState, opening, step};
 ghost use Rattle.edd_image.specs.Execution.{OutOfSteps, answered, execute, resumed};
 ghost use Rattle.edd_image.specs.Spelling.{AreBytes, spelling, IsSpelled};
 
@@ -54,4 +58,21 @@ pub fn written_strings_are_read()
 pub fn answers_keep_the_state()
     ensures { (context : Context) (env : Environment) (s : State) (r : Request) (answer : Answer) → IsState context env s → s.status ≡ Asking r → IsValidAnswer env.types answer
         → IsState context env (answered s answer).state }
+{}
+
+/// A running state of a valid unit has a step, and what it comes to is a state again.
+pub fn steps_keep_the_state()
+    ensures { (context : Context) (env : Environment) (s : State) → IsValidUnit context s.unit.code → IsState context env s → s.status ≡ Running
+        → (e : Effect) × (step env s ≡ Some e) × IsState context env e.state }
+{}
+
+/// A valid unit opens in a state: at its first byte, with no operands and slots of 0.
+pub fn openings_are_states()
+    ensures { (context : Context) (env : Environment) (code : List ℕ) (values : List ℤ) → IsValidUnit context code → length env.types ≡ context.counts.variables → AreDeviceValues env.types values
+        → IsState context env (opening (record { sort = context.sort; code = code }) context.slots values) }
+{}
+
+/// One thing is read of an attribute under the same values.
+pub fn readings_are_unique()
+    ensures { (b : List ℕ) (ref : AttrRef) (values : List ℤ) (r q : Reading) → IsReading b ref values r → IsReading b ref values q → r ≡ q }
 {}

@@ -254,7 +254,7 @@ pub fn write(alloc: Global, parts: &Parts) -> Result<Vec<u8>, WriteFault>
     if parts.code.len() > CODE_LIMIT {
         return Err(WriteFault::CodeTooLong);
     }
-    let mut bytes = Vec::new(alloc);
+    let mut bytes = Vec::with_capacity(alloc, layout_length(parts) as usize)?;
     put_sections(&mut bytes, parts)?;
     Ok(bytes)
 }

@@ -8,7 +8,8 @@ use Rattle.edd_lexer.specs.declared.fault.LexFault.TheVariants as refused
 use Rattle.edd_lexer.specs.Tokens.{Lexeme, AreTokens, text_limit}
 use Rattle.edd_lexer.specs.Faults.{Fault, LexicalFault}
 use Rattle.edd_lexer.specs.Reading.{tokens_of}
-use Rattle.edd_lexer.specs.Views.{lexeme_of, fault_of, Gives, Answers}
+use Rattle.edd_lexer.specs.Views.{lexeme_of, fault_of, Answers}
+use Rattle.edd_lexer.specs.Parts.{Gives}
 use Rattle.edd_lexer.proofs.Texts.{tokens_sound, fault_sound, one_list, no_list, one_fault}
 
 abbrev Answer : Type 0

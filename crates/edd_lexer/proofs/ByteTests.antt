@@ -32,9 +32,6 @@ same_byte b c e = grind arith
 pub other_byte : (b c : ℕ) → b ≢ c → (b == c) ≡ false
 other_byte b c n = grind arith
 
-pub not_zero : (n : ℕ) → (n == 0) ≡ false → 0 < n
-not_zero n e = grind arith
-
 pub le_is : (a b : ℕ) → nat_le a b ≡ true → a ≤ b
 le_is a b e = grind arith
 
@@ -92,9 +89,6 @@ exponent_no_hex_letter b e = grind arith
 
 pub exponent_no_digit : (b : ℕ) → is_exponent_letter b ≡ true → (is_ascii_digit b ≡ false) × ((b == 46) ≡ false)
 exponent_no_digit b e = (grind arith, grind arith)
-
-pub sign_no_digit : (b : ℕ) → is_sign b ≡ true → is_ascii_digit b ≡ false
-sign_no_digit b e = grind arith
 
 pub digit_no_sign : (b : ℕ) → is_ascii_digit b ≡ true → is_sign b ≡ false
 digit_no_sign b e = grind arith

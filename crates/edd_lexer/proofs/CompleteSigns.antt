@@ -10,12 +10,9 @@ use Rattle.edd_lexer.specs.Bytes.{begins}
 use Rattle.edd_lexer.specs.Signs.{operator_bytes, symbol_bytes, lengthens_operator, lengthens}
 use Rattle.edd_lexer.specs.Gaps.{Gap, blank, line_comment, block_comment, mark, behind_close}
 use Rattle.edd_lexer.specs.Tokens.{Stands, word, integer, decimal, string, sign}
-use Rattle.edd_lexer.specs.Reading.{token, gap, next_is, assigned, operator_at, single_symbol, symbol_at, slash_at, step_at, comment_to, block_comment_at, hash_at}
+use Rattle.edd_lexer.specs.Reading.{token, gap, operator_at, single_symbol, symbol_at, slash_at, step_at, comment_to, block_comment_at, hash_at}
 use Rattle.edd_lexer.proofs.ByteTests.{neither_parts}
 use Rattle.edd_lexer.proofs.Complete.{word_again, integer_token_again, decimal_again, string_token_again}
-
-assigned_alone : (o : Operator) (rest : List ℕ) → next_is 61 rest ≡ false → assigned o rest ≡ token (Sign (symbol.Operator o)) rest
-assigned_alone o rest e = rw e refl
 
 -- a sign is its own first step
 operator_again : (fresh : Bool) (o : Operator) (rest : List ℕ) → begins (lengthens_operator o) rest ≡ false → step_at fresh (operator_bytes o ++ rest) ≡ token (Sign (symbol.Operator o)) rest

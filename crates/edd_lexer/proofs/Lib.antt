@@ -15,3 +15,4 @@ pub mod LineWord
 pub mod Steps
 pub mod Loop
 pub mod Answered
+pub mod Keeping

@@ -1,18 +1,20 @@
 -- Reading one step after the other, as the loop does.
-use Rattle.std.proofs.Common.{◌≡◌, ℕ, ◌+◌, ◌-◌, ◌≤◌, ◌<◌, Bool, true, false, cond, ◌&&◌, ◌==◌, List, [], ◌∷◌, ◌++◌, take, drop, length, Option, Some, Result, Ok, Err, refl, sym, ap, ◌∙◌, append_assoc, length-append, length-take, length-drop, arith}
-use Rattle.std.specs.Prelude.{bytes_eq, slice_range}
+use Rattle.std.proofs.Common.{◌≡◌, ℕ, ◌+◌, ◌-◌, ◌≤◌, ◌<◌, Bool, true, false, cond, ◌&&◌, ◌||◌, ◌==◌, List, [], ◌∷◌, ◌++◌, take, drop, length, Option, Some, Result, Ok, Err, refl, sym, ap, ◌∙◌, append_assoc, length-append, length-take, length-drop, arith}
+use Rattle.std.specs.Prelude.{bytes_eq, slice_range, slice_index}
 use Rattle.std.proofs.lemmas.List.{append-nil, drop_at, drop-drop}
 use Rattle.std.proofs.lemmas.Slice.Eq.{bytes_eq-Decides}
 use Rattle.edd_syntax.specs.Token.{Token}
 use Rattle.edd_lexer.specs.declared.token.TokenKind.{TokenKind}
-use Rattle.edd_lexer.specs.Bytes.{begins, front, in_line}
+use Rattle.edd_lexer.proofs.CompleteSigns.{gap_again}
+use Rattle.edd_lexer.specs.Bytes.{is_blank, is_line_end, begins, front, in_line}
 use Rattle.edd_lexer.specs.Strings.{quote}
 use Rattle.edd_lexer.specs.Gaps.{Gap, blank, line_comment, block_comment, mark, behind_close}
 use Rattle.edd_lexer.specs.Tokens.{Lexeme, Stands, word, integer, decimal, string, sign, behind_byte_order_mark}
 use Rattle.edd_lexer.specs.Signs.{symbol_bytes}
 use Rattle.edd_lexer.specs.Faults.{Fault}
 use Rattle.edd_lexer.specs.Reading.{Step, token, gap, wrong, step_at, with_first, after_step, tokens_of}
-use Rattle.edd_lexer.specs.Views.{token_of, Follows, Leads}
+use Rattle.edd_lexer.specs.Views.{token_of}
+use Rattle.edd_lexer.specs.Parts.{Follows, Leads}
 use Rattle.edd_lexer.proofs.Runs.{both, front_behind}
 use Rattle.edd_lexer.proofs.ByteTests.{next_here}
 use Rattle.edd_lexer.proofs.Sound.{Right}
@@ -106,6 +108,22 @@ start_left text = go (bytes_eq (take 3 text) (239 ∷ 187 ∷ 191 ∷ [])) refl
 pub on_gap : (before : List Lexeme) (total : ℕ) (fresh : Bool) (here : List ℕ) (next : Bool) (rest : List ℕ) → 0 < length here → step_at fresh here ≡ gap next rest
     → with_front before (tokens_from total fresh here) ≡ with_front before (tokens_from total next rest)
 on_gap before total fresh here next rest some e = ap (with_front before) (rw (tokens_step total fresh here some, e) refl)
+
+-- a blank
+pub on_blank : (before : List Lexeme) (total : ℕ) (fresh : Bool) (here : List ℕ) → 0 < length here → is_blank (slice_index here 0) ≡ true
+    → with_front before (tokens_from total fresh here) ≡ with_front before (tokens_from total (fresh || is_line_end (slice_index here 0)) (drop 1 here))
+on_blank before total fresh [] some is = absurd (omega arith)
+on_blank before total fresh (b ∷ rest) some is =
+    on_gap before total fresh (b ∷ rest) (fresh || is_line_end b) rest some (gap_again fresh (b ∷ rest) (fresh || is_line_end b) rest (blank is))
+
+-- one byte less
+follows_first : (here : List ℕ) → 0 < length here → Follows here (drop 1 here)
+follows_first [] some = absurd (omega arith)
+follows_first (b ∷ rest) some = record { shorter = omega arith; is_end = left (b ∷ rest) (b ∷ []) rest refl }
+
+pub behind_first : (text here : List ℕ) → here ≡ drop (length text - length here) text → length here ≤ length text → 0 < length here
+    → drop 1 here ≡ drop (length text - length (drop 1 here)) text
+behind_first text here e le some = end_of_end text here (drop 1 here) e le (follows_first here some)
 
 pub on_wrong : (before : List Lexeme) (total : ℕ) (fresh : Bool) (here : List ℕ) (fault : Fault) → 0 < length here → step_at fresh here ≡ wrong fault
     → with_front before (tokens_from total fresh here) ≡ Err fault

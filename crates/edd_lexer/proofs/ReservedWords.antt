@@ -343,11 +343,11 @@ of_found word None = Identifier word
 of_found word (Some e) = Reserved e.1
 
 -- what the table finds is spelled so, or the word is a name
-Tokened : List ℕ → Token → Type 0
+abbrev pub Tokened : List ℕ → Token → Type 0
 Tokened word t = ((k : Keyword) × (t ≡ Reserved k) × (word ≡ spelling k)) ⊎ (t ≡ Identifier word)
 
 tokened : (word : List ℕ) (table : List (Name × Keyword)) → AllSpelled table → Tokened word (of_found word (find (λ e. bytes_eq e.0 word) table))
-unfolding AllSpelled Tokened
+unfolding AllSpelled
 tokened word [] all = inr refl
 tokened word (e ∷ table) all = go (bytes_eq e.0 word) refl (tokened word table all.1)
   where
@@ -356,7 +356,7 @@ tokened word (e ∷ table) all = go (bytes_eq e.0 word) refl (tokened word table
     go true f more = inl (e.1, refl, sym (same_bytes e.0 word f) ∙ all.0)
     go false f more = more
 
-word_tokened : (word : List ℕ) → Tokened word (word_token word)
+pub word_tokened : (word : List ℕ) → Tokened word (word_token word)
 word_tokened word = tokened word keywords table_spelled
 
 -- the token of a word, by the reserved word that it is
@@ -366,7 +366,7 @@ of_keyword word (Some k) = Reserved k
 
 -- the words by their length give the table's tokens
 pub token_by_length : (word : List ℕ) → of_keyword word (keyword_by_length word) ≡ word_token word
-unfolding Spelled Tokened
+unfolding Spelled
 token_by_length word = go (keyword_by_length word) refl (by_length_spelled word) (word_tokened word)
   where
     go : (o : Option Keyword) → keyword_by_length word ≡ o → Spelled word o → Tokened word (word_token word) → of_keyword word o ≡ word_token word

@@ -56,10 +56,6 @@ module _ (test : ℕ → Bool) where
   some_front [] e f = absurd cc
   some_front (b ∷ here) e f = absurd (let g : b ∷ front test here ≡ [] = rw e at f in cc)
 
-  pub no_front : (here : List ℕ) → begins test here ≡ false → front test here ≡ []
-  no_front [] e = refl
-  no_front (b ∷ here) e = rw e refl
-
   pub no_behind : (here : List ℕ) → begins test here ≡ false → behind test here ≡ here
   no_behind [] e = refl
   no_behind (b ∷ here) e = rw e refl

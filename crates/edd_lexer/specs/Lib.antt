@@ -7,5 +7,7 @@ pub mod Tokens
 pub mod Faults
 pub mod Reading
 pub mod Keywords
+pub mod Kept
 pub mod Views
+pub mod Parts
 pub mod Worked

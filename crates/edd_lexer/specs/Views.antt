@@ -1,23 +1,14 @@
--- What the values of the lexer stand for.
-use Rattle.std.specs.Prelude.{◌≡◌, ◌<◌, ℕ, ◌-◌, Bool, List, length, take, drop, option_map, slice_range, map, Option, Some, None, IfSome, Result, Ok, Err, Vec}
+-- What the lexer's tokens, refusals and answers stand for.
+use Rattle.std.specs.Prelude.{ℕ, ◌-◌, List, length, slice_range, map, Option, Some, None, IfSome, Result, Ok, Err, Vec}
 use Rattle.std.specs.declared.alloc.Global.{Global}
-use Rattle.std.specs.Borrow.{Bor}
-use Rattle.edd_syntax.specs.declared.symbols.Symbol.{Symbol}
 use Rattle.edd_syntax.specs.Token as pure
 use Rattle.edd_lexer.specs.declared.token.TokenKind.{TokenKind}
 use Rattle.edd_lexer.specs.declared.token.TokenKind.TheVariants as kind
 use Rattle.edd_lexer.specs.declared.token.Token.{Token}
-use Rattle.edd_lexer.specs.declared.fault.Fault.{Fault}
 use Rattle.edd_lexer.specs.declared.fault.LexFault.{LexFault}
 use Rattle.edd_lexer.specs.declared.fault.LexFault.TheVariants as refused
-use Rattle.edd_lexer.specs.declared.numbers.Number.{Number}
-use Rattle.edd_lexer.specs.declared.numbers.Number.TheVariants as number
-use Rattle.edd_lexer.specs.declared.lexer.Step.{Step}
-use Rattle.edd_lexer.specs.declared.lexer.Step.TheVariants as code
-use Rattle.edd_lexer.specs.declared.strings.StringEnd.{StringEnd}
 use Rattle.edd_lexer.specs.Tokens.{Lexeme, AreTokens}
-use Rattle.edd_lexer.specs.Faults.{LexicalFault, TooLong, NotUtf8, BadCharacter, OpenComment, OpenString, BadEscape, BadNumber, Directive}
-use Rattle.edd_lexer.specs.Reading as reading
+use Rattle.edd_lexer.specs.Faults.{Fault, LexicalFault, TooLong, NotUtf8, BadCharacter, OpenComment, OpenString, BadEscape, BadNumber, Directive}
 
 -- a token of this kind, by its bytes: a name by all of them, a string by those between its quotes
 abbrev pub token_of : TokenKind → List ℕ → pure.Token
@@ -43,49 +34,6 @@ fault_of (refused.BadEscape line) = Some BadEscape
 fault_of (refused.BadNumber line) = Some BadNumber
 fault_of (refused.Directive line) = Some Directive
 fault_of refused.Memory = None
-
--- ---- what the parts of the lexer answer
-
-abbrev pub rest_of : Option (Bor (List ℕ)) → Option (List ℕ)
-rest_of o = option_map (λ s. s.now) o
-
-abbrev pub number_of : Number → reading.Step
-number_of (number.Integer n rest) = reading.token (pure.Integer n) rest.now
-number_of (number.Decimal rest) = reading.token pure.Decimal rest.now
-number_of number.Bad = reading.wrong BadNumber
-
-abbrev pub end_of : Option StringEnd → Option (Bool × List ℕ)
-end_of o = option_map (λ e. (e.good, e.rest.now)) o
-
-abbrev pub close_of : Option (ℕ × Bor (List ℕ)) → Option (List ℕ)
-close_of o = option_map (λ e. e.1.now) o
-
-abbrev pub sign_of : Option (Symbol × Bor (List ℕ)) → reading.Step
-sign_of None = reading.wrong BadCharacter
-sign_of (Some s) = reading.token (pure.Sign s.0) s.1.now
-
-abbrev pub step_of : List ℕ → Step → reading.Step
-step_of here (code.Token k lines rest) = reading.token (token_of k (take (length here - length rest.now) here)) rest.now
-step_of here (code.Gap fresh lines rest) = reading.gap fresh rest.now
-step_of here (code.Wrong fault) = reading.wrong fault
-
--- `rest` is a shorter end of `here`
-pub record Follows (here rest : List ℕ) : Type 0 where
-  pub shorter : length rest < length here
-  pub is_end : rest ≡ drop (length here - length rest) here
-
--- what stands behind a step is a shorter end of what stands here
-abbrev pub Leads : List ℕ → reading.Step → Type 0
-Leads here (reading.token t rest) = Follows here rest
-Leads here (reading.gap fresh rest) = Follows here rest
-Leads here (reading.wrong fault) = Unit {0}
-
--- ---- what the lexer answers of a text
-
--- the answer is what reading gives, unless memory ran out
-abbrev pub Gives : List ℕ → Result (Vec Token Global) LexFault → Result (List Lexeme) Fault → Type 0
-Gives text (Ok list) read = read ≡ Ok (map (lexeme_of text) list.items)
-Gives text (Err e) read = IfSome (fault_of e) (λ fault. read ≡ Err fault)
 
 -- the answer is the text's tokens or its fault, unless memory ran out
 abbrev pub Answers : List ℕ → Result (Vec Token Global) LexFault → Type 0

@@ -1,6 +1,6 @@
 //! Bytes by what they may stand for, and runs of them.
 
-ghost use Rattle.std.specs.Prelude.{◌≡◌, ◌≤◌, length};
+ghost use Rattle.std.specs.Prelude.{◌≡◌, ◌<◌, ◌≤◌, drop, length};
 ghost use Rattle.std.specs.Char.{is_ascii_digit, is_ascii_hexdigit};
 ghost use Rattle.edd_syntax.specs.Names as names;
 ghost use Rattle.edd_lexer.specs.Bytes as bytes;
@@ -36,6 +36,14 @@ pub fn goes_on_number(b: u8) -> bool
     ensures { result ≡ bytes.goes_on_number b }
 {
     goes_on_name(b) || b == b'.'
+}
+
+/// What stands behind the first byte.
+pub fn behind_byte(text: &[u8]) -> &[u8]
+    requires { 0 < length text.now }
+    ensures { result.now ≡ drop 1 text.now }
+{
+    &text[1..]
 }
 
 /// What stands behind the name at the front.

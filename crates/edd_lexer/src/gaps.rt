@@ -2,7 +2,7 @@
 
 ghost use Rattle.std.specs.Prelude.{◌≡◌};
 ghost use Rattle.edd_lexer.specs.Gaps as gaps;
-ghost use Rattle.edd_lexer.specs.Views.{close_of};
+ghost use Rattle.edd_lexer.specs.Parts.{close_of};
 
 use crate::bytes::{begins_digit, behind_line_blanks, is_blank, lines_after, next_is};
 

@@ -1,6 +1,7 @@
 //! Laws of the definitions, and worked texts.
 
-ghost use Rattle.std.specs.Prelude.{◌≡◌, ℕ, List};
+ghost use Rattle.std.specs.Prelude.{◌≡◌, ℕ, List, All};
+ghost use Rattle.edd_lexer.specs.Kept.{IsLexeme};
 ghost use Rattle.edd_lexer.specs.Tokens.{Lexeme, AreTokens};
 ghost use Rattle.edd_lexer.specs.Faults.{Fault, LexicalFault};
 ghost use Rattle.edd_lexer.specs.Worked.{HexExample, NumberExample, EscapeExample, DirectiveExample};
@@ -10,6 +11,11 @@ pub fn one_reading()
     ensures one_list { (text : List ℕ) (tokens others : List Lexeme) → AreTokens text tokens → AreTokens text others → tokens ≡ others }
     ensures one_fault { (text : List ℕ) (fault other : Fault) → LexicalFault text fault → LexicalFault text other → fault ≡ other }
     ensures not_both { (text : List ℕ) (tokens : List Lexeme) (fault : Fault) → AreTokens text tokens → ¬ (LexicalFault text fault) }
+{}
+
+/// Each token of a text lies in it, and keeps what a token of its kind keeps.
+pub fn kept_tokens()
+    ensures { (text : List ℕ) (tokens : List Lexeme) → AreTokens text tokens → All (IsLexeme text) tokens }
 {}
 
 /// The tokens of one text, and the faults of some.

@@ -1,19 +1,22 @@
 //! Reading a text from left to right.
 
-ghost use Rattle.std.specs.Prelude.{◌≡◌, ◌+◌, ◌<◌, ◌≤◌, drop, length, IfOk, IfErr, IfSome, IsSome, MatchResult, ◌⊎◌, List, true, Some, map, ◌∷◌};
+ghost use Rattle.std.specs.Prelude.{◌≡◌, ◌<◌, ◌≤◌, drop, length, IfOk, IfErr, IfSome, MatchResult, ◌⊎◌, List, true, false, Some, map, ◌∷◌, ◌||◌};
 ghost use Rattle.edd_syntax.specs.Token.{word_token};
+ghost use Rattle.edd_lexer.specs.Bytes as bytes;
+ghost use Rattle.edd_lexer.specs.Bytes.{begins};
 ghost use Rattle.edd_lexer.specs.Numbers as spelled;
 ghost use Rattle.edd_lexer.specs.Tokens.{Lexeme, AreTokens};
 ghost use Rattle.edd_lexer.specs.Faults.{LexicalFault};
 ghost use Rattle.edd_lexer.specs.Faults as kinds;
 ghost use Rattle.edd_lexer.specs.declared.fault.LexFault.TheVariants.{Memory};
 ghost use Rattle.edd_lexer.specs.Reading as reading;
-ghost use Rattle.edd_lexer.specs.Reading.{next_is, tokens_of};
-ghost use Rattle.edd_lexer.specs.Views.{token_of, lexeme_of, fault_of, step_of, Leads, Gives, Answers};
+ghost use Rattle.edd_lexer.specs.Reading.{tokens_of};
+ghost use Rattle.edd_lexer.specs.Views.{token_of, lexeme_of, fault_of, Answers};
+ghost use Rattle.edd_lexer.specs.Parts.{step_of, Leads, Gives};
 
 use crate::bytes::{
-    begins_digit, begins_name, behind_byte_order_mark, behind_line, behind_name, is_blank,
-    lines_after, next_is,
+    begins_digit, begins_name, behind_byte, behind_byte_order_mark, behind_line, behind_name,
+    is_blank, lines_after, next_is,
 };
 use crate::fault::{Fault, LexFault};
 use crate::gaps::{behind_close, makes_mark};
@@ -44,6 +47,7 @@ fn word_kind(word: &[u8]) -> TokenKind
     }
 }
 
+// A word, unless it is too long.
 #[tactic(auto, unfolding(crate::specs::Reading::word_at), using(crate::proofs::Runs::runs))]
 fn word_at(text: &[u8]) -> Step
     ensures { step_of text.now result ≡ reading.word_at text.now }
@@ -141,18 +145,16 @@ fn begins_number(first: u8, rest: &[u8]) -> bool
     first.is_ascii_digit() || (first == b'.' && begins_digit(rest))
 }
 
+// What begins at a place where no blank stands.
 #[tactic(auto, unfolding(crate::specs::Reading::step_at))]
 fn step_here(fresh: bool, text: &[u8]) -> Step
+    requires { begins bytes.is_blank text.now ≡ false }
     ensures { step_of text.now result ≡ reading.step_at fresh text.now }
 {
     let [first, rest @ ..] = text else {
         return Step::Wrong(Fault::BadCharacter);
     };
     let first = *first;
-    if is_blank(first) {
-        let ends = first == b'\n';
-        return Step::Gap(fresh || ends, u32::from(ends), rest);
-    }
     if begins_name(first) {
         return word_at(text);
     }
@@ -170,6 +172,7 @@ fn step_here(fresh: bool, text: &[u8]) -> Step
 // The same, with the fact that what stands behind it is an end of what stands here.
 #[tactic(auto, using(crate::proofs::Loop::step_leads))]
 fn next_step(fresh: bool, text: &[u8]) -> Step
+    requires { begins bytes.is_blank text.now ≡ false }
     ensures read { step_of text.now result ≡ reading.step_at fresh text.now }
     ensures leads { Leads text.now (step_of text.now result) }
 {
@@ -192,6 +195,13 @@ fn refusal(fault: Fault, line: u32) -> LexFault
     }
 }
 
+// Behind this blank only blanks stand before the place on its line.
+fn fresh_behind(fresh: bool, blank: u8) -> bool
+    ensures { result ≡ (fresh || bytes.is_line_end blank) }
+{
+    fresh || blank == b'\n'
+}
+
 // The tokens of a text that is short enough and in UTF-8, or its first fault.
 #[tactic(auto, using(crate::proofs::Loop::loop_starts))]
 fn tokens(alloc: Global, text: &[u8]) -> Result<Vec<Token>, LexFault>
@@ -202,7 +212,14 @@ fn tokens(alloc: Global, text: &[u8]) -> Result<Vec<Token>, LexFault>
     let mut rest = behind_byte_order_mark(text);
     let mut fresh = true;
     let mut line: u32 = 1;
-    while !rest.is_empty() {
+    while let [first, ..] = rest {
+        let first = *first;
+        if is_blank(first) {
+            fresh = fresh_behind(fresh, first);
+            line = lines_after(line, first);
+            rest = behind_byte(rest);
+            continue;
+        }
         match next_step(fresh, rest) {
             Step::Wrong(fault) => return Err(refusal(fault, line)),
             Step::Gap(next, lines, behind) => {

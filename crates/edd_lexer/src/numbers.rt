@@ -1,13 +1,13 @@
 //! Integers and decimals.
 
-ghost use Rattle.std.specs.Prelude.{◌≡◌, ◌<◌, ◌≤◌, length, MatchOption, true};
+ghost use Rattle.std.specs.Prelude.{◌≡◌, ◌<◌, ◌≤◌, MatchOption, true};
 ghost use Rattle.std.specs.Char.{is_ascii_digit, is_ascii_hexdigit};
 ghost use Rattle.std.specs.List.{list_all};
 ghost use Rattle.edd_lexer.specs.Bytes as bytes;
 ghost use Rattle.edd_lexer.specs.Bytes.{begins, front, behind};
 ghost use Rattle.edd_lexer.specs.Numbers as spelled;
 ghost use Rattle.edd_lexer.specs.Reading as reading;
-ghost use Rattle.edd_lexer.specs.Views.{rest_of, number_of};
+ghost use Rattle.edd_lexer.specs.Parts.{rest_of, number_of};
 
 use crate::bytes::{begins_digit, behind_digits, behind_hex_digits, goes_on_number, next_is};
 

@@ -3,7 +3,7 @@
 ghost use Rattle.std.specs.Prelude.{◌≡◌, true};
 ghost use Rattle.edd_syntax.specs.Words as words;
 ghost use Rattle.edd_lexer.specs.Reading as reading;
-ghost use Rattle.edd_lexer.specs.Views.{end_of};
+ghost use Rattle.edd_lexer.specs.Parts.{end_of};
 
 use crate::bytes::lines_after;
 

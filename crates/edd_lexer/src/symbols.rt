@@ -5,7 +5,7 @@ ghost use Rattle.edd_lexer.specs.Reading as reading;
 ghost use Rattle.edd_lexer.specs.Reading.{token};
 ghost use Rattle.edd_syntax.specs.Token.{Sign};
 ghost use Rattle.edd_syntax.specs.declared.operators.Operator.TheVariants as operator;
-ghost use Rattle.edd_lexer.specs.Views.{sign_of};
+ghost use Rattle.edd_lexer.specs.Parts.{sign_of};
 
 use crate::bytes::next_is;
 use edd_syntax::operators::{Comparison, Operator};

@@ -1,17 +1,16 @@
-use Rattle.std.proofs.Common.{◌≡◌, Option, Err, length, map, sym, subst, ◌∙◌, arith}
+use Rattle.std.proofs.Common.{◌≡◌, ◌<◌, ◌-◌, ℕ, List, Option, Err, length, drop, length-drop, map, sym, ap, subst, ◌∙◌, arith}
 use Rattle.std.specs.Prelude.{IfSome}
 use Rattle.std.proofs.lemmas.List.{map_push}
 use Rattle.edd_lexer.specs.Faults.{Fault}
 use Rattle.edd_lexer.specs.Reading.{tokens_of}
 use Rattle.edd_lexer.specs.Views.{lexeme_of}
-use Rattle.edd_lexer.proofs.ByteTests.{not_zero, same_byte}
-use Rattle.edd_lexer.proofs.Loop.{on_wrong, on_gap, on_token, at_end, end_of_end}
+use Rattle.edd_lexer.proofs.Loop.{on_blank, behind_first, on_wrong, on_gap, on_token, at_end, end_of_end}
 use Rattle.edd_lexer.proofs.lexer.tokens.Goals as goal
 
 pub returns-in-Wrong : goal.returns-in-Wrong
 returns-in-Wrong c =
     let text = c.args.text.now in
-    let stops = on_wrong (map (lexeme_of text) c.loop-rest.tokens.items) (length text) c.loop-rest.fresh c.loop-rest.rest.now c.in-Wrong.fault (not_zero (length c.loop-rest.rest.now) (sym c.is_empty.ensures ∙ c.loop-rest-test.true)) (sym c.in-Wrong.ensures.read) in
+    let stops = on_wrong (map (lexeme_of text) c.loop-rest.tokens.items) (length text) c.loop-rest.fresh c.loop-rest.rest.now c.in-Wrong.fault (let some = c.in-len1-up.len_at_least in omega arith) (sym c.in-Wrong.ensures.read) in
     let P : Option Fault → Type 0 = λ o. IfSome o (λ fault. tokens_of text ≡ Err fault) in
     subst P (sym c.refusal.ensures) (sym c.loop-rest.invariant.read ∙ stops)
 
@@ -42,4 +41,18 @@ loop-rest-preserved c =
 pub returns : goal.returns
 returns c =
     let text = c.args.text.now in
-    sym c.loop-rest.invariant.read ∙ at_end (map (lexeme_of text) c.loop-rest.tokens.items) (length text) c.loop-rest.fresh c.loop-rest.rest.now (same_byte (length c.loop-rest.rest.now) 0 (sym c.is_empty.ensures ∙ c.loop-rest-test.false))
+    sym c.loop-rest.invariant.read ∙ at_end (map (lexeme_of text) c.loop-rest.tokens.items) (length text) c.loop-rest.fresh c.loop-rest.rest.now (let none = c.in_default.len_below in omega arith)
+
+pub loop-rest-preserved-then-is_blank : goal.loop-rest-preserved-then-is_blank
+loop-rest-preserved-then-is_blank c =
+    let text = c.args.text.now in
+    let here = c.loop-rest.rest.now in
+    let some : 0 < length here = (let h = c.in-len1-up.len_at_least in omega arith) in
+    let same = on_blank (map (lexeme_of text) c.loop-rest.tokens.items) (length text) c.loop-rest.fresh here some (sym c.is_blank.ensures ∙ c.if-is_blank.true) in
+    let e = c.behind_byte-rest.ensures in
+    let IsEnd : List ℕ → Type 0 = λ x. x ≡ drop (length text - length x) text in
+    record {
+      within = omega (arith, ap length e, length-drop 1 here);
+      is_end = subst IsEnd (sym e) (behind_first text here c.loop-rest.invariant.is_end c.loop-rest.invariant.within some);
+      read = rw (e, c.fresh_behind-fresh.ensures) (sym same ∙ c.loop-rest.invariant.read);
+    }
