@@ -23,12 +23,14 @@ ghost use Rattle.edd_image.specs.Spelling.{AreBytes, spelling, IsSpelled};
 /// An instruction that was spelled is read again, whatever stands around it.
 pub fn spelled_is_read()
     ensures { (before after : List ℕ) (i : Instruction) → IsSpelled i
-        → instruction_at (before ++ (spelling i ++ after)) (length before) ≡ Some (i, length before + length (spelling i)) }
+        → instruction_at (before ++ (spelling i ++ after)) (length before)
+        ≡ Some (i, length before + length (spelling i)) }
 {}
 
 /// An instruction that is read is spelled by the bytes from its place to the next.
 pub fn read_is_spelled()
-    ensures { (code : List ℕ) (place : ℕ) (i : Instruction) (next : ℕ) → AreBytes code → instruction_at code place ≡ Some (i, next)
+    ensures { (code : List ℕ) (place : ℕ) (i : Instruction) (next : ℕ) → AreBytes code
+        → instruction_at code place ≡ Some (i, next)
         → IsSpelled i × (drop place code ≡ spelling i ++ drop next code) }
 {}
 
@@ -37,16 +39,11 @@ pub fn fields_are_parts()
     ensures { (s : Sections) → AreSections s → contents_in (layout s) ≡ contents_of s }
 {}
 
-/// A layout whose code is within the limit, whose rows keep the rules and whose names, strings and units are valid is a valid
-/// image.
+/// A layout whose code is within the limit, whose rows keep the rules and whose names, strings and
+/// units are valid is a valid image.
 pub fn sound_parts_are_valid()
-    ensures { (s : Sections) → AreSections s → length s.code ≤ code_limit → IsSound (contents_of s) → IsValid (layout s) }
-{}
-
-/// A run that is out of steps after `j` goes on for `k` more as if it had not been cut.
-pub fn runs_may_be_cut()
-    ensures { (env : Environment) (j k : ℕ) (s : State) (answers : List Answer) → (execute env j s answers).ending ≡ OutOfSteps
-        → execute env (j + k) s answers ≡ resumed env k (execute env j s answers) }
+    ensures { (s : Sections) → AreSections s → length s.code ≤ code_limit
+        → IsSound (contents_of s) → IsValid (layout s) }
 {}
 
 /// A string that was written is read again.
@@ -54,25 +51,38 @@ pub fn written_strings_are_read()
     ensures { (w : Words) → WordsFit w → string_in (string_bytes w) ≡ Some w }
 {}
 
-/// A valid answer to a state that asks gives a state again.
-pub fn answers_keep_the_state()
-    ensures { (context : Context) (env : Environment) (s : State) (r : Request) (answer : Answer) → IsState context env s → s.status ≡ Asking r → IsValidAnswer env.types answer
-        → IsState context env (answered s answer).state }
+/// A valid unit opens in a state: at its first byte, with no operands and slots of 0.
+pub fn openings_are_states()
+    ensures { (context : Context) (env : Environment) (code : List ℕ) (values : List ℤ)
+        → IsValidUnit context code → length env.types ≡ context.counts.variables
+        → AreDeviceValues env.types values
+        → IsState context env
+        (opening (record { sort = context.sort; code = code }) context.slots values) }
 {}
 
 /// A running state of a valid unit has a step, and what it comes to is a state again.
 pub fn steps_keep_the_state()
-    ensures { (context : Context) (env : Environment) (s : State) → IsValidUnit context s.unit.code → IsState context env s → s.status ≡ Running
+    ensures { (context : Context) (env : Environment) (s : State)
+        → IsValidUnit context s.unit.code → IsState context env s → s.status ≡ Running
         → (e : Effect) × (step env s ≡ Some e) × IsState context env e.state }
 {}
 
-/// A valid unit opens in a state: at its first byte, with no operands and slots of 0.
-pub fn openings_are_states()
-    ensures { (context : Context) (env : Environment) (code : List ℕ) (values : List ℤ) → IsValidUnit context code → length env.types ≡ context.counts.variables → AreDeviceValues env.types values
-        → IsState context env (opening (record { sort = context.sort; code = code }) context.slots values) }
+/// A valid answer to a state that asks gives a state again.
+pub fn answers_keep_the_state()
+    ensures { (context : Context) (env : Environment) (s : State) (r : Request) (answer : Answer)
+        → IsState context env s → s.status ≡ Asking r → IsValidAnswer env.types answer
+        → IsState context env (answered s answer).state }
+{}
+
+/// A run that is out of steps after `j` goes on for `k` more as if it had not been cut.
+pub fn runs_may_be_cut()
+    ensures { (env : Environment) (j k : ℕ) (s : State) (answers : List Answer)
+        → (execute env j s answers).ending ≡ OutOfSteps
+        → execute env (j + k) s answers ≡ resumed env k (execute env j s answers) }
 {}
 
 /// One thing is read of an attribute under the same values.
 pub fn readings_are_unique()
-    ensures { (b : List ℕ) (ref : AttrRef) (values : List ℤ) (r q : Reading) → IsReading b ref values r → IsReading b ref values q → r ≡ q }
+    ensures { (b : List ℕ) (ref : AttrRef) (values : List ℤ) (r q : Reading)
+        → IsReading b ref values r → IsReading b ref values q → r ≡ q }
 {}

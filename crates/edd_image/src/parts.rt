@@ -64,7 +64,9 @@ pub struct Parts {
     pub name_bytes: Vec<u8>,
     pub string_bytes: Vec<u8>,
     ghost variables_counted: { counts.variables ≡ vec_len variables },
-    ghost names_counted: { counts.variables + counts.commands + counts.menus + counts.collections + counts.methods ≡ vec_len names },
+    ghost names_counted: { counts.variables + counts.commands + counts.menus + counts.collections + counts.methods
+        ≡ vec_len names },
     ghost strings_counted: { counts.strings ≡ vec_len strings },
-    ghost fits: { 56 + 4 * vec_len variables + 8 * vec_len names + 16 * vec_len attributes + vec_len code + 8 * vec_len strings + vec_len name_bytes + vec_len string_bytes < 2 ^ 32 },
+    ghost fits: { 56 + 4 * vec_len variables + 8 * vec_len names + 16 * vec_len attributes + vec_len code
+        + 8 * vec_len strings + vec_len name_bytes + vec_len string_bytes < 2 ^ 32 },
 }

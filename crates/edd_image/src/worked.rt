@@ -44,7 +44,9 @@ pub fn edits_break_their_rules()
 
 /// What is read of the variable `p` when it is 0.
 pub fn label_is_read()
-    ensures label { IsReading label_image (label_of 0) (pos 0 ∷ []) (Records (records.Words (record { 0 = 0 }) ∷ [])) }
-    ensures default { IsReading label_image (handling_of 0) (pos 0 ∷ []) (Records (records.Number (pos 3) ∷ [])) }
+    ensures label { IsReading label_image (label_of 0) (pos 0 ∷ [])
+        (Records (records.Words (record { 0 = 0 }) ∷ [])) }
+    ensures default { IsReading label_image (handling_of 0) (pos 0 ∷ [])
+        (Records (records.Number (pos 3) ∷ [])) }
     ensures missing { IsReading label_image (label_of 1) (pos 0 ∷ []) NoItem }
 {}
