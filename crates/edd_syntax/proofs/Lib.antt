@@ -8,4 +8,5 @@ pub mod WorkedGrammar
 pub mod WorkedNames
 pub mod WorkedRefusals
 pub mod WorkedRuns
+pub mod WorkedShapes
 pub mod WorkedTexts
