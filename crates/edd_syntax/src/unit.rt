@@ -1,6 +1,6 @@
 //! A description as the parser makes it.
 
-ghost use Rattle.std.specs.Prelude.{◌≡◌, ◌++◌, ◌∷◌, [], IsTrue, OnOk};
+ghost use Rattle.std.specs.Prelude.{◌≡◌, ◌++◌, ◌∷◌, [], IsTrue, OnErr, OnOk};
 ghost use Rattle.edd_syntax.specs.WellFormed.{are_items, is_item, is_path, is_plain};
 ghost use Rattle.edd_syntax.specs.TreeView.{path_of};
 ghost use Rattle.edd_syntax.specs.ItemView.{item_of, named_items};
@@ -21,7 +21,8 @@ pub struct Unit {
 impl Unit {
     /// A unit without items.
     pub fn new(alloc: Global, identification: Identification) -> Unit
-        ensures { named_items result.items.items ≡ [] }
+        ensures identification { result.identification ≡ identification }
+        ensures items { named_items result.items.items ≡ [] }
     {
         Unit {
             identification,
@@ -32,9 +33,11 @@ impl Unit {
     /// One more item, whose tree keeps what a unit's trees keep.
     pub fn push(&mut self, item: Item<Path>) -> Result<(), AllocError>
         requires { IsTrue (is_item is_path is_plain (item_of path_of item)) }
-        ensures { OnOk result
+        ensures identification { self.new.identification ≡ self.old.identification }
+        ensures ok { OnOk result
             (named_items self.new.items.items
             ≡ named_items self.old.items.items ++ item_of path_of item ∷ []) }
+        ensures err { OnErr result (named_items self.new.items.items ≡ named_items self.old.items.items) }
     {
         self.items.push(item)?;
         Ok(())
