@@ -3,9 +3,9 @@ use Rattle.std.proofs.Common.{◌++◌, ℕ, List, [], ◌∷◌, codes, refl, i
 use Rattle.edd_lexer.specs.Tokens.{word, integer, nothing, behind_token, behind_gap}
 use Rattle.edd_lexer.specs.Gaps.{blank}
 use Rattle.edd_lexer.specs.Faults.{BadNumber, BadEscape, Directive}
-use Rattle.edd_lexer.specs.Reading.{tokens_of, tokens_at, step_at, word_at, number_at, number_from, plain_integer, decimal_to, exponent_end, string_at, string_end, hash_at}
-use Rattle.edd_lexer.specs.Worked.{HexExample, NumberExample, EscapeExample, DirectiveExample}
-use Rattle.edd_lexer.proofs.Texts.{fault_sound}
+use Rattle.edd_lexer.specs.Reading.{tokens_of, tokens_at, step_at, word_at, number_at, number_from, plain_integer, integer_of, decimal_to, exponent_end, string_at, string_end, symbol_at, single_symbol, hash_at}
+use Rattle.edd_lexer.specs.Worked.{HexExample, PressureExample, pressure_text, pressure_tokens, NumberExample, EscapeExample, DirectiveExample}
+use Rattle.edd_lexer.proofs.Texts.{tokens_sound, fault_sound}
 
 pub hex_example : HexExample
 unfolding lib.Utf8.encode
@@ -38,3 +38,7 @@ directive_text = codes "# 1 \"a\"" ++ 10 ∷ codes " #include \"a\""
 pub directive_example : DirectiveExample
 unfolding lib.Utf8.encode tokens_of tokens_at step_at hash_at
 directive_example = fault_sound directive_text Directive (omega arith) (directive_text, (refl, refl)) refl
+
+pub pressure_example : PressureExample
+unfolding lib.Utf8.encode tokens_of tokens_at step_at word_at number_at number_from plain_integer exponent_end string_at string_end integer_of symbol_at single_symbol
+pressure_example = tokens_sound pressure_text pressure_tokens (omega arith) (pressure_text, (refl, refl)) refl

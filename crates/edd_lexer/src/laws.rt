@@ -4,7 +4,7 @@ ghost use Rattle.std.specs.Prelude.{◌≡◌, ℕ, List, All};
 ghost use Rattle.edd_lexer.specs.Kept.{IsLexeme};
 ghost use Rattle.edd_lexer.specs.Tokens.{Lexeme, AreTokens};
 ghost use Rattle.edd_lexer.specs.Faults.{Fault, LexicalFault};
-ghost use Rattle.edd_lexer.specs.Worked.{HexExample, NumberExample, EscapeExample, DirectiveExample};
+ghost use Rattle.edd_lexer.specs.Worked.{HexExample, PressureExample, NumberExample, EscapeExample, DirectiveExample};
 
 /// A text has one list of tokens at most, one fault at most, and not both.
 pub fn one_reading()
@@ -18,9 +18,10 @@ pub fn kept_tokens()
     ensures { (text : List ℕ) (tokens : List Lexeme) → AreTokens text tokens → All (IsLexeme text) tokens }
 {}
 
-/// The tokens of one text, and the faults of some.
+/// The tokens of two texts, and the faults of some.
 pub fn worked_texts()
     ensures hex { HexExample }
+    ensures pressure { PressureExample }
     ensures number { NumberExample }
     ensures escape { EscapeExample }
     ensures directive { DirectiveExample }

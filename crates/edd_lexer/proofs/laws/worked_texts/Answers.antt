@@ -1,4 +1,4 @@
-use Rattle.edd_lexer.proofs.Worked.{hex_example, number_example, escape_example, directive_example}
+use Rattle.edd_lexer.proofs.Worked.{hex_example, pressure_example, number_example, escape_example, directive_example}
 use Rattle.edd_lexer.proofs.laws.worked_texts.Goals as goal
 
 pub returns-clause-hex : goal.returns-clause-hex
@@ -12,3 +12,6 @@ returns-clause-escape c = escape_example
 
 pub returns-clause-directive : goal.returns-clause-directive
 returns-clause-directive c = directive_example
+
+pub returns-clause-pressure : goal.returns-clause-pressure
+returns-clause-pressure c = pressure_example
