@@ -1,0 +1,9 @@
+pub mod SignNumbers
+pub mod Steps
+pub mod Operators
+pub mod Texts
+pub mod Stops
+pub mod Shorter
+pub mod SoundExpressions
+pub mod CompleteExpressions
+pub mod Labels

@@ -1,0 +1,113 @@
+-- Reading labels, conditions and conditionals from left to right.
+use Rattle.std.specs.Prelude.{◌≡◌, ◌⊎◌, ℕ, zero, suc, Bool, true, false, ℤ, pos, neg_ℤ, List, [], ◌∷◌, drop, length, Option, Some, None, if◌then◌else◌}
+use Rattle.edd_syntax.specs.declared.operators.Operator.TheVariants as operator
+use Rattle.edd_syntax.specs.declared.symbols.Keyword.TheVariants as word
+use Rattle.edd_syntax.specs.declared.symbols.Symbol.TheVariants as sign
+use Rattle.edd_syntax.specs.Token.{Token, Reserved, Integer, Sign}
+use Rattle.edd_syntax.specs.Reference.{Path}
+use Rattle.edd_syntax.specs.Expression.{Expr}
+use Rattle.edd_syntax.specs.Conditional as cond
+use Rattle.edd_syntax.specs.Conditional.{Cond, Value, Select, Conds, Arms, NoArms, ConsArm, Case, Default}
+use Rattle.edd_syntax.specs.Grammar.{Place, InAttribute, loosest}
+use Rattle.edd_grammar.specs.Signs.{same_sign}
+use Rattle.edd_grammar.specs.Reading.{◌>>=◌, Read, at, expect, at_word}
+use Rattle.edd_grammar.specs.ExpressionReading.{expr_at}
+
+-- behind `-`
+abbrev pub negative_at : List Token → Read ℤ
+negative_at (Integer n ∷ rest) = Some (neg_ℤ (pos n), rest)
+negative_at _ = None
+
+-- an integer, or its negative
+abbrev pub label_at : List Token → Read ℤ
+label_at (Integer n ∷ rest) = Some (pos n, rest)
+label_at (Sign s ∷ rest) = if same_sign s (sign.Operator operator.Subtract) then negative_at rest else None
+label_at _ = None
+
+-- `( e )`
+unfoldable pub condition_at : Place → ℕ → List Token → Read (Expr Path)
+condition_at p high here = do
+  inside ← expect sign.OpenParenthesis here
+  (e, behind) ← expr_at p high (loosest p) inside
+  rest ← expect sign.CloseParenthesis behind
+  Some (e, rest)
+
+-- A conditional whose conditions have at most this height, whose values `value` reads, whose branches `branch` reads, and
+-- the IF behind an ELSE `inner`.
+module _ {V : Type 0} (high : ℕ) (value : List Token → Read V) (branch : List Token → Read (Conds Path V)) (inner : List Token → Read (Cond Path V)) where
+  unfoldable pub braces_at : List Token → Read (Conds Path V)
+  braces_at here = do
+    inside ← expect sign.OpenBrace here
+    (all, behind) ← branch inside
+    rest ← expect sign.CloseBrace behind
+    Some (all, rest)
+
+  unfoldable pub else_at : List Token → Read (Conds Path V)
+  else_at here =
+      if at_word word.Else here
+      then (if at_word word.If (drop 1 here) then (inner (drop 1 here) >>= λ c. Some (cond.Cons c.0 cond.Nil, c.1)) else braces_at (drop 1 here))
+      else Some (cond.Nil, here)
+
+  -- behind CASE
+  unfoldable pub case_at : List Token → Read (ℤ × Conds Path V)
+  case_at here = do
+    (label, colon) ← label_at here
+    from ← expect sign.Colon colon
+    (body, rest) ← branch from
+    Some ((label, body), rest)
+
+  -- behind DEFAULT
+  unfoldable pub default_at : List Token → Read (Conds Path V)
+  default_at here = do
+    from ← expect sign.Colon here
+    branch from
+
+  -- The arms up to the closing brace. The number bounds how many there are.
+  unfoldable pub arms_at : ℕ → List Token → Read (Arms Path V)
+  arms_at zero here = None
+  arms_at (suc n) here =
+      if at sign.CloseBrace here then Some (NoArms, here)
+      else if at_word word.Case here then (case_at (drop 1 here) >>= λ x. arms_at n x.1 >>= λ arms. Some (ConsArm (Case x.0.0 x.0.1) arms.0, arms.1))
+      else if at_word word.Default here then (default_at (drop 1 here) >>= λ x. arms_at n x.1 >>= λ arms. Some (ConsArm (Default x.0) arms.0, arms.1))
+      else None
+
+  -- behind IF
+  unfoldable pub if_at : List Token → Read (Cond Path V)
+  if_at here = do
+    (condition, from) ← condition_at InAttribute high here
+    (first, behind) ← braces_at from
+    (otherwise, rest) ← else_at behind
+    Some (cond.If condition first otherwise, rest)
+
+  -- behind SELECT
+  unfoldable pub select_at : List Token → Read (Cond Path V)
+  select_at here = do
+    (on, from) ← condition_at InAttribute high here
+    inside ← expect sign.OpenBrace from
+    (arms, behind) ← arms_at (suc (length inside)) inside
+    rest ← expect sign.CloseBrace behind
+    Some (Select on arms, rest)
+
+  unfoldable pub cond_layer : List Token → Read (Cond Path V)
+  cond_layer here =
+      if at_word word.If here then if_at (drop 1 here)
+      else if at_word word.Select here then select_at (drop 1 here)
+      else (value here >>= λ v. Some (Value v.0, v.1))
+
+-- ---- a single value
+
+-- a value and the semicolon behind it
+unfoldable pub ended : {V : Type 0} → (List Token → Read V) → List Token → Read V
+ended value here = do
+  (v, behind) ← value here
+  rest ← expect sign.Semicolon behind
+  Some (v, rest)
+
+-- exactly one conditional
+unfoldable pub only : {V : Type 0} → (List Token → Read (Cond Path V)) → List Token → Read (Conds Path V)
+only inner here = inner here >>= λ c. Some (cond.Cons c.0 cond.Nil, c.1)
+
+-- A single value of at most this height, each of whose values of at most some height `value` reads.
+unfoldable pub one_at : {V : Type 0} → (ℕ → List Token → Read V) → ℕ → List Token → Read (Cond Path V)
+one_at value zero here = None
+one_at value (suc high) here = cond_layer high (ended (value high)) (only (one_at value high)) (one_at value high) here

@@ -1,0 +1,5 @@
+pub mod Signs
+pub mod Reading
+pub mod ExpressionReading
+pub mod Following
+pub mod ConditionalReading

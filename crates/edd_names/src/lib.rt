@@ -1,0 +1,5 @@
+//! The meaning of the names of a description.
+#![tactic(auto)]
+
+mod attributes;
+mod nodes;
