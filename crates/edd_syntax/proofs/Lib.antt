@@ -4,6 +4,7 @@ pub mod KeptItems
 pub mod TreeRows
 pub mod TurnLaws
 pub mod WorkedAttributes
+pub mod WorkedChecked
 pub mod WorkedGrammar
 pub mod WorkedNames
 pub mod WorkedRefusals

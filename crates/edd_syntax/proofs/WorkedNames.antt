@@ -24,10 +24,10 @@ use Rattle.edd_syntax.specs.NameRules.{wrong_uses}
 abbrev of_items : {R : Type 0} → List (item.Item R) → Description R
 of_items items = record { identification = record { manufacturer = 1; device_type = 2; device_revision = 3; dd_revision = 4 }; items = items }
 
-abbrev named : Name → Path
+abbrev pub named : Name → Path
 named n = record { base = n; members = [] }
 
-abbrev dotted : Name → Name → Path
+abbrev pub dotted : Name → Name → Path
 dotted c m = record { base = c; members = m ∷ [] }
 
 abbrev variable : {R : Type 0} → Name → item.Item R
@@ -40,17 +40,17 @@ collection of name m x = record { sort = item.CollectionItem of; name = name; at
 abbrev method : {R : Type 0} → Name → List (Part R) → item.Item R
 method name body = record { sort = item.MethodItem; name = name; attributes = Definition (body_from body) ∷ [] }
 
-abbrev sets : {R : Type 0} → R → ℕ → Part R
+abbrev pub sets : {R : Type 0} → R → ℕ → Part R
 sets to n = Statement (Evaluate (Assign to (Literal n)))
 
 abbrev declares : {R : Type 0} → R → Part R
 declares r = Declare (record { place = r; value = None } ∷ [])
 
-abbrev the_x : Target
+abbrev pub the_x : Target
 the_x = Item (item_no.Variable (record { 0 = 0 }))
 
 -- one variable x, a collection c with the member m for x, and a method
-abbrev source : {R : Type 0} → R → List (Part R) → Description R
+abbrev pub source : {R : Type 0} → R → List (Part R) → Description R
 source x body = of_items (variable (codes "x") ∷ collection kind.Variable (codes "c") (codes "m") x ∷ method (codes "m") body ∷ [])
 
 -- ---- meanings
