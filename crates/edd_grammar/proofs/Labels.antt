@@ -1,5 +1,5 @@
 -- Labels and conditions are read as they are spelled, and what is read is spelled so.
-use Rattle.std.proofs.Common.{◌≡◌, ℕ, zero, suc, ◌+◌, ◌≤◌, ◌<◌, Bool, true, false, List, [], ◌∷◌, drop, length, Option, Some, None, refl, sym, ap, subst, ◌∙◌, inl, inr, ◌⊎◌, arith}
+use Rattle.std.proofs.Common.{◌≡◌, ℕ, ◌≤◌, ◌<◌, List, [], ◌∷◌, length, Some, refl, sym, ap, subst, ◌∙◌, inl, inr, arith}
 use Rattle.std.specs.Prelude.{ℤ, pos, neg_ℤ}
 use Rattle.edd_syntax.specs.declared.operators.Operator.TheVariants as operator
 use Rattle.edd_syntax.specs.declared.symbols.Symbol.TheVariants as sign
@@ -7,11 +7,11 @@ use Rattle.edd_syntax.specs.Token.{Token, Reserved, Identifier, Integer, String,
 use Rattle.edd_syntax.specs.Token as token
 use Rattle.edd_syntax.specs.Reference.{Path}
 use Rattle.edd_syntax.specs.Expression.{Expr}
-use Rattle.edd_syntax.specs.Grammar.{Place, InAttribute, InMethod, loosest, ExprHere, ConditionHere}
+use Rattle.edd_syntax.specs.Grammar.{Place, loosest, ExprHere, ConditionHere}
 use Rattle.edd_syntax.specs.StatementGrammar.{LabelHere}
 use Rattle.edd_syntax.specs.Size.{height}
 use Rattle.edd_grammar.specs.Signs.{same_sign}
-use Rattle.edd_grammar.specs.Reading.{◌>>=◌, Read, expect}
+use Rattle.edd_grammar.specs.Reading.{expect}
 use Rattle.edd_grammar.specs.ExpressionReading.{expr_at}
 use Rattle.edd_grammar.specs.ConditionalReading.{negative_at, label_at, condition_at}
 use Rattle.edd_grammar.proofs.SignNumbers.{same_sign_is}

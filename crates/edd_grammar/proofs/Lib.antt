@@ -7,3 +7,10 @@ pub mod Shorter
 pub mod SoundExpressions
 pub mod CompleteExpressions
 pub mod Labels
+pub mod Branches
+pub mod BranchesAgain
+pub mod SingleValues
+pub mod ValueKinds
+pub mod SoundLists
+pub mod CompleteLists
+pub mod Declarations

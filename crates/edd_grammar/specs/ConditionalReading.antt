@@ -1,16 +1,17 @@
 -- Reading labels, conditions and conditionals from left to right.
-use Rattle.std.specs.Prelude.{◌≡◌, ◌⊎◌, ℕ, zero, suc, Bool, true, false, ℤ, pos, neg_ℤ, List, [], ◌∷◌, drop, length, Option, Some, None, if◌then◌else◌}
+use Rattle.std.specs.Prelude.{ℕ, zero, suc, Bool, true, ℤ, pos, neg_ℤ, List, ◌∷◌, drop, length, Some, None, if◌then◌else◌}
 use Rattle.edd_syntax.specs.declared.operators.Operator.TheVariants as operator
 use Rattle.edd_syntax.specs.declared.symbols.Keyword.TheVariants as word
 use Rattle.edd_syntax.specs.declared.symbols.Symbol.TheVariants as sign
-use Rattle.edd_syntax.specs.Token.{Token, Reserved, Integer, Sign}
+use Rattle.edd_syntax.specs.Text as texts
+use Rattle.edd_syntax.specs.Token.{Token, Integer, Sign}
 use Rattle.edd_syntax.specs.Reference.{Path}
 use Rattle.edd_syntax.specs.Expression.{Expr}
 use Rattle.edd_syntax.specs.Conditional as cond
 use Rattle.edd_syntax.specs.Conditional.{Cond, Value, Select, Conds, Arms, NoArms, ConsArm, Case, Default}
 use Rattle.edd_syntax.specs.Grammar.{Place, InAttribute, loosest}
 use Rattle.edd_grammar.specs.Signs.{same_sign}
-use Rattle.edd_grammar.specs.Reading.{◌>>=◌, Read, at, expect, at_word}
+use Rattle.edd_grammar.specs.Reading.{◌>>=◌, Read, at, expect, at_word, is_text, text_at}
 use Rattle.edd_grammar.specs.ExpressionReading.{expr_at}
 
 -- behind `-`
@@ -111,3 +112,38 @@ only inner here = inner here >>= λ c. Some (cond.Cons c.0 cond.Nil, c.1)
 unfoldable pub one_at : {V : Type 0} → (ℕ → List Token → Read V) → ℕ → List Token → Read (Cond Path V)
 one_at value zero here = None
 one_at value (suc high) here = cond_layer high (ended (value high)) (only (one_at value high)) (one_at value high) here
+
+-- a text as a value of a conditional
+unfoldable pub text_value : ℕ → List Token → Read texts.Text
+text_value high here = if is_text here then text_at here else None
+
+-- an expression as a value of a conditional
+unfoldable pub expr_value : ℕ → List Token → Read (Expr Path)
+expr_value high here = expr_at InAttribute high (loosest InAttribute) here
+
+-- ---- lists
+
+-- whether a list ends here: at a closing brace or at the next arm
+abbrev pub list_ends : List Token → Bool
+list_ends here = if at sign.CloseBrace here then true else if at_word word.Case here then true else at_word word.Default here
+
+abbrev pub skip_comma : List Token → List Token
+skip_comma here = if at sign.Comma here then drop 1 here else here
+
+-- Elements up to the end of the list, each with a comma behind it or none. The number bounds how many there are.
+unfoldable pub elements_at : {V : Type 0} → (List Token → Read (Cond Path V)) → ℕ → List Token → Read (Conds Path V)
+elements_at element zero here = None
+elements_at element (suc n) here =
+    if list_ends here then Some (cond.Nil, here)
+    else (element here >>= λ c. elements_at element n (skip_comma c.1) >>= λ more. Some (cond.Cons c.0 more.0, more.1))
+
+unfoldable pub listed : {V : Type 0} → (List Token → Read (Cond Path V)) → List Token → Read (Conds Path V)
+listed element here = elements_at element (suc (length here)) here
+
+-- An element of a list of at most this height, each of whose values of at most some height `value` reads.
+unfoldable pub element_at : {V : Type 0} → (ℕ → List Token → Read V) → ℕ → List Token → Read (Cond Path V)
+element_at value zero here = None
+element_at value (suc high) here = cond_layer high (value high) (listed (element_at value high)) (element_at value high) here
+
+unfoldable pub list_at : {V : Type 0} → (ℕ → List Token → Read V) → ℕ → List Token → Read (Conds Path V)
+list_at value high here = listed (element_at value high) here

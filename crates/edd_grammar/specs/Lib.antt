@@ -3,3 +3,4 @@ pub mod Reading
 pub mod ExpressionReading
 pub mod Following
 pub mod ConditionalReading
+pub mod DeclarationReading

@@ -1,16 +1,21 @@
 //! Laws of the readers, for the crates above.
 
-ghost use Rattle.std.specs.Prelude.{◌≡◌, ℕ, ◌≤◌, Bool, true, false, List, Some};
+ghost use Rattle.std.specs.Prelude.{◌≡◌, ℕ, ◌≤◌, Bool, true, false, List, ◌∷◌, suc, Some};
 ghost use Rattle.edd_syntax.specs.declared.symbols.Symbol.TheVariants as sign;
 ghost use Rattle.edd_syntax.specs.Text.{Text};
-ghost use Rattle.edd_syntax.specs.Token.{Token};
+ghost use Rattle.edd_syntax.specs.Token.{Token, Sign};
+ghost use Rattle.edd_syntax.specs.Statement.{Declarator};
+ghost use Rattle.edd_grammar.specs.DeclarationReading.{declarators_at};
 ghost use Rattle.edd_syntax.specs.Reference.{Path};
 ghost use Rattle.edd_syntax.specs.Expression.{Expr};
-ghost use Rattle.edd_syntax.specs.Grammar.{Place, PathHere, TextHere, ExprHere};
-ghost use Rattle.edd_syntax.specs.Size.{height};
+ghost use Rattle.edd_syntax.specs.Grammar.{Place, InAttribute, PathHere, TextHere, ExprHere};
+ghost use Rattle.edd_syntax.specs.Size.{height, leaf, cond_height, conds_height, declarator_height};
+ghost use Rattle.edd_syntax.specs.Conditional.{Cond, Conds};
+ghost use Rattle.edd_syntax.specs.StatementGrammar.{OneHere, ListHere, DeclaratorsHere};
+ghost use Rattle.edd_grammar.specs.ConditionalReading.{one_at, list_at, text_value, expr_value};
 ghost use Rattle.edd_grammar.specs.Reading.{at, path_at, is_text, text_at};
 ghost use Rattle.edd_grammar.specs.ExpressionReading.{expr_at};
-ghost use Rattle.edd_grammar.specs.Following.{Stops};
+ghost use Rattle.edd_grammar.specs.Following.{Stops, EndsBranch};
 
 /// A path that is read is spelled by the tokens that were taken.
 pub fn read_paths_are_spelled()
@@ -58,4 +63,86 @@ pub fn one_expression()
     ensures { (p : Place) (row : ℕ) (e f : Expr Path) (here rest behind : List Token) → row ≤ 13
         → Stops row rest → Stops row behind → ExprHere p row e here rest
         → ExprHere p row f here behind → (e ≡ f) × (rest ≡ behind) }
+{}
+
+/// A single conditional text that is read is spelled by the tokens that were taken, and is no
+/// higher than the limit it was read with.
+pub fn read_conditional_texts_are_spelled()
+    ensures { (high : ℕ) (here : List Token) (x : Cond Path Text) (rest : List Token)
+        → one_at text_value high here ≡ Some (x, rest)
+        → OneHere TextHere x here rest × (cond_height leaf x ≤ high) }
+{}
+
+/// A single conditional text that is spelled, no higher than the limit, is read.
+pub fn spelled_conditional_texts_are_read()
+    ensures { (high : ℕ) (x : Cond Path Text) (here rest : List Token)
+        → OneHere TextHere x here rest → cond_height leaf x ≤ high
+        → one_at text_value high here ≡ Some (x, rest) }
+{}
+
+/// From one place on, tokens spell one conditional text at most, and it ends in one place.
+pub fn one_conditional_of_texts()
+    ensures { (x y : Cond Path Text) (here rest behind : List Token) → OneHere TextHere x here rest
+        → OneHere TextHere y here behind → (x ≡ y) × (rest ≡ behind) }
+{}
+
+/// A single conditional expression that is read is spelled by the tokens that were taken, and is no
+/// higher than the limit it was read with.
+pub fn read_conditional_values_are_spelled()
+    ensures { (high : ℕ) (here : List Token) (x : Cond Path (Expr Path)) (rest : List Token)
+        → one_at expr_value high here ≡ Some (x, rest)
+        → OneHere (ExprHere InAttribute 2) x here rest × (cond_height height x ≤ high) }
+{}
+
+/// A single conditional expression that is spelled, no higher than the limit, is read.
+pub fn spelled_conditional_values_are_read()
+    ensures { (high : ℕ) (x : Cond Path (Expr Path)) (here rest : List Token)
+        → OneHere (ExprHere InAttribute 2) x here rest → cond_height height x ≤ high
+        → one_at expr_value high here ≡ Some (x, rest) }
+{}
+
+/// From one place on, tokens spell one conditional expression at most, and it ends in one place.
+pub fn one_conditional_of_values()
+    ensures { (x y : Cond Path (Expr Path)) (here rest behind : List Token) → OneHere (ExprHere InAttribute 2) x here rest
+        → OneHere (ExprHere InAttribute 2) y here behind → (x ≡ y) × (rest ≡ behind) }
+{}
+
+/// A list of conditional texts that is read is spelled by the tokens that were taken, and is no
+/// higher than the limit it was read with.
+pub fn read_lists_are_spelled()
+    ensures { (high : ℕ) (here : List Token) (all : Conds Path Text) (rest : List Token)
+        → list_at text_value high here ≡ Some (all, rest)
+        → ListHere TextHere all here rest × (conds_height leaf all ≤ high) }
+{}
+
+/// A list of conditional texts that is spelled, no higher than the limit, is read, where a closing
+/// brace or the next arm follows.
+pub fn spelled_lists_are_read()
+    ensures { (high : ℕ) (all : Conds Path Text) (here rest : List Token)
+        → ListHere TextHere all here rest → conds_height leaf all ≤ high → EndsBranch rest
+        → list_at text_value high here ≡ Some (all, rest) }
+{}
+
+/// From one place on, tokens spell one list of conditional texts at most, where a closing brace or
+/// the next arm follows.
+pub fn one_list()
+    ensures { (all others : Conds Path Text) (here rest behind : List Token)
+        → ListHere TextHere all here rest → ListHere TextHere others here behind
+        → EndsBranch rest → EndsBranch behind → (all ≡ others) × (rest ≡ behind) }
+{}
+
+/// Declarators that are read are spelled by the tokens that were taken, and their values are no
+/// higher than the limit they were read with.
+pub fn read_declarators_are_spelled()
+    ensures { (high : ℕ) (here : List Token) (ds : List (Declarator Path)) (rest : List Token)
+        → declarators_at high here ≡ Some (ds, rest)
+        → DeclaratorsHere ds here rest × (declarator_height ds ≤ suc high) }
+{}
+
+/// Declarators that are spelled, whose values are no higher than the limit, are read, where a
+/// semicolon follows.
+pub fn spelled_declarators_are_read()
+    ensures { (high : ℕ) (ds : List (Declarator Path)) (here rest : List Token)
+        → DeclaratorsHere ds here (Sign sign.Semicolon ∷ rest) → declarator_height ds ≤ suc high
+        → declarators_at high here ≡ Some (ds, Sign sign.Semicolon ∷ rest) }
 {}
