@@ -1,3 +1,5 @@
+pub mod Counting
 pub mod FirstLaws
 pub mod Missing
+pub mod Repeating
 pub mod Spends

@@ -1,9 +1,8 @@
 -- Laws of spending nodes.
 use Rattle.std.proofs.Common.{◌≡◌, sym, ap, ◌∙◌, ℕ, ◌+◌, ◌<◌, ◌≤◌, List, [], ◌∷◌, length, get_or, drop, map, arith}
-use Rattle.std.specs.Prelude.{Option, Some, None}
 use Rattle.std.proofs.lemmas.List.{at_drop_more}
 use Rattle.std.proofs.lemmas.Bool.Decides.{nat_tests}
-use Rattle.std.specs.Prelude.{Vec}
+use Rattle.std.specs.Prelude.{Option, Some, None, Vec, is_none, nat_lt}
 use Rattle.std.specs.declared.alloc.Global.{Global}
 use Rattle.edd_syntax.specs.declared.expr.Expr.{Expr}
 use Rattle.edd_syntax.specs.declared.expr.Expr.TheVariants as e
@@ -109,3 +108,7 @@ spent_block f x v items budget left r is same first last =
 pub spent_switch : {R S : Type 0} (f : R → S) (x : Stmt R) (on : Expr R) (v : Vec (Part R) Global) (items : List (Part R)) (budget left rest : ℕ) (r : Option ℕ) → x ≡ s.Switch on v → items ≡ v.items → Some left ≡ spent budget 1 → Some rest ≡ spent left (nodes (expr_of f on)) → r ≡ spent rest (body_nodes (body_from (map (part_of f) items))) → r ≡ spent budget (statement_nodes (stmt_of f x))
 spent_switch f x on v items budget left rest r is same first second last =
     last ∙ ap (λ xs. spent rest (body_nodes (body_from (map (part_of f) xs)))) same ∙ spent_then left rest _ _ second ∙ spent_then budget left 1 _ first ∙ ap (λ y. spent budget (statement_nodes y)) (sym (switch_is f x on v is))
+
+-- the things are too many exactly if the limit is not enough for them
+pub over_limit : (r : Option ℕ) (limit n : ℕ) → r ≡ spent limit n → is_none r ≡ nat_lt limit n
+over_limit r limit n h = rw h (grind (arith, nat_tests))

@@ -2,4 +2,6 @@
 #![tactic(auto)]
 
 mod attributes;
+mod counts;
 mod nodes;
+mod repeats;
