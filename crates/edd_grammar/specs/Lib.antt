@@ -4,3 +4,9 @@ pub mod ExpressionReading
 pub mod Following
 pub mod ConditionalReading
 pub mod DeclarationReading
+pub mod StatementReading
+pub mod WordReading
+pub mod ValueReading
+pub mod TypeReading
+pub mod AttributeReading
+pub mod UnitReading

@@ -1,0 +1,75 @@
+-- Reading the types of variables from left to right.
+use Rattle.std.specs.Prelude.{ℕ, List, [], ◌∷◌, drop, Option, Some, None, codes, if◌then◌else◌}
+use Rattle.std.specs.Str.{bytes_eq}
+use Rattle.edd_syntax.specs.declared.types.VarType.{VarType}
+use Rattle.edd_syntax.specs.declared.types.VarType.TheVariants as var_type
+use Rattle.edd_syntax.specs.declared.symbols.Keyword.TheVariants as word
+use Rattle.edd_syntax.specs.declared.symbols.Symbol.TheVariants as sign
+use Rattle.edd_syntax.specs.Text.{Name}
+use Rattle.edd_syntax.specs.Token.{Token, Sign}
+use Rattle.edd_syntax.specs.Reference.{Path}
+use Rattle.edd_syntax.specs.Item as item
+use Rattle.edd_syntax.specs.Item.{TypeWord, TypePart}
+use Rattle.edd_syntax.specs.ItemGrammar.{behind_braces}
+use Rattle.edd_grammar.specs.Reading.{◌>>=◌, on_option, Read, at, expect, at_word, name_at}
+use Rattle.edd_grammar.specs.ConditionalReading.{one_at, element_at, text_value, expr_value, skip_comma}
+use Rattle.edd_grammar.specs.WordReading.{integer_at, braced, row_inside}
+use Rattle.edd_grammar.specs.ValueReading.{enumerator_value}
+
+-- the type with this name
+abbrev pub type_of : Name → Option VarType
+type_of name =
+    if bytes_eq name (codes "INTEGER") then Some var_type.Integer
+    else if bytes_eq name (codes "UNSIGNED_INTEGER") then Some var_type.UnsignedInteger
+    else if bytes_eq name (codes "ENUMERATED") then Some var_type.Enumerated
+    else if bytes_eq name (codes "BIT_ENUMERATED") then Some var_type.BitEnumerated
+    else None
+
+-- `(size)`, or none
+unfoldable pub size_at : List Token → Read (Option ℕ)
+size_at here =
+    if at sign.OpenParenthesis here
+    then (integer_at (drop 1 here) >>= λ n. expect sign.CloseParenthesis n.1 >>= λ rest. Some (Some n.0, rest))
+    else Some (None, here)
+
+-- a part of at most this height of what stands in the braces of a type
+unfoldable pub type_part_at : ℕ → List Token → Read (TypePart Path)
+type_part_at high here =
+    if at_word word.DefaultValue here then (one_at expr_value high (drop 1 here) >>= λ c. Some (item.DefaultValue c.0, c.1))
+    else if at_word word.MinValue here then (one_at expr_value high (drop 1 here) >>= λ c. Some (item.MinValue c.0, c.1))
+    else if at_word word.MaxValue here then (one_at expr_value high (drop 1 here) >>= λ c. Some (item.MaxValue c.0, c.1))
+    else if at_word word.DisplayFormat here then (one_at text_value high (drop 1 here) >>= λ c. Some (item.DisplayFormat c.0, c.1))
+    else if at_word word.EditFormat here then (one_at text_value high (drop 1 here) >>= λ c. Some (item.EditFormat c.0, c.1))
+    else (element_at enumerator_value high here >>= λ c. Some (item.Element c.0, skip_comma c.1))
+
+-- a semicolon, or braces
+unfoldable pub type_parts_at : ℕ → List Token → Read (List (TypePart Path))
+type_parts_at high here =
+    if at sign.Semicolon here then Some ([], drop 1 here) else braced (row_inside (type_part_at high)) here
+
+-- What stands behind a type of another word: behind its first semicolon, or behind the brace that closes the first brace.
+unfoldable pub behind_other : List Token → Option (List Token)
+behind_other [] = None
+behind_other (Sign sign.Semicolon ∷ rest) = Some rest
+behind_other (Sign sign.OpenBrace ∷ rest) = behind_braces 1 rest
+behind_other (Sign sign.CloseBrace ∷ rest) = None
+behind_other (_ ∷ rest) = behind_other rest
+
+-- a type as it is written, and its parts
+abbrev pub WrittenType : Type 0
+WrittenType = TypeWord × List (TypePart Path)
+
+-- behind the name of a type
+unfoldable pub known_type_at : ℕ → VarType → List Token → Read WrittenType
+known_type_at high type here = do
+  (size, from) ← size_at here
+  (parts, rest) ← type_parts_at high from
+  Some ((item.Known type size, parts), rest)
+
+-- behind another word
+unfoldable pub other_type_at : Name → List Token → Read WrittenType
+other_type_at name here = behind_other here >>= λ rest. Some ((item.Other name, []), rest)
+
+-- behind TYPE
+unfoldable pub type_at : ℕ → List Token → Read WrittenType
+type_at high here = name_at here >>= λ n. on_option (type_of n.0) (other_type_at n.0 n.1) (λ type. known_type_at high type n.1)
