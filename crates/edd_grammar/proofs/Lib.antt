@@ -14,3 +14,6 @@ pub mod ValueKinds
 pub mod SoundLists
 pub mod CompleteLists
 pub mod Declarations
+pub mod Alternatives
+pub mod SoundStatements
+pub mod CompleteStatements

@@ -4,14 +4,15 @@ ghost use Rattle.std.specs.Prelude.{◌≡◌, ℕ, ◌≤◌, Bool, true, false
 ghost use Rattle.edd_syntax.specs.declared.symbols.Symbol.TheVariants as sign;
 ghost use Rattle.edd_syntax.specs.Text.{Text};
 ghost use Rattle.edd_syntax.specs.Token.{Token, Sign};
-ghost use Rattle.edd_syntax.specs.Statement.{Declarator};
+ghost use Rattle.edd_syntax.specs.Statement.{Declarator, Stmt, Body};
 ghost use Rattle.edd_grammar.specs.DeclarationReading.{declarators_at};
+ghost use Rattle.edd_grammar.specs.StatementReading.{statement_at, definition_at};
 ghost use Rattle.edd_syntax.specs.Reference.{Path};
 ghost use Rattle.edd_syntax.specs.Expression.{Expr};
 ghost use Rattle.edd_syntax.specs.Grammar.{Place, InAttribute, PathHere, TextHere, ExprHere};
-ghost use Rattle.edd_syntax.specs.Size.{height, leaf, cond_height, conds_height, declarator_height};
+ghost use Rattle.edd_syntax.specs.Size.{height, leaf, cond_height, conds_height, declarator_height, statement_height, body_height};
 ghost use Rattle.edd_syntax.specs.Conditional.{Cond, Conds};
-ghost use Rattle.edd_syntax.specs.StatementGrammar.{OneHere, ListHere, DeclaratorsHere};
+ghost use Rattle.edd_syntax.specs.StatementGrammar.{OneHere, ListHere, DeclaratorsHere, StmtHere, BodyHere};
 ghost use Rattle.edd_grammar.specs.ConditionalReading.{one_at, list_at, text_value, expr_value};
 ghost use Rattle.edd_grammar.specs.Reading.{at, path_at, is_text, text_at};
 ghost use Rattle.edd_grammar.specs.ExpressionReading.{expr_at};
@@ -145,4 +146,47 @@ pub fn spelled_declarators_are_read()
     ensures { (high : ℕ) (ds : List (Declarator Path)) (here rest : List Token)
         → DeclaratorsHere ds here (Sign sign.Semicolon ∷ rest) → declarator_height ds ≤ suc high
         → declarators_at high here ≡ Some (ds, Sign sign.Semicolon ∷ rest) }
+{}
+
+/// A statement that is read is spelled by the tokens that were taken, and is no higher than the
+/// limit it was read with.
+pub fn read_statements_are_spelled()
+    ensures { (high : ℕ) (here : List Token) (s : Stmt Path) (rest : List Token)
+        → statement_at high here ≡ Some (s, rest)
+        → StmtHere s here rest × (statement_height s ≤ high) }
+{}
+
+/// A statement that is spelled, no higher than the limit, is read, whatever follows.
+pub fn spelled_statements_are_read()
+    ensures { (high : ℕ) (s : Stmt Path) (here rest : List Token)
+        → StmtHere s here rest → statement_height s ≤ high
+        → statement_at high here ≡ Some (s, rest) }
+{}
+
+/// From one place on, tokens spell one statement at most, and it ends in one place.
+pub fn one_statement()
+    ensures { (s t : Stmt Path) (here rest behind : List Token) → StmtHere s here rest
+        → StmtHere t here behind → (s ≡ t) × (rest ≡ behind) }
+{}
+
+/// A body that is read is spelled by the tokens up to its closing brace, and is no higher than the
+/// limit it was read with.
+pub fn read_bodies_are_spelled()
+    ensures { (high : ℕ) (here : List Token) (body : Body Path) (rest : List Token)
+        → definition_at high here ≡ Some (body, rest)
+        → BodyHere false body here (Sign sign.CloseBrace ∷ rest) × (body_height body ≤ high) }
+{}
+
+/// A body that is spelled up to a closing brace, no higher than the limit, is read.
+pub fn spelled_bodies_are_read()
+    ensures { (high : ℕ) (body : Body Path) (here rest : List Token)
+        → BodyHere false body here (Sign sign.CloseBrace ∷ rest) → body_height body ≤ high
+        → definition_at high here ≡ Some (body, rest) }
+{}
+
+/// From one place on, tokens spell one body up to its closing brace at most.
+pub fn one_body()
+    ensures { (a b : Body Path) (here rest behind : List Token)
+        → BodyHere false a here (Sign sign.CloseBrace ∷ rest)
+        → BodyHere false b here (Sign sign.CloseBrace ∷ behind) → (a ≡ b) × (rest ≡ behind) }
 {}
