@@ -29,17 +29,17 @@ ends_no_comma rest (inl e) = ap (at sign.Comma) (at_is sign.CloseBrace rest e)
 ends_no_comma rest (inr (inl e)) = ap (at sign.Comma) (at_word_is word.Case rest e)
 ends_no_comma rest (inr (inr e)) = ap (at sign.Comma) (at_word_is word.Default rest e)
 
-comma_shorter : (here rest : List Token) → OptionalSign sign.Comma here rest → length rest ≤ length here
+pub comma_shorter : (here rest : List Token) → OptionalSign sign.Comma here rest → length rest ≤ length here
 comma_shorter here rest (inl h) = omega (arith, ap length h)
 comma_shorter here rest (inr h) = omega (arith, ap length h)
 
 module _ {V : Type 0} (of : V → ℕ) (Here : Spelling V) (Follows : List Token → Type 0) (value : ℕ → List Token → Read V) (values : ListedValue of Here Follows value) where
   mutual
-    list_shorter : (all : Conds Path V) (here rest : List Token) → ListHere Here all here rest → length rest ≤ length here
+    pub list_shorter : (all : Conds Path V) (here rest : List Token) → ListHere Here all here rest → length rest ≤ length here
     list_shorter cond.Nil here rest h = omega (arith, ap length h)
     list_shorter (cond.Cons c more) here rest h = omega (arith, element_shorter c here h.0 h.2, comma_shorter h.0 h.1 h.3, list_shorter more h.1 rest h.4)
 
-    element_shorter : (x : Cond Path V) (here rest : List Token) → ElementHere Here x here rest → length rest < length here
+    pub element_shorter : (x : Cond Path V) (here rest : List Token) → ElementHere Here x here rest → length rest < length here
     element_shorter (Value v) here rest h = values.shorter v here rest h
     element_shorter (cond.If condition first otherwise) here rest h =
         omega (
@@ -69,7 +69,7 @@ module _ {V : Type 0} (of : V → ℕ) (Here : Spelling V) (Follows : List Token
     arms_shorter (ConsArm (Default body) arms) here rest h = omega (arith, ap length h.2, list_shorter body h.0 h.1 h.3, arms_shorter arms h.1 rest h.4)
 
   -- where an element begins, a list does not end, no comma stands, and a value before it ends
-  element_begins : (x : Cond Path V) (here rest : List Token) → ElementHere Here x here rest → (list_ends here ≡ false) × ((at sign.Comma here ≡ false) × Follows here)
+  pub element_begins : (x : Cond Path V) (here rest : List Token) → ElementHere Here x here rest → (list_ends here ≡ false) × ((at sign.Comma here ≡ false) × Follows here)
   element_begins (Value v) here rest h = (values.no_end v here rest h, (values.no_comma v here rest h, values.at_value v here rest h))
   element_begins (cond.If condition first otherwise) here rest h = (ap list_ends h.4, (ap (at sign.Comma) h.4, subst Follows (sym h.4) (values.at_if h.0)))
   element_begins (Select on arms) here rest h = (ap list_ends h.3, (ap (at sign.Comma) h.3, subst Follows (sym h.3) (values.at_select h.0)))
@@ -88,7 +88,7 @@ module _ {V : Type 0} (of : V → ℕ) (Here : Spelling V) (Follows : List Token
   fits (cond.If condition first otherwise) rest f = tt
   fits (Select on arms) rest f = tt
 
-  abbrev Complete : ℕ → (List Token → Read (Cond Path V)) → Type 0
+  abbrev pub Complete : ℕ → (List Token → Read (Cond Path V)) → Type 0
   Complete high inner = (x : Cond Path V) (here rest : List Token) → ElementHere Here x here rest → cond_height of x ≤ high → CondFollows Follows x rest → inner here ≡ Some (x, rest)
 
   elements_again : (high : ℕ) (inner : List Token → Read (Cond Path V)) → Complete high inner
@@ -122,7 +122,7 @@ module _ {V : Type 0} (of : V → ℕ) (Here : Spelling V) (Follows : List Token
   some_height (cond.If condition first otherwise) = omega arith
   some_height (Select on arms) = omega arith
 
-  element_again : (high : ℕ) → Complete high (element_at value high)
+  pub element_again : (high : ℕ) → Complete high (element_at value high)
   unfolding element_at
   element_again zero x here rest h low f = absurd (let some = some_height x in omega arith)
   element_again (suc high) x here rest h low f =

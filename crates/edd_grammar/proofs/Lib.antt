@@ -17,3 +17,8 @@ pub mod Declarations
 pub mod Alternatives
 pub mod SoundStatements
 pub mod CompleteStatements
+pub mod Words
+pub mod Qualifiers
+pub mod Enumerators
+pub mod Entries
+pub mod Rows

@@ -107,7 +107,7 @@ module _ {V : Type 0} (of : V → ℕ) (Here : Spelling V) (value : ℕ → List
 
   module _ (values : SingleValue of Here value) where
     mutual
-      one_shorter : (x : Cond Path V) (here rest : List Token) → OneHere Here x here rest → length rest < length here
+      pub one_shorter : (x : Cond Path V) (here rest : List Token) → OneHere Here x here rest → length rest < length here
       one_shorter (Value v) here rest h = omega (arith, values.shorter v here _ h)
       one_shorter (cond.If condition first otherwise) here rest h =
           omega (arith, ap length h.4, condition_shorter InAttribute condition h.0 h.1 h.5, ap length h.6, only_shorter first h.2 _ h.7, else_shorter otherwise h.3 rest h.8)

@@ -35,7 +35,7 @@ module _ {V : Type 0} (Here : Spelling V) where
   element_of (cond.If condition first otherwise) here rest h = h
   element_of (Select on arms) here rest h = (h.0, h.1, h.2, h.3, h.4, h.5, list_arms arms h.2 _ h.6)
 
-skip_sound : (here : List Token) → OptionalSign sign.Comma here (skip_comma here)
+pub skip_sound : (here : List Token) → OptionalSign sign.Comma here (skip_comma here)
 skip_sound here =
     elim (chosen (at sign.Comma here) (drop 1 here) here _ refl) [
       | inl (t, e) ↦ inr (at_is sign.Comma here t ∙ ap (λ r. Sign sign.Comma ∷ r) e)
@@ -89,3 +89,6 @@ module _ {V : Type 0} (of : V → ℕ) (Here : Spelling V) (value : ℕ → List
     unfolding list_at
     list_sound high here all rest e =
         listed_sound high (element_at value high) (λ here c rest e. let s = stands high here c rest e in (s.spelled, s.low)) here all rest e
+
+    pub element_sound : (high : ℕ) → SoundOf (ElementHere Here) (cond_height of) high (element_at value high)
+    element_sound high here x rest e = let s = stands high here x rest e in (s.spelled, s.low)
