@@ -22,3 +22,5 @@ pub mod Qualifiers
 pub mod Enumerators
 pub mod Entries
 pub mod Rows
+pub mod TypeParts
+pub mod Types
