@@ -24,3 +24,7 @@ pub mod Entries
 pub mod Rows
 pub mod TypeParts
 pub mod Types
+pub mod Members
+pub mod Transactions
+pub mod SoundAttributes
+pub mod CompleteAttributes

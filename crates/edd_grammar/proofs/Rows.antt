@@ -129,6 +129,9 @@ module _ {A : Type 0} (Here : Spelling A) where
       let n = semicolons_sound a.0.1 in
       as_read (λ x r. ThenSemicolons x here r × (tall x ≤ high)) a.0.0 x (skip_semicolons a.0.1) rest a.2 ((a.0.1, s.0, n.0, n.1), s.1)
 
+  pub closed_shorter : ((x : A) (here rest : List Token) → Here x here rest → length rest < length here) → (x : A) (here rest : List Token) → ThenSemicolons x here rest → length rest < length here
+  closed_shorter shorter x here rest h = omega (arith, shorter x here h.0 h.1, semicolons_shorter h.2 h.0 rest h.3)
+
   -- things that are read whatever follows, and begin with no semicolon
   pub closed_things : (tall : A → ℕ) (high : ℕ) (ends : List Token → Bool) (thing : List Token → Read A)
       → ((x : A) (here rest : List Token) → Here x here rest → tall x ≤ high → thing here ≡ Some (x, rest))
@@ -141,7 +144,7 @@ module _ {A : Type 0} (Here : Spelling A) where
   closed_things tall high ends thing again no_end no_semicolon shorter at_end = record {
     again = λ x here rest h low f. rw (again x here h.0 h.1 low, semicolons_again h.2 h.0 rest h.3 f) refl;
     no_end = λ x here rest h. no_end x here h.0 h.1;
-    shorter = λ x here rest h. omega (arith, shorter x here h.0 h.1, semicolons_shorter h.2 h.0 rest h.3);
+    shorter = closed_shorter shorter;
     at_end = at_end;
     at_next = λ x here rest h. no_semicolon x here h.0 h.1;
   }

@@ -63,6 +63,10 @@ unfolding number_at
 number_again None here rest e h = rw (h, e) refl
 number_again (Some n) here rest e h = rw h refl
 
+pub number_shorter : (n : Option ℕ) (here rest : List Token) → NumberHere n here rest → length rest ≤ length here
+number_shorter None here rest h = omega (arith, ap length h)
+number_shorter (Some n) here rest h = omega (arith, ap length h)
+
 -- ---- HANDLING
 
 behind_sound : (one : Handling) (other : Name) (here : List Token) (h : Handling) (rest : List Token) → handling_behind one other here ≡ Some (h, rest)
@@ -155,3 +159,8 @@ unfolding operation_at
 operation_again operation.Read here rest h = rw h refl
 operation_again operation.Write here rest h = rw h refl
 operation_again operation.Command here rest h = rw h refl
+
+pub operation_shorter : (o : Operation) (here rest : List Token) → OperationHere o here rest → length rest < length here
+operation_shorter operation.Read here rest h = omega (arith, ap length h)
+operation_shorter operation.Write here rest h = omega (arith, ap length h)
+operation_shorter operation.Command here rest h = omega (arith, ap length h)
