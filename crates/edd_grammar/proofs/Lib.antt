@@ -28,3 +28,5 @@ pub mod Members
 pub mod Transactions
 pub mod SoundAttributes
 pub mod CompleteAttributes
+pub mod Items
+pub mod Units

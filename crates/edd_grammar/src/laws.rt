@@ -7,6 +7,9 @@ ghost use Rattle.edd_syntax.specs.Token.{Token, Sign};
 ghost use Rattle.edd_syntax.specs.Statement.{Declarator, Stmt, Body};
 ghost use Rattle.edd_grammar.specs.DeclarationReading.{declarators_at};
 ghost use Rattle.edd_grammar.specs.StatementReading.{statement_at, definition_at};
+ghost use Rattle.edd_grammar.specs.UnitReading.{unit_at};
+ghost use Rattle.edd_syntax.specs.Item.{Description};
+ghost use Rattle.edd_syntax.specs.ItemGrammar.{Spells};
 ghost use Rattle.edd_syntax.specs.Reference.{Path};
 ghost use Rattle.edd_syntax.specs.Expression.{Expr};
 ghost use Rattle.edd_syntax.specs.Grammar.{Place, InAttribute, PathHere, TextHere, ExprHere};
@@ -189,4 +192,22 @@ pub fn one_body()
     ensures { (a b : Body Path) (here rest behind : List Token)
         → BodyHere false a here (Sign sign.CloseBrace ∷ rest)
         → BodyHere false b here (Sign sign.CloseBrace ∷ behind) → (a ≡ b) × (rest ≡ behind) }
+{}
+
+/// The unit that is read is spelled by the tokens.
+pub fn read_units_are_spelled()
+    ensures { (tokens : List Token) (unit : Description Path) → unit_at tokens ≡ Some unit
+        → Spells tokens unit }
+{}
+
+/// The unit that the tokens spell is read.
+pub fn spelled_units_are_read()
+    ensures { (tokens : List Token) (unit : Description Path) → Spells tokens unit
+        → unit_at tokens ≡ Some unit }
+{}
+
+/// Tokens spell one unit at most.
+pub fn one_tree()
+    ensures { (tokens : List Token) (a b : Description Path) → Spells tokens a → Spells tokens b
+        → a ≡ b }
 {}
