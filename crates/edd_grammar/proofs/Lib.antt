@@ -30,3 +30,5 @@ pub mod SoundAttributes
 pub mod CompleteAttributes
 pub mod Items
 pub mod Units
+pub mod KeptExpressions
+pub mod KeptConditionals

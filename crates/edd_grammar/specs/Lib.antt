@@ -10,3 +10,4 @@ pub mod ValueReading
 pub mod TypeReading
 pub mod AttributeReading
 pub mod UnitReading
+pub mod KeptTokens
