@@ -32,3 +32,7 @@ pub mod Items
 pub mod Units
 pub mod KeptExpressions
 pub mod KeptConditionals
+pub mod KeptStatements
+pub mod KeptValues
+pub mod KeptAttributes
+pub mod KeptUnits

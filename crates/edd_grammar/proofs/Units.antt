@@ -92,7 +92,7 @@ all_low (i ∷ items) low =
     is_le : (a b : ℕ) → a ≤ b → nat_le a b ≡ true
     is_le a b e = grind arith
 
-low_all : (items : List (Item Path)) → IsTrue (list_all (λ i. nat_le (item_height i) height_limit) items) → tallest item_height items ≤ height_limit
+pub low_all : (items : List (Item Path)) → IsTrue (list_all (λ i. nat_le (item_height i) height_limit) items) → tallest item_height items ≤ height_limit
 low_all [] low = omega arith
 low_all (i ∷ items) low =
     let b = both_true (nat_le (item_height i) height_limit) (list_all (λ i. nat_le (item_height i) height_limit) items) low in

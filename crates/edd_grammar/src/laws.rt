@@ -1,19 +1,21 @@
 //! Laws of the readers, for the crates above.
 
-ghost use Rattle.std.specs.Prelude.{◌≡◌, ℕ, ◌≤◌, Bool, true, false, List, ◌∷◌, suc, Some};
+ghost use Rattle.std.specs.Prelude.{◌≡◌, ℕ, ◌≤◌, Bool, true, false, IsTrue, List, ◌∷◌, suc, Some};
 ghost use Rattle.edd_syntax.specs.declared.symbols.Symbol.TheVariants as sign;
 ghost use Rattle.edd_syntax.specs.Text.{Text};
 ghost use Rattle.edd_syntax.specs.Token.{Token, Sign};
 ghost use Rattle.edd_syntax.specs.Statement.{Declarator, Stmt, Body};
 ghost use Rattle.edd_grammar.specs.DeclarationReading.{declarators_at};
 ghost use Rattle.edd_grammar.specs.StatementReading.{statement_at, definition_at};
-ghost use Rattle.edd_grammar.specs.UnitReading.{unit_at};
-ghost use Rattle.edd_syntax.specs.Item.{Description};
+ghost use Rattle.edd_grammar.specs.UnitReading.{item_at, unit_at};
+ghost use Rattle.edd_grammar.specs.KeptTokens.{Kept};
+ghost use Rattle.edd_syntax.specs.WellFormed.{is_path, is_plain, is_item, are_items};
+ghost use Rattle.edd_syntax.specs.Item.{Item, Description};
 ghost use Rattle.edd_syntax.specs.ItemGrammar.{Spells};
 ghost use Rattle.edd_syntax.specs.Reference.{Path};
 ghost use Rattle.edd_syntax.specs.Expression.{Expr};
 ghost use Rattle.edd_syntax.specs.Grammar.{Place, InAttribute, PathHere, TextHere, ExprHere};
-ghost use Rattle.edd_syntax.specs.Size.{height, leaf, cond_height, conds_height, declarator_height, statement_height, body_height};
+ghost use Rattle.edd_syntax.specs.Size.{height_limit, height, leaf, cond_height, conds_height, declarator_height, statement_height, body_height};
 ghost use Rattle.edd_syntax.specs.Conditional.{Cond, Conds};
 ghost use Rattle.edd_syntax.specs.StatementGrammar.{OneHere, ListHere, DeclaratorsHere, StmtHere, BodyHere};
 ghost use Rattle.edd_grammar.specs.ConditionalReading.{one_at, list_at, text_value, expr_value};
@@ -210,4 +212,18 @@ pub fn spelled_units_are_read()
 pub fn one_tree()
     ensures { (tokens : List Token) (a b : Description Path) → Spells tokens a → Spells tokens b
         → a ≡ b }
+{}
+
+/// An item that is read from kept tokens is one as the parser makes it, and the tokens behind it
+/// are kept.
+pub fn read_items_are_kept()
+    ensures { (here : List Token) (i : Item Path) (rest : List Token)
+        → item_at height_limit here ≡ Some (i, rest) → Kept here
+        → IsTrue (is_item is_path is_plain i) × Kept rest }
+{}
+
+/// The items of a unit that kept tokens spell are items as the parser makes them.
+pub fn spelled_units_are_kept()
+    ensures { (tokens : List Token) (unit : Description Path) → Spells tokens unit → Kept tokens
+        → IsTrue (are_items unit.items) }
 {}
