@@ -117,14 +117,6 @@ declaration_again zero ds here rest h low = absurd (omega arith)
 declaration_again (suc zero) ds here rest h low = absurd (let tall = declarators_tall ds here _ h in omega arith)
 declaration_again (suc (suc high)) ds here rest h low = rw (declarators_again high ds here rest h (omega arith), expect_again sign.Semicolon rest) refl
 
-local_type_again : (here rest : List Token) → LocalTypeHere here rest → at_local_type here ≡ true
-local_type_again here rest (inl h) = ap at_local_type h
-local_type_again here rest (inr h) = ap at_local_type h
-
-local_type_close : (here rest : List Token) → LocalTypeHere here rest → (at sign.CloseBrace here ≡ false)
-local_type_close here rest (inl h) = ap (at sign.CloseBrace) h
-local_type_close here rest (inr h) = ap (at sign.CloseBrace) h
-
 case_label_again : (z : ℤ) (here from rest : List Token) → CaseHere word.MethodCase z here rest → here ≡ Reserved word.MethodCase ∷ from → case_label_at from ≡ Some (z, rest)
 unfolding case_label_at
 case_label_again z here from rest h e =
