@@ -52,14 +52,14 @@ optional_kept (Some e) here rest h k = expr_kept InMethod 1 e here rest h k
 
 -- ---- statements
 
-two : (a b : Bool) → a ≡ true → b ≡ true → (a && b) ≡ true
-two true b e f = f
-two false b e f = absurd cc
+and_true : (a b : Bool) → a ≡ true → b ≡ true → (a && b) ≡ true
+and_true true b e f = f
+and_true false b e f = absurd cc
 
-three : (a b c : Bool) → a ≡ true → b ≡ true → c ≡ true → (a && b && c) ≡ true
-three true true c e f g = g
-three true false c e f g = absurd cc
-three false b c e f g = absurd cc
+and_and_true : (a b c : Bool) → a ≡ true → b ≡ true → c ≡ true → (a && b && c) ≡ true
+and_and_true true true c e f g = g
+and_and_true true false c e f g = absurd cc
+and_and_true false b c e f g = absurd cc
 
 mutual
   pub statement_kept : (s : Stmt Path) (here rest : List Token) → StmtHere s here rest → Kept here → Both (is_stmt is_path is_plain s) rest
@@ -114,8 +114,8 @@ mutual
   body_kept labels (Cons (CaseLabel label) more) here rest h k =
       let first = case_kept word.MethodCase label here h.1 h.2 k in
       let others = body_kept labels more h.1 rest h.3 first.1 in
-      (three labels _ _ h.0 first.0 others.0, others.1)
+      (and_and_true labels _ _ h.0 first.0 others.0, others.1)
   body_kept labels (Cons DefaultLabel more) here rest h k =
       let colon = kept_next (Reserved word.MethodDefault) here (Sign sign.Colon ∷ h.1) h.2 k in
       let others = body_kept labels more h.1 rest h.3 (kept_tail (Sign sign.Colon) h.1 colon.1) in
-      (two labels _ h.0 others.0, others.1)
+      (and_true labels _ h.0 others.0, others.1)

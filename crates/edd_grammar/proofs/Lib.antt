@@ -36,3 +36,5 @@ pub mod KeptStatements
 pub mod KeptValues
 pub mod KeptAttributes
 pub mod KeptUnits
+pub mod WorkedUnits
+pub mod WorkedRules

@@ -47,7 +47,8 @@ unfoldable pub type_parts_at : ℕ → List Token → Read (List (TypePart Path)
 type_parts_at high here =
     if at sign.Semicolon here then Some ([], drop 1 here) else braced (row_inside (type_part_at high)) here
 
--- What stands behind a type of another word: behind its first semicolon, or behind the brace that closes the first brace.
+-- What stands behind a type whose word is another one: it ends at its first semicolon or, where a brace stands before one, at
+-- the brace that closes that.
 unfoldable pub behind_other : List Token → Option (List Token)
 behind_other [] = None
 behind_other (Sign sign.Semicolon ∷ rest) = Some rest
