@@ -1,5 +1,7 @@
 pub mod Arguments
 pub mod FirstLaws
 pub mod Splits
+pub mod StatefulLoops
+pub mod UnderConditions
+pub mod Weights
 pub mod TypeBreaches
-pub mod ValueBreaches

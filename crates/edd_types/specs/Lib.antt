@@ -1,3 +1,4 @@
+pub mod Breaches
 pub mod Found
 pub mod Parameters
 pub mod WrongTypes

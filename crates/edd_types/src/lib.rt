@@ -1,9 +1,12 @@
 //! The check of a description against the profile.
 #![tactic(auto)]
 
+mod breach;
 mod breaks;
 mod calls;
+mod conditionals;
 mod constants;
 mod decimals;
 pub mod fault;
 mod types;
+mod values;

@@ -1,0 +1,88 @@
+//! The values that stand under conditions.
+
+ghost use Rattle.std.specs.Prelude.{◌≡◌, List};
+ghost use Rattle.edd_syntax.specs.TreeView.{expr_of};
+ghost use Rattle.edd_syntax.specs.ItemView.{data_item_of};
+ghost use Rattle.edd_syntax.specs.Refusal.{Refusal, first_of};
+ghost use Rattle.edd_types.specs.declared.breach.Breach.{Breach};
+ghost use Rattle.edd_types.specs.Breaches.{refusal_of, in_part, in_nothing, in_enumerator, in_data_item};
+ghost use Rattle.edd_types.specs.Found.{found};
+
+use crate::breach::{Breach, check_expression};
+use crate::constants::check_item;
+use edd_syntax::expr::Expr;
+use edd_syntax::item::{DataItem, Enumerator, MenuEntry};
+use edd_syntax::reference::Target;
+use edd_syntax::text::Text;
+use edd_syntax::types::Handling;
+
+/// A value that may have a breach in it.
+pub trait Value {
+    ghost breaches: { Breach → Self → List Refusal };
+
+    /// The line of the first such breach.
+    fn check_value(&self, breach: Breach) -> Result<(), u32>
+        ensures { found (refusal_of breach) result ≡ first_of (breaches breach self.now) };
+}
+
+impl Value for Text {
+    ghost breaches = { in_nothing };
+
+    fn check_value(&self, _breach: Breach) -> Result<(), u32> {
+        Ok(())
+    }
+}
+
+impl Value for Handling {
+    ghost breaches = { in_nothing };
+
+    fn check_value(&self, _breach: Breach) -> Result<(), u32> {
+        Ok(())
+    }
+}
+
+impl Value for bool {
+    ghost breaches = { in_nothing };
+
+    fn check_value(&self, _breach: Breach) -> Result<(), u32> {
+        Ok(())
+    }
+}
+
+impl Value for MenuEntry<Target> {
+    ghost breaches = { in_nothing };
+
+    fn check_value(&self, _breach: Breach) -> Result<(), u32> {
+        Ok(())
+    }
+}
+
+impl Value for Expr<Target> {
+    ghost breaches = { λ b e. in_part b (expr_of (λ r. r) e) };
+
+    fn check_value(&self, breach: Breach) -> Result<(), u32> {
+        check_expression(breach, self, false)
+    }
+}
+
+impl Value for Enumerator {
+    ghost breaches = { in_enumerator };
+
+    fn check_value(&self, breach: Breach) -> Result<(), u32> {
+        match breach {
+            Breach::Enumerator => Err(self.line),
+            Breach::Call | Breach::Decimal | Breach::Constant | Breach::Default => Ok(()),
+        }
+    }
+}
+
+impl Value for DataItem<Target> {
+    ghost breaches = { λ b d. in_data_item b (data_item_of (λ r. r) d) };
+
+    fn check_value(&self, breach: Breach) -> Result<(), u32> {
+        match breach {
+            Breach::Constant => check_item(self),
+            Breach::Enumerator | Breach::Call | Breach::Decimal | Breach::Default => Ok(()),
+        }
+    }
+}
