@@ -1,4 +1,5 @@
 pub mod Arguments
+pub mod BareViews
 pub mod FirstLaws
 pub mod Splits
 pub mod StatefulLoops
