@@ -1,13 +1,13 @@
 -- What a walk over the expressions, the values and the conditionals of an attribute looks for.
-use Rattle.std.specs.Prelude.{Bool, true, false, List, [], ◌∷◌, ◌++◌}
+use Rattle.std.specs.Prelude.{Bool, true, false, List, [], ◌∷◌, ◌++◌, Option}
 use Rattle.std.specs.List.{flat_map}
 use Rattle.edd_syntax.specs.declared.reference.Target.{Target}
 use Rattle.edd_syntax.specs.Expression.{Expr}
 use Rattle.edd_syntax.specs.Conditional as cond
 use Rattle.edd_syntax.specs.Conditional.{Cond, Value, If, Select, Conds, Arm, Arms, NoArms, ConsArm, Case, Default}
-use Rattle.edd_syntax.specs.Statement.{Stmt, Body}
+use Rattle.edd_syntax.specs.Statement.{Declarator, Stmt, Body}
 use Rattle.edd_syntax.specs.Item as item
-use Rattle.edd_syntax.specs.SubsetRules.{Placed, part_of, stmt_expressions, body_expressions, call_mismatches, decimals, data_breaches}
+use Rattle.edd_syntax.specs.SubsetRules.{Placed, part_of, optional_part, stmt_expressions, body_expressions, call_mismatches, decimals, data_breaches}
 use Rattle.edd_syntax.specs.Refusal.{Refusal, Mismatch, FloatValue, ConstRange, DuplicateCase, refused_if}
 use Rattle.edd_types.specs.declared.breach.Breach.{Breach}
 use Rattle.edd_types.specs.declared.breach.Breach.TheVariants as breach
@@ -99,3 +99,14 @@ in_statement b s = in_expressions b (stmt_expressions s)
 
 unfoldable pub in_body : Breach → Body Target → List Refusal
 in_body b body = in_expressions b (body_expressions body)
+
+unfoldable pub in_optional : Breach → Option (Expr Target) → List Refusal
+in_optional b e = in_expressions b (optional_part e)
+
+-- in the three parts of `for`
+unfoldable pub in_header : Breach → (initial condition update : Option (Expr Target)) → List Refusal
+in_header b initial condition update = in_optional b initial ++ (in_optional b condition ++ in_optional b update)
+
+-- in the values of declarators
+unfoldable pub in_declarators : Breach → List (Declarator Target) → List Refusal
+in_declarators b declarators = in_expressions b (flat_map (λ d. optional_part d.value) declarators)

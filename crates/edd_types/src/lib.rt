@@ -8,5 +8,6 @@ mod conditionals;
 mod constants;
 mod decimals;
 pub mod fault;
+mod statements;
 mod types;
 mod values;
