@@ -1,4 +1,5 @@
 pub mod Breaches
 pub mod Found
 pub mod Parameters
+pub mod SwitchLabels
 pub mod WrongTypes

@@ -8,6 +8,7 @@ mod conditionals;
 mod constants;
 mod decimals;
 pub mod fault;
+mod labels;
 mod statements;
 mod types;
 mod values;
