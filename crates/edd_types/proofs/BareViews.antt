@@ -7,10 +7,16 @@ use Rattle.edd_syntax.specs.declared.cond.Cond.{Cond, Value, If', Select', Row_o
 use Rattle.edd_syntax.specs.declared.cond.Arm.{Arm, Case', Default'}
 use Rattle.edd_syntax.specs.Conditional.{conds_from, arms_from}
 use Rattle.edd_syntax.specs.TreeView.{expr_of}
-use Rattle.edd_syntax.specs.ItemView.{cond_of, conds_in, arm_of, arms_in}
+use Rattle.edd_syntax.specs.declared.expr.Expr.{Expr}
+use Rattle.edd_syntax.specs.declared.text.Text.{Text}
+use Rattle.edd_syntax.specs.declared.item.Enumerator.{Enumerator}
+use Rattle.edd_syntax.specs.declared.item.DataItem.{DataItem}
+use Rattle.edd_syntax.specs.declared.item.MenuEntry.{MenuEntry}
+use Rattle.edd_syntax.specs.WordsView.{text_of}
+use Rattle.edd_syntax.specs.ItemView.{cond_of, conds_in, arm_of, arms_in, enumerator_of, data_item_of, entry_of}
 use Rattle.edd_syntax.specs.Refusal.{Refusal}
 use Rattle.edd_types.specs.declared.breach.Breach.{Breach}
-use Rattle.edd_types.specs.Breaches.{in_part, in_cond, in_conds, in_arms, in_default}
+use Rattle.edd_types.specs.Breaches.{in_part, in_nothing, in_enumerator, in_data_item, in_cond, in_conds, in_arms, in_default}
 
 module _ {V W : Type 0} (b : Breach) (of : W → List Refusal) (g : V → W) where
   mutual
@@ -43,3 +49,23 @@ module _ {V W : Type 0} (b : Breach) (of : W → List Refusal) (g : V → W) whe
   bare_list (c ∷ rest) =
       ap (λ xs. xs ++ in_conds b (λ v. of (g v)) (conds_from (map (cond_of (λ r. r) (λ v. v)) rest))) (bare_cond c)
       ∙ ap (λ xs. in_cond b of (cond_of (λ r. r) g c) ++ xs) (bare_list rest)
+
+-- ---- for each sort of values
+
+module _ (b : Breach) where
+  pub bare_text : (c : Cond Target Text) → in_cond b (in_nothing b) (cond_of (λ r. r) (λ v. v) c) ≡ in_cond b (in_nothing b) (cond_of (λ r. r) text_of c)
+  bare_text = bare_cond b (in_nothing b) text_of
+
+  pub bare_value : (c : Cond Target (Expr Target)) → in_cond b (λ e. in_part b (expr_of (λ r. r) e)) (cond_of (λ r. r) (λ v. v) c) ≡ in_cond b (in_part b) (cond_of (λ r. r) (expr_of (λ r. r)) c)
+  bare_value = bare_cond b (in_part b) (expr_of (λ r. r))
+
+  pub bare_enumerator : (c : Cond Target Enumerator) → in_cond b (λ e. in_enumerator b (enumerator_of e)) (cond_of (λ r. r) (λ v. v) c) ≡ in_cond b (in_enumerator b) (cond_of (λ r. r) enumerator_of c)
+  bare_enumerator = bare_cond b (in_enumerator b) enumerator_of
+
+  pub bare_data : (all : List (Cond Target (DataItem Target))) → in_conds b (λ d. in_data_item b (data_item_of (λ r. r) d)) (conds_from (map (cond_of (λ r. r) (λ v. v)) all)) ≡ in_conds b (in_data_item b) (conds_from (map (cond_of (λ r. r) (data_item_of (λ r. r))) all))
+  bare_data = bare_list b (in_data_item b) (data_item_of (λ r. r))
+
+  pub bare_entries : (all : List (Cond Target (MenuEntry Target))) → in_conds b (in_nothing b) (conds_from (map (cond_of (λ r. r) (λ v. v)) all)) ≡ in_conds b (in_nothing b) (conds_from (map (cond_of (λ r. r) (entry_of (λ r. r))) all))
+  bare_entries = bare_list b (in_nothing b) (entry_of (λ r. r))
+
+pub ruleset bare_values = (bare_text, bare_value, bare_enumerator, bare_data, bare_entries)

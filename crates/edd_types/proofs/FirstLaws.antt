@@ -2,7 +2,8 @@
 use Rattle.std.proofs.Common.{◌≡◌, refl, sym, ap, ◌∙◌, ℕ, ◌+◌, ◌<◌, ◌≤◌, List, [], ◌∷◌, ◌++◌, length, get_or, drop, map, Option, Some, None, arith}
 use Rattle.std.proofs.lemmas.Bool.{false≢true}
 use Rattle.std.proofs.lemmas.Grind.{common_steps}
-use Rattle.std.proofs.lemmas.List.{at_drop_more}
+use Rattle.std.specs.List.{flat_map}
+use Rattle.std.proofs.lemmas.List.{append-nil, at_drop_more}
 use Rattle.std.proofs.Math.ListN.{drop_of_length-le}
 use Rattle.std.specs.Prelude.{Result, Ok, Err, IsErr}
 use Rattle.edd_syntax.specs.Refusal.{Refusal, first_of}
@@ -21,6 +22,14 @@ pub ruleset firsts = (first_of-append_none, first_of-append_some)
 pub found_err : (why : Refusal) (r : Result (Unit {0}) ℕ) → IsErr r → found why r ≡ Some why
 found_err why (Ok done) is = absurd (false≢true is)
 found_err why (Err line) is = refl
+
+-- ---- breaches of one element after another
+
+pub flat_one : {Y : Type 0} (f : Y → List Refusal) (y : Y) → flat_map f (y ∷ []) ≡ f y
+flat_one f y = append-nil (f y)
+
+pub flat_split : {Y : Type 0} (f : Y → List Refusal) (y : Y) (ys : List Y) → flat_map f (y ∷ ys) ≡ flat_map f (y ∷ []) ++ flat_map f ys
+flat_split f y ys = ap (λ xs. xs ++ flat_map f ys) (sym (flat_one f y))
 
 -- ---- a loop over a slice, where the breaches of a list are those of its first element and those of the others
 

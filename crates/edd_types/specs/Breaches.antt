@@ -110,3 +110,33 @@ in_header b initial condition update = in_optional b initial ++ (in_optional b c
 -- in the values of declarators
 unfoldable pub in_declarators : Breach → List (Declarator Target) → List Refusal
 in_declarators b declarators = in_expressions b (flat_map (λ d. optional_part d.value) declarators)
+
+-- ---- attributes
+
+abbrev pub in_type_part : Breach → item.TypePart Target → List Refusal
+in_type_part b (item.DefaultValue c) = in_cond b (in_part b) c
+in_type_part b (item.MinValue c) = in_cond b (in_part b) c
+in_type_part b (item.MaxValue c) = in_cond b (in_part b) c
+in_type_part b (item.DisplayFormat c) = in_cond b (in_nothing b) c
+in_type_part b (item.EditFormat c) = in_cond b (in_nothing b) c
+in_type_part b (item.Element c) = in_cond b (in_enumerator b) c
+
+abbrev pub in_transaction_part : Breach → item.TransactionPart Target → List Refusal
+in_transaction_part b (item.Request all) = in_conds b (in_data_item b) all
+in_transaction_part b (item.Reply all) = in_conds b (in_data_item b) all
+
+abbrev pub in_attribute : Breach → item.Attribute Target → List Refusal
+in_attribute b (item.Label c) = in_cond b (in_nothing b) c
+in_attribute b (item.Help c) = in_cond b (in_nothing b) c
+in_attribute b (item.Class words) = []
+in_attribute b (item.Handling c) = in_cond b (in_nothing b) c
+in_attribute b (item.ConstantUnit c) = in_cond b (in_nothing b) c
+in_attribute b (item.Validity c) = in_cond b (in_nothing b) c
+in_attribute b (item.TypeOf word parts) = flat_map (in_type_part b) parts
+in_attribute b (item.Number n) = []
+in_attribute b (item.Operation o) = []
+in_attribute b (item.Transaction number parts) = flat_map (in_transaction_part b) parts
+in_attribute b (item.ResponseCodes responses) = []
+in_attribute b (item.Items entries) = in_conds b (in_nothing b) entries
+in_attribute b (item.Members members) = []
+in_attribute b (item.Definition body) = in_body b body

@@ -1,6 +1,7 @@
 //! The check of a description against the profile.
 #![tactic(auto)]
 
+mod attributes;
 mod breach;
 mod breaks;
 mod calls;

@@ -2,7 +2,7 @@
 
 ghost use Rattle.std.specs.Prelude.{◌≡◌, List};
 ghost use Rattle.edd_syntax.specs.TreeView.{expr_of};
-ghost use Rattle.edd_syntax.specs.ItemView.{data_item_of};
+ghost use Rattle.edd_syntax.specs.ItemView.{data_item_of, enumerator_of};
 ghost use Rattle.edd_syntax.specs.Refusal.{Refusal, first_of};
 ghost use Rattle.edd_types.specs.declared.breach.Breach.{Breach};
 ghost use Rattle.edd_types.specs.Breaches.{refusal_of, in_part, in_nothing, in_enumerator, in_data_item};
@@ -66,7 +66,7 @@ impl Value for Expr<Target> {
 }
 
 impl Value for Enumerator {
-    ghost breaches = { in_enumerator };
+    ghost breaches = { λ b e. in_enumerator b (enumerator_of e) };
 
     fn check_value(&self, breach: Breach) -> Result<(), u32> {
         match breach {

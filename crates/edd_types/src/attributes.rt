@@ -1,0 +1,81 @@
+//! Breaches in attributes, under conditions and in methods.
+
+ghost use Rattle.std.specs.Prelude.{◌≡◌, map};
+ghost use Rattle.std.specs.List.{flat_map};
+ghost use Rattle.edd_syntax.specs.ItemView.{attribute_of, type_part_of, transaction_part_of};
+ghost use Rattle.edd_syntax.specs.Refusal.{first_of};
+ghost use Rattle.edd_types.specs.Breaches.{refusal_of, in_type_part, in_transaction_part, in_attribute};
+ghost use Rattle.edd_types.specs.Found.{found};
+
+use crate::breach::Breach;
+use crate::conditionals::{check_cond, check_conds};
+use crate::statements::check_parts;
+use edd_syntax::item::{Attribute, TransactionPart, TypePart};
+use edd_syntax::reference::Target;
+
+/// The line of the first such breach in an option or an enumerator of a type.
+#[tactic(auto, using(crate::proofs::BareViews::bare_values))]
+pub fn check_type_part(part: &TypePart<Target>, breach: Breach) -> Result<(), u32>
+    ensures { found (refusal_of breach) result ≡ first_of (in_type_part breach (type_part_of (λ r. r) part.now)) }
+{
+    match part {
+        TypePart::DefaultValue { value, .. } => check_cond(value, breach),
+        TypePart::MinValue { value, .. } => check_cond(value, breach),
+        TypePart::MaxValue { value, .. } => check_cond(value, breach),
+        TypePart::DisplayFormat { format, .. } => check_cond(format, breach),
+        TypePart::EditFormat { format, .. } => check_cond(format, breach),
+        TypePart::Element(c) => check_cond(c, breach),
+    }
+}
+
+fn check_type_parts(parts: &[TypePart<Target>], breach: Breach) -> Result<(), u32>
+    ensures { found (refusal_of breach) result ≡ first_of (flat_map (in_type_part breach) (map (type_part_of (λ r. r)) parts.now)) }
+{
+    for part in parts {
+        check_type_part(part, breach)?;
+    }
+    Ok(())
+}
+
+#[tactic(auto, using(crate::proofs::BareViews::bare_values))]
+fn check_transaction_part(part: &TransactionPart<Target>, breach: Breach) -> Result<(), u32>
+    ensures { found (refusal_of breach) result ≡ first_of (in_transaction_part breach (transaction_part_of (λ r. r) part.now)) }
+{
+    match part {
+        TransactionPart::Request(all) => check_conds(all, breach),
+        TransactionPart::Reply(all) => check_conds(all, breach),
+    }
+}
+
+fn check_transaction(parts: &[TransactionPart<Target>], breach: Breach) -> Result<(), u32>
+    ensures { found (refusal_of breach) result
+        ≡ first_of (flat_map (in_transaction_part breach) (map (transaction_part_of (λ r. r)) parts.now)) }
+{
+    for part in parts {
+        check_transaction_part(part, breach)?;
+    }
+    Ok(())
+}
+
+/// The line of the first such breach in an attribute.
+#[tactic(auto, using(crate::proofs::BareViews::bare_values))]
+pub fn check_inside(attribute: &Attribute<Target>, breach: Breach) -> Result<(), u32>
+    ensures { found (refusal_of breach) result ≡ first_of (in_attribute breach (attribute_of (λ r. r) attribute.now)) }
+{
+    match attribute {
+        Attribute::Label(c) => check_cond(c, breach),
+        Attribute::Help(c) => check_cond(c, breach),
+        Attribute::Handling(c) => check_cond(c, breach),
+        Attribute::ConstantUnit(c) => check_cond(c, breach),
+        Attribute::Validity(c) => check_cond(c, breach),
+        Attribute::TypeOf { parts, .. } => check_type_parts(parts, breach),
+        Attribute::Transaction { parts, .. } => check_transaction(parts, breach),
+        Attribute::Items(entries) => check_conds(entries, breach),
+        Attribute::Definition(parts) => check_parts(parts, breach),
+        Attribute::Class(_)
+        | Attribute::Number(_)
+        | Attribute::Operation(_)
+        | Attribute::ResponseCodes(_)
+        | Attribute::Members(_) => Ok(()),
+    }
+}
