@@ -1,8 +1,9 @@
 //! A description that keeps to the profile.
 
-ghost use Rattle.std.specs.Prelude.{◌≡◌, IfOk};
+ghost use Rattle.std.specs.Prelude.{◌≡◌, [], IfOk};
 ghost use Rattle.edd_syntax.specs.ItemView.{identification_of, numbered_items};
 ghost use Rattle.edd_syntax.specs.Resolved.{IsChecked, description};
+ghost use Rattle.edd_syntax.specs.SubsetRules.{subset_breaches};
 
 use crate::item::{Identification, Item};
 use crate::reference::Target;
@@ -19,9 +20,9 @@ pub struct Checked {
 }
 
 impl Checked {
-    /// The same description, with which it shares its trees.
+    /// The same description, which breaks no rule of the profile, and with which it shares its trees.
     pub fn new(resolved: &Resolved) -> Result<Checked, AllocError>
-        requires { IsChecked (description (identification_of resolved.now.identification) (numbered_items resolved.now.items.value.items)) }
+        requires no_breach { subset_breaches (description (identification_of resolved.now.identification) (numbered_items resolved.now.items.value.items)) ≡ [] }
         ensures identification { IfOk result (λ c. c.identification ≡ resolved.now.identification) }
         ensures items { IfOk result (λ c. c.items.value ≡ resolved.now.items.value) }
     {
