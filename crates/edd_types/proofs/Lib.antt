@@ -2,6 +2,7 @@ pub mod Arguments
 pub mod BareViews
 pub mod FirstLaws
 pub mod InStatements
+pub mod RuleLaws
 pub mod Splits
 pub mod StatefulLoops
 pub mod UnderConditions
