@@ -1,7 +1,9 @@
 -- What a walk over attributes finds is what the rules of the profile say.
-use Rattle.std.proofs.Common.{◌≡◌, refl, sym, ap, ◌∙◌, Bool, true, false, List, [], ◌∷◌, ◌++◌, map}
+use Rattle.std.proofs.Common.{◌≡◌, refl, sym, ap, ◌∙◌, Bool, true, false, List, [], ◌∷◌, ◌++◌, map, Option, Some, None}
 use Rattle.std.specs.List.{flat_map}
 use Rattle.std.proofs.lemmas.Grind.{flat_map-append}
+use Rattle.std.proofs.lemmas.Bool.{false≢true}
+use Rattle.std.proofs.lemmas.Option.{none-some}
 use Rattle.std.proofs.lemmas.List.{map-append, append-nil}
 use Rattle.edd_syntax.specs.declared.reference.Target.{Target}
 use Rattle.edd_syntax.specs.Expression.{Expr}
@@ -9,10 +11,16 @@ use Rattle.edd_syntax.specs.Conditional as cond
 use Rattle.edd_syntax.specs.Conditional.{Cond, Value, If, Select, Conds, Arms, NoArms, ConsArm, Case, Default}
 use Rattle.edd_syntax.specs.Item as item
 use Rattle.edd_syntax.specs.SubsetRules.{Placed, part_of, no_expressions, cond_expressions, conds_expressions, arms_expressions, type_part_expressions, transaction_part_expressions, attribute_expressions, values_in, values_of, values_under, data_breaches, transaction_part_breaches, cond_defaults, conds_defaults, arms_defaults, type_part_defaults, transaction_part_defaults, repeated_labels, repeated_cases, no_labels}
-use Rattle.edd_syntax.specs.Refusal.{Refusal, Mismatch, DuplicateCase, refused_if}
+use Rattle.edd_syntax.specs.Refusal.{Refusal, Mismatch, DuplicateCase, refused_if, first_of}
 use Rattle.edd_types.specs.declared.breach.Breach.{Breach}
 use Rattle.edd_types.specs.declared.breach.Breach.TheVariants as breach
 use Rattle.edd_types.specs.Breaches.{in_placed, in_part, in_nothing, in_enumerator, in_data_item, in_default, in_cond, in_conds, in_arms, in_type_part, in_transaction_part, in_attribute, in_body, in_expressions}
+use Rattle.edd_syntax.specs.SubsetRules.{bodies_in, breaks_outside_in, mismatches, float_values, wrong_breaks, wrong_constants, subset_breaches}
+use Rattle.edd_syntax.specs.Resolved.{description}
+use Rattle.edd_types.specs.declared.rules.Rule.{Rule}
+use Rattle.edd_types.specs.declared.rules.Rule.TheVariants as rule
+use Rattle.edd_types.specs.WrongTypes.{in_items}
+use Rattle.edd_types.specs.Rules.{is_definition, broken_in, broken, all_broken}
 
 -- ---- calls and decimals: what stands in the expressions
 
@@ -194,3 +202,43 @@ mutual
       ap (λ xs. xs ++ in_arms breach.Enumerator (λ e. Mismatch ∷ []) true rest) (enumerators_in_conds body)
       ∙ ap (λ xs. map (λ e. Mismatch) (values_of body) ++ xs) (enumerators_in_arms true rest)
       ∙ sym (map-append (λ e. Mismatch) (values_of body) (values_under rest))
+
+-- ---- labels and DEFAULT
+
+-- in everything but a method's body
+pub defaults_in_attribute : (a : item.Attribute Target) → is_definition a ≡ false → in_attribute breach.Default a ≡ repeated_cases a
+defaults_in_attribute (item.Label c) other = defaults_in_cond c
+defaults_in_attribute (item.Help c) other = defaults_in_cond c
+defaults_in_attribute (item.Class words) other = refl
+defaults_in_attribute (item.Handling c) other = defaults_in_cond c
+defaults_in_attribute (item.ConstantUnit c) other = defaults_in_cond c
+defaults_in_attribute (item.Validity c) other = defaults_in_cond c
+defaults_in_attribute (item.TypeOf word parts) other = flat_map_same (in_type_part breach.Default) type_part_defaults defaults_in_type_part parts
+defaults_in_attribute (item.Number n) other = refl
+defaults_in_attribute (item.Operation o) other = refl
+defaults_in_attribute (item.Transaction number parts) other = flat_map_same (in_transaction_part breach.Default) transaction_part_defaults defaults_in_transaction_part parts
+defaults_in_attribute (item.ResponseCodes responses) other = refl
+defaults_in_attribute (item.Items entries) other = defaults_in_conds entries
+defaults_in_attribute (item.Members members) other = refl
+defaults_in_attribute (item.Definition body) other = absurd (false≢true (sym other))
+
+-- ---- all rules
+
+broken_is : (r : Rule) (items : List (item.Item Target)) → broken r items ≡ flat_map (broken_in r) (flat_map (λ i. i.attributes) items)
+broken_is r items = flat_map_flat (broken_in r) (λ i. i.attributes) items
+
+breaks_are : (items : List (item.Item Target)) → broken rule.BreakOutside items ≡ flat_map (breaks_outside_in false false) (flat_map bodies_in (flat_map (λ i. i.attributes) items))
+breaks_are items = broken_is rule.BreakOutside items ∙ flat_map_flat (breaks_outside_in false false) bodies_in (flat_map (λ i. i.attributes) items)
+
+pub all_rules : (i : item.Identification) (items : List (item.Item Target)) → all_broken items ≡ subset_breaches (description i items)
+unfolding all_broken
+all_rules i items =
+    ap (λ xs. in_items items ++ (xs ++ (broken rule.FloatValue items ++ (broken rule.BreakOutside items ++ (broken rule.ConstRange items ++ broken rule.DuplicateCase items))))) (broken_is rule.Mismatch items)
+    ∙ ap (λ xs. in_items items ++ (mismatches (description i items) ++ (xs ++ (broken rule.BreakOutside items ++ (broken rule.ConstRange items ++ broken rule.DuplicateCase items))))) (broken_is rule.FloatValue items)
+    ∙ ap (λ xs. in_items items ++ (mismatches (description i items) ++ (float_values (description i items) ++ (xs ++ (broken rule.ConstRange items ++ broken rule.DuplicateCase items))))) (breaks_are items)
+    ∙ ap (λ xs. in_items items ++ (mismatches (description i items) ++ (float_values (description i items) ++ (wrong_breaks (description i items) ++ (xs ++ broken rule.DuplicateCase items))))) (broken_is rule.ConstRange items)
+    ∙ ap (λ xs. in_items items ++ (mismatches (description i items) ++ (float_values (description i items) ++ (wrong_breaks (description i items) ++ (wrong_constants (description i items) ++ xs))))) (broken_is rule.DuplicateCase items)
+
+pub nothing_is_first : {A : Type 0} (xs : List A) → None ≡ first_of xs → xs ≡ []
+nothing_is_first [] h = refl
+nothing_is_first (x ∷ xs) h = absurd (none-some x h)

@@ -47,7 +47,8 @@ fn check_transaction_part(part: &TransactionPart<Target>, breach: Breach) -> Res
     }
 }
 
-fn check_transaction(parts: &[TransactionPart<Target>], breach: Breach) -> Result<(), u32>
+/// The line of the first such breach in a transaction.
+pub fn check_transaction(parts: &[TransactionPart<Target>], breach: Breach) -> Result<(), u32>
     ensures { found (refusal_of breach) result
         ≡ first_of (flat_map (in_transaction_part breach) (map (transaction_part_of (λ r. r)) parts.now)) }
 {

@@ -1,35 +1,42 @@
 //! Why a description does not keep to the profile.
 
+ghost use Rattle.std.specs.Prelude.{◌≡◌};
+ghost use Rattle.edd_types.specs.declared.fault.TypeFault.TheVariants.{Memory};
+
+use std::alloc::AllocError;
 use thiserror::Error;
 
-/// The first rule of the profile that is broken. Lines count from 1.
+/// The first rule of the profile that is broken: a variable of type FLOAT or DOUBLE; another word for its type; a size other
+/// than 1 to 4 octets; arguments that a function does not take, an abort inside an expression, or an option or an enumerator
+/// that a type does not have; a decimal in an expression; `break` outside a loop and `switch`, or `continue` outside a loop; a
+/// data constant over 255, or a mask of 0; two equal labels of one `switch`, a second `default`, or a second DEFAULT of one
+/// SELECT. It prints its number, its kind and its names or its line, counted from 1.
 #[derive(Debug, Drop, Error)]
 pub enum TypeFault {
-    /// A variable of type FLOAT or DOUBLE.
-    #[error("variable {0} has a floating-point type")]
+    #[error("30 FLOAT_VARIABLE {0}")]
     FloatVariable(String),
-    /// A variable whose type is another word.
-    #[error("variable {variable} has the type {word}")]
+    #[error("31 OTHER_TYPE {variable} {word}")]
     OtherType { variable: String, word: String },
-    /// A variable whose size is not 1 to 4 octets.
-    #[error("variable {0} has a size other than 1 to 4 octets")]
+    #[error("32 BAD_SIZE {0}")]
     BadSize(String),
-    /// Arguments that a function does not take, an abort inside an expression, or an option or enumerator that a type does
-    /// not have.
-    #[error("line {line} has something that its function or type does not take")]
+    #[error("33 MISMATCH line {line}")]
     Mismatch { line: u32 },
-    /// A decimal in an expression.
-    #[error("line {line} has a decimal in an expression")]
+    #[error("34 FLOAT_VALUE line {line}")]
     FloatValue { line: u32 },
-    /// `break` outside a loop and `switch`, or `continue` outside a loop.
-    #[error("line {line} has `break` or `continue` outside")]
+    #[error("35 BREAK_OUTSIDE line {line}")]
     BreakOutside { line: u32 },
-    /// A data constant over 255, or a mask of 0.
-    #[error("line {line} has a constant or a mask out of range")]
+    #[error("36 CONST_RANGE line {line}")]
     ConstRange { line: u32 },
-    /// Two equal labels of one `switch`, a second `default`, or a second DEFAULT of one SELECT.
-    #[error("line {line} repeats a label")]
+    #[error("37 DUPLICATE_CASE line {line}")]
     DuplicateCase { line: u32 },
-    #[error("out of memory")]
+    #[error("no memory")]
     Memory,
+}
+
+impl From<AllocError> for TypeFault {
+    ghost from_gives = { λ _ e. e ≡ Memory };
+
+    fn from(_e: AllocError) -> TypeFault {
+        TypeFault::Memory
+    }
 }

@@ -1,0 +1,137 @@
+//! The rules of the profile that are broken on a line.
+
+ghost use Rattle.std.specs.Prelude.{◌≡◌, false, map, IfOk};
+ghost use Rattle.edd_syntax.specs.ItemView.{attribute_of, item_of};
+ghost use Rattle.std.specs.List.{flat_map};
+ghost use Rattle.edd_syntax.specs.Refusal.{first_of, Mismatch, BreakOutside, ConstRange};
+ghost use Rattle.edd_types.specs.declared.rules.Rule.TheVariants as rule;
+ghost use Rattle.edd_types.specs.Found.{found, found_at};
+ghost use Rattle.edd_types.specs.Rules.{why, broken_in, is_definition, broken};
+
+use crate::attributes::{check_inside, check_transaction};
+use crate::breach::Breach;
+use crate::breaks::check_parts;
+use crate::labels::check_labels;
+use crate::options::check_type;
+use edd_syntax::item::{Attribute, Item};
+use edd_syntax::reference::Target;
+use std::alloc::{AllocError, Global};
+
+/// A rule of the profile: arguments and options that fit, no decimals, `break` and `continue` inside something, constants and
+/// masks in their range, no label twice.
+#[derive(Clone, Copy)]
+pub enum Rule {
+    Mismatch,
+    FloatValue,
+    BreakOutside,
+    ConstRange,
+    DuplicateCase,
+}
+
+#[tactic(auto, using(crate::proofs::FirstLaws::firsts, crate::proofs::RuleLaws::calls_in_attribute))]
+fn check_mismatches(attribute: &Attribute<Target>) -> Result<(), u32>
+    ensures { found Mismatch result ≡ first_of (broken_in rule.Mismatch (attribute_of (λ r. r) attribute.now)) }
+{
+    check_type(attribute)?;
+    check_inside(attribute, Breach::Call)
+}
+
+#[tactic(auto, using(crate::proofs::FirstLaws::flat_one))]
+fn check_breaks_in(attribute: &Attribute<Target>) -> Result<(), u32>
+    ensures { found BreakOutside result ≡ first_of (broken_in rule.BreakOutside (attribute_of (λ r. r) attribute.now)) }
+{
+    match attribute {
+        Attribute::Definition(parts) => check_parts(parts, false, false),
+        _ => Ok(()),
+    }
+}
+
+#[tactic(auto, using(crate::proofs::RuleLaws::constants_in_parts))]
+fn check_constants(attribute: &Attribute<Target>) -> Result<(), u32>
+    ensures { found ConstRange result ≡ first_of (broken_in rule.ConstRange (attribute_of (λ r. r) attribute.now)) }
+{
+    match attribute {
+        Attribute::Transaction { parts, .. } => check_transaction(parts, Breach::Constant),
+        _ => Ok(()),
+    }
+}
+
+#[tactic(auto, using(crate::proofs::RuleLaws::defaults_in_attribute))]
+fn check_defaults(attribute: &Attribute<Target>) -> Result<(), u32>
+    requires { is_definition (attribute_of (λ r. r) attribute.now) ≡ false }
+    ensures { found (why rule.DuplicateCase) result ≡ first_of (broken_in rule.DuplicateCase (attribute_of (λ r. r) attribute.now)) }
+{
+    check_inside(attribute, Breach::Default)
+}
+
+fn check_repeats(attribute: &Attribute<Target>, alloc: Global) -> Result<Option<u32>, AllocError>
+    ensures { IfOk result (λ line. found_at (why rule.DuplicateCase) line
+        ≡ first_of (broken_in rule.DuplicateCase (attribute_of (λ r. r) attribute.now))) }
+{
+    match attribute {
+        Attribute::Definition(parts) => check_labels(parts, alloc),
+        _ => Ok(check_defaults(attribute).err()),
+    }
+}
+
+/// The line of the first breach of a rule in an attribute.
+#[tactic(auto, using(crate::proofs::RuleLaws::decimals_in_attribute))]
+fn check_attribute(
+    attribute: &Attribute<Target>,
+    rule: Rule,
+    alloc: Global,
+) -> Result<Option<u32>, AllocError>
+    ensures { IfOk result (λ line. found_at (why rule) line ≡ first_of (broken_in rule (attribute_of (λ r. r) attribute.now))) }
+{
+    match rule {
+        Rule::Mismatch => Ok(check_mismatches(attribute).err()),
+        Rule::FloatValue => Ok(check_inside(attribute, Breach::Decimal).err()),
+        Rule::BreakOutside => Ok(check_breaks_in(attribute).err()),
+        Rule::ConstRange => Ok(check_constants(attribute).err()),
+        Rule::DuplicateCase => check_repeats(attribute, alloc),
+    }
+}
+
+fn check_attributes(
+    attributes: &[Attribute<Target>],
+    rule: Rule,
+    alloc: Global,
+) -> Result<Option<u32>, AllocError>
+    ensures { IfOk result (λ line. found_at (why rule) line
+        ≡ first_of (flat_map (broken_in rule) (map (attribute_of (λ r. r)) attributes.now))) }
+{
+    for attribute in attributes {
+        if let Some(line) = check_attribute(attribute, rule, alloc)? {
+            return Ok(Some(line));
+        }
+    }
+    Ok(None)
+}
+
+fn attributes_of(item: &Item<Target>) -> &[Attribute<Target>]
+    ensures { map (attribute_of (λ r. r)) result.now ≡ (item_of (λ r. r) item.now).attributes }
+{
+    match item {
+        Item::Variable(d) => &d.attributes,
+        Item::Command(d) => &d.attributes,
+        Item::Menu(d) => &d.attributes,
+        Item::Collection(d) => &d.attributes,
+        Item::Method(d) => &d.attributes,
+    }
+}
+
+/// The line of the first breach of a rule in items.
+pub fn check_items(
+    items: &[Item<Target>],
+    rule: Rule,
+    alloc: Global,
+) -> Result<Option<u32>, AllocError>
+    ensures { IfOk result (λ line. found_at (why rule) line ≡ first_of (broken rule (map (item_of (λ r. r)) items.now))) }
+{
+    for item in items {
+        if let Some(line) = check_attributes(attributes_of(item), rule, alloc)? {
+            return Ok(Some(line));
+        }
+    }
+    Ok(None)
+}
