@@ -5,9 +5,9 @@ use Rattle.edd_syntax.specs.declared.reference.Target.{Target}
 use Rattle.edd_syntax.specs.Expression.{Argument, Arguments, arguments_from}
 use Rattle.edd_syntax.specs.SubsetRules.{Parameter, all_fit, call_breaches, argument_mismatches}
 use Rattle.edd_syntax.specs.SubsetRules as rules
-use Rattle.edd_syntax.specs.Refusal.{Refusal, Mismatch, first_of}
+use Rattle.edd_syntax.specs.Refusal.{Mismatch, first_of}
 use Rattle.edd_types.proofs.FirstLaws.{first_of-append_none, first_of-append_some}
-use Rattle.std.specs.Prelude.{◌&&◌, true, Bool, Option, Some, None, if◌then◌else◌}
+use Rattle.std.specs.Prelude.{◌&&◌, true, Bool, Some, None, if◌then◌else◌}
 
 and_false : (b : Bool) → b && false ≡ false
 and_false true = refl

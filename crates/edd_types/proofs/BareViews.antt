@@ -1,10 +1,8 @@
 -- What stands under conditions doesn't depend on when its values are viewed.
-use Rattle.std.proofs.Common.{◌≡◌, refl, sym, ap, ◌∙◌, ℕ, Bool, true, false, List, [], ◌∷◌, ◌++◌, map}
-use Rattle.std.specs.Prelude.{Vec}
-use Rattle.std.specs.declared.alloc.Global.{Global}
+use Rattle.std.proofs.Common.{◌≡◌, refl, ap, ◌∙◌, Bool, true, false, List, [], ◌∷◌, ◌++◌, map}
 use Rattle.edd_syntax.specs.declared.reference.Target.{Target}
 use Rattle.edd_syntax.specs.declared.cond.Cond.{Cond, Value, If', Select', Row_of-Cond, end_of-Cond, more_of-Cond, Row_of-Arm, end_of-Arm, more_of-Arm}
-use Rattle.edd_syntax.specs.declared.cond.Arm.{Arm, Case', Default'}
+use Rattle.edd_syntax.specs.declared.cond.Arm.{Case', Default'}
 use Rattle.edd_syntax.specs.Conditional.{conds_from, arms_from}
 use Rattle.edd_syntax.specs.TreeView.{expr_of}
 use Rattle.edd_syntax.specs.declared.expr.Expr.{Expr}
@@ -13,7 +11,7 @@ use Rattle.edd_syntax.specs.declared.item.Enumerator.{Enumerator}
 use Rattle.edd_syntax.specs.declared.item.DataItem.{DataItem}
 use Rattle.edd_syntax.specs.declared.item.MenuEntry.{MenuEntry}
 use Rattle.edd_syntax.specs.WordsView.{text_of}
-use Rattle.edd_syntax.specs.ItemView.{cond_of, conds_in, arm_of, arms_in, enumerator_of, data_item_of, entry_of}
+use Rattle.edd_syntax.specs.ItemView.{cond_of, conds_in, arms_in, enumerator_of, data_item_of, entry_of}
 use Rattle.edd_syntax.specs.Refusal.{Refusal}
 use Rattle.edd_types.specs.declared.breach.Breach.{Breach}
 use Rattle.edd_types.specs.Breaches.{in_part, in_nothing, in_enumerator, in_data_item, in_cond, in_conds, in_arms, in_default}
@@ -21,6 +19,7 @@ use Rattle.edd_types.specs.Breaches.{in_part, in_nothing, in_enumerator, in_data
 module _ {V W : Type 0} (b : Breach) (of : W → List Refusal) (g : V → W) where
   mutual
     unfolding cond_of
+
     pub bare_cond : (c : Cond Target V) → in_cond b (λ v. of (g v)) (cond_of (λ r. r) (λ v. v) c) ≡ in_cond b of (cond_of (λ r. r) g c)
     bare_cond (Value v) = refl
     bare_cond (If' test shape first shape' otherwise) =

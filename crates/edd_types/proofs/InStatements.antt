@@ -8,7 +8,6 @@ use Rattle.edd_syntax.specs.Expression.{Expr}
 use Rattle.edd_syntax.specs.Statement as s
 use Rattle.edd_syntax.specs.Statement.{Declarator, Stmt, Part, Body, body_from}
 use Rattle.edd_syntax.specs.SubsetRules.{Placed, optional_part, stmt_expressions, body_expressions}
-use Rattle.edd_syntax.specs.Refusal.{Refusal}
 use Rattle.edd_types.specs.declared.breach.Breach.{Breach}
 use Rattle.edd_types.specs.Breaches.{in_placed, in_part, in_expressions, in_statement, in_body, in_optional, in_header, in_declarators}
 use Rattle.edd_types.proofs.FirstLaws.{first_of-append_none, first_of-append_some}
@@ -71,7 +70,7 @@ module _ (b : Breach) where
   in_for initial condition update body =
       in_expressions-append (optional_part initial) _
       ∙ ap (λ xs. in_expressions b (optional_part initial) ++ xs)
-          (in_expressions-append (optional_part condition) _ ∙ ap (λ xs. in_expressions b (optional_part condition) ++ xs) (in_expressions-append (optional_part update) (stmt_expressions body)))
+      (in_expressions-append (optional_part condition) _ ∙ ap (λ xs. in_expressions b (optional_part condition) ++ xs) (in_expressions-append (optional_part update) (stmt_expressions body)))
       ∙ grind (arith, common_steps)
 
   pub in_switch : (on : Expr Target) (body : Body Target) → in_statement b (s.Switch on body) ≡ in_part b on ++ in_body b body

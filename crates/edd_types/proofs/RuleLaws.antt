@@ -1,5 +1,5 @@
 -- What a walk over attributes finds is what the rules of the profile say.
-use Rattle.std.proofs.Common.{◌≡◌, refl, sym, ap, ◌∙◌, Bool, true, false, List, [], ◌∷◌, ◌++◌, map, Option, Some, None}
+use Rattle.std.proofs.Common.{◌≡◌, refl, sym, ap, ◌∙◌, Bool, true, false, List, [], ◌∷◌, ◌++◌, map, None}
 use Rattle.std.specs.List.{flat_map}
 use Rattle.std.proofs.lemmas.Grind.{flat_map-append}
 use Rattle.std.proofs.lemmas.Bool.{false≢true}
@@ -10,7 +10,7 @@ use Rattle.edd_syntax.specs.Expression.{Expr}
 use Rattle.edd_syntax.specs.Conditional as cond
 use Rattle.edd_syntax.specs.Conditional.{Cond, Value, If, Select, Conds, Arms, NoArms, ConsArm, Case, Default}
 use Rattle.edd_syntax.specs.Item as item
-use Rattle.edd_syntax.specs.SubsetRules.{Placed, part_of, no_expressions, cond_expressions, conds_expressions, arms_expressions, type_part_expressions, transaction_part_expressions, attribute_expressions, values_in, values_of, values_under, data_breaches, transaction_part_breaches, cond_defaults, conds_defaults, arms_defaults, type_part_defaults, transaction_part_defaults, repeated_labels, repeated_cases, no_labels}
+use Rattle.edd_syntax.specs.SubsetRules.{Placed, part_of, no_expressions, cond_expressions, conds_expressions, arms_expressions, type_part_expressions, transaction_part_expressions, attribute_expressions, values_in, values_of, values_under, data_breaches, transaction_part_breaches, cond_defaults, conds_defaults, arms_defaults, type_part_defaults, transaction_part_defaults, repeated_cases}
 use Rattle.edd_syntax.specs.Refusal.{Refusal, Mismatch, DuplicateCase, refused_if, first_of}
 use Rattle.edd_types.specs.declared.breach.Breach.{Breach}
 use Rattle.edd_types.specs.declared.breach.Breach.TheVariants as breach

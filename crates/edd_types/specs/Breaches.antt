@@ -7,7 +7,7 @@ use Rattle.edd_syntax.specs.Conditional as cond
 use Rattle.edd_syntax.specs.Conditional.{Cond, Value, If, Select, Conds, Arm, Arms, NoArms, ConsArm, Case, Default}
 use Rattle.edd_syntax.specs.Statement.{Declarator, Stmt, Body}
 use Rattle.edd_syntax.specs.Item as item
-use Rattle.edd_syntax.specs.SubsetRules.{Placed, part_of, optional_part, stmt_expressions, body_expressions, call_mismatches, decimals, data_breaches}
+use Rattle.edd_syntax.specs.SubsetRules.{Placed, optional_part, stmt_expressions, body_expressions, call_mismatches, decimals, data_breaches}
 use Rattle.edd_syntax.specs.Refusal.{Refusal, Mismatch, FloatValue, ConstRange, DuplicateCase, refused_if}
 use Rattle.edd_types.specs.declared.breach.Breach.{Breach}
 use Rattle.edd_types.specs.declared.breach.Breach.TheVariants as breach

@@ -1,5 +1,5 @@
 -- The labels of a `switch` that were met so far, and what one more part of its body adds and repeats.
-use Rattle.std.specs.Prelude.{◌≡◌, Bool, true, ℤ, List, [], ◌∷◌}
+use Rattle.std.specs.Prelude.{◌≡◌, true, ℤ, List, [], ◌∷◌}
 use Rattle.std.specs.Ordering.{int_cmp}
 use Rattle.std.specs.BTreeSet.{contains}
 use Rattle.edd_syntax.specs.declared.reference.Target.{Target}

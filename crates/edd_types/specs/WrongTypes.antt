@@ -1,5 +1,5 @@
 -- What a walk over the types of variables finds.
-use Rattle.std.specs.Prelude.{List, map}
+use Rattle.std.specs.Prelude.{List}
 use Rattle.std.specs.List.{flat_map}
 use Rattle.edd_types.specs.declared.types.WrongType.{WrongType}
 use Rattle.edd_types.specs.declared.types.WrongType.TheVariants as wrong

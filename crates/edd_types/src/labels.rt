@@ -49,7 +49,11 @@ pub fn check_labels(parts: &[Part<Target>], alloc: Global) -> Result<Option<u32>
 }
 
 #[cycle(labels)]
-fn add_part(part: &Part<Target>, labels: &mut Labels, alloc: Global) -> Result<Option<u32>, AllocError>
+fn add_part(
+    part: &Part<Target>,
+    labels: &mut Labels,
+    alloc: Global,
+) -> Result<Option<u32>, AllocError>
     ensures found { (so_far : rules.Labels) → Holds labels.old so_far
         → IfOk result (λ line. found_at DuplicateCase line ≡ first_of (repeats so_far (part_of (λ r. r) part.now))) }
     ensures adds { (so_far : rules.Labels) → Holds labels.old so_far

@@ -32,7 +32,7 @@ fn check_header(
 ) -> Result<(), u32>
     ensures { found (refusal_of breach) result
         ≡ first_of (in_header breach (option_map (expr_of (λ r. r)) initial.now)
-            (option_map (expr_of (λ r. r)) condition.now) (option_map (expr_of (λ r. r)) update.now)) }
+        (option_map (expr_of (λ r. r)) condition.now) (option_map (expr_of (λ r. r)) update.now)) }
 {
     check_optional(initial, breach)?;
     check_optional(condition, breach)?;

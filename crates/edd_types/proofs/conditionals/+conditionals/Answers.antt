@@ -1,14 +1,13 @@
-use Rattle.std.proofs.Common.{rules, ap, ◌∙◌, sym, arith, map, false, ◌+◌}
+use Rattle.std.proofs.Common.{rules, ap, ◌∙◌, sym, arith, map, ◌+◌}
 use Rattle.edd_syntax.specs.Conditional.{conds_from, arms_from}
 use Rattle.edd_syntax.specs.ItemView.{cond_of, arm_of}
 use Rattle.edd_syntax.specs.Refusal.{first_of}
 use Rattle.edd_syntax.specs.TreeView.{expr_of}
 use Rattle.edd_syntax.proofs.CondRows.{of_if}
 use Rattle.edd_types.specs.Breaches.{refusal_of, in_part, in_cond, in_conds, in_arm, in_arms, has_default}
-use Rattle.edd_types.proofs.FirstLaws as stateless
 use Rattle.edd_types.proofs.FirstLaws.{found_err, first_of-append_none, first_of-append_some}
 use Rattle.edd_types.proofs.StatefulLoops as stateful
-use Rattle.edd_types.proofs.UnderConditions.{conds_split, arms_split, one_cond}
+use Rattle.edd_types.proofs.UnderConditions.{arms_split}
 use Rattle.edd_types.proofs.Weights.{element_is_smaller, arm_is_smaller}
 use Rattle.edd_types.proofs.conditionals.+conditionals.Goals as goal
 
@@ -19,13 +18,13 @@ pub check_arms-returns-in_err-check_arm : goal.check_arms-returns-in_err-check_a
 check_arms-returns-in_err-check_arm g t c =
     found_err (refusal_of c.args.breach) _ c.from_residual.ensures.0
     ∙ stateful.stops_at (λ had xs. in_arms c.args.breach (g.V.Value.breaches c.args.breach) had (arms_from xs)) (in_arm c.args.breach (g.V.Value.breaches c.args.breach)) has_default (arm_of (λ r. r) (λ v. v)) (arms_split c.args.breach (g.V.Value.breaches c.args.breach))
-        c.loop-arm.had c.loop-arm.arm-index c.args.arms.now c.arm-item.result (refusal_of c.args.breach) _ (omega arith) c.arm-item.is c.in_err-check_arm.ensures c.loop-arm.invariant
+    c.loop-arm.had c.loop-arm.arm-index c.args.arms.now c.arm-item.result (refusal_of c.args.breach) _ (omega arith) c.arm-item.is c.in_err-check_arm.ensures c.loop-arm.invariant
 
 pub check_arms-loop-arm-preserved : goal.check_arms-loop-arm-preserved
 check_arms-loop-arm-preserved g t c =
     ap (λ had. stateful.first_from (λ h xs. in_arms c.args.breach (g.V.Value.breaches c.args.breach) h (arms_from xs)) (in_arm c.args.breach (g.V.Value.breaches c.args.breach)) has_default (arm_of (λ r. r) (λ v. v)) (arms_split c.args.breach (g.V.Value.breaches c.args.breach)) had (c.loop-arm.arm-index + 1) c.args.arms.now) c.has_default-had.ensures
     ∙ stateful.goes_on (λ had xs. in_arms c.args.breach (g.V.Value.breaches c.args.breach) had (arms_from xs)) (in_arm c.args.breach (g.V.Value.breaches c.args.breach)) has_default (arm_of (λ r. r) (λ v. v)) (arms_split c.args.breach (g.V.Value.breaches c.args.breach))
-        c.loop-arm.had c.loop-arm.arm-index c.args.arms.now c.arm-item.result _ (omega arith) c.arm-item.is c.in_ok-check_arm.ensures c.loop-arm.invariant
+    c.loop-arm.had c.loop-arm.arm-index c.args.arms.now c.arm-item.result _ (omega arith) c.arm-item.is c.in_ok-check_arm.ensures c.loop-arm.invariant
 
 pub check_conds-check_cond-requires : goal.check_conds-check_cond-requires
 check_conds-check_cond-requires g t c κs within = search (rules, element_is_smaller)

@@ -10,10 +10,10 @@ use Rattle.edd_types.proofs.options.check_options.Goals as goal
 pub loop-part-preserved : goal.loop-part-preserved
 loop-part-preserved c =
     goes_on (flat_map (part_breaches c.args.kind)) (type_part_of (λ r. r)) (flat_split (part_breaches c.args.kind)) c.loop-part.part-index c.args.parts.now c.part-item.result (omega arith) c.part-item.is
-        (c.in_ok-check_option.ensures ∙ ap first_of (sym (flat_one (part_breaches c.args.kind) _))) c.loop-part.invariant
+    (c.in_ok-check_option.ensures ∙ ap first_of (sym (flat_one (part_breaches c.args.kind) _))) c.loop-part.invariant
 
 pub returns-in_err-check_option : goal.returns-in_err-check_option
 returns-in_err-check_option c =
     found_err (Mismatch) _ c.from_residual.ensures.0
     ∙ stops_at (flat_map (part_breaches c.args.kind)) (type_part_of (λ r. r)) (flat_split (part_breaches c.args.kind)) c.loop-part.part-index c.args.parts.now c.part-item.result (Mismatch) (omega arith) c.part-item.is
-        (c.in_err-check_option.ensures ∙ ap first_of (sym (flat_one (part_breaches c.args.kind) _))) c.loop-part.invariant
+    (c.in_err-check_option.ensures ∙ ap first_of (sym (flat_one (part_breaches c.args.kind) _))) c.loop-part.invariant
