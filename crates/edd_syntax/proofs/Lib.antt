@@ -1,6 +1,7 @@
 pub mod Bits
 pub mod CondRows
 pub mod KeptItems
+pub mod RowLaws
 pub mod TreeRows
 pub mod TurnLaws
 pub mod WorkedAttributes

@@ -23,6 +23,7 @@ pub mod Refusal
 pub mod Resolution
 pub mod Resolved
 pub mod ResolvedTrees
+pub mod Rows
 pub mod Size
 pub mod Statement
 pub mod StatementGrammar

@@ -12,6 +12,7 @@ pub mod numbers;
 pub mod operators;
 pub mod reference;
 pub mod resolved;
+mod rows;
 pub mod stmt;
 pub mod symbols;
 pub mod text;

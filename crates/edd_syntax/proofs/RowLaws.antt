@@ -1,0 +1,31 @@
+-- The rows of written attributes.
+use Rattle.std.proofs.Common.{◌≡◌, refl, sym, ap, ◌∙◌, ℕ, ◌+◌, ◌<◌, Bool, true, false, List, [], ◌∷◌, length, get_or, drop, map}
+use Rattle.std.proofs.lemmas.List.{at_drop_more}
+use Rattle.std.specs.Prelude.{◌||◌}
+use Rattle.std.specs.List.{list_any}
+use Rattle.edd_syntax.specs.declared.numbers.Attr.{Attr}
+use Rattle.edd_syntax.specs.Item.{TypePart}
+use Rattle.edd_syntax.specs.declared.reference.Target.{Target}
+use Rattle.edd_syntax.specs.Numbers.{same_attr}
+use Rattle.edd_syntax.specs.Rows.{part_attr, part_stands_for}
+
+pub any_part : (a : Attr) (parts : List (TypePart Target)) → list_any (part_stands_for a) parts ≡ list_any (same_attr a) (map part_attr parts)
+unfolding part_stands_for
+any_part a [] = refl
+any_part a (p ∷ parts) = ap (λ b. same_attr a (part_attr p) || b) (any_part a parts)
+
+-- ---- a loop that looks for an element
+
+module _ {X Y : Type 0} (f : Y → Bool) (view : X → Y) where
+  -- whether an element from the i-th on has it
+  abbrev pub any_from : ℕ → List X → Bool
+  any_from i xs = list_any f (map view (drop i xs))
+
+  next_any : (i : ℕ) (xs : List X) (x : X) → i < length xs → x ≡ get_or xs i x → any_from i xs ≡ (f (view x) || any_from (i + 1) xs)
+  next_any i xs x h is = at_drop_more (λ ys. list_any f (map view ys)) xs i x h ∙ ap (λ y. f (view y) || any_from (i + 1) xs) (sym is)
+
+  pub any_goes_on : (i : ℕ) (xs : List X) (x : X) → i < length xs → x ≡ get_or xs i x → f (view x) ≡ false → any_from i xs ≡ any_from 0 xs → any_from (i + 1) xs ≡ any_from 0 xs
+  any_goes_on i xs x h is other invariant = ap (λ b. b || any_from (i + 1) xs) (sym other) ∙ sym (next_any i xs x h is) ∙ invariant
+
+  pub any_stops : (i : ℕ) (xs : List X) (x : X) → i < length xs → x ≡ get_or xs i x → f (view x) ≡ true → any_from i xs ≡ any_from 0 xs → true ≡ any_from 0 xs
+  any_stops i xs x h is found invariant = ap (λ b. b || any_from (i + 1) xs) (sym found) ∙ sym (next_any i xs x h is) ∙ invariant

@@ -1,0 +1,89 @@
+-- The written attributes of a description, in the order in which an image has them.
+use Rattle.std.specs.Prelude.{ℕ, suc, Bool, List, [], ◌∷◌, ◌++◌, map, filter, if◌then◌else◌}
+use Rattle.std.specs.List.{list_any, flat_map}
+use Rattle.edd_syntax.specs.declared.numbers.Kind.{Kind}
+use Rattle.edd_syntax.specs.declared.numbers.Attr.{Attr}
+use Rattle.edd_syntax.specs.declared.numbers.Attr.TheVariants as attr
+use Rattle.edd_syntax.specs.declared.numbers.ItemNo.{ItemNo}
+use Rattle.edd_syntax.specs.declared.numbers.AttrRef.{AttrRef}
+use Rattle.edd_syntax.specs.Item as item
+use Rattle.edd_syntax.specs.Item.{kind_of_item, TypePart, Attribute, Item}
+use Rattle.edd_syntax.specs.Numbers.{same_kind, same_attr, item_number}
+use Rattle.edd_syntax.specs.NameRules.{kinds}
+use Rattle.edd_syntax.specs.Attributes.{is_of_transaction}
+
+-- ---- what is written
+
+abbrev pub part_attr : {R : Type 0} → TypePart R → Attr
+part_attr (item.DefaultValue c) = attr.DefaultValue
+part_attr (item.MinValue c) = attr.MinValue
+part_attr (item.MaxValue c) = attr.MaxValue
+part_attr (item.DisplayFormat c) = attr.DisplayFormat
+part_attr (item.EditFormat c) = attr.EditFormat
+part_attr (item.Element c) = attr.Enumerators
+
+-- whether it is this attribute
+unfoldable pub part_stands_for : {R : Type 0} → Attr → TypePart R → Bool
+part_stands_for a p = same_attr a (part_attr p)
+
+-- TYPE stands for what its braces hold; transactions go by their position
+abbrev pub written_attrs : {R : Type 0} → Attribute R → List Attr
+written_attrs (item.Label c) = attr.Label ∷ []
+written_attrs (item.Help c) = attr.Help ∷ []
+written_attrs (item.Class words) = attr.Class ∷ []
+written_attrs (item.Handling c) = attr.Handling ∷ []
+written_attrs (item.ConstantUnit c) = attr.ConstantUnit ∷ []
+written_attrs (item.Validity c) = attr.Validity ∷ []
+written_attrs (item.TypeOf word parts) = map part_attr parts
+written_attrs (item.Number n) = attr.Number ∷ []
+written_attrs (item.Operation o) = attr.Operation ∷ []
+written_attrs (item.Transaction number parts) = []
+written_attrs (item.ResponseCodes responses) = attr.ResponseCodes ∷ []
+written_attrs (item.Items entries) = attr.Items ∷ []
+written_attrs (item.Members members) = attr.Members ∷ []
+written_attrs (item.Definition body) = attr.Definition ∷ []
+
+-- whether this attribute is among those that a written one stands for
+unfoldable pub stands_for : {R : Type 0} → Attr → Attribute R → Bool
+stands_for a w = list_any (same_attr a) (written_attrs w)
+
+abbrev pub is_written : {R : Type 0} → Attr → List (Attribute R) → Bool
+is_written a attributes = list_any (stands_for a) attributes
+
+-- ---- the rows of an item
+
+-- the positions of transactions, the next being `next`
+abbrev pub transaction_positions : {R : Type 0} → (next : ℕ) → List (Attribute R) → List ℕ
+transaction_positions next [] = []
+transaction_positions next (item.Transaction number parts ∷ rest) = next ∷ transaction_positions (suc next) rest
+transaction_positions next (_ ∷ rest) = transaction_positions next rest
+
+-- each transaction has its three attributes, written or not; another attribute stands at 0 where it is written
+abbrev pub positions : {R : Type 0} → Attr → List (Attribute R) → List ℕ
+positions a attributes =
+    if is_of_transaction a then transaction_positions 0 attributes
+    else (if is_written a attributes then 0 ∷ [] else [])
+
+abbrev pub item_rows : {R : Type 0} → ItemNo → Attr → List (Attribute R) → List AttrRef
+item_rows number a attributes = map (λ sub. record { item = number; attr = a; sub = sub }) (positions a attributes)
+
+-- ---- all rows
+
+-- of items of a kind, the first of which has the number `next`
+abbrev pub rows_from : {R : Type 0} → Kind → Attr → (next : ℕ) → List (Item R) → List AttrRef
+rows_from k a next [] = []
+rows_from k a next (i ∷ rest) = item_rows (item_number k next) a i.attributes ++ rows_from k a (suc next) rest
+
+-- the attributes by their numbers
+abbrev pub attributes_in_order : List Attr
+attributes_in_order =
+    attr.Label ∷ attr.Help ∷ attr.Class ∷ attr.Handling ∷ attr.ConstantUnit ∷ attr.Validity ∷ attr.DefaultValue ∷ attr.MinValue
+    ∷ attr.MaxValue ∷ attr.DisplayFormat ∷ attr.EditFormat ∷ attr.Enumerators ∷ attr.Number ∷ attr.Operation ∷ attr.Transaction
+    ∷ attr.Request ∷ attr.Reply ∷ attr.ResponseCodes ∷ attr.Items ∷ attr.Members ∷ attr.Definition ∷ []
+
+abbrev pub rows_of_kind : {R : Type 0} → List (Item R) → Kind → List AttrRef
+rows_of_kind items k = flat_map (λ a. rows_from k a 0 (filter (λ i. same_kind (kind_of_item i.sort) k) items)) attributes_in_order
+
+-- the rows by kind, attribute, item and position
+abbrev pub rows : {R : Type 0} → List (Item R) → List AttrRef
+rows items = flat_map (rows_of_kind items) kinds

@@ -1,0 +1,124 @@
+//! The written attributes, in the order in which an image has them.
+
+ghost use Rattle.std.specs.Prelude.{◌≡◌, ◌++◌, ◌≤◌, ◌+◌, map, filter, length, vec_len, OnOk, ℕ};
+ghost use Rattle.std.specs.List.{list_any, flat_map};
+ghost use Rattle.edd_syntax.specs.Attributes as attributes;
+ghost use Rattle.edd_syntax.specs.Item.{kind_of_item};
+ghost use Rattle.edd_syntax.specs.ItemView.{attribute_of, item_of, type_part_of, numbered_items};
+ghost use Rattle.edd_syntax.specs.Numbers as numbers;
+ghost use Rattle.edd_syntax.specs.Rows as order;
+
+use crate::item::{Attribute, Item, TypePart};
+use crate::numbers::{Attr, AttrRef, CmdNo, CollNo, ItemNo, Kind, MenuNo, MethNo, VarNo};
+use crate::reference::Target;
+use std::alloc::AllocError;
+
+fn is_same_attr(a: Attr, b: Attr) -> bool
+    ensures { result ≡ numbers.same_attr a b }
+{
+    a as u8 == b as u8
+}
+
+fn is_same_kind(a: Kind, b: Kind) -> bool
+    ensures { result ≡ numbers.same_kind a b }
+{
+    a as u8 == b as u8
+}
+
+fn part_attr(part: &TypePart<Target>) -> Attr
+    ensures { result ≡ order.part_attr (type_part_of (λ r. r) part.now) }
+{
+    match part {
+        TypePart::DefaultValue { .. } => Attr::DefaultValue,
+        TypePart::MinValue { .. } => Attr::MinValue,
+        TypePart::MaxValue { .. } => Attr::MaxValue,
+        TypePart::DisplayFormat { .. } => Attr::DisplayFormat,
+        TypePart::EditFormat { .. } => Attr::EditFormat,
+        TypePart::Element(_) => Attr::Enumerators,
+    }
+}
+
+#[tactic(auto, unfolding(crate::specs::Rows::part_stands_for))]
+fn is_part(part: &TypePart<Target>, attr: Attr) -> bool
+    ensures { result ≡ order.part_stands_for attr (type_part_of (λ r. r) part.now) }
+{
+    is_same_attr(attr, part_attr(part))
+}
+
+fn has_part(parts: &[TypePart<Target>], attr: Attr) -> bool
+    ensures { result ≡ list_any (order.part_stands_for attr) (map (type_part_of (λ r. r)) parts.now) }
+{
+    for part in parts {
+        if is_part(part, attr) {
+            return true;
+        }
+    }
+    false
+}
+
+// Whether a written attribute stands for this one.
+#[tactic(auto, unfolding(crate::specs::Rows::stands_for), using(crate::proofs::RowLaws::any_part))]
+fn stands_for(attribute: &Attribute<Target>, attr: Attr) -> bool
+    ensures { result ≡ order.stands_for attr (attribute_of (λ r. r) attribute.now) }
+{
+    let written = match attribute {
+        Attribute::Label(_) => Attr::Label,
+        Attribute::Help(_) => Attr::Help,
+        Attribute::Class(_) => Attr::Class,
+        Attribute::Handling(_) => Attr::Handling,
+        Attribute::ConstantUnit(_) => Attr::ConstantUnit,
+        Attribute::Validity(_) => Attr::Validity,
+        Attribute::TypeOf { parts, .. } => return has_part(parts, attr),
+        Attribute::Number(_) => Attr::Number,
+        Attribute::Operation(_) => Attr::Operation,
+        Attribute::Transaction { .. } => return false,
+        Attribute::ResponseCodes(_) => Attr::ResponseCodes,
+        Attribute::Items(_) => Attr::Items,
+        Attribute::Members(_) => Attr::Members,
+        Attribute::Definition(_) => Attr::Definition,
+    };
+    is_same_attr(attr, written)
+}
+
+fn is_written(attributes: &[Attribute<Target>], attr: Attr) -> bool
+    ensures { result ≡ order.is_written attr (map (attribute_of (λ r. r)) attributes.now) }
+{
+    for attribute in attributes {
+        if stands_for(attribute, attr) {
+            return true;
+        }
+    }
+    false
+}
+
+fn is_of_transaction(attr: Attr) -> bool
+    ensures { result ≡ attributes.is_of_transaction attr }
+{
+    matches!(attr, Attr::Transaction | Attr::Request | Attr::Reply)
+}
+
+fn item_number(kind: Kind, number: u16) -> ItemNo
+    ensures { result ≡ numbers.item_number kind number }
+{
+    match kind {
+        Kind::Variable => ItemNo::Variable(VarNo(number)),
+        Kind::Command => ItemNo::Command(CmdNo(number)),
+        Kind::Menu => ItemNo::Menu(MenuNo(number)),
+        Kind::Collection => ItemNo::Collection(CollNo(number)),
+        Kind::Method => ItemNo::Method(MethNo(number)),
+    }
+}
+
+// The kind and the attributes of an item.
+fn parts_of(item: &Item<Target>) -> (Kind, &[Attribute<Target>])
+    ensures kind { result.0 ≡ kind_of_item (item_of (λ r. r) item.now).sort }
+    ensures attributes { map (attribute_of (λ r. r)) result.1.now ≡ (item_of (λ r. r) item.now).attributes }
+{
+    match item {
+        Item::Variable(d) => (Kind::Variable, &d.attributes),
+        Item::Command(d) => (Kind::Command, &d.attributes),
+        Item::Menu(d) => (Kind::Menu, &d.attributes),
+        Item::Collection(d) => (Kind::Collection, &d.attributes),
+        Item::Method(d) => (Kind::Method, &d.attributes),
+    }
+}
