@@ -2,6 +2,7 @@ pub mod Bits
 pub mod CondRows
 pub mod KeptItems
 pub mod RowLaws
+pub mod TransactionRows
 pub mod TreeRows
 pub mod TurnLaws
 pub mod WorkedAttributes

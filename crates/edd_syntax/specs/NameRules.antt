@@ -32,7 +32,7 @@ local_limit = 64
 abbrev pub node_limit : ℕ
 node_limit = 524288
 
-abbrev is_transaction : {R : Type 0} → Attribute R → Bool
+abbrev pub is_transaction : {R : Type 0} → Attribute R → Bool
 is_transaction (item.Transaction number parts) = true
 is_transaction _ = false
 

@@ -64,8 +64,11 @@ positions a attributes =
     if is_of_transaction a then transaction_positions 0 attributes
     else (if is_written a attributes then 0 ∷ [] else [])
 
+unfoldable pub rows_at : ItemNo → Attr → List ℕ → List AttrRef
+rows_at number a subs = map (λ sub. record { item = number; attr = a; sub = sub }) subs
+
 abbrev pub item_rows : {R : Type 0} → ItemNo → Attr → List (Attribute R) → List AttrRef
-item_rows number a attributes = map (λ sub. record { item = number; attr = a; sub = sub }) (positions a attributes)
+item_rows number a attributes = rows_at number a (positions a attributes)
 
 -- ---- all rows
 

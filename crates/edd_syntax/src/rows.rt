@@ -5,6 +5,7 @@ ghost use Rattle.std.specs.List.{list_any, flat_map};
 ghost use Rattle.edd_syntax.specs.Attributes as attributes;
 ghost use Rattle.edd_syntax.specs.Item.{kind_of_item};
 ghost use Rattle.edd_syntax.specs.ItemView.{attribute_of, item_of, type_part_of, numbered_items};
+ghost use Rattle.edd_syntax.specs.NameRules as rules;
 ghost use Rattle.edd_syntax.specs.Numbers as numbers;
 ghost use Rattle.edd_syntax.specs.Rows as order;
 
@@ -121,4 +122,31 @@ fn parts_of(item: &Item<Target>) -> (Kind, &[Attribute<Target>])
         Item::Collection(d) => (Kind::Collection, &d.attributes),
         Item::Method(d) => (Kind::Method, &d.attributes),
     }
+}
+
+fn is_transaction(attribute: &Attribute<Target>) -> bool
+    ensures { result ≡ rules.is_transaction (attribute_of (λ r. r) attribute.now) }
+{
+    matches!(attribute, Attribute::Transaction { .. })
+}
+
+// The rows of an attribute of transactions.
+fn push_transactions(
+    rows: &mut Vec<AttrRef>,
+    attributes: &[Attribute<Target>],
+    item: ItemNo,
+    attr: Attr,
+) -> Result<(), AllocError>
+    requires { length (filter rules.is_transaction (map (attribute_of (λ r. r)) attributes.now)) ≤ 4096 }
+    ensures { OnOk result (rows.new.items
+        ≡ rows.old.items ++ order.rows_at item attr (order.transaction_positions 0 (map (attribute_of (λ r. r)) attributes.now))) }
+{
+    let mut sub = 0;
+    for attribute in attributes {
+        if is_transaction(attribute) {
+            rows.push(AttrRef { item, attr, sub })?;
+            sub += 1;
+        }
+    }
+    Ok(())
 }
