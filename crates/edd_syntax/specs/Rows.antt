@@ -84,8 +84,11 @@ attributes_in_order =
     ∷ attr.MaxValue ∷ attr.DisplayFormat ∷ attr.EditFormat ∷ attr.Enumerators ∷ attr.Number ∷ attr.Operation ∷ attr.Transaction
     ∷ attr.Request ∷ attr.Reply ∷ attr.ResponseCodes ∷ attr.Items ∷ attr.Members ∷ attr.Definition ∷ []
 
+abbrev pub of_kind : {R : Type 0} → Kind → List (Item R) → List (Item R)
+of_kind k items = filter (λ i. same_kind (kind_of_item i.sort) k) items
+
 abbrev pub rows_of_kind : {R : Type 0} → List (Item R) → Kind → List AttrRef
-rows_of_kind items k = flat_map (λ a. rows_from k a 0 (filter (λ i. same_kind (kind_of_item i.sort) k) items)) attributes_in_order
+rows_of_kind items k = flat_map (λ a. rows_from k a 0 (of_kind k items)) attributes_in_order
 
 -- the rows by kind, attribute, item and position
 abbrev pub rows : {R : Type 0} → List (Item R) → List AttrRef

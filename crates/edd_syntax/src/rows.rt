@@ -1,12 +1,13 @@
 //! The written attributes, in the order in which an image has them.
 
-ghost use Rattle.std.specs.Prelude.{◌≡◌, ◌++◌, ◌≤◌, ◌+◌, map, filter, length, vec_len, OnOk, ℕ};
-ghost use Rattle.std.specs.List.{list_any, flat_map};
+ghost use Rattle.std.specs.Prelude.{◌≡◌, ◌++◌, ◌≤◌, map, filter, length, nat_le, IsTrue, OnOk};
+ghost use Rattle.std.specs.List.{list_any, list_all};
 ghost use Rattle.edd_syntax.specs.Attributes as attributes;
 ghost use Rattle.edd_syntax.specs.Item.{kind_of_item};
 ghost use Rattle.edd_syntax.specs.ItemView.{attribute_of, item_of, type_part_of, numbered_items};
 ghost use Rattle.edd_syntax.specs.NameRules as rules;
 ghost use Rattle.edd_syntax.specs.Numbers as numbers;
+ghost use Rattle.edd_syntax.specs.Resolution.{count_of};
 ghost use Rattle.edd_syntax.specs.Rows as order;
 
 use crate::item::{Attribute, Item, TypePart};
@@ -146,6 +147,48 @@ fn push_transactions(
         if is_transaction(attribute) {
             rows.push(AttrRef { item, attr, sub })?;
             sub += 1;
+        }
+    }
+    Ok(())
+}
+
+// The rows of an attribute of an item.
+#[tactic(auto, unfolding(crate::specs::Rows::rows_at))]
+fn push_item(
+    rows: &mut Vec<AttrRef>,
+    attributes: &[Attribute<Target>],
+    item: ItemNo,
+    attr: Attr,
+) -> Result<(), AllocError>
+    requires { length (filter rules.is_transaction (map (attribute_of (λ r. r)) attributes.now)) ≤ 4096 }
+    ensures { OnOk result (rows.new.items ≡ rows.old.items ++ order.item_rows item attr (map (attribute_of (λ r. r)) attributes.now)) }
+{
+    if is_of_transaction(attr) {
+        return push_transactions(rows, attributes, item, attr);
+    }
+    if is_written(attributes, attr) {
+        rows.push(AttrRef { item, attr, sub: 0 })?;
+    }
+    Ok(())
+}
+
+// The rows of an attribute of the items of a kind.
+fn push_items(
+    rows: &mut Vec<AttrRef>,
+    items: &[Item<Target>],
+    kind: Kind,
+    attr: Attr,
+) -> Result<(), AllocError>
+    requires few { count_of kind (map (item_of (λ r. r)) items.now) ≤ 4096 }
+    requires transactions { IsTrue (list_all (λ i. nat_le (rules.transaction_count i) 4096) (map (item_of (λ r. r)) items.now)) }
+    ensures { OnOk result (rows.new.items ≡ rows.old.items ++ order.rows_from kind attr 0 (order.of_kind kind (map (item_of (λ r. r)) items.now))) }
+{
+    let mut number = 0;
+    for item in items {
+        let (of, attributes) = parts_of(item);
+        if is_same_kind(of, kind) {
+            push_item(rows, attributes, item_number(kind, number), attr)?;
+            number += 1;
         }
     }
     Ok(())

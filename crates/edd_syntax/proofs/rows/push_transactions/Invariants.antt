@@ -1,13 +1,13 @@
 use Rattle.std.proofs.Common.{◌≡◌, ◌+◌, ◌≤◌, ◌++◌}
 use Rattle.edd_syntax.specs.ItemView.{attribute_of}
 use Rattle.edd_syntax.specs.NameRules.{is_transaction}
-use Rattle.edd_syntax.proofs.RowLaws.{with_rest}
-use Rattle.edd_syntax.proofs.TransactionRows.{positions_from, one_row, next_position, positions_split, left_from}
+use Rattle.edd_syntax.proofs.NumberedLoops.{and_rest, left_from}
+use Rattle.edd_syntax.proofs.TransactionRows.{positions_from, row_of, positions_split}
 use Rattle.edd_syntax.proofs.rows.push_transactions.Given as goal
 
 -- what was pushed and what is to come are all rows, and the positions to come are small
 abbrev pub invariant-loop-attribute : goal.invariant-loop-attribute
 invariant-loop-attribute l =
-    (with_rest (positions_from l.item l.attr) (one_row l.item l.attr) (next_position l.item l.attr) (attribute_of (λ r. r)) (positions_split l.item l.attr) l.rows.items l.sub l.attribute-index l.attributes
-    ≡ with_rest (positions_from l.item l.attr) (one_row l.item l.attr) (next_position l.item l.attr) (attribute_of (λ r. r)) (positions_split l.item l.attr) l.initial.rows.items 0 0 l.attributes)
+    (and_rest (positions_from l.item l.attr) is_transaction (row_of l.item l.attr) (attribute_of (λ r. r)) (positions_split l.item l.attr) l.rows.items l.sub l.attribute-index l.attributes
+    ≡ and_rest (positions_from l.item l.attr) is_transaction (row_of l.item l.attr) (attribute_of (λ r. r)) (positions_split l.item l.attr) l.initial.rows.items 0 0 l.attributes)
     × (l.sub + left_from is_transaction (attribute_of (λ r. r)) l.attribute-index l.attributes ≤ 4096)

@@ -1,0 +1,15 @@
+use Rattle.std.proofs.Common.{◌≡◌, ◌∙◌, ap, sym, true, false, length, filter, nat_le, arith}
+use Rattle.std.proofs.lemmas.List.{append-nil}
+use Rattle.std.proofs.lemmas.Bool.{leb-true}
+use Rattle.edd_syntax.specs.ItemView.{item_of}
+use Rattle.edd_syntax.specs.NameRules.{is_transaction, transaction_count}
+use Rattle.edd_syntax.specs.Numbers.{item_number}
+use Rattle.edd_syntax.specs.Rows.{item_rows}
+use Rattle.edd_syntax.proofs.NumberedLoops.{grows, grown_whole, stays_within, all_at}
+use Rattle.edd_syntax.proofs.TransactionRows.{is_kind, rows_behind, rows_of_item, items_split}
+use Rattle.edd_syntax.proofs.rows.push_items.Goals as goal
+
+pub push_item-requires : goal.push_item-requires
+push_item-requires c =
+    omega (arith, leb-true (transaction_count (item_of (λ r. r) c.item-item.result)) 4096 (all_at (λ i. nat_le (transaction_count i) 4096) (item_of (λ r. r)) c.args.items.now c.loop-item.item-index c.item-item.result (omega arith) c.item-item.is c.requires.transactions),
+        ap (λ xs. length (filter is_transaction xs)) c.parts_of-of.ensures.attributes)
