@@ -3,12 +3,13 @@ use Rattle.std.proofs.Common.{◌≡◌, refl, sym, ap, ◌∙◌, ℕ, ◌+◌,
 use Rattle.std.proofs.lemmas.List.{append-nil, append_assoc, at_drop_more}
 use Rattle.std.proofs.Math.ListN.{drop_of_length-le}
 use Rattle.std.specs.Prelude.{◌||◌}
-use Rattle.std.specs.List.{list_any}
+use Rattle.std.specs.List.{list_any, flat_map}
 use Rattle.edd_syntax.specs.declared.numbers.Attr.{Attr}
-use Rattle.edd_syntax.specs.Item.{TypePart}
+use Rattle.edd_syntax.specs.declared.numbers.Kind.{Kind}
+use Rattle.edd_syntax.specs.Item.{TypePart, Item}
 use Rattle.edd_syntax.specs.declared.reference.Target.{Target}
 use Rattle.edd_syntax.specs.Numbers.{same_attr}
-use Rattle.edd_syntax.specs.Rows.{part_attr, part_stands_for}
+use Rattle.edd_syntax.specs.Rows.{part_attr, part_stands_for, attributes_in_order, rows_of_attr, rows_of_kind}
 
 pub any_part : (a : Attr) (parts : List (TypePart Target)) → list_any (part_stands_for a) parts ≡ list_any (same_attr a) (map part_attr parts)
 unfolding part_stands_for
@@ -48,3 +49,23 @@ module _ {S X Y Z : Type 0} (all : S → List Y → List Z) (one : S → Y → L
   pub all_appended : (zs total : List Z) (s : S) (i : ℕ) (xs : List X) → length xs ≤ i → all s [] ≡ [] → with_rest zs s i xs ≡ total → zs ≡ total
   all_appended zs total s i xs h none invariant =
       sym (append-nil zs) ∙ ap (λ ys. zs ++ ys) (sym none ∙ ap (λ ys. all s (map view ys)) (sym (drop_of_length-le xs h))) ∙ invariant
+
+-- ---- the same without a state
+
+module _ {Y Z : Type 0} (f : Y → List Z) where
+  abbrev pub each_and_rest : List Z → ℕ → List Y → List Z
+  each_and_rest zs i ys = zs ++ flat_map f (drop i ys)
+
+  pub each_appended : (old new total : List Z) (i : ℕ) (ys : List Y) (y : Y) → i < length ys → y ≡ get_or ys i y → new ≡ old ++ f y → each_and_rest old i ys ≡ total → each_and_rest new (i + 1) ys ≡ total
+  each_appended old new total i ys y h is grown invariant =
+      ap (λ zs. zs ++ flat_map f (drop (i + 1) ys)) grown
+      ∙ append_assoc old (f y) (flat_map f (drop (i + 1) ys))
+      ∙ ap (λ zs. old ++ zs) (ap (λ x. f x ++ flat_map f (drop (i + 1) ys)) is ∙ sym (at_drop_more (flat_map f) ys i y h))
+      ∙ invariant
+
+  pub each_done : (zs total : List Z) (i : ℕ) (ys : List Y) → length ys ≤ i → each_and_rest zs i ys ≡ total → zs ≡ total
+  each_done zs total i ys h invariant = sym (append-nil zs) ∙ ap (λ xs. zs ++ flat_map f xs) (sym (drop_of_length-le ys h)) ∙ invariant
+
+pub kind_rows : (items : List (Item Target)) (k : Kind) → flat_map (rows_of_attr items k) attributes_in_order ≡ rows_of_kind items k
+unfolding rows_of_kind
+kind_rows items k = refl

@@ -87,8 +87,11 @@ attributes_in_order =
 abbrev pub of_kind : {R : Type 0} → Kind → List (Item R) → List (Item R)
 of_kind k items = filter (λ i. same_kind (kind_of_item i.sort) k) items
 
-abbrev pub rows_of_kind : {R : Type 0} → List (Item R) → Kind → List AttrRef
-rows_of_kind items k = flat_map (λ a. rows_from k a 0 (of_kind k items)) attributes_in_order
+abbrev pub rows_of_attr : {R : Type 0} → List (Item R) → Kind → Attr → List AttrRef
+rows_of_attr items k a = rows_from k a 0 (of_kind k items)
+
+unfoldable pub rows_of_kind : {R : Type 0} → List (Item R) → Kind → List AttrRef
+rows_of_kind items k = flat_map (rows_of_attr items k) attributes_in_order
 
 -- the rows by kind, attribute, item and position
 abbrev pub rows : {R : Type 0} → List (Item R) → List AttrRef

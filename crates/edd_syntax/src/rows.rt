@@ -1,8 +1,9 @@
 //! The written attributes, in the order in which an image has them.
 
 ghost use Rattle.std.specs.Prelude.{◌≡◌, ◌++◌, ◌≤◌, map, filter, length, nat_le, IsTrue, OnOk};
-ghost use Rattle.std.specs.List.{list_any, list_all};
+ghost use Rattle.std.specs.List.{list_any, list_all, flat_map};
 ghost use Rattle.edd_syntax.specs.Attributes as attributes;
+ghost use Rattle.edd_syntax.specs.declared.numbers.Kind.{Kind};
 ghost use Rattle.edd_syntax.specs.Item.{kind_of_item};
 ghost use Rattle.edd_syntax.specs.ItemView.{attribute_of, item_of, type_part_of, numbered_items};
 ghost use Rattle.edd_syntax.specs.NameRules as rules;
@@ -190,6 +191,70 @@ fn push_items(
             push_item(rows, attributes, item_number(kind, number), attr)?;
             number += 1;
         }
+    }
+    Ok(())
+}
+
+// The attributes by their numbers.
+const ATTRIBUTES: [Attr; 21] = [
+    Attr::Label,
+    Attr::Help,
+    Attr::Class,
+    Attr::Handling,
+    Attr::ConstantUnit,
+    Attr::Validity,
+    Attr::DefaultValue,
+    Attr::MinValue,
+    Attr::MaxValue,
+    Attr::DisplayFormat,
+    Attr::EditFormat,
+    Attr::Enumerators,
+    Attr::Number,
+    Attr::Operation,
+    Attr::Transaction,
+    Attr::Request,
+    Attr::Reply,
+    Attr::ResponseCodes,
+    Attr::Items,
+    Attr::Members,
+    Attr::Definition,
+];
+
+const KINDS: [Kind; 5] = [
+    Kind::Variable,
+    Kind::Command,
+    Kind::Menu,
+    Kind::Collection,
+    Kind::Method,
+];
+
+// The rows of these attributes of the items of a kind.
+fn push_attributes(
+    rows: &mut Vec<AttrRef>,
+    items: &[Item<Target>],
+    kind: Kind,
+    attrs: &[Attr],
+) -> Result<(), AllocError>
+    requires few { count_of kind (map (item_of (λ r. r)) items.now) ≤ 4096 }
+    requires transactions { IsTrue (list_all (λ i. nat_le (rules.transaction_count i) 4096) (map (item_of (λ r. r)) items.now)) }
+    ensures { OnOk result (rows.new.items
+        ≡ rows.old.items ++ flat_map (order.rows_of_attr (map (item_of (λ r. r)) items.now) kind) attrs.now) }
+{
+    for attr in attrs {
+        push_items(rows, items, kind, *attr)?;
+    }
+    Ok(())
+}
+
+// The rows of the items of these kinds.
+fn push_kinds(rows: &mut Vec<AttrRef>, items: &[Item<Target>], kinds: &[Kind]) -> Result<(), AllocError>
+    requires few { (k : Kind) → count_of k (map (item_of (λ r. r)) items.now) ≤ 4096 }
+    requires transactions { IsTrue (list_all (λ i. nat_le (rules.transaction_count i) 4096) (map (item_of (λ r. r)) items.now)) }
+    ensures { OnOk result (rows.new.items
+        ≡ rows.old.items ++ flat_map (order.rows_of_kind (map (item_of (λ r. r)) items.now)) kinds.now) }
+{
+    for kind in kinds {
+        push_attributes(rows, items, *kind, &ATTRIBUTES)?;
     }
     Ok(())
 }
