@@ -1,6 +1,7 @@
 pub mod Bits
 pub mod CondRows
 pub mod KeptItems
+pub mod WithinLimits
 pub mod NumberedLoops
 pub mod RowLaws
 pub mod TransactionRows

@@ -1,0 +1,118 @@
+-- What a resolved description keeps of the limits on counts.
+use Rattle.std.proofs.Common.{◌≡◌, refl, sym, ap, ◌∙◌, ℕ, ◌<◌, ◌≤◌, Bool, true, false, List, [], ◌∷◌, ◌++◌, length, map, filter, Option, Some, None, IsTrue, nat_le, nat_lt, arith}
+use Rattle.std.specs.List.{list_any, list_all}
+use Rattle.std.specs.Option.{option_map_or}
+use Rattle.std.proofs.lemmas.Option.{none-some}
+use Rattle.std.proofs.lemmas.Grind.{common_steps}
+use Rattle.std.specs.Prelude.{◌&&◌}
+use Rattle.edd_syntax.specs.Reference.{Path, Target}
+use Rattle.edd_syntax.specs.declared.numbers.Kind.{Kind}
+use Rattle.edd_syntax.specs.declared.numbers.Kind.TheVariants as kind
+use Rattle.edd_syntax.specs.Item as item
+use Rattle.edd_syntax.specs.Item.{ItemKind, kind_of_item, Attribute, Item, Description}
+use Rattle.edd_syntax.specs.Numbers.{same_kind}
+use Rattle.edd_syntax.specs.Resolution.{count_of, member_kinds}
+use Rattle.edd_syntax.specs.ResolvedTrees.{◌>>=◌, each, unchanged, resolved_cond, resolved_conds, resolved_body, at_attribute, resolved_entry, resolved_member, resolved_type_part, resolved_transaction_part, resolved_attribute, resolved_item, resolved_unit}
+use Rattle.edd_syntax.specs.NameRules.{is_transaction, transaction_count, kinds}
+use Rattle.edd_syntax.specs.Refusal.{Refusal, refused_if}
+
+bind_some : {A B : Type 0} (o : Option A) (f : A → Option B) (z : B) → (o >>= f) ≡ Some z → (x : A) × (o ≡ Some x) × (f x ≡ Some z)
+bind_some None f z h = absurd (none-some z h)
+bind_some (Some x) f z h = (x, refl, h)
+
+-- what a function gives of the value that is there
+at_some : {A C : Type 0} (f : A → C) (d : C) (x y : A) → Some x ≡ Some y → f x ≡ f y
+at_some f d x y h = ap (λ o. option_map_or f o d) h
+
+-- ---- one after another
+
+module _ {A B C : Type 0} (of : A → Option B) (f : A → C) (g : B → C) (keeps : (x : A) (y : B) → of x ≡ Some y → g y ≡ f x) where
+  pub each_keeps : (xs : List A) (ys : List B) → each of xs ≡ Some ys → map g ys ≡ map f xs
+  each_keeps [] ys h = sym (at_some (map g) [] [] ys h)
+  each_keeps (x ∷ xs) ys h =
+      let first = bind_some (of x) (λ y. each of xs >>= λ others. Some (y ∷ others)) ys h in
+      let rest = bind_some (each of xs) (λ others. Some (first.0 ∷ others)) ys first.2 in
+      sym (at_some (map g) [] (first.0 ∷ rest.0) ys rest.2)
+      ∙ ap (λ y. y ∷ map g rest.0) (keeps x first.0 first.1) ∙ ap (λ others. f x ∷ others) (each_keeps xs rest.0 rest.1)
+
+filtered : {X C : Type 0} (κ : X → C) (p : C → Bool) (xs : List X) → length (filter (λ x. p (κ x)) xs) ≡ length (filter p (map κ xs))
+filtered κ p [] = refl
+filtered κ p (x ∷ xs) = grind (arith, common_steps, filtered κ p xs)
+
+all_mapped : {X C : Type 0} (κ : X → C) (p : C → Bool) (xs : List X) → list_all (λ x. p (κ x)) xs ≡ list_all p (map κ xs)
+all_mapped κ p [] = refl
+all_mapped κ p (x ∷ xs) = ap (λ b. p (κ x) && b) (all_mapped κ p xs)
+
+-- ---- an attribute, an item and a unit with the meaning of names
+
+made : {A : Type 0} (o : Option A) (make : A → Attribute Target) (b : Attribute Target) (v : Bool) → ((x : A) → is_transaction (make x) ≡ v) → (o >>= λ x. Some (make x)) ≡ Some b → is_transaction b ≡ v
+made None make b v same h = absurd (none-some b h)
+made (Some x) make b v same h = sym (at_some is_transaction v (make x) b h) ∙ same x
+
+keeps_transaction : (unit : Description Path) (sort : ItemKind) (a : Attribute Path) (b : Attribute Target) → resolved_attribute unit sort a ≡ Some b → is_transaction b ≡ is_transaction a
+keeps_transaction unit sort (item.Label c) b h = made (resolved_cond (at_attribute unit) unchanged c) item.Label b false (λ x. refl) h
+keeps_transaction unit sort (item.Help c) b h = made (resolved_cond (at_attribute unit) unchanged c) item.Help b false (λ x. refl) h
+keeps_transaction unit sort (item.Class words) b h = sym (at_some is_transaction false (item.Class words) b h)
+keeps_transaction unit sort (item.Handling c) b h = made (resolved_cond (at_attribute unit) unchanged c) item.Handling b false (λ x. refl) h
+keeps_transaction unit sort (item.ConstantUnit c) b h = made (resolved_cond (at_attribute unit) unchanged c) item.ConstantUnit b false (λ x. refl) h
+keeps_transaction unit sort (item.Validity c) b h = made (resolved_cond (at_attribute unit) unchanged c) item.Validity b false (λ x. refl) h
+keeps_transaction unit sort (item.TypeOf word parts) b h = made (each (resolved_type_part unit) parts) (item.TypeOf word) b false (λ x. refl) h
+keeps_transaction unit sort (item.Number n) b h = sym (at_some is_transaction false (item.Number n) b h)
+keeps_transaction unit sort (item.Operation o) b h = sym (at_some is_transaction false (item.Operation o) b h)
+keeps_transaction unit sort (item.Transaction number parts) b h = made (each (resolved_transaction_part unit) parts) (item.Transaction number) b true (λ x. refl) h
+keeps_transaction unit sort (item.ResponseCodes responses) b h = sym (at_some is_transaction false (item.ResponseCodes responses) b h)
+keeps_transaction unit sort (item.Items entries) b h = made (resolved_conds (at_attribute unit) (resolved_entry unit) entries) item.Items b false (λ x. refl) h
+keeps_transaction unit sort (item.Members members) b h = made (each (resolved_member unit (member_kinds sort)) members) item.Members b false (λ x. refl) h
+keeps_transaction unit sort (item.Definition body) b h = made (resolved_body unit body [] 0) item.Definition b false (λ x. refl) h
+
+keeps_sort : (unit : Description Path) (i : Item Path) (y : Item Target) → resolved_item unit i ≡ Some y → y.sort ≡ i.sort
+keeps_sort unit i y h = let x = bind_some (each (resolved_attribute unit i.sort) i.attributes) (λ attributes. Some (record { sort = i.sort; name = i.name; attributes = attributes })) y h in sym (at_some (λ z. z.sort) i.sort (record { sort = i.sort; name = i.name; attributes = x.0 }) y x.2)
+
+keeps_count : (unit : Description Path) (i : Item Path) (y : Item Target) → resolved_item unit i ≡ Some y → transaction_count y ≡ transaction_count i
+keeps_count unit i y h =
+    let x = bind_some (each (resolved_attribute unit i.sort) i.attributes) (λ attributes. Some (record { sort = i.sort; name = i.name; attributes = attributes })) y h in
+    sym (at_some transaction_count 0 (record { sort = i.sort; name = i.name; attributes = x.0 }) y x.2)
+    ∙ filtered is_transaction (λ b. b) x.0
+    ∙ ap (λ bs. length (filter (λ b. b) bs)) (each_keeps (resolved_attribute unit i.sort) is_transaction is_transaction (keeps_transaction unit i.sort) i.attributes x.0 x.1)
+    ∙ sym (filtered is_transaction (λ b. b) i.attributes)
+
+module _ (unit : Description Path) (items : List (Item Target)) (meant : each (resolved_item unit) unit.items ≡ Some items) where
+  same_count : (k : Kind) → count_of k items ≡ count_of k unit.items
+  same_count k =
+      filtered (λ i. i.sort) (λ s. same_kind (kind_of_item s) k) items
+      ∙ ap (λ ss. length (filter (λ s. same_kind (kind_of_item s) k) ss)) (each_keeps (resolved_item unit) (λ i. i.sort) (λ i. i.sort) (keeps_sort unit) unit.items items meant)
+      ∙ sym (filtered (λ i. i.sort) (λ s. same_kind (kind_of_item s) k) unit.items)
+
+  same_transactions : list_all (λ i. nat_le (transaction_count i) 4096) items ≡ list_all (λ i. nat_le (transaction_count i) 4096) unit.items
+  same_transactions =
+      all_mapped transaction_count (λ n. nat_le n 4096) items
+      ∙ ap (list_all (λ n. nat_le n 4096)) (each_keeps (resolved_item unit) transaction_count transaction_count (keeps_count unit) unit.items items meant)
+      ∙ sym (all_mapped transaction_count (λ n. nat_le n 4096) unit.items)
+
+-- ---- what no breach says
+
+not_empty : {A : Type 0} {x : A} {xs : List A} → ¬ (x ∷ xs ≡ [])
+not_empty h = omega (arith, ap length h)
+
+no_refusal : (b : Bool) (why : Refusal) → refused_if b why ≡ [] → b ≡ false
+no_refusal true why h = absurd (not_empty h)
+no_refusal false why h = refl
+
+no_front : {A : Type 0} (xs ys : List A) → xs ++ ys ≡ [] → xs ≡ []
+no_front [] ys h = refl
+no_front (x ∷ xs) ys h = absurd (not_empty h)
+
+no_rest : {A : Type 0} (xs ys : List A) → xs ++ ys ≡ [] → ys ≡ []
+no_rest [] ys h = h
+no_rest (x ∷ xs) ys h = absurd (not_empty h)
+
+none_over : {X : Type 0} (n : X → ℕ) (xs : List X) → list_any (λ x. nat_lt 4096 (n x)) xs ≡ false → IsTrue (list_all (λ x. nat_le (n x) 4096) xs)
+none_over n [] h = refl
+none_over n (x ∷ xs) h = grind (arith, common_steps, none_over n xs)
+
+few_of_kind : (items : List (Item Path)) (k : Kind) → list_any (λ j. nat_lt 4096 (count_of j items)) kinds ≡ false → count_of k items ≤ 4096
+few_of_kind items kind.Variable h = grind (arith, common_steps)
+few_of_kind items kind.Command h = grind (arith, common_steps)
+few_of_kind items kind.Menu h = grind (arith, common_steps)
+few_of_kind items kind.Collection h = grind (arith, common_steps)
+few_of_kind items kind.Method h = grind (arith, common_steps)
