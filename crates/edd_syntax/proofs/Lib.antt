@@ -12,6 +12,7 @@ pub mod WorkedChecked
 pub mod WorkedGrammar
 pub mod WorkedNames
 pub mod WorkedRefusals
+pub mod WorkedRows
 pub mod WorkedRuns
 pub mod WorkedShapes
 pub mod WorkedTexts

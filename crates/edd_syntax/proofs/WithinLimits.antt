@@ -14,6 +14,11 @@ use Rattle.edd_syntax.specs.Numbers.{same_kind}
 use Rattle.edd_syntax.specs.Resolution.{count_of, member_kinds}
 use Rattle.edd_syntax.specs.ResolvedTrees.{◌>>=◌, each, unchanged, resolved_cond, resolved_conds, resolved_body, at_attribute, resolved_entry, resolved_member, resolved_type_part, resolved_transaction_part, resolved_attribute, resolved_item, resolved_unit}
 use Rattle.edd_syntax.specs.NameRules.{is_transaction, transaction_count, kinds}
+use Rattle.edd_syntax.specs.NameRules.{too_many}
+use Rattle.edd_syntax.specs.Resolved.{IsChecked}
+use Rattle.std.proofs.Math.Logic.{∥∥₁_elim}
+use Rattle.std.proofs.Math.Bridge.{le_prop}
+use Rattle.std.proofs.Math.Bool.{Bool-set}
 use Rattle.edd_syntax.specs.Refusal.{Refusal, refused_if}
 
 bind_some : {A B : Type 0} (o : Option A) (f : A → Option B) (z : B) → (o >>= f) ≡ Some z → (x : A) × (o ≡ Some x) × (f x ≡ Some z)
@@ -116,3 +121,33 @@ few_of_kind items kind.Command h = grind (arith, common_steps)
 few_of_kind items kind.Menu h = grind (arith, common_steps)
 few_of_kind items kind.Collection h = grind (arith, common_steps)
 few_of_kind items kind.Method h = grind (arith, common_steps)
+
+-- ---- a checked description
+
+module _ (d : Description Target) (checked : IsChecked d) where
+  items_meant : each (resolved_item checked.is_resolved.unit) checked.is_resolved.unit.items ≡ Some d.items
+  unfolding resolved_unit
+  items_meant =
+      let u = checked.is_resolved.unit in
+      let x = bind_some (each (resolved_item u) u.items) (λ items. Some (record { identification = u.identification; items = items })) d checked.is_resolved.meanings in
+      x.1 ∙ ap Some (at_some (λ e. e.items) [] (record { identification = u.identification; items = x.0 }) d x.2)
+
+  none_too_many : too_many checked.is_resolved.unit ≡ []
+  none_too_many = no_front (too_many checked.is_resolved.unit) _ checked.is_resolved.no_breach
+
+  pub few : (k : Kind) → count_of k d.items ≤ 4096
+  few k =
+      let u = checked.is_resolved.unit in
+      omega (arith, same_count u d.items items_meant k, few_of_kind u.items k (no_refusal _ _ (no_front _ _ none_too_many)))
+
+  pub few_transactions : IsTrue (list_all (λ i. nat_le (transaction_count i) 4096) d.items)
+  few_transactions =
+      let u = checked.is_resolved.unit in
+      same_transactions u d.items items_meant ∙ none_over transaction_count u.items (no_refusal _ _ (no_front _ _ (no_rest _ _ none_too_many)))
+
+-- the facts as they stand in a checked description
+pub few_when_checked : (d : Description Target) → ∥ IsChecked d ∥₁ → (k : Kind) → count_of k d.items ≤ 4096
+few_when_checked d checked k = ∥∥₁_elim checked le_prop (λ c. few d c k)
+
+pub few_transactions_when_checked : (d : Description Target) → ∥ IsChecked d ∥₁ → IsTrue (list_all (λ i. nat_le (transaction_count i) 4096) d.items)
+few_transactions_when_checked d checked = ∥∥₁_elim checked (Bool-set _ _) (λ c. few_transactions d c)

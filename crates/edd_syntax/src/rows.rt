@@ -1,6 +1,6 @@
 //! The written attributes, in the order in which an image has them.
 
-ghost use Rattle.std.specs.Prelude.{◌≡◌, ◌++◌, ◌≤◌, map, filter, length, nat_le, IsTrue, OnOk};
+ghost use Rattle.std.specs.Prelude.{◌≡◌, ◌++◌, ◌≤◌, map, filter, length, nat_le, IsTrue, IfOk, OnOk};
 ghost use Rattle.std.specs.List.{list_any, list_all, flat_map};
 ghost use Rattle.edd_syntax.specs.Attributes as attributes;
 ghost use Rattle.edd_syntax.specs.declared.numbers.Kind.{Kind};
@@ -11,10 +11,11 @@ ghost use Rattle.edd_syntax.specs.Numbers as numbers;
 ghost use Rattle.edd_syntax.specs.Resolution.{count_of};
 ghost use Rattle.edd_syntax.specs.Rows as order;
 
+use crate::checked::Checked;
 use crate::item::{Attribute, Item, TypePart};
 use crate::numbers::{Attr, AttrRef, CmdNo, CollNo, ItemNo, Kind, MenuNo, MethNo, VarNo};
 use crate::reference::Target;
-use std::alloc::AllocError;
+use std::alloc::{AllocError, Global};
 
 fn is_same_attr(a: Attr, b: Attr) -> bool
     ensures { result ≡ numbers.same_attr a b }
@@ -247,7 +248,11 @@ fn push_attributes(
 }
 
 // The rows of the items of these kinds.
-fn push_kinds(rows: &mut Vec<AttrRef>, items: &[Item<Target>], kinds: &[Kind]) -> Result<(), AllocError>
+fn push_kinds(
+    rows: &mut Vec<AttrRef>,
+    items: &[Item<Target>],
+    kinds: &[Kind],
+) -> Result<(), AllocError>
     requires few { (k : Kind) → count_of k (map (item_of (λ r. r)) items.now) ≤ 4096 }
     requires transactions { IsTrue (list_all (λ i. nat_le (rules.transaction_count i) 4096) (map (item_of (λ r. r)) items.now)) }
     ensures { OnOk result (rows.new.items
@@ -257,4 +262,16 @@ fn push_kinds(rows: &mut Vec<AttrRef>, items: &[Item<Target>], kinds: &[Kind]) -
         push_attributes(rows, items, *kind, &ATTRIBUTES)?;
     }
     Ok(())
+}
+
+impl Checked {
+    /// The written attributes other than TYPE, by kind, attribute, item and position. A transaction has all three of its
+    /// attributes, written or not; `sub` is its position among the transactions of its command, and else 0.
+    pub fn rows(&self, alloc: Global) -> Result<Vec<AttrRef>, AllocError>
+        ensures { IfOk result (λ rows. rows.items ≡ order.rows (numbered_items self.now.items.value.items)) }
+    {
+        let mut rows = Vec::new(alloc);
+        push_kinds(&mut rows, &self.items, &KINDS)?;
+        Ok(rows)
+    }
 }

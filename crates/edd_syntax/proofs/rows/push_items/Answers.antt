@@ -11,5 +11,8 @@ use Rattle.edd_syntax.proofs.rows.push_items.Goals as goal
 
 pub push_item-requires : goal.push_item-requires
 push_item-requires c =
-    omega (arith, leb-true (transaction_count (item_of (λ r. r) c.item-item.result)) 4096 (all_at (λ i. nat_le (transaction_count i) 4096) (item_of (λ r. r)) c.args.items.now c.loop-item.item-index c.item-item.result (omega arith) c.item-item.is c.requires.transactions),
-        ap (λ xs. length (filter is_transaction xs)) c.parts_of-of.ensures.attributes)
+    omega (
+      arith,
+      leb-true (transaction_count (item_of (λ r. r) c.item-item.result)) 4096 (all_at (λ i. nat_le (transaction_count i) 4096) (item_of (λ r. r)) c.args.items.now c.loop-item.item-index c.item-item.result (omega arith) c.item-item.is c.requires.transactions),
+      ap (λ xs. length (filter is_transaction xs)) c.parts_of-of.ensures.attributes,
+    )
