@@ -1,0 +1,4 @@
+//! The compiler as one call, and the program `edd` over given words, files and output.
+#![tactic(auto)]
+
+pub mod files;
