@@ -1,0 +1,95 @@
+-- The sections of an image, from a description, the code of its attributes and its strings.
+use Rattle.std.specs.Prelude.{ℕ, ◌+◌, List, [], ◌∷◌, ◌++◌, length, map}
+use Rattle.std.specs.List.{flat_map}
+use Rattle.edd_syntax.specs.declared.numbers.Kind.{Kind}
+use Rattle.edd_syntax.specs.declared.numbers.Kind.TheVariants as kind
+use Rattle.edd_syntax.specs.declared.numbers.AttrRef.{AttrRef}
+use Rattle.edd_syntax.specs.declared.reference.Target.{Target}
+use Rattle.edd_syntax.specs.Text.{Name}
+use Rattle.edd_syntax.specs.Words.{Words}
+use Rattle.edd_syntax.specs.Item.{Item, Identification, Description}
+use Rattle.edd_syntax.specs.NameRules.{kinds}
+use Rattle.edd_syntax.specs.Resolution.{count_of}
+use Rattle.edd_syntax.specs.Device.{written_type}
+use Rattle.edd_syntax.specs.DeviceValues.{VariableType}
+use Rattle.edd_syntax.specs.Rows.{of_kind}
+use Rattle.edd_image.specs.declared.parts.VarKind.{VarKind}
+use Rattle.edd_image.specs.declared.parts.NameRow.{NameRow}
+use Rattle.edd_image.specs.declared.parts.AttributeRow.{AttributeRow}
+use Rattle.edd_image.specs.declared.parts.StringRow.{StringRow}
+use Rattle.edd_image.specs.declared.parts.Counts.{Counts}
+use Rattle.edd_image.specs.Layout.{Sections}
+use Rattle.edd_image.specs.Strings.{string_bytes}
+
+-- an attribute, the slots that its code needs, which are 0 outside methods, and the code
+pub record Lowered : Type 0 where
+  pub row : AttrRef
+  pub slots : ℕ
+  pub code : List ℕ
+
+-- ---- names, by kind and number
+
+abbrev pub names_of : List (Item Target) → List Name
+names_of items = flat_map (λ k. map (λ i. i.name) (of_kind k items)) kinds
+
+abbrev pub name_row_at : (start : ℕ) → Name → NameRow
+name_row_at start n = record { start = start; length = length n }
+
+abbrev pub name_rows : (start : ℕ) → List Name → List NameRow
+name_rows start [] = []
+name_rows start (n ∷ rest) = name_row_at start n ∷ name_rows (start + length n) rest
+
+-- ---- strings, by number
+
+abbrev pub string_row_at : (start : ℕ) → Words → StringRow
+string_row_at start w = record { start = start; length = length (string_bytes w) }
+
+abbrev pub string_rows : (start : ℕ) → List Words → List StringRow
+string_rows start [] = []
+string_rows start (w ∷ rest) = string_row_at start w ∷ string_rows (start + length (string_bytes w)) rest
+
+-- ---- attributes
+
+-- a method's row has its number of slots where others have a position
+abbrev pub attribute_row_at : (start : ℕ) → Lowered → AttributeRow
+attribute_row_at start l = record { item = l.row.item; attr = l.row.attr; sub = l.row.sub + l.slots; start = start; length = length l.code }
+
+abbrev pub attribute_rows : (start : ℕ) → List Lowered → List AttributeRow
+attribute_rows start [] = []
+attribute_rows start (l ∷ rest) = attribute_row_at start l ∷ attribute_rows (start + length l.code) rest
+
+-- ---- variables
+
+abbrev pub kind_of_type : VariableType → VarKind
+kind_of_type t = record { var_type = t.type; size = t.size }
+
+abbrev pub variable_kinds : List (Item Target) → List VarKind
+variable_kinds items = map (λ i. kind_of_type (written_type i.attributes)) (of_kind kind.Variable items)
+
+-- ---- all sections
+
+abbrev pub counts_of : Identification → List (Item Target) → List Words → Counts
+counts_of i items strings = record {
+  variables = count_of kind.Variable items;
+  commands = count_of kind.Command items;
+  menus = count_of kind.Menu items;
+  collections = count_of kind.Collection items;
+  methods = count_of kind.Method items;
+  strings = length strings;
+  manufacturer = i.manufacturer;
+  device_type = i.device_type;
+  device_revision = i.device_revision;
+  dd_revision = i.dd_revision;
+}
+
+unfoldable pub assembled : Description Target → List Lowered → List Words → Sections
+assembled unit lowered strings = record {
+  counts = counts_of unit.identification unit.items strings;
+  variables = variable_kinds unit.items;
+  names = name_rows 0 (names_of unit.items);
+  attributes = attribute_rows 0 lowered;
+  code = flat_map (λ l. l.code) lowered;
+  strings = string_rows 0 strings;
+  name_bytes = flat_map (λ n. n) (names_of unit.items);
+  string_bytes = flat_map string_bytes strings;
+}

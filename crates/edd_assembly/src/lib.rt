@@ -1,0 +1,4 @@
+//! The parts of an image, from a checked description, the code of its attributes and its strings.
+#![tactic(auto)]
+
+mod strings;
