@@ -21,16 +21,18 @@ use Rattle.edd_image.specs.declared.parts.Counts.{Counts}
 use Rattle.edd_image.specs.Layout.{Sections}
 use Rattle.edd_image.specs.Strings.{string_bytes}
 
--- an attribute, the slots that its code needs, which are 0 outside methods, and the code
+-- an attribute and its code; for the body of a method `sub` is its number of slots
 pub record Lowered : Type 0 where
   pub row : AttrRef
-  pub slots : ℕ
   pub code : List ℕ
 
 -- ---- names, by kind and number
 
+abbrev pub names_of_kind : Kind → List (Item Target) → List Name
+names_of_kind k items = map (λ i. i.name) (of_kind k items)
+
 abbrev pub names_of : List (Item Target) → List Name
-names_of items = flat_map (λ k. map (λ i. i.name) (of_kind k items)) kinds
+names_of items = flat_map (λ k. names_of_kind k items) kinds
 
 abbrev pub name_row_at : (start : ℕ) → Name → NameRow
 name_row_at start n = record { start = start; length = length n }
@@ -50,9 +52,8 @@ string_rows start (w ∷ rest) = string_row_at start w ∷ string_rows (start + 
 
 -- ---- attributes
 
--- a method's row has its number of slots where others have a position
 abbrev pub attribute_row_at : (start : ℕ) → Lowered → AttributeRow
-attribute_row_at start l = record { item = l.row.item; attr = l.row.attr; sub = l.row.sub + l.slots; start = start; length = length l.code }
+attribute_row_at start l = record { item = l.row.item; attr = l.row.attr; sub = l.row.sub; start = start; length = length l.code }
 
 abbrev pub attribute_rows : (start : ℕ) → List Lowered → List AttributeRow
 attribute_rows start [] = []

@@ -1,4 +1,6 @@
 //! The parts of an image, from a checked description, the code of its attributes and its strings.
 #![tactic(auto)]
 
+mod lengths;
+mod names;
 mod strings;

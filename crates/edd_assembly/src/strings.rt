@@ -6,20 +6,10 @@ ghost use Rattle.edd_syntax.specs.WordsView.{variant_of, string_of};
 ghost use Rattle.edd_image.specs.Strings as pure;
 ghost use Rattle.edd_assembly.specs.Assembly.{string_row_at, string_rows};
 
+use crate::lengths::number_of;
 use edd_image::StringRow;
 use edd_syntax::words::{Variant, Words};
 use std::alloc::{AllocError, Global};
-
-/// The number of so many bytes in a field of four bytes. More than that a section can't have: it is refused as a growth that is
-/// too large.
-pub fn number_of(length: usize) -> Result<u32, AllocError>
-    ensures { IfOk result (λ n. n ≡ length) }
-{
-    match u32::try_from(length) {
-        Ok(n) => Ok(n),
-        Err(_) => Err(AllocError),
-    }
-}
 
 fn put_variant(out: &mut Vec<u8>, variant: &Variant) -> Result<(), AllocError>
     ensures { OnOk result (out.new.items ≡ out.old.items ++ pure.variant_bytes (variant_of variant.now)) }

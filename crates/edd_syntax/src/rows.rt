@@ -13,7 +13,7 @@ ghost use Rattle.edd_syntax.specs.Rows as order;
 
 use crate::checked::Checked;
 use crate::item::{Attribute, Item, TypePart};
-use crate::numbers::{Attr, AttrRef, CmdNo, CollNo, ItemNo, Kind, MenuNo, MethNo, VarNo};
+use crate::numbers::{Attr, AttrRef, CmdNo, CollNo, ItemNo, KINDS, Kind, MenuNo, MethNo, VarNo};
 use crate::reference::Target;
 use std::alloc::{AllocError, Global};
 
@@ -219,14 +219,6 @@ const ATTRIBUTES: [Attr; 21] = [
     Attr::Items,
     Attr::Members,
     Attr::Definition,
-];
-
-const KINDS: [Kind; 5] = [
-    Kind::Variable,
-    Kind::Command,
-    Kind::Menu,
-    Kind::Collection,
-    Kind::Method,
 ];
 
 // The rows of these attributes of the items of a kind.

@@ -1,0 +1,85 @@
+//! The names of an image and their rows.
+
+ghost use Rattle.std.specs.Prelude.{◌≡◌, ◌++◌, ◌∷◌, [], map, OnOk, IfOk, length, string_bytes};
+ghost use Rattle.std.specs.List.{flat_map};
+ghost use Rattle.edd_syntax.specs.Item.{kind_of_item};
+ghost use Rattle.edd_syntax.specs.ItemView.{item_of};
+ghost use Rattle.edd_syntax.specs.Numbers as numbers;
+ghost use Rattle.edd_assembly.specs.Assembly.{name_row_at, name_rows, names_of_kind, names_of};
+
+use crate::lengths::number_of;
+use edd_image::NameRow;
+use edd_syntax::item::Item;
+use edd_syntax::numbers::{KINDS, Kind};
+use edd_syntax::reference::Target;
+use std::alloc::{AllocError, Global};
+
+/// The rows and the bytes of names.
+#[derive(Drop)]
+pub struct NameSection {
+    pub rows: Vec<NameRow>,
+    pub bytes: Vec<u8>,
+}
+
+impl NameSection {
+    fn new(alloc: Global) -> NameSection
+        ensures rows { result.rows.items ≡ [] }
+        ensures bytes { result.bytes.items ≡ [] }
+    {
+        NameSection {
+            rows: Vec::new(alloc),
+            bytes: Vec::new(alloc),
+        }
+    }
+
+    fn push(&mut self, name: &str) -> Result<(), AllocError>
+        ensures rows { OnOk result (self.new.rows.items ≡ self.old.rows.items ++ name_row_at (length self.old.bytes.items) name.now ∷ []) }
+        ensures bytes { OnOk result (self.new.bytes.items ≡ self.old.bytes.items ++ name.now) }
+    {
+        let start = number_of(self.bytes.len())?;
+        let Ok(length) = u16::try_from(name.len()) else {
+            return Err(AllocError);
+        };
+        self.bytes.extend_from_slice(name.as_bytes())?;
+        self.rows.push(NameRow { start, length })?;
+        Ok(())
+    }
+
+    fn push_if(&mut self, item: &Item<Target>, kind: Kind) -> Result<(), AllocError>
+        ensures rows { OnOk result (self.new.rows.items
+            ≡ self.old.rows.items ++ name_rows (length self.old.bytes.items) (names_of_kind kind (item_of (λ r. r) item.now ∷ []))) }
+        ensures bytes { OnOk result (self.new.bytes.items
+            ≡ self.old.bytes.items ++ flat_map (λ n. n) (names_of_kind kind (item_of (λ r. r) item.now ∷ []))) }
+    {
+        let (of, name) = kind_and_name(item);
+        if of as u8 == kind as u8 {
+            self.push(name)?;
+        }
+        Ok(())
+    }
+
+    fn push_kind(&mut self, items: &[Item<Target>], kind: Kind) -> Result<(), AllocError>
+        ensures rows { OnOk result (self.new.rows.items
+            ≡ self.old.rows.items ++ name_rows (length self.old.bytes.items) (names_of_kind kind (map (item_of (λ r. r)) items.now))) }
+        ensures bytes { OnOk result (self.new.bytes.items
+            ≡ self.old.bytes.items ++ flat_map (λ n. n) (names_of_kind kind (map (item_of (λ r. r)) items.now))) }
+    {
+        for item in items {
+            self.push_if(item, kind)?;
+        }
+        Ok(())
+    }
+}
+
+fn kind_and_name(item: &Item<Target>) -> (Kind, &str)
+    ensures kind { result.0 ≡ kind_of_item (item_of (λ r. r) item.now).sort }
+    ensures name { result.1.now ≡ (item_of (λ r. r) item.now).name }
+{
+    match item {
+        Item::Variable(d) => (Kind::Variable, &d.name),
+        Item::Command(d) => (Kind::Command, &d.name),
+        Item::Menu(d) => (Kind::Menu, &d.name),
+        Item::Collection(d) => (Kind::Collection, &d.name),
+        Item::Method(d) => (Kind::Method, &d.name),
+    }
+}
