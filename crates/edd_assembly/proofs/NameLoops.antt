@@ -9,7 +9,7 @@ use Rattle.edd_syntax.specs.Text.{Name}
 use Rattle.edd_syntax.specs.Item.{kind_of_item, Item}
 use Rattle.edd_syntax.specs.Numbers.{same_kind}
 use Rattle.edd_image.specs.declared.parts.NameRow.{NameRow}
-use Rattle.edd_assembly.specs.Assembly.{name_row_at, name_rows, names_of_kind}
+use Rattle.edd_assembly.specs.Assembly.{name_row_at, name_rows, names_of_kind, names_of_kinds}
 use Rattle.edd_assembly.proofs.Appending.{with_rest, appended, all_appended}
 
 -- the bytes of names
@@ -60,10 +60,6 @@ kind_split k y ys = by_kind (same_kind (kind_of_item y.sort) k) refl
     by_kind : (b : Bool) → same_kind (kind_of_item y.sort) k ≡ b → names_of_kind k (y ∷ ys) ≡ names_of_kind k (y ∷ []) ++ names_of_kind k ys
     by_kind true is = grind (arith, common_steps)
     by_kind false is = grind (arith, common_steps)
-
--- the names of the items of these kinds
-abbrev pub names_of_kinds : List (Item Target) → List Kind → List Name
-names_of_kinds items ks = flat_map (λ k. names_of_kind k items) ks
 
 pub kinds_split : (items : List (Item Target)) (k : Kind) (ks : List Kind) → names_of_kinds items (k ∷ ks) ≡ names_of_kinds items (k ∷ []) ++ names_of_kinds items ks
 kinds_split items k ks = ap (λ ns. ns ++ names_of_kinds items ks) (sym (append-nil (names_of_kind k items)))

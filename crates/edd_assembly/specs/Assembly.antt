@@ -31,8 +31,11 @@ pub record Lowered : Type 0 where
 abbrev pub names_of_kind : Kind → List (Item Target) → List Name
 names_of_kind k items = map (λ i. i.name) (of_kind k items)
 
+abbrev pub names_of_kinds : List (Item Target) → List Kind → List Name
+names_of_kinds items ks = flat_map (λ k. names_of_kind k items) ks
+
 abbrev pub names_of : List (Item Target) → List Name
-names_of items = flat_map (λ k. names_of_kind k items) kinds
+names_of items = names_of_kinds items kinds
 
 abbrev pub name_row_at : (start : ℕ) → Name → NameRow
 name_row_at start n = record { start = start; length = length n }

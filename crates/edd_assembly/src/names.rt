@@ -5,7 +5,7 @@ ghost use Rattle.std.specs.List.{flat_map};
 ghost use Rattle.edd_syntax.specs.Item.{kind_of_item};
 ghost use Rattle.edd_syntax.specs.ItemView.{item_of};
 ghost use Rattle.edd_syntax.specs.Numbers as numbers;
-ghost use Rattle.edd_assembly.specs.Assembly.{name_row_at, name_rows, names_of_kind, names_of};
+ghost use Rattle.edd_assembly.specs.Assembly.{name_row_at, name_rows, names_of_kind, names_of_kinds, names_of};
 
 use crate::lengths::number_of;
 use edd_image::NameRow;
@@ -82,4 +82,26 @@ fn kind_and_name(item: &Item<Target>) -> (Kind, &str)
         Item::Collection(d) => (Kind::Collection, &d.name),
         Item::Method(d) => (Kind::Method, &d.name),
     }
+}
+
+fn push_kinds(section: &mut NameSection, items: &[Item<Target>], kinds: &[Kind]) -> Result<(), AllocError>
+    ensures rows { OnOk result (section.new.rows.items
+        ≡ section.old.rows.items ++ name_rows (length section.old.bytes.items) (names_of_kinds (map (item_of (λ r. r)) items.now) kinds.now)) }
+    ensures bytes { OnOk result (section.new.bytes.items
+        ≡ section.old.bytes.items ++ flat_map (λ n. n) (names_of_kinds (map (item_of (λ r. r)) items.now) kinds.now)) }
+{
+    for kind in kinds {
+        section.push_kind(items, *kind)?;
+    }
+    Ok(())
+}
+
+/// The names of items, by kind and number.
+pub fn name_section(alloc: Global, items: &[Item<Target>]) -> Result<NameSection, AllocError>
+    ensures rows { IfOk result (λ s. s.rows.items ≡ name_rows 0 (names_of (map (item_of (λ r. r)) items.now))) }
+    ensures bytes { IfOk result (λ s. s.bytes.items ≡ flat_map (λ n. n) (names_of (map (item_of (λ r. r)) items.now))) }
+{
+    let mut section = NameSection::new(alloc);
+    push_kinds(&mut section, items, &KINDS)?;
+    Ok(section)
 }
