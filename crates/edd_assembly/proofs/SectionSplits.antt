@@ -11,5 +11,8 @@ strings_split s w ws = refl
 pub names_split : (s : ℕ) (n : Name) (ns : List Name) → name_rows s (n ∷ ns) ≡ name_row_at s n ∷ name_rows (s + length n) ns
 names_split s n ns = refl
 
+abbrev pub code_of : Lowered → List ℕ
+code_of l = l.code
+
 pub attributes_split : (s : ℕ) (l : Lowered) (ls : List Lowered) → attribute_rows s (l ∷ ls) ≡ attribute_row_at s l ∷ attribute_rows (s + length l.code) ls
 attributes_split s l ls = refl

@@ -4,3 +4,4 @@
 mod lengths;
 mod names;
 mod strings;
+mod units;
