@@ -1,3 +1,4 @@
 pub mod Appending
 pub mod SectionSplits
 pub mod NameLoops
+pub mod Types

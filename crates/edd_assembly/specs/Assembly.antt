@@ -1,5 +1,8 @@
 -- The sections of an image, from a description, the code of its attributes and its strings.
-use Rattle.std.specs.Prelude.{ℕ, ◌+◌, List, [], ◌∷◌, ◌++◌, length, map}
+use Rattle.std.specs.Prelude.{ℕ, ◌+◌, Bool, true, List, [], ◌∷◌, ◌++◌, length, map, nat_le, Option, Some, None, unwrap_or, if◌then◌else◌}
+use Rattle.std.specs.Option.{option_map_or}
+use Rattle.edd_syntax.specs.declared.types.VarType.{VarType}
+use Rattle.edd_syntax.specs.Numbers.{same_kind}
 use Rattle.std.specs.List.{flat_map}
 use Rattle.edd_syntax.specs.declared.numbers.Kind.{Kind}
 use Rattle.edd_syntax.specs.declared.numbers.Kind.TheVariants as kind
@@ -7,7 +10,7 @@ use Rattle.edd_syntax.specs.declared.numbers.AttrRef.{AttrRef}
 use Rattle.edd_syntax.specs.declared.reference.Target.{Target}
 use Rattle.edd_syntax.specs.Text.{Name}
 use Rattle.edd_syntax.specs.Words.{Words}
-use Rattle.edd_syntax.specs.Item.{Item, Identification, Description}
+use Rattle.edd_syntax.specs.Item.{Attribute, TypeOf, Known, kind_of_item, Item, Identification, Description}
 use Rattle.edd_syntax.specs.NameRules.{kinds}
 use Rattle.edd_syntax.specs.Resolution.{count_of}
 use Rattle.edd_syntax.specs.Device.{written_type}
@@ -66,6 +69,22 @@ attribute_rows start (l ∷ rest) = attribute_row_at start l ∷ attribute_rows 
 
 abbrev pub kind_of_type : VariableType → VarKind
 kind_of_type t = record { var_type = t.type; size = t.size }
+
+abbrev pub type_of_pair : VarType × ℕ → VariableType
+type_of_pair t = record { type = t.0; size = t.1 }
+
+-- the type that an attribute writes
+abbrev pub type_in : Attribute Target → Option VariableType
+type_in (TypeOf (Known type size) parts) = Some (record { type = type; size = unwrap_or size 1 })
+type_in _ = None
+
+-- the attributes of a variable
+abbrev pub variable_attributes : Item Target → Option (List (Attribute Target))
+variable_attributes i = if same_kind (kind_of_item i.sort) kind.Variable then Some i.attributes else None
+
+-- its size is at most 4 octets, if it is a variable
+abbrev pub is_small_variable : Item Target → Bool
+is_small_variable i = option_map_or (λ attributes. nat_le (written_type attributes).size 4) (variable_attributes i) true
 
 abbrev pub variable_kinds : List (Item Target) → List VarKind
 variable_kinds items = map (λ i. kind_of_type (written_type i.attributes)) (of_kind kind.Variable items)
