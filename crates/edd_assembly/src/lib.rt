@@ -1,6 +1,7 @@
 //! The parts of an image, from a checked description, the code of its attributes and its strings.
 #![tactic(auto)]
 
+mod assemble;
 mod counts;
 mod lengths;
 mod names;
