@@ -2,3 +2,5 @@ pub mod Appending
 pub mod SectionSplits
 pub mod NameLoops
 pub mod Types
+pub mod RowCounts
+pub mod SmallVariables

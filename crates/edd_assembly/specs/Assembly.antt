@@ -105,6 +105,18 @@ counts_of i items strings = record {
   dd_revision = i.dd_revision;
 }
 
+abbrev pub sections : Counts → List VarKind → List NameRow → List AttributeRow → (code : List ℕ) → List StringRow → (name_bytes string_bytes : List ℕ) → Sections
+sections counts variables names attributes code strings name_bytes string_bytes = record {
+  counts = counts;
+  variables = variables;
+  names = names;
+  attributes = attributes;
+  code = code;
+  strings = strings;
+  name_bytes = name_bytes;
+  string_bytes = string_bytes;
+}
+
 unfoldable pub assembled : Description Target → List Lowered → List Words → Sections
 assembled unit lowered strings = record {
   counts = counts_of unit.identification unit.items strings;

@@ -1,6 +1,6 @@
 //! The parts of an image.
 
-ghost use Rattle.std.specs.Prelude.{◌≡◌, ◌≤◌, ◌+◌, ◌*◌, ◌<◌, ◌^◌, map, length, vec_len, IsTrue, IfOk};
+ghost use Rattle.std.specs.Prelude.{◌≡◌, ◌≤◌, ◌+◌, ◌*◌, ◌<◌, ◌^◌, map, length, IsTrue, IfOk, OnOk};
 ghost use Rattle.std.specs.List.{list_all};
 ghost use Rattle.edd_syntax.specs.declared.numbers.Kind.{Kind};
 ghost use Rattle.edd_syntax.specs.ItemView.{identification_of, item_of, numbered_items};
@@ -13,10 +13,11 @@ ghost use Rattle.edd_assembly.specs.Assembly.{assembled};
 ghost use Rattle.edd_assembly.specs.Views.{lowered_of};
 
 use crate::counts::{count, variable_kinds};
-use crate::names::name_section;
-use crate::strings::string_section;
-use crate::units::{Lowered, code_section};
-use edd_image::{Counts, Parts};
+use crate::lengths::number_of;
+use crate::names::{NameSection, name_section};
+use crate::strings::{StringSection, string_section};
+use crate::units::{CodeSection, Lowered, code_section};
+use edd_image::{Counts, Parts, VarKind};
 use edd_syntax::checked::Checked;
 use edd_syntax::item::{Identification, Item};
 use edd_syntax::numbers::Kind;
@@ -41,4 +42,103 @@ fn counts_of(identification: Identification, items: &[Item<Target>], strings: &[
         device_revision: identification.device_revision,
         dd_revision: identification.dd_revision,
     }
+}
+
+// The numbers of rows and of bytes fit an image, whose length four bytes say. More is refused as a growth that is too large.
+fn check_length(
+    variables: usize,
+    names: usize,
+    attributes: usize,
+    code: usize,
+    strings: usize,
+    bytes: usize,
+) -> Result<(), AllocError>
+    ensures { OnOk result (56 + 4 * variables + 8 * names + 16 * attributes + code + 8 * strings + bytes < 2 ^ 32) }
+{
+    let variables = u64::from(number_of(variables)?);
+    let names = u64::from(number_of(names)?);
+    let attributes = u64::from(number_of(attributes)?);
+    let code = u64::from(number_of(code)?);
+    let strings = u64::from(number_of(strings)?);
+    let bytes = u64::from(number_of(bytes)?);
+    let total = 56 + 4 * variables + 8 * names + 16 * attributes + code + 8 * strings + bytes;
+    if total > u64::from(u32::MAX) {
+        return Err(AllocError);
+    }
+    Ok(())
+}
+
+// The parts of these sections.
+fn parts_of(
+    counts: Counts,
+    variables: Vec<VarKind>,
+    names: NameSection,
+    code: CodeSection,
+    strings: StringSection,
+) -> Result<Parts, AllocError>
+    requires variables_counted { counts.variables ≡ length variables.items }
+    requires names_counted { counts.variables + counts.commands + counts.menus + counts.collections + counts.methods ≡ length names.rows.items }
+    requires strings_counted { counts.strings ≡ length strings.rows.items }
+    ensures { IfOk result (λ parts. sections_of parts
+        ≡ assembly.sections counts variables.items names.rows.items code.rows.items code.bytes.items strings.rows.items
+            names.bytes.items strings.bytes.items) }
+{
+    let name_bytes = number_of(names.bytes.len())?;
+    let string_bytes = number_of(strings.bytes.len())?;
+    check_length(
+        variables.len(),
+        names.rows.len(),
+        code.rows.len(),
+        code.bytes.len(),
+        strings.rows.len(),
+        name_bytes as usize + string_bytes as usize,
+    )?;
+    Ok(Parts {
+        counts,
+        variables,
+        names: names.rows,
+        attributes: code.rows,
+        code: code.bytes,
+        strings: strings.rows,
+        name_bytes: names.bytes,
+        string_bytes: strings.bytes,
+    })
+}
+
+#[tactic(auto, using(crate::proofs::RowCounts::row_counts), unfolding(crate::specs::Assembly::assembled))]
+fn assemble_items(
+    alloc: Global,
+    identification: Identification,
+    items: &[Item<Target>],
+    units: &[Lowered],
+    strings: &[Words],
+) -> Result<Parts, AllocError>
+    requires few { (k : Kind) → count_of k (map (item_of (λ r. r)) items.now) ≤ 4096 }
+    requires small { IsTrue (list_all assembly.is_small_variable (map (item_of (λ r. r)) items.now)) }
+    requires few_strings { length strings.now ≤ 65535 }
+    ensures { IfOk result (λ parts. sections_of parts
+        ≡ assembled (description (identification_of identification) (map (item_of (λ r. r)) items.now)) (map lowered_of units.now) (map string_of strings.now)) }
+{
+    let counts = counts_of(identification, items, strings);
+    let variables = variable_kinds(alloc, items)?;
+    let names = name_section(alloc, items)?;
+    let code = code_section(alloc, units)?;
+    let strings = string_section(alloc, strings)?;
+    parts_of(counts, variables, names, code, strings)
+}
+
+/// The parts of an image: the description's counts, types and names, the code of its attributes in this order, and its strings
+/// by number.
+pub fn assemble(
+    alloc: Global,
+    checked: &Checked,
+    units: &[Lowered],
+    strings: &[Words],
+) -> Result<Parts, AllocError>
+    requires { length strings.now ≤ 65535 }
+    ensures { IfOk result (λ parts. sections_of parts
+        ≡ assembled (description (identification_of checked.now.identification) (numbered_items checked.now.items.value.items))
+            (map lowered_of units.now) (map string_of strings.now)) }
+{
+    assemble_items(alloc, checked.identification, &checked.items, units, strings)
 }

@@ -7,3 +7,6 @@ mod lengths;
 mod names;
 mod strings;
 mod units;
+
+pub use assemble::assemble;
+pub use units::Lowered;
