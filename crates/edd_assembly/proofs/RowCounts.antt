@@ -1,5 +1,5 @@
 -- How many rows the sections have.
-use Rattle.std.proofs.Common.{◌≡◌, refl, sym, ap, ◌∙◌, ℕ, ◌+◌, List, [], ◌∷◌, ◌++◌, length, map, arith}
+use Rattle.std.proofs.Common.{◌≡◌, refl, ℕ, ◌+◌, List, [], ◌∷◌, ◌++◌, length, arith}
 use Rattle.std.proofs.lemmas.List.{length-append, length-map}
 use Rattle.edd_syntax.specs.declared.reference.Target.{Target}
 use Rattle.edd_syntax.specs.declared.numbers.Kind.{Kind}
@@ -28,11 +28,18 @@ of_one_kind items k = length-map _ _
 -- all names are those of the five kinds
 pub as_many_names : (items : List (Item Target)) → length (names_of items) ≡ count_of kind.Variable items + count_of kind.Command items + count_of kind.Menu items + count_of kind.Collection items + count_of kind.Method items
 as_many_names items =
-    omega (arith, of_one_kind items kind.Variable, of_one_kind items kind.Command, of_one_kind items kind.Menu, of_one_kind items kind.Collection, of_one_kind items kind.Method,
-        length-append (names_of_kind kind.Variable items) (names_of_kind kind.Command items ++ (names_of_kind kind.Menu items ++ (names_of_kind kind.Collection items ++ (names_of_kind kind.Method items ++ [])))),
-        length-append (names_of_kind kind.Command items) (names_of_kind kind.Menu items ++ (names_of_kind kind.Collection items ++ (names_of_kind kind.Method items ++ []))),
-        length-append (names_of_kind kind.Menu items) (names_of_kind kind.Collection items ++ (names_of_kind kind.Method items ++ [])),
-        length-append (names_of_kind kind.Collection items) (names_of_kind kind.Method items ++ []),
-        length-append (names_of_kind kind.Method items) [])
+    omega (
+      arith,
+      of_one_kind items kind.Variable,
+      of_one_kind items kind.Command,
+      of_one_kind items kind.Menu,
+      of_one_kind items kind.Collection,
+      of_one_kind items kind.Method,
+      length-append (names_of_kind kind.Variable items) (names_of_kind kind.Command items ++ (names_of_kind kind.Menu items ++ (names_of_kind kind.Collection items ++ (names_of_kind kind.Method items ++ [])))),
+      length-append (names_of_kind kind.Command items) (names_of_kind kind.Menu items ++ (names_of_kind kind.Collection items ++ (names_of_kind kind.Method items ++ []))),
+      length-append (names_of_kind kind.Menu items) (names_of_kind kind.Collection items ++ (names_of_kind kind.Method items ++ [])),
+      length-append (names_of_kind kind.Collection items) (names_of_kind kind.Method items ++ []),
+      length-append (names_of_kind kind.Method items) [],
+    )
 
 pub ruleset row_counts = (as_many_name_rows, as_many_string_rows, as_many_variables, as_many_names, length-map)

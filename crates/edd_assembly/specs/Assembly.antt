@@ -1,5 +1,5 @@
 -- The sections of an image, from a description, the code of its attributes and its strings.
-use Rattle.std.specs.Prelude.{ℕ, ◌+◌, Bool, true, List, [], ◌∷◌, ◌++◌, length, map, nat_le, Option, Some, None, unwrap_or, if◌then◌else◌}
+use Rattle.std.specs.Prelude.{ℕ, ◌+◌, Bool, true, List, [], ◌∷◌, length, map, nat_le, Option, Some, None, unwrap_or, if◌then◌else◌}
 use Rattle.std.specs.Option.{option_map_or}
 use Rattle.edd_syntax.specs.declared.types.VarType.{VarType}
 use Rattle.edd_syntax.specs.Numbers.{same_kind}

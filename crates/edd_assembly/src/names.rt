@@ -84,7 +84,11 @@ fn kind_and_name(item: &Item<Target>) -> (Kind, &str)
     }
 }
 
-fn push_kinds(section: &mut NameSection, items: &[Item<Target>], kinds: &[Kind]) -> Result<(), AllocError>
+fn push_kinds(
+    section: &mut NameSection,
+    items: &[Item<Target>],
+    kinds: &[Kind],
+) -> Result<(), AllocError>
     ensures rows { OnOk result (section.new.rows.items
         ≡ section.old.rows.items ++ name_rows (length section.old.bytes.items) (names_of_kinds (map (item_of (λ r. r)) items.now) kinds.now)) }
     ensures bytes { OnOk result (section.new.bytes.items

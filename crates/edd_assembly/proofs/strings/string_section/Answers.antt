@@ -1,4 +1,4 @@
-use Rattle.std.proofs.Common.{◌≡◌, refl, ◌∙◌, ap, sym, ◌++◌, ℕ, List, map, length, arith}
+use Rattle.std.proofs.Common.{refl, ◌∙◌, ap, ◌++◌, map, length, arith}
 use Rattle.std.specs.List.{flat_map}
 use Rattle.edd_syntax.specs.WordsView.{string_of}
 use Rattle.edd_image.specs.Strings.{string_bytes}
@@ -9,8 +9,9 @@ use Rattle.edd_assembly.proofs.strings.string_section.Goals as goal
 
 pub loop-w-preserved : goal.loop-w-preserved
 loop-w-preserved c = (
-    row_appended string_row_at string_rows string_bytes string_of strings_split c.loop-w.section.rows.items c.push.new.self.rows.items _ c.loop-w.section.bytes.items c.push.new.self.bytes.items c.loop-w.w-index c.args.words.now c.w-item.result (omega arith) c.w-item.is c.in_ok-push.ensures.rows c.in_ok-push.ensures.bytes c.loop-w.invariant.0,
-    each_appended string_bytes string_of c.loop-w.section.bytes.items c.push.new.self.bytes.items _ c.loop-w.w-index c.args.words.now c.w-item.result (omega arith) c.w-item.is c.in_ok-push.ensures.bytes c.loop-w.invariant.1)
+  row_appended string_row_at string_rows string_bytes string_of strings_split c.loop-w.section.rows.items c.push.new.self.rows.items _ c.loop-w.section.bytes.items c.push.new.self.bytes.items c.loop-w.w-index c.args.words.now c.w-item.result (omega arith) c.w-item.is c.in_ok-push.ensures.rows c.in_ok-push.ensures.bytes c.loop-w.invariant.0,
+  each_appended string_bytes string_of c.loop-w.section.bytes.items c.push.new.self.bytes.items _ c.loop-w.w-index c.args.words.now c.w-item.result (omega arith) c.w-item.is c.in_ok-push.ensures.bytes c.loop-w.invariant.1,
+)
 
 pub returns-clause-rows : goal.returns-clause-rows
 returns-clause-rows c = rows_done string_row_at string_rows string_bytes string_of strings_split c.loop-w.section.rows.items _ (length c.loop-w.section.bytes.items) c.loop-w.w-index c.args.words.now (omega arith) refl c.loop-w.invariant.0

@@ -81,7 +81,7 @@ fn parts_of(
     requires strings_counted { counts.strings ≡ length strings.rows.items }
     ensures { IfOk result (λ parts. sections_of parts
         ≡ assembly.sections counts variables.items names.rows.items code.rows.items code.bytes.items strings.rows.items
-            names.bytes.items strings.bytes.items) }
+        names.bytes.items strings.bytes.items) }
 {
     let name_bytes = number_of(names.bytes.len())?;
     let string_bytes = number_of(strings.bytes.len())?;
@@ -138,7 +138,13 @@ pub fn assemble(
     requires { length strings.now ≤ 65535 }
     ensures { IfOk result (λ parts. sections_of parts
         ≡ assembled (description (identification_of checked.now.identification) (numbered_items checked.now.items.value.items))
-            (map lowered_of units.now) (map string_of strings.now)) }
+        (map lowered_of units.now) (map string_of strings.now)) }
 {
-    assemble_items(alloc, checked.identification, &checked.items, units, strings)
+    assemble_items(
+        alloc,
+        checked.identification,
+        &checked.items,
+        units,
+        strings,
+    )
 }

@@ -8,14 +8,14 @@ use Rattle.edd_syntax.specs.Resolved.{description}
 use Rattle.edd_syntax.proofs.WithinLimits.{few_when_checked}
 use Rattle.edd_assembly.specs.Assembly.{is_small_variable}
 use Rattle.edd_assembly.proofs.SmallVariables.{small_when_checked}
-use Rattle.edd_assembly.proofs.assemble.assemble.Goals as goal
+use Rattle.edd_assembly.proofs.parts.assemble.Goals as goal
 
 pub assemble_items-requires-clause-few : goal.assemble_items-requires-clause-few
 assemble_items-requires-clause-few c k =
     subst (λ (items : List (Item Target)). count_of k (map (item_of (λ r. r)) items) ≤ 4096) (sym (c.deref-2.ensures.value ∙ ap (λ v. v.items) c.deref.ensures))
-        (few_when_checked (description (identification_of c.args.checked.now.identification) (numbered_items c.args.checked.now.items.value.items)) c.args.checked.now.checked k)
+    (few_when_checked (description (identification_of c.args.checked.now.identification) (numbered_items c.args.checked.now.items.value.items)) c.args.checked.now.checked k)
 
 pub assemble_items-requires-clause-small : goal.assemble_items-requires-clause-small
 assemble_items-requires-clause-small c =
     subst (λ (items : List (Item Target)). IsTrue (list_all is_small_variable (map (item_of (λ r. r)) items))) (sym (c.deref-2.ensures.value ∙ ap (λ v. v.items) c.deref.ensures))
-        (small_when_checked (description (identification_of c.args.checked.now.identification) (numbered_items c.args.checked.now.items.value.items)) c.args.checked.now.checked)
+    (small_when_checked (description (identification_of c.args.checked.now.identification) (numbered_items c.args.checked.now.items.value.items)) c.args.checked.now.checked)
