@@ -1,0 +1,9 @@
+//! The tree that the tokens of a description spell.
+#![tactic(auto)]
+
+pub mod cursor;
+pub mod fault;
+pub mod operators;
+pub mod piece;
+pub mod same;
+pub mod texts;
