@@ -1,7 +1,14 @@
 -- What the code's tokens, operators and answers stand for.
-use Rattle.std.specs.Prelude.{◌≡◌, ℕ, List, Option, Some, None, Result, Ok, Err, Bool, true, false}
+use Rattle.std.specs.Prelude.{◌≡◌, ℕ, List, map, Option, Some, None, Result, Ok, Err, Bool, true, false}
 use Rattle.edd_syntax.specs.Token as pure
 use Rattle.edd_syntax.specs.Grammar as grammar
+use Rattle.edd_syntax.specs.declared.expr.Expr as code
+use Rattle.edd_syntax.specs.declared.expr.Argument as argument
+use Rattle.edd_syntax.specs.declared.reference.Path as path
+use Rattle.edd_syntax.specs.Reference.{Path}
+use Rattle.edd_syntax.specs.Expression as pure_tree
+use Rattle.edd_syntax.specs.Size.{argument_height}
+use Rattle.edd_syntax.specs.TreeView.{path_of, expr_of, argument_of}
 use Rattle.edd_grammar.specs.Reading.{Read}
 use Rattle.edd_grammar.specs.Signs as signs
 use Rattle.edd_parser.specs.declared.piece.Piece.{Piece}
@@ -64,3 +71,19 @@ Leaves (Err (fault.Unsupported word)) left read = read ≡ None
 abbrev pub Takes : {X Y : Type 0} → (X → Y) → Option X → List pure.Token → List pure.Token → Read Y → Type 0
 Takes view (Some x) here left read = read ≡ Some (view x, left)
 Takes view None here left read = (read ≡ None) × (left ≡ here)
+
+-- ---- trees
+
+abbrev pub expr_view : code.Expr path.Path → pure_tree.Expr Path
+expr_view e = expr_of path_of e
+
+abbrev pub argument_view : argument.Argument path.Path → pure_tree.Argument Path
+argument_view a = argument_of path_of a
+
+-- the arguments that a list has
+abbrev pub listed : List (argument.Argument path.Path) → pure_tree.Arguments Path
+listed all = pure_tree.arguments_from (map argument_view all)
+
+-- the height of one argument
+abbrev pub argument_levels : argument.Argument path.Path → ℕ
+argument_levels a = argument_height (pure_tree.Cons (argument_view a) pure_tree.Nil)

@@ -55,9 +55,8 @@ impl<'a> Cursor<'a> {
         self.alloc
     }
 
-    /// The line of the token that is next, or of the text's end.
-    pub fn line(&self) -> u32 {
-        let left = self.rest.len();
+    // The line of the first of the last `left` tokens, or of the text's end.
+    fn line_of_last(&self, left: usize) -> u32 {
         if left > self.tokens.len() {
             return self.last_line;
         }
@@ -67,14 +66,38 @@ impl<'a> Cursor<'a> {
         }
     }
 
-    /// The fault of a token that fits nothing.
+    /// The line of the token that is next, or of the text's end.
+    pub fn line(&self) -> u32 {
+        self.line_of_last(self.rest.len())
+    }
+
+    /// The line of the token that was taken last.
+    pub fn taken_line(&self) -> u32 {
+        self.line_of_last(self.rest.len().saturating_add(1))
+    }
+
+    /// The fault where the next token fits nothing.
     pub fn syntax(&self) -> ParseFault {
         ParseFault::Syntax { line: self.line() }
     }
 
-    /// The fault of a token that would be too deep.
+    /// The fault where the token that was taken last fits nothing.
+    pub fn syntax_taken(&self) -> ParseFault {
+        ParseFault::Syntax {
+            line: self.taken_line(),
+        }
+    }
+
+    /// The fault where the next token would be too deep.
     pub fn too_deep(&self) -> ParseFault {
         ParseFault::TooDeep { line: self.line() }
+    }
+
+    /// The fault where the token that was taken last would be too deep.
+    pub fn too_deep_taken(&self) -> ParseFault {
+        ParseFault::TooDeep {
+            line: self.taken_line(),
+        }
     }
 
     pub fn len(&self) -> usize

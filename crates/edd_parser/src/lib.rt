@@ -2,8 +2,10 @@
 #![tactic(auto)]
 
 pub mod cursor;
+pub mod expr;
 pub mod fault;
 pub mod operators;
 pub mod piece;
 pub mod same;
 pub mod texts;
+pub mod trees;
