@@ -1,2 +1,3 @@
+pub mod Conditionals
 pub mod Pieces
 pub mod Views

@@ -1,6 +1,6 @@
 //! The tokens that are still to be read.
 
-ghost use Rattle.std.specs.Prelude.{◌≡◌, List, [], ◌∷◌, map, drop, length, MatchOption, None, Some, Bool, true, false};
+ghost use Rattle.std.specs.Prelude.{◌≡◌, ◌+◌, List, [], ◌∷◌, map, drop, length, MatchOption, None, Some, Bool, true, false};
 ghost use Rattle.edd_syntax.specs.Token.{Token};
 ghost use Rattle.edd_grammar.specs.Reading as reading;
 ghost use Rattle.edd_grammar.specs.ExpressionReading.{operator_at, assignment_at, increment_at};
@@ -104,6 +104,13 @@ impl<'a> Cursor<'a> {
         ensures { result ≡ length self.now }
     {
         self.rest.len()
+    }
+
+    /// The number of places before, between and behind the tokens.
+    pub fn places(&self) -> usize
+        ensures { result ≡ length self.now + 1 }
+    {
+        self.rest.len() + 1
     }
 
     pub fn is_empty(&self) -> bool

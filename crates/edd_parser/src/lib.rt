@@ -1,6 +1,7 @@
 //! The tree that the tokens of a description spell.
 #![tactic(auto)]
 
+pub mod cond;
 pub mod cursor;
 pub mod expr;
 pub mod fault;
