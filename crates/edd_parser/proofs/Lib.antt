@@ -1,2 +1,4 @@
+pub mod CondLoops
+pub mod Fronts
 pub mod Loops
 pub mod Rows
