@@ -1,3 +1,4 @@
+pub mod BodyLoops
 pub mod CondLoops
 pub mod Fronts
 pub mod Loops

@@ -1,3 +1,4 @@
+pub mod Bodies
 pub mod Conditionals
 pub mod Pieces
 pub mod Views

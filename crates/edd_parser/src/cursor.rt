@@ -5,7 +5,8 @@ ghost use Rattle.edd_syntax.specs.Token.{Token};
 ghost use Rattle.edd_grammar.specs.Reading as reading;
 ghost use Rattle.edd_grammar.specs.ExpressionReading.{operator_at, assignment_at, increment_at};
 ghost use Rattle.edd_parser.specs.Views.{piece_token, infix_view, assignment_view, Leaves, Takes};
-ghost use Rattle.edd_parser.specs.Pieces.{member_at, string_at, integer_at, no_more};
+ghost use Rattle.edd_grammar.specs.WordReading.{integer_at, at_name, expect_name, at_end};
+ghost use Rattle.edd_parser.specs.Pieces.{member_at, string_at};
 
 use crate::fault::ParseFault;
 use crate::operators::{Assignment, Infix, assignment_of, behind_of, infix_of, row_of};
@@ -114,7 +115,7 @@ impl<'a> Cursor<'a> {
     }
 
     pub fn is_empty(&self) -> bool
-        ensures { result ≡ no_more self.now }
+        ensures { result ≡ at_end self.now }
     {
         self.rest.is_empty()
     }
@@ -153,6 +154,41 @@ impl<'a> Cursor<'a> {
                 Some(*first)
             }
         }
+    }
+
+    /// The token that is next.
+    pub fn peek(&self) -> Option<Piece<'a>>
+        ensures { MatchOption result (self.now ≡ []) (λ p. self.now ≡ piece_token p ∷ drop 1 self.now) }
+    {
+        match self.rest {
+            [] => None,
+            [first, ..] => Some(*first),
+        }
+    }
+
+    /// The token behind the next one.
+    pub fn peek_second(&self) -> Option<Piece<'a>> {
+        self.rest.get(1).copied()
+    }
+
+    pub fn is_at_name(&self, name: &str) -> bool
+        ensures { result ≡ at_name name.now self.now }
+    {
+        match self.rest {
+            [Piece::Name(next), ..] => *next == name,
+            _ => false,
+        }
+    }
+
+    #[tactic(auto, unfolding(edd_grammar::specs::WordReading::expect_name))]
+    pub fn expect_name(&mut self, name: &str) -> Result<(), ParseFault>
+        ensures { Leaves result self.new (expect_name name.now self.old) }
+    {
+        if !self.is_at_name(name) {
+            return Err(self.syntax());
+        }
+        self.skip();
+        Ok(())
     }
 
     pub fn skip(&mut self)

@@ -3,10 +3,14 @@
 
 pub mod cond;
 pub mod cursor;
+pub mod declarators;
 pub mod expr;
 pub mod fault;
+pub mod left_out;
 pub mod operators;
 pub mod piece;
 pub mod same;
+pub mod statements;
+pub mod statement_trees;
 pub mod texts;
 pub mod trees;

@@ -135,8 +135,8 @@ pub fn choice_between(
     })
 }
 
-// A path without members.
-fn plain(alloc: Global, name: &str) -> Result<Path, AllocError>
+/// A path without members.
+pub fn plain(alloc: Global, name: &str) -> Result<Path, AllocError>
     ensures { IfOk result (λ p. path_of p ≡ record { base = name.now; members = [] }) }
 {
     Ok(Path {
