@@ -3,3 +3,4 @@ pub mod CondLoops
 pub mod Fronts
 pub mod Loops
 pub mod Rows
+pub mod WordLoops

@@ -1,4 +1,5 @@
 pub mod Bodies
 pub mod Conditionals
 pub mod Pieces
+pub mod Qualifiers
 pub mod Views

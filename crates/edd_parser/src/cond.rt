@@ -4,6 +4,7 @@ ghost use Rattle.std.specs.Prelude.{◌≡◌, ◌≤◌, ◌<◌, ◌+◌, ℕ,
 ghost use Rattle.edd_syntax.specs.Token.{Token};
 ghost use Rattle.edd_syntax.specs.Grammar.{InAttribute};
 ghost use Rattle.edd_grammar.specs.Reading.{Read};
+ghost use Rattle.edd_grammar.specs.WordReading.{braced};
 ghost use Rattle.edd_grammar.specs.ConditionalReading as reading;
 ghost use Rattle.edd_parser.specs.declared.cond.Form.TheVariants.{Many};
 ghost use Rattle.edd_parser.specs.Conditionals as conditionals;
@@ -314,4 +315,37 @@ fn arm<V: Value>(cursor: &mut Cursor, form: Form, high: u32) -> Result<Arm<Path,
     cursor.expect(Symbol::Colon)?;
     let body = branch(cursor, form, high)?;
     Ok(Arm::Default { line, body })
+}
+
+/// A single value of at most this height.
+#[tactic(auto, using(crate::proofs::CondLoops::one_is))]
+pub fn one<V: Value>(cursor: &mut Cursor, high: u32) -> Result<Cond<Path, V>, ParseFault>
+    requires { high ≤ 100 }
+    ensures { Gives (cond_view V.view) result cursor.new (reading.one_at V.read high cursor.old) }
+{
+    cond(cursor, Form::One, high)
+}
+
+/// An element of a list, of at most this height.
+#[tactic(auto, using(crate::proofs::CondLoops::many_is))]
+pub fn element<V: Value>(cursor: &mut Cursor, high: u32) -> Result<Cond<Path, V>, ParseFault>
+    requires { high ≤ 100 }
+    ensures { Gives (cond_view V.view) result cursor.new (reading.element_at V.read high cursor.old) }
+{
+    cond(cursor, Form::Many, high)
+}
+
+/// A list in braces, whose elements are of at most this height.
+#[tactic(auto, unfolding(edd_grammar::specs::WordReading::braced), using(crate::proofs::CondLoops::list_is))]
+pub fn braced_list<V: Value>(
+    cursor: &mut Cursor,
+    high: u32,
+) -> Result<Vec<Cond<Path, V>>, ParseFault>
+    requires { high ≤ 100 }
+    ensures { Gives (λ v. conds_view V.view v.items) result cursor.new (braced (reading.list_at V.read high) cursor.old) }
+{
+    cursor.expect(Symbol::OpenBrace)?;
+    let all = elements(cursor, high)?;
+    cursor.expect(Symbol::CloseBrace)?;
+    Ok(all)
 }

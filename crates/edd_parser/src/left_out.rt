@@ -1,9 +1,13 @@
 //! Words of the language that this profile leaves out.
 
+ghost use Rattle.edd_syntax.specs.declared.symbols.Symbol.TheVariants.{OpenBrace};
+ghost use Rattle.edd_grammar.specs.Reading.{expect};
+ghost use Rattle.edd_parser.specs.Views.{Leaves};
+
 use crate::cursor::Cursor;
 use crate::fault::ParseFault;
 use crate::piece::Piece;
-use edd_syntax::symbols::Keyword;
+use edd_syntax::symbols::{Keyword, Symbol};
 use std::alloc::Global;
 
 // Words of items, attributes, qualifiers and types.
@@ -95,6 +99,26 @@ pub fn misfit(cursor: &Cursor) -> ParseFault {
         Some(word) => unsupported(cursor.alloc(), word),
         None => cursor.syntax(),
     }
+}
+
+/// The fault of a name that was taken as a qualifier and is none.
+pub fn misfit_name(cursor: &Cursor, name: &str) -> ParseFault {
+    if is_left_out(name) {
+        return unsupported(cursor.alloc(), name);
+    }
+    cursor.syntax_taken()
+}
+
+/// An opening brace, where something else might begin.
+#[tactic(auto, unfolding(edd_grammar::specs::Reading::expect))]
+pub fn expect_brace(cursor: &mut Cursor) -> Result<(), ParseFault>
+    ensures { Leaves result cursor.new (expect OpenBrace cursor.old) }
+{
+    if !cursor.is_at(Symbol::OpenBrace) {
+        return Err(misfit(cursor));
+    }
+    cursor.skip();
+    Ok(())
 }
 
 /// The same where response codes may not stand either: among items and in a transaction.
