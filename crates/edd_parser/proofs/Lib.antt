@@ -2,5 +2,6 @@ pub mod BodyLoops
 pub mod CondLoops
 pub mod Fronts
 pub mod Loops
-pub mod Rows
+pub mod ArgumentHeights
+pub mod TypeEnds
 pub mod WordLoops

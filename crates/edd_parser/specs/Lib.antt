@@ -1,5 +1,6 @@
 pub mod Bodies
 pub mod Conditionals
+pub mod Items
 pub mod Pieces
 pub mod Qualifiers
 pub mod Views

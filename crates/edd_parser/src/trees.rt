@@ -177,7 +177,7 @@ pub fn no_arguments(alloc: Global) -> TallArguments
 }
 
 /// One more argument at the end.
-#[tactic(auto, using(crate::proofs::Rows::listed_height))]
+#[tactic(auto, using(crate::proofs::ArgumentHeights::listed_height))]
 pub fn with_argument(all: TallArguments, next: TallArgument) -> Result<TallArguments, AllocError>
     ensures { IfOk result (λ a. (a.arguments.items ≡ all.arguments.items ++ next.argument ∷ []) × (a.levels ≡ max all.levels next.levels)) }
 {
