@@ -6,14 +6,17 @@ ghost use Rattle.edd_grammar.specs.Reading as reading;
 ghost use Rattle.edd_grammar.specs.ExpressionReading.{operator_at, assignment_at, increment_at};
 ghost use Rattle.edd_parser.specs.Views.{piece_token, infix_view, assignment_view, Leaves, Takes};
 ghost use Rattle.edd_grammar.specs.WordReading.{integer_at, at_name, expect_name, at_end};
-ghost use Rattle.edd_parser.specs.Pieces.{member_at, string_at};
+ghost use Rattle.edd_parser.specs.Pieces.{member_at, string_at, further_name_at};
+ghost use Rattle.edd_grammar.specs.AttributeReading.{begins_own};
 
+use crate::belongs::word_belongs;
 use crate::fault::ParseFault;
 use crate::operators::{Assignment, Infix, assignment_of, behind_of, infix_of, row_of};
 use crate::piece::Piece;
 use crate::same::{same_sign, same_word};
 use edd_lexer::token::Token;
-use edd_syntax::operators::IncrementOperator;
+use edd_syntax::numbers::Kind;
+use edd_syntax::operators::{IncrementOperator, Operator};
 use edd_syntax::symbols::{Keyword, Symbol};
 use std::alloc::Global;
 use std::marker::Model;
@@ -270,6 +273,29 @@ impl<'a> Cursor<'a> {
                 Some(name)
             }
             _ => None,
+        }
+    }
+
+    /// The name behind `&`.
+    pub fn further_name(&mut self) -> Option<&'a str>
+        ensures { Takes (λ n. n.now) result self.old self.new (further_name_at self.old) }
+    {
+        match self.rest {
+            [Piece::Symbol(Symbol::Operator(Operator::And)), Piece::Name(name), rest @ ..] => {
+                self.rest = rest;
+                Some(name)
+            }
+            _ => None,
+        }
+    }
+
+    /// Whether the word of an attribute is next that this kind of item may have.
+    pub fn begins_own(&self, kind: Kind) -> bool
+        ensures { result ≡ begins_own kind self.now }
+    {
+        match self.rest {
+            [Piece::Keyword(word), ..] => word_belongs(kind, *word),
+            _ => false,
         }
     }
 

@@ -1,6 +1,8 @@
 //! The tree that the tokens of a description spell.
 #![tactic(auto)]
 
+pub mod attributes;
+pub mod belongs;
 pub mod cond;
 pub mod cursor;
 pub mod declarators;
