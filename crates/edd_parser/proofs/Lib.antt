@@ -1,7 +1,9 @@
 pub mod BodyLoops
+pub mod ClassNames
 pub mod CondLoops
 pub mod Fronts
 pub mod Loops
 pub mod ArgumentHeights
+pub mod TokenTexts
 pub mod TypeEnds
 pub mod WordLoops

@@ -1,5 +1,5 @@
 -- What the code's types and items stand for.
-use Rattle.std.specs.Prelude.{ℕ, List, ◌∷◌, drop, map, Some, None, if◌then◌else◌}
+use Rattle.std.specs.Prelude.{ℕ, List, ◌++◌, drop, map, Some, None, if◌then◌else◌}
 use Rattle.edd_syntax.specs.declared.symbols.Keyword.TheVariants as word
 use Rattle.edd_syntax.specs.declared.symbols.Symbol.TheVariants as sign
 use Rattle.edd_syntax.specs.declared.item.Attribute as code_attribute
@@ -27,9 +27,9 @@ written_view t = (type_word_of t.word, map (type_part_of path_of) t.parts.items)
 abbrev pub attribute_view : code_attribute.Attribute path.Path → Attribute Path
 attribute_view a = attribute_of path_of a
 
--- a class whose first name was read
-abbrev pub class_read : Name → List Token → Read (List Name)
-class_read first here = Some (first ∷ (more_names_at here).0, (more_names_at here).1)
+-- a class whose first names were read
+abbrev pub class_read : List Name → List Token → Read (List Name)
+class_read before here = Some (before ++ (more_names_at here).0, (more_names_at here).1)
 
 -- the attributes that hold what an item is made of
 unfoldable pub list_attribute_at : ℕ → List Token → Read (Attribute Path)

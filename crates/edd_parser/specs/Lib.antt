@@ -4,3 +4,5 @@ pub mod Items
 pub mod Pieces
 pub mod Qualifiers
 pub mod Views
+pub mod Units
+pub mod TokenTexts

@@ -187,12 +187,12 @@ fn transaction(cursor: &mut Cursor, high: u32) -> Result<Attribute<Path>, ParseF
     Ok(Attribute::Transaction { number, parts })
 }
 
-// The further names of a class, each behind `&`.
-fn more_names(cursor: &mut Cursor, first: String) -> Result<Vec<String>, ParseFault>
-    ensures { Gives (λ v. map string_bytes v.items) result cursor.new (class_read (string_bytes first) cursor.old) }
+// The further names of a class, each behind `&`, behind those that were read.
+#[tactic(auto, using(crate::proofs::ClassNames::one_more_name))]
+fn more_names(cursor: &mut Cursor, before: Vec<String>) -> Result<Vec<String>, ParseFault>
+    ensures { Gives (λ v. map string_bytes v.items) result cursor.new (class_read (map string_bytes before.items) cursor.old) }
 {
-    let mut names = Vec::new(cursor.alloc());
-    names.push(first)?;
+    let mut names = before;
     while let Some(name) = cursor.further_name() {
         names.push(String::from_str(cursor.alloc(), name)?)?;
     }
@@ -207,8 +207,9 @@ fn class_words(cursor: &mut Cursor) -> Result<Attribute<Path>, ParseFault>
     let Some(first) = cursor.name() else {
         return Err(cursor.syntax());
     };
-    let first = String::from_str(cursor.alloc(), first)?;
-    let names = more_names(cursor, first)?;
+    let mut names = Vec::new(cursor.alloc());
+    names.push(String::from_str(cursor.alloc(), first)?)?;
+    let names = more_names(cursor, names)?;
     cursor.expect(Symbol::Semicolon)?;
     Ok(Attribute::Class(names))
 }

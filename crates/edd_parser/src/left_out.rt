@@ -136,3 +136,18 @@ pub fn misfit_item(cursor: &Cursor) -> ParseFault {
     }
     misfit_without_codes(cursor)
 }
+
+/// The opening brace of an item, where LIKE may stand.
+#[tactic(auto, unfolding(edd_grammar::specs::Reading::expect))]
+pub fn expect_item_brace(cursor: &mut Cursor) -> Result<(), ParseFault>
+    ensures { Leaves result cursor.new (expect OpenBrace cursor.old) }
+{
+    if !cursor.is_at(Symbol::OpenBrace) {
+        if cursor.is_at_name("LIKE") {
+            return Err(unsupported(cursor.alloc(), "LIKE"));
+        }
+        return Err(cursor.syntax());
+    }
+    cursor.skip();
+    Ok(())
+}
