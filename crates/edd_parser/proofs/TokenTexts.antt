@@ -1,6 +1,6 @@
 -- The bytes of names and strings are text where the whole is.
 use Rattle.std.proofs.Common.{◌≡◌, ℕ, zero, suc, ◌+◌, ◌-◌, ◌≤◌, ◌<◌, Bool, true, false, ◌&&◌, ◌==◌, List, [], ◌∷◌, ◌++◌, length, take, drop, map, get_or, All, Option, Some, refl, sym, ap, subst, ◌∙◌, inl, inr, append_assoc, length-append, arith}
-use Rattle.std.specs.Prelude.{IsUtf8, bytes_eq, slice_range}
+use Rattle.std.specs.Prelude.{IsUtf8, bytes_eq, slice_range, nat_lt, cond}
 use Rattle.std.specs.List.{list_all}
 use Rattle.std.specs.Str.{IsAscii}
 use Rattle.std.proofs.lemmas.List.{drop_at, take_at, take-append-drop}
@@ -49,16 +49,15 @@ text_before raw rest text =
 part_small : (c : ℕ) → goes_on_name c ≡ true → c < 128
 part_small c e = grind arith
 
+one_more_ascii : (c : ℕ) (rest : List ℕ) → c < 128 → IsAscii rest → IsAscii (c ∷ rest)
+one_more_ascii c rest small all zero = small
+one_more_ascii c rest small all (suc i) = all i
+
 parts_ascii : (bytes : List ℕ) → list_all goes_on_name bytes ≡ true → IsAscii bytes
 parts_ascii [] e = λ i. omega arith
-parts_ascii (c ∷ rest) e = at
-  where
-    h : (goes_on_name c ≡ true) × (list_all goes_on_name rest ≡ true)
-    h = both (goes_on_name c) (list_all goes_on_name rest) e
-
-    at : IsAscii (c ∷ rest)
-    at zero = part_small c h.0
-    at (suc i) = parts_ascii rest h.1 i
+parts_ascii (c ∷ rest) e =
+    let h = both (goes_on_name c) (list_all goes_on_name rest) e in
+    one_more_ascii c rest (part_small c h.0) (parts_ascii rest h.1)
 
 begins_goes_on : (c : ℕ) → begins_name c ≡ true → goes_on_name c ≡ true
 begins_goes_on c e = rw e refl
@@ -66,11 +65,9 @@ begins_goes_on c e = rw e refl
 name_text : (name : List ℕ) → is_name name ≡ true → IsUtf8 name
 name_text [] e = absurd cc
 name_text (c ∷ rest) e =
-    let h = both (begins_name c) _ e in
-    let g = both (list_all goes_on_name rest) _ h.1 in
-    let first = begins_goes_on c h.0 in
-    let all : list_all goes_on_name (c ∷ rest) ≡ true = rw first g.0 in
-    IsUtf8-from_ascii (c ∷ rest) (parts_ascii (c ∷ rest) all)
+    let h = both (begins_name c && list_all goes_on_name rest) (nat_lt (length rest) 255) e in
+    let g = both (begins_name c) (list_all goes_on_name rest) h.0 in
+    IsUtf8-from_ascii (c ∷ rest) (one_more_ascii c rest (part_small c (begins_goes_on c g.0)) (parts_ascii rest g.1))
 
 -- ---- where tokens stand: behind some bytes of the text
 
@@ -145,7 +142,7 @@ from_text text fresh here lexemes utf8 ends (behind_token {rest = rest} {lexeme 
 start_ends : (text : List ℕ) → Ends text (behind_byte_order_mark text)
 start_ends text = go (bytes_eq (take 3 text) (239 ∷ 187 ∷ 191 ∷ []))
   where
-    go : (t : Bool) → Ends text (elim t [ true ↦ drop 3 text | false ↦ text ])
+    go : (t : Bool) → Ends text (cond t (drop 3 text) text)
     go true = (take 3 text, sym (take-append-drop 3 text))
     go false = ([], refl)
 
