@@ -4,6 +4,7 @@ pub mod CondLoops
 pub mod Fronts
 pub mod Loops
 pub mod ArgumentHeights
+pub mod Parsed
 pub mod TokenTexts
 pub mod TypeEnds
 pub mod WordLoops

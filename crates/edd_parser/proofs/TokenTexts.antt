@@ -4,13 +4,14 @@ use Rattle.std.specs.Prelude.{IsUtf8, bytes_eq, slice_range, nat_lt, cond}
 use Rattle.std.specs.List.{list_all}
 use Rattle.std.specs.Str.{IsAscii}
 use Rattle.std.proofs.lemmas.List.{drop_at, take_at, take-append-drop}
-use Rattle.std.proofs.lemmas.List.Elements.{All-nil, All-cons}
+use Rattle.std.proofs.lemmas.List.Elements.{All-nil, All-cons, All-head, All-tail}
 use Rattle.std.proofs.lemmas.Str.{IsUtf8-from_ascii, IsUtf8-drop, IsUtf8-take, IsCharBoundary-after_ascii, IsCharBoundary-before_ascii}
 use Rattle.std.proofs.Math.Seq.{get_or-append_seam}
 use Rattle.edd_syntax.specs.Names.{is_name, begins_name, goes_on_name}
 use Rattle.edd_syntax.specs.Token.{Token, Reserved, Identifier, Integer, Decimal, String, Sign}
 use Rattle.edd_syntax.specs.Token as pure
 use Rattle.edd_lexer.specs.declared.token.Token as code
+use Rattle.edd_lexer.specs.declared.token.TokenKind.{TokenKind}
 use Rattle.edd_lexer.specs.declared.token.TokenKind.TheVariants as kind
 use Rattle.edd_lexer.specs.Bytes.{begins, front, in_line}
 use Rattle.edd_lexer.specs.Strings.{quote}
@@ -19,6 +20,7 @@ use Rattle.edd_lexer.specs.Signs.{symbol_bytes}
 use Rattle.edd_lexer.specs.Kept.{IsKept, IsLexeme}
 use Rattle.edd_lexer.specs.Tokens.{Lexeme, Stands, word, integer, decimal, string, sign, TokensFrom, nothing, behind_gap, behind_token, AreTokens, behind_byte_order_mark}
 use Rattle.edd_lexer.specs.Views.{token_of, lexeme_of}
+use Rattle.edd_lexer.proofs.Keeping.{tokens_kept}
 use Rattle.edd_lexer.proofs.Runs.{both, front_behind}
 use Rattle.edd_lexer.proofs.ByteTests.{next_here}
 use Rattle.edd_lexer.proofs.ReservedWords.{Tokened, word_tokened}
@@ -148,3 +150,31 @@ start_ends text = go (bytes_eq (take 3 text) (239 ∷ 187 ∷ 191 ∷ []))
 
 lexemes_have_text : (text : List ℕ) (lexemes : List Lexeme) → AreTokens text lexemes → All LexemeText lexemes
 lexemes_have_text text lexemes are = from_text text true _ lexemes are.utf8 (start_ends text) are.read
+
+-- ---- tokens that can be read
+
+quotes_kept : (kind_of : TokenKind) (bytes : List ℕ) (size : ℕ) → IsKept (token_of kind_of bytes) size → HasQuotes kind_of size
+quotes_kept (kind.Keyword k) bytes size h = tt
+quotes_kept kind.Name bytes size h = tt
+quotes_kept (kind.Integer n) bytes size h = tt
+quotes_kept kind.Decimal bytes size h = tt
+quotes_kept kind.String bytes size h = omega (arith, h.1)
+quotes_kept (kind.Symbol s) bytes size h = tt
+
+all_readable : (text : List ℕ) (tokens : List code.Token) → All LexemeText (map (lexeme_of text) tokens) → All (IsLexeme text) (map (lexeme_of text) tokens) → All (IsReadable text) tokens
+all_readable text [] texts kept = All-nil (IsReadable text)
+all_readable text (t ∷ rest) texts kept =
+    let others = map (lexeme_of text) rest in
+    let lexeme = All-head (IsLexeme text) (lexeme_of text t) others kept in
+    let first : IsReadable text t = record {
+      forward = let lt = lexeme.not_empty in omega arith;
+      within = lexeme.within;
+      text_is = All-head LexemeText (lexeme_of text t) others texts;
+      quotes = quotes_kept t.kind (slice_range text t.start t.end) (t.end - t.start) lexeme.kept;
+    } in
+    All-cons (IsReadable text) t rest first
+    (all_readable text rest (All-tail LexemeText (lexeme_of text t) others texts) (All-tail (IsLexeme text) (lexeme_of text t) others kept))
+
+pub tokens_readable : (text : List ℕ) (tokens : List code.Token) → AreTokens text (map (lexeme_of text) tokens) → All (IsReadable text) tokens
+tokens_readable text tokens are =
+    all_readable text tokens (lexemes_have_text text (map (lexeme_of text) tokens) are) (tokens_kept text (map (lexeme_of text) tokens) are)

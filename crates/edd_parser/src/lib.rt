@@ -11,6 +11,7 @@ pub mod fault;
 pub mod items;
 pub mod left_out;
 pub mod operators;
+pub mod parser;
 pub mod piece;
 pub mod pieces;
 pub mod qualifiers;
@@ -23,3 +24,5 @@ pub mod trees;
 pub mod types;
 pub mod values;
 pub mod words;
+
+pub use parser::parse;
