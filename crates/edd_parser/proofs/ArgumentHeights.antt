@@ -1,5 +1,5 @@
 -- The arguments of a call, as the list that the code has of them.
-use Rattle.std.proofs.Common.{◌≡◌, ℕ, List, [], ◌∷◌, ◌++◌, max, refl, arith}
+use Rattle.std.proofs.Common.{◌≡◌, List, [], ◌∷◌, ◌++◌, max, arith}
 use Rattle.edd_syntax.specs.Size.{argument_height}
 use Rattle.edd_syntax.specs.declared.expr.Argument as argument
 use Rattle.edd_syntax.specs.declared.expr.Argument.TheVariants as is

@@ -1,5 +1,5 @@
 -- Reading one element or arm after the other, as the loops of conditionals do.
-use Rattle.std.proofs.Common.{◌≡◌, ℕ, ℤ, zero, suc, ◌+◌, ◌-◌, ◌≤◌, ◌<◌, Bool, true, false, List, [], ◌∷◌, ◌++◌, drop, Some, None, refl, ap, ◌∙◌, arith}
+use Rattle.std.proofs.Common.{◌≡◌, ℕ, ℤ, zero, suc, ◌+◌, ◌-◌, ◌≤◌, ◌<◌, Bool, true, false, List, [], ◌∷◌, ◌++◌, Some, None, refl, ap, arith}
 use Rattle.std.specs.Prelude.{if◌then◌else◌}
 use Rattle.std.proofs.Math.Path.{fun_ext}
 use Rattle.edd_syntax.specs.declared.symbols.Keyword.TheVariants as word
@@ -11,7 +11,7 @@ use Rattle.edd_syntax.specs.Token.{Token}
 use Rattle.edd_syntax.specs.Reference.{Path}
 use Rattle.edd_syntax.specs.Conditional.{Cond, Conds, Nil, Cons, Arm, Arms, NoArms, ConsArm, Case, Default}
 use Rattle.edd_grammar.specs.Reading.{◌>>=◌, Read, at, at_word}
-use Rattle.edd_grammar.specs.ConditionalReading.{one_at, element_at, list_at, listed, cond_layer, ended, only, list_ends, skip_comma, elements_at, arms_at, case_at, default_at}
+use Rattle.edd_grammar.specs.ConditionalReading.{one_at, element_at, list_at, listed, cond_layer, ended, only, list_ends, skip_comma, elements_at, arms_at}
 use Rattle.edd_parser.specs.declared.cond.Form.{Form}
 use Rattle.edd_parser.specs.declared.cond.Form.TheVariants.{One, Many}
 use Rattle.edd_parser.specs.Conditionals.{cond_view, conds_view, arm_view, arms_view, cond_at, value_in, branch_in, layer, arms, arm_at}

@@ -1,6 +1,5 @@
 -- Lists that are read one thing after the other: what was read so far, and what reading goes on with.
 use Rattle.std.proofs.Common.{◌≡◌, List, [], ◌∷◌, ◌++◌, Some, None, refl, ap}
-use Rattle.edd_syntax.specs.Token.{Token}
 use Rattle.edd_grammar.specs.Reading.{◌>>=◌, Read}
 
 module _ {A L : Type 0} (add : A → L → L) where

@@ -1,5 +1,5 @@
 -- Reading one step after the other, as the loops of expressions do.
-use Rattle.std.proofs.Common.{◌≡◌, ℕ, zero, suc, ◌+◌, ◌-◌, ◌≤◌, ◌<◌, Bool, true, false, List, [], ◌∷◌, ◌++◌, drop, Option, Some, None, refl, ap, ◌∙◌, arith}
+use Rattle.std.proofs.Common.{◌≡◌, ℕ, zero, suc, ◌+◌, ◌-◌, ◌≤◌, ◌<◌, true, false, List, [], ◌∷◌, ◌++◌, drop, Option, Some, None, refl, ap, ◌∙◌, arith}
 use Rattle.edd_syntax.specs.declared.symbols.Symbol.TheVariants.{Comma, CloseParenthesis}
 use Rattle.edd_syntax.specs.declared.expr.Argument as code
 use Rattle.edd_syntax.specs.declared.reference.Path as path

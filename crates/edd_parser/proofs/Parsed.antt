@@ -1,8 +1,7 @@
 -- What an answer says of the units that the tokens spell.
-use Rattle.std.proofs.Common.{◌≡◌, ℕ, List, [], ◌∷◌, map, length, All, Option, Some, None, Result, Ok, Err, refl, sym, ◌∙◌, true, arith}
-use Rattle.std.specs.Prelude.{IfOk, IfErr, MatchResult, IsTrue, slice_range, nat_lt}
-use Rattle.std.specs.List.{list_all}
-use Rattle.std.proofs.lemmas.List.Elements.{All-nil, All-cons, All-head, All-tail}
+use Rattle.std.proofs.Common.{◌≡◌, ℕ, List, [], ◌∷◌, map, All, Option, Some, None, Result, Ok, Err, refl, sym, ◌∙◌, true, arith}
+use Rattle.std.specs.Prelude.{IfOk, IfErr, MatchResult, IsTrue}
+use Rattle.std.proofs.lemmas.List.Elements.{All-head, All-tail}
 use Rattle.edd_syntax.specs.declared.unit.Unit as code_unit
 use Rattle.edd_syntax.specs.Reference.{Path}
 use Rattle.edd_syntax.specs.Item.{Identification, Item, Description}

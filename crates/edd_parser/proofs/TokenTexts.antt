@@ -1,5 +1,5 @@
 -- The bytes of names and strings are text where the whole is.
-use Rattle.std.proofs.Common.{◌≡◌, ℕ, zero, suc, ◌+◌, ◌-◌, ◌≤◌, ◌<◌, Bool, true, false, ◌&&◌, ◌==◌, List, [], ◌∷◌, ◌++◌, length, take, drop, map, get_or, All, Option, Some, refl, sym, ap, subst, ◌∙◌, inl, inr, append_assoc, length-append, arith}
+use Rattle.std.proofs.Common.{◌≡◌, ℕ, zero, suc, ◌+◌, ◌-◌, ◌<◌, Bool, true, false, ◌&&◌, ◌==◌, List, [], ◌∷◌, ◌++◌, length, take, drop, map, get_or, All, Option, Some, refl, sym, ap, subst, ◌∙◌, inl, inr, append_assoc, length-append, arith}
 use Rattle.std.specs.Prelude.{IsUtf8, bytes_eq, slice_range, nat_lt, cond}
 use Rattle.std.specs.List.{list_all}
 use Rattle.std.specs.Str.{IsAscii}
@@ -24,7 +24,7 @@ use Rattle.edd_lexer.proofs.Keeping.{tokens_kept}
 use Rattle.edd_lexer.proofs.Runs.{both, front_behind}
 use Rattle.edd_lexer.proofs.ByteTests.{next_here}
 use Rattle.edd_lexer.proofs.ReservedWords.{Tokened, word_tokened}
-use Rattle.edd_parser.specs.TokenTexts.{token_in, HasText, HasQuotes, IsReadable}
+use Rattle.edd_parser.specs.TokenTexts.{HasText, HasQuotes, IsReadable}
 
 -- ---- cutting a text at quotes
 
@@ -35,7 +35,7 @@ text_behind before rest text =
     let at : get_or whole (length before) 0 ≡ quote = get_or-append_seam before quote rest 0 in
     let cut = IsCharBoundary-after_ascii whole (length before) text lt (omega arith) in
     let e : drop (length before + 1) whole ≡ rest =
-      (ap (drop (length before + 1)) (sym (append_assoc before (quote ∷ []) rest)) ∙ drop_at (before ++ quote ∷ []) rest (length before + 1) (omega (arith, length-append before (quote ∷ [])))) in
+    (ap (drop (length before + 1)) (sym (append_assoc before (quote ∷ []) rest)) ∙ drop_at (before ++ quote ∷ []) rest (length before + 1) (omega (arith, length-append before (quote ∷ [])))) in
     subst IsUtf8 e (IsUtf8-drop whole (length before + 1) text cut)
 
 text_before : (raw rest : List ℕ) → IsUtf8 (raw ++ quote ∷ rest) → IsUtf8 raw

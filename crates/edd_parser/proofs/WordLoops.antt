@@ -1,9 +1,9 @@
 -- Reading one qualifier, or one thing of a row, after the other.
-use Rattle.std.proofs.Common.{◌≡◌, ℕ, zero, suc, ◌+◌, ◌-◌, ◌≤◌, ◌<◌, Bool, true, false, List, [], ◌∷◌, ◌++◌, drop, map, Some, None, refl, ap, ◌∙◌, arith, Bor}
+use Rattle.std.proofs.Common.{◌≡◌, ℕ, suc, ◌+◌, ◌-◌, ◌≤◌, ◌<◌, Bool, true, false, List, [], ◌∷◌, ◌++◌, drop, map, Some, None, refl, ap, ◌∙◌, arith, Bor}
 use Rattle.edd_syntax.specs.declared.symbols.Symbol.TheVariants.{CloseParenthesis}
 use Rattle.edd_syntax.specs.Text.{Name}
 use Rattle.edd_syntax.specs.Token.{Token}
-use Rattle.edd_grammar.specs.Reading.{◌>>=◌, Read, at}
+use Rattle.edd_grammar.specs.Reading.{Read, at}
 use Rattle.edd_grammar.specs.ConditionalReading.{skip_comma}
 use Rattle.edd_grammar.specs.ValueReading.{allowed_at, some_qualifiers}
 use Rattle.edd_grammar.specs.WordReading.{row_at}

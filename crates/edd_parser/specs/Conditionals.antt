@@ -1,7 +1,6 @@
 -- Conditionals of single values and in lists, read by one function.
-use Rattle.std.specs.Prelude.{ℕ, zero, suc, Bool, ◌||◌, List, drop, map, Some, None, if◌then◌else◌}
+use Rattle.std.specs.Prelude.{ℕ, zero, suc, List, drop, map, Some, None, if◌then◌else◌}
 use Rattle.edd_syntax.specs.declared.symbols.Keyword.TheVariants as word
-use Rattle.edd_syntax.specs.declared.symbols.Symbol.TheVariants as sign
 use Rattle.edd_syntax.specs.declared.cond.Cond as code
 use Rattle.edd_syntax.specs.declared.cond.Arm as code_arm
 use Rattle.edd_syntax.specs.declared.reference.Path as path
@@ -11,7 +10,7 @@ use Rattle.edd_syntax.specs.Conditional as cond
 use Rattle.edd_syntax.specs.Conditional.{Cond, Conds, Arm, Arms, Case, Default}
 use Rattle.edd_syntax.specs.TreeView.{path_of}
 use Rattle.edd_syntax.specs.ItemView.{cond_of, arm_of}
-use Rattle.edd_grammar.specs.Reading.{◌>>=◌, Read, at, at_word}
+use Rattle.edd_grammar.specs.Reading.{◌>>=◌, Read, at_word}
 use Rattle.edd_grammar.specs.ConditionalReading.{ended, only, listed, cond_layer, if_at, select_at, braces_at, else_at, case_at, default_at, arms_at}
 use Rattle.edd_parser.specs.declared.cond.Form.{Form}
 use Rattle.edd_parser.specs.declared.cond.Form.TheVariants.{One, Many}

@@ -1,5 +1,5 @@
 -- What the code's tokens, operators and answers stand for.
-use Rattle.std.specs.Prelude.{◌≡◌, ℕ, List, map, Option, Some, None, Result, Ok, Err, Bool, true, false}
+use Rattle.std.specs.Prelude.{◌≡◌, ℕ, List, map, Option, Some, None, Result, Ok, Err}
 use Rattle.edd_syntax.specs.Token as pure
 use Rattle.edd_syntax.specs.Grammar as grammar
 use Rattle.edd_syntax.specs.declared.expr.Expr as code

@@ -236,10 +236,7 @@ fn branch<V: Value>(
 /// The elements of a list, each of at most this height, up to its end.
 #[cycle(cond)]
 #[tactic(auto, unfolding(edd_grammar::specs::ConditionalReading::listed), using(crate::proofs::CondLoops::elements_read))]
-pub fn elements<V: Value>(
-    cursor: &mut Cursor,
-    high: u32,
-) -> Result<Vec<Cond<Path, V>>, ParseFault>
+pub fn elements<V: Value>(cursor: &mut Cursor, high: u32) -> Result<Vec<Cond<Path, V>>, ParseFault>
     requires { high ≤ 100 }
     ensures { Gives (λ v. conds_view V.view v.items) result cursor.new (reading.listed (cond_at Many V.read high) cursor.old) }
 {

@@ -39,12 +39,7 @@ impl<'a> Model for Cursor<'a> {
 
 impl<'a> Cursor<'a> {
     /// At the first token. The pieces are those of the tokens; the last line is that of the text's end.
-    pub fn new(
-        alloc: Global,
-        pieces: &'a [Piece<'a>],
-        tokens: &'a [Token],
-        last_line: u32,
-    ) -> Self
+    pub fn new(alloc: Global, pieces: &'a [Piece<'a>], tokens: &'a [Token], last_line: u32) -> Self
         ensures { result ≡ map piece_token pieces.now }
     {
         Cursor {
@@ -281,7 +276,11 @@ impl<'a> Cursor<'a> {
         ensures { Takes (λ n. n.now) result self.old self.new (further_name_at self.old) }
     {
         match self.rest {
-            [Piece::Symbol(Symbol::Operator(Operator::And)), Piece::Name(name), rest @ ..] => {
+            [
+                Piece::Symbol(Symbol::Operator(Operator::And)),
+                Piece::Name(name),
+                rest @ ..,
+            ] => {
                 self.rest = rest;
                 Some(name)
             }

@@ -12,9 +12,7 @@ ghost use Rattle.edd_parser.specs.Views.{expr_view, argument_view, argument_leve
 
 use crate::cursor::Cursor;
 use crate::fault::ParseFault;
-use crate::operators::{
-    Assignment, Infix, Place, before_of, in_method, loosest, row_of, unary_of,
-};
+use crate::operators::{Assignment, Infix, Place, before_of, in_method, loosest, row_of, unary_of};
 use crate::piece::Piece;
 use crate::same::same_sign;
 use crate::texts::{is_at_text, path, path_from, text};
@@ -44,11 +42,7 @@ fn stepped(cursor: &mut Cursor, place: Place, to: Path) -> Result<Tall, ParseFau
 
 // A step and the reference behind it.
 #[tactic(auto, unfolding(edd_grammar::specs::ExpressionReading::step_before))]
-fn step_before(
-    cursor: &mut Cursor,
-    place: Place,
-    op: IncrementOperator,
-) -> Result<Tall, ParseFault>
+fn step_before(cursor: &mut Cursor, place: Place, op: IncrementOperator) -> Result<Tall, ParseFault>
     ensures read { Gives (λ t. expr_view t.expr) result cursor.new (reading.step_before (place_view place) op cursor.old) }
     ensures low { IfOk result (λ t. t.levels ≤ 1) }
 {
@@ -163,12 +157,7 @@ fn unary(
 // Behind a sign: an expression in parentheses, or an operand behind its operator.
 #[cycle(expr)]
 #[tactic(auto, unfolding(edd_grammar::specs::ExpressionReading::signed_at, edd_grammar::specs::ExpressionReading::parentheses_behind))]
-fn signed(
-    cursor: &mut Cursor,
-    place: Place,
-    high: u32,
-    sign: Symbol,
-) -> Result<Tall, ParseFault>
+fn signed(cursor: &mut Cursor, place: Place, high: u32, sign: Symbol) -> Result<Tall, ParseFault>
     requires { high < 100 }
     ensures read { Gives (λ t. expr_view t.expr) result cursor.new (reading.signed_at (place_view place) (expr_at (place_view place) high) sign cursor.old) }
     ensures low { IfOk result (λ t. t.levels ≤ high + 1) }
@@ -225,11 +214,7 @@ fn arguments(cursor: &mut Cursor, place: Place, high: u32) -> Result<TallArgumen
 // One argument at least. Each takes a token or more.
 #[cycle(expr)]
 #[tactic(auto, using(crate::proofs::Loops::lists))]
-fn some_arguments(
-    cursor: &mut Cursor,
-    place: Place,
-    high: u32,
-) -> Result<TallArguments, ParseFault>
+fn some_arguments(cursor: &mut Cursor, place: Place, high: u32) -> Result<TallArguments, ParseFault>
     requires { high < 100 }
     ensures read { Gives (λ a. listed a.arguments.items) result cursor.new (reading.some_arguments (place_view place) (expr_at (place_view place) high) (length cursor.old) cursor.old) }
     ensures low { IfOk result (λ a. a.levels ≤ high) }

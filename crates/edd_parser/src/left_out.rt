@@ -131,7 +131,10 @@ pub fn misfit_without_codes(cursor: &Cursor) -> ParseFault {
 
 /// The same among items, where LIKE may stand behind a name.
 pub fn misfit_item(cursor: &Cursor) -> ParseFault {
-    if let (Some(Piece::Name(_)), Some(Piece::Name("LIKE"))) = (cursor.peek(), cursor.peek_second()) {
+    if let (Some(Piece::Name(_)), Some(Piece::Name("LIKE"))) = (
+        cursor.peek(),
+        cursor.peek_second(),
+    ) {
         return unsupported(cursor.alloc(), "LIKE");
     }
     misfit_without_codes(cursor)

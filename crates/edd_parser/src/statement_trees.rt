@@ -80,11 +80,7 @@ pub struct ForHead {
     pub update: Option<Expr<Path>>,
 }
 
-pub fn for_loop(
-    alloc: Global,
-    head: ForHead,
-    body: Stmt<Path>,
-) -> Result<Stmt<Path>, AllocError>
+pub fn for_loop(alloc: Global, head: ForHead, body: Stmt<Path>) -> Result<Stmt<Path>, AllocError>
     ensures { IfOk result (λ s. stmt_view s ≡ tree.For (option_map expr_view head.initial) (option_map expr_view head.condition) (option_map expr_view head.update) (stmt_view body)) }
 {
     let body = Box::new(alloc, body)?;

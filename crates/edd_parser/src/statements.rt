@@ -34,11 +34,7 @@ fn case_label(cursor: &mut Cursor) -> Result<i64, ParseFault>
 
 // An expression or none up to this sign, with the sign.
 #[tactic(auto, unfolding(edd_grammar::specs::StatementReading::optional_at))]
-fn optional(
-    cursor: &mut Cursor,
-    high: u32,
-    sign: Symbol,
-) -> Result<Option<Expr<Path>>, ParseFault>
+fn optional(cursor: &mut Cursor, high: u32, sign: Symbol) -> Result<Option<Expr<Path>>, ParseFault>
     requires { high ≤ 100 }
     ensures { Gives (option_map expr_view) result cursor.new (reading.optional_at high (statement_at high) sign cursor.old) }
 {

@@ -77,12 +77,7 @@ pub fn unary_over(alloc: Global, op: UnaryOperator, inner: Tall) -> Result<Tall,
 }
 
 /// An assignment of a value.
-pub fn assigned(
-    alloc: Global,
-    op: Assignment,
-    to: Path,
-    value: Tall,
-) -> Result<Tall, AllocError>
+pub fn assigned(alloc: Global, op: Assignment, to: Path, value: Tall) -> Result<Tall, AllocError>
     requires { value.levels ≤ 100 }
     ensures { IfOk result (λ t. expr_view t.expr ≡ assignment_tree (assignment_view op) (path_of to) (expr_view value.expr)) }
 {

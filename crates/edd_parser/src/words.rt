@@ -19,11 +19,7 @@ use edd_syntax::types::{Handling, Operation};
 
 // Behind one of READ and WRITE, where the other one may follow `&`.
 #[tactic(auto, unfolding(edd_grammar::specs::ValueReading::handling_behind))]
-fn handling_behind(
-    cursor: &mut Cursor,
-    one: Handling,
-    other: &str,
-) -> Result<Handling, ParseFault>
+fn handling_behind(cursor: &mut Cursor, one: Handling, other: &str) -> Result<Handling, ParseFault>
     ensures { Gives (λ h. h) result cursor.new (reading.handling_behind one other.now cursor.old) }
 {
     if !cursor.is_at(Symbol::Operator(Operator::And)) {
