@@ -19,6 +19,8 @@ pub mod rows;
 pub mod same;
 pub mod statement_trees;
 pub mod statements;
+#[cfg(test)]
+mod tests;
 pub mod texts;
 pub mod trees;
 pub mod types;
