@@ -1,30 +1,30 @@
 //! The tree that the tokens of a description spell.
 #![tactic(auto)]
 
-pub mod attributes;
-pub mod belongs;
-pub mod cond;
-pub mod cursor;
-pub mod declarators;
-pub mod expr;
+mod attributes;
+mod belongs;
+mod cond;
+mod cursor;
+mod declarators;
+mod expr;
 pub mod fault;
-pub mod items;
-pub mod left_out;
-pub mod operators;
-pub mod parser;
-pub mod piece;
-pub mod pieces;
-pub mod qualifiers;
-pub mod rows;
-pub mod same;
-pub mod statement_trees;
-pub mod statements;
+mod items;
+mod left_out;
+mod operators;
+mod parser;
+mod piece;
+mod pieces;
+mod qualifiers;
+mod rows;
+mod same;
+mod statement_trees;
+mod statements;
 #[cfg(test)]
 mod tests;
-pub mod texts;
-pub mod trees;
-pub mod types;
-pub mod values;
-pub mod words;
+mod texts;
+mod trees;
+mod types;
+mod values;
+mod words;
 
 pub use parser::parse;
