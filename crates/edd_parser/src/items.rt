@@ -192,14 +192,11 @@ pub fn items(cursor: &mut Cursor) -> Result<Vec<Item<Path>>, ParseFault>
 }
 
 // `WORD number`
-#[tactic(auto, unfolding(edd_grammar::specs::UnitReading::numbered_at, edd_grammar::specs::Reading::expect_word))]
+#[tactic(auto, unfolding(edd_grammar::specs::UnitReading::numbered_at))]
 fn numbered(cursor: &mut Cursor, word: Keyword) -> Result<u32, ParseFault>
     ensures { Gives (λ n. n) result cursor.new (reading.numbered_at word cursor.old) }
 {
-    if !cursor.is_at_word(word) {
-        return Err(misfit_item(cursor));
-    }
-    cursor.skip();
+    cursor.expect_word(word)?;
     integer(cursor)
 }
 

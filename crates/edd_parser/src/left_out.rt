@@ -11,7 +11,7 @@ use edd_syntax::symbols::{Keyword, Symbol};
 use std::alloc::Global;
 
 // Words of items, attributes, qualifiers and types.
-const WORDS: [&str; 34] = [
+const WORDS: [&str; 32] = [
     "ARRAY",
     "AXIS",
     "BLOCK",
@@ -19,7 +19,6 @@ const WORDS: [&str; 34] = [
     "COLUMNBREAK",
     "DOMAIN",
     "DOUBLE",
-    "EDIT",
     "FILE",
     "FLOAT",
     "GRAPH",
@@ -37,7 +36,6 @@ const WORDS: [&str; 34] = [
     "PROGRAM",
     "RECORD",
     "REFRESH",
-    "REFRESH_ACTIONS",
     "ROWBREAK",
     "SCALING_FACTOR",
     "SOURCE",
@@ -76,8 +74,16 @@ fn left_out_keyword(word: Keyword) -> Option<&'static str> {
     }
 }
 
-/// The word that is next, if it is left out.
-pub fn left_out<'a>(cursor: &Cursor<'a>) -> Option<&'a str> {
+/// The reserved word that is next, if no rule has it.
+pub fn left_out_reserved(cursor: &Cursor) -> Option<&'static str> {
+    match cursor.peek() {
+        Some(Piece::Keyword(word)) => left_out_keyword(word),
+        _ => None,
+    }
+}
+
+// The word that is next, if it is left out.
+fn left_out<'a>(cursor: &Cursor<'a>) -> Option<&'a str> {
     match cursor.peek() {
         Some(Piece::Name(word)) if is_left_out(word) => Some(word),
         Some(Piece::Keyword(word)) => left_out_keyword(word),

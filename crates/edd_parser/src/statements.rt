@@ -11,7 +11,7 @@ use crate::cursor::Cursor;
 use crate::declarators::{declaration, is_at_local_type};
 use crate::expr::expr;
 use crate::fault::ParseFault;
-use crate::left_out::{left_out, unsupported};
+use crate::left_out::{left_out_reserved, unsupported};
 use crate::operators::Place;
 use crate::statement_trees::{
     ForHead, block, do_loop, for_loop, if_alone, if_else, switch, while_loop,
@@ -72,13 +72,13 @@ fn wrong_word(alloc: Global, word: Option<&str>, line: u32) -> ParseFault {
     }
 }
 
-// An expression as a statement. A left-out word is refused by its name where the statement would begin with it.
+// An expression as a statement. A reserved word that no rule has is refused by its name where the statement would begin with it.
 #[tactic(auto, unfolding(edd_grammar::specs::StatementReading::evaluate_at))]
 fn evaluate(cursor: &mut Cursor, high: u32) -> Result<Stmt<Path>, ParseFault>
     requires { high ≤ 100 }
     ensures { Gives stmt_view result cursor.new (reading.evaluate_at high (statement_at high) cursor.old) }
 {
-    let word = left_out(cursor);
+    let word = left_out_reserved(cursor);
     let e = match expr(cursor, Place::Method, high, 1) {
         Ok(e) => e.expr,
         Err(ParseFault::Syntax { line }) => return Err(wrong_word(cursor.alloc(), word, line)),
