@@ -1,0 +1,341 @@
+//! Attributes of items.
+
+ghost use Rattle.std.specs.Prelude.{◌≡◌, ◌≤◌, ◌++◌, ◌∷◌, map};
+ghost use Rattle.std.specs.Prelude.{string_bytes};
+ghost use Rattle.edd_syntax.specs.Reference as references;
+ghost use Rattle.edd_syntax.specs.Item as item;
+ghost use Rattle.edd_syntax.specs.TreeView.{path_of};
+ghost use Rattle.edd_syntax.specs.ItemView.{response_code_of, member_of, transaction_part_of};
+ghost use Rattle.edd_grammar.specs.WordReading as words;
+ghost use Rattle.edd_grammar.specs.AttributeReading as reading;
+ghost use Rattle.edd_parser.specs.Views.{Gives};
+ghost use Rattle.edd_parser.specs.Items as views;
+ghost use Rattle.edd_parser.specs.Items.{attribute_view, class_read};
+
+use crate::cond::{braced_list, one};
+use crate::cursor::Cursor;
+use crate::fault::ParseFault;
+use crate::left_out::{misfit, misfit_without_codes};
+use crate::rows::{Thing, braced_row};
+use crate::statements::definition;
+use crate::trees::plain;
+use crate::types::written_type;
+use crate::words::{integer, number, operation, optional_text, skip_semicolons, some_text};
+use edd_syntax::item::{Attribute, Member, ResponseCode, TransactionPart};
+use edd_syntax::numbers::Kind;
+use edd_syntax::reference::Path;
+use edd_syntax::symbols::{Keyword, Symbol};
+use edd_syntax::types::ResponseClass;
+
+// The class with this name.
+fn class_named(name: &str) -> Option<ResponseClass>
+    ensures { result ≡ reading.class_of name.now }
+{
+    if name == "SUCCESS" {
+        return Some(ResponseClass::Success);
+    }
+    if name == "MISC_WARNING" {
+        return Some(ResponseClass::MiscWarning);
+    }
+    if name == "DATA_ENTRY_WARNING" {
+        return Some(ResponseClass::DataEntryWarning);
+    }
+    if name == "DATA_ENTRY_ERROR" {
+        return Some(ResponseClass::DataEntryError);
+    }
+    if name == "MODE_ERROR" {
+        return Some(ResponseClass::ModeError);
+    }
+    if name == "PROCESS_ERROR" {
+        return Some(ResponseClass::ProcessError);
+    }
+    if name == "MISC_ERROR" {
+        return Some(ResponseClass::MiscError);
+    }
+    None
+}
+
+#[tactic(auto, unfolding(edd_grammar::specs::AttributeReading::class_at))]
+fn response_class(cursor: &mut Cursor) -> Result<ResponseClass, ParseFault>
+    ensures { Gives (λ c. c) result cursor.new (reading.class_at cursor.old) }
+{
+    let Some(name) = cursor.name() else {
+        return Err(cursor.syntax());
+    };
+    match class_named(name) {
+        Some(class) => Ok(class),
+        None => Err(cursor.syntax_taken()),
+    }
+}
+
+// Behind a semicolon or a comma, if one is next.
+fn skip_response_end(cursor: &mut Cursor)
+    ensures { cursor.new ≡ reading.behind_response cursor.old }
+{
+    if cursor.is_at(Symbol::Semicolon) || cursor.is_at(Symbol::Comma) {
+        cursor.skip();
+    }
+}
+
+// `number, class, text`
+#[tactic(auto, unfolding(edd_grammar::specs::AttributeReading::response_code_at))]
+fn response_code(cursor: &mut Cursor) -> Result<ResponseCode, ParseFault>
+    ensures { Gives response_code_of result cursor.new (reading.response_code_at cursor.old) }
+{
+    let number = integer(cursor)?;
+    cursor.expect(Symbol::Comma)?;
+    let class = response_class(cursor)?;
+    cursor.expect(Symbol::Comma)?;
+    let text = some_text(cursor)?;
+    skip_response_end(cursor);
+    Ok(ResponseCode {
+        number,
+        class,
+        text,
+    })
+}
+
+impl Thing for ResponseCode {
+    ghost Pure = { item.ResponseCode };
+
+    ghost view = { response_code_of };
+
+    ghost read = { λ high here. reading.response_code_at here };
+
+    fn read_thing(cursor: &mut Cursor, _high: u32) -> Result<ResponseCode, ParseFault> {
+        response_code(cursor)
+    }
+}
+
+// `name, item, label, help;`
+#[tactic(auto, unfolding(edd_grammar::specs::AttributeReading::member_at))]
+fn member(cursor: &mut Cursor) -> Result<Member<Path>, ParseFault>
+    ensures { Gives (λ m. member_of path_of m) result cursor.new (reading.member_at cursor.old) }
+{
+    let Some(name) = cursor.name() else {
+        return Err(cursor.syntax());
+    };
+    cursor.expect(Symbol::Comma)?;
+    let Some(base) = cursor.name() else {
+        return Err(cursor.syntax());
+    };
+    let label = optional_text(cursor)?;
+    let help = optional_text(cursor)?;
+    cursor.expect(Symbol::Semicolon)?;
+    let name = String::from_str(cursor.alloc(), name)?;
+    let item = plain(cursor.alloc(), base)?;
+    Ok(Member {
+        name,
+        item,
+        label,
+        help,
+    })
+}
+
+impl Thing for Member<Path> {
+    ghost Pure = { item.Member references.Path };
+
+    ghost view = { λ m. member_of path_of m };
+
+    ghost read = { λ high here. reading.member_at here };
+
+    fn read_thing(cursor: &mut Cursor, _high: u32) -> Result<Member<Path>, ParseFault> {
+        member(cursor)
+    }
+}
+
+// REQUEST or REPLY with its data items.
+#[tactic(auto, unfolding(edd_grammar::specs::AttributeReading::transaction_part_at))]
+fn transaction_part(cursor: &mut Cursor, high: u32) -> Result<TransactionPart<Path>, ParseFault>
+    requires { high ≤ 100 }
+    ensures { Gives (λ p. transaction_part_of path_of p) result cursor.new (reading.transaction_part_at high cursor.old) }
+{
+    if cursor.is_at_word(Keyword::Request) {
+        cursor.skip();
+        return Ok(TransactionPart::Request(braced_list(cursor, high)?));
+    }
+    if cursor.is_at_word(Keyword::Reply) {
+        cursor.skip();
+        return Ok(TransactionPart::Reply(braced_list(cursor, high)?));
+    }
+    Err(misfit_without_codes(cursor))
+}
+
+impl Thing for TransactionPart<Path> {
+    ghost Pure = { item.TransactionPart references.Path };
+
+    ghost view = { λ p. transaction_part_of path_of p };
+
+    ghost read = { λ high here. words.closed (reading.transaction_part_at high) here };
+
+    #[tactic(auto, unfolding(edd_grammar::specs::WordReading::closed))]
+    fn read_thing(cursor: &mut Cursor, high: u32) -> Result<TransactionPart<Path>, ParseFault> {
+        let part = transaction_part(cursor, high)?;
+        skip_semicolons(cursor);
+        Ok(part)
+    }
+}
+
+// Behind TRANSACTION.
+#[tactic(auto, unfolding(edd_grammar::specs::AttributeReading::transaction_at))]
+fn transaction(cursor: &mut Cursor, high: u32) -> Result<Attribute<Path>, ParseFault>
+    requires { high ≤ 100 }
+    ensures { Gives attribute_view result cursor.new (reading.transaction_at high cursor.old) }
+{
+    let number = number(cursor)?;
+    let parts = braced_row(cursor, high)?;
+    Ok(Attribute::Transaction { number, parts })
+}
+
+// The further names of a class, each behind `&`, behind those that were read.
+#[tactic(auto, using(crate::proofs::ClassNames::one_more_name))]
+fn more_names(cursor: &mut Cursor, before: Vec<String>) -> Result<Vec<String>, ParseFault>
+    ensures { Gives (λ v. map string_bytes v.items) result cursor.new (class_read (map string_bytes before.items) cursor.old) }
+{
+    let mut names = before;
+    while let Some(name) = cursor.further_name() {
+        names.push(String::from_str(cursor.alloc(), name)?)?;
+    }
+    Ok(names)
+}
+
+// Behind CLASS.
+#[tactic(auto, unfolding(edd_grammar::specs::AttributeReading::class_words_at, edd_grammar::specs::WordReading::names_at))]
+fn class_words(cursor: &mut Cursor) -> Result<Attribute<Path>, ParseFault>
+    ensures { Gives attribute_view result cursor.new (reading.class_words_at cursor.old) }
+{
+    let Some(first) = cursor.name() else {
+        return Err(cursor.syntax());
+    };
+    let mut names = Vec::new(cursor.alloc());
+    names.push(String::from_str(cursor.alloc(), first)?)?;
+    let names = more_names(cursor, names)?;
+    cursor.expect(Symbol::Semicolon)?;
+    Ok(Attribute::Class(names))
+}
+
+// Behind NUMBER.
+#[tactic(auto, unfolding(edd_grammar::specs::AttributeReading::command_number_at))]
+fn command_number(cursor: &mut Cursor) -> Result<Attribute<Path>, ParseFault>
+    ensures { Gives attribute_view result cursor.new (reading.command_number_at cursor.old) }
+{
+    let number = integer(cursor)?;
+    cursor.expect(Symbol::Semicolon)?;
+    Ok(Attribute::Number(number))
+}
+
+// Behind OPERATION.
+#[tactic(auto, unfolding(edd_grammar::specs::AttributeReading::command_operation_at))]
+fn command_operation(cursor: &mut Cursor) -> Result<Attribute<Path>, ParseFault>
+    ensures { Gives attribute_view result cursor.new (reading.command_operation_at cursor.old) }
+{
+    let operation = operation(cursor)?;
+    cursor.expect(Symbol::Semicolon)?;
+    Ok(Attribute::Operation(operation))
+}
+
+// Attributes that several kinds of items may have, and those of variables.
+#[tactic(auto, unfolding(edd_grammar::specs::AttributeReading::attribute_at, crate::specs::Items::command_attribute_at, crate::specs::Items::list_attribute_at))]
+fn attribute(cursor: &mut Cursor, high: u32) -> Result<Attribute<Path>, ParseFault>
+    requires { high ≤ 100 }
+    ensures { Gives attribute_view result cursor.new (reading.attribute_at high cursor.old) }
+{
+    if cursor.is_at_word(Keyword::Label) {
+        cursor.skip();
+        return Ok(Attribute::Label(one(cursor, high)?));
+    }
+    if cursor.is_at_word(Keyword::Help) {
+        cursor.skip();
+        return Ok(Attribute::Help(one(cursor, high)?));
+    }
+    if cursor.is_at_word(Keyword::Class) {
+        cursor.skip();
+        return class_words(cursor);
+    }
+    if cursor.is_at_word(Keyword::Handling) {
+        cursor.skip();
+        return Ok(Attribute::Handling(one(cursor, high)?));
+    }
+    if cursor.is_at_word(Keyword::ConstantUnit) {
+        cursor.skip();
+        return Ok(Attribute::ConstantUnit(one(cursor, high)?));
+    }
+    if cursor.is_at_word(Keyword::Validity) {
+        cursor.skip();
+        return Ok(Attribute::Validity(one(cursor, high)?));
+    }
+    if cursor.is_at_word(Keyword::Type) {
+        cursor.skip();
+        let written = written_type(cursor, high)?;
+        return Ok(Attribute::TypeOf {
+            word: written.word,
+            parts: written.parts,
+        });
+    }
+    command_attribute(cursor, high)
+}
+
+// Attributes of commands, and others.
+#[tactic(auto, unfolding(crate::specs::Items::command_attribute_at))]
+fn command_attribute(cursor: &mut Cursor, high: u32) -> Result<Attribute<Path>, ParseFault>
+    requires { high ≤ 100 }
+    ensures { Gives attribute_view result cursor.new (views.command_attribute_at high cursor.old) }
+{
+    if cursor.is_at_word(Keyword::Number) {
+        cursor.skip();
+        return command_number(cursor);
+    }
+    if cursor.is_at_word(Keyword::Operation) {
+        cursor.skip();
+        return command_operation(cursor);
+    }
+    if cursor.is_at_word(Keyword::Transaction) {
+        cursor.skip();
+        return transaction(cursor, high);
+    }
+    if cursor.is_at_word(Keyword::ResponseCodes) {
+        cursor.skip();
+        return Ok(Attribute::ResponseCodes(braced_row(cursor, 0)?));
+    }
+    list_attribute(cursor, high)
+}
+
+// The attributes that hold what an item is made of.
+#[tactic(auto, unfolding(crate::specs::Items::list_attribute_at))]
+fn list_attribute(cursor: &mut Cursor, high: u32) -> Result<Attribute<Path>, ParseFault>
+    requires { high ≤ 100 }
+    ensures { Gives attribute_view result cursor.new (views.list_attribute_at high cursor.old) }
+{
+    if cursor.is_at_word(Keyword::Items) {
+        cursor.skip();
+        return Ok(Attribute::Items(braced_list(cursor, high)?));
+    }
+    if cursor.is_at_word(Keyword::Members) {
+        cursor.skip();
+        return Ok(Attribute::Members(braced_row(cursor, 0)?));
+    }
+    if cursor.is_at_word(Keyword::Definition) {
+        cursor.skip();
+        cursor.expect(Symbol::OpenBrace)?;
+        return Ok(Attribute::Definition(definition(cursor, high)?));
+    }
+    Err(cursor.syntax())
+}
+
+/// An attribute that this kind of item may have, and any number of semicolons behind it.
+#[tactic(auto, unfolding(edd_grammar::specs::AttributeReading::own_attribute_at, edd_grammar::specs::WordReading::closed))]
+pub fn own_attribute(
+    cursor: &mut Cursor,
+    kind: Kind,
+    high: u32,
+) -> Result<Attribute<Path>, ParseFault>
+    requires { high ≤ 100 }
+    ensures { Gives attribute_view result cursor.new (words.closed (reading.own_attribute_at kind high) cursor.old) }
+{
+    if !cursor.begins_own(kind) {
+        return Err(misfit(cursor));
+    }
+    let attribute = attribute(cursor, high)?;
+    skip_semicolons(cursor);
+    Ok(attribute)
+}

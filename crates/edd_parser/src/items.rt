@@ -1,0 +1,222 @@
+//! Items, and the numbers at the beginning.
+
+ghost use Rattle.std.specs.Prelude.{◌≡◌, ◌≤◌, map, string_bytes};
+ghost use Rattle.edd_syntax.specs.Item.{kind_of_item};
+ghost use Rattle.edd_syntax.specs.ItemView.{identification_of};
+ghost use Rattle.edd_grammar.specs.WordReading.{closed, row_inside};
+ghost use Rattle.edd_grammar.specs.AttributeReading.{own_attribute_at};
+ghost use Rattle.edd_grammar.specs.UnitReading as reading;
+ghost use Rattle.edd_parser.specs.Views.{Gives};
+ghost use Rattle.edd_parser.specs.Items.{attribute_view};
+ghost use Rattle.edd_parser.specs.Units.{sort_view, sort_at, item_view};
+
+use crate::attributes::own_attribute;
+use crate::cond::skip_comma;
+use crate::cursor::Cursor;
+use crate::fault::ParseFault;
+use crate::left_out::{expect_item_brace, misfit_item};
+use crate::words::{integer, skip_semicolons};
+use edd_syntax::item::{
+    Attribute, CollectionDef, CommandDef, Identification, Item, MenuDef, MethodDef, VariableDef,
+};
+use edd_syntax::numbers::Kind;
+use edd_syntax::reference::Path;
+use edd_syntax::symbols::{Keyword, Symbol};
+
+/// What an item is; a collection has the kind of its members.
+#[derive(Clone, Copy, PartialEq, Eq, Debug)]
+pub enum Sort {
+    Variable,
+    Command,
+    Menu,
+    Collection(Kind),
+    Method,
+}
+
+fn kind_of(sort: Sort) -> Kind
+    ensures { result ≡ kind_of_item (sort_view sort) }
+{
+    match sort {
+        Sort::Variable => Kind::Variable,
+        Sort::Command => Kind::Command,
+        Sort::Menu => Kind::Menu,
+        Sort::Collection(_) => Kind::Collection,
+        Sort::Method => Kind::Method,
+    }
+}
+
+// The kind whose word is next.
+#[tactic(auto, unfolding(edd_grammar::specs::UnitReading::kind_at))]
+fn item_kind(cursor: &mut Cursor) -> Result<Kind, ParseFault>
+    ensures { Gives (λ k. k) result cursor.new (reading.kind_at cursor.old) }
+{
+    if cursor.is_at_word(Keyword::Variable) {
+        cursor.skip();
+        return Ok(Kind::Variable);
+    }
+    if cursor.is_at_word(Keyword::Command) {
+        cursor.skip();
+        return Ok(Kind::Command);
+    }
+    if cursor.is_at_word(Keyword::Menu) {
+        cursor.skip();
+        return Ok(Kind::Menu);
+    }
+    if cursor.is_at_word(Keyword::Collection) {
+        cursor.skip();
+        return Ok(Kind::Collection);
+    }
+    if cursor.is_at_word(Keyword::Method) {
+        cursor.skip();
+        return Ok(Kind::Method);
+    }
+    Err(misfit_item(cursor))
+}
+
+// Behind COLLECTION: OF and the kind of its members.
+#[tactic(auto, unfolding(edd_grammar::specs::UnitReading::sort_behind))]
+fn sort_behind(cursor: &mut Cursor, kind_read: Kind) -> Result<Sort, ParseFault>
+    ensures { Gives sort_view result cursor.new (reading.sort_behind kind_read cursor.old) }
+{
+    match kind_read {
+        Kind::Variable => Ok(Sort::Variable),
+        Kind::Command => Ok(Sort::Command),
+        Kind::Menu => Ok(Sort::Menu),
+        Kind::Collection => {
+            cursor.expect_word(Keyword::Of)?;
+            Ok(Sort::Collection(item_kind(cursor)?))
+        }
+        Kind::Method => Ok(Sort::Method),
+    }
+}
+
+// The word of an item.
+#[tactic(auto, unfolding(crate::specs::Units::sort_at))]
+fn item_sort(cursor: &mut Cursor) -> Result<Sort, ParseFault>
+    ensures { Gives sort_view result cursor.new (sort_at cursor.old) }
+{
+    let kind_read = item_kind(cursor)?;
+    sort_behind(cursor, kind_read)
+}
+
+// The attributes up to the closing brace.
+#[tactic(auto, unfolding(edd_grammar::specs::WordReading::row_inside), using(crate::proofs::WordLoops::rows))]
+fn attribute_row(
+    cursor: &mut Cursor,
+    kind: Kind,
+    high: u32,
+) -> Result<Vec<Attribute<Path>>, ParseFault>
+    requires { high ≤ 100 }
+    ensures { Gives (λ v. map attribute_view v.items) result cursor.new (row_inside (closed (own_attribute_at kind high)) cursor.old) }
+{
+    let mut all = Vec::new(cursor.alloc());
+    for _ in 0..cursor.places() {
+        if cursor.is_at(Symbol::CloseBrace) {
+            return Ok(all);
+        }
+        all.push(own_attribute(cursor, kind, high)?)?;
+    }
+    Err(cursor.syntax())
+}
+
+// The attributes in braces.
+#[tactic(auto, unfolding(edd_grammar::specs::UnitReading::attributes_at, edd_grammar::specs::WordReading::braced))]
+fn attributes(
+    cursor: &mut Cursor,
+    kind: Kind,
+    high: u32,
+) -> Result<Vec<Attribute<Path>>, ParseFault>
+    requires { high ≤ 100 }
+    ensures { Gives (λ v. map attribute_view v.items) result cursor.new (reading.attributes_at kind high cursor.old) }
+{
+    expect_item_brace(cursor)?;
+    let all = attribute_row(cursor, kind, high)?;
+    cursor.expect(Symbol::CloseBrace)?;
+    Ok(all)
+}
+
+fn item_of(sort: Sort, name: String, attributes: Vec<Attribute<Path>>) -> Item<Path>
+    ensures { item_view result ≡ record { sort = sort_view sort; name = string_bytes name; attributes = map attribute_view attributes.items } }
+{
+    match sort {
+        Sort::Variable => Item::Variable(VariableDef { name, attributes }),
+        Sort::Command => Item::Command(CommandDef { name, attributes }),
+        Sort::Menu => Item::Menu(MenuDef { name, attributes }),
+        Sort::Collection(of) => Item::Collection(CollectionDef {
+            of,
+            name,
+            attributes,
+        }),
+        Sort::Method => Item::Method(MethodDef { name, attributes }),
+    }
+}
+
+// An item whose attributes have at most this height.
+#[tactic(auto, unfolding(edd_grammar::specs::UnitReading::item_at, crate::specs::Units::sort_at))]
+fn one_item(cursor: &mut Cursor, high: u32) -> Result<Item<Path>, ParseFault>
+    requires { high ≤ 100 }
+    ensures { Gives item_view result cursor.new (reading.item_at high cursor.old) }
+{
+    let sort = item_sort(cursor)?;
+    let Some(name) = cursor.name() else {
+        return Err(cursor.syntax());
+    };
+    let attributes = attributes(cursor, kind_of(sort), high)?;
+    let name = String::from_str(cursor.alloc(), name)?;
+    Ok(item_of(sort, name, attributes))
+}
+
+// An item and any number of semicolons behind it.
+#[tactic(auto, unfolding(edd_grammar::specs::WordReading::closed))]
+fn closed_item(cursor: &mut Cursor) -> Result<Item<Path>, ParseFault>
+    ensures { Gives item_view result cursor.new (closed (reading.item_at 100) cursor.old) }
+{
+    let item = one_item(cursor, 100)?;
+    skip_semicolons(cursor);
+    Ok(item)
+}
+
+/// The items up to the end of the text.
+#[tactic(auto, unfolding(edd_grammar::specs::UnitReading::items_at), using(crate::proofs::WordLoops::rows))]
+pub fn items(cursor: &mut Cursor) -> Result<Vec<Item<Path>>, ParseFault>
+    ensures { Gives (λ v. map item_view v.items) result cursor.new (reading.items_at cursor.old) }
+{
+    let mut all = Vec::new(cursor.alloc());
+    for _ in 0..cursor.places() {
+        if cursor.is_empty() {
+            return Ok(all);
+        }
+        all.push(closed_item(cursor)?)?;
+    }
+    Err(cursor.syntax())
+}
+
+// `WORD number`
+#[tactic(auto, unfolding(edd_grammar::specs::UnitReading::numbered_at))]
+fn numbered(cursor: &mut Cursor, word: Keyword) -> Result<u32, ParseFault>
+    ensures { Gives (λ n. n) result cursor.new (reading.numbered_at word cursor.old) }
+{
+    cursor.expect_word(word)?;
+    integer(cursor)
+}
+
+/// The four numbers, with a comma behind each or none.
+#[tactic(auto, unfolding(edd_grammar::specs::UnitReading::identification_at))]
+pub fn identification(cursor: &mut Cursor) -> Result<Identification, ParseFault>
+    ensures { Gives identification_of result cursor.new (reading.identification_at cursor.old) }
+{
+    let manufacturer = numbered(cursor, Keyword::Manufacturer)?;
+    skip_comma(cursor);
+    let device_type = numbered(cursor, Keyword::DeviceType)?;
+    skip_comma(cursor);
+    let device_revision = numbered(cursor, Keyword::DeviceRevision)?;
+    skip_comma(cursor);
+    let dd_revision = numbered(cursor, Keyword::DdRevision)?;
+    skip_comma(cursor);
+    Ok(Identification {
+        manufacturer,
+        device_type,
+        device_revision,
+        dd_revision,
+    })
+}

@@ -1,0 +1,71 @@
+//! The unit that tokens spell.
+
+ghost use Rattle.std.specs.Prelude.{◌≡◌, IfOk, IfErr, MatchResult, All, map};
+ghost use Rattle.edd_syntax.specs.Reference.{Path};
+ghost use Rattle.edd_syntax.specs.Item.{Description};
+ghost use Rattle.edd_syntax.specs.ItemGrammar.{Spells};
+ghost use Rattle.edd_lexer.specs.Tokens.{AreTokens};
+ghost use Rattle.edd_lexer.specs.Views.{lexeme_of};
+ghost use Rattle.edd_grammar.specs.KeptTokens.{Kept};
+ghost use Rattle.edd_grammar.specs.UnitReading.{unit_at};
+ghost use Rattle.edd_parser.specs.declared.fault.ParseFault.TheVariants.{Memory};
+ghost use Rattle.edd_parser.specs.TokenTexts.{tokens_in};
+ghost use Rattle.edd_parser.specs.Units.{unit_view, Answers};
+ghost use Rattle.edd_parser.specs.Views.{Says};
+
+use crate::cursor::Cursor;
+use crate::fault::ParseFault;
+use crate::items::{identification, items};
+use crate::pieces::pieces;
+use edd_lexer::token::Token;
+use edd_syntax::unit::Unit;
+use std::alloc::Global;
+
+// The line on which a text ends.
+fn last_line(text: &[u8]) -> u32 {
+    let mut line: u32 = 1;
+    for byte in text {
+        if *byte == b'\n' {
+            line = line.saturating_add(1);
+        }
+    }
+    line
+}
+
+// The unit that all the tokens spell.
+#[tactic(auto, unfolding(edd_grammar::specs::UnitReading::unit_at))]
+fn whole(cursor: &mut Cursor) -> Result<Unit, ParseFault>
+    requires { Kept cursor.old }
+    ensures { Answers result (unit_at cursor.old) }
+{
+    let identification = identification(cursor)?;
+    let items = items(cursor)?;
+    Ok(Unit {
+        identification,
+        items,
+    })
+}
+
+fn read(alloc: Global, text: &[u8], tokens: &[Token]) -> Result<Unit, ParseFault>
+    requires { AreTokens text.now (map (lexeme_of text.now) tokens.now) }
+    ensures { Answers result (unit_at (tokens_in text.now tokens.now)) }
+{
+    let pieces = pieces(alloc, text, tokens)?;
+    let mut cursor = Cursor::new(alloc, &pieces, tokens, last_line(text));
+    whole(&mut cursor)
+}
+
+/// The unit that the tokens of a text spell.
+///
+/// Lines count from 1. A syntax fault has the line of the first token that fits nothing, or the last line of the text at its
+/// end. A tree that would be too high has the line of the token that would be the 101st level. A word that the profile leaves
+/// out is named where an item, an attribute, a qualifier or a statement may begin.
+pub fn parse(alloc: Global, text: &[u8], tokens: &[Token]) -> Result<Unit, ParseFault>
+    requires { AreTokens text.now (map (lexeme_of text.now) tokens.now) }
+    ensures unit { IfOk result (λ u. Spells (tokens_in text.now tokens.now) (unit_view u)) }
+    ensures no_unit { IfErr result (λ e. Says e ((unit : Description Path) → ¬ (Spells (tokens_in text.now tokens.now) unit))) }
+    ensures only_unit { (unit : Description Path) → Spells (tokens_in text.now tokens.now) unit
+        → MatchResult result (λ u. unit_view u ≡ unit) (λ e. e ≡ Memory) }
+{
+    read(alloc, text, tokens)
+}

@@ -1,0 +1,53 @@
+//! Things that stand one after the other in braces.
+
+ghost use Rattle.std.specs.Prelude.{◌≡◌, ◌≤◌, ℕ, List, map};
+ghost use Rattle.edd_syntax.specs.Token.{Token};
+ghost use Rattle.edd_grammar.specs.Reading.{Read};
+ghost use Rattle.edd_grammar.specs.WordReading.{braced, row_inside};
+ghost use Rattle.edd_parser.specs.Views.{Gives};
+
+use crate::cursor::Cursor;
+use crate::fault::ParseFault;
+use edd_syntax::symbols::Symbol;
+
+/// What may stand between braces any number of times, and how it is read.
+pub trait Thing: Sized + Drop {
+    ghost Pure: { Type 0 };
+
+    ghost view: { Self → Pure };
+
+    ghost read: { ℕ → List Token → Read Pure };
+
+    /// One of them, of at most this height.
+    fn read_thing(cursor: &mut Cursor, high: u32) -> Result<Self, ParseFault>
+        requires { high ≤ 100 }
+        ensures { Gives view result cursor.new (read high cursor.old) };
+}
+
+// The things up to the closing brace.
+#[tactic(auto, unfolding(edd_grammar::specs::WordReading::row_inside), using(crate::proofs::WordLoops::rows))]
+fn row<T: Thing>(cursor: &mut Cursor, high: u32) -> Result<Vec<T>, ParseFault>
+    requires { high ≤ 100 }
+    ensures { Gives (λ v. map T.view v.items) result cursor.new (row_inside (T.read high) cursor.old) }
+{
+    let mut all = Vec::new(cursor.alloc());
+    for _ in 0..cursor.places() {
+        if cursor.is_at(Symbol::CloseBrace) {
+            return Ok(all);
+        }
+        all.push(T::read_thing(cursor, high)?)?;
+    }
+    Err(cursor.syntax())
+}
+
+/// Things in braces, each of at most this height.
+#[tactic(auto, unfolding(edd_grammar::specs::WordReading::braced))]
+pub fn braced_row<T: Thing>(cursor: &mut Cursor, high: u32) -> Result<Vec<T>, ParseFault>
+    requires { high ≤ 100 }
+    ensures { Gives (λ v. map T.view v.items) result cursor.new (braced (row_inside (T.read high)) cursor.old) }
+{
+    cursor.expect(Symbol::OpenBrace)?;
+    let all = row(cursor, high)?;
+    cursor.expect(Symbol::CloseBrace)?;
+    Ok(all)
+}

@@ -1,0 +1,436 @@
+//! Texts whose trees and faults were worked out by hand.
+
+use crate::parse;
+use edd_lexer::lex;
+use edd_syntax::cond::Cond;
+use edd_syntax::expr::Expr;
+use edd_syntax::item::{Attribute, Item, MenuEntry};
+use edd_syntax::reference::Path;
+use edd_syntax::stmt::{Part, Stmt};
+use edd_syntax::unit::Unit;
+use std::alloc::Global;
+use std::test::Fail;
+
+const HEAD: &str = "MANUFACTURER 1 DEVICE_TYPE 2, DEVICE_REVISION 3 DD_REVISION 4\n";
+
+// The head and an item on the second line.
+fn description(alloc: Global, parts: &[&str]) -> Result<String, Fail> {
+    let mut text = String::from_str(alloc, HEAD)?;
+    for part in parts {
+        text.push_str(part)?;
+    }
+    Ok(text)
+}
+
+// The unit that a text spells, or nothing where it is refused.
+fn unit(alloc: Global, text: &str) -> Result<Option<Unit>, Fail> {
+    match lex(alloc, text.as_bytes()) {
+        Ok(tokens) => Ok(parse(alloc, text.as_bytes(), &tokens).ok()),
+        Err(_) => Ok(None),
+    }
+}
+
+// How many items the unit of a text has, or the fault as it prints.
+fn answer(alloc: Global, text: &str) -> Result<String, Fail> {
+    match lex(alloc, text.as_bytes()) {
+        Ok(tokens) => match parse(alloc, text.as_bytes(), &tokens) {
+            Ok(unit) => {
+                let count = unit.items.len();
+                Ok(format!(in alloc; "{count}")?)
+            }
+            Err(fault) => Ok(format!(in alloc; "{fault}")?),
+        },
+        Err(fault) => Ok(format!(in alloc; "{fault}")?),
+    }
+}
+
+#[test]
+fn each_alternative_is_read(rt: HostRuntime) -> Result<(), Fail> {
+    let alloc = rt.alloc();
+    let attributes: [(&str, &[&str]); 5] = [
+        (
+            "VARIABLE v",
+            &[
+                "LABEL \"a\" \"b\";",
+                "HELP [key];",
+                "CLASS CONTAINED & DYNAMIC & INPUT;",
+                "HANDLING READ;",
+                "HANDLING WRITE;",
+                "HANDLING READ & WRITE;",
+                "HANDLING WRITE & READ;;;",
+                "CONSTANT_UNIT IF (x) { \"a\"; } ELSE { \"b\"; }",
+                "CONSTANT_UNIT IF (x) { \"a\"; } ELSE IF (y) { \"b\"; }",
+                "VALIDITY SELECT (x) { CASE 1: TRUE; CASE -1: FALSE; DEFAULT: TRUE; }",
+                "TYPE INTEGER;",
+                "TYPE UNSIGNED_INTEGER (2);",
+                "TYPE ENUMERATED { { 1, \"a\" }, { -2, \"b\", [c] } }",
+                "TYPE BIT_ENUMERATED (1) { IF (x) { { 1, \"a\" } { 2, \"b\" } } ELSE { } }",
+                "TYPE INTEGER { DEFAULT_VALUE 1; MIN_VALUE -1; MAX_VALUE a ? b : c; }",
+                "TYPE INTEGER { DISPLAY_FORMAT \"d\"; EDIT_FORMAT \"d\"; }",
+                "TYPE FLOAT;",
+                "TYPE ASCII (8) { a { b; } }",
+            ],
+        ),
+        (
+            "COMMAND c",
+            &[
+                "NUMBER 1;",
+                "OPERATION READ;",
+                "OPERATION WRITE;",
+                "OPERATION COMMAND;",
+                "TRANSACTION { }",
+                "TRANSACTION 1 { REQUEST { 1, a, b <0xF0> (INFO, INDEX) } ; REPLY { a.b.c (INDEX INFO) } }",
+                "RESPONSE_CODES { 0, SUCCESS, \"a\"; 1, MISC_WARNING, \"b\", 2, DATA_ENTRY_WARNING, \"c\" }",
+                "RESPONSE_CODES { 3, DATA_ENTRY_ERROR, [a] 4, MODE_ERROR, [b] 5, PROCESS_ERROR, [c] }",
+                "RESPONSE_CODES { 6, MISC_ERROR, \"\" }",
+            ],
+        ),
+        (
+            "MENU m",
+            &[
+                "LABEL \"a\";",
+                "HELP \"a\";",
+                "VALIDITY FALSE;",
+                "ITEMS { a, b (READ_ONLY, HIDDEN), c.d (DISPLAY_VALUE REVIEW) \"text\" }",
+                "ITEMS { SELECT (x) { CASE 1: a, b CASE 2: DEFAULT: c }, d }",
+            ],
+        ),
+        (
+            "COLLECTION OF VARIABLE l",
+            &[
+                "LABEL \"a\";",
+                "HELP \"a\";",
+                "MEMBERS { a, b; c, d, \"label\"; e, f, \"label\", [help]; }",
+            ],
+        ),
+        (
+            "METHOD d",
+            &[
+                "LABEL \"a\";",
+                "HELP \"a\";",
+                "CLASS INPUT;",
+                "VALIDITY TRUE;",
+                "DEFINITION { int a, b = 1; long c = a = 2; f(); g(\"t\", [k], a, b + 1); }",
+                "DEFINITION { a += ++b; a <<= -b--; c.d = 1.5; x = a ? b = 1 : !~c; }",
+            ],
+        ),
+    ];
+    for (item, alternatives) in attributes {
+        for attribute in alternatives {
+            let text = description(alloc, &[item, " { ", attribute, " }"])?;
+            assert_eq!(rt; answer(alloc, text.as_str())?.as_str(), "1");
+        }
+    }
+    for kind in ["VARIABLE", "COMMAND", "MENU", "COLLECTION", "METHOD"] {
+        let text = description(alloc, &["COLLECTION OF ", kind, " l { };; MENU m { }"])?;
+        assert_eq!(rt; answer(alloc, text.as_str())?.as_str(), "2");
+    }
+    Ok(())
+}
+
+#[test]
+fn statements_stand_in_statements(rt: HostRuntime) -> Result<(), Fail> {
+    let alloc = rt.alloc();
+    let around = [
+        ("", ""),
+        ("{ ", " }"),
+        ("if (x) ", ""),
+        ("if (x) ; else ", ""),
+        ("while (x) ", ""),
+        ("do ", " while (x);"),
+        ("for (;;) ", ""),
+        ("for (x = 1; x < 2; x++) ", ""),
+        ("switch (x) { case 1: case -2: ", " default: }"),
+    ];
+    let alone = [";", "x = 1;", "{ }", "break;", "continue;", "return;"];
+    for (before, after) in around {
+        for (inner, behind) in around {
+            for statement in alone {
+                let text = description(
+                    alloc,
+                    &[
+                        "METHOD m { DEFINITION { while (x) { ",
+                        before,
+                        inner,
+                        statement,
+                        behind,
+                        after,
+                        " } } }",
+                    ],
+                )?;
+                assert_eq!(rt; answer(alloc, text.as_str())?.as_str(), "1");
+            }
+        }
+    }
+    Ok(())
+}
+
+// The attributes of the first item.
+fn attributes(unit: &Unit) -> &[Attribute<Path>] {
+    match unit.items.first() {
+        Some(Item::Variable(d)) => &d.attributes,
+        Some(Item::Command(d)) => &d.attributes,
+        Some(Item::Menu(d)) => &d.attributes,
+        Some(Item::Collection(d)) => &d.attributes,
+        Some(Item::Method(d)) => &d.attributes,
+        None => &[],
+    }
+}
+
+// The first statement of the first item's first attribute, where that is a body.
+fn first_statement(unit: &Unit) -> Option<&Stmt<Path>> {
+    let Some(Attribute::Definition(parts)) = attributes(unit).first() else {
+        return None;
+    };
+    match parts.first() {
+        Some(Part::Statement(statement)) => Some(statement),
+        _ => None,
+    }
+}
+
+// The two operands of an operator.
+fn operands(e: &Expr<Path>) -> Option<(&Expr<Path>, &Expr<Path>)> {
+    match e {
+        Expr::Binary(_, a, b) => Some((a, b)),
+        Expr::Compare(_, a, b) => Some((a, b)),
+        Expr::LogicalAnd(a, b) => Some((a, b)),
+        Expr::LogicalOr(a, b) => Some((a, b)),
+        _ => None,
+    }
+}
+
+// Whether an assignment's value is of two operators, and the second one is at its top.
+fn groups_left(unit: &Unit) -> Option<bool> {
+    let Some(Stmt::Evaluate(Expr::Assign(_, value))) = first_statement(unit) else {
+        return None;
+    };
+    let (left, right) = operands(value)?;
+    match (operands(left), operands(right)) {
+        (Some(_), None) => Some(true),
+        (None, Some(_)) => Some(false),
+        _ => None,
+    }
+}
+
+#[test]
+fn operators_group_by_their_rows(rt: HostRuntime) -> Result<(), Fail> {
+    let alloc = rt.alloc();
+    let operators = [
+        ("||", 3),
+        ("&&", 4),
+        ("|", 5),
+        ("^", 6),
+        ("&", 7),
+        ("==", 8),
+        ("!=", 8),
+        ("<", 9),
+        ("<=", 9),
+        (">", 9),
+        (">=", 9),
+        ("<<", 10),
+        (">>", 10),
+        ("+", 11),
+        ("-", 11),
+        ("*", 12),
+        ("/", 12),
+        ("%", 12),
+    ];
+    for (first, row) in operators {
+        for (second, next_row) in operators {
+            let text = description(
+                alloc,
+                &[
+                    "METHOD m { DEFINITION { x = a ",
+                    first,
+                    " b ",
+                    second,
+                    " c; } }",
+                ],
+            )?;
+            let read = unit(alloc, text.as_str())?;
+            let left = match &read {
+                Some(unit) => groups_left(unit),
+                None => None,
+            };
+            assert_eq!(rt; left, Some(row >= next_row));
+        }
+    }
+    Ok(())
+}
+
+#[test]
+fn else_belongs_to_the_nearest_if(rt: HostRuntime) -> Result<(), Fail> {
+    let alloc = rt.alloc();
+    let text = description(
+        alloc,
+        &["METHOD m { DEFINITION { if (a) if (b) x; else y; } }"],
+    )?;
+    let read = unit(alloc, text.as_str())?;
+    let nearest = match &read {
+        Some(unit) => match first_statement(unit) {
+            Some(Stmt::If(_, inner)) => matches!(**inner, Stmt::IfElse(_, _, _)),
+            _ => false,
+        },
+        None => false,
+    };
+    assert!(rt; nearest);
+    Ok(())
+}
+
+// How many entries a menu's list has, and how many stand behind its first ELSE.
+fn entries(unit: &Unit) -> Option<(usize, usize)> {
+    let Some(Attribute::Items(entries)) = attributes(unit).first() else {
+        return None;
+    };
+    let behind = match entries.first() {
+        Some(Cond::If { otherwise, .. }) => otherwise.len(),
+        _ => 0,
+    };
+    Some((entries.len(), behind))
+}
+
+// Whether an entry is a reference to this name, in a list of entries.
+fn is_last(unit: &Unit, name: &str) -> bool {
+    let Some(Attribute::Items(entries)) = attributes(unit).first() else {
+        return false;
+    };
+    match entries.last() {
+        Some(Cond::Value(MenuEntry::Reference { to, .. })) => to.base.as_str() == name,
+        _ => false,
+    }
+}
+
+#[test]
+fn lists_have_each_entry(rt: HostRuntime) -> Result<(), Fail> {
+    let alloc = rt.alloc();
+    let lists = [
+        ("c", 1, 0),
+        ("a, b c", 3, 0),
+        ("a, b, c,", 3, 0),
+        ("IF (x) { a } ELSE IF (y) { b }, c", 2, 1),
+        ("IF (x) { a } ELSE { b, b b } c", 2, 3),
+        ("IF (x) { a }, IF (y) { b } c", 3, 0),
+    ];
+    for (list, count, behind) in lists {
+        let text = description(alloc, &["MENU m { ITEMS { ", list, " } }"])?;
+        let read = unit(alloc, text.as_str())?;
+        let (found, last) = match &read {
+            Some(unit) => (entries(unit), is_last(unit, "c")),
+            None => (None, false),
+        };
+        assert_eq!(rt; found, Some((count, behind)));
+        assert!(rt; last);
+    }
+    Ok(())
+}
+
+#[test]
+fn faults_have_their_place(rt: HostRuntime) -> Result<(), Fail> {
+    let alloc = rt.alloc();
+    let faults = [
+        ("FILE f { }", "12 UNSUPPORTED FILE"),
+        ("ARRAY OF VARIABLE a { }", "12 UNSUPPORTED ARRAY"),
+        ("RESPONSE_CODES r { }", "12 UNSUPPORTED RESPONSE_CODES"),
+        (
+            "COMMAND c { TRANSACTION { RESPONSE_CODES { } } }",
+            "12 UNSUPPORTED RESPONSE_CODES",
+        ),
+        ("w LIKE VARIABLE v { }", "12 UNSUPPORTED LIKE"),
+        ("VARIABLE v LIKE w { }", "12 UNSUPPORTED LIKE"),
+        (
+            "VARIABLE v { TYPE INTEGER { MIN_VALUE1 1; } }",
+            "12 UNSUPPORTED MIN_VALUE1",
+        ),
+        (
+            "VARIABLE v { TYPE INTEGER { MIN_VALUEX 1; } }",
+            "10 SYNTAX line 2",
+        ),
+        (
+            "VARIABLE v { TYPE INTEGER { SCALING_FACTOR 1; } }",
+            "12 UNSUPPORTED SCALING_FACTOR",
+        ),
+        (
+            "VARIABLE v { PRE_EDIT_ACTIONS { } }",
+            "12 UNSUPPORTED PRE_EDIT_ACTIONS",
+        ),
+        ("MENU m { STYLE WINDOW; }", "12 UNSUPPORTED STYLE"),
+        (
+            "MENU m { ITEMS { a (COLUMNBREAK) } }",
+            "12 UNSUPPORTED COLUMNBREAK",
+        ),
+        (
+            "METHOD m { DEFINITION { float x; } }",
+            "12 UNSUPPORTED float",
+        ),
+        (
+            "METHOD m { DEFINITION { if (x) goto y; } }",
+            "12 UNSUPPORTED goto",
+        ),
+        ("METHOD m { DEFINITION { x = char; } }", "10 SYNTAX line 2"),
+        ("SOMETHING s { }", "10 SYNTAX line 2"),
+        ("VARIABLE v { NUMBER 1; }", "10 SYNTAX line 2"),
+        ("VARIABLE v {\nLABEL\n2; }", "10 SYNTAX line 4"),
+        ("VARIABLE v {\n\n", "10 SYNTAX line 4"),
+        ("VARIABLE v { VALIDITY a; }", "10 SYNTAX line 2"),
+        ("MENU m { ITEMS { a,, b } }", "10 SYNTAX line 2"),
+        ("METHOD m { DEFINITION { a + b = c; } }", "10 SYNTAX line 2"),
+        ("METHOD m { DEFINITION { return 1; } }", "10 SYNTAX line 2"),
+        (
+            "VARIABLE v { TYPE INTEGER { MIN_VALUE a = 1; } }",
+            "10 SYNTAX line 2",
+        ),
+    ];
+    for (item, fault) in faults {
+        let text = description(alloc, &[item])?;
+        assert_eq!(rt; answer(alloc, text.as_str())?.as_str(), fault);
+    }
+    assert_eq!(rt; answer(alloc, "")?.as_str(), "10 SYNTAX line 1");
+    assert_eq!(rt; answer(alloc, HEAD)?.as_str(), "0");
+    Ok(())
+}
+
+// A number in so many pairs of parentheses as the least value of a variable.
+fn deep(alloc: Global, pairs: usize) -> Result<String, Fail> {
+    let mut text = description(alloc, &["VARIABLE v { TYPE INTEGER { MIN_VALUE "])?;
+    for _ in 0..pairs {
+        text.push_str("(")?;
+    }
+    text.push_str("1")?;
+    for _ in 0..pairs {
+        text.push_str(")")?;
+    }
+    text.push_str("; } }")?;
+    Ok(text)
+}
+
+// A sum of so many numbers as a statement.
+fn long_sum(alloc: Global, count: usize) -> Result<String, Fail> {
+    let mut text = description(alloc, &["METHOD m { DEFINITION { 1"])?;
+    for _ in 1..count {
+        text.push_str("\n+1")?;
+    }
+    text.push_str("; } }")?;
+    Ok(text)
+}
+
+#[test]
+fn trees_have_a_height(rt: HostRuntime) -> Result<(), Fail> {
+    let alloc = rt.alloc();
+    assert_eq!(rt; answer(alloc, deep(alloc, 98)?.as_str())?.as_str(), "1");
+    let too_deep = "11 TOO_DEEP line 2";
+    assert_eq!(rt;
+        answer(alloc, deep(alloc, 99)?.as_str())?.as_str(),
+        too_deep
+    );
+    assert_eq!(rt;
+        answer(alloc, deep(alloc, 10_000)?.as_str())?.as_str(),
+        too_deep
+    );
+    // a sum of 99 numbers is 99 levels high, and its statement one more
+    assert_eq!(rt; answer(alloc, long_sum(alloc, 99)?.as_str())?.as_str(), "1");
+    assert_eq!(rt;
+        answer(alloc, long_sum(alloc, 100)?.as_str())?.as_str(),
+        "11 TOO_DEEP line 101"
+    );
+    Ok(())
+}

@@ -1,0 +1,207 @@
+//! Types of variables.
+
+ghost use Rattle.std.specs.Prelude.{◌≡◌, ◌≤◌, ◌<◌, map, List};
+ghost use Rattle.edd_syntax.specs.Reference as references;
+ghost use Rattle.edd_syntax.specs.Item as item;
+ghost use Rattle.edd_syntax.specs.ItemGrammar.{behind_braces};
+ghost use Rattle.edd_syntax.specs.TreeView.{path_of};
+ghost use Rattle.edd_syntax.specs.ItemView.{type_part_of, type_word_of};
+ghost use Rattle.edd_grammar.specs.TypeReading as reading;
+ghost use Rattle.edd_parser.specs.Views.{Gives, Leaves};
+ghost use Rattle.edd_parser.specs.Items.{written_view};
+
+use crate::cond::{element, one, skip_comma};
+use crate::cursor::Cursor;
+use crate::fault::ParseFault;
+use crate::rows::{Thing, braced_row};
+use crate::words::integer;
+use edd_syntax::item::{TypePart, TypeWord};
+use edd_syntax::reference::Path;
+use edd_syntax::symbols::{Keyword, Symbol};
+use edd_syntax::types::VarType;
+
+/// A type as it is written, and what stands in its braces.
+#[derive(Drop)]
+pub struct WrittenType {
+    pub word: TypeWord,
+    pub parts: Vec<TypePart<Path>>,
+}
+
+// The type with this name.
+fn type_named(name: &str) -> Option<VarType>
+    ensures { result ≡ reading.type_of name.now }
+{
+    if name == "INTEGER" {
+        return Some(VarType::Integer);
+    }
+    if name == "UNSIGNED_INTEGER" {
+        return Some(VarType::UnsignedInteger);
+    }
+    if name == "ENUMERATED" {
+        return Some(VarType::Enumerated);
+    }
+    if name == "BIT_ENUMERATED" {
+        return Some(VarType::BitEnumerated);
+    }
+    None
+}
+
+// `(size)`, or none.
+#[tactic(auto, unfolding(edd_grammar::specs::TypeReading::size_at))]
+fn size(cursor: &mut Cursor) -> Result<Option<u32>, ParseFault>
+    ensures { Gives (λ n. n) result cursor.new (reading.size_at cursor.old) }
+{
+    if !cursor.is_at(Symbol::OpenParenthesis) {
+        return Ok(None);
+    }
+    cursor.skip();
+    let size = integer(cursor)?;
+    cursor.expect(Symbol::CloseParenthesis)?;
+    Ok(Some(size))
+}
+
+// A part of what stands in the braces of a type.
+#[tactic(auto, unfolding(edd_grammar::specs::TypeReading::type_part_at))]
+fn type_part(cursor: &mut Cursor, high: u32) -> Result<TypePart<Path>, ParseFault>
+    requires { high ≤ 100 }
+    ensures { Gives (λ p. type_part_of path_of p) result cursor.new (reading.type_part_at high cursor.old) }
+{
+    let line = cursor.line();
+    if cursor.is_at_word(Keyword::DefaultValue) {
+        cursor.skip();
+        let value = one(cursor, high)?;
+        return Ok(TypePart::DefaultValue { line, value });
+    }
+    if cursor.is_at_word(Keyword::MinValue) {
+        cursor.skip();
+        let value = one(cursor, high)?;
+        return Ok(TypePart::MinValue { line, value });
+    }
+    if cursor.is_at_word(Keyword::MaxValue) {
+        cursor.skip();
+        let value = one(cursor, high)?;
+        return Ok(TypePart::MaxValue { line, value });
+    }
+    if cursor.is_at_word(Keyword::DisplayFormat) {
+        cursor.skip();
+        let format = one(cursor, high)?;
+        return Ok(TypePart::DisplayFormat { line, format });
+    }
+    if cursor.is_at_word(Keyword::EditFormat) {
+        cursor.skip();
+        let format = one(cursor, high)?;
+        return Ok(TypePart::EditFormat { line, format });
+    }
+    let enumerators = element(cursor, high)?;
+    skip_comma(cursor);
+    Ok(TypePart::Element(enumerators))
+}
+
+impl Thing for TypePart<Path> {
+    ghost Pure = { item.TypePart references.Path };
+
+    ghost view = { λ p. type_part_of path_of p };
+
+    ghost read = { reading.type_part_at };
+
+    fn read_thing(cursor: &mut Cursor, high: u32) -> Result<TypePart<Path>, ParseFault> {
+        type_part(cursor, high)
+    }
+}
+
+// A semicolon, or braces.
+#[tactic(auto, unfolding(edd_grammar::specs::TypeReading::type_parts_at))]
+fn type_parts(cursor: &mut Cursor, high: u32) -> Result<Vec<TypePart<Path>>, ParseFault>
+    requires { high ≤ 100 }
+    ensures { Gives (λ v. map (type_part_of path_of) v.items) result cursor.new (reading.type_parts_at high cursor.old) }
+{
+    if cursor.is_at(Symbol::Semicolon) {
+        cursor.skip();
+        return Ok(Vec::new(cursor.alloc()));
+    }
+    braced_row(cursor, high)
+}
+
+// Behind the brace that closes an open one.
+#[tactic(auto, using(crate::proofs::TypeEnds::braces))]
+fn close_braces(cursor: &mut Cursor) -> Result<(), ParseFault>
+    ensures { Leaves result cursor.new (behind_braces 1 cursor.old) }
+{
+    let places = cursor.places();
+    let mut depth: usize = 1;
+    while depth > 0 {
+        if cursor.is_empty() {
+            return Err(cursor.syntax());
+        }
+        if cursor.is_at(Symbol::OpenBrace) {
+            depth += 1;
+        } else if cursor.is_at(Symbol::CloseBrace) {
+            depth -= 1;
+        }
+        cursor.skip();
+    }
+    let _places = places;
+    Ok(())
+}
+
+// Behind a type of another word: behind its first semicolon, or the brace that closes its first brace.
+#[tactic(auto, using(crate::proofs::TypeEnds::others))]
+fn other_end(cursor: &mut Cursor) -> Result<(), ParseFault>
+    ensures { Leaves result cursor.new (reading.behind_other cursor.old) }
+{
+    while !cursor.is_empty() {
+        if cursor.is_at(Symbol::Semicolon) {
+            cursor.skip();
+            return Ok(());
+        }
+        if cursor.is_at(Symbol::OpenBrace) {
+            cursor.skip();
+            return close_braces(cursor);
+        }
+        if cursor.is_at(Symbol::CloseBrace) {
+            return Err(cursor.syntax());
+        }
+        cursor.skip();
+    }
+    Err(cursor.syntax())
+}
+
+#[tactic(auto, unfolding(edd_grammar::specs::TypeReading::known_type_at))]
+fn known_type(cursor: &mut Cursor, high: u32, kind: VarType) -> Result<WrittenType, ParseFault>
+    requires { high ≤ 100 }
+    ensures { Gives written_view result cursor.new (reading.known_type_at high kind cursor.old) }
+{
+    let size = size(cursor)?;
+    let parts = type_parts(cursor, high)?;
+    Ok(WrittenType {
+        word: TypeWord::Known { kind, size },
+        parts,
+    })
+}
+
+#[tactic(auto, unfolding(edd_grammar::specs::TypeReading::other_type_at))]
+fn other_type(cursor: &mut Cursor, name: &str) -> Result<WrittenType, ParseFault>
+    ensures { Gives written_view result cursor.new (reading.other_type_at name.now cursor.old) }
+{
+    other_end(cursor)?;
+    let name = String::from_str(cursor.alloc(), name)?;
+    Ok(WrittenType {
+        word: TypeWord::Other(name),
+        parts: Vec::new(cursor.alloc()),
+    })
+}
+
+/// A type behind TYPE.
+#[tactic(auto, unfolding(edd_grammar::specs::TypeReading::type_at))]
+pub fn written_type(cursor: &mut Cursor, high: u32) -> Result<WrittenType, ParseFault>
+    requires { high ≤ 100 }
+    ensures { Gives written_view result cursor.new (reading.type_at high cursor.old) }
+{
+    let Some(name) = cursor.name() else {
+        return Err(cursor.syntax());
+    };
+    match type_named(name) {
+        Some(kind) => known_type(cursor, high, kind),
+        None => other_type(cursor, name),
+    }
+}
