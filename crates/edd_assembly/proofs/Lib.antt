@@ -4,3 +4,4 @@ pub mod NameLoops
 pub mod Types
 pub mod RowCounts
 pub mod SmallVariables
+pub mod Cutting
