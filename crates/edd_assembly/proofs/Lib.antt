@@ -5,3 +5,4 @@ pub mod Types
 pub mod RowCounts
 pub mod SmallVariables
 pub mod Cutting
+pub mod TypesRead

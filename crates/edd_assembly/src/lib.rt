@@ -2,11 +2,13 @@
 #![tactic(auto)]
 
 mod counts;
+mod laws;
 mod lengths;
 mod names;
 mod parts;
 mod strings;
 mod units;
 
+pub use laws::sections_are_read;
 pub use parts::assemble;
 pub use units::Lowered;
