@@ -36,24 +36,24 @@ map-id : {A : Type 0} (xs : List A) → map (λ x. x) xs ≡ xs
 map-id [] = refl
 map-id (x ∷ xs) = ap (λ ys. x ∷ ys) (map-id xs)
 
-names_spans : (s : ℕ) (ns : List Name) → map (λ r. r.span) (map fields_of_name (name_rows s ns)) ≡ spans (λ n. n) s ns
+pub names_spans : (s : ℕ) (ns : List Name) → map (λ r. r.span) (map fields_of_name (name_rows s ns)) ≡ spans (λ n. n) s ns
 names_spans s [] = refl
 names_spans s (n ∷ ns) = ap (λ rest. (record { start = s; size = length n }) ∷ rest) (names_spans (s + length n) ns)
 
 pub names_cut : (ns : List Name) → map (λ r. part r.span (flat_map (λ n. n) ns)) (map fields_of_name (name_rows 0 ns)) ≡ ns
 names_cut ns = map-map (λ (r : NameFields). r.span) (λ s. part s (flat_map (λ n. n) ns)) (map fields_of_name (name_rows 0 ns)) ∙ ap (map (λ s. part s (flat_map (λ n. n) ns))) (names_spans 0 ns) ∙ cut (λ n. n) [] ns ∙ map-id ns
 
-strings_spans : (s : ℕ) (ws : List Words) → map fields_of_string (string_rows s ws) ≡ spans string_bytes s ws
+pub strings_spans : (s : ℕ) (ws : List Words) → map fields_of_string (string_rows s ws) ≡ spans string_bytes s ws
 strings_spans s [] = refl
 strings_spans s (w ∷ ws) = ap (λ rest. (record { start = s; size = length (string_bytes w) }) ∷ rest) (strings_spans (s + length (string_bytes w)) ws)
 
 pub strings_cut : (ws : List Words) → map (λ s. part s (flat_map string_bytes ws)) (map fields_of_string (string_rows 0 ws)) ≡ map string_bytes ws
 strings_cut ws = ap (map (λ s. part s (flat_map string_bytes ws))) (strings_spans 0 ws) ∙ cut string_bytes [] ws
 
-abbrev code_of : Lowered → List ℕ
+abbrev pub code_of : Lowered → List ℕ
 code_of l = l.code
 
-code_spans : (s : ℕ) (ls : List Lowered) → map (λ r. r.span) (map fields_of_attribute (attribute_rows s ls)) ≡ spans code_of s ls
+pub code_spans : (s : ℕ) (ls : List Lowered) → map (λ r. r.span) (map fields_of_attribute (attribute_rows s ls)) ≡ spans code_of s ls
 code_spans s [] = refl
 code_spans s (l ∷ ls) = ap (λ rest. (record { start = s; size = length l.code }) ∷ rest) (code_spans (s + length l.code) ls)
 

@@ -6,3 +6,4 @@ pub mod RowCounts
 pub mod SmallVariables
 pub mod Cutting
 pub mod TypesRead
+pub mod Filling
