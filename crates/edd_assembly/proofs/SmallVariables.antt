@@ -1,4 +1,4 @@
--- The variables of a checked description have at most 4 octets.
+-- The variables of a checked description have 1 to 4 octets.
 use Rattle.std.proofs.Common.{◌≡◌, refl, ap, ◌∙◌, ℕ, Bool, true, false, List, [], ◌∷◌, ◌++◌, length, Some, None, IsTrue, nat_le, nat_lt, arith}
 use Rattle.std.specs.Prelude.{◌||◌, ◌&&◌, ◌==◌, if◌then◌else◌, codes}
 use Rattle.std.specs.Str.{bytes_eq}
@@ -13,6 +13,7 @@ use Rattle.edd_syntax.specs.Text.{Name}
 use Rattle.edd_syntax.specs.Item as item
 use Rattle.edd_syntax.specs.Item.{kind_of_item, Attribute, Item, Description}
 use Rattle.edd_syntax.specs.Numbers.{same_kind}
+use Rattle.edd_syntax.specs.Names.{is_within}
 use Rattle.edd_syntax.specs.Device.{written_type}
 use Rattle.edd_syntax.specs.Refusal.{Refusal, BadSize, FloatVariable, OtherType, refused_if}
 use Rattle.edd_syntax.specs.SubsetRules.{type_breaches, types_in, wrong_types}
@@ -38,10 +39,10 @@ no_choice : (b : Bool) (x y : Refusal) → ¬ ((if b then x ∷ [] else y ∷ []
 no_choice true x y h = not_empty h
 no_choice false x y h = not_empty h
 
-at_most_four : (size : ℕ) → (size == 0 || nat_lt 4 size) ≡ false → IsTrue (nat_le size 4)
-at_most_four size h = grind (arith, common_steps)
+one_to_four : (size : ℕ) → (size == 0 || nat_lt 4 size) ≡ false → IsTrue (is_within 1 4 size)
+one_to_four size h = grind (arith, common_steps)
 
-small : (name : Name) (attributes : List (Attribute Target)) → flat_map (type_breaches name) (flat_map types_in attributes) ≡ [] → IsTrue (nat_le (written_type attributes).size 4)
+small : (name : Name) (attributes : List (Attribute Target)) → flat_map (type_breaches name) (flat_map types_in attributes) ≡ [] → IsTrue (is_within 1 4 (written_type attributes).size)
 small name [] h = refl
 small name (item.Label c ∷ rest) h = small name rest h
 small name (item.Help c ∷ rest) h = small name rest h
@@ -50,7 +51,7 @@ small name (item.Handling c ∷ rest) h = small name rest h
 small name (item.ConstantUnit c ∷ rest) h = small name rest h
 small name (item.Validity c ∷ rest) h = small name rest h
 small name (item.TypeOf (item.Known type None) parts ∷ rest) h = refl
-small name (item.TypeOf (item.Known type (Some size)) parts ∷ rest) h = at_most_four size (no_refusal (size == 0 || nat_lt 4 size) (BadSize name) (no_front _ _ h))
+small name (item.TypeOf (item.Known type (Some size)) parts ∷ rest) h = one_to_four size (no_refusal (size == 0 || nat_lt 4 size) (BadSize name) (no_front _ _ h))
 small name (item.TypeOf (item.Other word) parts ∷ rest) h =
     absurd (no_choice (bytes_eq word (codes "FLOAT") || bytes_eq word (codes "DOUBLE")) (FloatVariable name) (OtherType name word) (no_front _ _ h))
 small name (item.Number n ∷ rest) h = small name rest h
@@ -61,10 +62,10 @@ small name (item.Items entries ∷ rest) h = small name rest h
 small name (item.Members members ∷ rest) h = small name rest h
 small name (item.Definition body ∷ rest) h = small name rest h
 
-small_item : (i : Item Target) → IsTrue (nat_le (written_type i.attributes).size 4) → IsTrue (is_small_variable i)
+small_item : (i : Item Target) → IsTrue (is_within 1 4 (written_type i.attributes).size) → IsTrue (is_small_variable i)
 small_item i h = by_kind (same_kind (kind_of_item i.sort) kind.Variable)
   where
-    by_kind : (b : Bool) → IsTrue (option_map_or (λ attributes. nat_le (written_type attributes).size 4) (if b then Some i.attributes else None) true)
+    by_kind : (b : Bool) → IsTrue (option_map_or (λ attributes. is_within 1 4 (written_type attributes).size) (if b then Some i.attributes else None) true)
     by_kind true = h
     by_kind false = refl
 

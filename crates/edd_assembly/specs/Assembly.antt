@@ -1,8 +1,9 @@
 -- The sections of an image, from a description, the code of its attributes and its strings.
-use Rattle.std.specs.Prelude.{ℕ, ◌+◌, Bool, true, List, [], ◌∷◌, length, map, nat_le, Option, Some, None, unwrap_or, if◌then◌else◌}
+use Rattle.std.specs.Prelude.{ℕ, ◌+◌, Bool, true, List, [], ◌∷◌, length, map, Option, Some, None, unwrap_or, if◌then◌else◌}
 use Rattle.std.specs.Option.{option_map_or}
 use Rattle.edd_syntax.specs.declared.types.VarType.{VarType}
 use Rattle.edd_syntax.specs.Numbers.{same_kind}
+use Rattle.edd_syntax.specs.Names.{is_within}
 use Rattle.std.specs.List.{flat_map}
 use Rattle.edd_syntax.specs.declared.numbers.Kind.{Kind}
 use Rattle.edd_syntax.specs.declared.numbers.Kind.TheVariants as kind
@@ -82,9 +83,9 @@ type_in _ = None
 abbrev pub variable_attributes : Item Target → Option (List (Attribute Target))
 variable_attributes i = if same_kind (kind_of_item i.sort) kind.Variable then Some i.attributes else None
 
--- its size is at most 4 octets, if it is a variable
+-- its size is 1 to 4 octets, if it is a variable
 abbrev pub is_small_variable : Item Target → Bool
-is_small_variable i = option_map_or (λ attributes. nat_le (written_type attributes).size 4) (variable_attributes i) true
+is_small_variable i = option_map_or (λ attributes. is_within 1 4 (written_type attributes).size) (variable_attributes i) true
 
 abbrev pub variable_kinds : List (Item Target) → List VarKind
 variable_kinds items = map (λ i. kind_of_type (written_type i.attributes)) (of_kind kind.Variable items)
