@@ -7,3 +7,4 @@ pub mod SmallVariables
 pub mod Cutting
 pub mod TypesRead
 pub mod Filling
+pub mod SoundRows
