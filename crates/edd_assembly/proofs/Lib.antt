@@ -8,3 +8,4 @@ pub mod Cutting
 pub mod TypesRead
 pub mod Filling
 pub mod SoundRows
+pub mod Rising
