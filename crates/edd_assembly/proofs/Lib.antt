@@ -9,3 +9,4 @@ pub mod TypesRead
 pub mod Filling
 pub mod SoundRows
 pub mod Rising
+pub mod RowsRise
