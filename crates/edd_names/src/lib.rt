@@ -2,6 +2,9 @@
 #![tactic(auto)]
 
 mod attributes;
+mod conds;
 mod counts;
+mod items;
 mod nodes;
 mod repeats;
+mod slots;
