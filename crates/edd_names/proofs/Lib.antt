@@ -5,3 +5,4 @@ pub mod Missing
 pub mod Repeating
 pub mod SlotLaws
 pub mod Spends
+pub mod ValueNodes

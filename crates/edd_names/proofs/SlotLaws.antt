@@ -19,3 +19,6 @@ sum_split f x xs =
 
 pub locals_split : {R : Type 0} (a : Attribute R) (rest : List (Attribute R)) → locals_in (a ∷ rest) ≡ locals_in (a ∷ []) + locals_in rest
 locals_split a rest = sum_split _ a rest
+
+pub sum_one : {X : Type 0} (f : X → ℕ) (x : X) → f x ≡ sum (map f (x ∷ []))
+sum_one f x = omega arith

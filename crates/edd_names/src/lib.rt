@@ -7,4 +7,6 @@ mod counts;
 mod items;
 mod nodes;
 mod repeats;
+mod sizes;
 mod slots;
+mod values;
