@@ -2,7 +2,9 @@ pub mod CondSpends
 pub mod Counting
 pub mod FirstLaws
 pub mod Missing
+pub mod Noting
 pub mod RepeatedWords
+pub mod Passing
 pub mod Repeating
 pub mod SeenBefore
 pub mod SlotLaws

@@ -34,6 +34,9 @@ append_comm xs ys q = in_append xs ys q ∙ or_comm (is_name_in xs q) (is_name_i
 pub append_same : (zs xs ys : List Name) → SameNames xs ys → SameNames (zs ++ xs) (zs ++ ys)
 append_same zs xs ys h q = in_append zs xs q ∙ ap (λ b. is_name_in zs q || b) (h q) ∙ sym (in_append zs ys q)
 
+pub append_left : (xs ys zs : List Name) → SameNames xs ys → SameNames (xs ++ zs) (ys ++ zs)
+append_left xs ys zs h q = in_append xs zs q ∙ ap (λ b. b || is_name_in zs q) (h q) ∙ sym (in_append ys zs q)
+
 -- repeating is the same over the same names
 pub repeated_same : (xs ys ns : List Name) → SameNames xs ys → repeated xs ns ≡ repeated ys ns
 repeated_same xs ys [] h = refl

@@ -4,9 +4,12 @@
 mod attributes;
 mod conds;
 mod counts;
+pub mod fault;
 mod items;
+mod names;
 mod nodes;
 mod repeats;
+mod seen;
 mod sizes;
 mod slots;
 mod values;
