@@ -6,6 +6,7 @@ pub mod Noting
 pub mod RepeatedWords
 pub mod Passing
 pub mod Repeating
+pub mod ScopeSteps
 pub mod SeenBefore
 pub mod SlotLaws
 pub mod Spends

@@ -121,3 +121,32 @@ take_all zero [] h = refl
 take_all zero (x ∷ xs) h = absurd (omega arith)
 take_all (suc n) [] h = refl
 take_all (suc n) (x ∷ xs) h = ap (λ ys. x ∷ ys) (take_all n xs (omega arith))
+
+-- ---- a loop over what declares names, and has scopes of its own inside
+
+module _ {X Y : Type 0} (view : X → Y) (names : Y → List Name) (here : List Name → Y → List Name) (walk : List Name → List Y → List Name)
+    (step : (b : List Name) (y : Y) (ys : List Y) → walk b (y ∷ ys) ≡ here b y ++ walk (names y ++ b) ys) where
+  walk_next : (i : ℕ) (xs : List X) (x : X) (b : List Name) → i < length xs → x ≡ get_or xs i x → first_of (walk b (map view (drop i xs))) ≡ first_of (here b (view x) ++ walk (names (view x) ++ b) (map view (drop (i + 1) xs)))
+  walk_next i xs x b h is =
+      at_drop_more (λ ys. first_of (walk b (map view ys))) xs i x h
+      ∙ ap first_of (step b (view (get_or xs i x)) (map view (drop (i + 1) xs)))
+      ∙ ap (λ y. first_of (here b (view y) ++ walk (names (view y) ++ b) (map view (drop (i + 1) xs)))) (sym is)
+
+  module _ {A S : Type 0} (before : List Name) where
+    -- the first that is found from the i-th element on is the first of all
+    abbrev pub Walked : HashMap (Bor (List ℕ)) A S → ℕ → List X → Type 0
+    Walked seen i xs = (b : List Name) × HasSeen b seen × (first_of (walk b (map view (drop i xs))) ≡ first_of (walk before (map view xs)))
+
+    pub walked_at_start : (seen : HashMap (Bor (List ℕ)) A S) (xs : List X) → HasSeen before seen → Walked seen 0 xs
+    walked_at_start seen xs h = (before, h, refl)
+
+    pub walked_more : (seen seen' : HashMap (Bor (List ℕ)) A S) (i : ℕ) (xs : List X) (x : X) → i < length xs → x ≡ get_or xs i x → ((b : List Name) → HasSeen b seen → (None ≡ first_of (here b (view x))) × HasSeen (names (view x) ++ b) seen') → Walked seen i xs → Walked seen' (i + 1) xs
+    walked_more seen seen' i xs x h is new (b, known, eq) =
+        (names (view x) ++ b, (new b known).1, sym (first_of-append_none (here b (view x)) _ (new b known).0) ∙ sym (walk_next i xs x b h is) ∙ eq)
+
+    pub walked_stops : (f : NameFault) (seen : HashMap (Bor (List ℕ)) A S) (i : ℕ) (xs : List X) (x : X) → i < length xs → x ≡ get_or xs i x → ((b : List Name) → HasSeen b seen → IsDuplicate f (here b (view x))) → Walked seen i xs → IsDuplicate f (walk before (map view xs))
+    walked_stops f seen i xs x h is found (b, known, eq) =
+        subst (λ o. IsFound f (option_map DuplicateName o)) (sym (walk_next i xs x b h is) ∙ eq) (duplicate_left f (here b (view x)) _ (found b known))
+
+    pub walked_at_end : ((b : List Name) → walk b [] ≡ []) → (seen : HashMap (Bor (List ℕ)) A S) (i : ℕ) (xs : List X) → drop i xs ≡ [] → Walked seen i xs → None ≡ first_of (walk before (map view xs))
+    walked_at_end none seen i xs over (b, known, eq) = sym (ap first_of (none b)) ∙ ap (λ ys. first_of (walk b (map view ys))) (sym over) ∙ eq

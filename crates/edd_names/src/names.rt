@@ -8,7 +8,7 @@ ghost use Rattle.edd_syntax.specs.Statement.{body_from};
 ghost use Rattle.edd_syntax.specs.Text.{Name};
 ghost use Rattle.edd_syntax.specs.TreeView.{path_of, stmt_of, part_of};
 ghost use Rattle.edd_names.specs.Faults.{IsDuplicate};
-ghost use Rattle.edd_names.specs.Scopes.{part_repeats, names_of_part};
+ghost use Rattle.edd_names.specs.Scopes.{part_repeats, names_of_part, attribute_repeats, names_of_attribute, item_repeats};
 ghost use Rattle.edd_names.specs.Seen.{HasSeen};
 
 use crate::fault::NameFault;
@@ -88,4 +88,87 @@ fn check_part<'a>(
         Part::Statement(s) => check_inside(s, alloc),
         Part::CaseLabel { .. } | Part::DefaultLabel { .. } => Ok(()),
     }
+}
+
+// The members of a collection or the locals of a method, behind members that were seen.
+fn check_attribute<'a>(
+    attribute: &'a Attribute<Path>,
+    members: &mut Seen<'a>,
+    alloc: Global,
+) -> Result<(), NameFault>
+    ensures ok { OnOk result ((b : List Name) → HasSeen b members.old
+        → (None ≡ first_of (attribute_repeats b (attribute_of path_of attribute.now)))
+        × HasSeen (names_of_attribute (attribute_of path_of attribute.now) ++ b) members.new) }
+    ensures err { IfErr result (λ f. (b : List Name) → HasSeen b members.old
+        → IsDuplicate f (attribute_repeats b (attribute_of path_of attribute.now))) }
+{
+    match attribute {
+        Attribute::Members(list) => note_members(members, list, alloc),
+        Attribute::Definition(parts) => check_block(parts, alloc),
+        _ => Ok(()),
+    }
+}
+
+fn check_attributes_in<'a>(
+    attributes: &'a [Attribute<Path>],
+    members: &mut Seen<'a>,
+    alloc: Global,
+) -> Result<(), NameFault>
+    ensures ok { OnOk result ((b : List Name) → HasSeen b members.old
+        → None ≡ first_of (repeated_in_attributes b (map (attribute_of path_of) attributes.now))) }
+    ensures err { IfErr result (λ f. (b : List Name) → HasSeen b members.old
+        → IsDuplicate f (repeated_in_attributes b (map (attribute_of path_of) attributes.now))) }
+{
+    for attribute in attributes {
+        check_attribute(attribute, members, alloc)?;
+    }
+    Ok(())
+}
+
+/// No two members and no two locals of a block among these attributes of one item have one name.
+pub fn check_attributes(attributes: &[Attribute<Path>], alloc: Global) -> Result<(), NameFault>
+    ensures ok { OnOk result (None ≡ first_of (repeated_in_attributes [] (map (attribute_of path_of) attributes.now))) }
+    ensures err { IfErr result (λ f. IsDuplicate f (repeated_in_attributes [] (map (attribute_of path_of) attributes.now))) }
+{
+    let mut members = HashMap::new(alloc);
+    check_attributes_in(attributes, &mut members, alloc)
+}
+
+#[tactic(auto, using(crate::proofs::Noting::duplicates))]
+fn check_item<'a>(
+    item: &'a Item<Path>,
+    seen: &mut Seen<'a>,
+    alloc: Global,
+) -> Result<(), NameFault>
+    ensures ok { OnOk result ((b : List Name) → HasSeen b seen.old
+        → (None ≡ first_of (item_repeats b (item_of path_of item.now))) × HasSeen ((item_of path_of item.now).name ∷ b) seen.new) }
+    ensures err { IfErr result (λ f. (b : List Name) → HasSeen b seen.old → IsDuplicate f (item_repeats b (item_of path_of item.now))) }
+{
+    note(seen, name_of(item), alloc)?;
+    check_attributes(attributes_of(item), alloc)
+}
+
+fn check_items_in<'a>(
+    items: &'a [Item<Path>],
+    seen: &mut Seen<'a>,
+    alloc: Global,
+) -> Result<(), NameFault>
+    ensures ok { OnOk result ((b : List Name) → HasSeen b seen.old
+        → None ≡ first_of (repeated_in_items b (map (item_of path_of) items.now))) }
+    ensures err { IfErr result (λ f. (b : List Name) → HasSeen b seen.old
+        → IsDuplicate f (repeated_in_items b (map (item_of path_of) items.now))) }
+{
+    for item in items {
+        check_item(item, seen, alloc)?;
+    }
+    Ok(())
+}
+
+/// No two items, members of a collection or locals of a block have one name.
+pub fn check_names(items: &[Item<Path>], alloc: Global) -> Result<(), NameFault>
+    ensures ok { OnOk result (None ≡ first_of (repeated_in_items [] (map (item_of path_of) items.now))) }
+    ensures err { IfErr result (λ f. IsDuplicate f (repeated_in_items [] (map (item_of path_of) items.now))) }
+{
+    let mut seen = HashMap::new(alloc);
+    check_items_in(items, &mut seen, alloc)
 }
