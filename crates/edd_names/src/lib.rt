@@ -8,6 +8,7 @@ pub mod fault;
 mod items;
 mod names;
 mod nodes;
+mod numbering;
 mod repeats;
 mod seen;
 mod sizes;
