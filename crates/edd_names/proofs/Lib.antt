@@ -1,6 +1,7 @@
 pub mod CondSpends
 pub mod Counting
 pub mod FirstLaws
+pub mod Gathering
 pub mod MapLaws
 pub mod Missing
 pub mod Noting

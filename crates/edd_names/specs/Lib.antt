@@ -1,4 +1,6 @@
+pub mod Directory
 pub mod Faults
+pub mod Members
 pub mod Numbering
 pub mod Scopes
 pub mod Seen

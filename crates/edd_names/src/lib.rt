@@ -4,8 +4,10 @@
 mod attributes;
 mod conds;
 mod counts;
+mod directory;
 pub mod fault;
 mod items;
+mod members;
 mod names;
 mod nodes;
 mod numbering;
