@@ -1,8 +1,9 @@
 -- Members by their names, one list of them after another.
-use Rattle.std.proofs.Common.{◌≡◌, refl, sym, ap, ◌∙◌, ℕ, ◌+◌, ◌<◌, List, [], ◌∷◌, ◌++◌, length, get_or, take, map, Option, Some, None, add-one, append_assoc, subst, arith}
-use Rattle.std.specs.Prelude.{Bool, true, false, if◌then◌else◌, option_map, find, filter}
+use Rattle.std.proofs.Common.{◌≡◌, refl, sym, ap, ◌∙◌, ℕ, zero, suc, ◌+◌, ◌<◌, List, [], ◌∷◌, ◌++◌, length, get_or, take, map, Option, Some, None, add-one, append_assoc, subst, arith}
+use Rattle.std.specs.Prelude.{Bool, true, false, if◌then◌else◌, option_map, option_and_then, find, filter, slice_get}
 use Rattle.std.specs.List.{flat_map}
-use Rattle.std.specs.Option.{option_or}
+use Rattle.std.specs.Option.{option_or, option_copied}
+use denote.Ref.{Bor}
 use Rattle.std.proofs.Math.Seq.{take-suc}
 use Rattle.std.proofs.lemmas.Grind.{flat_map-append}
 use Rattle.std.proofs.lemmas.List.{append-nil}
@@ -54,6 +55,13 @@ one_more_collection [] (j ∷ is) c i all one = absurd all
 one_more_collection (d ∷ cs) [] c i all one = absurd all
 one_more_collection (d ∷ cs) (j ∷ is) c i all one = (all.0, one_more_collection cs is c i all.1 one)
 
+pub at_number : (cs : List Collection) (is : List (Item Path)) → AreCollections cs is → (n : ℕ) (q : Name) → option_and_then (λ c. found_in c q) (slice_get cs n) ≡ option_and_then (λ i. member_in i q) (slice_get is n)
+at_number [] [] all n q = refl
+at_number [] (i ∷ is) all n q = absurd all
+at_number (c ∷ cs) [] all n q = absurd all
+at_number (c ∷ cs) (i ∷ is) all zero q = all.0 q
+at_number (c ∷ cs) (i ∷ is) all (suc n) q = at_number cs is all.1 n q
+
 module _ {X Y : Type 0} (view : X → Y) (test : Y → Bool) where
   pub filtered_more : (i : ℕ) (xs : List X) (x : X) → i < length xs → x ≡ get_or xs i x → filter test (map view (take i xs)) ++ filter test (view x ∷ []) ≡ filter test (map view (take (i + 1) xs))
   filtered_more i xs x h is =
@@ -66,3 +74,8 @@ module _ {X Y : Type 0} (view : X → Y) (test : Y → Bool) where
       split : (ys : List X) (y : X) → filter test (map view (ys ++ y ∷ [])) ≡ filter test (map view ys) ++ filter test (view y ∷ [])
       split [] y = refl
       split (z ∷ ys) y = ap (λ ms. if test (view z) then view z ∷ ms else ms) (split ys y) ∙ behind (test (view z)) (view z) (filter test (map view ys)) (filter test (view y ∷ []))
+
+pub at_index : {X : Type 0} (xs : List X) (i : ℕ) (x : X) → i < length xs → x ≡ get_or xs i x → slice_get xs i ≡ Some x
+at_index [] i x h is = absurd (omega arith)
+at_index (y ∷ ys) zero x h is = ap (λ z. Some z) (sym is)
+at_index (y ∷ ys) (suc i) x h is = at_index ys i x (omega arith) is

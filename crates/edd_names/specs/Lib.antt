@@ -1,7 +1,9 @@
 pub mod Directory
 pub mod Faults
+pub mod Meanings
 pub mod Members
 pub mod Numbering
+pub mod Paths
 pub mod Scopes
 pub mod Seen
 pub mod Spending
