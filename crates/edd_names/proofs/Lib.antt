@@ -5,6 +5,7 @@ pub mod Gathering
 pub mod MapLaws
 pub mod Missing
 pub mod Noting
+pub mod PathLaws
 pub mod RepeatedWords
 pub mod Passing
 pub mod Repeating

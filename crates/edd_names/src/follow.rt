@@ -23,10 +23,10 @@ use edd_syntax::reference::{Path, Target};
 fn step<'b>(names: &Names, place: Place<'b>, member: &'b str) -> Result<Option<Place<'b>>, NameFault>
     requires { (j : ItemNo) → place.item ≡ Some j → kind_of j ≡ place.kind }
     ensures ok { IfOk result (λ next. (allowed : List Kind) (all : List Refusal) (meant : Option ItemNo) (rest : List Name)
-        → Reaches (unit_of names.now) allowed all meant place (member.now ∷ rest)
+        → Reaches (unit_of names.now) allowed all meant place.entry (member.now ∷ rest)
         → MatchOption next ((None ≡ first_of all) × (AllMembersNamed (unit_of names.now) → ⊥)) (λ p. Reaches (unit_of names.now) allowed all meant p rest)) }
     ensures err { IfErr result (λ f. (allowed : List Kind) (all : List Refusal) (meant : Option ItemNo) (rest : List Name)
-        → Reaches (unit_of names.now) allowed all meant place (member.now ∷ rest) → IsFirst f all) }
+        → Reaches (unit_of names.now) allowed all meant place.entry (member.now ∷ rest) → IsFirst f all) }
 {
     if !is_same(place.kind, Kind::Collection) {
         return Err(wrong_kind(names.alloc, place.name));
@@ -42,9 +42,9 @@ const UNKNOWN: Target = Target::Item(ItemNo::Variable(VarNo(0)));
 
 // The end of a path.
 fn arrive(names: &Names, allowed: &[Kind], place: Place) -> Result<Target, NameFault>
-    ensures ok { IfOk result (λ t. (all : List Refusal) (meant : Option ItemNo) → Reaches (unit_of names.now) allowed.now all meant place []
+    ensures ok { IfOk result (λ t. (all : List Refusal) (meant : Option ItemNo) → Reaches (unit_of names.now) allowed.now all meant place.entry []
         → (None ≡ first_of all) × Means (unit_of names.now) (item_among allowed.now meant) t) }
-    ensures err { IfErr result (λ f. (all : List Refusal) (meant : Option ItemNo) → Reaches (unit_of names.now) allowed.now all meant place [] → IsFirst f all) }
+    ensures err { IfErr result (λ f. (all : List Refusal) (meant : Option ItemNo) → Reaches (unit_of names.now) allowed.now all meant place.entry [] → IsFirst f all) }
 {
     if !is_among(allowed, place.kind) {
         return Err(wrong_kind(names.alloc, place.name));
