@@ -1,5 +1,7 @@
 pub mod CondSpends
+pub mod Copying
 pub mod Counting
+pub mod ExprSteps
 pub mod FirstLaws
 pub mod Gathering
 pub mod MapLaws
@@ -9,8 +11,10 @@ pub mod PathLaws
 pub mod RepeatedWords
 pub mod Passing
 pub mod Repeating
+pub mod RuleLaws
 pub mod ScopeSteps
 pub mod SeenBefore
 pub mod SlotLaws
 pub mod Spends
 pub mod ValueNodes
+pub mod UseLaws

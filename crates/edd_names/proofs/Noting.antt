@@ -43,7 +43,7 @@ is_old before name x m is h = ap (λ t. if t then name ∷ [] else []) (ap is_so
 
 -- ---- lists that stand one behind the other
 
-found_any : (r o : Option Refusal) → Agrees r None → Agrees r o
+pub found_any : (r o : Option Refusal) → Agrees r None → Agrees r o
 found_any (Some why) o h = absurd (none_is_not_some why h)
   where
     none_is_not_some : (x : Refusal) → None ≡ Some x → ⊥

@@ -4,6 +4,7 @@ pub mod Meanings
 pub mod Members
 pub mod Numbering
 pub mod Paths
+pub mod ResolvedParts
 pub mod Scopes
 pub mod Seen
 pub mod Spending

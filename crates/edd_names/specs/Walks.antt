@@ -2,8 +2,9 @@
 use Rattle.std.specs.Prelude.{Bool, true, false, not, if◌then◌else◌, List, [], ◌∷◌, ◌++◌, map, filter}
 use Rattle.std.specs.List.{flat_map}
 use Rattle.edd_names.specs.declared.attributes.Missing.{Missing}
+use Rattle.edd_syntax.specs.Reference.{Path}
 use Rattle.edd_syntax.specs.Text.{Name}
-use Rattle.edd_syntax.specs.Item.{Attribute, Item, Transaction}
+use Rattle.edd_syntax.specs.Item.{Attribute, Item, Transaction, Description}
 use Rattle.edd_syntax.specs.NameRules.{attribute_word, missing_words, repeated_words_inside}
 use Rattle.edd_syntax.specs.Refusal.{Refusal, MissingAttribute, is_name_in, repeated}
 
@@ -25,3 +26,7 @@ is_transaction _ = false
 -- the repeated words of one attribute behind others
 abbrev pub repeated_here : {R : Type 0} → (before : List Name) → Attribute R → List Name
 repeated_here before a = (if is_transaction a then [] else repeated before (attribute_word a ∷ [])) ++ repeated_words_inside a
+
+-- a description of these items, of whatever device
+abbrev pub described : List (Item Path) → Description Path
+described items = record { identification = record { manufacturer = 0; device_type = 0; device_revision = 0; dd_revision = 0 }; items = items }
