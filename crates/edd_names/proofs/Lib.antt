@@ -1,3 +1,4 @@
+pub mod BranchSteps
 pub mod CondSpends
 pub mod Copying
 pub mod Counting

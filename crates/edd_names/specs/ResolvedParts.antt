@@ -3,8 +3,13 @@ use Rattle.std.specs.Prelude.{Option, Some, None}
 use Rattle.edd_syntax.specs.Reference.{Path}
 use Rattle.edd_syntax.specs.declared.reference.Target.{Target}
 use Rattle.edd_syntax.specs.Expression.{Argument, Text, Value}
-use Rattle.edd_syntax.specs.ResolvedTrees.{◌>>=◌, resolved_expr}
+use Rattle.edd_syntax.specs.Conditional.{Arm, Case, Default}
+use Rattle.edd_syntax.specs.ResolvedTrees.{◌>>=◌, resolved_expr, resolved_conds}
 
 abbrev pub resolved_argument : (at : Path → Option Target) → Argument Path → Option (Argument Target)
 resolved_argument at (Text text) = Some (Text text)
 resolved_argument at (Value e) = do e' ← resolved_expr at e; Some (Value e')
+
+abbrev pub resolved_arm : {V W : Type 0} → (at : Path → Option Target) → (of : V → Option W) → Arm Path V → Option (Arm Target W)
+resolved_arm at of (Case label body) = do body' ← resolved_conds at of body; Some (Case label body')
+resolved_arm at of (Default body) = do body' ← resolved_conds at of body; Some (Default body')

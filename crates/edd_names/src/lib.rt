@@ -2,6 +2,7 @@
 #![tactic(auto)]
 
 mod attributes;
+mod branches;
 mod conds;
 mod counts;
 mod directory;
