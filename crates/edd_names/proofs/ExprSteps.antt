@@ -17,7 +17,7 @@ use Rattle.edd_syntax.specs.Item.{Description}
 use Rattle.edd_syntax.specs.Expression.{Argument, Text, Value, Arguments, Nil, Cons, Call, arguments_from}
 use Rattle.edd_syntax.specs.NameUses.{Use, OfFunction, expr_uses, argument_uses}
 use Rattle.edd_syntax.specs.Resolution.{Scope, function_meant}
-use Rattle.edd_syntax.specs.ResolvedTrees.{◌>>=◌, resolved_expr, resolved_arguments}
+use Rattle.edd_syntax.specs.ResolvedTrees.{◌>>=◌, each, resolved_expr, resolved_arguments}
 use Rattle.edd_syntax.specs.TreeView.{path_of, expr_of, argument_of}
 use Rattle.edd_syntax.proofs.TreeRows.{call_is}
 
@@ -27,6 +27,9 @@ bound o p k a b f g = ap (λ q. q >>= (λ x. p >>= (λ y. Some (k x y)))) f ∙ 
 pub regroup : {A B C : Type 0} (o : Option A) (g : A → B) (h : B → Option C) → (o >>= (λ x. h (g x))) ≡ ((o >>= (λ x. Some (g x))) >>= h)
 regroup (Some x) g h = refl
 regroup None g h = refl
+
+pub each_joined : {A B : Type 0} (of : A → Option B) (y : A) (ys : List A) (w : B) (ws : List B) → of y ≡ Some w → each of ys ≡ Some ws → each of (y ∷ ys) ≡ Some (w ∷ ws)
+each_joined of y ys w ws f g = bound (of y) (each of ys) (λ w ws. w ∷ ws) w ws f g
 
 pub argument_uses_split : (scope : Scope) (x : Argument Path) (xs : List (Argument Path)) → argument_uses scope (arguments_from (x ∷ xs)) ≡ argument_uses scope (arguments_from (x ∷ [])) ++ argument_uses scope (arguments_from xs)
 argument_uses_split scope (Text text) xs = refl

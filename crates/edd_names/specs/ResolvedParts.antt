@@ -1,5 +1,8 @@
 -- The parts of trees with the meaning of their names.
-use Rattle.std.specs.Prelude.{Option, Some, None}
+use Rattle.std.specs.Prelude.{List, [], ◌∷◌, Option, Some, None}
+use Rattle.edd_syntax.specs.declared.numbers.Kind.{Kind}
+use Rattle.edd_syntax.specs.Item.{Member}
+use Rattle.edd_syntax.specs.NameUses.{Use, OfItem}
 use Rattle.edd_syntax.specs.Reference.{Path}
 use Rattle.edd_syntax.specs.declared.reference.Target.{Target}
 use Rattle.edd_syntax.specs.Expression.{Argument, Text, Value}
@@ -13,3 +16,7 @@ resolved_argument at (Value e) = do e' ← resolved_expr at e; Some (Value e')
 abbrev pub resolved_arm : {V W : Type 0} → (at : Path → Option Target) → (of : V → Option W) → Arm Path V → Option (Arm Target W)
 resolved_arm at of (Case label body) = do body' ← resolved_conds at of body; Some (Case label body')
 resolved_arm at of (Default body) = do body' ← resolved_conds at of body; Some (Default body')
+
+-- the use of a name in a member
+abbrev pub member_uses : List Kind → Member Path → List Use
+member_uses kinds m = OfItem [] kinds m.item ∷ []
