@@ -5,6 +5,7 @@ mod attributes;
 mod branches;
 mod conds;
 mod counts;
+mod declarators;
 mod directory;
 mod exprs;
 pub mod fault;
