@@ -1,6 +1,7 @@
 pub mod BranchSteps
 pub mod CondSpends
 pub mod Copying
+pub mod CopyingIn
 pub mod Counting
 pub mod ExprSteps
 pub mod FirstLaws
