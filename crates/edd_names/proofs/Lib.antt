@@ -3,6 +3,7 @@ pub mod CondSpends
 pub mod Copying
 pub mod CopyingIn
 pub mod Counting
+pub mod DeclaratorSteps
 pub mod ExprSteps
 pub mod FirstLaws
 pub mod Gathering

@@ -76,3 +76,51 @@ fn copy_declarator(
         value,
     })
 }
+
+// One more declarator: its value is copied in the scope before it, and its local stands in the scope behind it.
+#[tactic(auto, using(crate::proofs::UseLaws::faults))]
+fn add_declarator<'a>(
+    declarator: &'a Declarator<Path>,
+    names: &Names,
+    scope: &mut Vec<Local<'a>>,
+    next: &mut u8,
+    copies: &mut Vec<Declarator<Target>>,
+) -> Result<(), NameFault>
+    requires { next.old < 64 }
+    ensures none { OnOk result (NoFault (unit_of names.now) (optional_uses (scope_of scope.old.items) (declarator_of path_of declarator.now).value)) }
+    ensures ok { OnOk result ((z : Declarator Target) × (copies.new.items ≡ copies.old.items ++ z ∷ [])
+        × Means (unit_of names.now) (resolved_declarator (unit_of names.now) (scope_of scope.old.items) next.old (declarator_of path_of declarator.now)) (declarator_of (λ r. r) z)) }
+    ensures scope { OnOk result (scope_of scope.new.items ≡ declared (declarator_of path_of declarator.now).place next.old (scope_of scope.old.items)) }
+    ensures next { OnOk result (next.new ≡ next.old + 1) }
+    ensures err { IfErr result (λ f. FirstFault f (unit_of names.now) (optional_uses (scope_of scope.old.items) (declarator_of path_of declarator.now).value)) }
+{
+    let copy = copy_declarator(declarator, names, scope, *next)?;
+    copies.push(copy)?;
+    declare(scope, &declarator.place, *next)?;
+    *next += 1;
+    Ok(())
+}
+
+/// Declarators with the meaning of the names in their values, and the scope and the next slot behind them.
+#[tactic(auto, using(crate::proofs::UseLaws::faults))]
+pub fn add_declarators<'a>(
+    declarators: &'a [Declarator<Path>],
+    names: &Names,
+    scope: &mut Vec<Local<'a>>,
+    next: &mut u8,
+    copies: &mut Vec<Declarator<Target>>,
+) -> Result<(), NameFault>
+    requires room { next.old + length declarators.now ≤ 64 }
+    requires empty { copies.old.items ≡ [] }
+    ensures none { OnOk result (NoFault (unit_of names.now) (declarator_uses (scope_of scope.old.items) next.old (map (declarator_of path_of) declarators.now))) }
+    ensures ok { OnOk result (Means (unit_of names.now)
+        (resolved_declarators (unit_of names.now) (scope_of scope.old.items) next.old (map (declarator_of path_of) declarators.now)) (map (declarator_of (λ r. r)) copies.new.items)) }
+    ensures scope { OnOk result (scope_of scope.new.items ≡ all_declared (scope_of scope.old.items) next.old (map (declarator_of path_of) declarators.now)) }
+    ensures next { OnOk result (next.new ≡ next.old + length declarators.now) }
+    ensures err { IfErr result (λ f. FirstFault f (unit_of names.now) (declarator_uses (scope_of scope.old.items) next.old (map (declarator_of path_of) declarators.now))) }
+{
+    for declarator in declarators {
+        add_declarator(declarator, names, scope, next, copies)?;
+    }
+    Ok(())
+}
