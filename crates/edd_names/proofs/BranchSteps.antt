@@ -1,5 +1,5 @@
 -- Conditionals with the meaning of their names, case by case.
-use Rattle.std.proofs.Common.{◌≡◌, refl, sym, ap, ◌∙◌, ℕ, ℤ, List, [], ◌∷◌, ◌++◌, map, Option, Some, None, subst}
+use Rattle.std.proofs.Common.{◌≡◌, refl, sym, ap, ◌∙◌, ℕ, ℤ, List, [], ◌∷◌, ◌++◌, map, Option, Some, subst}
 use Rattle.std.specs.Prelude.{Vec}
 use Rattle.std.specs.declared.alloc.Global as alloc
 use Rattle.std.proofs.lemmas.List.{append-nil}
@@ -17,7 +17,7 @@ use Rattle.edd_syntax.specs.declared.reference.Path as code_path
 use Rattle.edd_syntax.specs.declared.reference.Target.{Target}
 use Rattle.edd_syntax.specs.Reference.{Path}
 use Rattle.edd_syntax.specs.Item.{Description}
-use Rattle.edd_syntax.specs.Conditional.{Cond, Value, If, Select, Conds, Nil, Cons, Arm, Case, Default, Arms, NoArms, ConsArm, conds_from, arms_from}
+use Rattle.edd_syntax.specs.Conditional.{Cond, Value, If, Select, Conds, Cons, Arm, Case, Default, Arms, ConsArm, conds_from, arms_from}
 use Rattle.edd_syntax.specs.ItemView.{cond_of, arm_of}
 use Rattle.edd_syntax.specs.NameUses.{Use, attribute_expr_uses, cond_uses, conds_uses, arms_uses}
 use Rattle.edd_syntax.specs.ResolvedTrees.{◌>>=◌, at_attribute, resolved_expr, resolved_cond, resolved_conds, resolved_arms}

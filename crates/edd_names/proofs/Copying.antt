@@ -1,8 +1,8 @@
 -- Lists of trees that are copied one after another.
-use Rattle.std.proofs.Common.{◌≡◌, refl, sym, ap, ◌∙◌, ℕ, ◌+◌, ◌<◌, List, [], ◌∷◌, ◌++◌, length, get_or, drop, map, Option, Some, None, append_assoc, subst}
+use Rattle.std.proofs.Common.{◌≡◌, sym, ap, ◌∙◌, ℕ, ◌+◌, ◌<◌, List, [], ◌∷◌, ◌++◌, length, get_or, drop, map, Option, Some, append_assoc, subst}
 use Rattle.std.proofs.lemmas.List.{at_drop_more, append-nil}
 use Rattle.edd_names.specs.declared.fault.NameFault.{NameFault}
-use Rattle.edd_names.specs.Meanings.{AllMembersNamed, Means, NoFault, FirstFault}
+use Rattle.edd_names.specs.Meanings.{Means, NoFault, FirstFault}
 use Rattle.edd_names.proofs.Repeating.{map_append}
 use Rattle.edd_names.proofs.UseLaws.{none_append, fault_left, fault_right}
 use Rattle.edd_syntax.specs.Reference.{Path}
@@ -41,8 +41,8 @@ module _ {X Y Z W C : Type 0} (unit : Description Path) (view : X → Y) (shown 
     first = λ f k. c.first f (subst (FirstFault f unit) (sym (next_uses i xs x h is)) (fault_right unit f (uses (view x ∷ [])) _ fine k));
     meant = λ ws k.
         subst (λ vs. Means unit (resolved (map view xs)) (join vs))
-            (sym (ap (λ vs. vs ++ ws) (ap (map shown) grown ∙ map_append shown zs (z ∷ [])) ∙ append_assoc (map shown zs) (shown z ∷ []) ws))
-            (c.meant (shown z ∷ ws) (next_meant i xs x (shown z) ws h is m k));
+        (sym (ap (λ vs. vs ++ ws) (ap (map shown) grown ∙ map_append shown zs (z ∷ [])) ∙ append_assoc (map shown zs) (shown z ∷ []) ws))
+        (c.meant (shown z ∷ ws) (next_meant i xs x (shown z) ws h is m k));
   }
 
   pub stops : (i : ℕ) (xs : List X) (x : X) (zs : List Z) (f : NameFault) → i < length xs → x ≡ get_or xs i x → FirstFault f unit (uses (view x ∷ [])) → Copied i xs zs → FirstFault f unit (uses (map view xs))

@@ -1,5 +1,5 @@
 -- Declarators, each of which has a slot of its own and can be used by the next ones.
-use Rattle.std.proofs.Common.{◌≡◌, refl, sym, ap, ◌∙◌, ℕ, ◌+◌, ◌<◌, List, [], ◌∷◌, ◌++◌, length, get_or, drop, map, Option, Some}
+use Rattle.std.proofs.Common.{◌≡◌, refl, sym, ap, ◌∙◌, ℕ, ◌+◌, ◌<◌, List, ◌∷◌, ◌++◌, length, get_or, drop, map, Option, Some}
 use Rattle.std.proofs.lemmas.List.{at_drop_more}
 use Rattle.edd_names.specs.ResolvedParts.{resolved_declarator}
 use Rattle.edd_names.proofs.ExprSteps.{bound, regroup}

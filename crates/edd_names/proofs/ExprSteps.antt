@@ -14,8 +14,8 @@ use Rattle.edd_syntax.specs.declared.reference.Path as code_path
 use Rattle.edd_syntax.specs.declared.reference.Target.{Target}
 use Rattle.edd_syntax.specs.Reference.{Path}
 use Rattle.edd_syntax.specs.Item.{Description}
-use Rattle.edd_syntax.specs.Expression.{Argument, Text, Value, Arguments, Nil, Cons, Call, arguments_from}
-use Rattle.edd_syntax.specs.NameUses.{Use, OfFunction, expr_uses, argument_uses}
+use Rattle.edd_syntax.specs.Expression.{Argument, Text, Value, Arguments, Cons, Call, arguments_from}
+use Rattle.edd_syntax.specs.NameUses.{OfFunction, expr_uses, argument_uses}
 use Rattle.edd_syntax.specs.Resolution.{Scope, function_meant}
 use Rattle.edd_syntax.specs.ResolvedTrees.{◌>>=◌, each, resolved_expr, resolved_arguments}
 use Rattle.edd_syntax.specs.TreeView.{path_of, expr_of, argument_of}

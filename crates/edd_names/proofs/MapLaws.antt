@@ -1,9 +1,9 @@
 -- Maps of names, and the numbers of items.
 use Rattle.std.proofs.Common.{◌≡◌, refl, sym, ap, ◌∙◌, ℕ, zero, suc, ◌+◌, ◌<◌, ◌≤◌, List, [], ◌∷◌, ◌++◌, length, get_or, take, map, Option, Some, None, add-one, append_assoc, subst, arith}
-use Rattle.std.specs.Prelude.{Bool, true, false, cond, ◌||◌, if◌then◌else◌, is_some, option_map, find, nat_lt}
+use Rattle.std.specs.Prelude.{Bool, true, false, cond, if◌then◌else◌, is_some, option_map, find, nat_lt}
 use Rattle.std.specs.Option.{option_or, option_copied}
 use Rattle.std.specs.List.{list_any}
-use Rattle.std.specs.HashMap.{HashMap, get_by, UpdatesBy}
+use Rattle.std.specs.HashMap.{HashMap, UpdatesBy}
 use Rattle.std.specs.Str.{bytes_eq}
 use denote.Ref.{Bor}
 use Rattle.std.proofs.Math.Seq.{take-suc}
@@ -16,7 +16,6 @@ use Rattle.std.proofs.lemmas.Map.Text.{hash_map_updates_str}
 use Rattle.std.proofs.lemmas.Slice.Eq.{bytes_eq-Decides}
 use Rattle.edd_syntax.specs.declared.numbers.Kind.{Kind}
 use Rattle.edd_syntax.specs.declared.numbers.Kind.TheVariants as kind
-use Rattle.edd_syntax.specs.declared.numbers.ItemNo.{ItemNo}
 use Rattle.edd_syntax.specs.Text.{Name}
 use Rattle.edd_syntax.specs.Item.{Item, kind_of_item}
 use Rattle.edd_syntax.specs.NameRules.{item_limit, kinds}
@@ -67,8 +66,8 @@ module _ {R : Type 0} where
   numbered_last before [] x = ap (λ ys. (x.name, item_number (kind_of_item x.sort) (count_of (kind_of_item x.sort) ys)) ∷ []) (sym (append-nil before))
   numbered_last before (y ∷ xs) x =
       ap (λ es. (y.name, item_number (kind_of_item y.sort) (count_of (kind_of_item y.sort) before)) ∷ es)
-          (numbered_last (before ++ y ∷ []) xs x
-           ∙ ap (λ ys. numbered_names (before ++ y ∷ []) xs ++ (x.name, item_number (kind_of_item x.sort) (count_of (kind_of_item x.sort) ys)) ∷ []) (append_assoc before (y ∷ []) xs))
+      (numbered_last (before ++ y ∷ []) xs x
+      ∙ ap (λ ys. numbered_names (before ++ y ∷ []) xs ++ (x.name, item_number (kind_of_item x.sort) (count_of (kind_of_item x.sort) ys)) ∷ []) (append_assoc before (y ∷ []) xs))
 
   count_last : (k : Kind) (xs : List (Item R)) (x : Item R) → count_of k (xs ++ x ∷ []) ≡ count_of k xs + (if same_kind (kind_of_item x.sort) k then 1 else 0)
   count_last k [] x = let e = one_item k x in omega (arith, e)

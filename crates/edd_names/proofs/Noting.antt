@@ -2,7 +2,6 @@
 use Rattle.std.proofs.Common.{◌≡◌, refl, sym, ap, ◌∙◌, ℕ, zero, suc, ◌+◌, ◌<◌, ◌≤◌, List, [], ◌∷◌, ◌++◌, length, get_or, take, drop, map, Option, Some, None, add-one, subst, arith}
 use Rattle.std.specs.Prelude.{Bool, true, false, cond, ◌||◌, if◌then◌else◌, is_some, option_map}
 use Rattle.std.specs.HashMap.{HashMap, get_by, UpdatesBy}
-use Rattle.std.specs.Map.{update}
 use Rattle.std.specs.Str.{bytes_eq}
 use denote.Ref.{Bor}
 use Rattle.std.proofs.Math.Seq.{take-suc}
@@ -15,7 +14,7 @@ use Rattle.edd_names.specs.declared.fault.NameFault.TheVariants.{NoMemory}
 use Rattle.std.proofs.lemmas.Grind.{common_steps}
 use Rattle.edd_names.specs.Faults.{refusal_of, Agrees, IsFound, IsDuplicate}
 use Rattle.edd_names.specs.Seen.{HasSeen}
-use Rattle.edd_names.proofs.FirstLaws.{first_of-append_none, first_of-append_some}
+use Rattle.edd_names.proofs.FirstLaws.{first_of-append_none}
 use Rattle.edd_names.proofs.Repeating.{map_append}
 use Rattle.edd_names.proofs.SeenBefore.{SameNames, append_same, append_left, append_comm}
 
@@ -95,11 +94,12 @@ module _ {X A S : Type 0} (name : X → Name) (before : List Name) where
   noted_at_start seen xs h = (before, h, λ q. refl, refl)
 
   pub noted_more : (seen seen' : HashMap (Bor (List ℕ)) A S) (i : ℕ) (xs : List X) (x : X) → i < length xs → x ≡ get_or xs i x → ((b : List Name) → HasSeen b seen → (None ≡ first_of (repeated b (name x ∷ []))) × HasSeen (name x ∷ b) seen') → Noted seen i xs → Noted seen' (i + 1) xs
-  noted_more seen seen' i xs x h is noted (b, known, same, eq) =
-      ( name x ∷ b,
-        (noted b known).1,
-        λ q. append_same (name x ∷ []) b (map name (take i xs) ++ before) same q ∙ rotated q ∙ ap (λ ns. is_name_in (ns ++ before) q) (sym (one_more name i xs x h is)),
-        sym (first_of-append_none (repeated b (name x ∷ [])) _ (noted b known).0) ∙ sym (next name i xs x b h is) ∙ eq )
+  noted_more seen seen' i xs x h is noted (b, known, same, eq) = (
+    name x ∷ b,
+    (noted b known).1,
+    λ q. append_same (name x ∷ []) b (map name (take i xs) ++ before) same q ∙ rotated q ∙ ap (λ ns. is_name_in (ns ++ before) q) (sym (one_more name i xs x h is)),
+    sym (first_of-append_none (repeated b (name x ∷ [])) _ (noted b known).0) ∙ sym (next name i xs x b h is) ∙ eq,
+  )
     where
       rotated : SameNames (name x ∷ (map name (take i xs) ++ before)) ((map name (take i xs) ++ name x ∷ []) ++ before)
       rotated q = append_left (name x ∷ map name (take i xs)) (map name (take i xs) ++ name x ∷ []) before (append_comm (name x ∷ []) (map name (take i xs))) q

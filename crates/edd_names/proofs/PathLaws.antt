@@ -1,15 +1,12 @@
 -- Along a path, from one member to the next.
-use Rattle.std.proofs.Common.{◌≡◌, refl, sym, ap, ◌∙◌, ℕ, ◌+◌, ◌<◌, List, [], ◌∷◌, length, get_or, drop, map, Option, Some, None, subst, arith}
-use Rattle.std.specs.Prelude.{Bool, true, false, not, is_some, MatchOption, option_and_then, if◌then◌else◌}
+use Rattle.std.proofs.Common.{◌≡◌, sym, ap, ◌∙◌, ℕ, ◌+◌, ◌<◌, List, [], ◌∷◌, length, get_or, drop, map, Option, Some, None, subst}
+use Rattle.std.specs.Prelude.{true, not, is_some, MatchOption, option_and_then, if◌then◌else◌}
 use Rattle.std.proofs.lemmas.Bool.{false≢true}
 use Rattle.std.proofs.lemmas.List.{at_drop_more}
-use Rattle.edd_names.specs.declared.fault.NameFault.{NameFault}
 use Rattle.edd_names.specs.declared.target.Place.{Place}
-use Rattle.edd_names.specs.Faults.{IsFound, IsFirst}
 use Rattle.edd_names.specs.Meanings.{AllMembersNamed, Means, item_among}
 use Rattle.edd_names.specs.Paths.{Reaches}
 use Rattle.edd_syntax.specs.declared.numbers.Kind.{Kind}
-use Rattle.edd_syntax.specs.declared.numbers.Kind.TheVariants as kind
 use Rattle.edd_syntax.specs.declared.numbers.ItemNo.{ItemNo}
 use Rattle.edd_syntax.specs.declared.reference.Target.{Target}
 use Rattle.edd_syntax.specs.declared.reference.Target.TheVariants.{Item}
@@ -17,9 +14,8 @@ use Rattle.edd_syntax.specs.Text.{Name}
 use Rattle.edd_syntax.specs.Reference.{Path}
 use Rattle.edd_syntax.specs.Item.{Description}
 use Rattle.edd_syntax.specs.NameRules.{faults_along, is_kind_among}
-use Rattle.edd_syntax.specs.Numbers.{kind_of, same_kind}
-use Rattle.edd_syntax.specs.Refusal.{Refusal, UnknownName, WrongKind, refused_if, first_of}
-use Rattle.edd_syntax.specs.Resolution.{FoundMember, along, item_of_member, member_at, is_among, of_kind}
+use Rattle.edd_syntax.specs.Refusal.{Refusal, WrongKind, refused_if, first_of}
+use Rattle.edd_syntax.specs.Resolution.{along}
 
 module _ (unit : Description Path) (allowed : List Kind) (all : List Refusal) (meant : Option ItemNo) (p : Place) where
   -- behind the last member nothing is found where the kind is allowed
@@ -29,9 +25,10 @@ module _ (unit : Description Path) (allowed : List Kind) (all : List Refusal) (m
 
   pub arrives : (item : ItemNo) → p.item ≡ Some item → is_kind_among allowed p.kind ≡ true → Reaches unit allowed all meant p [] → (None ≡ first_of all) × Means unit (item_among allowed meant) (Item item)
   unfolding Means
-  arrives item is among r =
-      ( no_fault p.item among r.faults,
-        λ known. ap (item_among allowed) (sym r.item ∙ ap (option_and_then (λ j. along unit j [])) is) ∙ ap (λ b. if b then Some (Item item) else None) (ap (λ k. is_kind_among allowed k) (r.kind item is) ∙ among) )
+  arrives item is among r = (
+    no_fault p.item among r.faults,
+    λ known. ap (item_among allowed) (sym r.item ∙ ap (option_and_then (λ j. along unit j [])) is) ∙ ap (λ b. if b then Some (Item item) else None) (ap (λ k. is_kind_among allowed k) (r.kind item is) ∙ among),
+  )
 
   pub unknown : (t : Target) → p.item ≡ None → is_kind_among allowed p.kind ≡ true → Reaches unit allowed all meant p [] → (None ≡ first_of all) × Means unit (item_among allowed meant) t
   unfolding Means
@@ -45,8 +42,8 @@ never_known unit meant x none = λ known. absurd (none known)
 pub at_member : {X : Type 0} (name : X → Name) (unit : Description Path) (allowed : List Kind) (all : List Refusal) (meant : Option ItemNo) (p : Place) (xs ys : List X) (i : ℕ) (x : X) (n : Name) → ys ≡ xs → i < length xs → x ≡ get_or ys i x → n ≡ name x → Reaches unit allowed all meant p (map name (drop i xs)) → Reaches unit allowed all meant p (n ∷ map name (drop (i + 1) xs))
 at_member name unit allowed all meant p xs ys i x n same h is named r =
     subst (Reaches unit allowed all meant p)
-        (at_drop_more (map name) xs i x h ∙ ap (λ y. name y ∷ map name (drop (i + 1) xs)) (sym (is ∙ ap (λ zs. get_or zs i x) same)) ∙ ap (λ m. m ∷ map name (drop (i + 1) xs)) (sym named))
-        r
+    (at_drop_more (map name) xs i x h ∙ ap (λ y. name y ∷ map name (drop (i + 1) xs)) (sym (is ∙ ap (λ zs. get_or zs i x) same)) ∙ ap (λ m. m ∷ map name (drop (i + 1) xs)) (sym named))
+    r
 
 pub at_none : {X : Type 0} (o : Option X) (P : Type 0) (Q : X → Type 0) → o ≡ None → MatchOption o P Q → P
 at_none o P Q is h = subst (λ o. MatchOption o P Q) is h

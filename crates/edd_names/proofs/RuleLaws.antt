@@ -1,5 +1,5 @@
 -- The rules one behind the other.
-use Rattle.std.proofs.Common.{◌≡◌, refl, sym, ap, ◌∙◌, List, [], ◌∷◌, ◌++◌, map, Option, Some, None}
+use Rattle.std.proofs.Common.{◌≡◌, refl, List, [], ◌∷◌, map}
 use Rattle.std.specs.Prelude.{option_map}
 use Rattle.edd_syntax.specs.Refusal.{first_of}
 use Rattle.edd_names.proofs.Noting.{none_both}

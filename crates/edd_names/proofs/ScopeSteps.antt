@@ -1,6 +1,5 @@
 -- The names that stand twice in a list: those of its first element, and those of the others.
 use Rattle.std.proofs.Common.{◌≡◌, refl, sym, List, [], ◌∷◌, ◌++◌, append_assoc}
-use Rattle.std.specs.Prelude.{Bool, true, false, if◌then◌else◌}
 use Rattle.edd_syntax.specs.Text.{Name}
 use Rattle.edd_syntax.specs.Reference.{Path}
 use Rattle.edd_syntax.specs.Statement.{Part, Declare, Statement, CaseLabel, DefaultLabel, body_from}

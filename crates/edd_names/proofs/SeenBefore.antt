@@ -1,7 +1,7 @@
 -- A walk over a list that carries the names so far. Their order does not matter.
-use Rattle.std.proofs.Common.{◌≡◌, refl, sym, ap, ◌∙◌, ℕ, ◌+◌, ◌<◌, List, [], ◌∷◌, ◌++◌, length, get_or, take, drop, map, Option, Some, None, add-one}
+use Rattle.std.proofs.Common.{◌≡◌, refl, sym, ap, ◌∙◌, ℕ, ◌+◌, ◌<◌, List, [], ◌∷◌, ◌++◌, length, get_or, take, drop, map, Some, None, add-one}
 use Rattle.std.specs.Prelude.{Bool, true, false, ◌||◌, if◌then◌else◌}
-use Rattle.std.specs.List.{list_any, flat_map}
+use Rattle.std.specs.List.{flat_map}
 use Rattle.std.specs.Str.{bytes_eq}
 use Rattle.std.proofs.Math.Seq.{take-suc}
 use Rattle.std.proofs.lemmas.List.{at_drop_more}
@@ -69,10 +69,11 @@ module _ {X Y A : Type 0} (view : X → Y) (names : Y → List Name) (here : Lis
       ∙ ap (λ y. first_of (here b (view y) ++ walk (names (view y) ++ b) (map view (drop (i + 1) xs)))) (sym is)
 
   pub goes_on : (i : ℕ) (xs : List X) (x : X) → i < length xs → x ≡ get_or xs i x → None ≡ first_of (here (so_far i xs) (view x)) → Seen i xs → Seen (i + 1) xs
-  goes_on i xs x h is none (b, known, eq) =
-      ( names (view x) ++ b,
-        λ q. append_same (names (view x)) b (so_far i xs) known q ∙ append_comm (names (view x)) (so_far i xs) q ∙ ap (λ ns. is_name_in ns q) (sym (so_far_more i xs x h is)),
-        sym (first_of-append_none (here b (view x)) _ (none ∙ ap first_of (sym (same b (so_far i xs) (view x) known)))) ∙ sym (next i xs x b h is) ∙ eq )
+  goes_on i xs x h is none (b, known, eq) = (
+    names (view x) ++ b,
+    λ q. append_same (names (view x)) b (so_far i xs) known q ∙ append_comm (names (view x)) (so_far i xs) q ∙ ap (λ ns. is_name_in ns q) (sym (so_far_more i xs x h is)),
+    sym (first_of-append_none (here b (view x)) _ (none ∙ ap first_of (sym (same b (so_far i xs) (view x) known)))) ∙ sym (next i xs x b h is) ∙ eq,
+  )
 
   pub stops_at : (i : ℕ) (xs : List X) (x : X) (why : A) → i < length xs → x ≡ get_or xs i x → Some why ≡ first_of (here (so_far i xs) (view x)) → Seen i xs → Some why ≡ first_of (walk [] (map view xs))
   stops_at i xs x why h is some (b, known, eq) =

@@ -1,18 +1,17 @@
 -- The nodes of a conditional don't depend on what its values stand for, but for the nodes below them.
-use Rattle.std.proofs.Common.{◌≡◌, refl, sym, ap, ◌∙◌, ℕ, ◌+◌, List, [], ◌∷◌, map, arith}
-use Rattle.std.specs.Prelude.{Vec}
+use Rattle.std.proofs.Common.{◌≡◌, refl, ap, ◌∙◌, ℕ, ◌+◌, List, [], ◌∷◌, map}
 use Rattle.edd_syntax.specs.declared.cond.Cond.{Cond, Row_of-Cond, end_of-Cond, more_of-Cond, Row_of-Arm, end_of-Arm, more_of-Arm}
 use Rattle.edd_syntax.specs.declared.cond.Cond.TheVariants.{Value, If', Select'}
-use Rattle.edd_syntax.specs.declared.cond.Arm.{Arm}
 use Rattle.edd_syntax.specs.declared.cond.Arm.TheVariants.{Case', Default'}
 use Rattle.edd_syntax.specs.Conditional.{conds_from, arms_from}
-use Rattle.edd_syntax.specs.ItemView.{cond_of, conds_in, arm_of, arms_in}
+use Rattle.edd_syntax.specs.ItemView.{cond_of, conds_in, arms_in}
 use Rattle.edd_syntax.specs.Size.{nodes, cond_nodes, conds_nodes, arms_nodes}
 use Rattle.edd_syntax.specs.TreeView.{expr_of}
 
 module _ {R S V W : Type 0} (f : R → S) (g : V → W) (of : W → ℕ) where
   mutual
     unfolding cond_of
+
     pub nodes_of_cond : (c : Cond R V) → cond_nodes (λ v. of (g v)) (cond_of f (λ v. v) c) ≡ cond_nodes of (cond_of f g c)
     nodes_of_cond (Value v) = refl
     nodes_of_cond (If' test shape first shape' otherwise) =

@@ -1,5 +1,5 @@
 -- What a fault says.
-use Rattle.std.specs.Prelude.{◌≡◌, List, [], ◌∷◌, Option, Some, None, option_map, string_bytes}
+use Rattle.std.specs.Prelude.{◌≡◌, List, Option, Some, None, option_map, string_bytes}
 use Rattle.edd_names.specs.declared.fault.NameFault.{NameFault}
 use Rattle.edd_names.specs.declared.fault.NameFault.TheVariants as fault
 use Rattle.edd_syntax.specs.Text.{Name}

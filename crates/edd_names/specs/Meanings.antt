@@ -1,5 +1,5 @@
 -- What is found about uses of names, and what they mean.
-use Rattle.std.specs.Prelude.{◌≡◌, Bool, true, List, map, Option, Some, None, is_some, option_and_then, if◌then◌else◌}
+use Rattle.std.specs.Prelude.{◌≡◌, true, List, map, Option, Some, None, is_some, if◌then◌else◌}
 use Rattle.std.specs.List.{flat_map}
 use Rattle.edd_names.specs.declared.fault.NameFault.{NameFault}
 use Rattle.edd_names.specs.Faults.{IsFirst}

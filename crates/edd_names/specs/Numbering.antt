@@ -1,5 +1,5 @@
 -- What the maps of names have.
-use Rattle.std.specs.Prelude.{◌≡◌, ℕ, List, [], ◌∷◌, Option, Some, None, option_map, if◌then◌else◌}
+use Rattle.std.specs.Prelude.{ℕ, List, Option, Some, None, if◌then◌else◌}
 use Rattle.std.specs.HashMap.{HashMap, get_by}
 use Rattle.std.specs.Str.{bytes_eq}
 use denote.Ref.{Bor}

@@ -1,5 +1,5 @@
 -- How far along a path.
-use Rattle.std.specs.Prelude.{◌≡◌, Bool, true, List, [], Option, Some, None, is_some, option_and_then, if◌then◌else◌}
+use Rattle.std.specs.Prelude.{◌≡◌, true, List, Option, Some, is_some, option_and_then}
 use Rattle.edd_names.specs.declared.target.Place.{Place}
 use Rattle.edd_names.specs.Meanings.{AllMembersNamed}
 use Rattle.edd_syntax.specs.declared.numbers.Kind.{Kind}

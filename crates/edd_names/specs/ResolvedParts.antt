@@ -1,5 +1,5 @@
 -- The parts of trees with the meaning of their names.
-use Rattle.std.specs.Prelude.{ℕ, List, [], ◌∷◌, Option, Some, None}
+use Rattle.std.specs.Prelude.{ℕ, List, [], ◌∷◌, Option, Some}
 use Rattle.edd_syntax.specs.declared.numbers.Kind.{Kind}
 use Rattle.edd_syntax.specs.Item.{Member, Description}
 use Rattle.edd_syntax.specs.Resolution.{Scope}

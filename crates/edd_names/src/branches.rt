@@ -165,7 +165,10 @@ fn copy_arm<V: Named>(arm: &Arm<Path, V>, names: &Names) -> Result<Arm<Target, V
     match arm {
         Arm::Case { label, body } => {
             let body = copy_conds(body, names)?;
-            Ok(Arm::Case { label: *label, body })
+            Ok(Arm::Case {
+                label: *label,
+                body,
+            })
         }
         Arm::Default { line, body } => {
             let body = copy_conds(body, names)?;

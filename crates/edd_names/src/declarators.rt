@@ -40,11 +40,7 @@ pub fn copy_optional(
 }
 
 /// One more local, which hides those of its name.
-pub fn declare<'a>(
-    scope: &mut Vec<Local<'a>>,
-    place: &'a Path,
-    slot: u8,
-) -> Result<(), NameFault>
+pub fn declare<'a>(scope: &mut Vec<Local<'a>>, place: &'a Path, slot: u8) -> Result<(), NameFault>
     ensures ok { OnOk result (scope_of scope.new.items ≡ declared (path_of place.now) slot (scope_of scope.old.items)) }
     ensures err { IfErr result (λ f. f ≡ NoMemory) }
 {

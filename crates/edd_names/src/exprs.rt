@@ -32,11 +32,7 @@ pub fn refer_variable(names: &Names, scope: &[Local], path: &Path) -> Result<Tar
 /// An expression with the meaning of its names.
 #[cycle(exprs)]
 #[tactic(auto, using(crate::proofs::UseLaws::faults), unfolding(crate::specs::Meanings::Means, edd_syntax::specs::ResolvedTrees::resolved_expr))]
-pub fn copy_expr(
-    e: &Expr<Path>,
-    names: &Names,
-    scope: &[Local],
-) -> Result<Expr<Target>, NameFault>
+pub fn copy_expr(e: &Expr<Path>, names: &Names, scope: &[Local]) -> Result<Expr<Target>, NameFault>
     ensures none { IfOk result (λ t. NoFault (unit_of names.now) (expr_uses (scope_of scope.now) (expr_of path_of e.now))) }
     ensures ok { IfOk result (λ t. Means (unit_of names.now)
         (resolved_expr (meaning (unit_of names.now) (scope_of scope.now) variable_kinds) (expr_of path_of e.now)) (expr_of (λ r. r) t)) }
@@ -79,7 +75,11 @@ pub fn copy_expr(
             let test = copy_expr(test, names, scope)?;
             let first = copy_expr(first, names, scope)?;
             let second = copy_expr(second, names, scope)?;
-            Ok(Expr::Conditional(Box::new(alloc, test)?, Box::new(alloc, first)?, Box::new(alloc, second)?))
+            Ok(Expr::Conditional(
+                Box::new(alloc, test)?,
+                Box::new(alloc, first)?,
+                Box::new(alloc, second)?,
+            ))
         }
         Expr::Assign(to, value) => {
             let to = refer_variable(names, scope, to)?;

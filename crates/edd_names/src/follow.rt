@@ -21,7 +21,11 @@ use edd_syntax::reference::{Path, Target};
 
 // The place of the next member, or none where the item is not known.
 #[tactic(auto, unfolding(crate::specs::Meanings::AllMembersNamed))]
-fn step<'b>(names: &Names, place: Place<'b>, member: &'b str) -> Result<Option<Place<'b>>, NameFault>
+fn step<'b>(
+    names: &Names,
+    place: Place<'b>,
+    member: &'b str,
+) -> Result<Option<Place<'b>>, NameFault>
     requires { (j : ItemNo) → place.item ≡ Some j → kind_of j ≡ place.kind }
     ensures ok { IfOk result (λ next. (allowed : List Kind) (all : List Refusal) (meant : Option ItemNo) (rest : List Name)
         → Reaches (unit_of names.now) allowed all meant place.entry (member.now ∷ rest)

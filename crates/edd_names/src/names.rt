@@ -135,11 +135,7 @@ pub fn check_attributes(attributes: &[Attribute<Path>], alloc: Global) -> Result
 }
 
 #[tactic(auto, using(crate::proofs::Noting::duplicates))]
-fn check_item<'a>(
-    item: &'a Item<Path>,
-    seen: &mut Seen<'a>,
-    alloc: Global,
-) -> Result<(), NameFault>
+fn check_item<'a>(item: &'a Item<Path>, seen: &mut Seen<'a>, alloc: Global) -> Result<(), NameFault>
     ensures ok { OnOk result ((b : List Name) → HasSeen b seen.old
         → (None ≡ first_of (item_repeats b (item_of path_of item.now))) × HasSeen ((item_of path_of item.now).name ∷ b) seen.new) }
     ensures err { IfErr result (λ f. (b : List Name) → HasSeen b seen.old → IsDuplicate f (item_repeats b (item_of path_of item.now))) }

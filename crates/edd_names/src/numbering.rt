@@ -99,7 +99,7 @@ fn number_item<'a>(
     requires { count_in counts.old (kind_of_item (item_of path_of item.now).sort) < 65535 }
     ensures ok { OnOk result ((q : Name) → at q numbers.new
         ≡ option_or (at q numbers.old) (if_named (item_of path_of item.now).name q
-            (item_number (kind_of_item (item_of path_of item.now).sort) (count_in counts.old (kind_of_item (item_of path_of item.now).sort))))) }
+        (item_number (kind_of_item (item_of path_of item.now).sort) (count_in counts.old (kind_of_item (item_of path_of item.now).sort))))) }
     ensures counted { OnOk result ((k : Kind) → count_in counts.new k
         ≡ count_in counts.old k + (if same_kind (kind_of_item (item_of path_of item.now).sort) k then 1 else 0)) }
     ensures err { IfErr result (λ f. f ≡ NoMemory) }

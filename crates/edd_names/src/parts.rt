@@ -20,10 +20,7 @@ use edd_syntax::numbers::Kind;
 use edd_syntax::reference::{Path, Target};
 
 #[tactic(auto, using(crate::proofs::UseLaws::faults), unfolding(crate::specs::Meanings::Means))]
-fn copy_type_part(
-    type_part: &TypePart<Path>,
-    names: &Names,
-) -> Result<TypePart<Target>, NameFault>
+fn copy_type_part(type_part: &TypePart<Path>, names: &Names) -> Result<TypePart<Target>, NameFault>
     ensures none { IfOk result (λ t. NoFault (unit_of names.now) (type_part_uses (type_part_of path_of type_part.now))) }
     ensures ok { IfOk result (λ t. Means (unit_of names.now) (resolved_type_part (unit_of names.now) (type_part_of path_of type_part.now)) (type_part_of (λ r. r) t)) }
     ensures err { IfErr result (λ f. FirstFault f (unit_of names.now) (type_part_uses (type_part_of path_of type_part.now))) }

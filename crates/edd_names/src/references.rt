@@ -62,7 +62,12 @@ fn refer_item(names: &Names, kinds: &[Kind], path: &Path) -> Result<Target, Name
 
 /// What a reference means at a place where items of some kinds may stand.
 #[tactic(auto, unfolding(crate::specs::Meanings::Means, crate::specs::Meanings::NoFault, crate::specs::Meanings::FirstFault, crate::specs::Meanings::faults_in))]
-pub fn refer(names: &Names, scope: &[Local], kinds: &[Kind], path: &Path) -> Result<Target, NameFault>
+pub fn refer(
+    names: &Names,
+    scope: &[Local],
+    kinds: &[Kind],
+    path: &Path,
+) -> Result<Target, NameFault>
     ensures none { IfOk result (λ t. NoFault (unit_of names.now) (OfItem (scope_of scope.now) kinds.now (path_of path.now) ∷ [])) }
     ensures ok { IfOk result (λ t. Means (unit_of names.now) (meaning (unit_of names.now) (scope_of scope.now) kinds.now (path_of path.now)) t) }
     ensures err { IfErr result (λ f. FirstFault f (unit_of names.now) (OfItem (scope_of scope.now) kinds.now (path_of path.now) ∷ [])) }

@@ -88,7 +88,11 @@ fn item_of_kind(item: Option<ItemNo>, kind: Kind) -> Option<ItemNo>
     }
 }
 
-fn member_of_item<'a>(names: &Names<'a>, item: ItemNo, member: &str) -> Option<(&'a Member<Path>, Kind)>
+fn member_of_item<'a>(
+    names: &Names<'a>,
+    item: ItemNo,
+    member: &str,
+) -> Option<(&'a Member<Path>, Kind)>
     requires { kind_of item ≡ kind.Collection }
     ensures { option_map (λ m. (member_of path_of m.0.now, m.1)) result ≡ member_at (unit_of names.now) item member.now }
 {
@@ -99,7 +103,11 @@ fn member_of_item<'a>(names: &Names<'a>, item: ItemNo, member: &str) -> Option<(
 }
 
 // The place of a member of a collection.
-pub fn place_of_member<'b>(names: &Names, item: ItemNo, member: &'b str) -> Result<Place<'b>, NameFault>
+pub fn place_of_member<'b>(
+    names: &Names,
+    item: ItemNo,
+    member: &'b str,
+) -> Result<Place<'b>, NameFault>
     requires { kind_of item ≡ kind.Collection }
     ensures ok { IfOk result (λ p. (found : FoundMember) × (member_at (unit_of names.now) item member.now ≡ Some found)
         × (p.name.now ≡ member.now) × (p.kind ≡ found.1) × (p.item ≡ item_of_member (unit_of names.now) found)) }

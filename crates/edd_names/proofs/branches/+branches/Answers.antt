@@ -1,4 +1,4 @@
-use Rattle.std.proofs.Common.{rules, ◌≡◌, refl, sym, ap, ◌∙◌, ◌+◌, ◌*◌, ◌<◌, [], ◌∷◌, map, subst, arith}
+use Rattle.std.proofs.Common.{rules, refl, sym, subst, arith}
 use Rattle.std.proofs.Math.ListN.{drop_of_length-le}
 use Rattle.std.proofs.lemmas.Int.{to_z-of_z}
 use mir.Val.{SFits}
@@ -6,7 +6,7 @@ use mir.Syntax.{w64}
 use Rattle.edd_syntax.specs.declared.cond.Arm.TheVariants.{Case}
 use Rattle.edd_syntax.specs.Conditional.{conds_from, arms_from}
 use Rattle.edd_syntax.specs.ItemView.{cond_of, arm_of}
-use Rattle.edd_syntax.specs.NameUses.{cond_uses, conds_uses, arms_uses}
+use Rattle.edd_syntax.specs.NameUses.{conds_uses, arms_uses}
 use Rattle.edd_syntax.specs.ResolvedTrees.{at_attribute, resolved_cond, resolved_conds, resolved_arms}
 use Rattle.edd_syntax.specs.TreeView.{path_of}
 use Rattle.edd_names.specs.Directory.{unit_of}
@@ -22,7 +22,7 @@ use Rattle.edd_names.proofs.branches.+branches.Goals as goal
 pub copy_cond-returns-in_err-copy-in-Value-clause-err : goal.copy_cond-returns-in_err-copy-in-Value-clause-err
 copy_cond-returns-in_err-copy-in-Value-clause-err g t c =
     passed c.from_residual.result c.in_err-copy-in-Value.field-0.0 _ c.from_residual.ensures.1
-        (value_fault (unit_of c.args.names.now) g.V.Named.before g.V.Named.after g.V.Named.uses g.V.Named.meant c.args.c.now _ c.in-Value.is c.in_err-copy-in-Value.field-0.0 c.in_err-copy-in-Value.ensures.err)
+    (value_fault (unit_of c.args.names.now) g.V.Named.before g.V.Named.after g.V.Named.uses g.V.Named.meant c.args.c.now _ c.in-Value.is c.in_err-copy-in-Value.field-0.0 c.in_err-copy-in-Value.ensures.err)
 
 pub copy_cond-returns-in_ok-copy-in-Value-clause-none : goal.copy_cond-returns-in_ok-copy-in-Value-clause-none
 copy_cond-returns-in_ok-copy-in-Value-clause-none g t c =
@@ -35,17 +35,17 @@ copy_cond-returns-in_ok-copy-in-Value-clause-ok g t c =
 pub copy_cond-returns-in_err-condition-in-If-clause-err : goal.copy_cond-returns-in_err-condition-in-If-clause-err
 copy_cond-returns-in_err-condition-in-If-clause-err g t c =
     passed c.from_residual-in_err-condition-in-If.result c.in_err-condition-in-If.field-0.0 _ c.from_residual-in_err-condition-in-If.ensures.1
-        (if_fault (unit_of c.args.names.now) g.V.Named.before g.V.Named.after g.V.Named.uses g.V.Named.meant c.args.c.now _ _ _ c.in-If.is c.in_err-condition-in-If.field-0.0 c.in_err-condition-in-If.ensures.err)
+    (if_fault (unit_of c.args.names.now) g.V.Named.before g.V.Named.after g.V.Named.uses g.V.Named.meant c.args.c.now _ _ _ c.in-If.is c.in_err-condition-in-If.field-0.0 c.in_err-condition-in-If.ensures.err)
 
 pub copy_cond-returns-in_err-first-in-If-clause-err : goal.copy_cond-returns-in_err-first-in-If-clause-err
 copy_cond-returns-in_err-first-in-If-clause-err g t c =
     passed c.from_residual-in_err-first-in-If.result c.in_err-first-in-If.field-0.0 _ c.from_residual-in_err-first-in-If.ensures.1
-        (if_fault_first (unit_of c.args.names.now) g.V.Named.before g.V.Named.after g.V.Named.uses g.V.Named.meant c.args.c.now _ _ _ c.in-If.is c.in_err-first-in-If.field-0.0 c.deref.result.now c.deref.ensures.value c.in_ok-condition-in-If.ensures.none c.in_err-first-in-If.ensures.err)
+    (if_fault_first (unit_of c.args.names.now) g.V.Named.before g.V.Named.after g.V.Named.uses g.V.Named.meant c.args.c.now _ _ _ c.in-If.is c.in_err-first-in-If.field-0.0 c.deref.result.now c.deref.ensures.value c.in_ok-condition-in-If.ensures.none c.in_err-first-in-If.ensures.err)
 
 pub copy_cond-returns-in_err-otherwise-in-If-clause-err : goal.copy_cond-returns-in_err-otherwise-in-If-clause-err
 copy_cond-returns-in_err-otherwise-in-If-clause-err g t c =
     passed c.from_residual-in_err-otherwise-in-If.result c.in_err-otherwise-in-If.field-0.0 _ c.from_residual-in_err-otherwise-in-If.ensures.1
-        (if_fault_otherwise (unit_of c.args.names.now) g.V.Named.before g.V.Named.after g.V.Named.uses g.V.Named.meant c.args.c.now _ _ _ c.in-If.is c.in_err-otherwise-in-If.field-0.0 c.deref.result.now c.deref-in-If.result.now c.deref.ensures.value c.deref-in-If.ensures.value c.in_ok-condition-in-If.ensures.none c.in_ok-first-in-If.ensures.none c.in_err-otherwise-in-If.ensures.err)
+    (if_fault_otherwise (unit_of c.args.names.now) g.V.Named.before g.V.Named.after g.V.Named.uses g.V.Named.meant c.args.c.now _ _ _ c.in-If.is c.in_err-otherwise-in-If.field-0.0 c.deref.result.now c.deref-in-If.result.now c.deref.ensures.value c.deref-in-If.ensures.value c.in_ok-condition-in-If.ensures.none c.in_ok-first-in-If.ensures.none c.in_err-otherwise-in-If.ensures.err)
 
 pub copy_cond-returns-in_ok-otherwise-in-If-clause-none : goal.copy_cond-returns-in_ok-otherwise-in-If-clause-none
 copy_cond-returns-in_ok-otherwise-in-If-clause-none g t c =
@@ -58,12 +58,12 @@ copy_cond-returns-in_ok-otherwise-in-If-clause-ok g t c =
 pub copy_cond-returns-in_err-on-in-Select-clause-err : goal.copy_cond-returns-in_err-on-in-Select-clause-err
 copy_cond-returns-in_err-on-in-Select-clause-err g t c =
     passed c.from_residual-in_err-on-in-Select.result c.in_err-on-in-Select.field-0.0 _ c.from_residual-in_err-on-in-Select.ensures.1
-        (select_fault (unit_of c.args.names.now) g.V.Named.before g.V.Named.after g.V.Named.uses g.V.Named.meant c.args.c.now _ _ _ c.in-Select.is refl c.in_err-on-in-Select.field-0.0 c.in_err-on-in-Select.ensures.err)
+    (select_fault (unit_of c.args.names.now) g.V.Named.before g.V.Named.after g.V.Named.uses g.V.Named.meant c.args.c.now _ _ _ c.in-Select.is refl c.in_err-on-in-Select.field-0.0 c.in_err-on-in-Select.ensures.err)
 
 pub copy_cond-returns-in_err-arms-in-Select-clause-err : goal.copy_cond-returns-in_err-arms-in-Select-clause-err
 copy_cond-returns-in_err-arms-in-Select-clause-err g t c =
     passed c.from_residual-in_err-arms-in-Select.result c.in_err-arms-in-Select.field-0.0 _ c.from_residual-in_err-arms-in-Select.ensures.1
-        (select_fault_arms (unit_of c.args.names.now) g.V.Named.before g.V.Named.after g.V.Named.uses g.V.Named.meant c.args.c.now _ _ c.deref-in-Select.result.now c.in-Select.is c.deref-in-Select.ensures.value c.in_err-arms-in-Select.field-0.0 c.in_ok-on-in-Select.ensures.none c.in_err-arms-in-Select.ensures.err)
+    (select_fault_arms (unit_of c.args.names.now) g.V.Named.before g.V.Named.after g.V.Named.uses g.V.Named.meant c.args.c.now _ _ c.deref-in-Select.result.now c.in-Select.is c.deref-in-Select.ensures.value c.in_err-arms-in-Select.field-0.0 c.in_ok-on-in-Select.ensures.none c.in_err-arms-in-Select.ensures.err)
 
 pub copy_cond-returns-in_ok-arms-in-Select-clause-none : goal.copy_cond-returns-in_ok-arms-in-Select-clause-none
 copy_cond-returns-in_ok-arms-in-Select-clause-none g t c =
@@ -76,7 +76,7 @@ copy_cond-returns-in_ok-arms-in-Select-clause-ok g t c =
 pub copy_arm-returns-in_err-body-in-Case-clause-err : goal.copy_arm-returns-in_err-body-in-Case-clause-err
 copy_arm-returns-in_err-body-in-Case-clause-err g t c =
     passed c.from_residual.result c.in_err-body-in-Case.field-0.0 _ c.from_residual.ensures.1
-        (case_fault (unit_of c.args.names.now) g.V.Named.before g.V.Named.after g.V.Named.uses g.V.Named.meant c.args.arm.now c.deref.result.now _ _ c.in-Case.is c.deref.ensures.value c.in_err-body-in-Case.field-0.0 c.in_err-body-in-Case.ensures.err)
+    (case_fault (unit_of c.args.names.now) g.V.Named.before g.V.Named.after g.V.Named.uses g.V.Named.meant c.args.arm.now c.deref.result.now _ _ c.in-Case.is c.deref.ensures.value c.in_err-body-in-Case.field-0.0 c.in_err-body-in-Case.ensures.err)
 
 pub copy_arm-returns-in_ok-body-in-Case-clause-none : goal.copy_arm-returns-in_ok-body-in-Case-clause-none
 copy_arm-returns-in_ok-body-in-Case-clause-none g t c =
@@ -86,13 +86,13 @@ pub copy_arm-returns-in_ok-body-in-Case-clause-ok : goal.copy_arm-returns-in_ok-
 copy_arm-returns-in_ok-body-in-Case-clause-ok g t c =
     let f : SFits w64 c.in-Case.label = search rules in
     subst (λ z. Means (unit_of c.args.names.now) (resolved_arm (at_attribute (unit_of c.args.names.now)) (g.V.Named.meant (unit_of c.args.names.now)) (arm_of path_of g.V.Named.before c.args.arm.now)) (arm_of (λ r. r) g.V.Named.after (Case z c.in_ok-body-in-Case.body)))
-        (sym (to_z-of_z w64 c.in-Case.label f))
-        (case_means (unit_of c.args.names.now) g.V.Named.before g.V.Named.after g.V.Named.uses g.V.Named.meant c.args.arm.now c.deref.result.now _ _ c.in-Case.is c.deref.ensures.value c.in_ok-body-in-Case.body c.in_ok-body-in-Case.ensures.ok)
+    (sym (to_z-of_z w64 c.in-Case.label f))
+    (case_means (unit_of c.args.names.now) g.V.Named.before g.V.Named.after g.V.Named.uses g.V.Named.meant c.args.arm.now c.deref.result.now _ _ c.in-Case.is c.deref.ensures.value c.in_ok-body-in-Case.body c.in_ok-body-in-Case.ensures.ok)
 
 pub copy_arm-returns-in_err-body-in-Default-clause-err : goal.copy_arm-returns-in_err-body-in-Default-clause-err
 copy_arm-returns-in_err-body-in-Default-clause-err g t c =
     passed c.from_residual-in_err-body-in-Default.result c.in_err-body-in-Default.field-0.0 _ c.from_residual-in_err-body-in-Default.ensures.1
-        (default_fault (unit_of c.args.names.now) g.V.Named.before g.V.Named.after g.V.Named.uses g.V.Named.meant c.args.arm.now c.deref-in-Default.result.now _ _ c.in-Default.is c.deref-in-Default.ensures.value c.in_err-body-in-Default.field-0.0 c.in_err-body-in-Default.ensures.err)
+    (default_fault (unit_of c.args.names.now) g.V.Named.before g.V.Named.after g.V.Named.uses g.V.Named.meant c.args.arm.now c.deref-in-Default.result.now _ _ c.in-Default.is c.deref-in-Default.ensures.value c.in_err-body-in-Default.field-0.0 c.in_err-body-in-Default.ensures.err)
 
 pub copy_arm-returns-in_ok-body-in-Default-clause-none : goal.copy_arm-returns-in_ok-body-in-Default-clause-none
 copy_arm-returns-in_ok-body-in-Default-clause-none g t c =
@@ -113,7 +113,7 @@ add_conds-loop-c-preserved g t c =
 pub add_conds-returns-in_err-copy_cond-clause-err : goal.add_conds-returns-in_err-copy_cond-clause-err
 add_conds-returns-in_err-copy_cond-clause-err g t c =
     passed c.from_residual.result c.in_err-copy_cond.field-0.0 _ c.from_residual.ensures.1
-        (stops (unit_of c.args.names.now) (cond_of path_of g.V.Named.before) (cond_of (λ r. r) g.V.Named.after) (λ xs. conds_uses g.V.Named.uses (conds_from xs)) (conds_split g.V.Named.uses) (resolved_cond (at_attribute (unit_of c.args.names.now)) (g.V.Named.meant (unit_of c.args.names.now))) (λ xs. resolved_conds (at_attribute (unit_of c.args.names.now)) (g.V.Named.meant (unit_of c.args.names.now)) (conds_from xs)) conds_from (conds_joined (at_attribute (unit_of c.args.names.now)) (g.V.Named.meant (unit_of c.args.names.now))) c.loop-c.c-index c.args.all.now c.c-item.result c.loop-c.copies.items c.in_err-copy_cond.field-0.0 (omega arith) c.c-item.is (subst (FirstFault c.in_err-copy_cond.field-0.0 (unit_of c.args.names.now)) (one_cond g.V.Named.uses (cond_of path_of g.V.Named.before c.c-item.result)) c.in_err-copy_cond.ensures.err) c.loop-c.invariant)
+    (stops (unit_of c.args.names.now) (cond_of path_of g.V.Named.before) (cond_of (λ r. r) g.V.Named.after) (λ xs. conds_uses g.V.Named.uses (conds_from xs)) (conds_split g.V.Named.uses) (resolved_cond (at_attribute (unit_of c.args.names.now)) (g.V.Named.meant (unit_of c.args.names.now))) (λ xs. resolved_conds (at_attribute (unit_of c.args.names.now)) (g.V.Named.meant (unit_of c.args.names.now)) (conds_from xs)) conds_from (conds_joined (at_attribute (unit_of c.args.names.now)) (g.V.Named.meant (unit_of c.args.names.now))) c.loop-c.c-index c.args.all.now c.c-item.result c.loop-c.copies.items c.in_err-copy_cond.field-0.0 (omega arith) c.c-item.is (subst (FirstFault c.in_err-copy_cond.field-0.0 (unit_of c.args.names.now)) (one_cond g.V.Named.uses (cond_of path_of g.V.Named.before c.c-item.result)) c.in_err-copy_cond.ensures.err) c.loop-c.invariant)
 
 pub add_conds-returns-clause-none : goal.add_conds-returns-clause-none
 add_conds-returns-clause-none g t c =
@@ -134,7 +134,7 @@ add_arms-loop-arm-preserved g t c =
 pub add_arms-returns-in_err-copy_arm-clause-err : goal.add_arms-returns-in_err-copy_arm-clause-err
 add_arms-returns-in_err-copy_arm-clause-err g t c =
     passed c.from_residual.result c.in_err-copy_arm.field-0.0 _ c.from_residual.ensures.1
-        (stops (unit_of c.args.names.now) (arm_of path_of g.V.Named.before) (arm_of (λ r. r) g.V.Named.after) (λ xs. arms_uses g.V.Named.uses (arms_from xs)) (arms_split g.V.Named.uses) (resolved_arm (at_attribute (unit_of c.args.names.now)) (g.V.Named.meant (unit_of c.args.names.now))) (λ xs. resolved_arms (at_attribute (unit_of c.args.names.now)) (g.V.Named.meant (unit_of c.args.names.now)) (arms_from xs)) arms_from (arms_joined (at_attribute (unit_of c.args.names.now)) (g.V.Named.meant (unit_of c.args.names.now))) c.loop-arm.arm-index c.args.arms.now c.arm-item.result c.loop-arm.copies.items c.in_err-copy_arm.field-0.0 (omega arith) c.arm-item.is c.in_err-copy_arm.ensures.err c.loop-arm.invariant)
+    (stops (unit_of c.args.names.now) (arm_of path_of g.V.Named.before) (arm_of (λ r. r) g.V.Named.after) (λ xs. arms_uses g.V.Named.uses (arms_from xs)) (arms_split g.V.Named.uses) (resolved_arm (at_attribute (unit_of c.args.names.now)) (g.V.Named.meant (unit_of c.args.names.now))) (λ xs. resolved_arms (at_attribute (unit_of c.args.names.now)) (g.V.Named.meant (unit_of c.args.names.now)) (arms_from xs)) arms_from (arms_joined (at_attribute (unit_of c.args.names.now)) (g.V.Named.meant (unit_of c.args.names.now))) c.loop-arm.arm-index c.args.arms.now c.arm-item.result c.loop-arm.copies.items c.in_err-copy_arm.field-0.0 (omega arith) c.arm-item.is c.in_err-copy_arm.ensures.err c.loop-arm.invariant)
 
 pub add_arms-returns-clause-none : goal.add_arms-returns-clause-none
 add_arms-returns-clause-none g t c =

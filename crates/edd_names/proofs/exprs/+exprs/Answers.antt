@@ -1,4 +1,4 @@
-use Rattle.std.proofs.Common.{◌≡◌, refl, sym, ap, ◌∙◌, [], ◌∷◌, map, arith}
+use Rattle.std.proofs.Common.{arith}
 use Rattle.std.proofs.Math.ListN.{drop_of_length-le}
 use Rattle.edd_syntax.specs.Expression.{arguments_from}
 use Rattle.edd_syntax.specs.NameUses.{argument_uses}
@@ -20,12 +20,12 @@ add_arguments-loop-argument-init t c = at_start (unit_of c.args.names.now) (argu
 pub add_arguments-loop-argument-preserved : goal.add_arguments-loop-argument-preserved
 add_arguments-loop-argument-preserved t c =
     one_more (unit_of c.args.names.now) (argument_of path_of) (argument_of (λ r. r)) (λ xs. argument_uses (scope_of c.args.scope.now) (arguments_from xs)) (argument_uses_split (scope_of c.args.scope.now)) (resolved_argument (meaning (unit_of c.args.names.now) (scope_of c.args.scope.now) variable_kinds)) (λ xs. resolved_arguments (meaning (unit_of c.args.names.now) (scope_of c.args.scope.now) variable_kinds) (arguments_from xs)) arguments_from (arguments_joined (meaning (unit_of c.args.names.now) (scope_of c.args.scope.now) variable_kinds)) c.loop-argument.argument-index c.args.arguments.now c.argument-item.result c.loop-argument.all.items c.add_argument.new.all.items c.in_ok-add_argument.ensures.ok.0 (omega arith) c.argument-item.is
-        c.in_ok-add_argument.ensures.none c.in_ok-add_argument.ensures.ok.2 c.in_ok-add_argument.ensures.ok.1 c.loop-argument.invariant
+    c.in_ok-add_argument.ensures.none c.in_ok-add_argument.ensures.ok.2 c.in_ok-add_argument.ensures.ok.1 c.loop-argument.invariant
 
 pub add_arguments-returns-in_err-add_argument-clause-err : goal.add_arguments-returns-in_err-add_argument-clause-err
 add_arguments-returns-in_err-add_argument-clause-err t c =
     passed c.from_residual.result c.in_err-add_argument.field-0.0 _ c.from_residual.ensures.1
-        (stops (unit_of c.args.names.now) (argument_of path_of) (argument_of (λ r. r)) (λ xs. argument_uses (scope_of c.args.scope.now) (arguments_from xs)) (argument_uses_split (scope_of c.args.scope.now)) (resolved_argument (meaning (unit_of c.args.names.now) (scope_of c.args.scope.now) variable_kinds)) (λ xs. resolved_arguments (meaning (unit_of c.args.names.now) (scope_of c.args.scope.now) variable_kinds) (arguments_from xs)) arguments_from (arguments_joined (meaning (unit_of c.args.names.now) (scope_of c.args.scope.now) variable_kinds)) c.loop-argument.argument-index c.args.arguments.now c.argument-item.result c.loop-argument.all.items c.in_err-add_argument.field-0.0 (omega arith) c.argument-item.is c.in_err-add_argument.ensures.err c.loop-argument.invariant)
+    (stops (unit_of c.args.names.now) (argument_of path_of) (argument_of (λ r. r)) (λ xs. argument_uses (scope_of c.args.scope.now) (arguments_from xs)) (argument_uses_split (scope_of c.args.scope.now)) (resolved_argument (meaning (unit_of c.args.names.now) (scope_of c.args.scope.now) variable_kinds)) (λ xs. resolved_arguments (meaning (unit_of c.args.names.now) (scope_of c.args.scope.now) variable_kinds) (arguments_from xs)) arguments_from (arguments_joined (meaning (unit_of c.args.names.now) (scope_of c.args.scope.now) variable_kinds)) c.loop-argument.argument-index c.args.arguments.now c.argument-item.result c.loop-argument.all.items c.in_err-add_argument.field-0.0 (omega arith) c.argument-item.is c.in_err-add_argument.ensures.err c.loop-argument.invariant)
 
 pub add_arguments-returns-clause-none : goal.add_arguments-returns-clause-none
 add_arguments-returns-clause-none t c =
@@ -38,7 +38,7 @@ add_arguments-returns-clause-ok t c =
 pub copy_expr-returns-in_err-arguments-in-Call-clause-err : goal.copy_expr-returns-in_err-arguments-in-Call-clause-err
 copy_expr-returns-in_err-arguments-in-Call-clause-err t c =
     passed c.from_residual-in_err-arguments-in-Call.result c.in_err-arguments-in-Call.field-0.0 _ c.from_residual-in_err-arguments-in-Call.ensures.1
-        (call_fault (unit_of c.args.names.now) c.args.e.now _ _ _ c.deref-in-Call.result.now c.in-Call.is c.deref-in-Call.ensures.value (scope_of c.args.scope.now) c.in_err-arguments-in-Call.field-0.0 c.in_ok-function-in-Call.ensures.none c.in_err-arguments-in-Call.ensures.err)
+    (call_fault (unit_of c.args.names.now) c.args.e.now _ _ _ c.deref-in-Call.result.now c.in-Call.is c.deref-in-Call.ensures.value (scope_of c.args.scope.now) c.in_err-arguments-in-Call.field-0.0 c.in_ok-function-in-Call.ensures.none c.in_err-arguments-in-Call.ensures.err)
 
 pub copy_expr-returns-in_ok-arguments-in-Call-clause-none : goal.copy_expr-returns-in_ok-arguments-in-Call-clause-none
 copy_expr-returns-in_ok-arguments-in-Call-clause-none t c =

@@ -1,4 +1,4 @@
-use Rattle.std.proofs.Common.{◌≡◌, sym, ◌∙◌}
+use Rattle.std.proofs.Common.{sym, ◌∙◌}
 use Rattle.edd_names.specs.Directory.{unit_of}
 use Rattle.edd_names.proofs.PathLaws.{arrives, unknown}
 use Rattle.edd_names.proofs.follow.arrive.Goals as goal

@@ -11,6 +11,6 @@ use Rattle.edd_names.proofs.follow.follow.Given as goal
 abbrev pub invariant-loop-member : goal.invariant-loop-member
 invariant-loop-member l =
     Reaches (unit_of l.names) l.allowed
-        (faults_along (unit_of l.names) l.allowed (string_bytes l.path.base) (kind_of l.fn.from) (Some l.fn.from) (map string_bytes l.path.members.items))
-        (along (unit_of l.names) l.fn.from (map string_bytes l.path.members.items))
-        l.place (map string_bytes (drop l.member-index l.path.members.items))
+    (faults_along (unit_of l.names) l.allowed (string_bytes l.path.base) (kind_of l.fn.from) (Some l.fn.from) (map string_bytes l.path.members.items))
+    (along (unit_of l.names) l.fn.from (map string_bytes l.path.members.items))
+    l.place (map string_bytes (drop l.member-index l.path.members.items))

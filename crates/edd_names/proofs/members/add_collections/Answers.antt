@@ -1,4 +1,4 @@
-use Rattle.std.proofs.Common.{◌≡◌, sym, ap, [], map, take, subst, arith}
+use Rattle.std.proofs.Common.{sym, [], map, subst, arith}
 use Rattle.std.specs.Prelude.{filter}
 use Rattle.edd_syntax.specs.declared.numbers.Kind.TheVariants as kind
 use Rattle.edd_syntax.specs.Item.{kind_of_item}
@@ -16,7 +16,7 @@ loop-item-init c = subst (λ cs. AreCollections cs []) (sym c.requires) tt
 pub loop-item-preserved : goal.loop-item-preserved
 loop-item-preserved c =
     subst (AreCollections c.add_collection.new.all.items) (filtered_more (item_of path_of) (λ i. same_kind (kind_of_item i.sort) kind.Collection) c.loop-item.item-index c.args.items.now c.item-item.result (omega arith) c.item-item.is)
-        (c.in_ok-add_collection.ensures.ok _ c.loop-item.invariant)
+    (c.in_ok-add_collection.ensures.ok _ c.loop-item.invariant)
 
 pub returns-clause-ok : goal.returns-clause-ok
 returns-clause-ok c =

@@ -1,4 +1,4 @@
-use Rattle.std.proofs.Common.{◌≡◌, refl, sym, ap, ◌∙◌, [], ◌∷◌, ◌++◌, List, None, map, subst, arith}
+use Rattle.std.proofs.Common.{◌≡◌, refl, sym, ap, ◌∙◌, [], ◌++◌, List, None, map, subst, arith}
 use Rattle.std.specs.Prelude.{OnOk, IfErr}
 use Rattle.std.proofs.Math.ListN.{drop_of_length-le}
 use Rattle.edd_syntax.specs.NameRules.{repeated_locals, repeated_inside}
@@ -21,13 +21,13 @@ check_parts-loop-part-init t c = λ b h. walked_at_start (part_of path_of) names
 pub check_parts-loop-part-preserved : goal.check_parts-loop-part-preserved
 check_parts-loop-part-preserved t c = λ b h.
     walked_more (part_of path_of) names_of_part part_repeats (λ b ps. repeated_locals b (body_from ps)) part_step b c.loop-part.block c.check_part.new.block c.loop-part.part-index c.args.parts.now c.part-item.result (omega arith) c.part-item.is
-        c.in_ok-check_part.ensures.ok (c.loop-part.invariant b h)
+    c.in_ok-check_part.ensures.ok (c.loop-part.invariant b h)
 
 pub check_parts-returns-in_err-check_part-clause-err : goal.check_parts-returns-in_err-check_part-clause-err
 check_parts-returns-in_err-check_part-clause-err t c =
     passed c.from_residual.result c.in_err-check_part.field-0.0 _ c.from_residual.ensures.1
-        (λ b h. walked_stops (part_of path_of) names_of_part part_repeats (λ b ps. repeated_locals b (body_from ps)) part_step b c.in_err-check_part.field-0.0 c.loop-part.block c.loop-part.part-index c.args.parts.now c.part-item.result (omega arith) c.part-item.is
-            c.in_err-check_part.ensures.err (c.loop-part.invariant b h))
+    (λ b h. walked_stops (part_of path_of) names_of_part part_repeats (λ b ps. repeated_locals b (body_from ps)) part_step b c.in_err-check_part.field-0.0 c.loop-part.block c.loop-part.part-index c.args.parts.now c.part-item.result (omega arith) c.part-item.is
+    c.in_err-check_part.ensures.err (c.loop-part.invariant b h))
 
 pub check_parts-returns-clause-ok : goal.check_parts-returns-clause-ok
 check_parts-returns-clause-ok t c = λ b h.
@@ -48,5 +48,5 @@ check_inside-returns-in-Switch-clause-err t c = subst (λ ns. IfErr c.check_bloc
 pub check_part-returns-in-Declare-clause-ok : goal.check_part-returns-in-Declare-clause-ok
 check_part-returns-in-Declare-clause-ok t c =
     subst (λ p. OnOk c.note_declarators.result ((b : List Name) → HasSeen b c.args.block.now → (None ≡ first_of (part_repeats b p)) × HasSeen (names_of_part p ++ b) c.note_declarators.new.seen))
-        (ap (λ xs. Declare (map (declarator_of path_of) xs)) c.deref.ensures.value ∙ ap (part_of path_of) (sym c.in-Declare.is))
-        c.note_declarators.ensures.ok
+    (ap (λ xs. Declare (map (declarator_of path_of) xs)) c.deref.ensures.value ∙ ap (part_of path_of) (sym c.in-Declare.is))
+    c.note_declarators.ensures.ok

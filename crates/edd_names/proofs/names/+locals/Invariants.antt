@@ -1,8 +1,7 @@
-use Rattle.std.proofs.Common.{List, [], ◌∷◌}
-use Rattle.edd_syntax.specs.NameRules.{repeated_locals, repeated_inside}
+use Rattle.std.proofs.Common.{List}
+use Rattle.edd_syntax.specs.NameRules.{repeated_locals}
 use Rattle.edd_syntax.specs.Statement.{body_from}
 use Rattle.edd_syntax.specs.TreeView.{path_of, part_of}
-use Rattle.edd_syntax.proofs.TreeRows.{block_is, switch_is}
 use Rattle.edd_names.specs.Scopes.{part_repeats, names_of_part}
 use Rattle.edd_names.proofs.ScopeSteps.{part_step}
 use Rattle.edd_syntax.specs.Text.{Name}

@@ -1,4 +1,4 @@
-use Rattle.std.proofs.Common.{List, [], ◌∷◌}
+use Rattle.std.proofs.Common.{List}
 use Rattle.edd_syntax.specs.ItemView.{attribute_of}
 use Rattle.edd_syntax.specs.NameRules.{repeated_in_attributes}
 use Rattle.edd_syntax.specs.TreeView.{path_of}

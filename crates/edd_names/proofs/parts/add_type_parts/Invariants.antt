@@ -1,8 +1,7 @@
-use Rattle.std.proofs.Common.{[], ◌∷◌}
 use Rattle.std.specs.List.{flat_map}
 use Rattle.edd_syntax.specs.ItemView.{type_part_of}
-use Rattle.edd_syntax.specs.NameUses.{OfItem, type_part_uses, transaction_part_uses}
-use Rattle.edd_syntax.specs.ResolvedTrees.{each, resolved_type_part, resolved_transaction_part, resolved_member}
+use Rattle.edd_syntax.specs.NameUses.{type_part_uses}
+use Rattle.edd_syntax.specs.ResolvedTrees.{each, resolved_type_part}
 use Rattle.edd_syntax.specs.TreeView.{path_of}
 use Rattle.edd_names.specs.Directory.{unit_of}
 use Rattle.edd_names.proofs.Copying.{Copied}

@@ -1,4 +1,4 @@
-use Rattle.std.proofs.Common.{◌≡◌, sym, ap, ◌∙◌, map, Some}
+use Rattle.std.proofs.Common.{sym, ap, ◌∙◌, map, Some}
 use Rattle.edd_syntax.specs.Item.{Request, Reply}
 use Rattle.edd_syntax.specs.Conditional.{conds_from}
 use Rattle.edd_syntax.specs.ItemView.{cond_of, data_item_of, transaction_part_of}

@@ -1,10 +1,8 @@
 use Rattle.std.proofs.Common.{[], ◌∷◌}
-use Rattle.std.specs.List.{flat_map}
 use Rattle.edd_syntax.specs.ItemView.{attribute_of}
 use Rattle.edd_syntax.specs.NameRules.{attribute_word, repeated_words}
 use Rattle.edd_syntax.specs.TreeView.{path_of}
 use Rattle.edd_names.specs.Walks.{repeated_here}
-use Rattle.std.proofs.lemmas.List.Concat.{flat_map_single}
 use Rattle.edd_names.proofs.RepeatedWords.{words_step, here_same}
 use Rattle.edd_names.proofs.SeenBefore.{Seen}
 use Rattle.edd_names.proofs.repeats.repeated_attribute.Given as goal

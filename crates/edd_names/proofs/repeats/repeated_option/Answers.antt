@@ -1,4 +1,4 @@
-use Rattle.std.proofs.Common.{◌≡◌, ◌∙◌, ap, sym, List, [], ◌∷◌, take, map, arith, refl}
+use Rattle.std.proofs.Common.{arith, refl}
 use Rattle.std.specs.List.{flat_map}
 use Rattle.std.proofs.Math.ListN.{drop_of_length-le}
 use Rattle.edd_syntax.specs.ItemView.{type_part_of}
@@ -6,7 +6,6 @@ use Rattle.edd_syntax.specs.NameRules.{type_part_words}
 use Rattle.edd_syntax.specs.Refusal.{repeated}
 use Rattle.edd_syntax.specs.TreeView.{path_of}
 use Rattle.edd_names.proofs.RepeatedWords.{options_step, options_same}
-use Rattle.edd_syntax.specs.Refusal.{first_of}
 use Rattle.edd_names.proofs.SeenBefore.{at_start, goes_on, stops_at, at_the_end}
 use Rattle.edd_names.proofs.repeats.repeated_option.Goals as goal
 

@@ -1,4 +1,3 @@
-use Rattle.std.proofs.Common.{[], ◌∷◌}
 use Rattle.std.specs.List.{flat_map}
 use Rattle.edd_syntax.specs.ItemView.{type_part_of}
 use Rattle.edd_syntax.specs.NameRules.{type_part_words}

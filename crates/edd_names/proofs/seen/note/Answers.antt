@@ -1,4 +1,4 @@
-use Rattle.std.proofs.Common.{◌≡◌, sym, ap, ◌∙◌, [], ◌∷◌}
+use Rattle.std.proofs.Common.{sym, ◌∙◌}
 use Rattle.edd_names.proofs.Noting.{is_new, seen_more}
 use Rattle.edd_names.proofs.seen.note.Goals as goal
 

@@ -1,10 +1,9 @@
 use Rattle.std.proofs.Common.{◌∙◌, ap}
-use Rattle.edd_syntax.specs.ItemView.{enumerator_of, entry_of, data_item_of}
-use Rattle.edd_syntax.specs.Size.{nodes, leaf}
-use Rattle.edd_syntax.specs.TreeView.{path_of, expr_of}
+use Rattle.edd_syntax.specs.Size.{leaf}
+use Rattle.edd_syntax.specs.TreeView.{path_of}
 use Rattle.edd_syntax.specs.WordsView.{text_of}
 use Rattle.edd_names.specs.Spending.{spent}
-use Rattle.edd_names.proofs.ValueNodes.{nodes_of_cond, nodes_of_list}
+use Rattle.edd_names.proofs.ValueNodes.{nodes_of_cond}
 use Rattle.edd_names.proofs.values.spend_text.Goals as goal
 
 pub returns : goal.returns
