@@ -1,2 +1,11 @@
+pub mod Directory
+pub mod Faults
+pub mod Meanings
+pub mod Members
+pub mod Numbering
+pub mod Paths
+pub mod ResolvedParts
+pub mod Scopes
+pub mod Seen
 pub mod Spending
 pub mod Walks

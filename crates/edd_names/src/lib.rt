@@ -2,6 +2,28 @@
 #![tactic(auto)]
 
 mod attributes;
+mod branches;
+mod conds;
 mod counts;
+mod declarators;
+mod directory;
+mod exprs;
+pub mod fault;
+mod follow;
+mod items;
+mod leaves;
+mod lookups;
+mod members;
+mod names;
 mod nodes;
+mod numbering;
+mod parts;
+mod references;
 mod repeats;
+mod rules;
+mod seen;
+mod sizes;
+mod slots;
+mod target;
+mod texts;
+mod values;

@@ -1,0 +1,49 @@
+use Rattle.std.proofs.Common.{arith}
+use Rattle.std.proofs.Math.ListN.{drop_of_length-le}
+use Rattle.edd_syntax.specs.Expression.{arguments_from}
+use Rattle.edd_syntax.specs.NameUses.{argument_uses}
+use Rattle.edd_syntax.specs.Resolution.{meaning, variable_kinds}
+use Rattle.edd_syntax.specs.ResolvedTrees.{resolved_arguments}
+use Rattle.edd_syntax.specs.TreeView.{path_of, argument_of}
+use Rattle.edd_names.specs.Directory.{unit_of}
+use Rattle.edd_names.specs.Meanings.{scope_of}
+use Rattle.edd_names.specs.ResolvedParts.{resolved_argument}
+use Rattle.edd_names.proofs.Copying.{at_start, one_more, stops, none_at_end, meant_at_end}
+use Rattle.edd_names.proofs.ExprSteps.{argument_uses_split, arguments_joined, no_arguments, call_none, call_fault, call_means}
+use Rattle.edd_names.proofs.UseLaws.{no_use}
+use Rattle.edd_names.proofs.Passing.{passed}
+use Rattle.edd_names.proofs.exprs.+exprs.Goals as goal
+
+pub add_arguments-loop-argument-init : goal.add_arguments-loop-argument-init
+add_arguments-loop-argument-init t c = at_start (unit_of c.args.names.now) (argument_of path_of) (argument_of (λ r. r)) (λ xs. argument_uses (scope_of c.args.scope.now) (arguments_from xs)) (argument_uses_split (scope_of c.args.scope.now)) (resolved_argument (meaning (unit_of c.args.names.now) (scope_of c.args.scope.now) variable_kinds)) (λ xs. resolved_arguments (meaning (unit_of c.args.names.now) (scope_of c.args.scope.now) variable_kinds) (arguments_from xs)) arguments_from (arguments_joined (meaning (unit_of c.args.names.now) (scope_of c.args.scope.now) variable_kinds)) c.args.arguments.now c.args.all.now.items c.requires
+
+pub add_arguments-loop-argument-preserved : goal.add_arguments-loop-argument-preserved
+add_arguments-loop-argument-preserved t c =
+    one_more (unit_of c.args.names.now) (argument_of path_of) (argument_of (λ r. r)) (λ xs. argument_uses (scope_of c.args.scope.now) (arguments_from xs)) (argument_uses_split (scope_of c.args.scope.now)) (resolved_argument (meaning (unit_of c.args.names.now) (scope_of c.args.scope.now) variable_kinds)) (λ xs. resolved_arguments (meaning (unit_of c.args.names.now) (scope_of c.args.scope.now) variable_kinds) (arguments_from xs)) arguments_from (arguments_joined (meaning (unit_of c.args.names.now) (scope_of c.args.scope.now) variable_kinds)) c.loop-argument.argument-index c.args.arguments.now c.argument-item.result c.loop-argument.all.items c.add_argument.new.all.items c.in_ok-add_argument.ensures.ok.0 (omega arith) c.argument-item.is
+    c.in_ok-add_argument.ensures.none c.in_ok-add_argument.ensures.ok.2 c.in_ok-add_argument.ensures.ok.1 c.loop-argument.invariant
+
+pub add_arguments-returns-in_err-add_argument-clause-err : goal.add_arguments-returns-in_err-add_argument-clause-err
+add_arguments-returns-in_err-add_argument-clause-err t c =
+    passed c.from_residual.result c.in_err-add_argument.field-0.0 _ c.from_residual.ensures.1
+    (stops (unit_of c.args.names.now) (argument_of path_of) (argument_of (λ r. r)) (λ xs. argument_uses (scope_of c.args.scope.now) (arguments_from xs)) (argument_uses_split (scope_of c.args.scope.now)) (resolved_argument (meaning (unit_of c.args.names.now) (scope_of c.args.scope.now) variable_kinds)) (λ xs. resolved_arguments (meaning (unit_of c.args.names.now) (scope_of c.args.scope.now) variable_kinds) (arguments_from xs)) arguments_from (arguments_joined (meaning (unit_of c.args.names.now) (scope_of c.args.scope.now) variable_kinds)) c.loop-argument.argument-index c.args.arguments.now c.argument-item.result c.loop-argument.all.items c.in_err-add_argument.field-0.0 (omega arith) c.argument-item.is c.in_err-add_argument.ensures.err c.loop-argument.invariant)
+
+pub add_arguments-returns-clause-none : goal.add_arguments-returns-clause-none
+add_arguments-returns-clause-none t c =
+    none_at_end (unit_of c.args.names.now) (argument_of path_of) (argument_of (λ r. r)) (λ xs. argument_uses (scope_of c.args.scope.now) (arguments_from xs)) (argument_uses_split (scope_of c.args.scope.now)) (resolved_argument (meaning (unit_of c.args.names.now) (scope_of c.args.scope.now) variable_kinds)) (λ xs. resolved_arguments (meaning (unit_of c.args.names.now) (scope_of c.args.scope.now) variable_kinds) (arguments_from xs)) arguments_from (arguments_joined (meaning (unit_of c.args.names.now) (scope_of c.args.scope.now) variable_kinds)) (no_use (unit_of c.args.names.now)) c.loop-argument.argument-index c.args.arguments.now c.loop-argument.all.items (drop_of_length-le c.args.arguments.now (omega arith)) c.loop-argument.invariant
+
+pub add_arguments-returns-clause-ok : goal.add_arguments-returns-clause-ok
+add_arguments-returns-clause-ok t c =
+    meant_at_end (unit_of c.args.names.now) (argument_of path_of) (argument_of (λ r. r)) (λ xs. argument_uses (scope_of c.args.scope.now) (arguments_from xs)) (argument_uses_split (scope_of c.args.scope.now)) (resolved_argument (meaning (unit_of c.args.names.now) (scope_of c.args.scope.now) variable_kinds)) (λ xs. resolved_arguments (meaning (unit_of c.args.names.now) (scope_of c.args.scope.now) variable_kinds) (arguments_from xs)) arguments_from (arguments_joined (meaning (unit_of c.args.names.now) (scope_of c.args.scope.now) variable_kinds)) (no_arguments (meaning (unit_of c.args.names.now) (scope_of c.args.scope.now) variable_kinds)) c.loop-argument.argument-index c.args.arguments.now c.loop-argument.all.items (drop_of_length-le c.args.arguments.now (omega arith)) c.loop-argument.invariant
+
+pub copy_expr-returns-in_err-arguments-in-Call-clause-err : goal.copy_expr-returns-in_err-arguments-in-Call-clause-err
+copy_expr-returns-in_err-arguments-in-Call-clause-err t c =
+    passed c.from_residual-in_err-arguments-in-Call.result c.in_err-arguments-in-Call.field-0.0 _ c.from_residual-in_err-arguments-in-Call.ensures.1
+    (call_fault (unit_of c.args.names.now) c.args.e.now _ _ _ c.deref-in-Call.result.now c.in-Call.is c.deref-in-Call.ensures.value (scope_of c.args.scope.now) c.in_err-arguments-in-Call.field-0.0 c.in_ok-function-in-Call.ensures.none c.in_err-arguments-in-Call.ensures.err)
+
+pub copy_expr-returns-in_ok-arguments-in-Call-clause-none : goal.copy_expr-returns-in_ok-arguments-in-Call-clause-none
+copy_expr-returns-in_ok-arguments-in-Call-clause-none t c =
+    call_none (unit_of c.args.names.now) c.args.e.now _ _ _ c.deref-in-Call.result.now c.in-Call.is c.deref-in-Call.ensures.value (scope_of c.args.scope.now) c.in_ok-function-in-Call.ensures.none c.in_ok-arguments-in-Call.ensures.none
+
+pub copy_expr-returns-in_ok-arguments-in-Call-clause-ok : goal.copy_expr-returns-in_ok-arguments-in-Call-clause-ok
+copy_expr-returns-in_ok-arguments-in-Call-clause-ok t c =
+    call_means (unit_of c.args.names.now) c.args.e.now _ _ _ c.deref-in-Call.result.now c.in-Call.is c.deref-in-Call.ensures.value (meaning (unit_of c.args.names.now) (scope_of c.args.scope.now) variable_kinds) c.in_ok-function-in-Call.function c.in_ok-arguments-in-Call.arguments c.in_ok-function-in-Call.ensures.ok c.in_ok-arguments-in-Call.ensures.ok

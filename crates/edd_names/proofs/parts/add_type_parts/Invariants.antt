@@ -1,0 +1,14 @@
+use Rattle.std.specs.List.{flat_map}
+use Rattle.edd_syntax.specs.ItemView.{type_part_of}
+use Rattle.edd_syntax.specs.NameUses.{type_part_uses}
+use Rattle.edd_syntax.specs.ResolvedTrees.{each, resolved_type_part}
+use Rattle.edd_syntax.specs.TreeView.{path_of}
+use Rattle.edd_names.specs.Directory.{unit_of}
+use Rattle.edd_names.proofs.Copying.{Copied}
+use Rattle.edd_names.proofs.ExprSteps.{each_joined}
+use Rattle.edd_names.proofs.FirstLaws.{flat_split}
+use Rattle.edd_names.proofs.parts.add_type_parts.Given as goal
+
+-- those so far are copied
+abbrev pub invariant-loop-type_part : goal.invariant-loop-type_part
+invariant-loop-type_part l = Copied (unit_of l.fn.names) (type_part_of path_of) (type_part_of (λ r. r)) (flat_map type_part_uses) (flat_split type_part_uses) (resolved_type_part (unit_of l.fn.names)) (each (resolved_type_part (unit_of l.fn.names))) (λ ws. ws) (each_joined (resolved_type_part (unit_of l.fn.names))) l.type_part-index l.type_parts l.copies.items

@@ -1,0 +1,7 @@
+use Rattle.std.proofs.Common.{◌≡◌, map, take}
+use Rattle.std.specs.Prelude.{string_bytes}
+use Rattle.edd_names.proofs.texts.add_words.Given as goal
+
+-- those so far are copied
+abbrev pub invariant-loop-word : goal.invariant-loop-word
+invariant-loop-word l = map string_bytes l.copies.items ≡ map string_bytes (take l.word-index l.words)

@@ -1,0 +1,122 @@
+//! Declared locals with the meaning of the names in their values.
+
+ghost use Rattle.std.specs.Prelude.{◌≡◌, ◌+◌, ◌<◌, ◌≤◌, ◌++◌, [], ◌∷◌, IfErr, IfOk, OnErr, OnOk, length, map, option_map};
+ghost use Rattle.edd_syntax.specs.declared.reference.Target.TheVariants as target;
+ghost use Rattle.edd_syntax.specs.declared.stmt.Declarator.{Declarator};
+ghost use Rattle.edd_syntax.specs.declared.reference.Target.{Target};
+ghost use Rattle.edd_syntax.specs.NameUses.{optional_uses, declarator_uses};
+ghost use Rattle.edd_syntax.specs.Resolution.{all_declared, declared};
+ghost use Rattle.edd_syntax.specs.ResolvedTrees.{at_scope, resolved_optional, resolved_declarators};
+ghost use Rattle.edd_syntax.specs.TreeView.{path_of, expr_of, declarator_of};
+ghost use Rattle.edd_names.specs.declared.fault.NameFault.TheVariants.{NoMemory};
+ghost use Rattle.edd_names.specs.Directory.{unit_of};
+ghost use Rattle.edd_names.specs.Meanings.{Means, NoFault, FirstFault, scope_of};
+ghost use Rattle.edd_names.specs.ResolvedParts.{resolved_declarator};
+
+use crate::directory::Names;
+use crate::exprs::copy_expr;
+use crate::fault::NameFault;
+use crate::references::Local;
+use edd_syntax::expr::Expr;
+use edd_syntax::reference::{Path, Target};
+use edd_syntax::stmt::Declarator;
+
+/// An expression that may be missing, with the meaning of its names.
+#[tactic(auto, using(crate::proofs::UseLaws::faults), unfolding(crate::specs::Meanings::Means))]
+pub fn copy_optional(
+    e: &Option<Expr<Path>>,
+    names: &Names,
+    scope: &[Local],
+) -> Result<Option<Expr<Target>>, NameFault>
+    ensures none { IfOk result (λ t. NoFault (unit_of names.now) (optional_uses (scope_of scope.now) (option_map (expr_of path_of) e.now))) }
+    ensures ok { IfOk result (λ t. Means (unit_of names.now)
+        (resolved_optional (at_scope (unit_of names.now) (scope_of scope.now)) (option_map (expr_of path_of) e.now)) (option_map (expr_of (λ r. r)) t)) }
+    ensures err { IfErr result (λ f. FirstFault f (unit_of names.now) (optional_uses (scope_of scope.now) (option_map (expr_of path_of) e.now))) }
+{
+    match e {
+        Some(e) => Ok(Some(copy_expr(e, names, scope)?)),
+        None => Ok(None),
+    }
+}
+
+/// One more local, which hides those of its name.
+pub fn declare<'a>(scope: &mut Vec<Local<'a>>, place: &'a Path, slot: u8) -> Result<(), NameFault>
+    ensures ok { OnOk result (scope_of scope.new.items ≡ declared (path_of place.now) slot (scope_of scope.old.items)) }
+    ensures err { IfErr result (λ f. f ≡ NoMemory) }
+{
+    scope.insert(
+        0,
+        Local {
+            name: &place.base,
+            slot,
+        },
+    )?;
+    Ok(())
+}
+
+#[tactic(auto, using(crate::proofs::UseLaws::faults), unfolding(crate::specs::Meanings::Means))]
+fn copy_declarator(
+    declarator: &Declarator<Path>,
+    names: &Names,
+    scope: &[Local],
+    slot: u8,
+) -> Result<Declarator<Target>, NameFault>
+    ensures none { IfOk result (λ t. NoFault (unit_of names.now) (optional_uses (scope_of scope.now) (declarator_of path_of declarator.now).value)) }
+    ensures ok { IfOk result (λ t. Means (unit_of names.now)
+        (resolved_declarator (unit_of names.now) (scope_of scope.now) slot (declarator_of path_of declarator.now)) (declarator_of (λ r. r) t)) }
+    ensures err { IfErr result (λ f. FirstFault f (unit_of names.now) (optional_uses (scope_of scope.now) (declarator_of path_of declarator.now).value)) }
+{
+    let value = copy_optional(&declarator.value, names, scope)?;
+    Ok(Declarator {
+        place: Target::Local(slot),
+        value,
+    })
+}
+
+// One more declarator: its value is copied in the scope before it, and its local stands in the scope behind it.
+#[tactic(auto, using(crate::proofs::UseLaws::faults))]
+fn add_declarator<'a>(
+    declarator: &'a Declarator<Path>,
+    names: &Names,
+    scope: &mut Vec<Local<'a>>,
+    next: &mut u8,
+    copies: &mut Vec<Declarator<Target>>,
+) -> Result<(), NameFault>
+    requires { next.old < 64 }
+    ensures none { OnOk result (NoFault (unit_of names.now) (optional_uses (scope_of scope.old.items) (declarator_of path_of declarator.now).value)) }
+    ensures ok { OnOk result ((z : Declarator Target) × (copies.new.items ≡ copies.old.items ++ z ∷ [])
+        × Means (unit_of names.now) (resolved_declarator (unit_of names.now) (scope_of scope.old.items) next.old (declarator_of path_of declarator.now)) (declarator_of (λ r. r) z)) }
+    ensures scope { OnOk result (scope_of scope.new.items ≡ declared (declarator_of path_of declarator.now).place next.old (scope_of scope.old.items)) }
+    ensures next { OnOk result (next.new ≡ next.old + 1) }
+    ensures err { IfErr result (λ f. FirstFault f (unit_of names.now) (optional_uses (scope_of scope.old.items) (declarator_of path_of declarator.now).value)) }
+{
+    let copy = copy_declarator(declarator, names, scope, *next)?;
+    copies.push(copy)?;
+    declare(scope, &declarator.place, *next)?;
+    *next += 1;
+    Ok(())
+}
+
+/// Declarators with the meaning of the names in their values, and the scope and the next slot behind them.
+#[tactic(auto, using(crate::proofs::UseLaws::faults))]
+pub fn add_declarators<'a>(
+    declarators: &'a [Declarator<Path>],
+    names: &Names,
+    scope: &mut Vec<Local<'a>>,
+    next: &mut u8,
+    copies: &mut Vec<Declarator<Target>>,
+) -> Result<(), NameFault>
+    requires room { next.old + length declarators.now ≤ 64 }
+    requires empty { copies.old.items ≡ [] }
+    ensures none { OnOk result (NoFault (unit_of names.now) (declarator_uses (scope_of scope.old.items) next.old (map (declarator_of path_of) declarators.now))) }
+    ensures ok { OnOk result (Means (unit_of names.now)
+        (resolved_declarators (unit_of names.now) (scope_of scope.old.items) next.old (map (declarator_of path_of) declarators.now)) (map (declarator_of (λ r. r)) copies.new.items)) }
+    ensures scope { OnOk result (scope_of scope.new.items ≡ all_declared (scope_of scope.old.items) next.old (map (declarator_of path_of) declarators.now)) }
+    ensures next { OnOk result (next.new ≡ next.old + length declarators.now) }
+    ensures err { IfErr result (λ f. FirstFault f (unit_of names.now) (declarator_uses (scope_of scope.old.items) next.old (map (declarator_of path_of) declarators.now))) }
+{
+    for declarator in declarators {
+        add_declarator(declarator, names, scope, next, copies)?;
+    }
+    Ok(())
+}

@@ -1,0 +1,186 @@
+//! What stands in the braces of types, transactions and collections, with the meaning of its names.
+
+ghost use Rattle.std.specs.Prelude.{◌≡◌, [], ◌∷◌, IfErr, IfOk, OnOk, map};
+ghost use Rattle.std.specs.List.{flat_map};
+ghost use Rattle.edd_syntax.specs.ItemView.{type_part_of, transaction_part_of, member_of};
+ghost use Rattle.edd_syntax.specs.NameUses.{type_part_uses, transaction_part_uses};
+ghost use Rattle.edd_syntax.specs.ResolvedTrees.{each, resolved_type_part, resolved_transaction_part, resolved_member};
+ghost use Rattle.edd_syntax.specs.TreeView.{path_of};
+ghost use Rattle.edd_names.specs.Directory.{unit_of};
+ghost use Rattle.edd_names.specs.ResolvedParts.{member_uses};
+ghost use Rattle.edd_names.specs.Meanings.{Means, NoFault, FirstFault};
+
+use crate::branches::{copy_cond, copy_conds};
+use crate::directory::Names;
+use crate::fault::NameFault;
+use crate::references::refer;
+use crate::texts::copy_optional_text;
+use edd_syntax::item::{Member, TransactionPart, TypePart};
+use edd_syntax::numbers::Kind;
+use edd_syntax::reference::{Path, Target};
+
+#[tactic(auto, using(crate::proofs::UseLaws::faults), unfolding(crate::specs::Meanings::Means))]
+fn copy_type_part(type_part: &TypePart<Path>, names: &Names) -> Result<TypePart<Target>, NameFault>
+    ensures none { IfOk result (λ t. NoFault (unit_of names.now) (type_part_uses (type_part_of path_of type_part.now))) }
+    ensures ok { IfOk result (λ t. Means (unit_of names.now) (resolved_type_part (unit_of names.now) (type_part_of path_of type_part.now)) (type_part_of (λ r. r) t)) }
+    ensures err { IfErr result (λ f. FirstFault f (unit_of names.now) (type_part_uses (type_part_of path_of type_part.now))) }
+{
+    match type_part {
+        TypePart::DefaultValue { line, value } => Ok(TypePart::DefaultValue {
+            line: *line,
+            value: copy_cond(value, names)?,
+        }),
+        TypePart::MinValue { line, value } => Ok(TypePart::MinValue {
+            line: *line,
+            value: copy_cond(value, names)?,
+        }),
+        TypePart::MaxValue { line, value } => Ok(TypePart::MaxValue {
+            line: *line,
+            value: copy_cond(value, names)?,
+        }),
+        TypePart::DisplayFormat { line, format } => Ok(TypePart::DisplayFormat {
+            line: *line,
+            format: copy_cond(format, names)?,
+        }),
+        TypePart::EditFormat { line, format } => Ok(TypePart::EditFormat {
+            line: *line,
+            format: copy_cond(format, names)?,
+        }),
+        TypePart::Element(element) => Ok(TypePart::Element(copy_cond(element, names)?)),
+    }
+}
+
+#[tactic(auto, using(crate::proofs::UseLaws::faults))]
+fn add_type_parts(
+    type_parts: &[TypePart<Path>],
+    names: &Names,
+    copies: &mut Vec<TypePart<Target>>,
+) -> Result<(), NameFault>
+    requires { copies.old.items ≡ [] }
+    ensures none { OnOk result (NoFault (unit_of names.now) (flat_map type_part_uses (map (type_part_of path_of) type_parts.now))) }
+    ensures ok { OnOk result (Means (unit_of names.now) (each (resolved_type_part (unit_of names.now)) (map (type_part_of path_of) type_parts.now)) (map (type_part_of (λ r. r)) copies.new.items)) }
+    ensures err { IfErr result (λ f. FirstFault f (unit_of names.now) (flat_map type_part_uses (map (type_part_of path_of) type_parts.now))) }
+{
+    for type_part in type_parts {
+        copies.push(copy_type_part(type_part, names)?)?;
+    }
+    Ok(())
+}
+
+/// The options and elements of a type with the meaning of the names in them.
+#[tactic(auto, using(crate::proofs::UseLaws::faults))]
+pub fn copy_type_parts(
+    type_parts: &[TypePart<Path>],
+    names: &Names,
+) -> Result<Vec<TypePart<Target>>, NameFault>
+    ensures none { IfOk result (λ t. NoFault (unit_of names.now) (flat_map type_part_uses (map (type_part_of path_of) type_parts.now))) }
+    ensures ok { IfOk result (λ t. Means (unit_of names.now) (each (resolved_type_part (unit_of names.now)) (map (type_part_of path_of) type_parts.now)) (map (type_part_of (λ r. r)) t.items)) }
+    ensures err { IfErr result (λ f. FirstFault f (unit_of names.now) (flat_map type_part_uses (map (type_part_of path_of) type_parts.now))) }
+{
+    let mut copies = Vec::new(names.alloc);
+    add_type_parts(type_parts, names, &mut copies)?;
+    Ok(copies)
+}
+
+#[tactic(auto, using(crate::proofs::UseLaws::faults), unfolding(crate::specs::Meanings::Means))]
+fn copy_transaction_part(
+    transaction_part: &TransactionPart<Path>,
+    names: &Names,
+) -> Result<TransactionPart<Target>, NameFault>
+    ensures none { IfOk result (λ t. NoFault (unit_of names.now) (transaction_part_uses (transaction_part_of path_of transaction_part.now))) }
+    ensures ok { IfOk result (λ t. Means (unit_of names.now) (resolved_transaction_part (unit_of names.now) (transaction_part_of path_of transaction_part.now)) (transaction_part_of (λ r. r) t)) }
+    ensures err { IfErr result (λ f. FirstFault f (unit_of names.now) (transaction_part_uses (transaction_part_of path_of transaction_part.now))) }
+{
+    match transaction_part {
+        TransactionPart::Request(all) => Ok(TransactionPart::Request(copy_conds(all, names)?)),
+        TransactionPart::Reply(all) => Ok(TransactionPart::Reply(copy_conds(all, names)?)),
+    }
+}
+
+#[tactic(auto, using(crate::proofs::UseLaws::faults))]
+fn add_transaction_parts(
+    transaction_parts: &[TransactionPart<Path>],
+    names: &Names,
+    copies: &mut Vec<TransactionPart<Target>>,
+) -> Result<(), NameFault>
+    requires { copies.old.items ≡ [] }
+    ensures none { OnOk result (NoFault (unit_of names.now) (flat_map transaction_part_uses (map (transaction_part_of path_of) transaction_parts.now))) }
+    ensures ok { OnOk result (Means (unit_of names.now) (each (resolved_transaction_part (unit_of names.now)) (map (transaction_part_of path_of) transaction_parts.now)) (map (transaction_part_of (λ r. r)) copies.new.items)) }
+    ensures err { IfErr result (λ f. FirstFault f (unit_of names.now) (flat_map transaction_part_uses (map (transaction_part_of path_of) transaction_parts.now))) }
+{
+    for transaction_part in transaction_parts {
+        copies.push(copy_transaction_part(transaction_part, names)?)?;
+    }
+    Ok(())
+}
+
+/// The parts of a transaction with the meaning of the names in them.
+#[tactic(auto, using(crate::proofs::UseLaws::faults))]
+pub fn copy_transaction_parts(
+    transaction_parts: &[TransactionPart<Path>],
+    names: &Names,
+) -> Result<Vec<TransactionPart<Target>>, NameFault>
+    ensures none { IfOk result (λ t. NoFault (unit_of names.now) (flat_map transaction_part_uses (map (transaction_part_of path_of) transaction_parts.now))) }
+    ensures ok { IfOk result (λ t. Means (unit_of names.now) (each (resolved_transaction_part (unit_of names.now)) (map (transaction_part_of path_of) transaction_parts.now)) (map (transaction_part_of (λ r. r)) t.items)) }
+    ensures err { IfErr result (λ f. FirstFault f (unit_of names.now) (flat_map transaction_part_uses (map (transaction_part_of path_of) transaction_parts.now))) }
+{
+    let mut copies = Vec::new(names.alloc);
+    add_transaction_parts(transaction_parts, names, &mut copies)?;
+    Ok(copies)
+}
+
+#[tactic(auto, using(crate::proofs::UseLaws::faults), unfolding(crate::specs::Meanings::Means))]
+fn copy_member(
+    member: &Member<Path>,
+    names: &Names,
+    kinds: &[Kind],
+) -> Result<Member<Target>, NameFault>
+    ensures none { IfOk result (λ t. NoFault (unit_of names.now) ((member_uses kinds.now) (member_of path_of member.now))) }
+    ensures ok { IfOk result (λ t. Means (unit_of names.now) (resolved_member (unit_of names.now) kinds.now (member_of path_of member.now)) (member_of (λ r. r) t)) }
+    ensures err { IfErr result (λ f. FirstFault f (unit_of names.now) ((member_uses kinds.now) (member_of path_of member.now))) }
+{
+    let item = refer(names, &[], kinds, &member.item)?;
+    let name = String::from_str(names.alloc, &member.name)?;
+    let label = copy_optional_text(&member.label, names.alloc)?;
+    let help = copy_optional_text(&member.help, names.alloc)?;
+    Ok(Member {
+        name,
+        item,
+        label,
+        help,
+    })
+}
+
+#[tactic(auto, using(crate::proofs::UseLaws::faults))]
+fn add_members(
+    members: &[Member<Path>],
+    names: &Names,
+    kinds: &[Kind],
+    copies: &mut Vec<Member<Target>>,
+) -> Result<(), NameFault>
+    requires { copies.old.items ≡ [] }
+    ensures none { OnOk result (NoFault (unit_of names.now) (flat_map (member_uses kinds.now) (map (member_of path_of) members.now))) }
+    ensures ok { OnOk result (Means (unit_of names.now) (each (resolved_member (unit_of names.now) kinds.now) (map (member_of path_of) members.now)) (map (member_of (λ r. r)) copies.new.items)) }
+    ensures err { IfErr result (λ f. FirstFault f (unit_of names.now) (flat_map (member_uses kinds.now) (map (member_of path_of) members.now))) }
+{
+    for member in members {
+        copies.push(copy_member(member, names, kinds)?)?;
+    }
+    Ok(())
+}
+
+/// Members with the meaning of the names in what they name.
+#[tactic(auto, using(crate::proofs::UseLaws::faults))]
+pub fn copy_members(
+    members: &[Member<Path>],
+    names: &Names,
+    kinds: &[Kind],
+) -> Result<Vec<Member<Target>>, NameFault>
+    ensures none { IfOk result (λ t. NoFault (unit_of names.now) (flat_map (member_uses kinds.now) (map (member_of path_of) members.now))) }
+    ensures ok { IfOk result (λ t. Means (unit_of names.now) (each (resolved_member (unit_of names.now) kinds.now) (map (member_of path_of) members.now)) (map (member_of (λ r. r)) t.items)) }
+    ensures err { IfErr result (λ f. FirstFault f (unit_of names.now) (flat_map (member_uses kinds.now) (map (member_of path_of) members.now))) }
+{
+    let mut copies = Vec::new(names.alloc);
+    add_members(members, names, kinds, &mut copies)?;
+    Ok(copies)
+}

@@ -1,0 +1,93 @@
+//! Copies of texts and of what has no references.
+
+ghost use Rattle.std.specs.Prelude.{◌≡◌, [], IfErr, IfOk, OnOk, map, option_map, string_bytes};
+ghost use Rattle.edd_syntax.specs.ItemView.{response_code_of};
+ghost use Rattle.edd_syntax.specs.WordsView.{text_of};
+ghost use Rattle.edd_names.specs.declared.fault.NameFault.TheVariants.{NoMemory};
+
+use crate::fault::NameFault;
+use edd_syntax::item::ResponseCode;
+use edd_syntax::text::Text;
+use std::alloc::Global;
+
+/// A copy of a text.
+pub fn copy_text(text: &Text, alloc: Global) -> Result<Text, NameFault>
+    ensures ok { IfOk result (λ t. text_of t ≡ text_of text.now) }
+    ensures err { IfErr result (λ f. f ≡ NoMemory) }
+{
+    match text {
+        Text::Quoted(raw) => Ok(Text::Quoted(String::from_str(alloc, raw)?)),
+        Text::Key(name) => Ok(Text::Key(String::from_str(alloc, name)?)),
+    }
+}
+
+/// A copy of a text that may be missing.
+pub fn copy_optional_text(text: &Option<Text>, alloc: Global) -> Result<Option<Text>, NameFault>
+    ensures ok { IfOk result (λ t. option_map text_of t ≡ option_map text_of text.now) }
+    ensures err { IfErr result (λ f. f ≡ NoMemory) }
+{
+    match text {
+        Some(text) => Ok(Some(copy_text(text, alloc)?)),
+        None => Ok(None),
+    }
+}
+
+fn add_words(words: &[String], alloc: Global, copies: &mut Vec<String>) -> Result<(), NameFault>
+    requires { copies.old.items ≡ [] }
+    ensures ok { OnOk result (map string_bytes copies.new.items ≡ map string_bytes words.now) }
+    ensures err { IfErr result (λ f. f ≡ NoMemory) }
+{
+    for word in words {
+        copies.push(String::from_str(alloc, word)?)?;
+    }
+    Ok(())
+}
+
+/// A copy of words.
+pub fn copy_words(words: &[String], alloc: Global) -> Result<Vec<String>, NameFault>
+    ensures ok { IfOk result (λ all. map string_bytes all.items ≡ map string_bytes words.now) }
+    ensures err { IfErr result (λ f. f ≡ NoMemory) }
+{
+    let mut copies = Vec::new(alloc);
+    add_words(words, alloc, &mut copies)?;
+    Ok(copies)
+}
+
+fn copy_response(response: &ResponseCode, alloc: Global) -> Result<ResponseCode, NameFault>
+    ensures ok { IfOk result (λ r. response_code_of r ≡ response_code_of response.now) }
+    ensures err { IfErr result (λ f. f ≡ NoMemory) }
+{
+    Ok(ResponseCode {
+        number: response.number,
+        class: response.class,
+        text: copy_text(&response.text, alloc)?,
+    })
+}
+
+fn add_responses(
+    responses: &[ResponseCode],
+    alloc: Global,
+    copies: &mut Vec<ResponseCode>,
+) -> Result<(), NameFault>
+    requires { copies.old.items ≡ [] }
+    ensures ok { OnOk result (map response_code_of copies.new.items ≡ map response_code_of responses.now) }
+    ensures err { IfErr result (λ f. f ≡ NoMemory) }
+{
+    for response in responses {
+        copies.push(copy_response(response, alloc)?)?;
+    }
+    Ok(())
+}
+
+/// A copy of response codes.
+pub fn copy_responses(
+    responses: &[ResponseCode],
+    alloc: Global,
+) -> Result<Vec<ResponseCode>, NameFault>
+    ensures ok { IfOk result (λ all. map response_code_of all.items ≡ map response_code_of responses.now) }
+    ensures err { IfErr result (λ f. f ≡ NoMemory) }
+{
+    let mut copies = Vec::new(alloc);
+    add_responses(responses, alloc, &mut copies)?;
+    Ok(copies)
+}
