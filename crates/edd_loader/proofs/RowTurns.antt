@@ -1,10 +1,11 @@
 -- What one turn of a loop over rows does to a test of the rows from there on.
-use Rattle.std.proofs.Common.{◌≡◌, ℕ, zero, suc, ◌+◌, ◌-◌, ◌*◌, ◌<◌, Bool, true, false, ◌&&◌, nat_eq, List, [], ◌∷◌, map, refl, sym, ap, ◌∙◌, arith, add-one, mul-suc}
+use Rattle.std.proofs.Common.{◌≡◌, ℕ, suc, ◌+◌, ◌-◌, ◌*◌, ◌<◌, ◌≤◌, Bool, true, false, ◌&&◌, nat_eq, List, [], ◌∷◌, map, refl, sym, ap, ◌∙◌, arith, add-one, mul-suc}
 use Rattle.std.specs.List.{list_all}
-use Rattle.std.proofs.lemmas.Bool.{and_left, and_right, eq-eqb, ne_eqb}
-use Rattle.edd_image.specs.Contents.{Span, NameFields, AttributeFields, rows_from}
-use Rattle.edd_image.specs.Validity.{fills, rise, rises}
+use Rattle.std.proofs.lemmas.Bool.{and_left, and_right, and_parts, eq-eqb, ne_eqb, leb-true}
+use Rattle.edd_image.specs.Contents.{Span, part, NameFields, AttributeFields, rows_from}
+use Rattle.edd_image.specs.Validity.{fills, rise}
 use Rattle.edd_loader.specs.Rows.{rises_next}
+use Rattle.edd_loader.specs.Sections.{lies_within}
 
 -- the rows from the one on that stands behind i others
 abbrev pub rows_on : {A : Type 0} → (read : ℕ → A) → (size count start i : ℕ) → List A
@@ -47,6 +48,24 @@ each_fails p rows rest r total e no_r so_far = sym (and_left (p r) _ no_r) ∙ (
 
 pub each_done : {A : Type 0} (p : A → Bool) (rows : List A) (total : Bool) → rows ≡ [] → list_all p rows ≡ total → true ≡ total
 each_done p rows total e so_far = rw e at so_far
+
+-- where all pass, the first passes, and the rest
+
+pub first_passes : {A : Type 0} (p : A → Bool) (rows rest : List A) (r : A) → rows ≡ r ∷ rest → list_all p rows ≡ true → p r ≡ true
+first_passes p rows rest r e all = (and_parts (p r) (list_all p rest) (rw e at all)).0
+
+pub rest_passes : {A : Type 0} (p : A → Bool) (rows rest : List A) (r : A) → rows ≡ r ∷ rest → list_all p rows ≡ true → list_all p rest ≡ true
+rest_passes p rows rest r e all = (and_parts (p r) (list_all p rest) (rw e at all)).1
+
+pub span_inside : (start size end : ℕ) (span : Span) → start ≡ span.start → size ≡ span.size → lies_within end span ≡ true → start + size ≤ end
+span_inside start size end span e f h = omega (arith, leb-true (span.start + span.size) end h)
+
+-- a test of the bytes of a span
+pub part_tested : (p : List ℕ → Bool) (bytes found : List ℕ) (start size : ℕ) (span : Span) (test result : Bool) → test ≡ p found → found ≡ part (record { start = start; size = size }) bytes → start ≡ span.start → size ≡ span.size → test ≡ result
+    → p (part span bytes) ≡ result
+part_tested p bytes found start size span test result tested is e f so =
+    let same : found ≡ part span bytes = is ∙ rw (e, f) refl in
+    sym (ap p same) ∙ sym tested ∙ so
 
 -- ---- spans that stand one behind the other
 

@@ -112,7 +112,13 @@ fn rises_next(bytes: &[u8], row: usize, left: usize) -> bool
 
 /// Whether `count` attribute rows, the first of which stands at `start`, hold what they may hold and rise, and their units stand
 /// one behind the other and fill `end` bytes.
-pub fn are_attribute_rows(bytes: &[u8], counts: Counts, start: usize, count: usize, end: usize) -> bool
+pub fn are_attribute_rows(
+    bytes: &[u8],
+    counts: Counts,
+    start: usize,
+    count: usize,
+    end: usize,
+) -> bool
     requires { start + ATTRIBUTE_ROW * count ≤ length bytes.now }
     ensures { result ≡ (list_all (is_attribute_row counts) (rows_from (attribute_fields bytes.now) 16 count start)
         && (rise (rows_from (attribute_fields bytes.now) 16 count start)

@@ -2,14 +2,19 @@
 #![tactic(auto)]
 
 mod attributes;
+mod checks;
+mod codes;
 mod depths;
+mod fault;
+mod header;
+mod image;
 mod names;
 mod rows;
+mod sections;
 mod spans;
 mod unit;
+mod units;
+mod words;
 
-pub use attributes::are_attribute_rows;
-pub use names::is_name;
-pub use rows::{are_name_rows, are_string_rows, are_variable_rows};
-pub use spans::part;
-pub use unit::check_unit;
+pub use fault::LoadFault;
+pub use image::{Image, load};

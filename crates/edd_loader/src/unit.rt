@@ -1,15 +1,14 @@
 //! The rules on one unit.
 
-ghost use Rattle.std.specs.Prelude.{◌≡◌, ℕ, List, IfOk, MatchOption, length, true, false, slice_index_or};
+ghost use Rattle.std.specs.Prelude.{◌≡◌, ℕ, List, IfOk, length, true, false, slice_index_or};
 ghost use Rattle.std.specs.Option.{option_map_or};
-ghost use Rattle.edd_image.specs.Units.{Placed, instructions, lands, is_chain, is_start, is_forward, all_land, all_exist, IsValidUnit, UnitBreaksFirst};
+ghost use Rattle.edd_image.specs.Units.{Placed, instructions, lands, is_chain, is_start, is_forward, all_land, all_exist};
 
-use crate::depths::has_depths;
-use edd_image::{Context, Instruction, UnitRule, Sort, Way, decode};
+use edd_image::{Context, Instruction, Sort, Way, decode};
 use std::alloc::{AllocError, Global};
 
 /// Whether the code is not empty, and its instructions fill it and are allowed.
-fn is_chain(context: Context, code: &[u8]) -> bool
+pub fn is_chain(context: Context, code: &[u8]) -> bool
     ensures { result ≡ is_chain context code.now }
 {
     let mut place = 0;
@@ -23,7 +22,7 @@ fn is_chain(context: Context, code: &[u8]) -> bool
 }
 
 /// For each place whether an instruction stands there.
-fn starts(alloc: Global, code: &[u8]) -> Result<Vec<bool>, AllocError>
+pub fn starts(alloc: Global, code: &[u8]) -> Result<Vec<bool>, AllocError>
     ensures { IfOk result (λ starts. (place : ℕ) → slice_index_or starts.items place false ≡ is_start (instructions code.now) place) }
 {
     let mut starts = vec![in alloc; false; code.len()]?;
@@ -69,7 +68,7 @@ fn lands(sort: Sort, starts: &[bool], place: usize, instruction: Instruction, ne
 }
 
 /// Whether each way leads to an instruction, and in an attribute each jump forward.
-fn all_land(context: Context, code: &[u8], starts: &[bool]) -> bool
+pub fn all_land(context: Context, code: &[u8], starts: &[bool]) -> bool
     requires { (q : ℕ) → slice_index_or starts.now q false ≡ is_start (instructions code.now) q }
     ensures { result ≡ all_land context (instructions code.now) }
 {
@@ -84,7 +83,7 @@ fn all_land(context: Context, code: &[u8], starts: &[bool]) -> bool
 }
 
 /// Whether what the instructions name exists.
-fn all_exist(context: Context, code: &[u8]) -> bool
+pub fn all_exist(context: Context, code: &[u8]) -> bool
     ensures { result ≡ all_exist context (instructions code.now) }
 {
     let mut place = 0;
@@ -95,24 +94,4 @@ fn all_exist(context: Context, code: &[u8]) -> bool
         place = next;
     }
     true
-}
-
-/// The first rule that a unit breaks, if it breaks one.
-pub fn check_unit(alloc: Global, context: Context, code: &[u8]) -> Result<Option<UnitRule>, AllocError>
-    ensures { IfOk result (λ broken. MatchOption broken (IsValidUnit context code.now) (UnitBreaksFirst context code.now)) }
-{
-    if !is_chain(context, code) {
-        return Ok(Some(UnitRule::Chain));
-    }
-    let starts = starts(alloc, code)?;
-    if !all_land(context, code, &starts) {
-        return Ok(Some(UnitRule::Jump));
-    }
-    if !has_depths(alloc, context, code)? {
-        return Ok(Some(UnitRule::Depth));
-    }
-    if !all_exist(context, code) {
-        return Ok(Some(UnitRule::Reference));
-    }
-    Ok(None)
 }

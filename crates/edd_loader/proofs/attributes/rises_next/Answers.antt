@@ -1,5 +1,5 @@
-use Rattle.std.proofs.Common.{◌≡◌, ◌+◌, ◌-◌, arith, sym, ap, ◌∙◌}
-use Rattle.edd_image.specs.Contents.{attribute_fields, AttributeFields}
+use Rattle.std.proofs.Common.{◌+◌, ◌-◌, arith, sym, ap, ◌∙◌}
+use Rattle.edd_image.specs.Contents.{attribute_fields}
 use Rattle.edd_loader.specs.Rows.{rises_next}
 use Rattle.edd_loader.proofs.RowTurns.{next_row}
 use Rattle.edd_loader.proofs.attributes.rises_next.Goals as goal
