@@ -1,13 +1,19 @@
 //! Images that were loaded.
 
-ghost use Rattle.std.specs.Prelude.{◌≡◌, IfErr, IfOk, IfSome, OnOk};
+ghost use Rattle.std.specs.Prelude.{◌≡◌, ◌≢◌, ℕ, IfErr, IfOk, IfNone, IfSome, IsTrue, OnOk, Some, is_some};
+ghost use Rattle.std.specs.List.{slice_get};
+ghost use Rattle.edd_image.specs.Contents.{contents_in, fields_of_variable};
+ghost use Rattle.edd_image.specs.References.{item_exists, variable_exists};
+ghost use Rattle.edd_loader.specs.Lookups.{names_in, name_place, StandsFirst};
 ghost use Rattle.edd_image.specs.Fields.{counts_in};
 ghost use Rattle.edd_image.specs.Validity.{BreaksFirst, IsValid};
 ghost use Rattle.edd_loader.specs.Faults.{rule_of};
 
 use crate::checks::first_broken;
 use crate::fault::{LoadFault, fault_of};
-use edd_image::{Counts, counts};
+use crate::lookups::{as_text, find, name_at, name_place, variable_at};
+use edd_image::{Counts, VarKind, counts};
+use edd_syntax::numbers::{ItemNo, VarNo};
 use std::alloc::Global;
 use std::marker::Model;
 
@@ -58,5 +64,34 @@ impl Image {
         ensures { result ≡ counts_in self.now }
     {
         counts(self.bytes())
+    }
+
+    /// The type and the size of a variable, if there is such a variable.
+    pub fn variable(&self, number: VarNo) -> Option<VarKind>
+        ensures exists { is_some result ≡ variable_exists (counts_in self.now) number }
+        ensures row { IfSome result (λ kind. slice_get (contents_in self.now).variables number.0 ≡ Some (fields_of_variable kind)) }
+    {
+        variable_at(self.bytes(), number)
+    }
+
+    /// The name of an item, if there is such an item.
+    pub fn name(&self, item: ItemNo) -> Option<&str>
+        ensures exists { is_some result ≡ item_exists (counts_in self.now) item }
+        ensures name { IfSome result (λ name. slice_get (names_in self.now) (name_place (counts_in self.now) item) ≡ Some name.now) }
+    {
+        let counts = self.counts();
+        if !counts.has_item(item) {
+            return None;
+        }
+        Some(as_text(name_at(self.bytes(), name_place(counts, item))))
+    }
+
+    /// The first item with this name, in the order of kinds and numbers, if there is one.
+    pub fn find(&self, name: &str) -> Option<ItemNo>
+        ensures exists { IfSome result (λ item. IsTrue (item_exists (counts_in self.now) item)) }
+        ensures first { IfSome result (λ item. StandsFirst (names_in self.now) name.now (name_place (counts_in self.now) item)) }
+        ensures none { IfNone result ((k : ℕ) → slice_get (names_in self.now) k ≢ Some name.now) }
+    {
+        find(self.bytes(), name.as_bytes())
     }
 }

@@ -8,6 +8,7 @@ mod depths;
 mod fault;
 mod header;
 mod image;
+mod lookups;
 mod names;
 mod rows;
 mod sections;
