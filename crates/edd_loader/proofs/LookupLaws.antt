@@ -1,5 +1,5 @@
 -- What a valid image has at a number.
-use Rattle.std.proofs.Common.{◌≡◌, ℕ, zero, suc, ◌+◌, ◌*◌, ◌<◌, ◌≤◌, Bool, true, false, cond, ◌&&◌, ◌⊎◌, nat_eq, nat_le, List, [], ◌∷◌, length, map, Option, Some, None, refl, sym, ap, subst, ◌∙◌, arith, inl, inr, add-one, mul-suc}
+use Rattle.std.proofs.Common.{◌≡◌, ℕ, zero, suc, ◌+◌, ◌*◌, ◌<◌, ◌≤◌, Bool, true, false, cond, ◌&&◌, ◌⊎◌, nat_eq, nat_le, List, [], ◌∷◌, length, Option, Some, None, refl, sym, ap, subst, ◌∙◌, arith, inl, inr, mul-suc}
 use Rattle.std.specs.Prelude.{option_map, is_some, slice_index}
 use Rattle.std.specs.List.{list_all, slice_get}
 use Rattle.std.specs.Str.{is_utf8, IsAscii}
@@ -12,15 +12,16 @@ use Rattle.edd_syntax.specs.declared.types.VarType.{VarType}
 use Rattle.edd_syntax.specs.declared.types.VarType.TheVariants.{Integer, UnsignedInteger, Enumerated, BitEnumerated}
 use Rattle.edd_syntax.specs.Names.{begins_name, goes_on_name, is_name, is_within}
 use Rattle.edd_image.specs.declared.parts.Counts.{Counts}
-use Rattle.edd_image.specs.declared.parts.VarKind.{VarKind}
 use Rattle.edd_image.specs.declared.rules.Rule.TheVariants as rule
 use Rattle.edd_image.specs.Layout.{item_count, type_code}
-use Rattle.edd_image.specs.Fields.{counts_in, names_length, name_rows_start, name_bytes_start, name_start, name_length, variable_type, variable_size}
-use Rattle.edd_image.specs.Contents.{Span, part, NameFields, VariableFields, rows_from, variable_fields, name_fields, contents_in, fields_of_variable}
+use Rattle.edd_image.specs.Fields.{counts_in, names_length, name_rows_start, name_bytes_start, name_start, name_length, variable_type, variable_size, strings_length, string_rows_start, string_bytes_start, string_start, string_length}
+use Rattle.edd_image.specs.Contents.{Span, part, NameFields, VariableFields, rows_from, variable_fields, name_fields, string_fields, contents_in, fields_of_variable}
 use Rattle.edd_image.specs.References.{item_exists}
-use Rattle.edd_image.specs.Validity.{IsValid, type_of, is_variable_row, are_variable_rows, are_name_rows, are_attribute_rows, are_string_rows, are_rows}
+use Rattle.edd_image.specs.Validity.{IsValid, type_of, is_variable_row, are_variable_rows, are_name_rows, are_attribute_rows, are_string_rows}
+use Rattle.edd_image.specs.Strings.{is_string}
+use Rattle.edd_loader.specs.Texts.{strings_in}
 use Rattle.edd_loader.specs.Lookups.{names_in, name_place}
-use Rattle.edd_loader.specs.Sections.{AreSectionsOf, lies_within}
+use Rattle.edd_loader.specs.Sections.{lies_within}
 use Rattle.edd_loader.proofs.RowTurns.{span_inside}
 use Rattle.edd_loader.proofs.RuleOrder.{valid_sections}
 use Rattle.edd_loader.proofs.Spaces.{rooms, spans, part_length}
@@ -193,3 +194,55 @@ kind_is b n t size v valid h e f g =
     let none : row.padding ≡ 0 = eqb-true row.padding 0 (and_parts (is_within 1 4 row.size) (nat_eq row.padding 0) parts.1).1 in
     let code : row.type_number ≡ type_code v = sym e ∙ type_again t v f in
     variable_row_at b n h ∙ ap Some (same_fields _ _ _ _ _ _ code (sym g) none)
+
+-- ---- strings by number
+
+pub string_row_at : (b : List ℕ) (n : ℕ) → n < (counts_in b).strings → slice_get (contents_in b).strings n ≡ Some (string_fields b (string_rows_start b + 8 * n))
+unfolding contents_in
+string_row_at b n h = row_get (string_fields b) 8 (counts_in b).strings (string_rows_start b) n h
+
+-- the bytes of a string, however they were come by
+pub record IsStringAt (b strings found : List ℕ) (place : ℕ) : Type 0 where
+  pub row : ℕ
+  pub row_is : row ≡ string_rows_start b + 8 * place
+  pub start : ℕ
+  pub start_is : start ≡ string_bytes_start b
+  pub size : ℕ
+  pub size_is : size ≡ strings_length b
+  pub strings_are : strings ≡ part (record { start = start; size = size }) b
+  pub from : ℕ
+  pub from_is : from ≡ string_start b row
+  pub long : ℕ
+  pub long_is : long ≡ string_length b row
+  pub found_is : found ≡ part (record { start = from; size = long }) strings
+
+string_found : (b strings found : List ℕ) (place : ℕ) → IsStringAt b strings found place → found ≡ part (string_fields b (string_rows_start b + 8 * place)) (contents_in b).string_bytes
+unfolding contents_in
+string_found b strings found place i =
+    let row_is = i.row_is in
+    let same : strings ≡ (contents_in b).string_bytes = i.strings_are ∙ rw (i.start_is, i.size_is) refl in
+    i.found_is ∙ rw (i.from_is, i.long_is, same, row_is) refl
+
+pub string_value : (b strings found : List ℕ) (place : ℕ) → place < (counts_in b).strings → IsStringAt b strings found place → slice_get (strings_in b) place ≡ Some found
+string_value b strings found place h i =
+    slice_get-map (λ (span : Span). part span (contents_in b).string_bytes) (contents_in b).strings place
+    ∙ ap (option_map (λ (span : Span). part span (contents_in b).string_bytes)) (string_row_at b place h)
+    ∙ ap Some (sym (string_found b strings found place i))
+
+pub string_valid : (b strings found : List ℕ) (place : ℕ) → IsValid b → place < (counts_in b).strings → IsStringAt b strings found place → is_string found ≡ true
+string_valid b strings found place valid h i =
+    ap is_string (string_found b strings found place i) ∙ all_at (λ (span : Span). is_string (part span (contents_in b).string_bytes)) (contents_in b).strings place _ (valid rule.Text) (string_row_at b place h)
+
+pub string_inside : (b strings : List ℕ) (place row start size from long : ℕ) → IsValid b → place < (counts_in b).strings → row ≡ string_rows_start b + 8 * place → start ≡ string_bytes_start b → size ≡ strings_length b → strings ≡ part (record { start = start; size = size }) b → from ≡ string_start b row → long ≡ string_length b row
+    → from + long ≤ length strings
+string_inside b strings place row start size from long valid h r s z n f l =
+    let sections = valid_sections b valid in
+    let lengths : length strings ≡ strings_length b = ap length (n ∙ rw (s, z) refl) ∙ part_length (string_bytes_start b) (strings_length b) b (rooms b sections).string_bytes in
+    let lies = all_at (lies_within (strings_length b)) _ place _ (spans b sections (valid rule.Row)).strings (row_get (string_fields b) 8 (counts_in b).strings (string_rows_start b) place h) in
+    rw lengths (span_inside from long (strings_length b) (string_fields b (string_rows_start b + 8 * place)) (f ∙ ap (string_start b) r) (l ∙ ap (string_length b) r) lies)
+
+pub strings_past : (b : List ℕ) (k : ℕ) → (counts_in b).strings ≤ k → slice_get (strings_in b) k ≡ None
+unfolding contents_in
+strings_past b k h =
+    slice_get-map (λ (span : Span). part span (contents_in b).string_bytes) (contents_in b).strings k
+    ∙ ap (option_map (λ (span : Span). part span (contents_in b).string_bytes)) (row_past (string_fields b) 8 (counts_in b).strings (string_rows_start b) k h)

@@ -6,11 +6,7 @@ use Rattle.std.proofs.lemmas.Bool.{and_left, eqb-true, ne_eqb}
 use Rattle.edd_syntax.specs.Words.{Variant}
 use Rattle.edd_image.specs.Decoding.{◌>>=◌}
 use Rattle.edd_image.specs.Strings.{variant_from, variants_from, as_words, is_words, is_variant}
-use Rattle.edd_loader.specs.Variants.{are_variants}
-
--- the bytes are at most n variants, of which each is a code and UTF-8
-abbrev pub all_variants : ℕ → List ℕ → Bool
-all_variants n bytes = option_map_or (list_all is_variant) (variants_from n bytes) false
+use Rattle.edd_loader.specs.Variants.{all_variants, are_variants}
 
 first_and_rest : (v : Variant) (o : Option (List Variant)) → option_map_or (list_all is_variant) (o >>= λ rest. Some (v ∷ rest)) false ≡ (is_variant v && option_map_or (list_all is_variant) o false)
 first_and_rest v None = and_false (is_variant v)

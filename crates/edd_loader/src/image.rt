@@ -1,19 +1,22 @@
 //! Images that were loaded.
 
-ghost use Rattle.std.specs.Prelude.{◌≡◌, ◌≢◌, ℕ, IfErr, IfOk, IfNone, IfSome, IsTrue, OnOk, Some, is_some};
+ghost use Rattle.std.specs.Prelude.{◌≡◌, ◌≢◌, ℕ, IfErr, IfOk, IfNone, IfSome, IsTrue, OnOk, Some, is_some, option_and_then, option_map};
 ghost use Rattle.std.specs.List.{slice_get};
 ghost use Rattle.edd_image.specs.Contents.{contents_in, fields_of_variable};
-ghost use Rattle.edd_image.specs.References.{item_exists, variable_exists};
+ghost use Rattle.edd_image.specs.References.{item_exists, string_exists, variable_exists};
 ghost use Rattle.edd_loader.specs.Lookups.{names_in, name_place, StandsFirst};
 ghost use Rattle.edd_image.specs.Fields.{counts_in};
 ghost use Rattle.edd_image.specs.Validity.{BreaksFirst, IsValid};
+ghost use Rattle.edd_image.specs.Strings.{string_in};
+ghost use Rattle.edd_loader.specs.Texts.{given, seen, strings_in};
 ghost use Rattle.edd_loader.specs.Faults.{rule_of};
 
 use crate::checks::first_broken;
 use crate::fault::{LoadFault, fault_of};
-use crate::lookups::{as_text, find, name_at, name_place, variable_at};
+use crate::lookups::{as_text, find, name_at, name_place, string_at, variable_at};
+use crate::texts::{Text, text_of};
 use edd_image::{Counts, VarKind, counts};
-use edd_syntax::numbers::{ItemNo, VarNo};
+use edd_syntax::numbers::{ItemNo, StrNo, VarNo};
 use std::alloc::Global;
 use std::marker::Model;
 
@@ -93,5 +96,19 @@ impl Image {
         ensures none { IfNone result ((k : ℕ) → slice_get (names_in self.now) k ≢ Some name.now) }
     {
         find(self.bytes(), name.as_bytes())
+    }
+
+    /// The text of a string for the language `code`, if there is such a string: of its variants the first of that code, else the
+    /// first in English, else the first one, and of a key its name.
+    pub fn text(&self, string: StrNo, code: &str) -> Option<Text<'_>>
+        ensures exists { is_some result ≡ string_exists (counts_in self.now) string }
+        ensures text { option_map seen result
+            ≡ option_and_then (λ bytes. option_map (λ words. given words code.now) (string_in bytes)) (slice_get (strings_in self.now) string.0) }
+    {
+        if !self.counts().has_string(string) {
+            return None;
+        }
+        let bytes = string_at(self.bytes(), string.0 as usize);
+        Some(text_of(bytes, code.as_bytes()))
     }
 }

@@ -13,9 +13,11 @@ mod names;
 mod rows;
 mod sections;
 mod spans;
+mod texts;
 mod unit;
 mod units;
 mod words;
 
 pub use fault::LoadFault;
 pub use image::{Image, load};
+pub use texts::Text;

@@ -8,13 +8,16 @@ ghost use Rattle.edd_image.specs.Fields.{counts_in};
 ghost use Rattle.edd_image.specs.Layout.{item_count};
 ghost use Rattle.edd_image.specs.References.{item_exists, variable_exists};
 ghost use Rattle.edd_image.specs.Validity.{IsValid};
+ghost use Rattle.edd_image.specs.Strings.{is_string};
+ghost use Rattle.edd_loader.specs.Texts.{strings_in};
 ghost use Rattle.edd_loader.specs.Lookups.{names_in, name_place, StandsFirst};
 
 use crate::sections::item_count;
 use crate::spans::part;
 use edd_image::{
-    Counts, HEADER_LENGTH, NAME_ROW, VARIABLE_ROW, VarKind, counts, name_bytes_start, name_length,
-    name_rows_start, name_start, names_length, type_of, variable_count, variable_size,
+    Counts, HEADER_LENGTH, NAME_ROW, STRING_ROW, VARIABLE_ROW, VarKind, counts, name_bytes_start,
+    name_length, name_rows_start, name_start, names_length, string_bytes_start, string_length,
+    string_rows_start, string_start, strings_length, type_of, variable_count, variable_size,
     variable_type,
 };
 use edd_syntax::numbers::{CmdNo, CollNo, ItemNo, MenuNo, MethNo, VarNo};
@@ -116,4 +119,20 @@ pub fn variable_at(bytes: &[u8], number: VarNo) -> Option<VarKind>
     let var_type = type_of(variable_type(bytes, row))?;
     let size = variable_size(bytes, row);
     Some(VarKind { var_type, size })
+}
+
+/// The bytes of the string of a number.
+pub fn string_at(bytes: &[u8], number: usize) -> &[u8]
+    requires valid { IsValid bytes.now }
+    requires number { number < (counts_in bytes.now).strings }
+    ensures value { slice_get (strings_in bytes.now) number ≡ Some result.now }
+    ensures string { IsTrue (is_string result.now) }
+{
+    let row = string_rows_start(bytes) + STRING_ROW * number;
+    let start = string_bytes_start(bytes);
+    let size = strings_length(bytes) as usize;
+    let strings = part(bytes, start, size);
+    let from = string_start(bytes, row) as usize;
+    let length = string_length(bytes, row) as usize;
+    part(strings, from, length)
 }

@@ -1,5 +1,5 @@
 use Rattle.std.proofs.Common.{◌≡◌, ◌≤◌, ℕ, length}
-use Rattle.edd_loader.proofs.VariantTurns.{all_variants}
+use Rattle.edd_loader.specs.Variants.{all_variants}
 use Rattle.edd_loader.proofs.words.are_variants.Given as goal
 
 abbrev pub invariant-loop-rest : goal.invariant-loop-rest
