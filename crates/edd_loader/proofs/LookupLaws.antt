@@ -1,0 +1,248 @@
+-- What a valid image has at a number.
+use Rattle.std.proofs.Common.{◌≡◌, ℕ, zero, suc, ◌+◌, ◌*◌, ◌<◌, ◌≤◌, Bool, true, false, cond, ◌&&◌, ◌⊎◌, nat_eq, nat_le, List, [], ◌∷◌, length, Option, Some, None, refl, sym, ap, subst, ◌∙◌, arith, inl, inr, mul-suc}
+use Rattle.std.specs.Prelude.{option_map, is_some, slice_index}
+use Rattle.std.specs.List.{list_all, slice_get}
+use Rattle.std.specs.Str.{is_utf8, IsAscii}
+use Rattle.std.proofs.lemmas.Bool.{and_parts, or_cases, cases_lt, leb-true, le-leb, lt-leb, eqb-true, ne_eqb, ltb-true}
+use Rattle.std.proofs.lemmas.Option.{slice_get-map}
+use Rattle.std.proofs.lemmas.Str.{IsUtf8-from_ascii, is_utf8-from_IsUtf8}
+use Rattle.edd_syntax.specs.declared.numbers.ItemNo.{ItemNo}
+use Rattle.edd_syntax.specs.declared.numbers.ItemNo.TheVariants as items
+use Rattle.edd_syntax.specs.declared.types.VarType.{VarType}
+use Rattle.edd_syntax.specs.declared.types.VarType.TheVariants.{Integer, UnsignedInteger, Enumerated, BitEnumerated}
+use Rattle.edd_syntax.specs.Names.{begins_name, goes_on_name, is_name, is_within}
+use Rattle.edd_image.specs.declared.parts.Counts.{Counts}
+use Rattle.edd_image.specs.declared.rules.Rule.TheVariants as rule
+use Rattle.edd_image.specs.Layout.{item_count, type_code}
+use Rattle.edd_image.specs.Fields.{counts_in, names_length, name_rows_start, name_bytes_start, name_start, name_length, variable_type, variable_size, strings_length, string_rows_start, string_bytes_start, string_start, string_length}
+use Rattle.edd_image.specs.Contents.{Span, part, NameFields, VariableFields, rows_from, variable_fields, name_fields, string_fields, contents_in, fields_of_variable}
+use Rattle.edd_image.specs.References.{item_exists}
+use Rattle.edd_image.specs.Validity.{IsValid, type_of, is_variable_row, are_variable_rows, are_name_rows, are_attribute_rows, are_string_rows}
+use Rattle.edd_image.specs.Strings.{is_string}
+use Rattle.edd_loader.specs.Texts.{strings_in}
+use Rattle.edd_loader.specs.Lookups.{names_in, name_place}
+use Rattle.edd_loader.specs.Sections.{lies_within}
+use Rattle.edd_loader.proofs.RowTurns.{span_inside}
+use Rattle.edd_loader.proofs.RuleOrder.{valid_sections}
+use Rattle.edd_loader.proofs.Spaces.{rooms, spans, part_length}
+
+-- ---- rows by number
+
+pub row_get : {A : Type 0} (read : ℕ → A) (size count start k : ℕ) → k < count → slice_get (rows_from read size count start) k ≡ Some (read (start + size * k))
+unfolding rows_from
+row_get read size zero start k h = absurd (omega arith)
+row_get read size (suc n) start zero h =
+    let first : start + size * 0 ≡ start = omega arith in
+    rw first refl
+row_get read size (suc n) start (suc k) h =
+    let further : (start + size) + size * k ≡ start + size * suc k = rw mul-suc (omega arith) in
+    row_get read size n (start + size) k (omega arith) ∙ ap (λ (place : ℕ). Some (read place)) further
+
+pub row_past : {A : Type 0} (read : ℕ → A) (size count start k : ℕ) → count ≤ k → slice_get (rows_from read size count start) k ≡ None
+unfolding rows_from
+row_past read size zero start k h = refl
+row_past read size (suc n) start zero h = absurd (omega arith)
+row_past read size (suc n) start (suc k) h = row_past read size n (start + size) k (omega arith)
+
+pub all_at : {A : Type 0} (p : A → Bool) (xs : List A) (k : ℕ) (x : A) → list_all p xs ≡ true → slice_get xs k ≡ Some x → p x ≡ true
+all_at p [] k x h e = absurd cc
+all_at p (y ∷ ys) zero x h e = let same : y ≡ x = cc in subst (λ z. p z ≡ true) same (and_parts (p y) (list_all p ys) h).0
+all_at p (y ∷ ys) (suc k) x h e = all_at p ys k x (and_parts (p y) (list_all p ys) h).1 e
+
+-- ---- names are UTF-8
+
+begins_small : (c : ℕ) → begins_name c ≡ true → c < 128
+begins_small c h = elim (cases_lt c 128) [
+  | inl below ↦ below
+  | inr above ↦
+      let upper : nat_le 65 c ≡ true = le-leb 65 c (omega arith) in
+      let past_upper : nat_le c 90 ≡ false = lt-leb c 90 (omega arith) in
+      let lower : nat_le 97 c ≡ true = le-leb 97 c (omega arith) in
+      let past_lower : nat_le c 122 ≡ false = lt-leb c 122 (omega arith) in
+      let other : nat_eq c 95 ≡ false = ne_eqb c 95 (λ e. omega (arith, e)) in
+      let contradiction : false ≡ true = rw (upper, past_upper, lower, past_lower, other) at h in
+      absurd cc
+]
+
+small : (c : ℕ) → goes_on_name c ≡ true → c < 128
+small c h = elim (or_cases (begins_name c) (is_within 48 57 c) h) [
+  | inl begins ↦ begins_small c begins
+  | inr digit ↦ omega (arith, leb-true c 57 (and_parts (nat_le 48 c) (nat_le c 57) digit).1)
+]
+
+rest_small : (rest : List ℕ) → list_all goes_on_name rest ≡ true → (i : ℕ) → slice_index rest i < 128
+rest_small [] h i = omega arith
+rest_small (c ∷ rest) h zero = small c (and_parts (goes_on_name c) (list_all goes_on_name rest) h).0
+rest_small (c ∷ rest) h (suc i) = rest_small rest (and_parts (goes_on_name c) (list_all goes_on_name rest) h).1 i
+
+name_ascii : (name : List ℕ) → is_name name ≡ true → IsAscii name
+name_ascii [] h i = absurd cc
+name_ascii (c ∷ rest) h zero = begins_small c (and_parts (begins_name c) (list_all goes_on_name rest) (and_parts (begins_name c && list_all goes_on_name rest) _ h).0).0
+name_ascii (c ∷ rest) h (suc i) = rest_small rest (and_parts (begins_name c) (list_all goes_on_name rest) (and_parts (begins_name c && list_all goes_on_name rest) _ h).0).1 i
+
+pub name_utf8 : (name : List ℕ) → is_name name ≡ true → is_utf8 name ≡ true
+name_utf8 name h = is_utf8-from_IsUtf8 name (IsUtf8-from_ascii name (name_ascii name h))
+
+-- ---- names by place
+
+pub name_row_at : (b : List ℕ) (place : ℕ) → place < item_count (counts_in b) → slice_get (contents_in b).names place ≡ Some (name_fields b (name_rows_start b + 8 * place))
+unfolding contents_in
+name_row_at b place h = row_get (name_fields b) 8 (item_count (counts_in b)) (name_rows_start b) place h
+
+-- the bytes of a name, however they were come by
+pub record IsNameAt (b names found : List ℕ) (place : ℕ) : Type 0 where
+  pub row : ℕ
+  pub row_is : row ≡ name_rows_start b + 8 * place
+  pub start : ℕ
+  pub start_is : start ≡ name_bytes_start b
+  pub size : ℕ
+  pub size_is : size ≡ names_length b
+  pub names_are : names ≡ part (record { start = start; size = size }) b
+  pub from : ℕ
+  pub from_is : from ≡ name_start b row
+  pub long : ℕ
+  pub long_is : long ≡ name_length b row
+  pub found_is : found ≡ part (record { start = from; size = long }) names
+
+found_in : (b names found : List ℕ) (place : ℕ) → IsNameAt b names found place → found ≡ part (name_fields b (name_rows_start b + 8 * place)).span (contents_in b).name_bytes
+unfolding contents_in
+found_in b names found place i =
+    let row_is = i.row_is in
+    let names_same : names ≡ (contents_in b).name_bytes = i.names_are ∙ rw (i.start_is, i.size_is) refl in
+    i.found_is ∙ rw (i.from_is, i.long_is, names_same, row_is) refl
+
+pub name_value : (b names found : List ℕ) (place : ℕ) → place < item_count (counts_in b) → IsNameAt b names found place → slice_get (names_in b) place ≡ Some found
+name_value b names found place h i =
+    slice_get-map (λ (r : NameFields). part r.span (contents_in b).name_bytes) (contents_in b).names place
+    ∙ ap (option_map (λ (r : NameFields). part r.span (contents_in b).name_bytes)) (name_row_at b place h)
+    ∙ ap Some (sym (found_in b names found place i))
+
+pub name_valid : (b names found : List ℕ) (place : ℕ) → IsValid b → place < item_count (counts_in b) → IsNameAt b names found place → is_utf8 found ≡ true
+name_valid b names found place valid h i =
+    let named = all_at (λ (r : NameFields). is_name (part r.span (contents_in b).name_bytes)) (contents_in b).names place _ (valid rule.Name) (name_row_at b place h) in
+    name_utf8 found (ap is_name (found_in b names found place i) ∙ named)
+
+pub name_inside : (b names : List ℕ) (place row start size from long : ℕ) → IsValid b → place < item_count (counts_in b) → row ≡ name_rows_start b + 8 * place → start ≡ name_bytes_start b → size ≡ names_length b → names ≡ part (record { start = start; size = size }) b → from ≡ name_start b row → long ≡ name_length b row
+    → from + long ≤ length names
+name_inside b names place row start size from long valid h r s z n f l =
+    let sections = valid_sections b valid in
+    let lengths : length names ≡ names_length b = ap length (n ∙ rw (s, z) refl) ∙ part_length (name_bytes_start b) (names_length b) b (rooms b sections).name_bytes in
+    let lies = all_at (λ (r : NameFields). lies_within (names_length b) r.span) _ place _ (spans b sections (valid rule.Row)).names (row_get (name_fields b) 8 (item_count (counts_in b)) (name_rows_start b) place h) in
+    rw lengths (span_inside from long (names_length b) (name_fields b (name_rows_start b + 8 * place)).span (f ∙ ap (name_start b) r) (l ∙ ap (name_length b) r) lies)
+
+pub names_past : (b : List ℕ) (k : ℕ) → item_count (counts_in b) ≤ k → slice_get (names_in b) k ≡ None
+unfolding contents_in
+names_past b k h =
+    slice_get-map (λ (r : NameFields). part r.span (contents_in b).name_bytes) (contents_in b).names k
+    ∙ ap (option_map (λ (r : NameFields). part r.span (contents_in b).name_bytes)) (row_past (name_fields b) 8 (item_count (counts_in b)) (name_rows_start b) k h)
+
+pub place_inside : (c : Counts) (item : ItemNo) → item_exists c item ≡ true → name_place c item < item_count c
+place_inside c (items.Variable n) h = omega (arith, ltb-true n.0 c.variables h)
+place_inside c (items.Command n) h = omega (arith, ltb-true n.0 c.commands h)
+place_inside c (items.Menu n) h = omega (arith, ltb-true n.0 c.menus h)
+place_inside c (items.Collection n) h = omega (arith, ltb-true n.0 c.collections h)
+place_inside c (items.Method n) h = omega (arith, ltb-true n.0 c.methods h)
+
+-- ---- variables by number
+
+pub variable_row_at : (b : List ℕ) (n : ℕ) → n < (counts_in b).variables → slice_get (contents_in b).variables n ≡ Some (variable_fields b (56 + 4 * n))
+unfolding contents_in
+variable_row_at b n h = row_get (variable_fields b) 4 (counts_in b).variables 56 n h
+
+variable_row_valid : (b : List ℕ) (n : ℕ) → IsValid b → n < (counts_in b).variables → is_variable_row (variable_fields b (56 + 4 * n)) ≡ true
+variable_row_valid b n valid h =
+    let c = contents_in b in
+    let zero_first = and_parts (nat_eq c.padding 0) (are_variable_rows c && (are_name_rows c && (are_attribute_rows c && are_string_rows c))) (valid rule.Row) in
+    let variables_first = and_parts (are_variable_rows c) (are_name_rows c && (are_attribute_rows c && are_string_rows c)) zero_first.1 in
+    all_at is_variable_row c.variables n _ variables_first.0 (variable_row_at b n h)
+
+pub typed : (b : List ℕ) (n t : ℕ) → IsValid b → n < (counts_in b).variables → t ≡ variable_type b (56 + 4 * n) → type_of t ≡ None → ⊥
+typed b n t valid h e none =
+    let row = variable_fields b (56 + 4 * n) in
+    let some : is_some (type_of row.type_number) ≡ true = (and_parts (is_some (type_of row.type_number)) (is_within 1 4 row.size && nat_eq row.padding 0) (variable_row_valid b n valid h)).0 in
+    let nothing : is_some (type_of row.type_number) ≡ false = ap (λ (k : ℕ). is_some (type_of k)) (sym e) ∙ ap is_some none in
+    let contradiction : true ≡ false = sym some ∙ nothing in
+    cc
+
+chosen : (b : Bool) (x : VarType) (o : Option VarType) (v : VarType) → cond b (Some x) o ≡ Some v → ((b ≡ true) × (x ≡ v)) ⊎ (o ≡ Some v)
+chosen true x o v e = inl (refl, cc)
+chosen false x o v e = inr e
+
+pub type_again : (n : ℕ) (v : VarType) → type_of n ≡ Some v → n ≡ type_code v
+type_again n v e = elim (chosen (nat_eq n 1) Integer _ v e) [
+  | inl one ↦ eqb-true n 1 one.0 ∙ ap type_code one.1
+  | inr more ↦ elim (chosen (nat_eq n 2) UnsignedInteger _ v more) [
+    | inl two ↦ eqb-true n 2 two.0 ∙ ap type_code two.1
+    | inr others ↦ elim (chosen (nat_eq n 3) Enumerated _ v others) [
+      | inl three ↦ eqb-true n 3 three.0 ∙ ap type_code three.1
+      | inr last ↦ elim (chosen (nat_eq n 4) BitEnumerated _ v last) [
+        | inl four ↦ eqb-true n 4 four.0 ∙ ap type_code four.1
+        | inr none ↦ absurd cc
+      ]
+    ]
+  ]
+]
+
+same_fields : (t u s z p q : ℕ) → t ≡ u → s ≡ z → p ≡ q → (let x : VariableFields = record { type_number = t; size = s; padding = p } in x) ≡ record { type_number = u; size = z; padding = q }
+same_fields t u s z p q e f g = rw (e, f, g) refl
+
+pub kind_is : (b : List ℕ) (n t size : ℕ) (v : VarType) → IsValid b → n < (counts_in b).variables → t ≡ variable_type b (56 + 4 * n) → type_of t ≡ Some v → size ≡ variable_size b (56 + 4 * n)
+    → slice_get (contents_in b).variables n ≡ Some (fields_of_variable (record { var_type = v; size = size }))
+kind_is b n t size v valid h e f g =
+    let row = variable_fields b (56 + 4 * n) in
+    let parts = and_parts (is_some (type_of row.type_number)) (is_within 1 4 row.size && nat_eq row.padding 0) (variable_row_valid b n valid h) in
+    let none : row.padding ≡ 0 = eqb-true row.padding 0 (and_parts (is_within 1 4 row.size) (nat_eq row.padding 0) parts.1).1 in
+    let code : row.type_number ≡ type_code v = sym e ∙ type_again t v f in
+    variable_row_at b n h ∙ ap Some (same_fields _ _ _ _ _ _ code (sym g) none)
+
+-- ---- strings by number
+
+pub string_row_at : (b : List ℕ) (n : ℕ) → n < (counts_in b).strings → slice_get (contents_in b).strings n ≡ Some (string_fields b (string_rows_start b + 8 * n))
+unfolding contents_in
+string_row_at b n h = row_get (string_fields b) 8 (counts_in b).strings (string_rows_start b) n h
+
+-- the bytes of a string, however they were come by
+pub record IsStringAt (b strings found : List ℕ) (place : ℕ) : Type 0 where
+  pub row : ℕ
+  pub row_is : row ≡ string_rows_start b + 8 * place
+  pub start : ℕ
+  pub start_is : start ≡ string_bytes_start b
+  pub size : ℕ
+  pub size_is : size ≡ strings_length b
+  pub strings_are : strings ≡ part (record { start = start; size = size }) b
+  pub from : ℕ
+  pub from_is : from ≡ string_start b row
+  pub long : ℕ
+  pub long_is : long ≡ string_length b row
+  pub found_is : found ≡ part (record { start = from; size = long }) strings
+
+string_found : (b strings found : List ℕ) (place : ℕ) → IsStringAt b strings found place → found ≡ part (string_fields b (string_rows_start b + 8 * place)) (contents_in b).string_bytes
+unfolding contents_in
+string_found b strings found place i =
+    let row_is = i.row_is in
+    let same : strings ≡ (contents_in b).string_bytes = i.strings_are ∙ rw (i.start_is, i.size_is) refl in
+    i.found_is ∙ rw (i.from_is, i.long_is, same, row_is) refl
+
+pub string_value : (b strings found : List ℕ) (place : ℕ) → place < (counts_in b).strings → IsStringAt b strings found place → slice_get (strings_in b) place ≡ Some found
+string_value b strings found place h i =
+    slice_get-map (λ (span : Span). part span (contents_in b).string_bytes) (contents_in b).strings place
+    ∙ ap (option_map (λ (span : Span). part span (contents_in b).string_bytes)) (string_row_at b place h)
+    ∙ ap Some (sym (string_found b strings found place i))
+
+pub string_valid : (b strings found : List ℕ) (place : ℕ) → IsValid b → place < (counts_in b).strings → IsStringAt b strings found place → is_string found ≡ true
+string_valid b strings found place valid h i =
+    ap is_string (string_found b strings found place i) ∙ all_at (λ (span : Span). is_string (part span (contents_in b).string_bytes)) (contents_in b).strings place _ (valid rule.Text) (string_row_at b place h)
+
+pub string_inside : (b strings : List ℕ) (place row start size from long : ℕ) → IsValid b → place < (counts_in b).strings → row ≡ string_rows_start b + 8 * place → start ≡ string_bytes_start b → size ≡ strings_length b → strings ≡ part (record { start = start; size = size }) b → from ≡ string_start b row → long ≡ string_length b row
+    → from + long ≤ length strings
+string_inside b strings place row start size from long valid h r s z n f l =
+    let sections = valid_sections b valid in
+    let lengths : length strings ≡ strings_length b = ap length (n ∙ rw (s, z) refl) ∙ part_length (string_bytes_start b) (strings_length b) b (rooms b sections).string_bytes in
+    let lies = all_at (lies_within (strings_length b)) _ place _ (spans b sections (valid rule.Row)).strings (row_get (string_fields b) 8 (counts_in b).strings (string_rows_start b) place h) in
+    rw lengths (span_inside from long (strings_length b) (string_fields b (string_rows_start b + 8 * place)) (f ∙ ap (string_start b) r) (l ∙ ap (string_length b) r) lies)
+
+pub strings_past : (b : List ℕ) (k : ℕ) → (counts_in b).strings ≤ k → slice_get (strings_in b) k ≡ None
+unfolding contents_in
+strings_past b k h =
+    slice_get-map (λ (span : Span). part span (contents_in b).string_bytes) (contents_in b).strings k
+    ∙ ap (option_map (λ (span : Span). part span (contents_in b).string_bytes)) (row_past (string_fields b) 8 (counts_in b).strings (string_rows_start b) k h)

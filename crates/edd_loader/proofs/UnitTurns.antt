@@ -1,0 +1,108 @@
+-- What one turn of the loop over the units does to a rule on them all.
+use Rattle.std.proofs.Common.{◌≡◌, ℕ, List, [], ◌∷◌, map, refl, subst, sym, ◌∙◌}
+use Rattle.std.specs.List.{AllByRecursion}
+use Rattle.edd_image.specs.declared.parts.Counts.{Counts}
+use Rattle.edd_image.specs.declared.unit.Version.{Version}
+use Rattle.edd_image.specs.declared.unit.Version.TheVariants.{One}
+use Rattle.edd_image.specs.declared.unit.Context.{Context}
+use Rattle.edd_image.specs.declared.rules.UnitRule.{UnitRule}
+use Rattle.edd_image.specs.declared.rules.UnitRule.TheVariants.{Chain, Jump, Depth, Reference}
+use Rattle.edd_image.specs.Fields.{counts_in, attribute_count, attribute_rows_start, code_start, code_length}
+use Rattle.edd_image.specs.Contents.{AttributeFields, part, rows_from, attribute_fields, contents_in}
+use Rattle.edd_image.specs.Units.{UnitKeeps}
+use Rattle.edd_image.specs.Validity.{PlacedUnit, sort_of, slots_of, unit_of, units}
+use Rattle.edd_loader.specs.UnitRows.{Needs, UnitsNeed, RowKeeps, RowNeeds, context_of}
+
+pub first_holds : {A : Type 0} (P : A → Type 0) (rows rest : List A) (r : A) → rows ≡ r ∷ rest → AllByRecursion P rows → P r
+first_holds P rows rest r e h = (subst (AllByRecursion P) e h).0
+
+pub rest_holds : {A : Type 0} (P : A → Type 0) (rows rest : List A) (r : A) → rows ≡ r ∷ rest → AllByRecursion P rows → AllByRecursion P rest
+rest_holds P rows rest r e h = (subst (AllByRecursion P) e h).1
+
+pub both_hold : {A : Type 0} (P : A → Type 0) (rows rest : List A) (r : A) → rows ≡ r ∷ rest → P r → AllByRecursion P rest → AllByRecursion P rows
+both_hold P rows rest r e here others = subst (AllByRecursion P) (sym e) (here, others)
+
+pub none_hold : {A : Type 0} (P : A → Type 0) (rows : List A) → rows ≡ [] → AllByRecursion P rows
+none_hold P rows e = subst (AllByRecursion P) (sym e) tt
+
+pub all_of_map : {A B : Type 0} (f : A → B) (P : B → Type 0) (xs : List A) → AllByRecursion P (map f xs) → AllByRecursion (λ x. P (f x)) xs
+all_of_map f P [] h = tt
+all_of_map f P (x ∷ xs) h = (h.0, all_of_map f P xs h.1)
+
+pub map_of_all : {A B : Type 0} (f : A → B) (P : B → Type 0) (xs : List A) → AllByRecursion (λ x. P (f x)) xs → AllByRecursion P (map f xs)
+map_of_all f P [] h = tt
+map_of_all f P (x ∷ xs) h = (h.0, map_of_all f P xs h.1)
+
+-- ---- the unit of a row
+
+pub needs_here : (counts : Counts) (code unit : List ℕ) (rule : UnitRule) (r : AttributeFields) (context : Context) (place size : ℕ) → context ≡ context_of counts r → unit ≡ part (record { start = place; size = size }) code → place ≡ r.span.start → size ≡ r.span.size
+    → RowNeeds counts code rule r → Needs context unit rule
+needs_here counts code unit rule r context place size e u p s h =
+    let same : unit ≡ part r.span code = u ∙ rw (p, s) refl in
+    subst (λ (c : Context). Needs c unit rule) (sym e) (subst (λ (x : List ℕ). Needs (context_of counts r) x rule) (sym same) h)
+
+pub keeps_here : (counts : Counts) (code unit : List ℕ) (rule : UnitRule) (r : AttributeFields) (context : Context) (place size : ℕ) → context ≡ context_of counts r → unit ≡ part (record { start = place; size = size }) code → place ≡ r.span.start → size ≡ r.span.size
+    → UnitKeeps context unit rule → RowKeeps counts code rule r
+keeps_here counts code unit rule r context place size e u p s h =
+    let same : unit ≡ part r.span code = u ∙ rw (p, s) refl in
+    subst (λ (c : Context). UnitKeeps c (part r.span code) rule) e (subst (λ (x : List ℕ). UnitKeeps context x rule) same h)
+
+pub kept_here : (counts : Counts) (code unit : List ℕ) (rule : UnitRule) (r : AttributeFields) (context : Context) (place size : ℕ) → context ≡ context_of counts r → unit ≡ part (record { start = place; size = size }) code → place ≡ r.span.start → size ≡ r.span.size
+    → RowKeeps counts code rule r → UnitKeeps context unit rule
+kept_here counts code unit rule r context place size e u p s h =
+    let same : unit ≡ part r.span code = u ∙ rw (p, s) refl in
+    subst (λ (c : Context). UnitKeeps c unit rule) (sym e) (subst (λ (x : List ℕ). UnitKeeps (context_of counts r) x rule) (sym same) h)
+
+-- ---- the units of an image, and those of its rows
+
+one_version : (v : Version) → One ≡ v
+one_version One = refl
+
+abbrev rows_hold : (P : Context → List ℕ → Type 0) → Version → Counts → List ℕ → List AttributeFields → Type 0
+rows_hold P version counts code rows = AllByRecursion (λ r. P (record { version = version; counts = counts; sort = sort_of r; slots = slots_of r }) (part r.span code)) rows
+
+-- what the parts of the image are, however they were come by
+pub record AreUnitsOf (b code : List ℕ) (counts : Counts) (rows : List AttributeFields) : Type 0 where
+  pub code_is : code ≡ part (record { start = code_start b; size = code_length b }) b
+  pub counts_are : counts ≡ counts_in b
+  pub rows_are : rows ≡ rows_from (attribute_fields b) 16 (attribute_count b) (attribute_rows_start b)
+
+pub are_units_of : (b code : List ℕ) (counts : Counts) (start count place size : ℕ) → code ≡ part (record { start = place; size = size }) b → place ≡ code_start b → size ≡ code_length b → counts ≡ counts_in b → start ≡ attribute_rows_start b → count ≡ attribute_count b
+    → AreUnitsOf b code counts (rows_from (attribute_fields b) 16 count start)
+are_units_of b code counts start count place size u p s k e f = record {
+  code_is = u ∙ rw (p, s) refl;
+  counts_are = k;
+  rows_are = rw (e, f) refl;
+}
+
+pub to_units : (P : Context → List ℕ → Type 0) (b code : List ℕ) (counts : Counts) (rows : List AttributeFields) → AreUnitsOf b code counts rows
+    → AllByRecursion (λ r. P (context_of counts r) (part r.span code)) rows → AllByRecursion (λ u. P u.context u.code) (units (contents_in b))
+unfolding contents_in
+to_units P b code counts rows same h =
+    let c = contents_in b in
+    let one = subst (λ (x : List ℕ). rows_hold P One counts x rows) same.code_is h in
+    let two = subst (λ (x : Counts). rows_hold P One x c.code rows) same.counts_are one in
+    let three = subst (λ (x : List AttributeFields). rows_hold P One c.counts c.code x) same.rows_are two in
+    map_of_all (unit_of c) (λ (u : PlacedUnit). P u.context u.code) c.attributes
+    (subst (λ (v : Version). rows_hold P v c.counts c.code c.attributes) (one_version c.version) three)
+
+pub from_units : (P : Context → List ℕ → Type 0) (b code : List ℕ) (counts : Counts) (rows : List AttributeFields) → AreUnitsOf b code counts rows
+    → AllByRecursion (λ u. P u.context u.code) (units (contents_in b)) → AllByRecursion (λ r. P (context_of counts r) (part r.span code)) rows
+unfolding contents_in
+from_units P b code counts rows same h =
+    let c = contents_in b in
+    let all = all_of_map (unit_of c) (λ (u : PlacedUnit). P u.context u.code) c.attributes h in
+    let three = subst (λ (v : Version). rows_hold P v c.counts c.code c.attributes) (sym (one_version c.version)) all in
+    let two = subst (λ (x : List AttributeFields). rows_hold P One c.counts c.code x) (sym same.rows_are) three in
+    let one = subst (λ (x : Counts). rows_hold P One x c.code rows) (sym same.counts_are) two in
+    subst (λ (x : List ℕ). rows_hold P One counts x rows) (sym same.code_is) one
+
+nothing_needed : (rows : List AttributeFields) → AllByRecursion (λ r. Unit {0}) rows
+nothing_needed [] = tt
+nothing_needed (r ∷ rest) = (tt, nothing_needed rest)
+
+pub rows_need : (b code : List ℕ) (counts : Counts) (rows : List AttributeFields) (rule : UnitRule) → AreUnitsOf b code counts rows → UnitsNeed (contents_in b) rule → AllByRecursion (RowNeeds counts code rule) rows
+rows_need b code counts rows Chain same h = nothing_needed rows
+rows_need b code counts rows Jump same h = nothing_needed rows
+rows_need b code counts rows Depth same h = from_units (λ context unit. UnitKeeps context unit Jump) b code counts rows same h
+rows_need b code counts rows Reference same h = nothing_needed rows

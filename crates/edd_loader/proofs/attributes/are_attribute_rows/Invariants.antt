@@ -1,0 +1,13 @@
+use Rattle.std.proofs.Common.{◌≡◌, ◌&&◌, map}
+use Rattle.std.specs.List.{list_all}
+use Rattle.edd_image.specs.Contents.{rows_from, attribute_fields}
+use Rattle.edd_image.specs.Validity.{fills, rise, is_attribute_row}
+use Rattle.edd_loader.proofs.RowTurns.{rows_on}
+use Rattle.edd_loader.proofs.attributes.are_attribute_rows.Given as goal
+
+abbrev pub invariant-loop-index : goal.invariant-loop-index
+invariant-loop-index l =
+    (list_all (is_attribute_row l.counts) (rows_on (attribute_fields l.bytes) 16 l.count l.start l.index)
+    && (rise (rows_on (attribute_fields l.bytes) 16 l.count l.start l.index) && fills l.place (map (λ r. r.span) (rows_on (attribute_fields l.bytes) 16 l.count l.start l.index)) l.end))
+    ≡ (list_all (is_attribute_row l.counts) (rows_from (attribute_fields l.bytes) 16 l.count l.start)
+    && (rise (rows_from (attribute_fields l.bytes) 16 l.count l.start) && fills 0 (map (λ r. r.span) (rows_from (attribute_fields l.bytes) 16 l.count l.start)) l.end))

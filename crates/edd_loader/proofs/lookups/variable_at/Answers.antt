@@ -1,0 +1,20 @@
+use Rattle.std.proofs.Common.{arith, refl, sym, ◌∙◌}
+use Rattle.edd_loader.proofs.LookupLaws.{typed, kind_is}
+use Rattle.edd_loader.proofs.RuleOrder.{has_header, valid_sections}
+use Rattle.edd_loader.proofs.Spaces.{rooms}
+use Rattle.edd_loader.proofs.lookups.variable_at.Goals as goal
+
+pub variable_count-requires : goal.variable_count-requires
+variable_count-requires c = has_header _ _ refl c.requires
+
+pub variable_type-requires : goal.variable_type-requires
+variable_type-requires c = omega (arith, rooms _ (valid_sections _ c.requires), c.variable_count.ensures)
+
+pub variable_size-size-requires : goal.variable_size-size-requires
+variable_size-size-requires c = omega (arith, rooms _ (valid_sections _ c.requires), c.variable_count.ensures)
+
+pub returns-in_err-var_type-clause-exists : goal.returns-in_err-var_type-clause-exists
+returns-in_err-var_type-clause-exists c = absurd (typed _ _ _ c.requires (omega (arith, c.variable_count.ensures)) c.variable_type.ensures (sym c.type_of.ensures ∙ c.in_err-var_type.was))
+
+pub returns-clause-row : goal.returns-clause-row
+returns-clause-row c = kind_is _ _ _ _ _ c.requires (omega (arith, c.variable_count.ensures)) c.variable_type.ensures (sym c.type_of.ensures ∙ c.in_ok-var_type.was) c.variable_size-size.ensures

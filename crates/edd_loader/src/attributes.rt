@@ -1,0 +1,142 @@
+//! The rules on attribute rows.
+
+ghost use Rattle.std.specs.Prelude.{◌≡◌, ◌+◌, ◌*◌, ◌≤◌, ◌&&◌, length, map};
+ghost use Rattle.std.specs.List.{list_all};
+ghost use Rattle.edd_syntax.specs.Numbers.{has_attr, kind_of};
+ghost use Rattle.edd_image.specs.Contents.{rows_from, attribute_fields};
+ghost use Rattle.edd_image.specs.Validity.{fills, rise, rises, sub_fits, has_attribute, is_attribute_row};
+ghost use Rattle.edd_loader.specs.Rows.{rises_next};
+
+use edd_image::{
+    ATTRIBUTE_ROW, Counts, attr_of, attribute_item, attribute_kind, attribute_length,
+    attribute_number, attribute_start, attribute_sub, attribute_zero, item_of,
+};
+use edd_syntax::numbers::{Attr, ItemNo};
+
+// Whether items of this kind may have the attribute.
+fn may_have(item: ItemNo, attr: Attr) -> bool
+    ensures { result ≡ has_attr (kind_of item) attr }
+{
+    match attr {
+        Attr::Label | Attr::Help => !matches!(item, ItemNo::Command(_)),
+        Attr::Class => matches!(item, ItemNo::Variable(_) | ItemNo::Method(_)),
+        Attr::Validity => {
+            matches!(
+                item,
+                ItemNo::Variable(_) | ItemNo::Menu(_) | ItemNo::Method(_)
+            )
+        }
+        Attr::Handling
+        | Attr::ConstantUnit
+        | Attr::DefaultValue
+        | Attr::MinValue
+        | Attr::MaxValue
+        | Attr::DisplayFormat
+        | Attr::EditFormat
+        | Attr::Enumerators => matches!(item, ItemNo::Variable(_)),
+        Attr::Number
+        | Attr::Operation
+        | Attr::Transaction
+        | Attr::Request
+        | Attr::Reply
+        | Attr::ResponseCodes => matches!(item, ItemNo::Command(_)),
+        Attr::Items => matches!(item, ItemNo::Menu(_)),
+        Attr::Members => matches!(item, ItemNo::Collection(_)),
+        Attr::Definition => matches!(item, ItemNo::Method(_)),
+    }
+}
+
+// Whether the attribute may have this transaction's position, number of slots or 0.
+fn sub_fits(attr: Attr, sub: u16) -> bool
+    ensures { result ≡ sub_fits attr sub }
+{
+    match attr {
+        Attr::Transaction | Attr::Request | Attr::Reply => true,
+        Attr::Definition => sub <= 64,
+        _ => sub == 0,
+    }
+}
+
+fn has_attribute(counts: Counts, item: ItemNo, attr: Attr, sub: u16) -> bool
+    ensures { result ≡ has_attribute counts item attr sub }
+{
+    counts.has_item(item) && may_have(item, attr) && sub_fits(attr, sub)
+}
+
+// Whether the item exists and may have the attribute, and the zero is 0.
+fn is_attribute_row(bytes: &[u8], counts: Counts, row: usize) -> bool
+    requires { row + ATTRIBUTE_ROW ≤ length bytes.now }
+    ensures { result ≡ is_attribute_row counts (attribute_fields bytes.now row) }
+{
+    let Some(item) = item_of(attribute_kind(bytes, row), attribute_item(bytes, row)) else {
+        return false;
+    };
+    let Some(attr) = attr_of(attribute_number(bytes, row)) else {
+        return false;
+    };
+    has_attribute(counts, item, attr, attribute_sub(bytes, row)) && attribute_zero(bytes, row) == 0
+}
+
+// Whether a row rises to the next by kind, attribute, item and sub, and is no second body of a method.
+fn rises(bytes: &[u8], row: usize, next: usize) -> bool
+    requires row { row + ATTRIBUTE_ROW ≤ length bytes.now }
+    requires next { next + ATTRIBUTE_ROW ≤ length bytes.now }
+    ensures { result ≡ rises (attribute_fields bytes.now row) (attribute_fields bytes.now next) }
+{
+    let kind = attribute_kind(bytes, row);
+    let next_kind = attribute_kind(bytes, next);
+    if kind != next_kind {
+        return kind < next_kind;
+    }
+    let attribute = attribute_number(bytes, row);
+    let next_attribute = attribute_number(bytes, next);
+    if attribute != next_attribute {
+        return attribute < next_attribute;
+    }
+    let item = attribute_item(bytes, row);
+    let next_item = attribute_item(bytes, next);
+    if item != next_item {
+        return item < next_item;
+    }
+    attribute_sub(bytes, row) < attribute_sub(bytes, next) && attribute != 21
+}
+
+// Whether a row rises to the next, where `left` rows stand behind it.
+#[tactic(auto, unfolding(edd_image::specs::Contents::rows_from))]
+fn rises_next(bytes: &[u8], row: usize, left: usize) -> bool
+    requires { row + ATTRIBUTE_ROW + ATTRIBUTE_ROW * left ≤ length bytes.now }
+    ensures { result ≡ rises_next (attribute_fields bytes.now row) (rows_from (attribute_fields bytes.now) 16 left (row + 16)) }
+{
+    left == 0 || rises(bytes, row, row + ATTRIBUTE_ROW)
+}
+
+/// Whether `count` attribute rows, the first of which stands at `start`, hold what they may hold and rise, and their units stand
+/// one behind the other and fill `end` bytes.
+pub fn are_attribute_rows(
+    bytes: &[u8],
+    counts: Counts,
+    start: usize,
+    count: usize,
+    end: usize,
+) -> bool
+    requires { start + ATTRIBUTE_ROW * count ≤ length bytes.now }
+    ensures { result ≡ (list_all (is_attribute_row counts) (rows_from (attribute_fields bytes.now) 16 count start)
+        && (rise (rows_from (attribute_fields bytes.now) 16 count start)
+        && fills 0 (map (λ r. r.span) (rows_from (attribute_fields bytes.now) 16 count start)) end)) }
+{
+    let mut place = 0;
+    for index in 0..count {
+        let row = start + ATTRIBUTE_ROW * index;
+        if !is_attribute_row(bytes, counts, row) {
+            return false;
+        }
+        if !rises_next(bytes, row, count - index - 1) {
+            return false;
+        }
+        if attribute_start(bytes, row) as usize != place {
+            return false;
+        }
+        place += attribute_length(bytes, row) as usize;
+    }
+    place == end
+}

@@ -1,0 +1,114 @@
+//! Images that were loaded.
+
+ghost use Rattle.std.specs.Prelude.{◌≡◌, ◌≢◌, ℕ, IfErr, IfOk, IfNone, IfSome, IsTrue, OnOk, Some, is_some, option_and_then, option_map};
+ghost use Rattle.std.specs.List.{slice_get};
+ghost use Rattle.edd_image.specs.Contents.{contents_in, fields_of_variable};
+ghost use Rattle.edd_image.specs.References.{item_exists, string_exists, variable_exists};
+ghost use Rattle.edd_loader.specs.Lookups.{names_in, name_place, StandsFirst};
+ghost use Rattle.edd_image.specs.Fields.{counts_in};
+ghost use Rattle.edd_image.specs.Validity.{BreaksFirst, IsValid};
+ghost use Rattle.edd_image.specs.Strings.{string_in};
+ghost use Rattle.edd_loader.specs.Texts.{given, seen, strings_in};
+ghost use Rattle.edd_loader.specs.Faults.{rule_of};
+
+use crate::checks::first_broken;
+use crate::fault::{LoadFault, fault_of};
+use crate::lookups::{as_text, find, name_at, name_place, string_at, variable_at};
+use crate::texts::{Text, text_of};
+use edd_image::{Counts, VarKind, counts};
+use edd_syntax::numbers::{ItemNo, StrNo, VarNo};
+use std::alloc::Global;
+use std::marker::Model;
+
+/// A valid image. It owns its bytes, and contracts see it as them.
+#[derive(Drop)]
+pub struct Image {
+    bytes: Vec<u8>,
+}
+
+impl Model for Image {
+    ghost use Rattle.std.specs.Prelude.{ℕ, List};
+    ghost use Rattle.edd_image.specs.Validity.{IsValid};
+
+    ghost Value = { List ℕ };
+
+    ghost view = { λ image. image.bytes.items };
+
+    ghost invariant = { λ image. IsValid image.bytes.items };
+}
+
+/// The image of these bytes, copied, if they are valid.
+///
+/// A fault other than `Memory` stands for the first rule that is broken, in the order of their numbers, over the whole image.
+pub fn load(alloc: Global, bytes: &[u8]) -> Result<Image, LoadFault>
+    ensures image { IfOk result (λ image. image ≡ bytes.now) }
+    ensures valid { OnOk result (IsValid bytes.now) }
+    ensures fault { IfErr result (λ fault. IfSome (rule_of fault) (BreaksFirst bytes.now)) }
+{
+    if let Some(rule) = first_broken(alloc, bytes)? {
+        return Err(fault_of(rule));
+    }
+    let mut copy = Vec::with_capacity(alloc, bytes.len())?;
+    copy.extend_from_slice(bytes)?;
+    Ok(Image { bytes: copy })
+}
+
+impl Image {
+    /// The bytes, as they were loaded.
+    pub fn bytes(&self) -> &[u8]
+        ensures value { result.now ≡ self.now }
+        ensures valid { IsValid self.now }
+    {
+        self.bytes.as_slice()
+    }
+
+    /// The identification and the numbers of variables, commands, menus, collections, methods and strings.
+    pub fn counts(&self) -> Counts
+        ensures { result ≡ counts_in self.now }
+    {
+        counts(self.bytes())
+    }
+
+    /// The type and the size of a variable, if there is such a variable.
+    pub fn variable(&self, number: VarNo) -> Option<VarKind>
+        ensures exists { is_some result ≡ variable_exists (counts_in self.now) number }
+        ensures row { IfSome result (λ kind. slice_get (contents_in self.now).variables number.0 ≡ Some (fields_of_variable kind)) }
+    {
+        variable_at(self.bytes(), number)
+    }
+
+    /// The name of an item, if there is such an item.
+    pub fn name(&self, item: ItemNo) -> Option<&str>
+        ensures exists { is_some result ≡ item_exists (counts_in self.now) item }
+        ensures name { IfSome result (λ name. slice_get (names_in self.now) (name_place (counts_in self.now) item) ≡ Some name.now) }
+    {
+        let counts = self.counts();
+        if !counts.has_item(item) {
+            return None;
+        }
+        Some(as_text(name_at(self.bytes(), name_place(counts, item))))
+    }
+
+    /// The first item with this name, in the order of kinds and numbers, if there is one.
+    pub fn find(&self, name: &str) -> Option<ItemNo>
+        ensures exists { IfSome result (λ item. IsTrue (item_exists (counts_in self.now) item)) }
+        ensures first { IfSome result (λ item. StandsFirst (names_in self.now) name.now (name_place (counts_in self.now) item)) }
+        ensures none { IfNone result ((k : ℕ) → slice_get (names_in self.now) k ≢ Some name.now) }
+    {
+        find(self.bytes(), name.as_bytes())
+    }
+
+    /// The text of a string for the language `code`, if there is such a string: of its variants the first of that code, else the
+    /// first in English, else the first one, and of a key its name.
+    pub fn text(&self, string: StrNo, code: &str) -> Option<Text<'_>>
+        ensures exists { is_some result ≡ string_exists (counts_in self.now) string }
+        ensures text { option_map seen result
+            ≡ option_and_then (λ bytes. option_map (λ words. given words code.now) (string_in bytes)) (slice_get (strings_in self.now) string.0) }
+    {
+        if !self.counts().has_string(string) {
+            return None;
+        }
+        let bytes = string_at(self.bytes(), string.0 as usize);
+        Some(text_of(bytes, code.as_bytes()))
+    }
+}

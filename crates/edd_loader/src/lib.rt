@@ -1,0 +1,26 @@
+//! The checked loading of an image.
+#![tactic(auto)]
+
+mod attributes;
+mod checks;
+mod codes;
+mod depths;
+mod fault;
+mod header;
+mod image;
+mod lookups;
+mod names;
+mod rows;
+mod sections;
+mod spans;
+mod texts;
+mod unit;
+mod units;
+mod words;
+
+pub use fault::LoadFault;
+pub use image::{Image, load};
+pub use texts::Text;
+
+#[cfg(test)]
+mod tests;

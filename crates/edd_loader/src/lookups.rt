@@ -1,0 +1,138 @@
+//! What a valid image has at a number.
+
+ghost use Rattle.std.specs.Prelude.{◌≡◌, ◌≢◌, ℕ, ◌<◌, IfNone, IfSome, Some, true, is_some, IsTrue};
+ghost use Rattle.std.specs.List.{slice_get};
+ghost use Rattle.std.specs.Str.{is_utf8};
+ghost use Rattle.edd_image.specs.Contents.{contents_in, fields_of_variable};
+ghost use Rattle.edd_image.specs.Fields.{counts_in};
+ghost use Rattle.edd_image.specs.Layout.{item_count};
+ghost use Rattle.edd_image.specs.References.{item_exists, variable_exists};
+ghost use Rattle.edd_image.specs.Validity.{IsValid};
+ghost use Rattle.edd_image.specs.Strings.{is_string};
+ghost use Rattle.edd_loader.specs.Texts.{strings_in};
+ghost use Rattle.edd_loader.specs.Lookups.{names_in, name_place, StandsFirst};
+
+use crate::sections::item_count;
+use crate::spans::part;
+use edd_image::{
+    Counts, HEADER_LENGTH, NAME_ROW, STRING_ROW, VARIABLE_ROW, VarKind, counts, name_bytes_start,
+    name_length, name_rows_start, name_start, names_length, string_bytes_start, string_length,
+    string_rows_start, string_start, strings_length, type_of, variable_count, variable_size,
+    variable_type,
+};
+use edd_syntax::numbers::{CmdNo, CollNo, ItemNo, MenuNo, MethNo, VarNo};
+
+/// How many names stand before that of an item.
+pub fn name_place(counts: Counts, item: ItemNo) -> usize
+    ensures { result ≡ name_place counts item }
+{
+    let commands = counts.variables as usize;
+    let menus = commands + counts.commands as usize;
+    let collections = menus + counts.menus as usize;
+    let methods = collections + counts.collections as usize;
+    match item {
+        ItemNo::Variable(number) => number.0 as usize,
+        ItemNo::Command(number) => commands + number.0 as usize,
+        ItemNo::Menu(number) => menus + number.0 as usize,
+        ItemNo::Collection(number) => collections + number.0 as usize,
+        ItemNo::Method(number) => methods + number.0 as usize,
+    }
+}
+
+/// The item whose name stands at a place.
+pub fn item_at(counts: Counts, place: usize) -> ItemNo
+    requires { place < item_count counts }
+    ensures exists { item_exists counts result ≡ true }
+    ensures place { name_place counts result ≡ place }
+{
+    let commands = counts.variables as usize;
+    let menus = commands + counts.commands as usize;
+    let collections = menus + counts.menus as usize;
+    let methods = collections + counts.collections as usize;
+    if place < commands {
+        ItemNo::Variable(VarNo(place as u16))
+    } else if place < menus {
+        ItemNo::Command(CmdNo((place - commands) as u16))
+    } else if place < collections {
+        ItemNo::Menu(MenuNo((place - menus) as u16))
+    } else if place < methods {
+        ItemNo::Collection(CollNo((place - collections) as u16))
+    } else {
+        ItemNo::Method(MethNo((place - methods) as u16))
+    }
+}
+
+/// The name that stands at a place.
+pub fn name_at(bytes: &[u8], place: usize) -> &[u8]
+    requires valid { IsValid bytes.now }
+    requires place { place < item_count (counts_in bytes.now) }
+    ensures value { slice_get (names_in bytes.now) place ≡ Some result.now }
+    ensures utf8 { IsTrue (is_utf8 result.now) }
+{
+    let row = name_rows_start(bytes) + NAME_ROW * place;
+    let start = name_bytes_start(bytes);
+    let size = names_length(bytes) as usize;
+    let names = part(bytes, start, size);
+    let from = name_start(bytes, row) as usize;
+    let length = name_length(bytes, row) as usize;
+    part(names, from, length)
+}
+
+/// Text from bytes that are UTF-8.
+pub fn as_text(bytes: &[u8]) -> &str
+    requires { IsTrue (is_utf8 bytes.now) }
+    ensures { result.now ≡ bytes.now }
+{
+    match str::from_utf8(bytes) {
+        Ok(text) => text,
+        Err(_) => "",
+    }
+}
+
+/// The first item with this name, if there is one.
+pub fn find(bytes: &[u8], name: &[u8]) -> Option<ItemNo>
+    requires { IsValid bytes.now }
+    ensures exists { IfSome result (λ item. IsTrue (item_exists (counts_in bytes.now) item)) }
+    ensures first { IfSome result (λ item. StandsFirst (names_in bytes.now) name.now (name_place (counts_in bytes.now) item)) }
+    ensures none { IfNone result ((k : ℕ) → slice_get (names_in bytes.now) k ≢ Some name.now) }
+{
+    let counts = counts(bytes);
+    let count = item_count(counts);
+    for place in 0..count {
+        if name_at(bytes, place) == name {
+            return Some(item_at(counts, place));
+        }
+    }
+    None
+}
+
+/// The type and the size of a variable, if there is such a variable.
+pub fn variable_at(bytes: &[u8], number: VarNo) -> Option<VarKind>
+    requires { IsValid bytes.now }
+    ensures exists { is_some result ≡ variable_exists (counts_in bytes.now) number }
+    ensures row { IfSome result (λ kind. slice_get (contents_in bytes.now).variables number.0 ≡ Some (fields_of_variable kind)) }
+{
+    if number.0 >= variable_count(bytes) {
+        return None;
+    }
+    let row = HEADER_LENGTH + VARIABLE_ROW * number.0 as usize;
+    let var_type = type_of(variable_type(bytes, row))?;
+    let size = variable_size(bytes, row);
+    Some(VarKind { var_type, size })
+}
+
+/// The bytes of the string of a number.
+pub fn string_at(bytes: &[u8], number: usize) -> &[u8]
+    requires valid { IsValid bytes.now }
+    requires number { number < (counts_in bytes.now).strings }
+    ensures value { slice_get (strings_in bytes.now) number ≡ Some result.now }
+    ensures string { IsTrue (is_string result.now) }
+{
+    let row = string_rows_start(bytes) + STRING_ROW * number;
+    let start = string_bytes_start(bytes);
+    let size = strings_length(bytes) as usize;
+    let strings = part(bytes, start, size);
+    let from = string_start(bytes, row) as usize;
+    let length = string_length(bytes, row) as usize;
+    part(strings, from, length)
+}

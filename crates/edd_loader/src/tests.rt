@@ -1,0 +1,228 @@
+use super::*;
+use edd_image::VarKind;
+use edd_syntax::numbers::{ItemNo, MethNo, StrNo, VarNo};
+use edd_syntax::types::VarType;
+use std::alloc::{AllocError, Global};
+use std::test::Fail;
+
+// One method `m` that is an endless loop.
+const LOOP: [u8; 86] = [
+    0x45, 0x44, 0x49, 0x31, 0x00, 0x01, 0x00, 0x00, 0x00, 0x00, 0x00, 0x56, 0x00, 0x00, 0x00, 0x01,
+    0x00, 0x00, 0x00, 0x02, 0x00, 0x00, 0x00, 0x03, 0x00, 0x00, 0x00, 0x04, 0x00, 0x00, 0x00, 0x00,
+    0x00, 0x00, 0x00, 0x00, 0x00, 0x01, 0x00, 0x00, 0x00, 0x00, 0x00, 0x01, 0x00, 0x00, 0x00, 0x01,
+    0x00, 0x00, 0x00, 0x05, 0x00, 0x00, 0x00, 0x00, 0x00, 0x00, 0x00, 0x00, 0x00, 0x01, 0x00, 0x00,
+    0x05, 0x15, 0x00, 0x00, 0x00, 0x00, 0x00, 0x00, 0x00, 0x00, 0x00, 0x00, 0x00, 0x00, 0x00, 0x05,
+    0x30, 0x00, 0x00, 0x00, 0x00, 0x6d,
+];
+
+// A variable `p` of type INTEGER (2) with the label "Pressure", in German "Druck".
+const LABEL: [u8; 125] = [
+    0x45, 0x44, 0x49, 0x31, 0x00, 0x01, 0x00, 0x00, 0x00, 0x00, 0x00, 0x7d, 0x00, 0x00, 0x00, 0x01,
+    0x00, 0x00, 0x00, 0x02, 0x00, 0x00, 0x00, 0x03, 0x00, 0x00, 0x00, 0x04, 0x00, 0x01, 0x00, 0x00,
+    0x00, 0x00, 0x00, 0x00, 0x00, 0x00, 0x00, 0x01, 0x00, 0x00, 0x00, 0x01, 0x00, 0x00, 0x00, 0x01,
+    0x00, 0x00, 0x00, 0x04, 0x00, 0x00, 0x00, 0x1c, 0x01, 0x02, 0x00, 0x00, 0x00, 0x00, 0x00, 0x00,
+    0x00, 0x01, 0x00, 0x00, 0x01, 0x01, 0x00, 0x00, 0x00, 0x00, 0x00, 0x00, 0x00, 0x00, 0x00, 0x00,
+    0x00, 0x00, 0x00, 0x04, 0x40, 0x00, 0x00, 0x00, 0x00, 0x00, 0x00, 0x00, 0x00, 0x00, 0x00, 0x1c,
+    0x70, 0x00, 0x02, 0x65, 0x6e, 0x00, 0x00, 0x00, 0x08, 0x50, 0x72, 0x65, 0x73, 0x73, 0x75, 0x72,
+    0x65, 0x02, 0x64, 0x65, 0x00, 0x00, 0x00, 0x05, 0x44, 0x72, 0x75, 0x63, 0x6b,
+];
+
+fn refusal(alloc: Global, bytes: &[u8]) -> Option<LoadFault> {
+    load(alloc, bytes).err()
+}
+
+fn edited(alloc: Global, image: &[u8], place: usize, byte: u8) -> Result<Vec<u8>, AllocError> {
+    let mut bytes = Vec::new(alloc);
+    bytes.extend_from_slice(image)?;
+    if let Some(changed) = bytes.get_mut(place) {
+        *changed = byte;
+    }
+    Ok(bytes)
+}
+
+// The endless loop with other code, of at most 4096 bytes, and with the lengths that fit it.
+fn with_code(alloc: Global, slots: u8, code: &[u8]) -> Result<Vec<u8>, AllocError> {
+    let length = code.len().min(4096) as u32;
+    let total = 81 + length;
+    let mut bytes = Vec::new(alloc);
+    bytes.extend_from_slice(&LOOP[..8])?;
+    bytes.extend_from_slice(&total.to_be_bytes())?;
+    bytes.extend_from_slice(&LOOP[12..48])?;
+    bytes.extend_from_slice(&length.to_be_bytes())?;
+    bytes.extend_from_slice(&LOOP[52..69])?;
+    bytes.push(slots)?;
+    bytes.extend_from_slice(&LOOP[70..76])?;
+    bytes.extend_from_slice(&length.to_be_bytes())?;
+    bytes.extend_from_slice(code)?;
+    bytes.push(0x6d)?;
+    Ok(bytes)
+}
+
+#[test]
+fn each_edit_is_refused(rt: HostRuntime) -> Result<(), Fail> {
+    let alloc = rt.alloc();
+    let cases = [
+        (0, 0x00, LoadFault::Magic),
+        (5, 0x03, LoadFault::Version),
+        (11, 0x57, LoadFault::Length),
+        (64, 0x09, LoadFault::Row),
+        (85, 0x20, LoadFault::Name),
+        (80, 0xff, LoadFault::Instruction),
+        (84, 0x01, LoadFault::Jump),
+        // The loop as code of an attribute.
+        (65, 0x06, LoadFault::Jump),
+    ];
+    for (place, byte, want) in cases {
+        let image = edited(alloc, &LOOP, place, byte)?;
+        assert_eq!(rt; refusal(alloc, &image), Some(want), "{place}");
+    }
+    let image = edited(alloc, &LABEL, 97, 2)?;
+    assert_eq!(rt; refusal(alloc, &image), Some(LoadFault::Text));
+    Ok(())
+}
+
+#[test]
+fn faults_come_in_order(rt: HostRuntime) -> Result<(), Fail> {
+    let alloc = rt.alloc();
+    // A name that is none, and code that is none.
+    let named = edited(alloc, &LOOP, 85, 0x20)?;
+    let both = edited(alloc, &named, 80, 0xff)?;
+    assert_eq!(rt; refusal(alloc, &both), Some(LoadFault::Name));
+    // A jump between instructions behind what takes an operand that isn't there.
+    let image = with_code(alloc, 0, &[0x06, 0x30, 0, 0, 0, 3])?;
+    assert_eq!(rt; refusal(alloc, &image), Some(LoadFault::Jump));
+    Ok(())
+}
+
+#[test]
+fn prefixes_are_short(rt: HostRuntime) -> Result<(), Fail> {
+    let alloc = rt.alloc();
+    for image in [LOOP.as_slice(), LABEL.as_slice()] {
+        for length in 0..image.len() {
+            let want = if length < 56 {
+                LoadFault::Short
+            } else {
+                LoadFault::Length
+            };
+            assert_eq!(rt; refusal(alloc, &image[..length]), Some(want), "{length}");
+        }
+        assert_eq!(rt; refusal(alloc, image), None);
+    }
+    Ok(())
+}
+
+#[test]
+fn codes_of_a_method(rt: HostRuntime) -> Result<(), Fail> {
+    let alloc = rt.alloc();
+    let cases: [(u8, &[u8], Option<LoadFault>); 9] = [
+        (0, &[0x06, 0, 0, 0, 0], Some(LoadFault::Depth)),
+        (0, &[0x07, 0, 0, 0, 0], Some(LoadFault::Depth)),
+        (0, &[0x02, 0, 0, 0x06, 0], Some(LoadFault::Reference)),
+        // Two numbers of operands at place 15.
+        (
+            0,
+            &[0x01, 0, 0, 0, 0, 0x31, 0, 0, 0, 0x0f, 0x01, 0, 0, 0, 1, 0],
+            Some(LoadFault::Depth),
+        ),
+        // A stack that grows.
+        (
+            0,
+            &[0x01, 0, 0, 0, 1, 0x30, 0, 0, 0, 0],
+            Some(LoadFault::Depth),
+        ),
+        // What no instruction leads to begins without operands.
+        (0, &[0x00, 0x01, 0, 0, 0, 1, 0x06, 0x00], None),
+        // A slot.
+        (0, &[0x04, 0, 0, 0x06, 0], Some(LoadFault::Reference)),
+        (1, &[0x04, 0, 0, 0x06, 0], None),
+        (0, &[], Some(LoadFault::Instruction)),
+    ];
+    for (slots, code, want) in cases {
+        let image = with_code(alloc, slots, code)?;
+        assert_eq!(rt; refusal(alloc, &image), want, "{code:?}");
+    }
+    Ok(())
+}
+
+#[test]
+fn the_stack_holds_128(rt: HostRuntime) -> Result<(), Fail> {
+    let alloc = rt.alloc();
+    let mut code = Vec::new(alloc);
+    for _ in 0..128 {
+        code.extend_from_slice(&[0x01, 0, 0, 0, 1])?;
+    }
+    code.push(0x00)?;
+    let full = with_code(alloc, 0, &code)?;
+    assert_eq!(rt; refusal(alloc, &full), None);
+    code.pop();
+    code.extend_from_slice(&[0x01, 0, 0, 0, 1, 0x00])?;
+    let over = with_code(alloc, 0, &code)?;
+    assert_eq!(rt; refusal(alloc, &over), Some(LoadFault::Depth));
+    Ok(())
+}
+
+#[test]
+fn looks_up(rt: HostRuntime) -> Result<(), Fail> {
+    let alloc = rt.alloc();
+    let image = load(alloc, &LABEL)?;
+    let p = ItemNo::Variable(VarNo(0));
+    assert_eq!(rt; image.bytes(), LABEL.as_slice());
+    assert_eq!(rt; image.counts().variables, 1);
+    assert_eq!(rt; image.counts().dd_revision, 4);
+    assert_eq!(rt; image.find("p"), Some(p));
+    assert_eq!(rt; image.find("q"), None);
+    assert_eq!(rt; image.name(p), Some("p"));
+    assert_eq!(rt; image.name(ItemNo::Variable(VarNo(1))), None);
+    assert_eq!(rt; image.name(ItemNo::Method(MethNo(0))), None);
+    let kind = VarKind {
+        var_type: VarType::Integer,
+        size: 2,
+    };
+    assert_eq!(rt; image.variable(VarNo(0)), Some(kind));
+    assert_eq!(rt; image.variable(VarNo(1)), None);
+    for (code, want) in [("de", "Druck"), ("en", "Pressure"), ("fr", "Pressure")] {
+        assert_eq!(rt;
+            image.text(StrNo(0), code),
+            Some(Text::Words(want)),
+            "{code}"
+        );
+    }
+    assert_eq!(rt; image.text(StrNo(1), "en"), None);
+    Ok(())
+}
+
+#[test]
+fn a_key_gives_its_name(rt: HostRuntime) -> Result<(), Fail> {
+    let alloc = rt.alloc();
+    let mut bytes = Vec::new(alloc);
+    bytes.extend_from_slice(&LABEL[..97])?;
+    bytes.extend_from_slice(b"\x01the_pressure_of_the_process")?;
+    let image = load(alloc, &bytes)?;
+    let key = Text::Key("the_pressure_of_the_process");
+    assert_eq!(rt; image.text(StrNo(0), "de"), Some(key));
+    Ok(())
+}
+
+#[test]
+fn faults_print(rt: HostRuntime) -> Result<(), Fail> {
+    let alloc = rt.alloc();
+    let cases = [
+        (LoadFault::Short, "101 SHORT"),
+        (LoadFault::Magic, "102 MAGIC"),
+        (LoadFault::Version, "103 VERSION"),
+        (LoadFault::Length, "104 LENGTH"),
+        (LoadFault::Row, "105 ROW"),
+        (LoadFault::Name, "106 NAME"),
+        (LoadFault::Text, "107 TEXT"),
+        (LoadFault::Instruction, "108 INSTRUCTION"),
+        (LoadFault::Jump, "109 JUMP"),
+        (LoadFault::Depth, "110 DEPTH"),
+        (LoadFault::Reference, "111 REFERENCE"),
+        (LoadFault::Memory, "no memory"),
+    ];
+    for (fault, want) in cases {
+        let text = format!(in alloc; "{fault}")?;
+        assert_eq!(rt; text.as_str(), want);
+    }
+    Ok(())
+}
