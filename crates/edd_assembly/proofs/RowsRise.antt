@@ -3,6 +3,7 @@ use Rattle.std.proofs.Common.{◌≡◌, refl, sym, ap, ◌∙◌, subst, ℕ, z
 use Rattle.std.specs.Prelude.{◌==◌, if◌then◌else◌}
 use Rattle.std.specs.List.{AllByRecursion, flat_map}
 use Rattle.std.proofs.lemmas.List.{map-append}
+use Rattle.std.proofs.Math.Logic.{◌⊎◌, inl, inr, ⊎_elim}
 use Rattle.edd_syntax.specs.declared.numbers.Kind.{Kind}
 use Rattle.edd_syntax.specs.declared.numbers.Kind.TheVariants as kind
 use Rattle.edd_syntax.specs.declared.numbers.Attr.{Attr}
@@ -64,9 +65,81 @@ module _ (slots : AttrRef → ℕ) where
   one_key true k a n r s i j at also = (ap (λ x. kind_number (kind_of x)) i ∙ kind_back k n, ap attr_number at, ap index_of i ∙ index_back k n)
   one_key false k a n r s i j at also = (ap (λ x. kind_number (kind_of x)) j ∙ kind_back k n, ap attr_number also, ap index_of j ∙ index_back k n)
 
-  keys_of_item : (k : Kind) (a : Attr) (n : ℕ) (subs : List ℕ) → AllByRecursion (of_item k a n) (keys (rows_at (item_number k n) a subs))
+  pub keys_of_item : (k : Kind) (a : Attr) (n : ℕ) (subs : List ℕ) → AllByRecursion (of_item k a n) (keys (rows_at (item_number k n) a subs))
   unfolding rows_at
   keys_of_item k a n [] = record {}
   keys_of_item k a n (s ∷ subs) =
       (one_key (same_attr a attr.Definition) k a n (record { item = item_number k n; attr = a; sub = slots (record { item = item_number k n; attr = a; sub = s }) }) (record { item = item_number k n; attr = a; sub = s }) refl refl refl refl,
       keys_of_item k a n subs)
+
+  -- a position is not changed outside methods' bodies
+  same_sub : (i : ItemNo) (a : Attr) (s : ℕ) → same_attr a attr.Definition ≡ false → (key (with_slots (record { item = i; attr = a; sub = s }))).sub ≡ s
+  same_sub i a s no_body = ap (λ b. (key (if b then (record { item = i; attr = a; sub = slots (record { item = i; attr = a; sub = s }) }) else (record { item = i; attr = a; sub = s }))).sub) no_body
+
+  abbrev at_least : (k : Kind) (a : Attr) (n m : ℕ) → AttributeFields → Type 0
+  at_least k a n m f = (f.kind ≡ kind_number k) × (f.attribute ≡ attr_number a) × (f.item ≡ n) × (m ≤ f.sub)
+
+  keys_at_least : (k : Kind) (a : Attr) (n m : ℕ) → same_attr a attr.Definition ≡ false → (subs : List ℕ) → AllByRecursion (λ s. m ≤ s) subs → AllByRecursion (at_least k a n m) (keys (rows_at (item_number k n) a subs))
+  unfolding rows_at
+  keys_at_least k a n m no_body [] h = record {}
+  keys_at_least k a n m no_body (s ∷ subs) h =
+      let here = (keys_of_item k a n (s ∷ subs)).0 in
+      ((here.0, here.1, here.2, omega (arith, h.0, same_sub (item_number k n) a s no_body)), keys_at_least k a n m no_body subs h.1)
+
+  -- ---- the positions of transactions ascend
+
+  position_step : (next : ℕ) (x : Attribute Target) (rest : List (Attribute Target)) → (transaction_positions next (x ∷ rest) ≡ next ∷ transaction_positions (suc next) rest) ⊎ (transaction_positions next (x ∷ rest) ≡ transaction_positions next rest)
+  position_step next (item.Label c) rest = inr refl
+  position_step next (item.Help c) rest = inr refl
+  position_step next (item.Class words) rest = inr refl
+  position_step next (item.Handling c) rest = inr refl
+  position_step next (item.ConstantUnit c) rest = inr refl
+  position_step next (item.Validity c) rest = inr refl
+  position_step next (item.TypeOf word parts) rest = inr refl
+  position_step next (item.Number n) rest = inr refl
+  position_step next (item.Operation o) rest = inr refl
+  position_step next (item.Transaction number parts) rest = inl refl
+  position_step next (item.ResponseCodes responses) rest = inr refl
+  position_step next (item.Items entries) rest = inr refl
+  position_step next (item.Members members) rest = inr refl
+  position_step next (item.Definition body) rest = inr refl
+
+  abbrev FromOn : ℕ → List ℕ → Type 0
+  FromOn m subs = AllByRecursion (λ s. m ≤ s) subs
+
+  from_on : (m next : ℕ) → m ≤ next → (attributes : List (Attribute Target)) → FromOn m (transaction_positions next attributes)
+  from_on m next h [] = record {}
+  from_on m next h (x ∷ rest) =
+      ⊎_elim (λ is. subst (FromOn m) (sym is) (h, from_on m (suc next) (omega arith) rest)) (λ is. subst (FromOn m) (sym is) (from_on m next h rest)) (position_step next x rest)
+
+  module _ (k : Kind) (a : Attr) (n : ℕ) (no_body : same_attr a attr.Definition ≡ false) (not_21 : (attr_number a == 21) ≡ false) where
+    abbrev block : List ℕ → List AttributeFields
+    block subs = keys (rows_at (item_number k n) a subs)
+
+    first : (t : ℕ) → AllByRecursion (λ f. (f.kind ≡ kind_number k) × (f.attribute ≡ attr_number a) × (f.item ≡ n) × (f.sub ≡ t)) (block (t ∷ []))
+    unfolding rows_at
+    first t = let here = (keys_of_item k a n (t ∷ [])).0 in ((here.0, here.1, here.2, same_sub (item_number k n) a t no_body), record {})
+
+    one_before : (s : ℕ) (subs : List ℕ) → FromOn (suc s) subs → AllByRecursion (λ x. AllByRecursion (λ y. rises x y ≡ true) (block subs)) (block (s ∷ []))
+    one_before s subs h =
+        all_before (λ f. (f.kind ≡ kind_number k) × (f.attribute ≡ attr_number a) × (f.item ≡ n) × (f.sub ≡ s)) (at_least k a n (suc s))
+            (λ x y p q. by_position x y (p.0 ∙ sym q.0) (p.1 ∙ sym q.1) (p.2 ∙ sym q.2) (omega (arith, p.3, q.3)) (ap (λ m. m == 21) p.1 ∙ not_21))
+            (block (s ∷ [])) (block subs) (first s) (keys_at_least k a n (suc s) no_body subs h)
+
+    joined : (s : ℕ) (subs : List ℕ) → block (s ∷ subs) ≡ block (s ∷ []) ++ block subs
+    unfolding rows_at
+    joined s subs = refl
+
+    single : (s : ℕ) → rise (block (s ∷ [])) ≡ true
+    unfolding rows_at
+    single s = refl
+
+    pub positions_rise : (next : ℕ) (attributes : List (Attribute Target)) → rise (block (transaction_positions next attributes)) ≡ true
+    unfolding rows_at
+    positions_rise next [] = refl
+    positions_rise next (x ∷ rest) =
+        ⊎_elim
+            (λ is. ap (λ subs. rise (block subs)) is ∙ ap rise (joined next (transaction_positions (suc next) rest))
+                ∙ rise_append (block (next ∷ [])) (block (transaction_positions (suc next) rest)) (single next) (positions_rise (suc next) rest) (one_before next (transaction_positions (suc next) rest) (from_on (suc next) (suc next) (omega arith) rest)))
+            (λ is. ap (λ subs. rise (block subs)) is ∙ positions_rise next rest)
+            (position_step next x rest)
