@@ -4,6 +4,7 @@ use Rattle.std.specs.Prelude.{◌==◌, if◌then◌else◌}
 use Rattle.std.specs.List.{AllByRecursion, flat_map}
 use Rattle.std.proofs.lemmas.List.{map-append}
 use Rattle.std.proofs.Math.Logic.{◌⊎◌, inl, inr, ⊎_elim}
+use Rattle.std.proofs.lemmas.Bool.{false≢true}
 use Rattle.edd_syntax.specs.declared.numbers.Kind.{Kind}
 use Rattle.edd_syntax.specs.declared.numbers.Kind.TheVariants as kind
 use Rattle.edd_syntax.specs.declared.numbers.Attr.{Attr}
@@ -15,10 +16,11 @@ use Rattle.edd_syntax.specs.Item as item
 use Rattle.edd_syntax.specs.Item.{Attribute, Item}
 use Rattle.edd_syntax.specs.NameRules.{kinds}
 use Rattle.edd_syntax.specs.Numbers.{kind_number, kind_of, index_of, item_number, attr_number, same_attr}
-use Rattle.edd_syntax.specs.Rows.{transaction_positions, positions, rows_at, item_rows, rows_from, of_kind, rows_of_attr, rows_of_kind, attributes_in_order, rows}
+use Rattle.edd_syntax.specs.Attributes.{is_of_transaction}
+use Rattle.edd_syntax.specs.Rows.{is_written, transaction_positions, positions, rows_at, item_rows, rows_from, of_kind, rows_of_attr, rows_of_kind, attributes_in_order, rows}
 use Rattle.edd_image.specs.Contents.{AttributeFields}
 use Rattle.edd_image.specs.Validity.{rises, rise}
-use Rattle.edd_assembly.proofs.Rising.{rise_append, all_append, all_map, all_before, by_kind, by_attribute, by_item, by_position}
+use Rattle.edd_assembly.proofs.Rising.{rise_append, all_append, all_map, all_before, AllBefore, by_kind, by_attribute, by_item, by_position}
 
 -- the fields of a row that put it in order
 abbrev pub key : AttrRef → AttributeFields
@@ -44,6 +46,29 @@ index_back kind.Command n = refl
 index_back kind.Menu n = refl
 index_back kind.Collection n = refl
 index_back kind.Method n = refl
+
+not_body : (a : Attr) → is_of_transaction a ≡ true → same_attr a attr.Definition ≡ false
+not_body attr.Transaction h = refl
+not_body attr.Request h = refl
+not_body attr.Reply h = refl
+not_body attr.Label h = absurd (false≢true h)
+not_body attr.Help h = absurd (false≢true h)
+not_body attr.Class h = absurd (false≢true h)
+not_body attr.Handling h = absurd (false≢true h)
+not_body attr.ConstantUnit h = absurd (false≢true h)
+not_body attr.Validity h = absurd (false≢true h)
+not_body attr.DefaultValue h = absurd (false≢true h)
+not_body attr.MinValue h = absurd (false≢true h)
+not_body attr.MaxValue h = absurd (false≢true h)
+not_body attr.DisplayFormat h = absurd (false≢true h)
+not_body attr.EditFormat h = absurd (false≢true h)
+not_body attr.Enumerators h = absurd (false≢true h)
+not_body attr.Number h = absurd (false≢true h)
+not_body attr.Operation h = absurd (false≢true h)
+not_body attr.ResponseCodes h = absurd (false≢true h)
+not_body attr.Items h = absurd (false≢true h)
+not_body attr.Members h = absurd (false≢true h)
+not_body attr.Definition h = absurd (false≢true h)
 
 abbrev IsOf : Kind → Attr → AttributeFields → Type 0
 IsOf k a f = (f.kind ≡ kind_number k) × (f.attribute ≡ attr_number a)
@@ -143,3 +168,36 @@ module _ (slots : AttrRef → ℕ) where
                 ∙ rise_append (block (next ∷ [])) (block (transaction_positions (suc next) rest)) (single next) (positions_rise (suc next) rest) (one_before next (transaction_positions (suc next) rest) (from_on (suc next) (suc next) (omega arith) rest)))
             (λ is. ap (λ subs. rise (block subs)) is ∙ positions_rise next rest)
             (position_step next x rest)
+
+  -- ---- the rows of one item, and of items by their numbers
+
+  pick : (k : Kind) (a : Attr) (n : ℕ) (attributes : List (Attribute Target)) (b c : Bool) → is_of_transaction a ≡ b → rise (keys (rows_at (item_number k n) a (if b then transaction_positions 0 attributes else (if c then 0 ∷ [] else [])))) ≡ true
+  unfolding rows_at
+  pick k a n attributes true c is = positions_rise k a n (not_body a is) (not_body a is) 0 attributes
+  pick k a n attributes false true is = refl
+  pick k a n attributes false false is = refl
+
+  item_rises : (k : Kind) (a : Attr) (n : ℕ) (attributes : List (Attribute Target)) → rise (keys (item_rows (item_number k n) a attributes)) ≡ true
+  item_rises k a n attributes = pick k a n attributes (is_of_transaction a) (is_written a attributes) refl
+
+  abbrev items_from : (k : Kind) (a : Attr) (n : ℕ) → AttributeFields → Type 0
+  items_from k a n f = (f.kind ≡ kind_number k) × (f.attribute ≡ attr_number a) × (n ≤ f.item)
+
+  keys_append : (xs ys : List AttrRef) → keys (xs ++ ys) ≡ keys xs ++ keys ys
+  keys_append xs ys = map-append (λ r. key (with_slots r)) xs ys
+
+  keys_from : (k : Kind) (a : Attr) (n : ℕ) (items : List (Item Target)) → AllByRecursion (items_from k a n) (keys (rows_from k a n items))
+  keys_from k a n [] = record {}
+  keys_from k a n (i ∷ rest) =
+      subst (AllByRecursion (items_from k a n)) (sym (keys_append (item_rows (item_number k n) a i.attributes) (rows_from k a (suc n) rest)))
+          (all_append (items_from k a n) (keys (item_rows (item_number k n) a i.attributes)) (keys (rows_from k a (suc n) rest))
+              (all_map (of_item k a n) (items_from k a n) (λ f h. (h.0, h.1, omega (arith, h.2))) (keys (item_rows (item_number k n) a i.attributes)) (keys_of_item k a n (positions a i.attributes)))
+              (all_map (items_from k a (suc n)) (items_from k a n) (λ f h. (h.0, h.1, omega (arith, h.2))) (keys (rows_from k a (suc n) rest)) (keys_from k a (suc n) rest)))
+
+  items_rise : (k : Kind) (a : Attr) (n : ℕ) (items : List (Item Target)) → rise (keys (rows_from k a n items)) ≡ true
+  items_rise k a n [] = refl
+  items_rise k a n (i ∷ rest) =
+      ap rise (keys_append (item_rows (item_number k n) a i.attributes) (rows_from k a (suc n) rest))
+      ∙ rise_append (keys (item_rows (item_number k n) a i.attributes)) (keys (rows_from k a (suc n) rest)) (item_rises k a n i.attributes) (items_rise k a (suc n) rest)
+          (all_before (of_item k a n) (items_from k a (suc n)) (λ x y p q. by_item x y (p.0 ∙ sym q.0) (p.1 ∙ sym q.1) (omega (arith, p.2, q.2)))
+              (keys (item_rows (item_number k n) a i.attributes)) (keys (rows_from k a (suc n) rest)) (keys_of_item k a n (positions a i.attributes)) (keys_from k a (suc n) rest))
