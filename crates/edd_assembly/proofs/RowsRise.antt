@@ -20,6 +20,7 @@ use Rattle.edd_syntax.specs.Attributes.{is_of_transaction}
 use Rattle.edd_syntax.specs.Rows.{is_written, transaction_positions, positions, rows_at, item_rows, rows_from, of_kind, rows_of_attr, rows_of_kind, attributes_in_order, rows}
 use Rattle.edd_image.specs.Contents.{AttributeFields}
 use Rattle.edd_image.specs.Validity.{rises, rise}
+use Rattle.edd_assembly.proofs.BlocksRise.{blocks_rise, blocks_keep, ascends}
 use Rattle.edd_assembly.proofs.Rising.{rise_append, all_append, all_map, all_before, AllBefore, by_kind, by_attribute, by_item, by_position}
 
 -- the fields of a row that put it in order
@@ -201,3 +202,41 @@ module _ (slots : AttrRef → ℕ) where
       ∙ rise_append (keys (item_rows (item_number k n) a i.attributes)) (keys (rows_from k a (suc n) rest)) (item_rises k a n i.attributes) (items_rise k a (suc n) rest)
           (all_before (of_item k a n) (items_from k a (suc n)) (λ x y p q. by_item x y (p.0 ∙ sym q.0) (p.1 ∙ sym q.1) (omega (arith, p.2, q.2)))
               (keys (item_rows (item_number k n) a i.attributes)) (keys (rows_from k a (suc n) rest)) (keys_of_item k a n (positions a i.attributes)) (keys_from k a (suc n) rest))
+
+  -- ---- attributes by their numbers, and kinds by theirs
+
+  keys_of_blocks : {A : Type 0} (f : A → List AttrRef) (members : List A) → keys (flat_map f members) ≡ flat_map (λ a. keys (f a)) members
+  keys_of_blocks f [] = refl
+  keys_of_blocks f (a ∷ rest) = keys_append (f a) (flat_map f rest) ∙ ap (λ ks. keys (f a) ++ ks) (keys_of_blocks f rest)
+
+  module _ (items : List (Item Target)) where
+    module _ (k : Kind) where
+      abbrev of_attribute : ℕ → AttributeFields → Type 0
+      of_attribute m f = (f.kind ≡ kind_number k) × (f.attribute ≡ m)
+
+      by_number : (m n : ℕ) → m < n → (x y : AttributeFields) → of_attribute m x → of_attribute n y → rises x y ≡ true
+      by_number m n h x y p q = by_attribute x y (p.0 ∙ sym q.0) (omega (arith, p.1, q.1, h))
+
+      abbrev attribute_keys : Attr → List AttributeFields
+      attribute_keys a = keys (rows_of_attr items k a)
+
+      kept : (a : Attr) → AllByRecursion (of_attribute (attr_number a)) (attribute_keys a)
+      kept a = all_map (items_from k a 0) (of_attribute (attr_number a)) (λ f h. (h.0, h.1)) (attribute_keys a) (keys_from k a 0 (of_kind k items))
+
+      each_rises : (a : Attr) → rise (attribute_keys a) ≡ true
+      each_rises a = items_rise k a 0 (of_kind k items)
+
+      kind_rises : rise (keys (rows_of_kind items k)) ≡ true
+      unfolding rows_of_kind
+      kind_rises = ap rise (keys_of_blocks (rows_of_attr items k) attributes_in_order) ∙ blocks_rise attr_number of_attribute by_number attribute_keys kept each_rises 1 attributes_in_order refl
+
+      kind_kept : AllByRecursion (λ f. f.kind ≡ kind_number k) (keys (rows_of_kind items k))
+      unfolding rows_of_kind
+      kind_kept = subst (AllByRecursion (λ f. f.kind ≡ kind_number k)) (sym (keys_of_blocks (rows_of_attr items k) attributes_in_order))
+          (blocks_keep attr_number of_attribute by_number attribute_keys kept each_rises (λ f. f.kind ≡ kind_number k) (λ n x h. h.0) attributes_in_order)
+
+    abbrev kind_keys : Kind → List AttributeFields
+    kind_keys k = keys (rows_of_kind items k)
+
+    pub rows_rise : rise (keys (rows items)) ≡ true
+    rows_rise = ap rise (keys_of_blocks (rows_of_kind items) kinds) ∙ blocks_rise kind_number (λ m f. f.kind ≡ m) (λ m n h x y p q. by_kind x y (omega (arith, p, q, h))) kind_keys kind_kept kind_rises 1 kinds refl
