@@ -10,3 +10,4 @@ pub mod Filling
 pub mod SoundRows
 pub mod Rising
 pub mod RowsRise
+pub mod BlocksRise

@@ -13,6 +13,9 @@ use edd_image::{
 };
 use edd_syntax::numbers::{Attr, ItemNo};
 
+/// The number of DEFINITION. Its unit is the body of a method, and each other one's gives an attribute.
+pub const DEFINITION: u8 = Attr::Definition as u8;
+
 // Whether items of this kind may have the attribute.
 fn may_have(item: ItemNo, attr: Attr) -> bool
     ensures { result ≡ has_attr (kind_of item) attr }
@@ -98,7 +101,7 @@ fn rises(bytes: &[u8], row: usize, next: usize) -> bool
     if item != next_item {
         return item < next_item;
     }
-    attribute_sub(bytes, row) < attribute_sub(bytes, next) && attribute != 21
+    attribute_sub(bytes, row) < attribute_sub(bytes, next) && attribute != DEFINITION
 }
 
 // Whether a row rises to the next, where `left` rows stand behind it.

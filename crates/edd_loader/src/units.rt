@@ -8,6 +8,7 @@ ghost use Rattle.edd_image.specs.Validity.{are_rows, UnitsKeep};
 ghost use Rattle.edd_loader.specs.Sections.{AreSectionsOf, lies_within};
 ghost use Rattle.edd_loader.specs.UnitRows.{Needs, UnitsNeed, RowKeeps, RowNeeds, context_of};
 
+use crate::attributes::DEFINITION;
 use crate::depths::has_depths;
 use crate::spans::part;
 use crate::unit::{all_exist, all_land, is_chain, starts};
@@ -44,7 +45,7 @@ fn context_of(bytes: &[u8], counts: Counts, row: usize) -> Context
     requires { row + ATTRIBUTE_ROW ≤ length bytes.now }
     ensures { result ≡ context_of counts (attribute_fields bytes.now row) }
 {
-    if attribute_number(bytes, row) == 21 {
+    if attribute_number(bytes, row) == DEFINITION {
         Context {
             version: Version::One,
             counts,

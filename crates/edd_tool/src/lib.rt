@@ -4,3 +4,5 @@
 pub mod fault;
 pub mod files;
 pub mod source;
+#[cfg(test)]
+mod tests;
