@@ -28,7 +28,6 @@ next n = omega arith
 module _ {A : Type 0} (number : A → ℕ) (P : ℕ → AttributeFields → Type 0)
     (in_order : (m n : ℕ) → m < n → (x y : AttributeFields) → P m x → P n y → rises x y ≡ true)
     (block : A → Rows) (kept : (a : A) → AllByRecursion (P (number a)) (block a)) (block_rises : (a : A) → rise (block a) ≡ true) where
-
   -- the numbers ascend from `least` on
   abbrev pub ascends : (least : ℕ) → List A → Bool
   ascends least [] = true
@@ -39,15 +38,15 @@ module _ {A : Type 0} (number : A → ℕ) (P : ℕ → AttributeFields → Type
   before_blocks m xs h least less (a ∷ rest) up =
       let from = leb-true least (number a) (and_parts _ _ up).0 in
       before_both xs (block a) (flat_map block rest)
-          (all_before (P m) (P (number a)) (in_order m (number a) (omega (arith, less, from))) xs (block a) h (kept a))
-          (before_blocks m xs h (suc (number a)) (omega (arith, less, from)) rest (and_parts _ _ up).1)
+      (all_before (P m) (P (number a)) (in_order m (number a) (omega (arith, less, from))) xs (block a) h (kept a))
+      (before_blocks m xs h (suc (number a)) (omega (arith, less, from)) rest (and_parts _ _ up).1)
 
   pub blocks_rise : (least : ℕ) (members : List A) → ascends least members ≡ true → rise (flat_map block members) ≡ true
   blocks_rise least [] up = refl
   blocks_rise least (a ∷ rest) up =
       let further = (and_parts (nat_le least (number a)) (ascends (suc (number a)) rest) up).1 in
       rise_append (block a) (flat_map block rest) (block_rises a) (blocks_rise (suc (number a)) rest further)
-          (before_blocks (number a) (block a) (kept a) (suc (number a)) (next (number a)) rest further)
+      (before_blocks (number a) (block a) (kept a) (suc (number a)) (next (number a)) rest further)
 
   pub blocks_keep : (Q : AttributeFields → Type 0) → ((n : ℕ) (x : AttributeFields) → P n x → Q x) → (members : List A) → AllByRecursion Q (flat_map block members)
   blocks_keep Q weaker [] = record {}

@@ -23,7 +23,7 @@ module _ {Y : Type 0} (bytes : Y → List ℕ) where
   spans_fill s [] = ap (λ n. s == n) (omega arith) ∙ same s
   spans_fill s (y ∷ ys) =
       both (s == s) (fills (s + length (bytes y)) (spans bytes (s + length (bytes y)) ys) (s + length (flat_map bytes (y ∷ ys)))) (same s)
-          (ap (λ n. fills (s + length (bytes y)) (spans bytes (s + length (bytes y)) ys) n) (omega (arith, length-append (bytes y) (flat_map bytes ys))) ∙ spans_fill (s + length (bytes y)) ys)
+      (ap (λ n. fills (s + length (bytes y)) (spans bytes (s + length (bytes y)) ys) n) (omega (arith, length-append (bytes y) (flat_map bytes ys))) ∙ spans_fill (s + length (bytes y)) ys)
 
 pub names_fill : (ns : List Name) → fills 0 (map (λ r. r.span) (map fields_of_name (name_rows 0 ns))) (length (flat_map (λ n. n) ns)) ≡ true
 names_fill ns = ap (λ xs. fills 0 xs (length (flat_map (λ n. n) ns))) (names_spans 0 ns) ∙ ap (fills 0 (spans (λ n. n) 0 ns)) (omega arith) ∙ spans_fill (λ n. n) 0 ns

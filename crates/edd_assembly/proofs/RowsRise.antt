@@ -94,9 +94,10 @@ module _ (slots : AttrRef → ℕ) where
   pub keys_of_item : (k : Kind) (a : Attr) (n : ℕ) (subs : List ℕ) → AllByRecursion (of_item k a n) (keys (rows_at (item_number k n) a subs))
   unfolding rows_at
   keys_of_item k a n [] = record {}
-  keys_of_item k a n (s ∷ subs) =
-      (one_key (same_attr a attr.Definition) k a n (record { item = item_number k n; attr = a; sub = slots (record { item = item_number k n; attr = a; sub = s }) }) (record { item = item_number k n; attr = a; sub = s }) refl refl refl refl,
-      keys_of_item k a n subs)
+  keys_of_item k a n (s ∷ subs) = (
+    one_key (same_attr a attr.Definition) k a n (record { item = item_number k n; attr = a; sub = slots (record { item = item_number k n; attr = a; sub = s }) }) (record { item = item_number k n; attr = a; sub = s }) refl refl refl refl,
+    keys_of_item k a n subs,
+  )
 
   -- a position is not changed outside methods' bodies
   same_sub : (i : ItemNo) (a : Attr) (s : ℕ) → same_attr a attr.Definition ≡ false → (key (with_slots (record { item = i; attr = a; sub = s }))).sub ≡ s
@@ -149,8 +150,8 @@ module _ (slots : AttrRef → ℕ) where
     one_before : (s : ℕ) (subs : List ℕ) → FromOn (suc s) subs → AllByRecursion (λ x. AllByRecursion (λ y. rises x y ≡ true) (block subs)) (block (s ∷ []))
     one_before s subs h =
         all_before (λ f. (f.kind ≡ kind_number k) × (f.attribute ≡ attr_number a) × (f.item ≡ n) × (f.sub ≡ s)) (at_least k a n (suc s))
-            (λ x y p q. by_position x y (p.0 ∙ sym q.0) (p.1 ∙ sym q.1) (p.2 ∙ sym q.2) (omega (arith, p.3, q.3)) (ap (λ m. m == 21) p.1 ∙ not_21))
-            (block (s ∷ [])) (block subs) (first s) (keys_at_least k a n (suc s) no_body subs h)
+        (λ x y p q. by_position x y (p.0 ∙ sym q.0) (p.1 ∙ sym q.1) (p.2 ∙ sym q.2) (omega (arith, p.3, q.3)) (ap (λ m. m == 21) p.1 ∙ not_21))
+        (block (s ∷ [])) (block subs) (first s) (keys_at_least k a n (suc s) no_body subs h)
 
     joined : (s : ℕ) (subs : List ℕ) → block (s ∷ subs) ≡ block (s ∷ []) ++ block subs
     unfolding rows_at
@@ -165,10 +166,10 @@ module _ (slots : AttrRef → ℕ) where
     positions_rise next [] = refl
     positions_rise next (x ∷ rest) =
         ⊎_elim
-            (λ is. ap (λ subs. rise (block subs)) is ∙ ap rise (joined next (transaction_positions (suc next) rest))
-                ∙ rise_append (block (next ∷ [])) (block (transaction_positions (suc next) rest)) (single next) (positions_rise (suc next) rest) (one_before next (transaction_positions (suc next) rest) (from_on (suc next) (suc next) (omega arith) rest)))
-            (λ is. ap (λ subs. rise (block subs)) is ∙ positions_rise next rest)
-            (position_step next x rest)
+        (λ is. ap (λ subs. rise (block subs)) is ∙ ap rise (joined next (transaction_positions (suc next) rest))
+        ∙ rise_append (block (next ∷ [])) (block (transaction_positions (suc next) rest)) (single next) (positions_rise (suc next) rest) (one_before next (transaction_positions (suc next) rest) (from_on (suc next) (suc next) (omega arith) rest)))
+        (λ is. ap (λ subs. rise (block subs)) is ∙ positions_rise next rest)
+        (position_step next x rest)
 
   -- ---- the rows of one item, and of items by their numbers
 
@@ -191,17 +192,17 @@ module _ (slots : AttrRef → ℕ) where
   keys_from k a n [] = record {}
   keys_from k a n (i ∷ rest) =
       subst (AllByRecursion (items_from k a n)) (sym (keys_append (item_rows (item_number k n) a i.attributes) (rows_from k a (suc n) rest)))
-          (all_append (items_from k a n) (keys (item_rows (item_number k n) a i.attributes)) (keys (rows_from k a (suc n) rest))
-              (all_map (of_item k a n) (items_from k a n) (λ f h. (h.0, h.1, omega (arith, h.2))) (keys (item_rows (item_number k n) a i.attributes)) (keys_of_item k a n (positions a i.attributes)))
-              (all_map (items_from k a (suc n)) (items_from k a n) (λ f h. (h.0, h.1, omega (arith, h.2))) (keys (rows_from k a (suc n) rest)) (keys_from k a (suc n) rest)))
+      (all_append (items_from k a n) (keys (item_rows (item_number k n) a i.attributes)) (keys (rows_from k a (suc n) rest))
+      (all_map (of_item k a n) (items_from k a n) (λ f h. (h.0, h.1, omega (arith, h.2))) (keys (item_rows (item_number k n) a i.attributes)) (keys_of_item k a n (positions a i.attributes)))
+      (all_map (items_from k a (suc n)) (items_from k a n) (λ f h. (h.0, h.1, omega (arith, h.2))) (keys (rows_from k a (suc n) rest)) (keys_from k a (suc n) rest)))
 
   items_rise : (k : Kind) (a : Attr) (n : ℕ) (items : List (Item Target)) → rise (keys (rows_from k a n items)) ≡ true
   items_rise k a n [] = refl
   items_rise k a n (i ∷ rest) =
       ap rise (keys_append (item_rows (item_number k n) a i.attributes) (rows_from k a (suc n) rest))
       ∙ rise_append (keys (item_rows (item_number k n) a i.attributes)) (keys (rows_from k a (suc n) rest)) (item_rises k a n i.attributes) (items_rise k a (suc n) rest)
-          (all_before (of_item k a n) (items_from k a (suc n)) (λ x y p q. by_item x y (p.0 ∙ sym q.0) (p.1 ∙ sym q.1) (omega (arith, p.2, q.2)))
-              (keys (item_rows (item_number k n) a i.attributes)) (keys (rows_from k a (suc n) rest)) (keys_of_item k a n (positions a i.attributes)) (keys_from k a (suc n) rest))
+      (all_before (of_item k a n) (items_from k a (suc n)) (λ x y p q. by_item x y (p.0 ∙ sym q.0) (p.1 ∙ sym q.1) (omega (arith, p.2, q.2)))
+      (keys (item_rows (item_number k n) a i.attributes)) (keys (rows_from k a (suc n) rest)) (keys_of_item k a n (positions a i.attributes)) (keys_from k a (suc n) rest))
 
   -- ---- attributes by their numbers, and kinds by theirs
 
