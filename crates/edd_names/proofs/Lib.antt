@@ -19,5 +19,6 @@ pub mod ScopeSteps
 pub mod SeenBefore
 pub mod SlotLaws
 pub mod Spends
+pub mod StatementSteps
 pub mod ValueNodes
 pub mod UseLaws

@@ -24,6 +24,7 @@ mod rules;
 mod seen;
 mod sizes;
 mod slots;
+mod statements;
 mod target;
 mod texts;
 mod values;
