@@ -7,13 +7,16 @@ pub mod DeclaratorSteps
 pub mod ExprSteps
 pub mod FirstLaws
 pub mod Gathering
+pub mod ItemSteps
 pub mod MapLaws
+pub mod MemberLaws
 pub mod Missing
 pub mod Noting
 pub mod PathLaws
 pub mod RepeatedWords
 pub mod Passing
 pub mod Repeating
+pub mod ResolvingLaws
 pub mod RuleLaws
 pub mod ScopeSteps
 pub mod SeenBefore

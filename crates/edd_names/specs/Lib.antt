@@ -8,4 +8,5 @@ pub mod ResolvedParts
 pub mod Scopes
 pub mod Seen
 pub mod Spending
+pub mod Units
 pub mod Walks
