@@ -1,5 +1,5 @@
 -- Where no use of a name has a fault, each member of a collection names an item of the kind after OF.
-use Rattle.std.proofs.Common.{◌≡◌, refl, sym, ap, ◌∙◌, ℕ, zero, suc, Bool, true, false, List, [], ◌∷◌, ◌++◌, Option, Some, None, subst}
+use Rattle.std.proofs.Common.{◌≡◌, refl, ℕ, zero, suc, Bool, true, false, List, [], ◌∷◌, ◌++◌, Option, Some, None, subst}
 use Rattle.std.specs.Prelude.{IsTrue, not, ◌&&◌, ◌||◌, if◌then◌else◌, filter, find, is_some, option_map, option_and_then, slice_get}
 use Rattle.std.specs.List.{flat_map, list_all}
 use Rattle.std.specs.Str.{bytes_eq}
@@ -14,7 +14,7 @@ use Rattle.edd_syntax.specs.NameUses.{Use, OfItem, attribute_uses, item_uses, un
 use Rattle.edd_syntax.specs.Numbers.{same_kind, kind_of, index_of}
 use Rattle.edd_syntax.specs.Reference.{Path}
 use Rattle.edd_syntax.specs.Refusal.{Refusal, WrongKind, UnknownName, refused_if, first_of}
-use Rattle.edd_syntax.specs.Resolution.{FoundMember, members_in, members_of, member_kind, member_in, member_at, of_kind, item_of_member, item_named}
+use Rattle.edd_syntax.specs.Resolution.{FoundMember, members_in, member_kind, member_in, of_kind, item_of_member, item_named}
 use Rattle.edd_syntax.specs.Text.{Name}
 use Rattle.edd_syntax.specs.WellFormed.{is_path, is_plain, is_not_empty, is_member, is_attribute, stands_in, is_item, are_items}
 
@@ -151,7 +151,7 @@ module _ (unit : Description Path) where
   picked of None found h e = absurd (none_some found e)
   picked of (Some x) found h e = subst Named (same_some (x, of) found e) (h x refl)
 
-  item_names : (sort : ItemKind) (attributes : List (Attribute Path)) (m : Name) (found : FoundMember) → IsTrue (list_all (stands_in is_path is_plain (kind_of_item sort)) attributes) → Every Fine (flat_map (attribute_uses sort) attributes) → ◌≡◌ {A = Option FoundMember} (elim (member_kind sort) [ | Some of ↦ option_map (λ x. (x, of)) (find (λ x. bytes_eq x.name m) (flat_map members_in attributes)) | None ↦ None ]) (Some found) → Named found
+  item_names : (sort : ItemKind) (attributes : List (Attribute Path)) (m : Name) (found : FoundMember) → IsTrue (list_all (stands_in is_path is_plain (kind_of_item sort)) attributes) → Every Fine (flat_map (attribute_uses sort) attributes) → ◌≡◌ {A = Option FoundMember} (elim (member_kind sort) [ Some of ↦ option_map (λ x. (x, of)) (find (λ x. bytes_eq x.name m) (flat_map members_in attributes)) | None ↦ None ]) (Some found) → Named found
   item_names (CollectionItem of) attributes m found good fine e =
       let each = both _ _ (λ a. Every (Names of) (members_in a)) (stands_well of) attributes (every_true (stands_in is_path is_plain (kind_of_item (CollectionItem of))) attributes good) (every_flat Fine (attribute_uses (CollectionItem of)) attributes fine) in
       picked of (find (λ x. bytes_eq x.name m) (flat_map members_in attributes)) found

@@ -20,7 +20,7 @@ use Rattle.edd_syntax.specs.declared.reference.Target.{Target}
 use Rattle.edd_syntax.specs.Reference.{Path}
 use Rattle.edd_syntax.specs.Item.{Description}
 use Rattle.edd_syntax.specs.NameUses.{Use, expr_uses, stmt_uses, body_uses}
-use Rattle.edd_syntax.specs.Resolution.{Scope, all_declared}
+use Rattle.edd_syntax.specs.Resolution.{Scope}
 use Rattle.edd_syntax.specs.ResolvedTrees.{◌>>=◌, at_scope, resolved_expr, resolved_declarators, resolved_stmt, resolved_body}
 use Rattle.edd_syntax.specs.Size.{statement_nodes, body_nodes}
 use Rattle.edd_syntax.specs.Statement.{Block, Switch, Part, Declare, Statement, CaseLabel, DefaultLabel, Body, Cons, body_from, slots_of, slots_in}

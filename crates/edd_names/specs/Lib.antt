@@ -1,5 +1,6 @@
 pub mod Directory
 pub mod Faults
+pub mod Limits
 pub mod Meanings
 pub mod Members
 pub mod Numbering

@@ -31,3 +31,5 @@ mod target;
 mod texts;
 mod unit_items;
 mod values;
+
+pub use resolving::resolve;

@@ -1,11 +1,11 @@
-use Rattle.std.proofs.Common.{rules, arith, refl, ap, sym, ◌∙◌, ◌+◌, map, drop}
+use Rattle.std.proofs.Common.{arith, ap, sym, ◌∙◌, ◌+◌, map}
 use Rattle.std.proofs.Math.ListN.{drop_of_length-le}
 use Rattle.edd_syntax.specs.Statement.{body_from, slots_in}
 use Rattle.edd_syntax.specs.TreeView.{path_of, part_of}
 use Rattle.edd_names.specs.Directory.{unit_of}
 use Rattle.edd_names.specs.Meanings.{scope_of}
 use Rattle.edd_names.specs.ResolvedParts.{scope_behind}
-use Rattle.edd_names.proofs.CopyingIn.{at_start, one_more, stops, none_at_end, meant_at_end}
+use Rattle.edd_names.proofs.CopyingIn.{one_more, stops, none_at_end, meant_at_end}
 use Rattle.edd_names.proofs.Passing.{passed}
 use Rattle.edd_names.proofs.StatementSteps.{behind, uses_here, uses_from, uses_split, meant_here, meant_from, parts_joined, no_parts, no_slots, slots_next, slots_more, block_slots, block_none, block_fault, block_means, switch_slots, switch_none, switch_fault, switch_means, block_falls, switch_falls, part_falls}
 use Rattle.edd_names.proofs.UseLaws.{no_use}
