@@ -1,5 +1,4 @@
 use Rattle.std.proofs.Common.{◌≡◌, map}
-use Rattle.std.specs.List.{flat_map}
 use Rattle.edd_syntax.specs.ItemView.{item_of}
 use Rattle.edd_syntax.specs.Rows.{rows_of_attr}
 use Rattle.edd_syntax.proofs.RowLaws.{each_and_rest}

@@ -1,12 +1,8 @@
-use Rattle.std.proofs.Common.{◌≡◌, ◌∙◌, ap, sym, true, false, length, filter, nat_le, arith}
-use Rattle.std.proofs.lemmas.List.{append-nil}
+use Rattle.std.proofs.Common.{ap, length, filter, nat_le, arith}
 use Rattle.std.proofs.lemmas.Bool.{leb-true}
 use Rattle.edd_syntax.specs.ItemView.{item_of}
 use Rattle.edd_syntax.specs.NameRules.{is_transaction, transaction_count}
-use Rattle.edd_syntax.specs.Numbers.{item_number}
-use Rattle.edd_syntax.specs.Rows.{item_rows}
-use Rattle.edd_syntax.proofs.NumberedLoops.{grows, grown_whole, stays_within, all_at}
-use Rattle.edd_syntax.proofs.TransactionRows.{is_kind, rows_behind, rows_of_item, items_split}
+use Rattle.edd_syntax.proofs.NumberedLoops.{all_at}
 use Rattle.edd_syntax.proofs.rows.push_items.Goals as goal
 
 pub push_item-requires : goal.push_item-requires

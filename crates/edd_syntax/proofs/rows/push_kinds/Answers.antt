@@ -1,4 +1,4 @@
-use Rattle.std.proofs.Common.{◌∙◌, ap, sym, ◌++◌, arith, map}
+use Rattle.std.proofs.Common.{◌∙◌, ap, ◌++◌, arith, map}
 use Rattle.std.proofs.lemmas.List.{get_or_default}
 use Rattle.edd_syntax.specs.ItemView.{item_of}
 use Rattle.edd_syntax.specs.Rows.{rows_of_kind}

@@ -1,4 +1,4 @@
-use Rattle.std.proofs.Common.{◌≡◌, ◌∙◌, ap, sym, true, false, arith}
+use Rattle.std.proofs.Common.{◌∙◌, ap, sym, true, false, arith}
 use Rattle.std.proofs.lemmas.List.{append-nil}
 use Rattle.edd_syntax.specs.ItemView.{attribute_of}
 use Rattle.edd_syntax.specs.NameRules.{is_transaction}
