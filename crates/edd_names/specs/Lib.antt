@@ -1,5 +1,6 @@
 pub mod Directory
 pub mod Faults
+pub mod Limits
 pub mod Meanings
 pub mod Members
 pub mod Numbering
@@ -8,4 +9,5 @@ pub mod ResolvedParts
 pub mod Scopes
 pub mod Seen
 pub mod Spending
+pub mod Units
 pub mod Walks

@@ -2,9 +2,15 @@
 
 use crate::files::read_all;
 use crate::source::unit_of;
+use edd_names::resolve;
+use edd_syntax::checked::Checked;
+use edd_syntax::numbers::{Attr, AttrRef, CmdNo, ItemNo, MenuNo, VarNo};
+use edd_types::check;
 use std::alloc::Global;
 use std::io::{Error, ErrorKind, Read};
 use std::test::Fail;
+
+const IDENTIFICATION: &str = "MANUFACTURER 1, DEVICE_TYPE 2, DEVICE_REVISION 3, DD_REVISION 4\n";
 
 // The identification and the number of items of the unit, or the fault as it prints.
 fn outcome(alloc: Global, text: &str) -> Result<String, Fail> {
@@ -27,17 +33,16 @@ fn outcome(alloc: Global, text: &str) -> Result<String, Fail> {
 #[test]
 fn a_text_comes_to_its_unit_or_its_fault(rt: HostRuntime) -> Result<(), Fail> {
     let alloc = rt.alloc();
-    let head = "MANUFACTURER 1, DEVICE_TYPE 2, DEVICE_REVISION 3, DD_REVISION 4";
-    let items = "\nVARIABLE a { TYPE INTEGER; } MENU b { ITEMS { a } }";
+    let items = "VARIABLE a { TYPE INTEGER; } MENU b { ITEMS { a } }";
     let rows: [(&str, &str); 5] = [
         ("", "1 2 3 4, items 0"),
         (items, "1 2 3 4, items 2"),
-        ("\nVARIABLE a { TYPE INTEGER }", "10 SYNTAX line 2"),
-        ("\n\n\"open", "5 OPEN_STRING line 3"),
-        ("\nIMPORT a", "12 UNSUPPORTED IMPORT"),
+        ("VARIABLE a { TYPE INTEGER }", "10 SYNTAX line 2"),
+        ("\n\"open", "5 OPEN_STRING line 3"),
+        ("IMPORT a", "12 UNSUPPORTED IMPORT"),
     ];
     for (rest, expected) in rows {
-        let text = format!(in alloc; "{head}{rest}")?;
+        let text = format!(in alloc; "{IDENTIFICATION}{rest}")?;
         let printed = outcome(alloc, text.as_str())?;
         assert_eq!(rt; printed.as_str(), expected);
     }
@@ -75,5 +80,92 @@ fn a_file_is_read_to_its_end(rt: HostRuntime) -> Result<(), Fail> {
         is_broken: true,
     };
     assert!(rt; read_all(alloc, &mut broken).is_err());
+    Ok(())
+}
+
+// The checked description, or the fault as it prints.
+fn checked(alloc: Global, text: &str) -> Result<Result<Checked, String>, Fail> {
+    let unit = match unit_of(alloc, text.as_bytes()) {
+        Ok(unit) => unit,
+        Err(fault) => return Ok(Err(format!(in alloc; "{fault}")?)),
+    };
+    let resolved = match resolve(alloc, &unit) {
+        Ok(resolved) => resolved,
+        Err(fault) => return Ok(Err(format!(in alloc; "{fault}")?)),
+    };
+    match check(alloc, &resolved) {
+        Ok(checked) => Ok(Ok(checked)),
+        Err(fault) => Ok(Err(format!(in alloc; "{fault}")?)),
+    }
+}
+
+fn row(item: ItemNo, attr: Attr, sub: u16) -> AttrRef {
+    AttrRef { item, attr, sub }
+}
+
+#[test]
+fn rows_stand_by_kind_attribute_item_and_position(rt: HostRuntime) -> Result<(), Fail> {
+    let alloc = rt.alloc();
+    let items = "MENU m { ITEMS { b } LABEL \"M\"; }
+        VARIABLE a { TYPE INTEGER { MIN_VALUE 1; } LABEL \"A\"; }
+        COMMAND c { NUMBER 1; OPERATION READ; TRANSACTION 0 { REPLY { a } } TRANSACTION 1 { } }
+        VARIABLE b { LABEL \"B\"; TYPE INTEGER; }";
+    let text = format!(in alloc; "{IDENTIFICATION}{items}")?;
+    let (a, b) = (ItemNo::Variable(VarNo(0)), ItemNo::Variable(VarNo(1)));
+    let (command, menu) = (ItemNo::Command(CmdNo(0)), ItemNo::Menu(MenuNo(0)));
+    let expected = [
+        row(a, Attr::Label, 0),
+        row(b, Attr::Label, 0),
+        row(a, Attr::MinValue, 0),
+        row(command, Attr::Number, 0),
+        row(command, Attr::Operation, 0),
+        row(command, Attr::Transaction, 0),
+        row(command, Attr::Transaction, 1),
+        row(command, Attr::Request, 0),
+        row(command, Attr::Request, 1),
+        row(command, Attr::Reply, 0),
+        row(command, Attr::Reply, 1),
+        row(menu, Attr::Label, 0),
+        row(menu, Attr::Items, 0),
+    ];
+    let Ok(checked) = checked(alloc, text.as_str())? else {
+        panic!(rt; "it breaks no rule")
+    };
+    let rows = checked.rows(alloc)?;
+    assert_eq!(rt; rows.as_slice(), expected.as_slice());
+    Ok(())
+}
+
+#[test]
+fn broken_rules_are_named(rt: HostRuntime) -> Result<(), Fail> {
+    let alloc = rt.alloc();
+    let faults: [(&str, &str); 7] = [
+        ("VARIABLE a { LABEL \"A\"; }", "24 MISSING_ATTRIBUTE a TYPE"),
+        (
+            "VARIABLE a { TYPE INTEGER; } MENU a { ITEMS { } }",
+            "20 DUPLICATE_NAME a",
+        ),
+        (
+            "VARIABLE a { TYPE INTEGER; TYPE INTEGER; }",
+            "23 DUPLICATE_ATTRIBUTE TYPE",
+        ),
+        ("MENU m { ITEMS { a } }", "21 UNKNOWN_NAME a"),
+        (
+            "MENU m { ITEMS { } VALIDITY IF (m) { TRUE; } ELSE { FALSE; } }",
+            "22 WRONG_KIND m",
+        ),
+        ("VARIABLE a { TYPE INTEGER (5); }", "32 BAD_SIZE a"),
+        (
+            "METHOD m { DEFINITION { ; break; } }",
+            "35 BREAK_OUTSIDE line 2",
+        ),
+    ];
+    for (items, expected) in faults {
+        let text = format!(in alloc; "{IDENTIFICATION}{items}")?;
+        match checked(alloc, text.as_str())? {
+            Ok(_) => panic!(rt; "it breaks a rule"),
+            Err(fault) => assert_eq!(rt; fault.as_str(), expected),
+        }
+    }
     Ok(())
 }

@@ -5,7 +5,7 @@ mod attributes;
 mod breach;
 mod breaks;
 mod calls;
-mod check;
+mod checking;
 mod conditionals;
 mod constants;
 mod decimals;
@@ -16,3 +16,5 @@ mod rules;
 mod statements;
 mod types;
 mod values;
+
+pub use checking::check;

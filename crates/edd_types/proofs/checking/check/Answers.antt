@@ -5,7 +5,7 @@ use Rattle.edd_syntax.specs.Refusal.{first_of}
 use Rattle.edd_types.specs.Faults.{IsFirstOf}
 use Rattle.edd_types.specs.Rules.{all_broken}
 use Rattle.edd_types.proofs.RuleLaws.{all_rules, nothing_is_first}
-use Rattle.edd_types.proofs.check.check.Goals as goal
+use Rattle.edd_types.proofs.checking.check.Goals as goal
 
 pub new-requires : goal.new-requires
 new-requires c = record {

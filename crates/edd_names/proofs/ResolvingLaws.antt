@@ -1,0 +1,92 @@
+-- A unit that breaks no rule on names is resolved; else the first fault is the first of its breaches.
+use Rattle.std.proofs.Common.{◌≡◌, refl, sym, ap, ◌∙◌, Bool, true, false, List, [], ◌∷◌, ◌++◌, Some, None, append_assoc, subst}
+use Rattle.std.specs.Prelude.{IsTrue, nat_lt}
+use Rattle.std.specs.List.{list_any}
+use Rattle.edd_names.specs.declared.directory.Names.{Names}
+use Rattle.edd_names.specs.declared.fault.NameFault.{NameFault}
+use Rattle.edd_names.specs.Directory.{unit_of}
+use Rattle.edd_names.specs.Faults.{IsFirst}
+use Rattle.edd_names.specs.Meanings.{Means, NoFault, FirstFault, faults_in}
+use Rattle.edd_names.specs.Units.{unit_view}
+use Rattle.edd_names.specs.Walks.{described}
+use Rattle.edd_names.proofs.FirstLaws.{first_of-append_none}
+use Rattle.edd_names.proofs.MemberLaws.{all_named}
+use Rattle.edd_names.proofs.UseLaws.{first_left_of, first_right_of}
+use Rattle.edd_syntax.specs.declared.limits.Limit.TheVariants as limit
+use Rattle.edd_syntax.specs.declared.item.Item as code_item
+use Rattle.edd_syntax.specs.declared.reference.Path as code_path
+use Rattle.edd_syntax.specs.declared.reference.Target.{Target}
+use Rattle.edd_syntax.specs.declared.unit.Unit.{Unit}
+use Rattle.edd_syntax.specs.Accepted.{name_breaches}
+use Rattle.edd_syntax.specs.Item.{Description, Item}
+use Rattle.edd_syntax.specs.ItemView.{identification_of, named_items}
+use Rattle.edd_syntax.specs.NameRules.{item_limit, local_limit, kinds, locals_of, too_many, duplicate_names, duplicate_attributes, missing_attributes, wrong_uses}
+use Rattle.edd_syntax.specs.NameUses.{unit_uses}
+use Rattle.edd_syntax.specs.Reference.{Path}
+use Rattle.edd_syntax.specs.Refusal.{Refusal, TooMany, first_of, refused_if}
+use Rattle.edd_syntax.specs.Resolution.{count_of}
+use Rattle.edd_syntax.specs.Resolved.{IsResolved, description}
+use Rattle.edd_syntax.specs.ResolvedTrees.{◌>>=◌, each, resolved_item, resolved_unit}
+use Rattle.edd_syntax.specs.WellFormed.{are_items}
+
+none_some : {A : Type 0} (x : A) → None ≡ Some x → ⊥
+none_some x e = cc
+
+not_refused : (b : Bool) (why : Refusal) (rest : List Refusal) → None ≡ first_of (refused_if b why ++ rest) → (b ≡ false) × (None ≡ first_of rest)
+not_refused true why rest h = absurd (none_some why h)
+not_refused false why rest h = (refl, h)
+
+-- ---- counts
+
+pub few_items : (items : List (Item Path)) → None ≡ first_of (too_many (described items)) → list_any (λ k. nat_lt item_limit (count_of k items)) kinds ≡ false
+few_items items h = (not_refused (list_any (λ k. nat_lt item_limit (count_of k items)) kinds) (TooMany limit.Items) _ h).0
+
+pub few_locals : (items : List (Item Path)) → None ≡ first_of (too_many (described items)) → list_any (λ i. nat_lt local_limit (locals_of i)) items ≡ false
+few_locals items h =
+    (not_refused (list_any (λ i. nat_lt local_limit (locals_of i)) items) (TooMany limit.Locals) _
+    (not_refused _ (TooMany limit.Transactions) _ (not_refused (list_any (λ k. nat_lt item_limit (count_of k items)) kinds) (TooMany limit.Items) _ h).1).1).0
+
+-- ---- the rules one behind the other
+
+module _ (unit : Description Path) where
+  abbrev pub rules_before : List Refusal
+  rules_before = too_many unit ++ (duplicate_names unit ++ (duplicate_attributes unit ++ missing_attributes unit))
+
+  in_order : name_breaches unit ≡ rules_before ++ wrong_uses unit
+  in_order =
+      sym (append_assoc (too_many unit) (duplicate_names unit ++ (duplicate_attributes unit ++ missing_attributes unit)) (wrong_uses unit)
+      ∙ ap (λ xs. too_many unit ++ xs) (append_assoc (duplicate_names unit) (duplicate_attributes unit ++ missing_attributes unit) (wrong_uses unit))
+      ∙ ap (λ xs. too_many unit ++ (duplicate_names unit ++ xs)) (append_assoc (duplicate_attributes unit) (missing_attributes unit) (wrong_uses unit)))
+
+  pub fault_before : (f : NameFault) → IsFirst f rules_before → IsFirst f (name_breaches unit)
+  fault_before f h = subst (IsFirst f) (sym in_order) (first_left_of f rules_before (wrong_uses unit) h)
+
+  pub fault_in_use : (f : NameFault) → None ≡ first_of rules_before → FirstFault f unit (unit_uses unit) → IsFirst f (name_breaches unit)
+  unfolding FirstFault faults_in
+  fault_in_use f none h = subst (IsFirst f) (sym in_order) (first_right_of f rules_before (wrong_uses unit) none h)
+
+  empty : {A : Type 0} (xs : List A) → None ≡ first_of xs → xs ≡ []
+  empty [] h = refl
+  empty (x ∷ xs) h = absurd (none_some x h)
+
+  pub no_breach : None ≡ first_of rules_before → NoFault unit (unit_uses unit) → name_breaches unit ≡ []
+  unfolding NoFault faults_in
+  no_breach none h = empty (name_breaches unit) (h ∙ sym (first_of-append_none rules_before (wrong_uses unit) none) ∙ sym (ap first_of in_order))
+
+  pub meanings : (items : List (Item Target)) → IsTrue (are_items unit.items) → NoFault unit (unit_uses unit) → Means unit (each (resolved_item unit) unit.items) items → resolved_unit unit ≡ Some (description unit.identification items)
+  unfolding Means resolved_unit
+  meanings items good none h = ap (λ o. o >>= (λ xs. Some (description unit.identification xs))) (h (all_named unit good none))
+
+  pub is_resolved : (items : List (Item Target)) → IsTrue (are_items unit.items) → None ≡ first_of rules_before → NoFault unit (unit_uses unit) → Means unit (each (resolved_item unit) unit.items) items → IsResolved (description unit.identification items)
+  is_resolved items good none fine h = record {
+    unit = unit;
+    well_formed = good;
+    meanings = meanings items good fine h;
+    no_breach = no_breach none fine;
+  }
+
+-- the unit whose names were taken
+pub same_unit : (n : Names) (u : Unit) (xs : List (code_item.Item code_path.Path)) → n.identification ≡ u.identification → n.items.now ≡ xs → xs ≡ u.items.items → unit_of n ≡ unit_view u
+same_unit n u xs identification items value =
+    ap (λ i. description (identification_of i) (named_items n.items.now)) identification
+    ∙ ap (λ ys. description (identification_of u.identification) (named_items ys)) (items ∙ value)

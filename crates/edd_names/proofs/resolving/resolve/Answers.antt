@@ -1,0 +1,36 @@
+use Rattle.std.proofs.Common.{◌≡◌, sym, [], Some, subst}
+use Rattle.std.specs.Prelude.{IfErr, IfOk}
+use Rattle.edd_syntax.specs.Accepted.{name_breaches}
+use Rattle.edd_syntax.specs.ItemView.{identification_of, named_items, numbered_items}
+use Rattle.edd_syntax.specs.Refusal.{first_of}
+use Rattle.edd_syntax.specs.Resolved.{description}
+use Rattle.edd_syntax.specs.ResolvedTrees.{resolved_unit}
+use Rattle.edd_names.specs.Faults.{IsFirst}
+use Rattle.edd_names.specs.Units.{unit_view}
+use Rattle.edd_names.specs.Walks.{described}
+use Rattle.edd_names.proofs.Noting.{memory_refused}
+use Rattle.edd_names.proofs.Passing.{passed}
+use Rattle.edd_names.proofs.ResolvingLaws.{fault_before, rules_before, same_unit}
+use Rattle.edd_names.proofs.resolving.resolve.Goals as goal
+
+pub returns-in_err-check_rules-clause-err : goal.returns-in_err-check_rules-clause-err
+returns-in_err-check_rules-clause-err c =
+    passed c.from_residual.result c.in_err-check_rules.field-0.0 _ c.from_residual.ensures.1
+    (fault_before (unit_view c.args.unit.now) c.in_err-check_rules.field-0.0
+    (subst (λ xs. IsFirst c.in_err-check_rules.field-0.0 (rules_before (described (named_items xs)))) c.deref.ensures.value c.in_err-check_rules.ensures.err))
+
+pub returns-in_err-names-clause-err : goal.returns-in_err-names-clause-err
+returns-in_err-names-clause-err c =
+    passed c.from_residual-in_err-names.result c.in_err-names.field-0.0 _ c.from_residual-in_err-names.ensures.1
+    (subst (λ f. IsFirst f (name_breaches (unit_view c.args.unit.now))) (sym c.in_err-names.ensures.err) (memory_refused (first_of (name_breaches (unit_view c.args.unit.now)))))
+
+pub returns-clause-ok : goal.returns-clause-ok
+returns-clause-ok c =
+    subst (λ d. IfOk c.resolve_uses.result (λ r. resolved_unit d ≡ Some (description (identification_of r.identification) (numbered_items r.items.value.items))))
+    (same_unit c.in_ok-names.names c.args.unit.now c.deref-2.result.now c.in_ok-names.ensures.identification c.in_ok-names.ensures.items c.deref-2.ensures.value) c.resolve_uses.ensures.ok
+
+pub returns-clause-none : goal.returns-clause-none
+returns-clause-none c = subst (λ d. IfOk c.resolve_uses.result (λ r. name_breaches d ≡ [])) (same_unit c.in_ok-names.names c.args.unit.now c.deref-2.result.now c.in_ok-names.ensures.identification c.in_ok-names.ensures.items c.deref-2.ensures.value) c.resolve_uses.ensures.none
+
+pub returns-clause-err : goal.returns-clause-err
+returns-clause-err c = subst (λ d. IfErr c.resolve_uses.result (λ f. IsFirst f (name_breaches d))) (same_unit c.in_ok-names.names c.args.unit.now c.deref-2.result.now c.in_ok-names.ensures.identification c.in_ok-names.ensures.items c.deref-2.ensures.value) c.resolve_uses.ensures.err

@@ -1,0 +1,149 @@
+//! Attributes with the meaning of their names.
+
+ghost use Rattle.std.specs.Prelude.{◌≡◌, ◌≤◌, [], ◌∷◌, IfErr, IfOk, OnOk, map};
+ghost use Rattle.std.specs.List.{flat_map};
+ghost use Rattle.edd_syntax.specs.ItemView.{attribute_of, item_of, member_of, type_word_of};
+ghost use Rattle.edd_syntax.specs.NameUses.{attribute_uses, body_uses};
+ghost use Rattle.edd_syntax.specs.Resolution.{member_kinds};
+ghost use Rattle.edd_syntax.specs.ResolvedTrees.{each, resolved_attribute, resolved_body, resolved_member};
+ghost use Rattle.edd_syntax.specs.Statement.{body_from, slots_in};
+ghost use Rattle.edd_syntax.specs.TreeView.{path_of, part_of};
+ghost use Rattle.edd_names.specs.declared.fault.NameFault.TheVariants.{NoMemory};
+ghost use Rattle.edd_names.specs.Directory.{unit_of};
+ghost use Rattle.edd_names.specs.Meanings.{Means, NoFault, FirstFault};
+ghost use Rattle.edd_names.specs.ResolvedParts.{member_uses};
+ghost use Rattle.edd_names.specs.Spending.{locals_in};
+
+use crate::branches::{copy_cond, copy_conds};
+use crate::directory::Names;
+use crate::fault::NameFault;
+use crate::parts::{copy_members, copy_transaction_parts, copy_type_parts};
+use crate::statements::copy_body;
+use crate::texts::{copy_responses, copy_words};
+use edd_syntax::item::{Attribute, Item, Member, TypeWord};
+use edd_syntax::reference::{Path, Target};
+use edd_syntax::stmt::Part;
+use std::alloc::Global;
+
+fn copy_type_word(word: &TypeWord, alloc: Global) -> Result<TypeWord, NameFault>
+    ensures ok { IfOk result (λ w. type_word_of w ≡ type_word_of word.now) }
+    ensures err { IfErr result (λ f. f ≡ NoMemory) }
+{
+    match word {
+        TypeWord::Known { kind, size } => Ok(TypeWord::Known {
+            kind: *kind,
+            size: *size,
+        }),
+        TypeWord::Other(text) => Ok(TypeWord::Other(String::from_str(alloc, text)?)),
+    }
+}
+
+// The body of a method, whose locals take the slots from 0 on.
+#[tactic(auto, using(crate::proofs::UseLaws::faults))]
+fn copy_definition(parts: &[Part<Path>], names: &Names) -> Result<Vec<Part<Target>>, NameFault>
+    requires { slots_in (body_from (map (part_of path_of) parts.now)) ≤ 64 }
+    ensures none { IfOk result (λ t. NoFault (unit_of names.now) (body_uses (body_from (map (part_of path_of) parts.now)) [] 0)) }
+    ensures ok { IfOk result (λ t. Means (unit_of names.now)
+        (resolved_body (unit_of names.now) (body_from (map (part_of path_of) parts.now)) [] 0) (body_from (map (part_of (λ r. r)) t.items))) }
+    ensures err { IfErr result (λ f. FirstFault f (unit_of names.now) (body_uses (body_from (map (part_of path_of) parts.now)) [] 0)) }
+{
+    let mut next = 0;
+    copy_body(parts, names, &[], &mut next)
+}
+
+// The members of an item: those of a collection are of the kind after OF.
+#[tactic(auto, using(crate::proofs::UseLaws::faults))]
+fn copy_members_of(
+    item: &Item<Path>,
+    members: &[Member<Path>],
+    names: &Names,
+) -> Result<Vec<Member<Target>>, NameFault>
+    ensures none { IfOk result (λ t. NoFault (unit_of names.now) (flat_map (member_uses (member_kinds (item_of path_of item.now).sort)) (map (member_of path_of) members.now))) }
+    ensures ok { IfOk result (λ t. Means (unit_of names.now)
+        (each (resolved_member (unit_of names.now) (member_kinds (item_of path_of item.now).sort)) (map (member_of path_of) members.now)) (map (member_of (λ r. r)) t.items)) }
+    ensures err { IfErr result (λ f. FirstFault f (unit_of names.now) (flat_map (member_uses (member_kinds (item_of path_of item.now).sort)) (map (member_of path_of) members.now))) }
+{
+    match item {
+        Item::Collection(d) => copy_members(members, names, &[d.of]),
+        Item::Variable(_) | Item::Command(_) | Item::Menu(_) | Item::Method(_) => {
+            copy_members(members, names, &[])
+        }
+    }
+}
+
+#[tactic(auto, using(crate::proofs::UseLaws::faults), unfolding(crate::specs::Meanings::Means))]
+fn copy_attribute(
+    attribute: &Attribute<Path>,
+    names: &Names,
+    item: &Item<Path>,
+) -> Result<Attribute<Target>, NameFault>
+    requires { locals_in (attribute_of path_of attribute.now ∷ []) ≤ 64 }
+    ensures none { IfOk result (λ t. NoFault (unit_of names.now) (attribute_uses (item_of path_of item.now).sort (attribute_of path_of attribute.now))) }
+    ensures ok { IfOk result (λ t. Means (unit_of names.now)
+        (resolved_attribute (unit_of names.now) (item_of path_of item.now).sort (attribute_of path_of attribute.now)) (attribute_of (λ r. r) t)) }
+    ensures err { IfErr result (λ f. FirstFault f (unit_of names.now) (attribute_uses (item_of path_of item.now).sort (attribute_of path_of attribute.now))) }
+{
+    let alloc = names.alloc;
+    match attribute {
+        Attribute::Label(c) => Ok(Attribute::Label(copy_cond(c, names)?)),
+        Attribute::Help(c) => Ok(Attribute::Help(copy_cond(c, names)?)),
+        Attribute::Class(words) => Ok(Attribute::Class(copy_words(words, alloc)?)),
+        Attribute::Handling(c) => Ok(Attribute::Handling(copy_cond(c, names)?)),
+        Attribute::ConstantUnit(c) => Ok(Attribute::ConstantUnit(copy_cond(c, names)?)),
+        Attribute::Validity(c) => Ok(Attribute::Validity(copy_cond(c, names)?)),
+        Attribute::TypeOf { word, parts } => {
+            let parts = copy_type_parts(parts, names)?;
+            let word = copy_type_word(word, alloc)?;
+            Ok(Attribute::TypeOf { word, parts })
+        }
+        Attribute::Number(n) => Ok(Attribute::Number(*n)),
+        Attribute::Operation(o) => Ok(Attribute::Operation(*o)),
+        Attribute::Transaction { number, parts } => {
+            let parts = copy_transaction_parts(parts, names)?;
+            Ok(Attribute::Transaction {
+                number: *number,
+                parts,
+            })
+        }
+        Attribute::ResponseCodes(all) => Ok(Attribute::ResponseCodes(copy_responses(all, alloc)?)),
+        Attribute::Items(entries) => Ok(Attribute::Items(copy_conds(entries, names)?)),
+        Attribute::Members(all) => Ok(Attribute::Members(copy_members_of(item, all, names)?)),
+        Attribute::Definition(parts) => Ok(Attribute::Definition(copy_definition(parts, names)?)),
+    }
+}
+
+#[tactic(auto, using(crate::proofs::UseLaws::faults))]
+fn add_attributes(
+    attributes: &[Attribute<Path>],
+    names: &Names,
+    item: &Item<Path>,
+    copies: &mut Vec<Attribute<Target>>,
+) -> Result<(), NameFault>
+    requires room { locals_in (map (attribute_of path_of) attributes.now) ≤ 64 }
+    requires empty { copies.old.items ≡ [] }
+    ensures none { OnOk result (NoFault (unit_of names.now) (flat_map (attribute_uses (item_of path_of item.now).sort) (map (attribute_of path_of) attributes.now))) }
+    ensures ok { OnOk result (Means (unit_of names.now) (each (resolved_attribute (unit_of names.now) (item_of path_of item.now).sort) (map (attribute_of path_of) attributes.now)) (map (attribute_of (λ r. r)) copies.new.items)) }
+    ensures err { IfErr result (λ f. FirstFault f (unit_of names.now) (flat_map (attribute_uses (item_of path_of item.now).sort) (map (attribute_of path_of) attributes.now))) }
+{
+    for attribute in attributes {
+        copies.push(copy_attribute(attribute, names, item)?)?;
+    }
+    Ok(())
+}
+
+/// The attributes of an item with the meaning of their names.
+#[tactic(auto, using(crate::proofs::UseLaws::faults))]
+pub fn copy_attributes(
+    attributes: &[Attribute<Path>],
+    names: &Names,
+    item: &Item<Path>,
+) -> Result<Vec<Attribute<Target>>, NameFault>
+    requires { locals_in (map (attribute_of path_of) attributes.now) ≤ 64 }
+    ensures none { IfOk result (λ t. NoFault (unit_of names.now) (flat_map (attribute_uses (item_of path_of item.now).sort) (map (attribute_of path_of) attributes.now))) }
+    ensures ok { IfOk result (λ t. Means (unit_of names.now) (each (resolved_attribute (unit_of names.now) (item_of path_of item.now).sort) (map (attribute_of path_of) attributes.now)) (map (attribute_of (λ r. r)) t.items)) }
+    ensures err { IfErr result (λ f. FirstFault f (unit_of names.now) (flat_map (attribute_uses (item_of path_of item.now).sort) (map (attribute_of path_of) attributes.now))) }
+{
+    let mut copies = Vec::new(names.alloc);
+    add_attributes(attributes, names, item, &mut copies)?;
+    Ok(copies)
+}
