@@ -1,6 +1,5 @@
 -- When the bytes of an image say of a description what its tree means, methods aside.
-use Rattle.std.specs.Prelude.{◌≡◌, ℕ, ◌+◌, ℤ, List, [], ◌∷◌, map, slice_get, Option, Some, None, option_map, Result, Ok, Err, if◌then◌else◌, ⊤}
-use Rattle.edd_syntax.specs.declared.answer.Trap.{Trap}
+use Rattle.std.specs.Prelude.{◌≡◌, ℕ, ◌+◌, ℤ, List, [], ◌∷◌, slice_get, Option, Some, None, option_map, Ok, Err, if◌then◌else◌, ⊤}
 use Rattle.edd_syntax.specs.declared.numbers.Kind.{Kind}
 use Rattle.edd_syntax.specs.declared.numbers.Kind.TheVariants as kind
 use Rattle.edd_syntax.specs.declared.numbers.StrNo.{StrNo}
@@ -12,7 +11,7 @@ use Rattle.edd_syntax.specs.declared.types.ResponseClass.TheVariants as class
 use Rattle.edd_syntax.specs.Text.{Name}
 use Rattle.edd_syntax.specs.declared.reference.Target.{Target}
 use Rattle.edd_syntax.specs.Words.{Words}
-use Rattle.edd_syntax.specs.Item.{Item, Identification, Description}
+use Rattle.edd_syntax.specs.Item.{Identification, Description}
 use Rattle.edd_syntax.specs.Resolution.{count_of}
 use Rattle.edd_syntax.specs.Device.{item_at, environment}
 use Rattle.edd_syntax.specs.DeviceValues.{AreDeviceValues}

@@ -1,4 +1,4 @@
-use Rattle.std.proofs.Common.{◌≡◌, ◌∙◌, ap, sym}
+use Rattle.std.proofs.Common.{ap}
 use Rattle.std.proofs.lemmas.Result.{err_from_is_err_and}
 use Rattle.edd_tool.specs.Faults.{of_parse}
 use Rattle.edd_tool.proofs.TextUnits.{is_unit, is_spelled, explained}
