@@ -3,7 +3,7 @@ use Rattle.std.proofs.Common.{◌≡◌, sym, ap, ◌∙◌, ℕ, ◌+◌, ◌<�
 use Rattle.std.specs.Prelude.{true, not, is_some, MatchOption, option_and_then, if◌then◌else◌}
 use Rattle.std.proofs.lemmas.Bool.{false≢true}
 use Rattle.std.proofs.lemmas.List.{at_drop_more}
-use Rattle.edd_names.specs.declared.target.Place.{Place}
+use Rattle.edd_names.specs.declared.places.Place.{Place}
 use Rattle.edd_names.specs.Meanings.{AllMembersNamed, Means, item_among}
 use Rattle.edd_names.specs.Paths.{Reaches}
 use Rattle.edd_syntax.specs.declared.numbers.Kind.{Kind}

@@ -1,6 +1,6 @@
 -- How far along a path.
 use Rattle.std.specs.Prelude.{◌≡◌, true, List, Option, Some, is_some, option_and_then}
-use Rattle.edd_names.specs.declared.target.Place.{Place}
+use Rattle.edd_names.specs.declared.places.Place.{Place}
 use Rattle.edd_names.specs.Meanings.{AllMembersNamed}
 use Rattle.edd_syntax.specs.declared.numbers.Kind.{Kind}
 use Rattle.edd_syntax.specs.declared.numbers.ItemNo.{ItemNo}

@@ -15,7 +15,7 @@ ghost use Rattle.edd_names.specs.Paths.{Reaches};
 
 use crate::directory::Names;
 use crate::fault::NameFault;
-use crate::target::{Place, is_among, is_same, kind_of_number, place_of_member, wrong_kind};
+use crate::places::{Place, is_among, is_same, kind_of_number, place_of_member, wrong_kind};
 use edd_syntax::numbers::{ItemNo, Kind, VarNo};
 use edd_syntax::reference::{Path, Target};
 

@@ -13,7 +13,7 @@ ghost use Rattle.edd_names.specs.Meanings.{Means, NoFault, FirstFault, scope_of}
 use crate::directory::Names;
 use crate::fault::NameFault;
 use crate::follow::follow;
-use crate::target::{unknown_name, wrong_kind};
+use crate::places::{unknown_name, wrong_kind};
 use edd_syntax::numbers::Kind;
 use edd_syntax::operators::Builtin;
 use edd_syntax::reference::{Path, Target};

@@ -4,7 +4,7 @@ use Rattle.edd_syntax.specs.ItemView.{member_of}
 use Rattle.edd_syntax.specs.TreeView.{path_of}
 use Rattle.edd_syntax.specs.Resolution.{item_named, of_kind}
 use Rattle.edd_names.specs.Directory.{unit_of}
-use Rattle.edd_names.proofs.target.place_of_member.Goals as goal
+use Rattle.edd_names.proofs.places.place_of_member.Goals as goal
 
 pub returns-in-Some-clause-ok : goal.returns-in-Some-clause-ok
 returns-in-Some-clause-ok c = (
