@@ -1,3 +1,2 @@
-pub mod Agreement
 pub mod Faults
 pub mod Sources

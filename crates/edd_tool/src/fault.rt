@@ -1,10 +1,13 @@
 //! Why a text is not compiled.
 
 ghost use Rattle.std.specs.Prelude.{◌≡◌};
-ghost use Rattle.edd_tool.specs.Faults.{of_lex, of_parse};
+ghost use Rattle.edd_tool.specs.Faults.{of_lex, of_parse, of_name, of_type};
 
 use edd_lexer::fault::LexFault;
+use edd_names::fault::NameFault;
 use edd_parser::fault::ParseFault;
+use edd_types::fault::TypeFault;
+use std::alloc::{AllocError, AllocFailed};
 use thiserror::Error;
 
 /// Why a text is not compiled. It prints its number, its kind and what is at fault.
@@ -14,6 +17,16 @@ pub enum Fault {
     Lex(LexFault),
     #[error("{0}")]
     Parse(ParseFault),
+    #[error("{0}")]
+    Name(NameFault),
+    #[error("{0}")]
+    Type(TypeFault),
+    /// The first word in the source that stands for what no image can say yet.
+    #[error("12 UNSUPPORTED {0}")]
+    NotWritten(&'static str),
+    /// More than 65,535 different strings.
+    #[error("40 TOO_MANY strings")]
+    TooManyStrings,
     #[error("no memory")]
     Memory,
 }
@@ -37,5 +50,47 @@ impl From<ParseFault> for Fault {
             ParseFault::Memory => Fault::Memory,
             other => Fault::Parse(other),
         }
+    }
+}
+
+impl From<NameFault> for Fault {
+    ghost from_gives = { λ given made. made ≡ of_name given };
+
+    fn from(fault: NameFault) -> Fault {
+        match fault {
+            NameFault::NoMemory => Fault::Memory,
+            other => Fault::Name(other),
+        }
+    }
+}
+
+impl From<TypeFault> for Fault {
+    ghost from_gives = { λ given made. made ≡ of_type given };
+
+    fn from(fault: TypeFault) -> Fault {
+        match fault {
+            TypeFault::Memory => Fault::Memory,
+            other => Fault::Type(other),
+        }
+    }
+}
+
+impl From<AllocError> for Fault {
+    ghost use Rattle.edd_tool.specs.declared.fault.Fault.TheVariants.{Memory};
+
+    ghost from_gives = { λ _ made. made ≡ Memory };
+
+    fn from(_error: AllocError) -> Fault {
+        Fault::Memory
+    }
+}
+
+impl<T: Drop> From<AllocFailed<T>> for Fault {
+    ghost use Rattle.edd_tool.specs.declared.fault.Fault.TheVariants.{Memory};
+
+    ghost from_gives = { λ _ made. made ≡ Memory };
+
+    fn from(_error: AllocFailed<T>) -> Fault {
+        Fault::Memory
     }
 }

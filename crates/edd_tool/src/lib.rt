@@ -1,8 +1,12 @@
 //! The compiler as one call, and the program `edd` over given words, files and output.
 #![tactic(auto)]
 
-pub mod fault;
-pub mod files;
-pub mod source;
-#[cfg(test)]
-mod tests;
+mod fault;
+mod files;
+mod source;
+mod unwritten;
+
+pub use fault::Fault;
+pub use files::{FileFault, Files, read_all};
+pub use source::{checked_of, unit_of};
+pub use unwritten::unwritten_word;
