@@ -1,0 +1,34 @@
+//! Why the lines of an image are not all printed.
+
+use edd_machine::ReadFault;
+use std::alloc::{AllocError, AllocFailed};
+use std::fmt;
+
+/// Why not all lines were printed.
+#[derive(Debug, Drop)]
+pub enum ShowFault {
+    /// The output could not be written.
+    Output,
+    /// The values are not those of a device.
+    WrongValues,
+    Memory,
+}
+
+impl From<AllocError> for ShowFault {
+    fn from(_error: AllocError) -> ShowFault {
+        ShowFault::Memory
+    }
+}
+
+impl<T: Drop> From<AllocFailed<T>> for ShowFault {
+    fn from(_error: AllocFailed<T>) -> ShowFault {
+        ShowFault::Memory
+    }
+}
+
+// A String that is written to fails for want of memory alone.
+impl From<fmt::Error> for ShowFault {
+    fn from(_error: fmt::Error) -> ShowFault {
+        ShowFault::Memory
+    }
+}

@@ -1,0 +1,251 @@
+//! The lines of the items of an image.
+
+use crate::fault::ShowFault;
+use crate::lines::print;
+use crate::page::Page;
+use crate::records::push_records;
+use crate::words::{attribute_word, kind_word, type_word};
+use edd_image::{Counts, Record, VarKind};
+use edd_loader::Image;
+use edd_machine::{ReadFault, Values, attribute};
+use edd_syntax::numbers::{Attr, AttrRef, CmdNo, CollNo, ItemNo, KINDS, Kind, MenuNo, MethNo, VarNo};
+use std::alloc::Global;
+use std::fmt::Write as _;
+use std::io::Write;
+
+/// The attributes that stand before those of the transactions, by their numbers.
+const BEFORE_TRANSACTIONS: [Attr; 14] = [
+    Attr::Label,
+    Attr::Help,
+    Attr::Class,
+    Attr::Handling,
+    Attr::ConstantUnit,
+    Attr::Validity,
+    Attr::DefaultValue,
+    Attr::MinValue,
+    Attr::MaxValue,
+    Attr::DisplayFormat,
+    Attr::EditFormat,
+    Attr::Enumerators,
+    Attr::Number,
+    Attr::Operation,
+];
+
+/// Those of a transaction.
+const OF_TRANSACTIONS: [Attr; 3] = [Attr::Transaction, Attr::Request, Attr::Reply];
+
+/// Those behind the transactions.
+const BEHIND_TRANSACTIONS: [Attr; 3] = [Attr::ResponseCodes, Attr::Items, Attr::Members];
+
+// What a read of an attribute comes to.
+#[derive(Drop)]
+enum Found {
+    Nothing,
+    Records(Vec<Record>),
+    Trap(&'static str),
+}
+
+fn read(alloc: Global, page: &Page<'_>, row: AttrRef, values: &Values) -> Result<Found, ShowFault> {
+    match attribute(alloc, page.image, row, values) {
+        Ok(records) => Ok(Found::Records(records)),
+        Err(ReadFault::NoItem) => Ok(Found::Nothing),
+        Err(ReadFault::DivZero) => Ok(Found::Trap("DIV_ZERO")),
+        Err(ReadFault::DivOverflow) => Ok(Found::Trap("DIV_OVERFLOW")),
+        Err(ReadFault::BadShift) => Ok(Found::Trap("BAD_SHIFT")),
+        Err(ReadFault::WrongValues) => Err(ShowFault::WrongValues),
+        Err(ReadFault::Memory) => Err(ShowFault::Memory),
+    }
+}
+
+// Prints a line that begins with this word.
+fn print_found<W: Write>(
+    alloc: Global,
+    page: &Page<'_>,
+    word: String,
+    found: Found,
+    out: &mut W,
+) -> Result<(), ShowFault> {
+    let mut line = word;
+    match found {
+        Found::Nothing => {}
+        Found::Records(records) => push_records(page, &mut line, &records)?,
+        Found::Trap(why) => write!(line, " fault {why}")?,
+    }
+    print(alloc, out, line.as_str())
+}
+
+// The line of an attribute, where it gives anything.
+fn print_attribute<W: Write>(
+    alloc: Global,
+    page: &Page<'_>,
+    values: &Values,
+    row: AttrRef,
+    out: &mut W,
+) -> Result<(), ShowFault> {
+    let found = read(alloc, page, row, values)?;
+    let is_empty = match &found {
+        Found::Nothing => true,
+        Found::Records(records) => records.is_empty(),
+        Found::Trap(_) => false,
+    };
+    if is_empty {
+        return Ok(());
+    }
+    let word = String::from_str(alloc, attribute_word(row.attr))?;
+    print_found(alloc, page, word, found, out)
+}
+
+fn print_attributes<W: Write>(
+    alloc: Global,
+    page: &Page<'_>,
+    values: &Values,
+    item: ItemNo,
+    attributes: &[Attr],
+    out: &mut W,
+) -> Result<(), ShowFault> {
+    for attr in attributes {
+        let row = AttrRef {
+            item,
+            attr: *attr,
+            sub: 0,
+        };
+        print_attribute(alloc, page, values, row, out)?;
+    }
+    Ok(())
+}
+
+// The three lines of a transaction, if there is one at this position.
+fn print_transaction<W: Write>(
+    alloc: Global,
+    page: &Page<'_>,
+    values: &Values,
+    item: ItemNo,
+    sub: u16,
+    out: &mut W,
+) -> Result<bool, ShowFault> {
+    for attr in OF_TRANSACTIONS {
+        let row = AttrRef { item, attr, sub };
+        let found = read(alloc, page, row, values)?;
+        if attr == Attr::Transaction && matches!(&found, Found::Nothing) {
+            return Ok(false);
+        }
+        let word = format!(in alloc; "{}[{sub}]", attribute_word(attr))?;
+        print_found(alloc, page, word, found, out)?;
+    }
+    Ok(true)
+}
+
+fn print_transactions<W: Write>(
+    alloc: Global,
+    page: &Page<'_>,
+    values: &Values,
+    item: ItemNo,
+    out: &mut W,
+) -> Result<(), ShowFault> {
+    for sub in 0..=u16::MAX {
+        if !print_transaction(alloc, page, values, item, sub, out)? {
+            return Ok(());
+        }
+    }
+    Ok(())
+}
+
+fn item_number(kind: Kind, number: u16) -> ItemNo {
+    match kind {
+        Kind::Variable => ItemNo::Variable(VarNo(number)),
+        Kind::Command => ItemNo::Command(CmdNo(number)),
+        Kind::Menu => ItemNo::Menu(MenuNo(number)),
+        Kind::Collection => ItemNo::Collection(CollNo(number)),
+        Kind::Method => ItemNo::Method(MethNo(number)),
+    }
+}
+
+// The first line of an item: a variable has its type and its size behind its name.
+fn print_head<W: Write>(
+    alloc: Global,
+    page: &Page<'_>,
+    kind: Kind,
+    item: ItemNo,
+    out: &mut W,
+) -> Result<(), ShowFault> {
+    let (word, name) = (kind_word(kind), page.name(item));
+    let of: Option<VarKind> = match item {
+        ItemNo::Variable(number) => page.image.variable(number),
+        _ => None,
+    };
+    match of {
+        Some(of) => {
+            let text = type_word(of.var_type);
+            print(alloc, out, format_args!("{word} {name} {text} {}", of.size))
+        }
+        None => print(alloc, out, format_args!("{word} {name}")),
+    }
+}
+
+fn print_item<W: Write>(
+    alloc: Global,
+    page: &Page<'_>,
+    values: &Values,
+    kind: Kind,
+    number: u16,
+    out: &mut W,
+) -> Result<(), ShowFault> {
+    let item = item_number(kind, number);
+    print_head(alloc, page, kind, item, out)?;
+    print_attributes(alloc, page, values, item, &BEFORE_TRANSACTIONS, out)?;
+    if kind == Kind::Command {
+        print_transactions(alloc, page, values, item, out)?;
+    }
+    print_attributes(alloc, page, values, item, &BEHIND_TRANSACTIONS, out)
+}
+
+fn count_of(counts: &Counts, kind: Kind) -> u16 {
+    match kind {
+        Kind::Variable => counts.variables,
+        Kind::Command => counts.commands,
+        Kind::Menu => counts.menus,
+        Kind::Collection => counts.collections,
+        Kind::Method => counts.methods,
+    }
+}
+
+fn print_kind<W: Write>(
+    alloc: Global,
+    page: &Page<'_>,
+    values: &Values,
+    kind: Kind,
+    out: &mut W,
+) -> Result<(), ShowFault> {
+    let count = count_of(&page.image.counts(), kind);
+    for number in 0..count {
+        print_item(alloc, page, values, kind, number, out)?;
+    }
+    Ok(())
+}
+
+/// Prints the identification, and each item by kind and number, with its attributes by theirs.
+pub fn show<W: Write>(
+    alloc: Global,
+    image: &Image,
+    values: &Values,
+    language: &str,
+    out: &mut W,
+) -> Result<(), ShowFault> {
+    let page = Page { image, language };
+    let c = image.counts();
+    let (maker, device, revision, dd) = (
+        c.manufacturer,
+        c.device_type,
+        c.device_revision,
+        c.dd_revision,
+    );
+    print(
+        alloc,
+        out,
+        format_args!("identification {maker} {device} {revision} {dd}"),
+    )?;
+    for kind in KINDS {
+        print_kind(alloc, &page, values, kind, out)?;
+    }
+    Ok(())
+}

@@ -1,0 +1,15 @@
+//! What an image shows: its items and their attributes as lines, under the values of variables that a script sets.
+#![tactic(auto)]
+
+mod fault;
+mod items;
+mod lines;
+mod page;
+mod records;
+mod script;
+mod words;
+
+pub use fault::ShowFault;
+pub use items::show;
+pub use lines::{print, print_text};
+pub use script::{ScriptFault, set_values};

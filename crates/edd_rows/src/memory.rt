@@ -1,0 +1,129 @@
+//! Files and an output over memory, of which a call can be made to fail.
+use crate::rows::Given;
+use edd_tool::{FileFault, Files};
+use std::cell::Cell;
+use std::io;
+use std::io::{Read, Write};
+
+/// How many further calls pass, and whether one has failed.
+#[derive(Drop)]
+pub struct Passes {
+    left: Cell<u32>,
+    has_failed: Cell<bool>,
+}
+
+impl Passes {
+    pub fn new(count: u32) -> Passes {
+        Passes {
+            left: Cell::new(count),
+            has_failed: Cell::new(false),
+        }
+    }
+
+    /// Counts a call, and says whether it passes.
+    pub fn passes(&self) -> bool {
+        match self.left.get().checked_sub(1) {
+            Some(left) => self.left.set(left),
+            None => self.has_failed.set(true),
+        }
+        !self.has_failed.get()
+    }
+
+    pub fn has_failed(&self) -> bool {
+        self.has_failed.get()
+    }
+}
+
+/// Files by name, and the bytes that were saved last.
+#[derive(Drop)]
+pub struct MemoryFiles<'a> {
+    pub saved: Vec<u8>,
+    pub files: &'a [Given<'a>],
+    pub opens: &'a Passes,
+    pub reads: &'a Passes,
+    pub saves: &'a Passes,
+}
+
+/// The file of this name has no end, and its reads do not count.
+const ENDLESS: &str = "endless";
+
+/// Gives at most seven bytes a read.
+#[derive(Drop)]
+pub struct MemoryReader<'a> {
+    rest: &'a [u8],
+    is_endless: bool,
+    reads: &'a Passes,
+}
+
+impl Read for MemoryReader<'_> {
+    fn read(&mut self, buf: &mut [u8]) -> io::Result<usize> {
+        if self.is_endless {
+            return Ok(buf.len());
+        }
+        if !self.reads.passes() {
+            return Err(io::Error::from(io::ErrorKind::Other));
+        }
+        let room = buf.len().min(7);
+        self.rest.read(&mut buf[..room])
+    }
+}
+
+impl<'a> Files for MemoryFiles<'a> {
+    type Reader = MemoryReader<'a>;
+
+    fn open(&mut self, name: &str) -> Result<MemoryReader<'a>, FileFault> {
+        if !self.opens.passes() {
+            return Err(FileFault::Failed);
+        }
+        if name == ENDLESS {
+            return Ok(MemoryReader {
+                rest: b"",
+                is_endless: true,
+                reads: self.reads,
+            });
+        }
+        for file in self.files {
+            if file.name == name {
+                return Ok(MemoryReader {
+                    rest: file.bytes.as_slice(),
+                    is_endless: false,
+                    reads: self.reads,
+                });
+            }
+        }
+        Err(FileFault::Failed)
+    }
+
+    fn save(&mut self, _name: &str, bytes: &[u8]) -> Result<(), FileFault> {
+        if !self.saves.passes() {
+            return Err(FileFault::Failed);
+        }
+        self.saved.clear();
+        match self.saved.extend_from_slice(bytes) {
+            Ok(()) => Ok(()),
+            Err(_) => Err(FileFault::Memory),
+        }
+    }
+}
+
+/// Keeps what is written, in room that was made beforehand. Takes at most eleven bytes a write.
+#[derive(Drop)]
+pub struct MemoryOutput<'a> {
+    pub bytes: Vec<u8>,
+    pub writes: &'a Passes,
+}
+
+impl Write for MemoryOutput<'_> {
+    fn write(&mut self, buf: &[u8]) -> io::Result<usize> {
+        if !self.writes.passes() {
+            return Err(io::Error::from(io::ErrorKind::Other));
+        }
+        let count = buf.len().min(11);
+        self.bytes.extend_from_slice(&buf[..count])?;
+        Ok(count)
+    }
+
+    fn flush(&mut self) -> io::Result<()> {
+        Ok(())
+    }
+}

@@ -1,0 +1,148 @@
+//! One run of a row, with all calls passing or with one kind of call failing from some call on.
+use crate::memory::{MemoryFiles, MemoryOutput, Passes};
+use crate::rows::Row;
+use std::alloc::{AllocError, Global};
+use std::fmt;
+
+/// The most calls of one kind that a row makes.
+pub const MOST_CALLS: u32 = 1_000_000;
+
+/// Room for what is printed beside the row's lines.
+const ROOM: usize = 4096;
+
+/// Which kind of call fails.
+#[derive(Clone, Copy, PartialEq, Eq)]
+pub enum Trial {
+    None,
+    Reads,
+    Opens,
+    Saves,
+    Writes,
+}
+
+#[derive(Drop)]
+pub enum Verdict {
+    /// What the row says, or what a failing call is to bring.
+    AsWritten,
+    /// Want of memory, as it is to be answered.
+    Refused,
+    Other(Printed),
+}
+
+#[derive(Drop)]
+pub struct Printed {
+    status: u8,
+    bytes: Vec<u8>,
+    saved: Vec<u8>,
+}
+
+impl fmt::Display for Printed {
+    fn fmt<W: fmt::Write>(&self, f: &mut fmt::Formatter<W>) -> fmt::Result {
+        let text = str::from_utf8(self.bytes.as_slice()).unwrap_or("no text");
+        write!(f, "status {}\n{text}", self.status)?;
+        for byte in &self.saved {
+            write!(f, "{byte:02X} ")?;
+        }
+        Ok(())
+    }
+}
+
+fn passes(trial: Trial, failing: Trial, count: u32) -> Passes {
+    if trial == failing {
+        Passes::new(count)
+    } else {
+        Passes::new(u32::MAX)
+    }
+}
+
+fn words(alloc: Global, row: &Row<'_>) -> Result<Vec<String>, AllocError> {
+    let mut words = Vec::new(alloc);
+    for word in row.words.split(' ') {
+        words.push(String::from_str(alloc, word)?)?;
+    }
+    Ok(words)
+}
+
+/// Runs the row, and says whether no call has failed.
+pub fn run(
+    alloc: Global,
+    row: &Row<'_>,
+    trial: Trial,
+    count: u32,
+) -> Result<(Verdict, bool), AllocError> {
+    let words = words(alloc, row)?;
+    let bytes = Vec::with_capacity(alloc, row.lines.len().saturating_add(ROOM))?;
+    let opens = passes(Trial::Opens, trial, count);
+    let reads = passes(Trial::Reads, trial, count);
+    let saves = passes(Trial::Saves, trial, count);
+    let writes = passes(Trial::Writes, trial, count);
+    let mut files = MemoryFiles {
+        saved: Vec::new(alloc),
+        files: row.files.as_slice(),
+        opens: &opens,
+        reads: &reads,
+        saves: &saves,
+    };
+    let mut out = MemoryOutput {
+        bytes,
+        writes: &writes,
+    };
+    let status = edd_tool::run(alloc, words.as_slice(), &mut files, &mut out);
+    let MemoryOutput { bytes, writes: _ } = out;
+    let MemoryFiles { saved, .. } = files;
+    let has_no_file = opens.has_failed() || reads.has_failed() || saves.has_failed();
+    let has_no_output = writes.has_failed();
+    let printed = Printed {
+        status,
+        bytes,
+        saved,
+    };
+    let is_last = !has_no_file && !has_no_output;
+    Ok((judge(row, printed, has_no_file, has_no_output), is_last))
+}
+
+fn judge(row: &Row<'_>, printed: Printed, has_no_file: bool, has_no_output: bool) -> Verdict {
+    let text = str::from_utf8(printed.bytes.as_slice()).unwrap_or("no text");
+    if printed.status == 4 && is_refusal(row, text) {
+        return Verdict::Refused;
+    }
+    let is_right = if has_no_file {
+        printed.status == 3 && is_file_fault(row, text)
+    } else if has_no_output {
+        printed.status == 3 && row.lines.starts_with(text)
+    } else {
+        row.status.parse::<u8>() == Ok(printed.status)
+            && text == row.lines
+            && is_image(row, &printed.saved)
+    };
+    if is_right {
+        Verdict::AsWritten
+    } else {
+        Verdict::Other(printed)
+    }
+}
+
+fn is_image(row: &Row<'_>, saved: &[u8]) -> bool {
+    match &row.image {
+        Some(image) => image.as_slice() == saved,
+        None => true,
+    }
+}
+
+// Whole lines of the row, and then `no memory`.
+fn is_refusal(row: &Row<'_>, text: &str) -> bool {
+    let Some(before) = text.strip_suffix("no memory\n") else {
+        return false;
+    };
+    (before.is_empty() || before.ends_with('\n')) && row.lines.starts_with(before)
+}
+
+// `file NAME`, for a word of the command line.
+fn is_file_fault(row: &Row<'_>, text: &str) -> bool {
+    let Some(name) = text.strip_prefix("file ") else {
+        return false;
+    };
+    row.words
+        .split(' ')
+        .any(|word| name.strip_suffix('\n') == Some(word))
+}
