@@ -14,3 +14,7 @@ pub mod BlocksRise
 pub mod KnownByNumber
 pub mod ItemForms
 pub mod RowsPlaced
+pub mod SoundNames
+pub mod SoundStrings
+pub mod SoundAttributes
+pub mod SoundSections
