@@ -18,3 +18,5 @@ pub mod SoundNames
 pub mod SoundStrings
 pub mod SoundAttributes
 pub mod SoundSections
+pub mod NamesAgree
+pub mod RecordsAgree
