@@ -20,3 +20,4 @@ pub mod SoundAttributes
 pub mod SoundSections
 pub mod NamesAgree
 pub mod RecordsAgree
+pub mod RowsAmong
