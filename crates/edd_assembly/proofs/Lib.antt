@@ -21,3 +21,5 @@ pub mod SoundSections
 pub mod NamesAgree
 pub mod RecordsAgree
 pub mod RowsAmong
+pub mod RowsFound
+pub mod Unwritten
