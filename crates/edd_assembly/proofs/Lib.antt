@@ -23,3 +23,5 @@ pub mod RecordsAgree
 pub mod RowsAmong
 pub mod RowsFound
 pub mod Unwritten
+pub mod AttributesAgree
+pub mod SectionsAgree

@@ -8,6 +8,7 @@ ghost use Rattle.edd_syntax.specs.Words.{Words};
 ghost use Rattle.edd_syntax.specs.WordsView.{string_of};
 ghost use Rattle.edd_syntax.specs.Item.{Description};
 ghost use Rattle.edd_syntax.specs.Device.{environment};
+ghost use Rattle.edd_image.specs.Agreement.{AgreesOnData};
 ghost use Rattle.edd_image.specs.Contents.{part, contents_of};
 ghost use Rattle.edd_image.specs.Layout.{AreSections};
 ghost use Rattle.edd_image.specs.Reading.{environment_of};
@@ -39,4 +40,13 @@ pub fn sections_are_sound()
         → ∥ IsChecked unit ∥₁ → AreUnitsOf unit (map string_of words) lowered
         → AreSections (assembled unit lowered (map string_of words))
         → IsSound (contents_of (assembled unit lowered (map string_of words))) }
+{}
+
+/// The sections say what the description says: its identification, counts, names and types, and every attribute under all values
+/// of a device, where the code of each attribute is that of a unit and the sections fit an image.
+pub fn sections_agree()
+    ensures { (unit : Description Target) (lowered : List Lowered) (words : List in_code.Words)
+        → AreUnitsOf unit (map string_of words) lowered
+        → AreSections (assembled unit lowered (map string_of words))
+        → AgreesOnData unit (contents_of (assembled unit lowered (map string_of words))) }
 {}
