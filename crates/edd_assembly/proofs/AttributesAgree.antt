@@ -1,9 +1,9 @@
 -- What is read of the sections of an attribute is what the tree of the description gives.
-use Rattle.std.proofs.Common.{◌≡◌, refl, sym, ap, ◌∙◌, subst, ℕ, zero, suc, ◌+◌, ◌<◌, ◌≤◌, ◌^◌, Bool, true, false, not, List, [], ◌∷◌, length, map, filter, Option, Some, None, nat_lt, arith}
-use Rattle.std.specs.Prelude.{◌==◌, ◌&&◌, ◌||◌, ℤ, slice_get, is_some, is_none, option_map, Result, Ok, Err, if◌then◌else◌}
-use Rattle.std.specs.List.{AllByRecursion, flat_map, list_all, list_any}
-use Rattle.std.proofs.Math.Logic.{◌⊎◌, inl, inr, ⊎_elim}
-use Rattle.std.proofs.lemmas.Bool.{false≢true, and_parts, and_cases, or_left, or_right, not_from_false, not_from_true, not-true, not-false, lt-ltb, le-ltb, eq-eqb, eqb-true}
+use Rattle.std.proofs.Common.{◌≡◌, refl, sym, ap, ◌∙◌, subst, ℕ, zero, suc, ◌<◌, ◌≤◌, ◌^◌, Bool, true, false, not, List, [], ◌∷◌, length, Option, Some, None, nat_lt, arith}
+use Rattle.std.specs.Prelude.{◌==◌, ◌||◌, ℤ, slice_get, is_some, is_none, option_map, Ok, if◌then◌else◌}
+use Rattle.std.specs.List.{flat_map, list_all, list_any}
+use Rattle.std.proofs.Math.Logic.{◌⊎◌, ⊎_elim}
+use Rattle.std.proofs.lemmas.Bool.{false≢true, and_parts, and_cases, or_left, or_right, not_from_false, not-true, not-false, lt-ltb, le-ltb, eq-eqb, eqb-true}
 use Rattle.std.proofs.lemmas.List.Elements.{recursion_from_All, filter_passes}
 use Rattle.std.proofs.lemmas.Option.{none-some, slice_get_within, get_or_from_slice_get}
 use Rattle.edd_syntax.specs.declared.numbers.Kind.{Kind}
@@ -28,7 +28,7 @@ use Rattle.edd_image.specs.declared.unit.Sort.TheVariants.{Attribute, Method}
 use Rattle.edd_image.specs.References.{item_exists}
 use Rattle.edd_image.specs.Contents.{part, Contents, AttributeFields, contents_of}
 use Rattle.edd_image.specs.Strings.{string_bytes, is_words}
-use Rattle.edd_image.specs.Steps.{Environment, opening}
+use Rattle.edd_image.specs.Steps.{opening}
 use Rattle.edd_image.specs.Validity as validity
 use Rattle.edd_image.specs.Reading as image
 use Rattle.edd_image.specs.Reading.{environment_of, row_of, opening_of, given_within, reading_of, default_records, is_no_item, reading_within}
@@ -118,27 +118,26 @@ module _ (unit : Description Target) (lowered : List Lowered) (strings : List Wo
       image.Records (default_records ref.attr),
       ap (λ b. read_by 0 b (row_of contents ref)) there ∙ ap (read_by 0 false) none,
       subst (λ m. SameReading (string_numbered contents) (source.Gives (m >>= λ rs. Ok (or_default ref.attr rs))) (image.Records (default_records ref.attr))) (sym gives_none)
-      (default_records ref.attr, refl, default_same (string_of_table strings) (string_numbered contents) kept ref.attr),
+          (default_records ref.attr, refl, default_same (string_of_table strings) (string_numbered contents) kept ref.attr),
     )
 
     by_unit : (meaning : Meaning) → tree_meaning unit ref ≡ meaning → same_attr ref.attr attr.Definition ≡ false → is_no_item contents ref ≡ false → Found ref contents.code (IsUnitOf unit strings) (row_of contents ref) → Agrees (gives ref.attr meaning values)
     by_unit meaning meant no_body there f =
         let row = same_refs f.unit.row ref f.same in
         let code = attribute_code unit strings f.unit f.kept (ap (λ (r : AttrRef). same_attr r.attr attr.Definition) row ∙ no_body) in
-        let run = (subst (λ r. IsAttributeCode unit strings r f.unit.code) row code).means values in_range in
-        (
+        let run = (subst (λ r. IsAttributeCode unit strings r f.unit.code) row code).means values in_range in (
           run.0,
           reading_of ref.attr run.1,
           ap (λ b. read_by run.0 b (row_of contents ref)) there
-          ∙ ap (read_by run.0 false) f.is
-          ∙ ap (option_map (reading_of ref.attr))
-          (ap (λ b. given_within run.0 (environment_of contents) (opening (record { sort = if b then Method else Attribute; code = part f.row.span contents.code }) (if b then f.row.sub else 0) values))
-          (ap (λ n. n == 21) (f.attribute ∙ ap (λ (r : AttrRef). attr_number r.attr) row) ∙ no_body)
-          ∙ ap (λ bytes. given_within run.0 (environment_of contents) (opening (record { sort = Attribute; code = bytes }) 0 values)) f.code
-          ∙ ap (λ e. given_within run.0 e (opening (record { sort = Attribute; code = f.unit.code }) 0 values)) same_types
-          ∙ run.2),
+              ∙ ap (read_by run.0 false) f.is
+              ∙ ap (option_map (reading_of ref.attr))
+              (ap (λ b. given_within run.0 (environment_of contents) (opening (record { sort = if b then Method else Attribute; code = part f.row.span contents.code }) (if b then f.row.sub else 0) values))
+              (ap (λ n. n == 21) (f.attribute ∙ ap (λ (r : AttrRef). attr_number r.attr) row) ∙ no_body)
+              ∙ ap (λ bytes. given_within run.0 (environment_of contents) (opening (record { sort = Attribute; code = bytes }) 0 values)) f.code
+              ∙ ap (λ e. given_within run.0 e (opening (record { sort = Attribute; code = f.unit.code }) 0 values)) same_types
+              ∙ run.2),
           reading_agrees (string_of_table strings) (string_numbered contents) kept ref.attr (meaning values) run.1
-          (subst (λ (m : Meaning). SameRun (string_of_table strings) (m values) run.1) meant run.3),
+              (subst (λ (m : Meaning). SameRun (string_of_table strings) (m values) run.1) meant run.3),
         )
 
     -- ---- an item that there is

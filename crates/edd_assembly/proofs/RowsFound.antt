@@ -15,7 +15,7 @@ use Rattle.edd_assembly.specs.Assembly.{Lowered, attribute_row_at, attribute_row
 use Rattle.edd_assembly.specs.LoweredUnits.{plain_row}
 use Rattle.edd_assembly.proofs.Cutting.{code_of}
 use Rattle.edd_assembly.proofs.KnownByNumber.{same_attrs, item_again}
-use Rattle.edd_assembly.proofs.RowsAmong.{same_ref, any_mapped}
+use Rattle.edd_assembly.proofs.RowsAmong.{same_ref}
 use Rattle.edd_assembly.proofs.RowsRise.{key}
 
 -- ---- one row for an attribute

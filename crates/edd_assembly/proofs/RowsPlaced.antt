@@ -114,7 +114,7 @@ Belong k xs = AllByRecursion (λ i. list_all (belongs_to k) i.attributes ≡ tru
 one_belongs : (k : Kind) (i : Item Target) (rest : List (Item Target)) → is_formed i ≡ true → Belong k rest → (b : Bool) → same_kind (kind_of_item i.sort) k ≡ b → Belong k (if b then i ∷ rest else rest)
 one_belongs k i rest form others true is = (
   ap (λ j. list_all (belongs_to j) i.attributes) (sym (same_kinds (kind_of_item i.sort) k is))
-  ∙ (and_parts (is_name i.name) (list_all (belongs_to (kind_of_item i.sort)) i.attributes) form).1,
+      ∙ (and_parts (is_name i.name) (list_all (belongs_to (kind_of_item i.sort)) i.attributes) form).1,
   others,
 )
 one_belongs k i rest form others false is = others

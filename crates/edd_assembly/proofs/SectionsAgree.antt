@@ -1,5 +1,5 @@
 -- The sections say of data what the description says.
-use Rattle.std.proofs.Common.{◌≡◌, refl, ℕ, ◌<◌, ◌^◌, List, length, map, arith}
+use Rattle.std.proofs.Common.{◌≡◌, refl, ◌<◌, ◌^◌, List, length, map, arith}
 use Rattle.std.specs.List.{flat_map}
 use Rattle.edd_syntax.specs.declared.numbers.Kind.{Kind}
 use Rattle.edd_syntax.specs.declared.numbers.Kind.TheVariants as kind

@@ -73,10 +73,10 @@ module _ (unit : Description Target) (strings : List Words) where
   units_valid c one counted s [] cuts us = record {}
   units_valid c one counted s (l ∷ ls) cuts us = (
     subst (λ code. IsValidUnit (record { version = c.version; counts = c.counts; sort = if same_attr l.row.attr attr.Definition then Method else Attribute; slots = if same_attr l.row.attr attr.Definition then l.row.sub else 0 }) code)
-    (sym (ap (first_or []) cuts))
-    (subst (λ v. IsValidUnit (record { version = v; counts = c.counts; sort = if same_attr l.row.attr attr.Definition then Method else Attribute; slots = if same_attr l.row.attr attr.Definition then l.row.sub else 0 }) l.code) (sym one)
-    (subst (λ n. IsValidUnit (record { version = One; counts = n; sort = if same_attr l.row.attr attr.Definition then Method else Attribute; slots = if same_attr l.row.attr attr.Definition then l.row.sub else 0 }) l.code) (sym counted)
-    (valid l us.0))),
+        (sym (ap (first_or []) cuts))
+        (subst (λ v. IsValidUnit (record { version = v; counts = c.counts; sort = if same_attr l.row.attr attr.Definition then Method else Attribute; slots = if same_attr l.row.attr attr.Definition then l.row.sub else 0 }) l.code) (sym one)
+        (subst (λ n. IsValidUnit (record { version = One; counts = n; sort = if same_attr l.row.attr attr.Definition then Method else Attribute; slots = if same_attr l.row.attr attr.Definition then l.row.sub else 0 }) l.code) (sym counted)
+        (valid l us.0))),
     units_valid c one counted (s + length l.code) ls (ap behind_first cuts) us.1,
   )
 

@@ -54,8 +54,7 @@ variants_fit : (vs : List Variant) → list_all is_variant vs ≡ true → lengt
 variants_fit [] valid few = record {}
 variants_fit (v ∷ vs) valid few =
     let parts = and_parts (is_variant v) (list_all is_variant vs) valid in
-    let total = length-append (variant_bytes v) (flat_map variant_bytes vs) in
-    (
+    let total = length-append (variant_bytes v) (flat_map variant_bytes vs) in (
       (code_fits v.code (and_parts (is_code v.code) (is_utf8 v.text) parts.0).0, omega (arith, few, total, length-append v.code (u32 (length v.text) ++ v.text), length-append (u32 (length v.text)) v.text)),
       variants_fit vs parts.1 (omega (arith, few, total)),
     )
