@@ -26,6 +26,15 @@ module _ {Y : Type 0} (bytes : Y → List ℕ) where
       ∙ ap (λ n. bytes y ∷ map (λ s. part s ((before ++ bytes y) ++ flat_map bytes ys)) (spans n ys)) (sym (length-append before (bytes y)))
       ∙ ap (λ rest. bytes y ∷ rest) (cut (before ++ bytes y) ys)
 
+-- the first of several parts, and those behind it
+abbrev pub first_or : List ℕ → List (List ℕ) → List ℕ
+first_or none [] = none
+first_or none (x ∷ xs) = x
+
+abbrev pub behind_first : List (List ℕ) → List (List ℕ)
+behind_first [] = []
+behind_first (x ∷ xs) = xs
+
 -- ---- the sections of names, strings and code
 
 map-map : {A B C : Type 0} (f : A → B) (g : B → C) (xs : List A) → map (λ x. g (f x)) xs ≡ map g (map f xs)

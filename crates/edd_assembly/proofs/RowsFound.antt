@@ -13,7 +13,7 @@ use Rattle.edd_image.specs.Decoding.{item_of}
 use Rattle.edd_image.specs.Reading.{is_row_of}
 use Rattle.edd_assembly.specs.Assembly.{Lowered, attribute_row_at, attribute_rows}
 use Rattle.edd_assembly.specs.LoweredUnits.{plain_row}
-use Rattle.edd_assembly.proofs.Cutting.{code_of}
+use Rattle.edd_assembly.proofs.Cutting.{first_or, behind_first, code_of}
 use Rattle.edd_assembly.proofs.KnownByNumber.{same_attrs, item_again}
 use Rattle.edd_assembly.proofs.RowsAmong.{same_ref}
 use Rattle.edd_assembly.proofs.RowsRise.{key}
@@ -56,14 +56,6 @@ pub record Found (ref : AttrRef) (whole : List ℕ) (P : Lowered → Type 0) (fo
   pub code : part row.span whole ≡ unit.code
   pub attribute : row.attribute ≡ attr_number unit.row.attr
   pub kept : P unit
-
-abbrev first_or : List ℕ → List (List ℕ) → List ℕ
-first_or none [] = none
-first_or none (x ∷ xs) = x
-
-abbrev behind_first : List (List ℕ) → List (List ℕ)
-behind_first [] = []
-behind_first (x ∷ xs) = xs
 
 abbrev first_else : Bool → AttributeFields → Option AttributeFields → Option AttributeFields
 first_else b r others = if b then Some r else others

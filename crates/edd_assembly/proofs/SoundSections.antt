@@ -23,7 +23,7 @@ use Rattle.edd_image.specs.Validity.{unit_of, fills, rise, is_attribute_row, are
 use Rattle.edd_image.specs.Agreement.{counts_of, IsAttributeCode}
 use Rattle.edd_assembly.specs.Assembly.{Lowered, names_of, name_rows, attribute_rows, assembled}
 use Rattle.edd_assembly.specs.LoweredUnits.{plain_row, IsBodyCode, IsUnitOf, AreUnitsOf}
-use Rattle.edd_assembly.proofs.Cutting.{code_of, code_cut}
+use Rattle.edd_assembly.proofs.Cutting.{first_or, behind_first, code_of, code_cut}
 use Rattle.edd_assembly.proofs.Filling.{names_fill, strings_fill, code_fills, no_name_padding}
 use Rattle.edd_assembly.proofs.ItemForms.{is_formed, formed_when_checked}
 use Rattle.edd_assembly.proofs.RowsPlaced.{is_placed, rows_placed}
@@ -34,14 +34,6 @@ use Rattle.edd_assembly.proofs.SoundRows.{variables_sound}
 use Rattle.edd_assembly.proofs.SoundStrings.{strings_valid, strings_sound}
 
 -- ---- units
-
-abbrev first_or : List ℕ → List (List ℕ) → List ℕ
-first_or none [] = none
-first_or none (x ∷ xs) = x
-
-abbrev behind_first : List (List ℕ) → List (List ℕ)
-behind_first [] = []
-behind_first (x ∷ xs) = xs
 
 module _ (unit : Description Target) (strings : List Words) where
   abbrev counts : Counts

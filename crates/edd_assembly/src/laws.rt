@@ -33,8 +33,8 @@ pub fn sections_are_read()
         → (environment_of (contents_of (assembled unit lowered strings))).types ≡ (environment unit).variables }
 {}
 
-/// The sections of a checked description keep the rules of a valid image, where the code of each attribute is that of a unit
-/// and the sections fit an image.
+/// The sections of a checked description and of its units keep the rules of a valid image on rows, names, strings and units,
+/// where they fit an image.
 pub fn sections_are_sound()
     ensures { (unit : Description Target) (lowered : List Lowered) (words : List in_code.Words)
         → ∥ IsChecked unit ∥₁ → AreUnitsOf unit (map string_of words) lowered
@@ -42,8 +42,8 @@ pub fn sections_are_sound()
         → IsSound (contents_of (assembled unit lowered (map string_of words))) }
 {}
 
-/// The sections say what the description says: its identification, counts, names and types, and every attribute under all values
-/// of a device, where the code of each attribute is that of a unit and the sections fit an image.
+/// The sections of a description and of its units say what the description says: its identification, counts, names and types, and
+/// every attribute under all values of a device, where they fit an image.
 pub fn sections_agree()
     ensures { (unit : Description Target) (lowered : List Lowered) (words : List in_code.Words)
         → AreUnitsOf unit (map string_of words) lowered
