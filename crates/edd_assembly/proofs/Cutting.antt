@@ -1,5 +1,5 @@
 -- What is cut of a section by its rows is what it was put together of.
-use Rattle.std.proofs.Common.{◌≡◌, refl, sym, ap, ◌∙◌, ℕ, ◌+◌, List, [], ◌∷◌, ◌++◌, length, map, take, drop, arith}
+use Rattle.std.proofs.Common.{◌≡◌, refl, sym, ap, ◌∙◌, ℕ, ◌+◌, List, [], ◌∷◌, ◌++◌, length, map, take}
 use Rattle.std.specs.List.{flat_map}
 use Rattle.std.proofs.lemmas.List.{append_assoc, length-append}
 use Rattle.std.proofs.Math.Seq.{take-append_seam, drop-append_seam}
@@ -25,6 +25,15 @@ module _ {Y : Type 0} (bytes : Y → List ℕ) where
       ∙ ap (λ whole. bytes y ∷ map (λ s. part s whole) (spans (length before + length (bytes y)) ys)) (sym (append_assoc before (bytes y) (flat_map bytes ys)))
       ∙ ap (λ n. bytes y ∷ map (λ s. part s ((before ++ bytes y) ++ flat_map bytes ys)) (spans n ys)) (sym (length-append before (bytes y)))
       ∙ ap (λ rest. bytes y ∷ rest) (cut (before ++ bytes y) ys)
+
+-- the first of several parts, and those behind it
+abbrev pub first_or : List ℕ → List (List ℕ) → List ℕ
+first_or none [] = none
+first_or none (x ∷ xs) = x
+
+abbrev pub behind_first : List (List ℕ) → List (List ℕ)
+behind_first [] = []
+behind_first (x ∷ xs) = xs
 
 -- ---- the sections of names, strings and code
 

@@ -11,3 +11,17 @@ pub mod SoundRows
 pub mod Rising
 pub mod RowsRise
 pub mod BlocksRise
+pub mod KnownByNumber
+pub mod ItemForms
+pub mod RowsPlaced
+pub mod SoundNames
+pub mod SoundStrings
+pub mod SoundAttributes
+pub mod SoundSections
+pub mod NamesAgree
+pub mod RecordsAgree
+pub mod RowsAmong
+pub mod RowsFound
+pub mod Unwritten
+pub mod AttributesAgree
+pub mod SectionsAgree

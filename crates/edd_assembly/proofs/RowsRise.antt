@@ -1,5 +1,5 @@
 -- The rows of a description rise.
-use Rattle.std.proofs.Common.{◌≡◌, refl, sym, ap, ◌∙◌, subst, ℕ, zero, suc, ◌+◌, ◌<◌, ◌≤◌, Bool, true, false, List, [], ◌∷◌, ◌++◌, map, arith}
+use Rattle.std.proofs.Common.{◌≡◌, refl, sym, ap, ◌∙◌, subst, ℕ, suc, ◌<◌, ◌≤◌, Bool, true, false, List, [], ◌∷◌, ◌++◌, map, arith}
 use Rattle.std.specs.Prelude.{◌==◌, if◌then◌else◌}
 use Rattle.std.specs.List.{AllByRecursion, flat_map}
 use Rattle.std.proofs.lemmas.List.{map-append}
@@ -20,8 +20,8 @@ use Rattle.edd_syntax.specs.Attributes.{is_of_transaction}
 use Rattle.edd_syntax.specs.Rows.{is_written, transaction_positions, positions, rows_at, item_rows, rows_from, of_kind, rows_of_attr, rows_of_kind, attributes_in_order, rows}
 use Rattle.edd_image.specs.Contents.{AttributeFields}
 use Rattle.edd_image.specs.Validity.{rises, rise}
-use Rattle.edd_assembly.proofs.BlocksRise.{blocks_rise, blocks_keep, ascends}
-use Rattle.edd_assembly.proofs.Rising.{rise_append, all_append, all_map, all_before, AllBefore, by_kind, by_attribute, by_item, by_position}
+use Rattle.edd_assembly.proofs.BlocksRise.{blocks_rise, blocks_keep}
+use Rattle.edd_assembly.proofs.Rising.{rise_append, all_append, all_map, all_before, by_kind, by_attribute, by_item, by_position}
 
 -- the fields of a row that put it in order
 abbrev pub key : AttrRef → AttributeFields

@@ -1,6 +1,6 @@
 -- The rows of variables and names keep their rules.
-use Rattle.std.proofs.Common.{◌≡◌, refl, sym, ap, ◌∙◌, subst, ℕ, Bool, true, false, List, [], ◌∷◌, ◌++◌, map, filter, IsTrue, arith}
-use Rattle.std.specs.Prelude.{◌&&◌, ◌==◌, is_some, if◌then◌else◌, Option, Some, None}
+use Rattle.std.proofs.Common.{◌≡◌, refl, ap, ◌∙◌, ℕ, Bool, true, false, List, [], ◌∷◌, map, filter, IsTrue, arith}
+use Rattle.std.specs.Prelude.{◌&&◌, if◌then◌else◌, Some, None}
 use Rattle.std.specs.List.{list_all}
 use Rattle.std.specs.Option.{option_map_or}
 use Rattle.std.proofs.lemmas.Grind.{common_steps}
@@ -14,7 +14,7 @@ use Rattle.edd_syntax.specs.Numbers.{same_kind}
 use Rattle.edd_syntax.specs.Names.{is_within}
 use Rattle.edd_syntax.specs.Device.{written_type}
 use Rattle.edd_image.specs.Contents.{fields_of_variable}
-use Rattle.edd_image.specs.Validity.{type_of, is_variable_row}
+use Rattle.edd_image.specs.Validity.{is_variable_row}
 use Rattle.edd_assembly.specs.Assembly.{kind_of_type, variable_kinds, is_small_variable}
 
 type_is_known : (t : VarType) (size : ℕ) → is_within 1 4 size ≡ true → is_variable_row (fields_of_variable (record { var_type = t; size = size })) ≡ true

@@ -11,9 +11,8 @@ use Rattle.edd_syntax.specs.declared.numbers.AttrRef.{AttrRef}
 use Rattle.edd_syntax.specs.declared.reference.Target.{Target}
 use Rattle.edd_syntax.specs.Text.{Name}
 use Rattle.edd_syntax.specs.Words.{Words}
-use Rattle.edd_syntax.specs.Item.{Attribute, TypeOf, Known, kind_of_item, Item, Identification, Description}
+use Rattle.edd_syntax.specs.Item.{Attribute, TypeOf, Known, kind_of_item, Item, Description}
 use Rattle.edd_syntax.specs.NameRules.{kinds}
-use Rattle.edd_syntax.specs.Resolution.{count_of}
 use Rattle.edd_syntax.specs.Device.{written_type}
 use Rattle.edd_syntax.specs.DeviceValues.{VariableType}
 use Rattle.edd_syntax.specs.Rows.{of_kind}
@@ -24,6 +23,7 @@ use Rattle.edd_image.specs.declared.parts.StringRow.{StringRow}
 use Rattle.edd_image.specs.declared.parts.Counts.{Counts}
 use Rattle.edd_image.specs.Layout.{Sections}
 use Rattle.edd_image.specs.Strings.{string_bytes}
+use Rattle.edd_image.specs.Agreement.{counts_of}
 
 -- an attribute and its code; for the body of a method `sub` is its number of slots
 pub record Lowered : Type 0 where
@@ -92,20 +92,6 @@ variable_kinds items = map (λ i. kind_of_type (written_type i.attributes)) (of_
 
 -- ---- all sections
 
-abbrev pub counts_of : Identification → List (Item Target) → List Words → Counts
-counts_of i items strings = record {
-  variables = count_of kind.Variable items;
-  commands = count_of kind.Command items;
-  menus = count_of kind.Menu items;
-  collections = count_of kind.Collection items;
-  methods = count_of kind.Method items;
-  strings = length strings;
-  manufacturer = i.manufacturer;
-  device_type = i.device_type;
-  device_revision = i.device_revision;
-  dd_revision = i.dd_revision;
-}
-
 abbrev pub sections : Counts → List VarKind → List NameRow → List AttributeRow → (code : List ℕ) → List StringRow → (name_bytes string_bytes : List ℕ) → Sections
 sections counts variables names attributes code strings name_bytes string_bytes = record {
   counts = counts;
@@ -120,7 +106,7 @@ sections counts variables names attributes code strings name_bytes string_bytes 
 
 unfoldable pub assembled : Description Target → List Lowered → List Words → Sections
 assembled unit lowered strings = record {
-  counts = counts_of unit.identification unit.items strings;
+  counts = counts_of unit.identification unit.items (length strings);
   variables = variable_kinds unit.items;
   names = name_rows 0 (names_of unit.items);
   attributes = attribute_rows 0 lowered;

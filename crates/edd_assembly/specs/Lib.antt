@@ -1,2 +1,3 @@
 pub mod Assembly
+pub mod LoweredUnits
 pub mod Views

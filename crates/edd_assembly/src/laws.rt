@@ -2,13 +2,20 @@
 
 ghost use Rattle.std.specs.Prelude.{◌≡◌, List, map};
 ghost use Rattle.edd_syntax.specs.declared.reference.Target.{Target};
+ghost use Rattle.edd_syntax.specs.declared.words.Words as in_code;
+ghost use Rattle.edd_syntax.specs.Resolved.{IsChecked};
 ghost use Rattle.edd_syntax.specs.Words.{Words};
+ghost use Rattle.edd_syntax.specs.WordsView.{string_of};
 ghost use Rattle.edd_syntax.specs.Item.{Description};
 ghost use Rattle.edd_syntax.specs.Device.{environment};
+ghost use Rattle.edd_image.specs.Agreement.{AgreesOnData};
 ghost use Rattle.edd_image.specs.Contents.{part, contents_of};
+ghost use Rattle.edd_image.specs.Layout.{AreSections};
 ghost use Rattle.edd_image.specs.Reading.{environment_of};
 ghost use Rattle.edd_image.specs.Strings.{string_bytes};
+ghost use Rattle.edd_image.specs.Validity.{IsSound};
 ghost use Rattle.edd_assembly.specs.Assembly.{Lowered, names_of, assembled};
+ghost use Rattle.edd_assembly.specs.LoweredUnits.{AreUnitsOf};
 
 /// The names, the strings and the code that the rows of the sections cut are those that were put together, and the types of
 /// the variables are the description's.
@@ -24,4 +31,22 @@ pub fn sections_are_read()
         ≡ map (λ l. l.code) lowered }
     ensures types { (unit : Description Target) (lowered : List Lowered) (strings : List Words)
         → (environment_of (contents_of (assembled unit lowered strings))).types ≡ (environment unit).variables }
+{}
+
+/// The sections of a checked description and of its units keep the rules of a valid image on rows, names, strings and units,
+/// where they fit an image.
+pub fn sections_are_sound()
+    ensures { (unit : Description Target) (lowered : List Lowered) (words : List in_code.Words)
+        → ∥ IsChecked unit ∥₁ → AreUnitsOf unit (map string_of words) lowered
+        → AreSections (assembled unit lowered (map string_of words))
+        → IsSound (contents_of (assembled unit lowered (map string_of words))) }
+{}
+
+/// The sections of a description and of its units say what the description says: its identification, counts, names and types, and
+/// every attribute under all values of a device, where they fit an image.
+pub fn sections_agree()
+    ensures { (unit : Description Target) (lowered : List Lowered) (words : List in_code.Words)
+        → AreUnitsOf unit (map string_of words) lowered
+        → AreSections (assembled unit lowered (map string_of words))
+        → AgreesOnData unit (contents_of (assembled unit lowered (map string_of words))) }
 {}

@@ -7,6 +7,7 @@ ghost use Rattle.edd_syntax.specs.ItemView.{identification_of, item_of, numbered
 ghost use Rattle.edd_syntax.specs.Resolution.{count_of};
 ghost use Rattle.edd_syntax.specs.Resolved.{description};
 ghost use Rattle.edd_syntax.specs.WordsView.{string_of};
+ghost use Rattle.edd_image.specs.Agreement as agreement;
 ghost use Rattle.edd_image.specs.Layout.{sections_of};
 ghost use Rattle.edd_assembly.specs.Assembly as assembly;
 ghost use Rattle.edd_assembly.specs.Assembly.{assembled};
@@ -28,7 +29,7 @@ use std::alloc::{AllocError, Global};
 fn counts_of(identification: Identification, items: &[Item<Target>], strings: &[Words]) -> Counts
     requires few { (k : Kind) → count_of k (map (item_of (λ r. r)) items.now) ≤ 4096 }
     requires few_strings { length strings.now ≤ 65535 }
-    ensures { result ≡ assembly.counts_of (identification_of identification) (map (item_of (λ r. r)) items.now) (map string_of strings.now) }
+    ensures { result ≡ agreement.counts_of (identification_of identification) (map (item_of (λ r. r)) items.now) (length strings.now) }
 {
     Counts {
         variables: count(items, Kind::Variable),

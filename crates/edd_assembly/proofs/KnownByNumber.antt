@@ -1,0 +1,104 @@
+-- A kind, an attribute and an item are known by their numbers.
+use Rattle.std.proofs.Common.{◌≡◌, refl, sym, ap, ◌∙◌, ℕ, true, Some}
+use Rattle.std.specs.Prelude.{◌==◌, if◌then◌else◌}
+use Rattle.std.proofs.lemmas.Bool.{eqb-true}
+use Rattle.std.proofs.lemmas.Option.{same_Some}
+use Rattle.edd_syntax.specs.declared.numbers.Kind.{Kind}
+use Rattle.edd_syntax.specs.declared.numbers.Kind.TheVariants as kind
+use Rattle.edd_syntax.specs.declared.numbers.Attr.{Attr}
+use Rattle.edd_syntax.specs.declared.numbers.Attr.TheVariants as attr
+use Rattle.edd_syntax.specs.declared.numbers.ItemNo.{ItemNo}
+use Rattle.edd_syntax.specs.declared.numbers.ItemNo.TheVariants as items
+use Rattle.edd_syntax.specs.Numbers.{kind_number, kind_of, index_of, item_number, attr_number, same_kind, same_attr}
+use Rattle.edd_syntax.specs.Attributes as source
+use Rattle.edd_image.specs.Decoding.{item_of}
+use Rattle.edd_image.specs.Validity.{attr_of, is_of_transaction}
+
+abbrev kind_at : ℕ → Kind
+kind_at n =
+    if n == 1 then kind.Variable else
+    if n == 2 then kind.Command else
+    if n == 3 then kind.Menu else
+    if n == 4 then kind.Collection else
+    kind.Method
+
+kind_again : (k : Kind) → kind_at (kind_number k) ≡ k
+kind_again kind.Variable = refl
+kind_again kind.Command = refl
+kind_again kind.Menu = refl
+kind_again kind.Collection = refl
+kind_again kind.Method = refl
+
+pub same_kinds : (k j : Kind) → same_kind k j ≡ true → k ≡ j
+same_kinds k j h = sym (kind_again k) ∙ ap kind_at (eqb-true (kind_number k) (kind_number j) h) ∙ kind_again j
+
+pub attr_again : (a : Attr) → attr_of (attr_number a) ≡ Some a
+attr_again attr.Label = refl
+attr_again attr.Help = refl
+attr_again attr.Class = refl
+attr_again attr.Handling = refl
+attr_again attr.ConstantUnit = refl
+attr_again attr.Validity = refl
+attr_again attr.DefaultValue = refl
+attr_again attr.MinValue = refl
+attr_again attr.MaxValue = refl
+attr_again attr.DisplayFormat = refl
+attr_again attr.EditFormat = refl
+attr_again attr.Enumerators = refl
+attr_again attr.Number = refl
+attr_again attr.Operation = refl
+attr_again attr.Transaction = refl
+attr_again attr.Request = refl
+attr_again attr.Reply = refl
+attr_again attr.ResponseCodes = refl
+attr_again attr.Items = refl
+attr_again attr.Members = refl
+attr_again attr.Definition = refl
+
+pub same_attrs : (a b : Attr) → same_attr a b ≡ true → a ≡ b
+same_attrs a b h = same_Some a b (sym (attr_again a) ∙ ap attr_of (eqb-true (attr_number a) (attr_number b) h) ∙ attr_again b)
+
+pub item_again : (i : ItemNo) → item_of (kind_number (kind_of i)) (index_of i) ≡ Some i
+item_again (items.Variable n) = refl
+item_again (items.Command n) = refl
+item_again (items.Menu n) = refl
+item_again (items.Collection n) = refl
+item_again (items.Method n) = refl
+
+pub numbered_kind : (k : Kind) (n : ℕ) → kind_of (item_number k n) ≡ k
+numbered_kind kind.Variable n = refl
+numbered_kind kind.Command n = refl
+numbered_kind kind.Menu n = refl
+numbered_kind kind.Collection n = refl
+numbered_kind kind.Method n = refl
+
+pub numbered_index : (k : Kind) (n : ℕ) → index_of (item_number k n) ≡ n
+numbered_index kind.Variable n = refl
+numbered_index kind.Command n = refl
+numbered_index kind.Menu n = refl
+numbered_index kind.Collection n = refl
+numbered_index kind.Method n = refl
+
+-- the source and the image mean the same attributes of a transaction
+pub of_transaction : (a : Attr) → is_of_transaction a ≡ source.is_of_transaction a
+of_transaction attr.Label = refl
+of_transaction attr.Help = refl
+of_transaction attr.Class = refl
+of_transaction attr.Handling = refl
+of_transaction attr.ConstantUnit = refl
+of_transaction attr.Validity = refl
+of_transaction attr.DefaultValue = refl
+of_transaction attr.MinValue = refl
+of_transaction attr.MaxValue = refl
+of_transaction attr.DisplayFormat = refl
+of_transaction attr.EditFormat = refl
+of_transaction attr.Enumerators = refl
+of_transaction attr.Number = refl
+of_transaction attr.Operation = refl
+of_transaction attr.Transaction = refl
+of_transaction attr.Request = refl
+of_transaction attr.Reply = refl
+of_transaction attr.ResponseCodes = refl
+of_transaction attr.Items = refl
+of_transaction attr.Members = refl
+of_transaction attr.Definition = refl
