@@ -1,0 +1,9 @@
+pub mod Lines
+pub mod Runs
+pub mod Written
+pub mod LineUnits
+pub mod Looking
+pub mod ItemTrees
+pub mod Meanings
+pub mod Picking
+pub mod PlainUnits
