@@ -105,7 +105,7 @@ abbrev pub steps_of : List Record → ℕ → ℕ
 steps_of [] k = k
 steps_of (r ∷ rs) k = steps_after r (steps_of rs k)
 
-abbrev AllSpelled : List Instruction → Type 0
+abbrev pub AllSpelled : List Instruction → Type 0
 AllSpelled is = AllByRecursion IsSpelled is
 
 module _ (env : Environment) (values : List ℤ) where
@@ -151,7 +151,7 @@ module _ (env : Environment) (values : List ℤ) where
   record_runs k front after (records.Response n class text) ok sayable = one_runs k front after (instruction.Response n class text) (records.Response n class text) ok.0 (λ code p next. refl)
   record_runs k front after (records.Member name item label help) ok sayable = one_runs k front after (instruction.Member name item label help) (records.Member name item label help) ok.0 (λ code p next. refl)
 
-all_split : (is js : List Instruction) → AllSpelled (is ++ js) → AllSpelled is × AllSpelled js
+pub all_split : (is js : List Instruction) → AllSpelled (is ++ js) → AllSpelled is × AllSpelled js
 all_split [] js h = (tt, h)
 all_split (i ∷ is) js h = let rest = all_split is js h.1 in ((h.0, rest.0), rest.1)
 

@@ -1,5 +1,6 @@
 -- Code that was written, and a table that grew, in one step and in several.
 use Rattle.std.proofs.Common.{◌≡◌, ◌≢◌, refl, sym, ap, subst, ◌∙◌, ℕ, zero, suc, ◌+◌, ◌<◌, ◌≤◌, ◌⊎◌, inl, inr, List, [], ◌∷◌, ◌++◌, length, get_or, Option, Some, None, arith, append_assoc, length-append}
+use Rattle.std.specs.Prelude.{IfSome}
 use Rattle.std.specs.List.{AllPairs, Contains, slice_get, flat_map}
 use Rattle.std.proofs.lemmas.List.{append-nil}
 use Rattle.std.proofs.lemmas.List.Elements.{Contains-append_left, Contains-append_right, Contains-append_cases, Contains-push}
@@ -16,7 +17,7 @@ use Rattle.edd_image.specs.Agreement.{IsString, SameRecords, string_of_table}
 use Rattle.edd_strings.specs.Strings.{Adds, HasNumber}
 use Rattle.edd_strings.proofs.Chaining.{get_or-default}
 use Rattle.edd_attrs.specs.Plain.{strings_of}
-use Rattle.edd_attrs.specs.Code.{bytes_of, giving, giving_all, AreDifferent, Writes, Grows, Overflows}
+use Rattle.edd_attrs.specs.Code.{bytes_of, giving, giving_all, AreDifferent, Writes, Grows, Overflows, IsUnit}
 
 -- ---- tables
 
@@ -92,3 +93,12 @@ pub adding_grows : (old new : List Words) (w : Words) (n : ℕ) → Adds old w n
 adding_grows old new w n adds = let more = added_more old new w n adds in (more.0, more.1)
 
 pub ruleset text_steps = (text_written, adding_grows, adding_overflows, no_growth)
+
+-- ---- whole units
+
+pub unit_written : (o : Option (List source.Record)) (old new table : List Words) (before written body code : List ℕ) → before ≡ [] → table ≡ new → body ≡ written
+    → IfSome o (λ rs. Writes old before rs new written) → code ≡ body ++ spelling instruction.End → IfSome o (λ rs. IsUnit old rs table code)
+unit_written None old new table before written body code empty same_table same_body h is = tt
+unit_written (Some rs) old new table before written body code empty same_table same_body h is =
+    subst (λ (t : List Words). IsUnit old rs t code) (sym same_table)
+    (written, subst (λ (bs : List ℕ). Writes old bs rs new written) empty h, is ∙ ap (λ (bs : List ℕ). bs ++ spelling instruction.End) same_body)

@@ -9,6 +9,7 @@ use Rattle.edd_syntax.specs.Item.{Description}
 use Rattle.edd_image.specs.declared.parts.Counts.{Counts}
 use Rattle.edd_image.specs.References.{item_exists, variable_exists}
 use Rattle.edd_image.specs.Agreement.{mask_number, counts_of}
+use Rattle.edd_syntax.specs.Text.{Text}
 use Rattle.edd_syntax.specs.Words as words
 use Rattle.edd_syntax.specs.Words.{words_of}
 use Rattle.edd_syntax.specs.WellFormed.{is_text}
@@ -22,9 +23,12 @@ plain_one f (Value v) = Some (f v ∷ [])
 plain_one f (If condition first otherwise) = None
 plain_one f (Select on arms) = None
 
+abbrev pub plain_texts : Cond Target Text → Option (List Record)
+plain_texts = plain_one (λ t. Words (words_of t))
+
 -- the records of a tree without conditions, of the trees that are lowered
 unfoldable pub plain_records : Tree → Option (List Record)
-plain_records (Texts c) = plain_one (λ t. Words (words_of t)) c
+plain_records (Texts c) = plain_texts c
 plain_records (Class names) = None
 plain_records (Handling c) = None
 plain_records (Validity c) = None
