@@ -1,0 +1,14 @@
+pub mod Lines
+pub mod Runs
+pub mod Written
+pub mod AttributeCode
+pub mod CheckedTrees
+pub mod Different
+pub mod LineUnits
+pub mod PlainCode
+pub mod Looking
+pub mod ItemTrees
+pub mod Meanings
+pub mod Picking
+pub mod PlainTrees
+pub mod PlainUnits

@@ -1,0 +1,231 @@
+-- Code that gives records in a line is the code of an attribute that means these records.
+use Rattle.std.proofs.Common.{◌≡◌, refl, sym, ap, subst, ◌∙◌, ℕ, zero, suc, ◌+◌, ◌*◌, ◌<◌, ◌≤◌, ◌^◌, Bool, true, false, ℤ, pos, negsuc, List, [], ◌∷◌, ◌++◌, length, Option, Some, None, Ok, IsTrue, arith, append_assoc, length-append}
+use Rattle.std.specs.Prelude.{◌&&◌, nat_lt, unsigned_abs, FitsSigned}
+use Rattle.std.specs.Int.{w64}
+use Rattle.std.specs.List.{AllByRecursion, list_all, flat_map}
+use Rattle.std.proofs.lemmas.Int.{ints}
+use Rattle.std.proofs.lemmas.Option.{slice_get_within}
+use Rattle.std.proofs.lemmas.List.{append-nil}
+use Rattle.std.proofs.lemmas.Bool.{ltb-true, lt-ltb}
+use Rattle.edd_syntax.specs.declared.numbers.Kind.{Kind}
+use Rattle.edd_syntax.specs.declared.numbers.Kind.TheVariants as kind
+use Rattle.edd_syntax.specs.declared.numbers.StrNo.{StrNo}
+use Rattle.edd_syntax.specs.declared.numbers.ItemNo.{ItemNo}
+use Rattle.edd_syntax.specs.declared.numbers.ItemNo.TheVariants as items
+use Rattle.edd_syntax.specs.declared.types.ResponseClass.{ResponseClass}
+use Rattle.edd_syntax.specs.declared.types.ResponseClass.TheVariants as class
+use Rattle.edd_syntax.specs.declared.item.MenuQualifiers.{MenuQualifiers}
+use Rattle.edd_syntax.specs.declared.item.DataQualifiers.{DataQualifiers}
+use Rattle.edd_syntax.specs.declared.reference.Target.{Target}
+use Rattle.edd_syntax.specs.Words.{Words}
+use Rattle.edd_syntax.specs.Item.{Description}
+use Rattle.edd_syntax.specs.Numbers.{index_of}
+use Rattle.edd_syntax.specs.Resolution.{count_of}
+use Rattle.edd_syntax.specs.Attributes as source
+use Rattle.edd_syntax.specs.Attributes.{bit, menu_bits, data_bits}
+use Rattle.edd_image.specs.declared.records.Record.{Record}
+use Rattle.edd_image.specs.declared.records.Record.TheVariants as records
+use Rattle.edd_image.specs.declared.instruction.Instruction.{Instruction}
+use Rattle.edd_image.specs.declared.instruction.Instruction.TheVariants as instruction
+use Rattle.edd_image.specs.declared.unit.Context.{Context}
+use Rattle.edd_image.specs.declared.unit.Sort.TheVariants.{Attribute}
+use Rattle.edd_image.specs.declared.unit.Version.TheVariants.{One}
+use Rattle.edd_image.specs.Spelling.{spelling, IsSpelled, IsOptional}
+use Rattle.edd_image.specs.References.{names_exist, item_exists, variable_exists, optional_string_exists}
+use Rattle.edd_image.specs.Units.{takes, is_allowed}
+use Rattle.edd_image.specs.Agreement.{class_number, mask_number, IsString, IsOptionalString, SameRecord, SameRecords, string_of_table, counts_of, attribute_context}
+use Rattle.edd_attrs.specs.Code.{giving, bytes_of, giving_all}
+use Rattle.edd_attrs.specs.Plain.{is_number, is_label, counts_in, is_fine}
+use Rattle.edd_attrs.proofs.Lines.{bytes_of-append}
+use Rattle.edd_attrs.proofs.LineUnits.{IsLine, BeginsEmpty}
+use Rattle.edd_attrs.proofs.Runs.{IsSayable}
+
+-- the instructions of a unit that gives these records
+abbrev pub unit_of : List Record → List Instruction
+unit_of given = flat_map giving given ++ instruction.End ∷ []
+
+pub unit_bytes : (given : List Record) → bytes_of (unit_of given) ≡ giving_all given ++ spelling instruction.End
+unfolding bytes_of
+unit_bytes given = bytes_of-append (flat_map giving given) (instruction.End ∷ [])
+
+-- ---- a line
+
+abbrev IsUnitLine : List Instruction → Type 0
+IsUnitLine is = IsLine is × BeginsEmpty is
+
+line_more : (r : Record) (is : List Instruction) → IsUnitLine is → IsUnitLine (giving r ++ is)
+line_more r [] h = absurd h.1
+line_more (records.Words s) (j ∷ rest) h = ((ap Some (sym h.1), refl, h.0), refl)
+line_more (records.Number z) (j ∷ rest) h = ((refl, refl, (ap Some (sym h.1), refl, h.0)), refl)
+line_more (records.Entry item quals) (j ∷ rest) h = ((ap Some (sym h.1), refl, h.0), refl)
+line_more (records.DataConst n) (j ∷ rest) h = ((ap Some (sym h.1), refl, h.0), refl)
+line_more (records.DataVar v mask quals) (j ∷ rest) h = ((ap Some (sym h.1), refl, h.0), refl)
+line_more (records.Enumerator n text help) (j ∷ rest) h = ((ap Some (sym h.1), refl, h.0), refl)
+line_more (records.Response n class text) (j ∷ rest) h = ((ap Some (sym h.1), refl, h.0), refl)
+line_more (records.Member name item label help) (j ∷ rest) h = ((ap Some (sym h.1), refl, h.0), refl)
+
+pub unit_line : (given : List Record) → IsUnitLine (unit_of given)
+unit_line [] = ((refl, refl), refl)
+unit_line (r ∷ given) = subst (λ (is : List Instruction). IsUnitLine is) (sym (append_assoc (giving r) (flat_map giving given) (instruction.End ∷ []))) (line_more r (unit_of given) (unit_line given))
+
+-- ---- tests on all instructions of a unit
+
+pub both_of : (a b : Bool) → (a && b) ≡ true → (a ≡ true) × (b ≡ true)
+both_of true b h = (refl, h)
+both_of false b h = absurd cc
+
+spelled_append : (is js : List Instruction) → AllByRecursion IsSpelled is → AllByRecursion IsSpelled js → AllByRecursion IsSpelled (is ++ js)
+spelled_append [] js p q = q
+spelled_append (i ∷ is) js p q = (p.0, spelled_append is js p.1 q)
+
+module _ (test : Instruction → Bool) where
+  all_append : (is js : List Instruction) → list_all test is ≡ true → list_all test js ≡ true → list_all test (is ++ js) ≡ true
+  all_append [] js p q = q
+  all_append (i ∷ is) js p q = let parts = both_of (test i) (list_all test is) p in rw parts.0 (all_append is js parts.1 q)
+
+abbrev pub allowed_here : Instruction → Bool
+allowed_here i = is_allowed One Attribute i
+
+giving_allowed : (r : Record) → list_all allowed_here (giving r) ≡ true
+giving_allowed (records.Words s) = refl
+giving_allowed (records.Number z) = refl
+giving_allowed (records.Entry item quals) = refl
+giving_allowed (records.DataConst n) = refl
+giving_allowed (records.DataVar v mask quals) = refl
+giving_allowed (records.Enumerator n text help) = refl
+giving_allowed (records.Response n class text) = refl
+giving_allowed (records.Member name item label help) = refl
+
+pub unit_allowed : (given : List Record) → list_all allowed_here (unit_of given) ≡ true
+unit_allowed [] = refl
+unit_allowed (r ∷ given) =
+    ap (list_all allowed_here) (append_assoc (giving r) (flat_map giving given) (instruction.End ∷ []))
+    ∙ all_append allowed_here (giving r) (unit_of given) (giving_allowed r) (unit_allowed given)
+
+-- ---- operands
+
+bit_small : (b : Bool) → bit b ≤ 1
+bit_small true = omega arith
+bit_small false = omega arith
+
+menu_small : (q : MenuQualifiers) → menu_bits q < 16
+menu_small q = omega (arith, bit_small q.display_value, bit_small q.read_only, bit_small q.hidden, bit_small q.review)
+
+data_small : (q : DataQualifiers) → data_bits q < 4
+data_small q = omega (arith, bit_small q.info, bit_small q.index)
+
+class_small : (c : ResponseClass) → class_number c < 7
+class_small class.Success = omega arith
+class_small class.MiscWarning = omega arith
+class_small class.DataEntryWarning = omega arith
+class_small class.DataEntryError = omega arith
+class_small class.ModeError = omega arith
+class_small class.ProcessError = omega arith
+class_small class.MiscError = omega arith
+
+label_fits : (z : ℤ) → is_label z ≡ true → FitsSigned w64 z
+label_fits (pos n) h = let lt = ltb-true n (2 ^ 32) h in omega (arith, ints)
+label_fits (negsuc n) h = let lt = ltb-true (suc n) (2 ^ 32) h in omega (arith, ints)
+
+number_is : (z : ℤ) → is_number z ≡ true → (n : ℕ) × (z ≡ pos n) × (n < 2 ^ 32)
+number_is (pos n) h = (n, refl, ltb-true n (2 ^ 32) h)
+number_is (negsuc n) h = absurd cc
+
+-- ---- what the records of a tree say of the records that the code gives
+
+module _ (unit : Description Target) (few : (k : Kind) → count_of k unit.items ≤ 4096) where
+  index_small : (item : ItemNo) → item_exists (counts_in unit) item ≡ true → index_of item < 2 ^ 16
+  index_small (items.Variable n) h = omega (arith, ltb-true n.0 (count_of kind.Variable unit.items) h, few kind.Variable)
+  index_small (items.Command n) h = omega (arith, ltb-true n.0 (count_of kind.Command unit.items) h, few kind.Command)
+  index_small (items.Menu n) h = omega (arith, ltb-true n.0 (count_of kind.Menu unit.items) h, few kind.Menu)
+  index_small (items.Collection n) h = omega (arith, ltb-true n.0 (count_of kind.Collection unit.items) h, few kind.Collection)
+  index_small (items.Method n) h = omega (arith, ltb-true n.0 (count_of kind.Method unit.items) h, few kind.Method)
+
+  module _ (strings : List Words) (few_strings : length strings ≤ 65535) where
+    string_small : (w : Words) (s : StrNo) → IsString (string_of_table strings) w s → s.0 < 65535
+    string_small w s is = omega (arith, slice_get_within strings s.0 w is, few_strings)
+
+    optional_small : (o : Option Words) (s : Option StrNo) → IsOptionalString (string_of_table strings) o s → IsOptional s
+    optional_small None None is = tt
+    optional_small None (Some s) is = absurd is
+    optional_small (Some w) None is = absurd is
+    optional_small (Some w) (Some s) is = string_small w s is
+
+    abbrev IsSpelledRecord : Record → Type 0
+    IsSpelledRecord r = AllByRecursion IsSpelled (giving r) × IsSayable r
+
+    record_spelled : (x : source.Record) (r : Record) → is_fine unit x ≡ true → SameRecord (string_of_table strings) x r → IsSpelledRecord r
+    record_spelled (source.Words w) r fine same =
+        subst IsSpelledRecord (sym same.1) ((omega (arith, string_small w same.0 same.2), tt), tt)
+    record_spelled (source.Number z) r fine same =
+        let n = number_is z fine in
+        subst IsSpelledRecord (sym (same ∙ ap records.Number n.1)) ((n.2, (tt, tt)), (n.0, refl, n.2))
+    record_spelled (source.Entry item quals) r fine same =
+        subst IsSpelledRecord (sym same) (((index_small item fine, menu_small quals), tt), tt)
+    record_spelled (source.DataConst n) r fine same = subst IsSpelledRecord (sym same) ((ltb-true n 256 fine, tt), tt)
+    record_spelled (source.DataVar v mask quals) r fine same =
+        let parts = both_of (variable_exists (counts_in unit) v) (nat_lt (mask_number mask) (2 ^ 32)) fine in
+        subst IsSpelledRecord (sym same) (((index_small (items.Variable v) parts.0, ltb-true (mask_number mask) (2 ^ 32) parts.1, data_small quals), tt), tt)
+    record_spelled (source.Enumerator value text help) r fine same =
+        subst IsSpelledRecord (sym same.2) (((label_fits value fine, omega (arith, string_small text same.0 same.3), optional_small help same.1 same.4), tt), tt)
+    record_spelled (source.Response number class text) r fine same =
+        subst IsSpelledRecord (sym same.1) (((ltb-true number (2 ^ 32) fine, class_small class, omega (arith, string_small text same.0 same.2)), tt), tt)
+    record_spelled (source.Member name item label help) r fine same =
+        subst IsSpelledRecord (sym same.3) (((omega (arith, string_small name same.0 same.4), index_small item fine, optional_small label same.1 same.5, optional_small help same.2 same.6), tt), tt)
+
+    pub records_spelled : (xs : List source.Record) (rs : List Record) → list_all (is_fine unit) xs ≡ true → SameRecords (string_of_table strings) xs rs
+        → AllByRecursion IsSpelled (unit_of rs) × AllByRecursion IsSayable rs
+    records_spelled [] [] fine same = ((tt, tt), tt)
+    records_spelled [] (r ∷ rs) fine same = absurd same
+    records_spelled (x ∷ xs) [] fine same = absurd same
+    records_spelled (x ∷ xs) (r ∷ rs) fine same =
+        let parts = both_of (is_fine unit x) (list_all (is_fine unit) xs) fine in
+        let first = record_spelled x r parts.0 same.0 in
+        let rest = records_spelled xs rs parts.1 same.1 in
+        (subst (λ (is : List Instruction). AllByRecursion IsSpelled is) (sym (append_assoc (giving r) (flat_map giving rs) (instruction.End ∷ []))) (spelled_append (giving r) (unit_of rs) first.0 rest.0), (first.1, rest.1))
+
+  module _ (strings : List Words) where
+    abbrev context : Context
+    context = attribute_context unit strings
+
+    string_there : (w : Words) (s : StrNo) → IsString (string_of_table strings) w s → nat_lt s.0 (length strings) ≡ true
+    string_there w s is = lt-ltb s.0 (length strings) (slice_get_within strings s.0 w is)
+
+    optional_there : (o : Option Words) (s : Option StrNo) → IsOptionalString (string_of_table strings) o s → optional_string_exists context.counts s ≡ true
+    optional_there None None is = refl
+    optional_there None (Some s) is = absurd is
+    optional_there (Some w) None is = absurd is
+    optional_there (Some w) (Some s) is = string_there w s is
+
+    -- that an item exists has nothing to do with the strings
+    item_there : (item : ItemNo) → item_exists (counts_in unit) item ≡ true → item_exists context.counts item ≡ true
+    item_there (items.Variable n) h = h
+    item_there (items.Command n) h = h
+    item_there (items.Menu n) h = h
+    item_there (items.Collection n) h = h
+    item_there (items.Method n) h = h
+
+    abbrev Exists : Record → Type 0
+    Exists r = list_all (names_exist context) (giving r) ≡ true
+
+    record_exists : (x : source.Record) (r : Record) → is_fine unit x ≡ true → SameRecord (string_of_table strings) x r → Exists r
+    record_exists (source.Words w) r fine same = subst Exists (sym same.1) (rw (string_there w same.0 same.2) refl)
+    record_exists (source.Number z) r fine same = subst Exists (sym same) refl
+    record_exists (source.Entry item quals) r fine same = subst Exists (sym same) (rw (item_there item fine) refl)
+    record_exists (source.DataConst n) r fine same = subst Exists (sym same) refl
+    record_exists (source.DataVar v mask quals) r fine same = subst Exists (sym same) (rw ((both_of (variable_exists (counts_in unit) v) (nat_lt (mask_number mask) (2 ^ 32)) fine).0) refl)
+    record_exists (source.Enumerator value text help) r fine same =
+        subst Exists (sym same.2) (rw (string_there text same.0 same.3, optional_there help same.1 same.4) refl)
+    record_exists (source.Response number class text) r fine same = subst Exists (sym same.1) (rw (string_there text same.0 same.2) refl)
+    record_exists (source.Member name item label help) r fine same =
+        subst Exists (sym same.3) (rw (string_there name same.0 same.4, item_there item fine, optional_there label same.1 same.5, optional_there help same.2 same.6) refl)
+
+    pub records_exist : (xs : List source.Record) (rs : List Record) → list_all (is_fine unit) xs ≡ true → SameRecords (string_of_table strings) xs rs
+        → list_all (names_exist context) (unit_of rs) ≡ true
+    records_exist [] [] fine same = refl
+    records_exist [] (r ∷ rs) fine same = absurd same
+    records_exist (x ∷ xs) [] fine same = absurd same
+    records_exist (x ∷ xs) (r ∷ rs) fine same =
+        let parts = both_of (is_fine unit x) (list_all (is_fine unit) xs) fine in
+        ap (list_all (names_exist context)) (append_assoc (giving r) (flat_map giving rs) (instruction.End ∷ []))
+        ∙ all_append (names_exist context) (giving r) (unit_of rs) (record_exists x r parts.0 same.0) (records_exist xs rs parts.1 same.1)

@@ -1,0 +1,170 @@
+//! The item of a row, and the tree of a row in it.
+
+ghost use Rattle.std.specs.Prelude.{◌≡◌, ◌∷◌, map, option_map, slice_get};
+ghost use Rattle.edd_syntax.specs.Attributes as attributes;
+ghost use Rattle.edd_syntax.specs.Item.{kind_of_item};
+ghost use Rattle.edd_syntax.specs.ItemView.{attribute_of, identification_of, item_of, transaction_part_of};
+ghost use Rattle.edd_syntax.specs.Numbers as numbers;
+ghost use Rattle.edd_syntax.specs.Resolved.{description};
+ghost use Rattle.edd_attrs.specs.Rows as rows;
+ghost use Rattle.edd_attrs.specs.Trees as trees;
+ghost use Rattle.edd_attrs.specs.Views as views;
+
+use crate::trees::{Tree, is_same, tree_among};
+use edd_syntax::item::{Attribute, Identification, Item, TransactionPart};
+use edd_syntax::numbers::{Attr, AttrRef, ItemNo, Kind};
+use edd_syntax::reference::Target;
+
+fn is_same_kind(a: Kind, b: Kind) -> bool
+    ensures { result ≡ numbers.same_kind a b }
+{
+    a as u8 == b as u8
+}
+
+fn kind_and_index(number: ItemNo) -> (Kind, u16)
+    ensures kind { result.0 ≡ numbers.kind_of number }
+    ensures index { result.1 ≡ numbers.index_of number }
+{
+    match number {
+        ItemNo::Variable(n) => (Kind::Variable, n.0),
+        ItemNo::Command(n) => (Kind::Command, n.0),
+        ItemNo::Menu(n) => (Kind::Menu, n.0),
+        ItemNo::Collection(n) => (Kind::Collection, n.0),
+        ItemNo::Method(n) => (Kind::Method, n.0),
+    }
+}
+
+// The attributes of an item of this kind.
+fn attributes_of_kind<'a>(item: &'a Item<Target>, kind: Kind) -> Option<&'a [Attribute<Target>]>
+    ensures { option_map (λ a. map (attribute_of (λ r. r)) a.now) result ≡ rows.attributes_of_kind kind (item_of (λ r. r) item.now) }
+{
+    let (of, attributes) = match item {
+        Item::Variable(d) => (Kind::Variable, &d.attributes),
+        Item::Command(d) => (Kind::Command, &d.attributes),
+        Item::Menu(d) => (Kind::Menu, &d.attributes),
+        Item::Collection(d) => (Kind::Collection, &d.attributes),
+        Item::Method(d) => (Kind::Method, &d.attributes),
+    };
+    if is_same_kind(of, kind) {
+        Some(attributes)
+    } else {
+        None
+    }
+}
+
+// The attributes of an item.
+fn attributes_at<'a>(
+    items: &'a [Item<Target>],
+    kind: Kind,
+    index: u16,
+) -> Option<&'a [Attribute<Target>]>
+    ensures { option_map (λ a. map (attribute_of (λ r. r)) a.now) result
+        ≡ slice_get (rows.attributes_of_items kind (map (item_of (λ r. r)) items.now)) index }
+{
+    let mut left = index;
+    for item in items {
+        if let Some(attributes) = attributes_of_kind(item, kind) {
+            if left == 0 {
+                return Some(attributes);
+            }
+            left -= 1;
+        }
+    }
+    None
+}
+
+type Transaction<'a> = (Option<u32>, &'a [TransactionPart<Target>]);
+
+fn transaction_in<'a>(attribute: &'a Attribute<Target>) -> Option<Transaction<'a>>
+    ensures { option_map views.transaction_of result ≡ rows.transaction_in (attribute_of (λ r. r) attribute.now) }
+{
+    match attribute {
+        Attribute::Transaction { number, parts } => Some((*number, parts)),
+        _ => None,
+    }
+}
+
+// A transaction by its position.
+fn transaction_at<'a>(attributes: &'a [Attribute<Target>], sub: u16) -> Option<Transaction<'a>>
+    ensures { option_map views.transaction_of result ≡ slice_get (trees.transaction_trees (map (attribute_of (λ r. r)) attributes.now)) sub }
+{
+    let mut left = sub;
+    for attribute in attributes {
+        if let Some(transaction) = transaction_in(attribute) {
+            if left == 0 {
+                return Some(transaction);
+            }
+            left -= 1;
+        }
+    }
+    None
+}
+
+fn tree_of_transaction_part<'a>(part: &'a TransactionPart<Target>, attr: Attr) -> Option<Tree<'a>>
+    ensures { option_map views.tree_of result
+        ≡ trees.first_tree attr (rows.one_part (transaction_part_of (λ r. r) part.now)) }
+{
+    let (of, tree) = match part {
+        TransactionPart::Request(all) => (Attr::Request, Tree::Data(all)),
+        TransactionPart::Reply(all) => (Attr::Reply, Tree::Data(all)),
+    };
+    if is_same(of, attr) { Some(tree) } else { None }
+}
+
+fn tree_among_transaction_parts<'a>(
+    parts: &'a [TransactionPart<Target>],
+    attr: Attr,
+) -> Option<Tree<'a>>
+    ensures { option_map views.tree_of result
+        ≡ trees.first_tree attr (map trees.tree_of_transaction_part (map (transaction_part_of (λ r. r)) parts.now)) }
+{
+    for part in parts {
+        if let Some(tree) = tree_of_transaction_part(part, attr) {
+            return Some(tree);
+        }
+    }
+    None
+}
+
+fn tree_of_transaction<'a>(transaction: Transaction<'a>, attr: Attr) -> Option<Tree<'a>>
+    ensures { option_map views.tree_of result ≡ trees.first_tree attr (views.transaction_of transaction.entry) }
+{
+    let (number, parts) = transaction;
+    if is_same(Attr::Transaction, attr) {
+        Some(Tree::Transaction(number))
+    } else {
+        tree_among_transaction_parts(parts, attr)
+    }
+}
+
+fn is_of_transaction(attr: Attr) -> bool
+    ensures { result ≡ attributes.is_of_transaction attr }
+{
+    matches!(attr, Attr::Transaction | Attr::Request | Attr::Reply)
+}
+
+fn tree_in<'a>(attributes: &'a [Attribute<Target>], attr: Attr, sub: u16) -> Option<Tree<'a>>
+    ensures { option_map views.tree_of result ≡ trees.tree_in (map (attribute_of (λ r. r)) attributes.now) attr sub }
+{
+    if is_of_transaction(attr) {
+        let transaction = transaction_at(attributes, sub)?;
+        tree_of_transaction(transaction, attr)
+    } else {
+        tree_among(attributes, attr)
+    }
+}
+
+/// The tree of a row, if it is written.
+#[tactic(auto, unfolding(crate::specs::Trees::tree_at), using(crate::proofs::ItemTrees::tree_of_row))]
+pub fn tree_at<'a>(
+    identification: Identification,
+    items: &'a [Item<Target>],
+    row: AttrRef,
+) -> Option<Tree<'a>>
+    ensures { option_map views.tree_of result
+        ≡ trees.tree_at (description (identification_of identification) (map (item_of (λ r. r)) items.now)) row }
+{
+    let (kind, index) = kind_and_index(row.item);
+    let attributes = attributes_at(items, kind, index)?;
+    tree_in(attributes, row.attr, row.sub)
+}

@@ -1,0 +1,13 @@
+//! The code of attributes.
+#![tactic(auto)]
+
+mod attribute;
+mod fault;
+mod items;
+mod lowering;
+mod strings;
+mod trees;
+mod writing;
+
+pub use attribute::lower_attribute;
+pub use fault::LowerFault;

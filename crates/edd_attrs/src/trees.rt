@@ -1,0 +1,105 @@
+//! The tree of an attribute: what is written for it, wherever it stands in its item.
+
+ghost use Rattle.std.specs.Prelude.{◌≡◌, map, option_map};
+ghost use Rattle.edd_syntax.specs.ItemView.{attribute_of, type_part_of};
+ghost use Rattle.edd_syntax.specs.Numbers as numbers;
+ghost use Rattle.edd_attrs.specs.Trees as trees;
+ghost use Rattle.edd_attrs.specs.Views as views;
+
+use edd_syntax::cond::Cond;
+use edd_syntax::expr::Expr;
+use edd_syntax::item::{Attribute, DataItem, Member, MenuEntry, ResponseCode, TypePart};
+use edd_syntax::numbers::Attr;
+use edd_syntax::reference::Target;
+use edd_syntax::text::Text;
+use edd_syntax::types::{Handling, Operation};
+
+/// What is written for an attribute.
+#[derive(Clone, Copy)]
+pub enum Tree<'a> {
+    Texts(&'a Cond<Target, Text>),
+    Class(&'a [String]),
+    Handling(&'a Cond<Target, Handling>),
+    Validity(&'a Cond<Target, bool>),
+    Expressions(&'a Cond<Target, Expr<Target>>),
+    /// The parts of a type, of which the elements of its list are the attribute.
+    Enumerators(&'a [TypePart<Target>]),
+    Number(u32),
+    Operation(Operation),
+    Transaction(Option<u32>),
+    Data(&'a [Cond<Target, DataItem<Target>>]),
+    ResponseCodes(&'a [ResponseCode]),
+    Items(&'a [Cond<Target, MenuEntry<Target>>]),
+    Members(&'a [Member<Target>]),
+}
+
+pub fn is_same(a: Attr, b: Attr) -> bool
+    ensures { result ≡ numbers.same_attr a b }
+{
+    a as u8 == b as u8
+}
+
+// The tree of a part of a type.
+fn tree_of_part<'a>(part: &'a TypePart<Target>, attr: Attr) -> Option<Tree<'a>>
+    ensures { option_map views.tree_of result ≡ trees.first_tree attr (trees.trees_of_part (type_part_of (λ r. r) part.now)) }
+{
+    let (of, tree) = match part {
+        TypePart::DefaultValue { value, .. } => (Attr::DefaultValue, Tree::Expressions(value)),
+        TypePart::MinValue { value, .. } => (Attr::MinValue, Tree::Expressions(value)),
+        TypePart::MaxValue { value, .. } => (Attr::MaxValue, Tree::Expressions(value)),
+        TypePart::DisplayFormat { format, .. } => (Attr::DisplayFormat, Tree::Texts(format)),
+        TypePart::EditFormat { format, .. } => (Attr::EditFormat, Tree::Texts(format)),
+        TypePart::Element(_) => return None,
+    };
+    if is_same(of, attr) { Some(tree) } else { None }
+}
+
+fn tree_among_parts<'a>(parts: &'a [TypePart<Target>], attr: Attr) -> Option<Tree<'a>>
+    ensures { option_map views.tree_of result ≡ trees.first_tree attr (trees.trees_of_parts (map (type_part_of (λ r. r)) parts.now)) }
+{
+    for part in parts {
+        if let Some(tree) = tree_of_part(part, attr) {
+            return Some(tree);
+        }
+    }
+    None
+}
+
+// The tree of a written attribute.
+fn tree_of<'a>(attribute: &'a Attribute<Target>, attr: Attr) -> Option<Tree<'a>>
+    ensures { option_map views.tree_of result ≡ trees.first_tree attr (trees.trees_of_attribute (attribute_of (λ r. r) attribute.now)) }
+{
+    let (of, tree) = match attribute {
+        Attribute::Label(c) => (Attr::Label, Tree::Texts(c)),
+        Attribute::Help(c) => (Attr::Help, Tree::Texts(c)),
+        Attribute::Class(names) => (Attr::Class, Tree::Class(names)),
+        Attribute::Handling(c) => (Attr::Handling, Tree::Handling(c)),
+        Attribute::ConstantUnit(c) => (Attr::ConstantUnit, Tree::Texts(c)),
+        Attribute::Validity(c) => (Attr::Validity, Tree::Validity(c)),
+        Attribute::TypeOf { parts, .. } => {
+            if !is_same(Attr::Enumerators, attr) {
+                return tree_among_parts(parts, attr);
+            }
+            (Attr::Enumerators, Tree::Enumerators(parts))
+        }
+        Attribute::Number(number) => (Attr::Number, Tree::Number(*number)),
+        Attribute::Operation(operation) => (Attr::Operation, Tree::Operation(*operation)),
+        Attribute::ResponseCodes(codes) => (Attr::ResponseCodes, Tree::ResponseCodes(codes)),
+        Attribute::Items(entries) => (Attr::Items, Tree::Items(entries)),
+        Attribute::Members(members) => (Attr::Members, Tree::Members(members)),
+        Attribute::Transaction { .. } | Attribute::Definition(_) => return None,
+    };
+    if is_same(of, attr) { Some(tree) } else { None }
+}
+
+/// The tree of an attribute other than those of transactions.
+pub fn tree_among<'a>(attributes: &'a [Attribute<Target>], attr: Attr) -> Option<Tree<'a>>
+    ensures { option_map views.tree_of result ≡ trees.first_tree attr (trees.trees_of (map (attribute_of (λ r. r)) attributes.now)) }
+{
+    for attribute in attributes {
+        if let Some(tree) = tree_of(attribute, attr) {
+            return Some(tree);
+        }
+    }
+    None
+}
