@@ -1,0 +1,103 @@
+-- The effects of the instructions that a machine has beside those that both sorts of units have.
+use Rattle.std.proofs.Common.{◌≡◌, ℕ, ◌<◌, ◌≤◌, true, ℤ, pos, List, ◌∷◌, length, get_or, Option, Some, refl, sym, ap, subst, ◌∙◌, arith}
+use Rattle.std.specs.Prelude.{slice_set}
+use Rattle.std.specs.List.{slice_get}
+use Rattle.std.proofs.lemmas.Bool.{ltb-true}
+use Rattle.std.proofs.lemmas.Option.{get_or_from_slice_get}
+use Rattle.std.proofs.lemmas.Slice.Zip.{AllZip-long}
+use Rattle.edd_syntax.specs.declared.numbers.VarNo.{VarNo}
+use Rattle.edd_syntax.specs.TwosComplement.{wrap, store}
+use Rattle.edd_syntax.specs.DeviceValues.{VariableType, type_at, AreDeviceValues}
+use Rattle.edd_syntax.specs.Answers.{Change}
+use Rattle.edd_image.specs.declared.instruction.Instruction.{Instruction}
+use Rattle.edd_image.specs.declared.instruction.Instruction.TheVariants as instructions
+use Rattle.edd_image.specs.declared.parts.VarKind.{VarKind}
+use Rattle.edd_image.specs.declared.unit.Sort.{Sort}
+use Rattle.edd_image.specs.declared.unit.Sort.TheVariants.{Attribute, Method}
+use Rattle.edd_image.specs.declared.unit.Version.{Version}
+use Rattle.edd_image.specs.declared.unit.Version.TheVariants.{One}
+use Rattle.edd_image.specs.declared.instruction.Ask.{Ask}
+use Rattle.edd_image.specs.Contents.{contents_in, fields_of_variable}
+use Rattle.edd_image.specs.References.{names_exist}
+use Rattle.edd_image.specs.Fields.{counts_in}
+use Rattle.edd_image.specs.Steps.{State, Environment, Effect, width_of, on_top, store_in, act, act_ask}
+use Rattle.edd_image.specs.Units.{is_allowed}
+use Rattle.edd_image.specs.Reading.{environment_of}
+use Rattle.edd_image.specs.Validity.{IsValid}
+use Rattle.edd_machine.specs.declared.machine.Machine.{Machine}
+use Rattle.edd_machine.specs.declared.outcome.Outcome.{Outcome}
+use Rattle.edd_machine.specs.declared.outcome.Outcome.TheVariants.{GoesOn, Gives, Ends, Traps}
+use Rattle.edd_machine.specs.Outcomes.{comes_to}
+use Rattle.edd_machine.specs.Running.{state_of, IsEffect, CanAct}
+use Rattle.edd_machine.specs.Types.{types_in, type_of_kind}
+use Rattle.edd_machine.proofs.VariableTypes.{type_at_number, types_counted}
+
+pub store_acts : (env : Environment) (s : State) (v : VarNo) (next : ℕ) (a : ℤ) (below : List ℤ) (t : VariableType) → s.operands ≡ a ∷ below → type_at env.types v ≡ t
+    → act env (instructions.Store v) next s ≡ store_in env s next below (store t.type t.size a) (record { variable = v; value = store t.type t.size a })
+unfolding act
+store_acts env s v next a below t e g =
+    ap (λ (operands : List ℤ). on_top operands (λ x rest. store_in env s next rest (store (type_at env.types v).type (type_at env.types v).size x) (record { variable = v; value = store (type_at env.types v).type (type_at env.types v).size x }))) e
+    ∙ ap (λ (u : VariableType). store_in env s next below (store u.type u.size a) (record { variable = v; value = store u.type u.size a })) g
+
+pub type_there : (b : List ℕ) (v : VarNo) (kind : VarKind) → IsValid b → slice_get (contents_in b).variables v.0 ≡ Some (fields_of_variable kind) → type_at (types_in b) v ≡ type_of_kind kind
+type_there b v kind valid e = get_or_from_slice_get (types_in b) v.0 (type_of_kind kind) _ (type_at_number b v.0 kind valid e)
+
+pub values_counted : (b : List ℕ) (values : List ℤ) → IsValid b → AreDeviceValues (types_in b) values → length values ≡ (counts_in b).variables
+values_counted b values valid are = AllZip-long _ (types_in b) values are ∙ types_counted b valid
+
+pub ask_acts : (env : Environment) (request : Ask) (next : ℕ) (s : State) (i : Instruction) → i ≡ instructions.Ask request → act env i next s ≡ act_ask request next s
+unfolding act
+ask_acts env request next s i e = rw e refl
+
+pub effect_same : (o p : Option Effect) (b : List ℕ) (m : Machine) → o ≡ p → IsEffect p b m → IsEffect o b m
+effect_same o p b m e i = record { effect = i.effect; is = e ∙ i.is; state = i.state; emitted = i.emitted }
+
+-- the instructions that attributes have
+pub shared : (i : Instruction) → ((v : VarNo) → i ≡ instructions.Store v → ⊥) → ((n : ℕ) → i ≡ instructions.GetLocal n → ⊥) → ((n : ℕ) → i ≡ instructions.SetLocal n → ⊥) → ((r : Ask) → i ≡ instructions.Ask r → ⊥) → (i ≡ instructions.Abort → ⊥) → is_allowed One Attribute i ≡ true
+shared instructions.End a b c d e = refl
+shared (instructions.Push n) a b c d e = refl
+shared (instructions.Variable v) a b c d e = refl
+shared (instructions.Store v) a b c d e = absurd (a v refl)
+shared (instructions.GetLocal slot) a b c d e = absurd (b slot refl)
+shared (instructions.SetLocal slot) a b c d e = absurd (c slot refl)
+shared instructions.Pop a b c d e = refl
+shared instructions.Duplicate a b c d e = refl
+shared (instructions.Operate op) a b c d e = refl
+shared (instructions.Compare op) a b c d e = refl
+shared instructions.Negate a b c d e = refl
+shared instructions.Not a b c d e = refl
+shared instructions.Complement a b c d e = refl
+shared (instructions.Jump to) a b c d e = refl
+shared (instructions.JumpIfZero to) a b c d e = refl
+shared (instructions.JumpIfNotZero to) a b c d e = refl
+shared (instructions.Case label to) a b c d e = refl
+shared (instructions.Text s) a b c d e = refl
+shared instructions.Number a b c d e = refl
+shared (instructions.Item item quals) a b c d e = refl
+shared (instructions.DataConst n) a b c d e = refl
+shared (instructions.DataVar v mask quals) a b c d e = refl
+shared (instructions.Enumerator n text help) a b c d e = refl
+shared (instructions.Response n class text) a b c d e = refl
+shared (instructions.Member name item label help) a b c d e = refl
+shared (instructions.Ask request) a b c d e = absurd (d request refl)
+shared instructions.Abort a b c d e = absurd (e refl)
+
+-- the variable that an instruction reads has a value
+pub variable_there : (b : List ℕ) (i : Instruction) (m : Machine) (v : VarNo) → CanAct b i m → i ≡ instructions.Variable v → v.0 < length m.values.numbers.items
+variable_there b i m v can e =
+    let exists : names_exist can.context (instructions.Variable v) ≡ true = subst (λ (x : Instruction). names_exist can.context x ≡ true) e can.exist in
+    omega (arith, ltb-true v.0 can.context.counts.variables exists, can.is.variable_count, AllZip-long _ (types_in b) m.values.numbers.items can.is.values)
+
+-- what an outcome makes of a state does not depend on the operands that it had
+pub comes_over : (o : Outcome) (next : ℕ) (operands : List ℤ) (s : State) → comes_to o next operands s ≡ comes_to o next operands (record s { operands = operands })
+comes_over (GoesOn place) next operands s = refl
+comes_over (Gives r) next operands s = refl
+comes_over Ends next operands s = refl
+comes_over (Traps why) next operands s = refl
+
+-- what a store leaves, by the numbers that were read again
+pub stored_state : (s : State) (next v w : ℕ) (below operands : List ℤ) (kept z read : ℤ) → z ≡ kept → read ≡ wrap w z → operands ≡ read ∷ below → (t : State) → t ≡ record s { place = next; operands = operands; values = slice_set s.values v z }
+    → record s { place = next; operands = wrap w kept ∷ below; values = slice_set s.values v kept } ≡ t
+stored_state s next v w below operands kept z read e f g t h =
+    let after : ℤ → List ℤ → State = λ x ops. record s { place = next; operands = ops; values = slice_set s.values v x } in
+    sym (h ∙ ap (after z) (g ∙ ap (λ (x : ℤ). x ∷ below) f) ∙ ap (λ (x : ℤ). after x (wrap w x ∷ below)) e)

@@ -1,0 +1,4 @@
+pub mod Faults
+pub mod Outcomes
+pub mod Running
+pub mod Types

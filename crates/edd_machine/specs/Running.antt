@@ -1,0 +1,71 @@
+-- A machine on a unit of an image, as a state.
+use Rattle.std.specs.Prelude.{◌≡◌, ℕ, ◌+◌, ◌-◌, ◌≤◌, true, List, length, Option, Some, IfSome}
+use Rattle.std.specs.List.{slice_get}
+use Rattle.edd_image.specs.declared.instruction.Instruction.{Instruction}
+use Rattle.edd_image.specs.declared.unit.Context.{Context}
+use Rattle.edd_image.specs.Contents.{AttributeFields, contents_in, part}
+use Rattle.edd_image.specs.Fields.{code_start, counts_in}
+use Rattle.edd_image.specs.References.{names_exist}
+use Rattle.edd_image.specs.Units.{takes, leaves, is_allowed}
+use Rattle.edd_image.specs.Validity.{sort_of, slots_of, unit_of}
+use Rattle.edd_image.specs.Steps.{RunningUnit, State, Environment, Effect, IsState, act, step}
+use Rattle.edd_image.specs.Reading.{environment_of}
+use Rattle.edd_machine.specs.declared.code_unit.CodeUnit.{CodeUnit}
+use Rattle.edd_machine.specs.declared.machine.Machine.{Machine}
+
+-- the unit of a row, whose code stands among the bytes of the image
+abbrev pub unit_at : List ℕ → AttributeFields → CodeUnit
+unit_at b r = record { sort = sort_of r; slots = slots_of r; start = code_start b + r.span.start; size = r.span.size }
+
+-- the code of a unit
+abbrev pub code_at : List ℕ → CodeUnit → List ℕ
+code_at b u = part (record { start = u.start; size = u.size }) b
+
+-- a unit as what runs
+abbrev pub running_unit : List ℕ → CodeUnit → RunningUnit
+running_unit b u = record { sort = u.sort; code = code_at b u }
+
+-- a machine as a state, over the bytes of the image
+abbrev pub state_of : List ℕ → Machine → State
+state_of b m = record {
+  unit = running_unit b m.unit;
+  place = m.place;
+  operands = m.operands;
+  slots = m.slots.items;
+  values = m.values.numbers.items;
+  status = m.status;
+}
+
+-- It runs the unit of a row of the image, and keeps what every state of it keeps.
+pub record IsMachine (b : List ℕ) (m : Machine) : Type 0 where
+  pub number : ℕ
+  pub row : AttributeFields
+  pub stands : slice_get (contents_in b).attributes number ≡ Some row
+  pub unit : m.unit ≡ unit_at b row
+  pub state : IsState (unit_of (contents_in b) row).context (environment_of (contents_in b)) (state_of b m)
+
+-- There is an effect, and it is this machine with what it emits. Its changes are those of the effect.
+pub record IsEffect (o : Option Effect) (b : List ℕ) (m : Machine) : Type 0 where
+  pub effect : Effect
+  pub is : o ≡ Some effect
+  pub state : effect.state ≡ state_of b m
+  pub emitted : effect.emitted ≡ m.emitted
+
+-- the second machine is the first after its step
+abbrev pub StepsTo : List ℕ → Machine → Machine → Type 0
+StepsTo b m n = IsEffect (step (environment_of (contents_in b)) (state_of b m)) b n
+
+-- the instruction, behind which the place `next` lies, makes the second of the first machine
+abbrev pub ActsTo : List ℕ → Instruction → ℕ → Machine → Machine → Type 0
+ActsTo b i next m n = IsEffect (act (environment_of (contents_in b)) i next (state_of b m)) b n
+
+-- what the rules on a unit say of the instruction at which the machine stands
+pub record CanAct (b : List ℕ) (i : Instruction) (m : Machine) : Type 0 where
+  pub context : Context
+  pub counts : context.counts ≡ counts_in b
+  pub is : IsState context (environment_of (contents_in b)) (state_of b m)
+  pub enough : takes i ≤ length m.operands
+  pub full : length m.operands ≤ 128
+  pub room : IfSome (leaves i) (λ n. length m.operands - takes i + n ≤ 128)
+  pub allowed : is_allowed context.version context.sort i ≡ true
+  pub exist : names_exist context i ≡ true

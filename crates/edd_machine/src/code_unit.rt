@@ -1,0 +1,26 @@
+//! Where the code of a unit stands.
+
+ghost use Rattle.std.specs.Prelude.{◌≡◌, ◌+◌, ◌≤◌, length};
+ghost use Rattle.edd_machine.specs.Running.{code_at};
+
+use edd_image::Sort;
+
+/// The unit of an attribute row: its sort, its number of slots, and the place and the number of the bytes of its code among
+/// those of the image.
+#[derive(Clone, Copy, PartialEq, Eq, Debug)]
+pub struct CodeUnit {
+    pub sort: Sort,
+    pub slots: u16,
+    pub start: usize,
+    pub size: usize,
+}
+
+/// The code of a unit.
+pub fn code_of(bytes: &[u8], unit: CodeUnit) -> &[u8]
+    requires { unit.start + unit.size ≤ length bytes.now }
+    ensures { result.now ≡ code_at bytes.now unit }
+{
+    let (_, behind) = bytes.split_at(unit.start);
+    let (code, _) = behind.split_at(unit.size);
+    code
+}

@@ -1,0 +1,17 @@
+//! The machine: values of a device, the steps of a unit, and what is read of an attribute.
+#![tactic(auto)]
+
+mod arithmetic;
+mod code_unit;
+mod fault;
+mod machine;
+mod operands;
+mod outcome;
+mod ranges;
+mod values;
+
+pub use code_unit::CodeUnit;
+pub use fault::{ReadFault, ValuesFault};
+pub use machine::Machine;
+pub use operands::Operands;
+pub use values::Values;

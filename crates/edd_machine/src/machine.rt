@@ -1,0 +1,246 @@
+//! A state of the machine, and its step.
+
+ghost use Rattle.std.specs.Prelude.{◌≡◌, ℕ, ◌<◌, ◌≤◌, Some, List, [], ◌∷◌, length, pos, replicate, OnSome};
+ghost use Rattle.std.specs.List.{AllByRecursion, slice_get};
+ghost use Rattle.edd_syntax.specs.DeviceValues.{AreDeviceValues};
+ghost use Rattle.edd_image.specs.declared.instruction.Instruction.TheVariants as instructions;
+ghost use Rattle.edd_image.specs.declared.records.Emitted.TheVariants as emitted;
+ghost use Rattle.edd_image.specs.declared.records.Status.TheVariants.{Running};
+ghost use Rattle.edd_image.specs.declared.unit.Sort.TheVariants.{Method};
+ghost use Rattle.edd_image.specs.Contents.{AttributeFields, contents_in};
+ghost use Rattle.edd_image.specs.Fields.{counts_in};
+ghost use Rattle.edd_image.specs.Steps.{Environment, Fits, act, act_ask, ask_for, opening};
+ghost use Rattle.edd_image.specs.Units.{numbers_asked};
+ghost use Rattle.edd_image.specs.Validity.{IsValid};
+ghost use Rattle.edd_machine.specs.Outcomes.{comes_to};
+ghost use Rattle.edd_machine.specs.Running.{unit_at, running_unit, state_of, IsMachine, IsEffect, StepsTo, ActsTo, CanAct};
+ghost use Rattle.edd_machine.specs.Types.{types_in};
+
+use crate::arithmetic::wrapped;
+use crate::code_unit::{CodeUnit, code_of};
+use crate::operands::Operands;
+use crate::outcome::{Outcome, perform};
+use crate::ranges::stored;
+use crate::values::Values;
+use arrayvec::ArrayVec;
+use edd_image::{Ask, Emitted, Instruction, Request, Sort, Status, decode};
+use edd_loader::Image;
+use edd_syntax::numbers::VarNo;
+
+/// A state of the machine over one unit of an image, and what its last step emitted.
+#[derive(Debug, Drop)]
+pub struct Machine {
+    pub unit: CodeUnit,
+    /// The place of the next instruction: a count of bytes from the start of the unit.
+    pub place: usize,
+    pub operands: Operands,
+    pub slots: ArrayVec<i64, 64>,
+    pub values: Values,
+    pub status: Status,
+    pub emitted: Emitted,
+}
+
+// So many slots of 0.
+fn empty_slots(count: u16) -> ArrayVec<i64, 64>
+    requires { count ≤ 64 }
+    ensures { result.items ≡ replicate count (pos 0) }
+{
+    let mut slots = ArrayVec::new();
+    for _ in 0..count {
+        slots.push(0);
+    }
+    slots
+}
+
+impl Machine {
+    /// The state at the start of a unit, under these values.
+    pub fn open(unit: CodeUnit, values: Values) -> Machine
+        requires { unit.slots ≤ 64 }
+        ensures state { (b : List ℕ) → state_of b result ≡ opening (running_unit b unit) unit.slots values.numbers.items }
+        ensures unit { result.unit ≡ unit }
+        ensures emitted { result.emitted ≡ emitted.Nothing }
+        ensures machine { (b : List ℕ) (number : ℕ) (row : AttributeFields) → IsValid b
+            → slice_get (contents_in b).attributes number ≡ Some row → unit ≡ unit_at b row
+            → AreDeviceValues (types_in b) values.numbers.items → IsMachine b result }
+    {
+        Machine {
+            unit,
+            place: 0,
+            operands: Operands::new(),
+            slots: empty_slots(unit.slots),
+            values,
+            status: Status::Running,
+            emitted: Emitted::Nothing,
+        }
+    }
+
+    // Takes on the outcome of an instruction that has left these operands.
+    fn take_on(&mut self, outcome: Outcome, next: usize)
+        ensures unit { self.new.unit ≡ self.old.unit }
+        ensures value { (b : List ℕ) → comes_to outcome next self.old.operands (state_of b self.old)
+            ≡ record { state = state_of b self.new; emitted = self.new.emitted; changes = [] } }
+    {
+        self.emitted = Emitted::Nothing;
+        match outcome {
+            Outcome::GoesOn(place) => self.place = place,
+            Outcome::Gives(record) => {
+                self.place = next;
+                self.emitted = Emitted::Record(record);
+            }
+            Outcome::Ends => self.status = Status::Ended,
+            Outcome::Traps(why) => self.status = Status::Trapped(why),
+        }
+    }
+
+    // The value of a slot.
+    #[tactic(auto, unfolding(edd_image::specs::Steps::act))]
+    fn push_slot(&mut self, slot: u16, next: usize)
+        requires room { length self.old.operands < 128 }
+        requires exists { slot < length self.old.slots.items }
+        ensures unit { self.new.unit ≡ self.old.unit }
+        ensures acts { (b : List ℕ) → ActsTo b (instructions.GetLocal slot) next self.old self.new }
+    {
+        self.operands.push(self.slots.as_slice()[slot as usize]);
+        self.place = next;
+        self.emitted = Emitted::Nothing;
+    }
+
+    // Sets a slot to the topmost operand, which stays.
+    #[tactic(auto, unfolding(edd_image::specs::Steps::act))]
+    fn set_slot(&mut self, slot: u16, next: usize)
+        requires enough { 1 ≤ length self.old.operands }
+        requires room { length self.old.operands ≤ 128 }
+        requires exists { slot < length self.old.slots.items }
+        ensures unit { self.new.unit ≡ self.old.unit }
+        ensures acts { (b : List ℕ) → ActsTo b (instructions.SetLocal slot) next self.old self.new }
+    {
+        let operand = self.operands.pop();
+        self.slots[slot as usize] = operand;
+        self.operands.push(operand);
+        self.place = next;
+        self.emitted = Emitted::Nothing;
+    }
+
+    // Stores the topmost operand in a variable, and leaves what is read back.
+    #[tactic(auto, unfolding(edd_image::specs::Steps::act))]
+    fn store(&mut self, image: &Image, variable: VarNo, next: usize)
+        requires enough { 1 ≤ length self.old.operands }
+        requires room { length self.old.operands ≤ 128 }
+        requires valid { IsValid image.now }
+        requires exists { variable.0 < (counts_in image.now).variables }
+        requires values { AreDeviceValues (types_in image.now) self.old.values.numbers.items }
+        ensures unit { self.new.unit ≡ self.old.unit }
+        ensures acts { ActsTo image.now (instructions.Store variable) next self.old self.new }
+    {
+        let Some(kind) = image.variable(variable) else {
+            unreachable!()
+        };
+        let kept = stored(kind, self.operands.pop());
+        self.values.numbers[variable.0 as usize] = kept;
+        self.operands.push(wrapped(self.unit.sort, kept));
+        self.place = next;
+        self.emitted = Emitted::Nothing;
+    }
+
+    // Waits for the answer to a request.
+    fn wait(&mut self, next: usize, request: Request)
+        ensures unit { self.new.unit ≡ self.old.unit }
+        ensures acts { (b : List ℕ) → IsEffect (ask_for (state_of b self.old) next self.old.operands request) b self.new }
+    {
+        self.place = next;
+        self.status = Status::Asking(request);
+        self.emitted = Emitted::Request(request);
+    }
+
+    // Takes the topmost operand of a method.
+    fn take_number(&mut self) -> i32
+        requires enough { 1 ≤ length self.old.operands }
+        requires fit { AllByRecursion (Fits Method) self.old.operands }
+        ensures taken { self.old.operands ≡ result ∷ self.new.operands }
+        ensures others { self.new ≡ record self.old { operands = self.new.operands } }
+    {
+        self.operands.pop() as i32
+    }
+
+    // Makes a request, with its numbers from the operands.
+    fn ask(&mut self, ask: Ask, next: usize)
+        requires enough { numbers_asked ask ≤ length self.old.operands }
+        requires fit { AllByRecursion (Fits Method) self.old.operands }
+        ensures unit { self.new.unit ≡ self.old.unit }
+        ensures acts { (b : List ℕ) → IsEffect (act_ask ask next (state_of b self.old)) b self.new }
+    {
+        match ask {
+            Ask::PutMessage(text) => self.wait(next, Request::PutMessage(text)),
+            Ask::Acknowledge(text) => self.wait(next, Request::Acknowledge(text)),
+            Ask::Delay(text) => {
+                let number = self.take_number();
+                self.wait(next, Request::Delay(number, text));
+            }
+            Ask::GetDevVarValue(text, variable) => {
+                self.wait(next, Request::GetDevVarValue(text, variable));
+            }
+            Ask::SelectFromList(text, list) => {
+                self.wait(next, Request::SelectFromList(text, list));
+            }
+            Ask::SendCommand => {
+                let command = self.take_number();
+                self.wait(next, Request::SendCommand(command));
+            }
+            Ask::SendCommandTrans => {
+                let transaction = self.take_number();
+                let command = self.take_number();
+                self.wait(next, Request::SendCommandTrans(command, transaction));
+            }
+            Ask::SaveValues => self.wait(next, Request::SaveValues),
+        }
+    }
+
+    // Ends the run without a method's end.
+    #[tactic(auto, unfolding(edd_image::specs::Steps::act))]
+    fn abort(&mut self, next: usize)
+        ensures unit { self.new.unit ≡ self.old.unit }
+        ensures acts { (b : List ℕ) → ActsTo b instructions.Abort next self.old self.new }
+    {
+        let _ = next;
+        self.status = Status::Aborted;
+        self.emitted = Emitted::Nothing;
+    }
+
+    // The effect of an instruction that the rules on its unit let stand here.
+    fn execute(&mut self, image: &Image, instruction: Instruction, next: usize)
+        requires valid { IsValid image.now }
+        requires ready { CanAct image.now instruction self.old }
+        ensures unit { self.new.unit ≡ self.old.unit }
+        ensures acts { ActsTo image.now instruction next self.old self.new }
+    {
+        match instruction {
+            Instruction::Store(variable) => self.store(image, variable, next),
+            Instruction::GetLocal(slot) => self.push_slot(slot, next),
+            Instruction::SetLocal(slot) => self.set_slot(slot, next),
+            Instruction::Ask(ask) => self.ask(ask, next),
+            Instruction::Abort => self.abort(next),
+            _ => {
+                let sort = self.unit.sort;
+                let values = self.values.numbers.as_slice();
+                let outcome = perform(&mut self.operands, sort, values, instruction, next);
+                self.take_on(outcome, next);
+            }
+        }
+    }
+
+    /// One step: the effect of the instruction at its place. A running state of a unit of the image has exactly one, and keeps
+    /// what every state keeps. It takes no memory.
+    pub fn step(&mut self, image: &Image)
+        requires machine { IsMachine image.now self.old }
+        requires running { self.old.status ≡ Running }
+        ensures step { StepsTo image.now self.old self.new }
+        ensures machine { IsMachine image.now self.new }
+        ensures unit { self.new.unit ≡ self.old.unit }
+    {
+        let code = code_of(image.bytes(), self.unit);
+        match decode(code, self.place) {
+            Some((instruction, next)) => self.execute(image, instruction, next),
+            None => unreachable!(),
+        }
+    }
+}

@@ -1,0 +1,259 @@
+//! The instructions that units of both sorts have, on the operands.
+
+ghost use Rattle.std.specs.Prelude.{◌≡◌, ℕ, ℤ, ◌+◌, ◌-◌, ◌<◌, ◌≤◌, IfSome, List, length, true};
+ghost use Rattle.std.specs.List.{AllByRecursion};
+ghost use Rattle.edd_syntax.specs.declared.numbers.VarNo.{VarNo};
+ghost use Rattle.edd_image.specs.declared.instruction.Instruction.TheVariants as instructions;
+ghost use Rattle.edd_image.specs.declared.unit.Sort.{Sort};
+ghost use Rattle.edd_image.specs.declared.unit.Sort.TheVariants.{Attribute};
+ghost use Rattle.edd_image.specs.declared.unit.Version.TheVariants.{One};
+ghost use Rattle.edd_image.specs.Steps.{Fits};
+ghost use Rattle.edd_image.specs.Units.{takes, leaves, is_allowed};
+ghost use Rattle.edd_machine.specs.Outcomes.{Performs};
+
+use crate::arithmetic::{compare, complement, logical_not, negate, operate, wrapped};
+use crate::operands::Operands;
+use edd_image::{Instruction, Record, Sort};
+use edd_syntax::answer::Trap;
+use edd_syntax::numbers::VarNo;
+use edd_syntax::operators::{Comparison, Operator};
+
+/// What an instruction comes to.
+#[derive(Clone, Copy, PartialEq, Eq, Debug)]
+pub enum Outcome {
+    /// The run goes on at a place.
+    GoesOn(usize),
+    /// A record is given, and the run goes on at the next instruction.
+    Gives(Record),
+    /// The unit ends.
+    Ends,
+    /// An operator has no value.
+    Traps(Trap),
+}
+
+#[tactic(auto, unfolding(edd_image::specs::Steps::act))]
+fn push(operands: &mut Operands, sort: Sort, number: u32, next: usize) -> Outcome
+    requires { length operands.old < 128 }
+    ensures { (values : List ℤ) → Performs sort values operands.old operands.new (instructions.Push number) next result }
+{
+    operands.push(wrapped(sort, i64::from(number)));
+    Outcome::GoesOn(next)
+}
+
+#[tactic(auto, unfolding(edd_image::specs::Steps::act))]
+fn push_variable(
+    operands: &mut Operands,
+    sort: Sort,
+    values: &[i64],
+    variable: VarNo,
+    next: usize,
+) -> Outcome
+    requires room { length operands.old < 128 }
+    requires exists { variable.0 < length values.now }
+    ensures { Performs sort values.now operands.old operands.new (instructions.Variable variable) next result }
+{
+    operands.push(wrapped(sort, values[variable.0 as usize]));
+    Outcome::GoesOn(next)
+}
+
+#[tactic(auto, unfolding(edd_image::specs::Steps::act))]
+fn pop(operands: &mut Operands, next: usize) -> Outcome
+    requires { 1 ≤ length operands.old }
+    ensures { (sort : Sort) (values : List ℤ) → Performs sort values operands.old operands.new instructions.Pop next result }
+{
+    let _operand = operands.pop();
+    Outcome::GoesOn(next)
+}
+
+#[tactic(auto, unfolding(edd_image::specs::Steps::act))]
+fn duplicate(operands: &mut Operands, next: usize) -> Outcome
+    requires enough { 1 ≤ length operands.old }
+    requires room { length operands.old < 128 }
+    ensures { (sort : Sort) (values : List ℤ) → Performs sort values operands.old operands.new instructions.Duplicate next result }
+{
+    let operand = operands.pop();
+    operands.push(operand);
+    operands.push(operand);
+    Outcome::GoesOn(next)
+}
+
+#[tactic(auto, unfolding(edd_image::specs::Steps::act))]
+fn operate_two(operands: &mut Operands, sort: Sort, operator: Operator, next: usize) -> Outcome
+    requires enough { 2 ≤ length operands.old }
+    requires room { length operands.old ≤ 128 }
+    requires fit { AllByRecursion (Fits sort) operands.old }
+    ensures { (values : List ℤ) → Performs sort values operands.old operands.new (instructions.Operate operator) next result }
+{
+    let b = operands.pop();
+    let a = operands.pop();
+    match operate(sort, operator, a, b) {
+        Ok(value) => {
+            operands.push(value);
+            Outcome::GoesOn(next)
+        }
+        Err(why) => Outcome::Traps(why),
+    }
+}
+
+#[tactic(auto, unfolding(edd_image::specs::Steps::act))]
+fn compare_two(operands: &mut Operands, comparison: Comparison, next: usize) -> Outcome
+    requires enough { 2 ≤ length operands.old }
+    requires room { length operands.old ≤ 128 }
+    ensures { (sort : Sort) (values : List ℤ) → Performs sort values operands.old operands.new (instructions.Compare comparison) next result }
+{
+    let b = operands.pop();
+    let a = operands.pop();
+    operands.push(compare(comparison, a, b));
+    Outcome::GoesOn(next)
+}
+
+#[tactic(auto, unfolding(edd_image::specs::Steps::act))]
+fn negate_top(operands: &mut Operands, sort: Sort, next: usize) -> Outcome
+    requires enough { 1 ≤ length operands.old }
+    requires room { length operands.old ≤ 128 }
+    requires fit { AllByRecursion (Fits sort) operands.old }
+    ensures { (values : List ℤ) → Performs sort values operands.old operands.new instructions.Negate next result }
+{
+    let a = operands.pop();
+    operands.push(negate(sort, a));
+    Outcome::GoesOn(next)
+}
+
+#[tactic(auto, unfolding(edd_image::specs::Steps::act))]
+fn not_top(operands: &mut Operands, next: usize) -> Outcome
+    requires enough { 1 ≤ length operands.old }
+    requires room { length operands.old ≤ 128 }
+    ensures { (sort : Sort) (values : List ℤ) → Performs sort values operands.old operands.new instructions.Not next result }
+{
+    let a = operands.pop();
+    operands.push(logical_not(a));
+    Outcome::GoesOn(next)
+}
+
+#[tactic(auto, unfolding(edd_image::specs::Steps::act))]
+fn complement_top(operands: &mut Operands, next: usize) -> Outcome
+    requires enough { 1 ≤ length operands.old }
+    requires room { length operands.old ≤ 128 }
+    ensures { (sort : Sort) (values : List ℤ) → Performs sort values operands.old operands.new instructions.Complement next result }
+{
+    let a = operands.pop();
+    operands.push(complement(a));
+    Outcome::GoesOn(next)
+}
+
+#[tactic(auto, unfolding(edd_image::specs::Steps::act))]
+fn jump_if_zero(operands: &mut Operands, target: u32, next: usize) -> Outcome
+    requires { 1 ≤ length operands.old }
+    ensures { (sort : Sort) (values : List ℤ) → Performs sort values operands.old operands.new (instructions.JumpIfZero target) next result }
+{
+    if operands.pop() == 0 {
+        Outcome::GoesOn(target as usize)
+    } else {
+        Outcome::GoesOn(next)
+    }
+}
+
+#[tactic(auto, unfolding(edd_image::specs::Steps::act))]
+fn jump_if_not_zero(operands: &mut Operands, target: u32, next: usize) -> Outcome
+    requires { 1 ≤ length operands.old }
+    ensures { (sort : Sort) (values : List ℤ) → Performs sort values operands.old operands.new (instructions.JumpIfNotZero target) next result }
+{
+    if operands.pop() == 0 {
+        Outcome::GoesOn(next)
+    } else {
+        Outcome::GoesOn(target as usize)
+    }
+}
+
+#[tactic(auto, unfolding(edd_image::specs::Steps::act))]
+fn case(operands: &mut Operands, label: i64, target: u32, next: usize) -> Outcome
+    requires enough { 1 ≤ length operands.old }
+    requires room { length operands.old ≤ 128 }
+    ensures { (sort : Sort) (values : List ℤ) → Performs sort values operands.old operands.new (instructions.Case label target) next result }
+{
+    let operand = operands.pop();
+    if operand == label {
+        Outcome::GoesOn(target as usize)
+    } else {
+        operands.push(operand);
+        Outcome::GoesOn(next)
+    }
+}
+
+#[tactic(auto, unfolding(edd_image::specs::Steps::act))]
+fn give_number(operands: &mut Operands) -> Outcome
+    requires { 1 ≤ length operands.old }
+    ensures { (sort : Sort) (values : List ℤ) (next : ℕ) → Performs sort values operands.old operands.new instructions.Number next result }
+{
+    Outcome::Gives(Record::Number(operands.pop()))
+}
+
+/// What an instruction that attributes may have comes to.
+#[tactic(auto, unfolding(edd_image::specs::Steps::act))]
+pub fn perform(
+    operands: &mut Operands,
+    sort: Sort,
+    values: &[i64],
+    instruction: Instruction,
+    next: usize,
+) -> Outcome
+    requires enough { takes instruction ≤ length operands.old }
+    requires full { length operands.old ≤ 128 }
+    requires room { IfSome (leaves instruction) (λ n. length operands.old - takes instruction + n ≤ 128) }
+    requires shared { is_allowed One Attribute instruction ≡ true }
+    requires exists { (v : VarNo) → instruction ≡ instructions.Variable v → v.0 < length values.now }
+    requires fit { AllByRecursion (Fits sort) operands.old }
+    ensures { Performs sort values.now operands.old operands.new instruction next result }
+{
+    match instruction {
+        Instruction::End => Outcome::Ends,
+        Instruction::Push(number) => push(operands, sort, number, next),
+        Instruction::Variable(variable) => push_variable(operands, sort, values, variable, next),
+        Instruction::Pop => pop(operands, next),
+        Instruction::Duplicate => duplicate(operands, next),
+        Instruction::Operate(operator) => operate_two(operands, sort, operator, next),
+        Instruction::Compare(comparison) => compare_two(operands, comparison, next),
+        Instruction::Negate => negate_top(operands, sort, next),
+        Instruction::Not => not_top(operands, next),
+        Instruction::Complement => complement_top(operands, next),
+        Instruction::Jump(target) => Outcome::GoesOn(target as usize),
+        Instruction::JumpIfZero(target) => jump_if_zero(operands, target, next),
+        Instruction::JumpIfNotZero(target) => jump_if_not_zero(operands, target, next),
+        Instruction::Case { label, target } => case(operands, label, target, next),
+        Instruction::Number => give_number(operands),
+        Instruction::Text(text) => Outcome::Gives(Record::Words(text)),
+        Instruction::Item { item, quals } => Outcome::Gives(Record::Entry { item, quals }),
+        Instruction::DataConst(number) => Outcome::Gives(Record::DataConst(number)),
+        Instruction::DataVar { var, mask, quals } => {
+            Outcome::Gives(Record::DataVar { var, mask, quals })
+        }
+        Instruction::Enumerator { value, text, help } => {
+            Outcome::Gives(Record::Enumerator { value, text, help })
+        }
+        Instruction::Response {
+            number,
+            class,
+            text,
+        } => Outcome::Gives(Record::Response {
+            number,
+            class,
+            text,
+        }),
+        Instruction::Member {
+            name,
+            item,
+            label,
+            help,
+        } => Outcome::Gives(Record::Member {
+            name,
+            item,
+            label,
+            help,
+        }),
+        Instruction::Store(_)
+        | Instruction::GetLocal(_)
+        | Instruction::SetLocal(_)
+        | Instruction::Ask(_)
+        | Instruction::Abort => unreachable!(),
+    }
+}
