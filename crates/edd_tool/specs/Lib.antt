@@ -1,2 +1,4 @@
 pub mod Faults
+pub mod Images
+pub mod Lowering
 pub mod Sources
