@@ -1,2 +1,3 @@
+pub mod LoweredRows
 pub mod Refused
 pub mod TextUnits

@@ -17,6 +17,8 @@ use Rattle.edd_names.specs.Faults.{refusal_of}
 use Rattle.edd_types.specs.declared.fault.TypeFault.{TypeFault}
 use Rattle.edd_types.specs.declared.fault.TypeFault.TheVariants as type
 use Rattle.edd_types.specs.Faults.{refusal_of_fault}
+use Rattle.edd_attrs.specs.declared.fault.LowerFault.{LowerFault}
+use Rattle.edd_attrs.specs.declared.fault.LowerFault.TheVariants as lower
 use Rattle.edd_tool.specs.declared.fault.Fault.{Fault}
 use Rattle.edd_tool.specs.declared.fault.Fault.TheVariants as fault
 use Rattle.edd_tool.specs.Sources.{IsUnitOf, IsRefused}
@@ -58,6 +60,20 @@ of_type (type.BreakOutside line) = fault.Type (type.BreakOutside line)
 of_type (type.ConstRange line) = fault.Type (type.ConstRange line)
 of_type (type.DuplicateCase line) = fault.Type (type.DuplicateCase line)
 of_type type.Memory = fault.Memory
+
+abbrev pub of_lower : LowerFault → Fault
+of_lower lower.TooMany = fault.TooManyStrings
+of_lower lower.Memory = fault.Memory
+
+-- what can be met where code is written; of too many strings it says this
+abbrev pub IsOfLowering : Type 0 → Fault → Type 0
+IsOfLowering over (fault.Lex e) = ⊥
+IsOfLowering over (fault.Parse e) = ⊥
+IsOfLowering over (fault.Name e) = ⊥
+IsOfLowering over (fault.Type e) = ⊥
+IsOfLowering over (fault.NotWritten word) = ⊤
+IsOfLowering over fault.TooManyStrings = over
+IsOfLowering over fault.Memory = ⊤
 
 -- A lexical fault is the text's. A syntax fault comes only where its tokens spell no unit. A broken rule is the first of a unit
 -- that it spells. Nothing is said of a word that can't be written yet, nor of memory.

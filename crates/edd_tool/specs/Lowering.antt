@@ -1,5 +1,5 @@
 -- What the units of the first rows of a description are, and the table of their strings.
-use Rattle.std.specs.Prelude.{◌≡◌, ◌↔◌, ◌≤◌, ℕ, false, List, ◌++◌, length, map, sum}
+use Rattle.std.specs.Prelude.{◌≡◌, ◌↔◌, ◌⊎◌, ◌≤◌, ◌<◌, ℕ, false, List, [], ◌∷◌, ◌++◌, length, map, sum}
 use Rattle.std.specs.List.{All, Contains, flat_map}
 use Rattle.edd_syntax.specs.declared.numbers.Attr.TheVariants as attr
 use Rattle.edd_syntax.specs.declared.numbers.AttrRef.{AttrRef}
@@ -7,8 +7,10 @@ use Rattle.edd_syntax.specs.declared.reference.Target.{Target}
 use Rattle.edd_syntax.specs.Numbers.{same_attr}
 use Rattle.edd_syntax.specs.Words.{Words}
 use Rattle.edd_syntax.specs.Item.{Description}
+use Rattle.edd_syntax.specs.Strings.{different}
 use Rattle.edd_image.specs.Agreement.{IsAttributeCode}
 use Rattle.edd_assembly.specs.Assembly.{Lowered}
+use Rattle.edd_attrs.specs.Code.{Grows}
 use Rattle.edd_attrs.specs.Sizes.{strings_at, length_limit}
 use Rattle.edd_attrs.specs.Trees.{tree_at}
 
@@ -31,3 +33,16 @@ pub record HasLowered (d : Description Target) (rows : List AttrRef) (table : Li
   pub in_order : map (λ l. l.row) units ≡ rows
   pub each : All (IsCodeOf d table) units
   pub strings : (w : Words) → Contains table w ↔ Contains (strings_of_rows d rows) w
+
+-- one row more: its unit stands behind the others, and the table grew by its strings alone
+pub record AddsRow (d : Description Target) (row : AttrRef) (old : List Words) (before : List Lowered) (new : List Words) (after : List Lowered) : Type 0 where
+  pub unit : Lowered
+  pub of_row : unit.row ≡ row
+  pub pushed : after ≡ before ++ unit ∷ []
+  pub grown : Grows old new
+  pub code : IsCodeOf d new unit
+  pub strings : (w : Words) → Contains new w ↔ (Contains old w ⊎ Contains (strings_at d row) w)
+
+-- more than 65,535 different strings stand among those of these rows
+abbrev pub HasTooMany : Description Target → List AttrRef → Type 0
+HasTooMany d rows = (held : List Words) × (65535 < length (different held)) × ((w : Words) → Contains held w → Contains (strings_of_rows d rows) w)

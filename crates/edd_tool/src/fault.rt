@@ -1,8 +1,9 @@
 //! Why a text is not compiled.
 
 ghost use Rattle.std.specs.Prelude.{◌≡◌};
-ghost use Rattle.edd_tool.specs.Faults.{of_lex, of_parse, of_name, of_type};
+ghost use Rattle.edd_tool.specs.Faults.{of_lex, of_parse, of_name, of_type, of_lower};
 
+use edd_attrs::LowerFault;
 use edd_lexer::fault::LexFault;
 use edd_names::fault::NameFault;
 use edd_parser::fault::ParseFault;
@@ -71,6 +72,17 @@ impl From<TypeFault> for Fault {
         match fault {
             TypeFault::Memory => Fault::Memory,
             other => Fault::Type(other),
+        }
+    }
+}
+
+impl From<LowerFault> for Fault {
+    ghost from_gives = { λ given made. made ≡ of_lower given };
+
+    fn from(fault: LowerFault) -> Fault {
+        match fault {
+            LowerFault::TooMany => Fault::TooManyStrings,
+            LowerFault::Memory => Fault::Memory,
         }
     }
 }

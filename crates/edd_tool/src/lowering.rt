@@ -1,0 +1,93 @@
+//! The code of the attributes of a description, and the table of their strings.
+
+ghost use Rattle.std.specs.Prelude.{◌≡◌, ◌↔◌, ◌⊎◌, ◌<◌, ◌++◌, false, IfErr, IfOk, OnOk, [], length, map};
+ghost use Rattle.std.specs.List.{Contains};
+ghost use Rattle.edd_syntax.specs.declared.numbers.Attr.TheVariants as attr;
+ghost use Rattle.edd_syntax.specs.Numbers.{same_attr};
+ghost use Rattle.edd_syntax.specs.Strings.{different};
+ghost use Rattle.edd_syntax.specs.Words.{Words};
+ghost use Rattle.edd_assembly.specs.Views.{lowered_of};
+ghost use Rattle.edd_attrs.specs.Code.{Grows};
+ghost use Rattle.edd_attrs.specs.Sizes.{strings_at};
+ghost use Rattle.edd_attrs.specs.Views.{unit_of};
+ghost use Rattle.edd_tool.specs.Faults.{IsOfLowering};
+ghost use Rattle.edd_tool.specs.Lowering.{IsCodeOf, HasLowered, AddsRow, HasTooMany};
+
+use crate::fault::Fault;
+use edd_assembly::Lowered;
+use edd_attrs::{is_plain, lower_attribute};
+use edd_strings::Table;
+use edd_syntax::checked::Checked;
+use edd_syntax::numbers::{Attr, AttrRef};
+use std::alloc::Global;
+
+/// The code of rows, in their order, and the strings that it names.
+#[derive(Drop)]
+pub struct Lowering {
+    pub units: Vec<Lowered>,
+    pub table: Table,
+}
+
+fn is_body(which: Attr) -> bool
+    ensures { result ≡ same_attr which attr.Definition }
+{
+    which as u8 == Attr::Definition as u8
+}
+
+// The unit of a row. No image can hold a method yet, nor what depends on conditions.
+fn lower_row(
+    alloc: Global,
+    checked: &Checked,
+    row: AttrRef,
+    table: &mut Table,
+) -> Result<Lowered, Fault>
+    ensures row { IfOk result (λ l. l.row ≡ row) }
+    ensures code { IfOk result (λ l. IsCodeOf (unit_of checked.now) table.new (lowered_of l)) }
+    ensures grows { OnOk result (Grows table.old table.new) }
+    ensures strings { OnOk result
+        ((w : Words) → Contains table.new w ↔ (Contains table.old w ⊎ Contains (strings_at (unit_of checked.now) row) w)) }
+    ensures refused { IfErr result (IsOfLowering (65535 < length (different (table.old ++ strings_at (unit_of checked.now) row)))) }
+{
+    if is_body(row.attr) {
+        return Err(Fault::NotWritten("METHOD"));
+    }
+    if !is_plain(checked, row) {
+        return Err(Fault::NotWritten("IF"));
+    }
+    let code = lower_attribute(alloc, checked, row, table)?;
+    Ok(Lowered { row, code })
+}
+
+impl Lowering {
+    fn new(alloc: Global) -> Lowering
+        ensures units { result.units.items ≡ [] }
+        ensures table { result.table ≡ [] }
+    {
+        Lowering {
+            units: Vec::new(alloc),
+            table: Table::new(alloc),
+        }
+    }
+
+    fn add(&mut self, alloc: Global, checked: &Checked, row: AttrRef) -> Result<(), Fault>
+        ensures adds { OnOk result (AddsRow (unit_of checked.now) row self.old.table (map lowered_of self.old.units.items)
+            self.new.table (map lowered_of self.new.units.items)) }
+        ensures refused { IfErr result (IsOfLowering (65535 < length (different (self.old.table ++ strings_at (unit_of checked.now) row)))) }
+    {
+        let unit = lower_row(alloc, checked, row, &mut self.table)?;
+        self.units.push(unit)?;
+        Ok(())
+    }
+}
+
+/// The code of these rows of a description.
+pub fn lower_rows(alloc: Global, checked: &Checked, rows: &[AttrRef]) -> Result<Lowering, Fault>
+    ensures lowered { IfOk result (λ l. HasLowered (unit_of checked.now) rows.now l.table (map lowered_of l.units.items)) }
+    ensures refused { IfErr result (IsOfLowering (HasTooMany (unit_of checked.now) rows.now)) }
+{
+    let mut lowering = Lowering::new(alloc);
+    for row in rows {
+        lowering.add(alloc, checked, *row)?;
+    }
+    Ok(lowering)
+}
