@@ -1,5 +1,5 @@
 -- The effects of the instructions that a machine has beside those that both sorts of units have.
-use Rattle.std.proofs.Common.{◌≡◌, ℕ, ◌<◌, ◌≤◌, true, ℤ, pos, List, ◌∷◌, length, get_or, Option, Some, refl, sym, ap, subst, ◌∙◌, arith}
+use Rattle.std.proofs.Common.{◌≡◌, ℕ, ◌<◌, true, ℤ, List, ◌∷◌, length, Option, Some, refl, sym, ap, subst, ◌∙◌, arith}
 use Rattle.std.specs.Prelude.{slice_set}
 use Rattle.std.specs.List.{slice_get}
 use Rattle.std.proofs.lemmas.Bool.{ltb-true}
@@ -8,27 +8,23 @@ use Rattle.std.proofs.lemmas.Slice.Zip.{AllZip-long}
 use Rattle.edd_syntax.specs.declared.numbers.VarNo.{VarNo}
 use Rattle.edd_syntax.specs.TwosComplement.{wrap, store}
 use Rattle.edd_syntax.specs.DeviceValues.{VariableType, type_at, AreDeviceValues}
-use Rattle.edd_syntax.specs.Answers.{Change}
 use Rattle.edd_image.specs.declared.instruction.Instruction.{Instruction}
 use Rattle.edd_image.specs.declared.instruction.Instruction.TheVariants as instructions
 use Rattle.edd_image.specs.declared.parts.VarKind.{VarKind}
-use Rattle.edd_image.specs.declared.unit.Sort.{Sort}
-use Rattle.edd_image.specs.declared.unit.Sort.TheVariants.{Attribute, Method}
-use Rattle.edd_image.specs.declared.unit.Version.{Version}
+use Rattle.edd_image.specs.declared.unit.Sort.TheVariants.{Attribute}
 use Rattle.edd_image.specs.declared.unit.Version.TheVariants.{One}
 use Rattle.edd_image.specs.declared.instruction.Ask.{Ask}
 use Rattle.edd_image.specs.Contents.{contents_in, fields_of_variable}
 use Rattle.edd_image.specs.References.{names_exist}
 use Rattle.edd_image.specs.Fields.{counts_in}
-use Rattle.edd_image.specs.Steps.{State, Environment, Effect, width_of, on_top, store_in, act, act_ask}
+use Rattle.edd_image.specs.Steps.{State, Environment, Effect, on_top, store_in, act, act_ask}
 use Rattle.edd_image.specs.Units.{is_allowed}
-use Rattle.edd_image.specs.Reading.{environment_of}
 use Rattle.edd_image.specs.Validity.{IsValid}
 use Rattle.edd_machine.specs.declared.machine.Machine.{Machine}
 use Rattle.edd_machine.specs.declared.outcome.Outcome.{Outcome}
 use Rattle.edd_machine.specs.declared.outcome.Outcome.TheVariants.{GoesOn, Gives, Ends, Traps}
 use Rattle.edd_machine.specs.Outcomes.{comes_to}
-use Rattle.edd_machine.specs.Running.{state_of, IsEffect, CanAct}
+use Rattle.edd_machine.specs.Running.{IsEffect, CanAct}
 use Rattle.edd_machine.specs.Types.{types_in, type_of_kind}
 use Rattle.edd_machine.proofs.VariableTypes.{type_at_number, types_counted}
 
@@ -83,10 +79,10 @@ shared (instructions.Ask request) a b c d e = absurd (d request refl)
 shared instructions.Abort a b c d e = absurd (e refl)
 
 -- the variable that an instruction reads has a value
-pub variable_there : (b : List ℕ) (i : Instruction) (m : Machine) (v : VarNo) → CanAct b i m → i ≡ instructions.Variable v → v.0 < length m.values.numbers.items
-variable_there b i m v can e =
+pub variable_there : (b : List ℕ) (i : Instruction) (s : State) (v : VarNo) → CanAct b i s → i ≡ instructions.Variable v → v.0 < length s.values
+variable_there b i s v can e =
     let exists : names_exist can.context (instructions.Variable v) ≡ true = subst (λ (x : Instruction). names_exist can.context x ≡ true) e can.exist in
-    omega (arith, ltb-true v.0 can.context.counts.variables exists, can.is.variable_count, AllZip-long _ (types_in b) m.values.numbers.items can.is.values)
+    omega (arith, ltb-true v.0 can.context.counts.variables exists, can.is.variable_count, AllZip-long _ (types_in b) s.values can.is.values)
 
 -- what an outcome makes of a state does not depend on the operands that it had
 pub comes_over : (o : Outcome) (next : ℕ) (operands : List ℤ) (s : State) → comes_to o next operands s ≡ comes_to o next operands (record s { operands = operands })

@@ -1,13 +1,12 @@
 -- The units of a valid image: valid, and their code among its bytes.
-use Rattle.std.proofs.Common.{◌≡◌, ℕ, zero, suc, ◌+◌, ◌-◌, ◌≤◌, true, List, [], ◌∷◌, length, take, drop, Option, Some, None, refl, sym, ap, subst, ◌∙◌, arith}
-use Rattle.std.specs.List.{AllByRecursion, list_all, slice_get}
+use Rattle.std.proofs.Common.{◌≡◌, ℕ, zero, suc, ◌+◌, ◌-◌, ◌≤◌, List, [], ◌∷◌, length, take, drop, Some, refl, sym, ap, subst, ◌∙◌, arith}
+use Rattle.std.specs.List.{AllByRecursion, slice_get}
 use Rattle.std.proofs.lemmas.Bool.{leb-true}
 use Rattle.std.proofs.lemmas.List.{drop-take}
 use Rattle.edd_image.specs.declared.rules.Rule.TheVariants as rule
 use Rattle.edd_image.specs.declared.rules.UnitRule.TheVariants as unit_rule
-use Rattle.edd_image.specs.declared.parts.Counts.{Counts}
 use Rattle.edd_image.specs.Fields.{counts_in, code_start, code_length, attribute_rows_start, attribute_count}
-use Rattle.edd_image.specs.Contents.{Span, AttributeFields, Contents, part, rows_from, attribute_fields, contents_in}
+use Rattle.edd_image.specs.Contents.{AttributeFields, part, rows_from, attribute_fields, contents_in}
 use Rattle.edd_image.specs.Units.{UnitKeeps, IsValidUnit}
 use Rattle.edd_image.specs.Validity.{PlacedUnit, unit_of, units, IsValid}
 use Rattle.edd_loader.specs.Sections.{lies_within}
@@ -17,7 +16,7 @@ use Rattle.edd_loader.proofs.Spaces.{rooms, spans}
 use Rattle.edd_loader.proofs.UnitTurns.{all_of_map}
 use Rattle.edd_machine.specs.Running.{unit_at, code_at}
 
-holds_at : {X : Type 0} (P : X → Type 0) (xs : List X) (n : ℕ) (x : X) → AllByRecursion P xs → slice_get xs n ≡ Some x → P x
+pub holds_at : {X : Type 0} (P : X → Type 0) (xs : List X) (n : ℕ) (x : X) → AllByRecursion P xs → slice_get xs n ≡ Some x → P x
 holds_at P [] n x h e = absurd cc
 holds_at P (y ∷ ys) zero x h e = let same : y ≡ x = cc in subst P same h.0
 holds_at P (y ∷ ys) (suc n) x h e = holds_at P ys n x h.1 e

@@ -1,5 +1,8 @@
 pub mod Acting
+pub mod AttributeReadings
+pub mod Following
 pub mod ImageUnits
+pub mod RisingRows
 pub mod Stepping
 pub mod UnitFacts
 pub mod VariableTypes

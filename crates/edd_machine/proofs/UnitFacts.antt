@@ -2,13 +2,15 @@
 use Rattle.std.proofs.Common.{◌≡◌, ℕ, zero, suc, ◌+◌, ◌-◌, ◌<◌, ◌≤◌, Bool, true, nat_eq, nat_lt, List, [], ◌∷◌, ◌++◌, length, Option, Some, None, refl, sym, ap, subst, ◌∙◌, arith}
 use Rattle.std.specs.Prelude.{IfSome}
 use Rattle.std.specs.List.{AllByRecursion, list_all}
-use Rattle.std.specs.Option.{option_to_list}
+use Rattle.std.specs.Option.{option_to_list, option_map_or}
 use Rattle.std.proofs.lemmas.Bool.{and_parts, or_cases, eqb-true}
 use Rattle.std.proofs.Common.{inl, inr}
 use Rattle.edd_image.specs.declared.instruction.Instruction.{Instruction}
 use Rattle.edd_image.specs.declared.records.Status.{Status}
 use Rattle.edd_image.specs.declared.records.Status.TheVariants.{Running}
 use Rattle.edd_image.specs.declared.unit.Context.{Context}
+use Rattle.edd_image.specs.declared.unit.Sort.{Sort}
+use Rattle.edd_image.specs.declared.unit.Sort.TheVariants.{Attribute, Method}
 use Rattle.edd_image.specs.declared.unit.Way.{Way}
 use Rattle.edd_image.specs.Decoding.{instruction_at}
 use Rattle.edd_image.specs.References.{names_exist}
@@ -117,6 +119,12 @@ pub record Facts (context : Context) (s : State) (i : Instruction) : Type 0 wher
   pub room : IfSome (leaves i) (λ n. length s.operands - takes i + n ≤ 128)
   pub allowed : is_allowed context.version context.sort i ≡ true
   pub exist : names_exist context i ≡ true
+  -- in an attribute a jump leads forward
+  pub forward : context.sort ≡ Attribute → option_map_or (λ w. nat_lt s.place w.to) (jump i) true ≡ true
+
+forward_in : (sort : Sort) (x : Placed) → is_forward sort x ≡ true → sort ≡ Attribute → option_map_or (λ w. nat_lt x.place w.to) (jump x.instruction) true ≡ true
+forward_in Attribute x h e = h
+forward_in Method x h e = absurd cc
 
 module _ (context : Context) (env : Environment) (s : State) (valid : IsValidUnit context s.unit.code) (is : IsState context env s) (running : s.status ≡ Running) where
   here : StandsWith s.unit.code s.place (length s.operands)
@@ -157,5 +165,6 @@ module _ (context : Context) (env : Environment) (s : State) (valid : IsValidUni
         room = room_from x.instruction x.next (length s.operands - takes x.instruction) (leaves x.instruction) refl ahead;
         allowed = k.allowed;
         exist = k.exists;
+        forward = λ e. subst (λ (q : ℕ). option_map_or (λ w. nat_lt q w.to) (jump x.instruction) true ≡ true) at_instruction.1 (forward_in context.sort x k.forward e);
       } in
       subst (λ (i : Instruction). Facts context s i) (ap (λ (p : Instruction × ℕ). p.0) same) own

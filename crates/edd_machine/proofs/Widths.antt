@@ -10,7 +10,7 @@ use Rattle.std.proofs.Math.Facts.{sfits_widen}
 use Rattle.std.specs.Ordering.{int_eq}
 use Rattle.std.specs.Prelude.{◌&&◌, int_div, Ok}
 use Rattle.edd_syntax.specs.declared.operators.Operator.TheVariants as operator
-use Rattle.edd_syntax.specs.TwosComplement.{residue, as_signed, wrap, divide, operate}
+use Rattle.edd_syntax.specs.TwosComplement.{residue, wrap, divide, operate}
 use Rattle.edd_image.specs.declared.unit.Sort.{Sort}
 use Rattle.edd_image.specs.declared.unit.Sort.TheVariants.{Attribute, Method}
 use Rattle.edd_image.specs.Steps.{Fits, width_of}

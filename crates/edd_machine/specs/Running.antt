@@ -8,7 +8,7 @@ use Rattle.edd_image.specs.Fields.{code_start, counts_in}
 use Rattle.edd_image.specs.References.{names_exist}
 use Rattle.edd_image.specs.Units.{takes, leaves, is_allowed}
 use Rattle.edd_image.specs.Validity.{sort_of, slots_of, unit_of}
-use Rattle.edd_image.specs.Steps.{RunningUnit, State, Environment, Effect, IsState, act, step}
+use Rattle.edd_image.specs.Steps.{RunningUnit, State, Effect, IsState, act, step}
 use Rattle.edd_image.specs.Reading.{environment_of}
 use Rattle.edd_machine.specs.declared.code_unit.CodeUnit.{CodeUnit}
 use Rattle.edd_machine.specs.declared.machine.Machine.{Machine}
@@ -36,13 +36,22 @@ state_of b m = record {
   status = m.status;
 }
 
--- It runs the unit of a row of the image, and keeps what every state of it keeps.
-pub record IsMachine (b : List ℕ) (m : Machine) : Type 0 where
+-- It is the unit of a row of the image.
+pub record IsUnitOf (b : List ℕ) (u : CodeUnit) : Type 0 where
   pub number : ℕ
   pub row : AttributeFields
   pub stands : slice_get (contents_in b).attributes number ≡ Some row
-  pub unit : m.unit ≡ unit_at b row
-  pub state : IsState (unit_of (contents_in b) row).context (environment_of (contents_in b)) (state_of b m)
+  pub unit : u ≡ unit_at b row
+
+-- The state is one of that unit, and keeps what every state of it keeps.
+pub record IsStateIn (b : List ℕ) (u : CodeUnit) (s : State) : Type 0 where
+  pub unit : IsUnitOf b u
+  pub runs : s.unit ≡ running_unit b u
+  pub state : IsState (unit_of (contents_in b) unit.row).context (environment_of (contents_in b)) s
+
+-- It runs the unit of a row of the image, and keeps what every state of it keeps.
+abbrev pub IsMachine : List ℕ → Machine → Type 0
+IsMachine b m = IsStateIn b m.unit (state_of b m)
 
 -- There is an effect, and it is this machine with what it emits. Its changes are those of the effect.
 pub record IsEffect (o : Option Effect) (b : List ℕ) (m : Machine) : Type 0 where
@@ -59,13 +68,13 @@ StepsTo b m n = IsEffect (step (environment_of (contents_in b)) (state_of b m)) 
 abbrev pub ActsTo : List ℕ → Instruction → ℕ → Machine → Machine → Type 0
 ActsTo b i next m n = IsEffect (act (environment_of (contents_in b)) i next (state_of b m)) b n
 
--- what the rules on a unit say of the instruction at which the machine stands
-pub record CanAct (b : List ℕ) (i : Instruction) (m : Machine) : Type 0 where
+-- what the rules on a unit say of the instruction at which the state stands
+pub record CanAct (b : List ℕ) (i : Instruction) (s : State) : Type 0 where
   pub context : Context
   pub counts : context.counts ≡ counts_in b
-  pub is : IsState context (environment_of (contents_in b)) (state_of b m)
-  pub enough : takes i ≤ length m.operands
-  pub full : length m.operands ≤ 128
-  pub room : IfSome (leaves i) (λ n. length m.operands - takes i + n ≤ 128)
+  pub is : IsState context (environment_of (contents_in b)) s
+  pub enough : takes i ≤ length s.operands
+  pub full : length s.operands ≤ 128
+  pub room : IfSome (leaves i) (λ n. length s.operands - takes i + n ≤ 128)
   pub allowed : is_allowed context.version context.sort i ≡ true
   pub exist : names_exist context i ≡ true

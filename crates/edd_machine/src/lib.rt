@@ -8,10 +8,14 @@ mod machine;
 mod operands;
 mod outcome;
 mod ranges;
+mod reading;
+mod rows;
 mod values;
 
 pub use code_unit::CodeUnit;
 pub use fault::{ReadFault, ValuesFault};
 pub use machine::Machine;
 pub use operands::Operands;
+pub use reading::attribute;
+pub use rows::find_body;
 pub use values::Values;

@@ -1,19 +1,19 @@
 //! A state of the machine, and its step.
 
-ghost use Rattle.std.specs.Prelude.{◌≡◌, ℕ, ◌<◌, ◌≤◌, Some, List, [], ◌∷◌, length, pos, replicate, OnSome};
-ghost use Rattle.std.specs.List.{AllByRecursion, slice_get};
+ghost use Rattle.std.specs.Prelude.{◌≡◌, ℕ, ◌<◌, ◌≤◌, List, [], ◌∷◌, length, pos, replicate};
+ghost use Rattle.std.specs.List.{AllByRecursion};
 ghost use Rattle.edd_syntax.specs.DeviceValues.{AreDeviceValues};
 ghost use Rattle.edd_image.specs.declared.instruction.Instruction.TheVariants as instructions;
 ghost use Rattle.edd_image.specs.declared.records.Emitted.TheVariants as emitted;
 ghost use Rattle.edd_image.specs.declared.records.Status.TheVariants.{Running};
 ghost use Rattle.edd_image.specs.declared.unit.Sort.TheVariants.{Method};
-ghost use Rattle.edd_image.specs.Contents.{AttributeFields, contents_in};
+ghost use Rattle.edd_image.specs.Contents.{contents_in};
 ghost use Rattle.edd_image.specs.Fields.{counts_in};
 ghost use Rattle.edd_image.specs.Steps.{Environment, Fits, act, act_ask, ask_for, opening};
 ghost use Rattle.edd_image.specs.Units.{numbers_asked};
 ghost use Rattle.edd_image.specs.Validity.{IsValid};
 ghost use Rattle.edd_machine.specs.Outcomes.{comes_to};
-ghost use Rattle.edd_machine.specs.Running.{unit_at, running_unit, state_of, IsMachine, IsEffect, StepsTo, ActsTo, CanAct};
+ghost use Rattle.edd_machine.specs.Running.{running_unit, state_of, IsUnitOf, IsMachine, IsEffect, StepsTo, ActsTo, CanAct};
 ghost use Rattle.edd_machine.specs.Types.{types_in};
 
 use crate::arithmetic::wrapped;
@@ -59,9 +59,8 @@ impl Machine {
         ensures state { (b : List ℕ) → state_of b result ≡ opening (running_unit b unit) unit.slots values.numbers.items }
         ensures unit { result.unit ≡ unit }
         ensures emitted { result.emitted ≡ emitted.Nothing }
-        ensures machine { (b : List ℕ) (number : ℕ) (row : AttributeFields) → IsValid b
-            → slice_get (contents_in b).attributes number ≡ Some row → unit ≡ unit_at b row
-            → AreDeviceValues (types_in b) values.numbers.items → IsMachine b result }
+        ensures machine { (b : List ℕ) → IsValid b → IsUnitOf b unit → AreDeviceValues (types_in b) values.numbers.items
+            → IsMachine b result }
     {
         Machine {
             unit,
@@ -209,7 +208,7 @@ impl Machine {
     // The effect of an instruction that the rules on its unit let stand here.
     fn execute(&mut self, image: &Image, instruction: Instruction, next: usize)
         requires valid { IsValid image.now }
-        requires ready { CanAct image.now instruction self.old }
+        requires ready { CanAct image.now instruction (state_of image.now self.old) }
         ensures unit { self.new.unit ≡ self.old.unit }
         ensures acts { ActsTo image.now instruction next self.old self.new }
     {

@@ -1,4 +1,4 @@
-use Rattle.std.proofs.Common.{◌≡◌, ◌-◌, ◌^◌, ℤ, pos, negsuc, neg_ℤ, w64, of_z, sym, ap, ◌∙◌}
+use Rattle.std.proofs.Common.{◌≡◌, ◌-◌, ◌^◌, pos, negsuc, neg_ℤ, w64, of_z, sym, ap, ◌∙◌}
 use Rattle.std.specs.Prelude.{int_rem, Ok}
 use Rattle.std.proofs.lemmas.Int.{rem_is}
 use Rattle.edd_syntax.specs.TwosComplement.{divide}

@@ -1,4 +1,4 @@
-use Rattle.std.proofs.Common.{◌<◌, rules, ap, sym, ◌∙◌, ℤ, w32, w64, FitsSigned}
+use Rattle.std.proofs.Common.{◌<◌, rules, ap, ◌∙◌, ℤ, w32, w64, FitsSigned}
 use Rattle.std.specs.Int.{int_shl}
 use Rattle.std.proofs.lemmas.Int.{to_z-of_z}
 use Rattle.edd_machine.proofs.Widths.{shl_64, shl_32}

@@ -1,8 +1,8 @@
-use Rattle.std.proofs.Common.{◌≡◌, ℤ, List, Some, refl, sym, ap, ◌∙◌}
+use Rattle.std.proofs.Common.{◌≡◌, Some, ap, ◌∙◌}
 use Rattle.edd_image.specs.Contents.{contents_in}
 use Rattle.edd_image.specs.Reading.{environment_of}
 use Rattle.edd_image.specs.Steps.{Effect, act}
-use Rattle.edd_machine.specs.Outcomes.{over, comes_to}
+use Rattle.edd_machine.specs.Outcomes.{comes_to}
 use Rattle.edd_machine.specs.Running.{state_of}
 use Rattle.edd_machine.proofs.Acting.{ask_acts, effect_same, shared, variable_there, comes_over}
 use Rattle.edd_machine.proofs.machine.Machine.execute.Goals as goal

@@ -1,4 +1,4 @@
-use Rattle.std.proofs.Common.{arith, rules, refl, sym, ap, ◌∙◌, w64, FitsSigned}
+use Rattle.std.proofs.Common.{arith, rules, refl, ap, ◌∙◌, w64, FitsSigned}
 use Rattle.std.proofs.lemmas.Int.{to_z-of_z}
 use Rattle.edd_syntax.specs.TwosComplement.{store}
 use Rattle.edd_image.specs.Reading.{environment_of}

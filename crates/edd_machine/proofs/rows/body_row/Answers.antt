@@ -1,0 +1,52 @@
+use Rattle.std.proofs.Common.{arith, refl, sym, ◌∙◌}
+use Rattle.edd_loader.proofs.RuleOrder.{has_header}
+use Rattle.edd_machine.proofs.RisingRows.{body_past, body_other, body_there, row_inside}
+use Rattle.edd_machine.proofs.rows.body_row.Goals as goal
+
+pub attribute_count-requires : goal.attribute_count-requires
+attribute_count-requires c = has_header _ _ refl c.requires
+
+pub attribute_rows_start-requires : goal.attribute_rows_start-requires
+attribute_rows_start-requires c = has_header _ _ refl c.requires
+
+pub is_row_of-requires : goal.is_row_of-requires
+is_row_of-requires c = row_inside _ _ _ _ c.requires c.attribute_rows_start.ensures.start c.first_row-first.ensures.end (λ e. c.if-first-attribute_count.false (e ∙ sym c.attribute_count.ensures)) refl
+
+pub returns-clause-inside : goal.returns-clause-inside
+returns-clause-inside c = row_inside _ _ _ _ c.requires c.attribute_rows_start.ensures.start c.first_row-first.ensures.end (λ e. c.if-first-attribute_count.false (e ∙ sym c.attribute_count.ensures)) refl
+
+pub returns-then-first-attribute_count-clause-row : goal.returns-then-first-attribute_count-clause-row
+returns-then-first-attribute_count-clause-row c = sym (body_past c.args.bytes.now c.args.method c.first_row-first.result (record {
+  valid = c.requires;
+  are = record { below = λ i. (c.type_inv.bytes i).fits };
+  small = omega arith;
+  key = c.rank.result;
+  key_is = c.rank.ensures;
+  end = c.first_row-first.ensures.end;
+  below = c.first_row-first.ensures.below;
+  above = c.first_row-first.ensures.above;
+}) (c.if-first-attribute_count.true ∙ c.attribute_count.ensures))
+
+pub returns-then-not-is_row_of-clause-row : goal.returns-then-not-is_row_of-clause-row
+returns-then-not-is_row_of-clause-row c = sym (body_other c.args.bytes.now c.args.method c.first_row-first.result (record {
+  valid = c.requires;
+  are = record { below = λ i. (c.type_inv.bytes i).fits };
+  small = omega arith;
+  key = c.rank.result;
+  key_is = c.rank.ensures;
+  end = c.first_row-first.ensures.end;
+  below = c.first_row-first.ensures.below;
+  above = c.first_row-first.ensures.above;
+}) _ _ (λ e. c.if-first-attribute_count.false (e ∙ sym c.attribute_count.ensures)) c.is_row_of.ensures c.attribute_rows_start.ensures.start c.if-not-is_row_of.true)
+
+pub returns-clause-row : goal.returns-clause-row
+returns-clause-row c = body_there c.args.bytes.now c.args.method c.first_row-first.result (record {
+  valid = c.requires;
+  are = record { below = λ i. (c.type_inv.bytes i).fits };
+  small = omega arith;
+  key = c.rank.result;
+  key_is = c.rank.ensures;
+  end = c.first_row-first.ensures.end;
+  below = c.first_row-first.ensures.below;
+  above = c.first_row-first.ensures.above;
+}) _ _ (λ e. c.if-first-attribute_count.false (e ∙ sym c.attribute_count.ensures)) c.is_row_of.ensures c.attribute_rows_start.ensures.start c.if-not-is_row_of.false

@@ -1,0 +1,169 @@
+//! What is read of an attribute.
+
+ghost use Rattle.std.specs.Prelude.{◌≡◌, IfErr, IfOk, OnOk, Ok, is_some};
+ghost use Rattle.edd_syntax.specs.DeviceValues.{AreDeviceValues};
+ghost use Rattle.edd_syntax.specs.Numbers.{has_attr, kind_of};
+ghost use Rattle.edd_image.specs.declared.unit.Sort.TheVariants.{Attribute};
+ghost use Rattle.edd_image.specs.Contents.{Contents, contents_in};
+ghost use Rattle.edd_image.specs.Reading.{Records, IsReading, default_records, environment_of, is_no_item, reading_of, row_of};
+ghost use Rattle.edd_image.specs.Steps.{opening};
+ghost use Rattle.edd_image.specs.Validity.{IsValid, is_of_transaction};
+ghost use Rattle.edd_machine.specs.Faults.{IsReadFault};
+ghost use Rattle.edd_machine.specs.Given.{Gives, GivesFault};
+ghost use Rattle.edd_machine.specs.Running.{running_unit, IsUnitOf};
+ghost use Rattle.edd_machine.specs.Types.{types_in};
+
+use crate::code_unit::{CodeUnit, code_of};
+use crate::fault::{ReadFault, fault_of};
+use crate::operands::Operands;
+use crate::outcome::{Outcome, perform};
+use crate::rows::find_attribute;
+use crate::values::Values;
+use edd_image::{Counts, Record, decode};
+use edd_loader::Image;
+use edd_syntax::numbers::{Attr, AttrRef, ItemNo};
+use std::alloc::{AllocError, Global};
+
+// Whether items of this kind may have the attribute.
+fn may_have(item: ItemNo, attr: Attr) -> bool
+    ensures { result ≡ has_attr (kind_of item) attr }
+{
+    match attr {
+        Attr::Label | Attr::Help => !matches!(item, ItemNo::Command(_)),
+        Attr::Class => matches!(item, ItemNo::Variable(_) | ItemNo::Method(_)),
+        Attr::Validity => {
+            matches!(
+                item,
+                ItemNo::Variable(_) | ItemNo::Menu(_) | ItemNo::Method(_)
+            )
+        }
+        Attr::Handling
+        | Attr::ConstantUnit
+        | Attr::DefaultValue
+        | Attr::MinValue
+        | Attr::MaxValue
+        | Attr::DisplayFormat
+        | Attr::EditFormat
+        | Attr::Enumerators => matches!(item, ItemNo::Variable(_)),
+        Attr::Number
+        | Attr::Operation
+        | Attr::Transaction
+        | Attr::Request
+        | Attr::Reply
+        | Attr::ResponseCodes => matches!(item, ItemNo::Command(_)),
+        Attr::Items => matches!(item, ItemNo::Menu(_)),
+        Attr::Members => matches!(item, ItemNo::Collection(_)),
+        Attr::Definition => matches!(item, ItemNo::Method(_)),
+    }
+}
+
+fn is_of_transaction(attr: Attr) -> bool
+    ensures { result ≡ is_of_transaction attr }
+{
+    matches!(attr, Attr::Transaction | Attr::Request | Attr::Reply)
+}
+
+// Whether there is no such item, or none that has this attribute, by the counts and by whether the attribute has a row.
+fn is_no_item(counts: Counts, attr: AttrRef, has_row: bool) -> bool
+    ensures { (c : Contents) → c.counts ≡ counts → is_some (row_of c attr) ≡ has_row → result ≡ is_no_item c attr }
+{
+    if !counts.has_item(attr.item) || !may_have(attr.item, attr.attr) {
+        return true;
+    }
+    if matches!(attr.attr, Attr::Definition) {
+        return true;
+    }
+    if is_of_transaction(attr.attr) {
+        !has_row
+    } else {
+        attr.sub != 0
+    }
+}
+
+// What an attribute is where its unit gives no record.
+fn default_records(alloc: Global, attr: Attr) -> Result<Vec<Record>, AllocError>
+    ensures { IfOk result (λ records. records.items ≡ default_records attr) }
+{
+    let mut records = Vec::new(alloc);
+    match attr {
+        Attr::Handling => records.push(Record::Number(3))?,
+        Attr::Validity => records.push(Record::Number(1))?,
+        _ => {}
+    }
+    Ok(records)
+}
+
+// The records, or what the attribute is where there is none.
+fn or_default(alloc: Global, attr: Attr, records: Vec<Record>) -> Result<Vec<Record>, AllocError>
+    ensures { IfOk result (λ read. reading_of attr (Ok records.items) ≡ Records read.items) }
+{
+    if records.is_empty() {
+        default_records(alloc, attr)
+    } else {
+        Ok(records)
+    }
+}
+
+// The records that the unit of an attribute gives, from its first byte to its end.
+fn run(
+    alloc: Global,
+    image: &Image,
+    unit: CodeUnit,
+    values: &[i64],
+) -> Result<Vec<Record>, ReadFault>
+    requires unit { IsUnitOf image.now unit }
+    requires sort { unit.sort ≡ Attribute }
+    requires values { AreDeviceValues (types_in image.now) values.now }
+    ensures valid { IsValid image.now }
+    ensures records { IfOk result (λ records. Gives (environment_of (contents_in image.now)) (opening (running_unit image.now unit) unit.slots values.now) (Ok records.items)) }
+    ensures fault { IfErr result (GivesFault (environment_of (contents_in image.now)) (opening (running_unit image.now unit) unit.slots values.now)) }
+{
+    let code = code_of(image.bytes(), unit);
+    let mut operands = Operands::new();
+    let mut records = Vec::new(alloc);
+    let mut place = 0;
+    while let Some((instruction, next)) = decode(code, place) {
+        match perform(&mut operands, unit.sort, values, instruction, next) {
+            Outcome::GoesOn(to) => place = to,
+            Outcome::Gives(record) => {
+                records.push(record)?;
+                place = next;
+            }
+            Outcome::Ends => return Ok(records),
+            Outcome::Traps(why) => return Err(fault_of(why)),
+        }
+    }
+    unreachable!()
+}
+
+/// The records of an attribute under these values: what its unit gives from its first byte to its end. Where it has no row or
+/// gives no record, HANDLING is 3, VALIDITY is 1, and every other attribute has no records.
+///
+/// The fault is `NoItem` where there is no such item, its kind hasn't the attribute, the attribute is DEFINITION, a transaction
+/// has no row, or `sub` is not 0 elsewhere; else `WrongValues` where the values are not those of a device of this description;
+/// else the trap of the unit; and `Memory` where memory for the records is refused.
+pub fn attribute(
+    alloc: Global,
+    image: &Image,
+    attr: AttrRef,
+    values: &Values,
+) -> Result<Vec<Record>, ReadFault>
+    ensures records { IfOk result (λ records. IsReading image.now attr values.now.numbers.items (Records records.items)) }
+    ensures values { OnOk result (AreDeviceValues (types_in image.now) values.now.numbers.items) }
+    ensures fault { IfErr result (IsReadFault image.now attr values.now.numbers.items) }
+{
+    let unit = find_attribute(image, attr);
+    if is_no_item(image.counts(), attr, unit.is_some()) {
+        return Err(ReadFault::NoItem);
+    }
+    if !values.are_of(image) {
+        return Err(ReadFault::WrongValues);
+    }
+    match unit {
+        None => Ok(default_records(alloc, attr.attr)?),
+        Some(unit) => {
+            let records = run(alloc, image, unit, values.numbers.as_slice())?;
+            Ok(or_default(alloc, attr.attr, records)?)
+        }
+    }
+}

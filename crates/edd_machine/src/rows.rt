@@ -1,0 +1,199 @@
+//! The row of an attribute or of a method's body, searched among the rising rows.
+
+ghost use Rattle.std.specs.Prelude.{◌≡◌, ℕ, ◌+◌, ◌*◌, ◌<◌, ◌≤◌, IfSome, length, option_map};
+ghost use Rattle.edd_syntax.specs.Numbers.{kind_number, kind_of, index_of, attr_number};
+ghost use Rattle.edd_image.specs.Contents.{attribute_fields, contents_in};
+ghost use Rattle.edd_image.specs.Fields.{attribute_count, header_length};
+ghost use Rattle.edd_image.specs.Reading.{row_of, body_of};
+ghost use Rattle.edd_image.specs.Validity.{IsValid};
+ghost use Rattle.edd_machine.specs.Running.{unit_at};
+ghost use Rattle.edd_machine.specs.Ranks.{rank, rank_of, row_at, is_row};
+
+use crate::code_unit::CodeUnit;
+use edd_image::{
+    ATTRIBUTE_ROW, Sort, attribute_count, attribute_item, attribute_kind, attribute_length,
+    attribute_number, attribute_rows_start, attribute_start, attribute_sub, code_start,
+};
+use edd_loader::Image;
+use edd_syntax::numbers::{Attr, AttrRef, ItemNo, MethNo};
+
+// The number of DEFINITION, whose unit is a method's body.
+const DEFINITION: u8 = Attr::Definition as u8;
+
+// The number of METHOD.
+const METHOD: u8 = 5;
+
+fn kind_number(item: ItemNo) -> u8
+    ensures { result ≡ kind_number (kind_of item) }
+{
+    match item {
+        ItemNo::Variable(_) => 1,
+        ItemNo::Command(_) => 2,
+        ItemNo::Menu(_) => 3,
+        ItemNo::Collection(_) => 4,
+        ItemNo::Method(_) => 5,
+    }
+}
+
+fn index_of(item: ItemNo) -> u16
+    ensures { result ≡ index_of item }
+{
+    match item {
+        ItemNo::Variable(number) => number.0,
+        ItemNo::Command(number) => number.0,
+        ItemNo::Menu(number) => number.0,
+        ItemNo::Collection(number) => number.0,
+        ItemNo::Method(number) => number.0,
+    }
+}
+
+fn attr_number(attr: Attr) -> u8
+    ensures { result ≡ attr_number attr }
+{
+    attr as u8
+}
+
+// The four numbers by which rows rise, as one.
+fn rank(kind: u8, attribute: u8, item: u16, sub: u16) -> u64
+    ensures { result ≡ rank kind attribute item sub }
+{
+    ((u64::from(kind) * 256 + u64::from(attribute)) * 65_536 + u64::from(item)) * 65_536
+        + u64::from(sub)
+}
+
+fn rank_at(bytes: &[u8], row: usize) -> u64
+    requires { row + ATTRIBUTE_ROW ≤ length bytes.now }
+    ensures { result ≡ rank_of (attribute_fields bytes.now row) }
+{
+    let kind = attribute_kind(bytes, row);
+    let attribute = attribute_number(bytes, row);
+    let item = attribute_item(bytes, row);
+    rank(kind, attribute, item, attribute_sub(bytes, row))
+}
+
+// The number of the first of `count` rows, the first of which stands at `start`, that does not stand below the rank `key`.
+fn first_from(bytes: &[u8], start: usize, count: usize, key: u64) -> usize
+    requires room { start + ATTRIBUTE_ROW * count ≤ length bytes.now }
+    requires rising { (i j : ℕ) → i < j → j < count
+        → rank_of (attribute_fields bytes.now (start + 16 * i)) < rank_of (attribute_fields bytes.now (start + 16 * j)) }
+    ensures end { result ≤ count }
+    ensures below { (i : ℕ) → i < result → rank_of (attribute_fields bytes.now (start + 16 * i)) < key }
+    ensures above { (i : ℕ) → result ≤ i → i < count → key ≤ rank_of (attribute_fields bytes.now (start + 16 * i)) }
+{
+    let mut low = 0;
+    let mut high = count;
+    while low < high {
+        let middle = low + (high - low) / 2;
+        if rank_at(bytes, start + ATTRIBUTE_ROW * middle) < key {
+            low = middle + 1;
+        } else {
+            high = middle;
+        }
+    }
+    low
+}
+
+// The unit of a row.
+fn unit_of(bytes: &[u8], row: usize) -> CodeUnit
+    requires header { header_length ≤ length bytes.now }
+    requires row { row + ATTRIBUTE_ROW ≤ length bytes.now }
+    ensures { result ≡ unit_at bytes.now (attribute_fields bytes.now row) }
+{
+    let start = code_start(bytes) + attribute_start(bytes, row) as usize;
+    let size = attribute_length(bytes, row) as usize;
+    if attribute_number(bytes, row) == DEFINITION {
+        CodeUnit {
+            sort: Sort::Method,
+            slots: attribute_sub(bytes, row),
+            start,
+            size,
+        }
+    } else {
+        CodeUnit {
+            sort: Sort::Attribute,
+            slots: 0,
+            start,
+            size,
+        }
+    }
+}
+
+// Whether the row is that of an attribute of an item.
+fn is_row_of(bytes: &[u8], row: usize, kind: u8, attribute: u8, item: u16) -> bool
+    requires { row + ATTRIBUTE_ROW ≤ length bytes.now }
+    ensures { result ≡ is_row kind attribute item (attribute_fields bytes.now row) }
+{
+    attribute_kind(bytes, row) == kind
+        && attribute_number(bytes, row) == attribute
+        && attribute_item(bytes, row) == item
+}
+
+// The number of the first row of an image that does not stand below the rank.
+fn first_row(bytes: &[u8], key: u64) -> usize
+    requires { IsValid bytes.now }
+    ensures end { result ≤ attribute_count bytes.now }
+    ensures below { (i : ℕ) → i < result → rank_of (row_at bytes.now i) < key }
+    ensures above { (i : ℕ) → result ≤ i → i < attribute_count bytes.now → key ≤ rank_of (row_at bytes.now i) }
+{
+    let start = attribute_rows_start(bytes);
+    let count = attribute_count(bytes) as usize;
+    first_from(bytes, start, count, key)
+}
+
+// Where the row of an attribute stands, if it has one.
+fn attribute_row(bytes: &[u8], attr: AttrRef) -> Option<usize>
+    requires { IsValid bytes.now }
+    ensures row { option_map (attribute_fields bytes.now) result ≡ row_of (contents_in bytes.now) attr }
+    ensures inside { IfSome result (λ row. row + ATTRIBUTE_ROW ≤ length bytes.now) }
+{
+    let kind = kind_number(attr.item);
+    let attribute = attr_number(attr.attr);
+    let item = index_of(attr.item);
+    let first = first_row(bytes, rank(kind, attribute, item, attr.sub));
+    if first == attribute_count(bytes) as usize {
+        return None;
+    }
+    let row = attribute_rows_start(bytes) + ATTRIBUTE_ROW * first;
+    if !is_row_of(bytes, row, kind, attribute, item) {
+        return None;
+    }
+    if attribute_sub(bytes, row) != attr.sub {
+        return None;
+    }
+    Some(row)
+}
+
+// Where the row of a method's body stands, if it has one.
+fn body_row(bytes: &[u8], method: MethNo) -> Option<usize>
+    requires { IsValid bytes.now }
+    ensures row { option_map (attribute_fields bytes.now) result ≡ body_of (contents_in bytes.now) method }
+    ensures inside { IfSome result (λ row. row + ATTRIBUTE_ROW ≤ length bytes.now) }
+{
+    let first = first_row(bytes, rank(METHOD, DEFINITION, method.0, 0));
+    if first == attribute_count(bytes) as usize {
+        return None;
+    }
+    let row = attribute_rows_start(bytes) + ATTRIBUTE_ROW * first;
+    if !is_row_of(bytes, row, METHOD, DEFINITION, method.0) {
+        return None;
+    }
+    Some(row)
+}
+
+/// The unit of an attribute, if it has a row.
+pub fn find_attribute(image: &Image, attr: AttrRef) -> Option<CodeUnit>
+    ensures { result ≡ option_map (unit_at image.now) (row_of (contents_in image.now) attr) }
+{
+    let bytes = image.bytes();
+    let row = attribute_row(bytes, attr)?;
+    Some(unit_of(bytes, row))
+}
+
+/// The unit of a method's body, if it has a row.
+pub fn find_body(image: &Image, method: MethNo) -> Option<CodeUnit>
+    ensures { result ≡ option_map (unit_at image.now) (body_of (contents_in image.now) method) }
+{
+    let bytes = image.bytes();
+    let row = body_row(bytes, method)?;
+    Some(unit_of(bytes, row))
+}
