@@ -1,0 +1,210 @@
+//! What the program does on each command.
+
+ghost use Rattle.std.specs.Prelude.{◌≤◌, IfOk};
+
+use crate::compiling::compile;
+use crate::fault::Fault;
+use crate::files::{FileFault, Files, read_all};
+use crate::{COMMAND_LINE, DONE, FILE, MEMORY, REFUSED};
+use edd_command_line::{NoRequest, Request};
+use edd_display::{ScriptFault, ShowFault, print, print_text, set_values, show};
+use edd_loader::{Image, LoadFault, load};
+use edd_machine::{Values, ValuesFault};
+use std::alloc::Global;
+use std::io::Write;
+
+/// Why the program stops before its end.
+#[derive(Drop)]
+pub enum Stop<'a> {
+    Help(String),
+    CommandLine(String),
+    File(&'a str),
+    NotCompiled(Fault),
+    NotLoaded(LoadFault),
+    Script(ScriptFault),
+    Values(ValuesFault),
+    /// The output could not be written.
+    Output,
+    Memory,
+}
+
+impl From<NoRequest> for Stop<'_> {
+    fn from(none: NoRequest) -> Self {
+        match none {
+            NoRequest::Help(text) => Stop::Help(text),
+            NoRequest::Mistake(text) => Stop::CommandLine(text),
+            NoRequest::Memory => Stop::Memory,
+        }
+    }
+}
+
+impl From<Fault> for Stop<'_> {
+    fn from(fault: Fault) -> Self {
+        match fault {
+            Fault::Memory => Stop::Memory,
+            other => Stop::NotCompiled(other),
+        }
+    }
+}
+
+impl From<LoadFault> for Stop<'_> {
+    fn from(fault: LoadFault) -> Self {
+        match fault {
+            LoadFault::Memory => Stop::Memory,
+            other => Stop::NotLoaded(other),
+        }
+    }
+}
+
+impl From<ScriptFault> for Stop<'_> {
+    fn from(fault: ScriptFault) -> Self {
+        match fault {
+            ScriptFault::Memory => Stop::Memory,
+            other => Stop::Script(other),
+        }
+    }
+}
+
+impl From<ValuesFault> for Stop<'_> {
+    fn from(fault: ValuesFault) -> Self {
+        match fault {
+            ValuesFault::Memory => Stop::Memory,
+            other => Stop::Values(other),
+        }
+    }
+}
+
+impl From<ShowFault> for Stop<'_> {
+    fn from(fault: ShowFault) -> Self {
+        match fault {
+            ShowFault::Memory => Stop::Memory,
+            ShowFault::Output => Stop::Output,
+            ShowFault::WrongValues => Stop::Values(ValuesFault::Count),
+        }
+    }
+}
+
+fn of_file<'a>(name: &'a str, fault: FileFault) -> Stop<'a> {
+    match fault {
+        FileFault::Failed => Stop::File(name),
+        FileFault::Memory => Stop::Memory,
+    }
+}
+
+fn read<'a, F: Files>(alloc: Global, files: &mut F, name: &'a str) -> Result<Vec<u8>, Stop<'a>> {
+    let mut reader = files.open(name).map_err(|fault| of_file(name, fault))?;
+    read_all(alloc, &mut reader).map_err(|fault| of_file(name, fault))
+}
+
+// No script is an empty one.
+fn read_script<'a, F: Files>(
+    alloc: Global,
+    files: &mut F,
+    name: Option<&'a str>,
+) -> Result<Vec<u8>, Stop<'a>> {
+    match name {
+        Some(name) => read(alloc, files, name),
+        None => Ok(Vec::new(alloc)),
+    }
+}
+
+fn write_image<'a, F: Files, W: Write>(
+    alloc: Global,
+    source: &'a str,
+    image: &'a str,
+    files: &mut F,
+    out: &mut W,
+) -> Result<(), Stop<'a>> {
+    let text = read(alloc, files, source)?;
+    let bytes = compile(alloc, &text)?;
+    files
+        .save(image, &bytes)
+        .map_err(|fault| of_file(image, fault))?;
+    print(alloc, out, format_args!("image {}", bytes.len()))?;
+    Ok(())
+}
+
+fn show_under<'a, W: Write>(
+    alloc: Global,
+    image: &Image,
+    script: &[u8],
+    language: &str,
+    out: &mut W,
+) -> Result<(), Stop<'a>> {
+    let numbers = set_values(alloc, image, script)?;
+    let values = Values::new(alloc, image, &numbers)?;
+    show(alloc, image, &values, language, out)?;
+    Ok(())
+}
+
+/// Does what `request` asks for. All files are read before anything else is done.
+pub fn answer<'a, F: Files, W: Write>(
+    alloc: Global,
+    request: Request<'a>,
+    files: &mut F,
+    out: &mut W,
+) -> Result<(), Stop<'a>> {
+    match request {
+        Request::Compile { source, image } => write_image(alloc, source, image, files, out),
+        Request::View {
+            source,
+            script,
+            language,
+        } => {
+            let text = read(alloc, files, source)?;
+            let script = read_script(alloc, files, script)?;
+            let bytes = compile(alloc, &text)?;
+            let image = load(alloc, &bytes)?;
+            show_under(alloc, &image, &script, language, out)
+        }
+        Request::Show {
+            image,
+            script,
+            language,
+        } => {
+            let bytes = read(alloc, files, image)?;
+            let script = read_script(alloc, files, script)?;
+            let image = load(alloc, &bytes)?;
+            show_under(alloc, &image, &script, language, out)
+        }
+    }
+}
+
+/// Prints why the program stops, and answers its exit status.
+pub fn report<'a, W: Write>(alloc: Global, stop: &Stop<'_>, out: &mut W) -> Result<u8, Stop<'a>>
+    ensures { IfOk result (λ status. status ≤ 4) }
+{
+    let status = match stop {
+        Stop::Help(text) => {
+            print_text(out, text)?;
+            DONE
+        }
+        Stop::CommandLine(text) => {
+            print_text(out, text)?;
+            COMMAND_LINE
+        }
+        Stop::File(name) => {
+            print(alloc, out, format_args!("file {name}"))?;
+            FILE
+        }
+        Stop::NotCompiled(fault) => {
+            print(alloc, out, format_args!("refused {fault}"))?;
+            REFUSED
+        }
+        Stop::NotLoaded(fault) => {
+            print(alloc, out, format_args!("refused {fault}"))?;
+            REFUSED
+        }
+        Stop::Script(fault) => {
+            print(alloc, out, format_args!("refused {fault}"))?;
+            REFUSED
+        }
+        Stop::Values(fault) => {
+            print(alloc, out, format_args!("refused {fault}"))?;
+            REFUSED
+        }
+        Stop::Output => return Err(Stop::Output),
+        Stop::Memory => return Err(Stop::Memory),
+    };
+    Ok(status)
+}

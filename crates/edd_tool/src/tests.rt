@@ -1,0 +1,170 @@
+//! Texts and readers whose outcome was worked out by hand.
+
+use crate::files::read_all;
+use crate::compiling::compile;
+use crate::source::{checked_of, unit_of};
+use edd_syntax::numbers::{Attr, AttrRef, CmdNo, ItemNo, MenuNo, VarNo};
+use std::alloc::Global;
+use std::io::{Error, ErrorKind, Read};
+use std::test::Fail;
+
+const IDENTIFICATION: &str = "MANUFACTURER 1, DEVICE_TYPE 2, DEVICE_REVISION 3, DD_REVISION 4\n";
+
+// The identification and the number of items of the unit, or the fault as it prints.
+fn outcome(alloc: Global, text: &str) -> Result<String, Fail> {
+    match unit_of(alloc, text.as_bytes()) {
+        Ok(unit) => {
+            let i = unit.identification;
+            let (maker, device, revision, dd) = (
+                i.manufacturer,
+                i.device_type,
+                i.device_revision,
+                i.dd_revision,
+            );
+            let count = unit.items.len();
+            Ok(format!(in alloc; "{maker} {device} {revision} {dd}, items {count}")?)
+        }
+        Err(fault) => Ok(format!(in alloc; "{fault}")?),
+    }
+}
+
+#[test]
+fn a_text_comes_to_its_unit_or_its_fault(rt: HostRuntime) -> Result<(), Fail> {
+    let alloc = rt.alloc();
+    let items = "VARIABLE a { TYPE INTEGER; } MENU b { ITEMS { a } }";
+    let rows: [(&str, &str); 5] = [
+        ("", "1 2 3 4, items 0"),
+        (items, "1 2 3 4, items 2"),
+        ("VARIABLE a { TYPE INTEGER }", "10 SYNTAX line 2"),
+        ("\n\"open", "5 OPEN_STRING line 3"),
+        ("IMPORT a", "12 UNSUPPORTED IMPORT"),
+    ];
+    for (rest, expected) in rows {
+        let text = format!(in alloc; "{IDENTIFICATION}{rest}")?;
+        let printed = outcome(alloc, text.as_str())?;
+        assert_eq!(rt; printed.as_str(), expected);
+    }
+    Ok(())
+}
+
+// Gives at most three bytes a read, and fails after its bytes where it is broken.
+#[derive(Drop)]
+struct Dripping<'a> {
+    rest: &'a [u8],
+    is_broken: bool,
+}
+
+impl Read for Dripping<'_> {
+    fn read(&mut self, buf: &mut [u8]) -> std::io::Result<usize> {
+        if self.rest.is_empty() && self.is_broken {
+            return Err(Error::from(ErrorKind::Other));
+        }
+        let room = buf.len().min(3);
+        self.rest.read(&mut buf[..room])
+    }
+}
+
+#[test]
+fn a_file_is_read_to_its_end(rt: HostRuntime) -> Result<(), Fail> {
+    let alloc = rt.alloc();
+    let mut whole = Dripping {
+        rest: b"eight by",
+        is_broken: false,
+    };
+    let bytes = read_all(alloc, &mut whole);
+    assert!(rt; bytes.is_ok_and(|bytes| bytes.as_slice() == b"eight by".as_slice()));
+    let mut broken = Dripping {
+        rest: b"eight by",
+        is_broken: true,
+    };
+    assert!(rt; read_all(alloc, &mut broken).is_err());
+    Ok(())
+}
+
+fn row(item: ItemNo, attr: Attr, sub: u16) -> AttrRef {
+    AttrRef { item, attr, sub }
+}
+
+#[test]
+fn rows_stand_by_kind_attribute_item_and_position(rt: HostRuntime) -> Result<(), Fail> {
+    let alloc = rt.alloc();
+    let items = "MENU m { ITEMS { b } LABEL \"M\"; }
+        VARIABLE a { TYPE INTEGER { MIN_VALUE 1; } LABEL \"A\"; }
+        COMMAND c { NUMBER 1; OPERATION READ; TRANSACTION 0 { REPLY { a } } TRANSACTION 1 { } }
+        VARIABLE b { LABEL \"B\"; TYPE INTEGER; }";
+    let text = format!(in alloc; "{IDENTIFICATION}{items}")?;
+    let (a, b) = (ItemNo::Variable(VarNo(0)), ItemNo::Variable(VarNo(1)));
+    let (command, menu) = (ItemNo::Command(CmdNo(0)), ItemNo::Menu(MenuNo(0)));
+    let expected = [
+        row(a, Attr::Label, 0),
+        row(b, Attr::Label, 0),
+        row(a, Attr::MinValue, 0),
+        row(command, Attr::Number, 0),
+        row(command, Attr::Operation, 0),
+        row(command, Attr::Transaction, 0),
+        row(command, Attr::Transaction, 1),
+        row(command, Attr::Request, 0),
+        row(command, Attr::Request, 1),
+        row(command, Attr::Reply, 0),
+        row(command, Attr::Reply, 1),
+        row(menu, Attr::Label, 0),
+        row(menu, Attr::Items, 0),
+    ];
+    let Ok(checked) = checked_of(alloc, text.as_bytes()) else {
+        panic!(rt; "it breaks no rule")
+    };
+    let rows = checked.rows(alloc)?;
+    assert_eq!(rt; rows.as_slice(), expected.as_slice());
+    Ok(())
+}
+
+// The length of the image, or the fault as it prints.
+fn compiled(alloc: Global, text: &str) -> Result<String, Fail> {
+    match compile(alloc, text.as_bytes()) {
+        Ok(bytes) => Ok(format!(in alloc; "image {}", bytes.len())?),
+        Err(fault) => Ok(format!(in alloc; "{fault}")?),
+    }
+}
+
+// `count` times the piece.
+fn push_times(text: &mut String, piece: &str, count: usize) -> Result<(), Fail> {
+    for _ in 0..count {
+        text.push_str(piece)?;
+    }
+    Ok(())
+}
+
+#[test]
+fn sources_have_a_greatest_length(rt: HostRuntime) -> Result<(), Fail> {
+    let alloc = rt.alloc();
+    let mut text = String::from_str(alloc, IDENTIFICATION)?;
+    push_times(&mut text, " ", 1_048_576 - IDENTIFICATION.len())?;
+    assert_eq!(rt; compiled(alloc, text.as_str())?.as_str(), "image 56");
+    text.push(' ')?;
+    assert_eq!(rt; compiled(alloc, text.as_str())?.as_str(), "2 TOO_LONG");
+    Ok(())
+}
+
+#[test]
+fn trees_have_a_greatest_height(rt: HostRuntime) -> Result<(), Fail> {
+    let alloc = rt.alloc();
+    let mut text = String::from_str(alloc, IDENTIFICATION)?;
+    text.push_str("VARIABLE v { TYPE INTEGER { MIN_VALUE ")?;
+    push_times(&mut text, "(", 10_000)?;
+    text.push('1')?;
+    push_times(&mut text, ")", 10_000)?;
+    text.push_str("; } }")?;
+    assert_eq!(rt; compiled(alloc, text.as_str())?.as_str(), "11 TOO_DEEP line 2");
+    Ok(())
+}
+
+#[test]
+fn descriptions_have_a_greatest_number_of_nodes(rt: HostRuntime) -> Result<(), Fail> {
+    let alloc = rt.alloc();
+    let mut text = String::from_str(alloc, IDENTIFICATION)?;
+    text.push_str("METHOD m { DEFINITION { ")?;
+    push_times(&mut text, ";", 524_289)?;
+    text.push_str(" } }")?;
+    assert_eq!(rt; compiled(alloc, text.as_str())?.as_str(), "40 TOO_MANY nodes");
+    Ok(())
+}
