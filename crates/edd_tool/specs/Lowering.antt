@@ -1,6 +1,6 @@
 -- What the units of the first rows of a description are, and the table of their strings.
-use Rattle.std.specs.Prelude.{◌≡◌, ◌↔◌, ◌⊎◌, ◌≤◌, ◌<◌, ℕ, false, List, [], ◌∷◌, ◌++◌, length, map, sum}
-use Rattle.std.specs.List.{All, Contains, flat_map}
+use Rattle.std.specs.Prelude.{◌≡◌, ◌↔◌, ◌⊎◌, ◌≤◌, ◌<◌, ℕ, false, List, [], ◌∷◌, ◌++◌, length, map}
+use Rattle.std.specs.List.{All, Contains}
 use Rattle.edd_syntax.specs.declared.numbers.Attr.TheVariants as attr
 use Rattle.edd_syntax.specs.declared.numbers.AttrRef.{AttrRef}
 use Rattle.edd_syntax.specs.declared.reference.Target.{Target}
@@ -14,25 +14,27 @@ use Rattle.edd_attrs.specs.Code.{Grows}
 use Rattle.edd_attrs.specs.Sizes.{strings_at, length_limit}
 use Rattle.edd_attrs.specs.Trees.{tree_at}
 
--- all strings of these attributes
-abbrev pub strings_of_rows : Description Target → List AttrRef → List Words
-strings_of_rows d rows = flat_map (strings_at d) rows
-
--- the most bytes that the code of these attributes takes
-abbrev pub limit_of_rows : Description Target → List AttrRef → ℕ
-limit_of_rows d rows = sum (map (λ r. length_limit (tree_at d r)) rows)
+-- no body of a method stands at this row
+abbrev pub IsNoBody : AttrRef → Type 0
+IsNoBody row = same_attr row.attr attr.Definition ≡ false
 
 -- the code of an attribute other than the body of a method, with strings in this table and in each that begins with it
 pub record IsCodeOf (d : Description Target) (table : List Words) (l : Lowered) : Type 0 where
-  pub no_body : same_attr l.row.attr attr.Definition ≡ false
+  pub no_body : IsNoBody l.row
   pub means : (more : List Words) → IsAttributeCode d (table ++ more) l.row l.code
   pub short : length l.code ≤ length_limit (tree_at d l.row)
 
--- these are the units of these rows, and the strings of the table are theirs
+-- a string of an attribute of the description
+abbrev pub IsOfAttribute : Description Target → Words → Type 0
+IsOfAttribute d w = (row : AttrRef) × IsNoBody row × Contains (strings_at d row) w
+
+-- these are the units of these rows, and the table has their strings and no others than strings of attributes
 pub record HasLowered (d : Description Target) (rows : List AttrRef) (table : List Words) (units : List Lowered) : Type 0 where
   pub in_order : map (λ l. l.row) units ≡ rows
   pub each : All (IsCodeOf d table) units
-  pub strings : (w : Words) → Contains table w ↔ Contains (strings_of_rows d rows) w
+  pub no_body : (row : AttrRef) → Contains rows row → IsNoBody row
+  pub holds : (row : AttrRef) → Contains rows row → (w : Words) → Contains (strings_at d row) w → Contains table w
+  pub only : (w : Words) → Contains table w → IsOfAttribute d w
 
 -- one row more: its unit stands behind the others, and the table grew by its strings alone
 pub record AddsRow (d : Description Target) (row : AttrRef) (old : List Words) (before : List Lowered) (new : List Words) (after : List Lowered) : Type 0 where
@@ -43,6 +45,6 @@ pub record AddsRow (d : Description Target) (row : AttrRef) (old : List Words) (
   pub code : IsCodeOf d new unit
   pub strings : (w : Words) → Contains new w ↔ (Contains old w ⊎ Contains (strings_at d row) w)
 
--- more than 65,535 different strings stand among those of these rows
-abbrev pub HasTooMany : Description Target → List AttrRef → Type 0
-HasTooMany d rows = (held : List Words) × (65535 < length (different held)) × ((w : Words) → Contains held w → Contains (strings_of_rows d rows) w)
+-- more than 65,535 different strings stand in attributes
+abbrev pub HasTooMany : Description Target → Type 0
+HasTooMany d = (held : List Words) × (65535 < length (different held)) × ((w : Words) → Contains held w → IsOfAttribute d w)

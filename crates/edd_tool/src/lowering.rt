@@ -11,7 +11,7 @@ ghost use Rattle.edd_attrs.specs.Code.{Grows};
 ghost use Rattle.edd_attrs.specs.Sizes.{strings_at};
 ghost use Rattle.edd_attrs.specs.Views.{unit_of};
 ghost use Rattle.edd_tool.specs.Faults.{IsOfLowering};
-ghost use Rattle.edd_tool.specs.Lowering.{IsCodeOf, HasLowered, AddsRow, HasTooMany};
+ghost use Rattle.edd_tool.specs.Lowering.{IsNoBody, IsCodeOf, HasLowered, AddsRow, HasTooMany};
 
 use crate::fault::Fault;
 use edd_assembly::Lowered;
@@ -46,7 +46,7 @@ fn lower_row(
     ensures grows { OnOk result (Grows table.old table.new) }
     ensures strings { OnOk result
         ((w : Words) → Contains table.new w ↔ (Contains table.old w ⊎ Contains (strings_at (unit_of checked.now) row) w)) }
-    ensures refused { IfErr result (IsOfLowering (65535 < length (different (table.old ++ strings_at (unit_of checked.now) row)))) }
+    ensures refused { IfErr result (IsOfLowering (IsNoBody row × (65535 < length (different (table.old ++ strings_at (unit_of checked.now) row))))) }
 {
     if is_body(row.attr) {
         return Err(Fault::NotWritten("METHOD"));
@@ -72,7 +72,7 @@ impl Lowering {
     fn add(&mut self, alloc: Global, checked: &Checked, row: AttrRef) -> Result<(), Fault>
         ensures adds { OnOk result (AddsRow (unit_of checked.now) row self.old.table (map lowered_of self.old.units.items)
             self.new.table (map lowered_of self.new.units.items)) }
-        ensures refused { IfErr result (IsOfLowering (65535 < length (different (self.old.table ++ strings_at (unit_of checked.now) row)))) }
+        ensures refused { IfErr result (IsOfLowering (IsNoBody row × (65535 < length (different (self.old.table ++ strings_at (unit_of checked.now) row))))) }
     {
         let unit = lower_row(alloc, checked, row, &mut self.table)?;
         self.units.push(unit)?;
@@ -83,7 +83,7 @@ impl Lowering {
 /// The code of these rows of a description.
 pub fn lower_rows(alloc: Global, checked: &Checked, rows: &[AttrRef]) -> Result<Lowering, Fault>
     ensures lowered { IfOk result (λ l. HasLowered (unit_of checked.now) rows.now l.table (map lowered_of l.units.items)) }
-    ensures refused { IfErr result (IsOfLowering (HasTooMany (unit_of checked.now) rows.now)) }
+    ensures refused { IfErr result (IsOfLowering (HasTooMany (unit_of checked.now))) }
 {
     let mut lowering = Lowering::new(alloc);
     for row in rows {
