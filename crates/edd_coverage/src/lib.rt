@@ -1,0 +1,6 @@
+//! What the rows of a description hold of its strings and of its nodes.
+#![tactic(auto)]
+
+mod laws;
+
+pub use laws::different_strings_count;
