@@ -2,11 +2,24 @@
 
 ghost use Rattle.std.specs.Prelude.{◌≡◌, ◌≢◌, ◌≤◌, List, length};
 ghost use Rattle.std.specs.List.{AllPairs, Contains};
+ghost use Rattle.edd_syntax.specs.declared.numbers.AttrRef.{AttrRef};
+ghost use Rattle.edd_syntax.specs.declared.reference.Target.{Target};
+ghost use Rattle.edd_syntax.specs.Item.{Description};
+ghost use Rattle.edd_syntax.specs.Resolved.{IsChecked};
+ghost use Rattle.edd_syntax.specs.Rows.{rows};
 ghost use Rattle.edd_syntax.specs.Words.{Words};
-ghost use Rattle.edd_syntax.specs.Strings.{different};
+ghost use Rattle.edd_syntax.specs.Strings.{different, unit_strings};
+ghost use Rattle.edd_coverage.specs.RowContents.{strings_of_row};
 
 /// Strings that all stand in a list come to no more different ones than the list has, and none is lost among different ones.
 pub fn different_strings_count()
     ensures within { (xs ys : List Words) → ((w : Words) → Contains xs w → Contains ys w) → length (different xs) ≤ length (different ys) }
     ensures itself { (xs : List Words) → AllPairs (λ s t. s ≢ t) xs → length (different xs) ≡ length xs }
+{}
+
+/// Each string of a checked description is one of a row's, and what any row holds is a string of the description.
+pub fn strings_stand_in_rows()
+    ensures in_rows { (unit : Description Target) → ∥ IsChecked unit ∥₁ → (w : Words) → Contains (unit_strings unit) w
+        → (row : AttrRef) × Contains (rows unit.items) row × Contains (strings_of_row unit row) w }
+    ensures of_rows { (unit : Description Target) (row : AttrRef) (w : Words) → Contains (strings_of_row unit row) w → Contains (unit_strings unit) w }
 {}

@@ -3,4 +3,4 @@
 
 mod laws;
 
-pub use laws::different_strings_count;
+pub use laws::{different_strings_count, strings_stand_in_rows};
