@@ -84,7 +84,7 @@ module _ (w : Words) where
   unfolding tree_strings
   in_attribute (item.Label c) h = alone (attribute_strings (item.Label c)) h
   in_attribute (item.Help c) h = alone (attribute_strings (item.Help c)) h
-  in_attribute (item.Class words) h = alone (attribute_strings (item.Class {Target} words)) h
+  in_attribute (item.Class words) h = alone (attribute_strings {R = Target} (item.Class words)) h
   in_attribute (item.Handling c) h = h
   in_attribute (item.ConstantUnit c) h = alone (attribute_strings (item.ConstantUnit c)) h
   in_attribute (item.Validity c) h = h
@@ -95,7 +95,7 @@ module _ (w : Words) where
   in_attribute (item.Number n) h = h
   in_attribute (item.Operation o) h = h
   in_attribute (item.Transaction number parts) h = h
-  in_attribute (item.ResponseCodes responses) h = alone (attribute_strings (item.ResponseCodes {Target} responses)) h
+  in_attribute (item.ResponseCodes responses) h = alone (attribute_strings {R = Target} (item.ResponseCodes responses)) h
   in_attribute (item.Items entries) h = alone (attribute_strings (item.Items entries)) h
   in_attribute (item.Members members) h = alone (attribute_strings (item.Members members)) h
   in_attribute (item.Definition body) h = absurd (false≢true h)
@@ -151,12 +151,12 @@ module _ (w : Words) where
 
   any_of_kind : (k : Kind) (items : List (Item Target)) (m : ℕ) (i : Item Target) → slice_get (of_kind k items) m ≡ Some i → item_has i ≡ true → list_any item_has items ≡ true
   any_of_kind k [] m i there h = absurd (none-some i there)
-  any_of_kind k (x ∷ rest) m i there h = here (same_kind (kind_of_item x.sort) k) m there
+  any_of_kind k (x ∷ rest) m i there h = here (same_kind (kind_of_item x.sort) k) m there (λ n is. any_of_kind k rest n i is h)
     where
-      here : (b : Bool) (n : ℕ) → slice_get (cond b (x ∷ of_kind k rest) (of_kind k rest)) n ≡ Some i → list_any item_has (x ∷ rest) ≡ true
-      here true zero is = or_left (item_has x) (list_any item_has rest) (ap item_has (same_Some x i is) ∙ h)
-      here true (suc n) is = or_right (item_has x) (list_any item_has rest) (any_of_kind k rest n i is h)
-      here false n is = or_right (item_has x) (list_any item_has rest) (any_of_kind k rest n i is h)
+      here : (b : Bool) (n : ℕ) → slice_get (cond b (x ∷ of_kind k rest) (of_kind k rest)) n ≡ Some i → ((j : ℕ) → slice_get (of_kind k rest) j ≡ Some i → list_any item_has rest ≡ true) → list_any item_has (x ∷ rest) ≡ true
+      here true zero is later = or_left (item_has x) (list_any item_has rest) (ap item_has (same_Some x i is) ∙ h)
+      here true (suc n) is later = or_right (item_has x) (list_any item_has rest) (later n is)
+      here false n is later = or_right (item_has x) (list_any item_has rest) (later n is)
 
   pub of_a_row : (d : Description Target) (row : AttrRef) → Contains (strings_of_row d row) w → Contains (unit_strings d) w
   unfolding tree_at
@@ -170,6 +170,6 @@ module _ (w : Words) where
       here (Some i) is h = any_of_kind (kind_of row.item) d.items (index_of row.item) i is (in_item row.attr row.sub i h)
       here None is h = none (same_attr row.attr attr.Definition) h
         where
-          none : (b : Bool) → has w (if b then attribute_strings (item.Definition {Target} Nil) else []) ≡ true → list_any item_has d.items ≡ true
+          none : (b : Bool) → has w (if b then attribute_strings {R = Target} (item.Definition Nil) else []) ≡ true → list_any item_has d.items ≡ true
           none true k = absurd (false≢true k)
           none false k = absurd (false≢true k)
