@@ -2,7 +2,7 @@
 use Rattle.std.proofs.Common.{◌≡◌, refl, sym, ap, ◌∙◌, Bool, true, false, List, [], ◌∷◌, ◌++◌, length, map, Option, Some, None, arith}
 use Rattle.std.specs.Prelude.{◌&&◌, if◌then◌else◌}
 use Rattle.std.specs.List.{flat_map, list_all}
-use Rattle.std.proofs.lemmas.Option.{none-some, same_Some}
+use Rattle.std.proofs.lemmas.Option.{same_Some}
 use Rattle.std.proofs.Math.Logic.{∥∥₁_elim}
 use Rattle.std.proofs.Math.Bool.{Bool-set}
 use Rattle.edd_syntax.specs.Text.{Name}
@@ -17,6 +17,7 @@ use Rattle.edd_syntax.specs.ResolvedTrees.{◌>>=◌, each, unchanged, resolved_
 use Rattle.edd_syntax.specs.Resolved.{IsResolved, IsChecked}
 use Rattle.edd_syntax.proofs.WithinLimits.{each_keeps}
 use Rattle.edd_attrs.proofs.CheckedTrees.{bind_some}
+use Rattle.edd_coverage.proofs.Made.{stays, made}
 
 -- ---- lists
 
@@ -35,14 +36,6 @@ none_mapped f (x ∷ xs) h = absurd (omega (arith, ap length h))
 pub of_mapped : {A B : Type 0} (f : A → List B) (xs : List A) → flat_map f xs ≡ flat_map (λ ys. ys) (map f xs)
 of_mapped f [] = refl
 of_mapped f (x ∷ xs) = ap (λ ys. f x ++ ys) (of_mapped f xs)
-
--- what a value made of one that may be missing keeps
-pub made : {A B C : Type 0} (f : B → C) (o : Option A) (make : A → B) (b : B) (v : C) → ((x : A) → o ≡ Some x → f (make x) ≡ v) → (o >>= λ x. Some (make x)) ≡ Some b → f b ≡ v
-made f None make b v same h = absurd (none-some b h)
-made f (Some x) make b v same h = ap f (sym (same_Some (make x) b h)) ∙ same x refl
-
-pub stays : {B C : Type 0} (f : B → C) (a b : B) → Some a ≡ Some b → f b ≡ f a
-stays f a b h = ap f (sym (same_Some a b h))
 
 -- ---- what the rule on duplicates sees of an attribute
 

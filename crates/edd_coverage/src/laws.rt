@@ -1,12 +1,15 @@
 //! Laws of the strings and of the rows of a description, for the crates above.
 
-ghost use Rattle.std.specs.Prelude.{◌≡◌, ◌≢◌, ◌≤◌, List, length};
+ghost use Rattle.std.specs.Prelude.{◌≡◌, ◌≢◌, ◌≤◌, List, length, Some};
 ghost use Rattle.std.specs.List.{AllPairs, Contains};
 ghost use Rattle.edd_syntax.specs.declared.numbers.AttrRef.{AttrRef};
 ghost use Rattle.edd_syntax.specs.declared.reference.Target.{Target};
+ghost use Rattle.edd_syntax.specs.Reference.{Path};
 ghost use Rattle.edd_syntax.specs.Item.{Description};
 ghost use Rattle.edd_syntax.specs.Resolved.{IsChecked};
+ghost use Rattle.edd_syntax.specs.ResolvedTrees.{resolved_unit};
 ghost use Rattle.edd_syntax.specs.Rows.{rows};
+ghost use Rattle.edd_syntax.specs.Size.{unit_nodes};
 ghost use Rattle.edd_syntax.specs.Words.{Words};
 ghost use Rattle.edd_syntax.specs.Strings.{different, unit_strings};
 ghost use Rattle.edd_coverage.specs.RowContents.{strings_of_row};
@@ -22,4 +25,9 @@ pub fn strings_stand_in_rows()
     ensures in_rows { (unit : Description Target) → ∥ IsChecked unit ∥₁ → (w : Words) → Contains (unit_strings unit) w
         → (row : AttrRef) × Contains (rows unit.items) row × Contains (strings_of_row unit row) w }
     ensures of_rows { (unit : Description Target) (row : AttrRef) (w : Words) → Contains (strings_of_row unit row) w → Contains (unit_strings unit) w }
+{}
+
+/// A description has as many nodes with the meaning of each name in its place.
+pub fn nodes_stay()
+    ensures { (unit : Description Path) (resolved : Description Target) → resolved_unit unit ≡ Some resolved → unit_nodes resolved ≡ unit_nodes unit }
 {}

@@ -3,4 +3,4 @@
 
 mod laws;
 
-pub use laws::{different_strings_count, strings_stand_in_rows};
+pub use laws::{different_strings_count, nodes_stay, strings_stand_in_rows};
