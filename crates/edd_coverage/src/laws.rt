@@ -1,6 +1,6 @@
 //! Laws of the strings and of the rows of a description, for the crates above.
 
-ghost use Rattle.std.specs.Prelude.{◌≡◌, ◌≢◌, ◌≤◌, List, length, Some};
+ghost use Rattle.std.specs.Prelude.{◌≡◌, ◌≢◌, ◌*◌, ◌≤◌, List, length, map, sum, Some};
 ghost use Rattle.std.specs.List.{AllPairs, Contains};
 ghost use Rattle.edd_syntax.specs.declared.numbers.AttrRef.{AttrRef};
 ghost use Rattle.edd_syntax.specs.declared.reference.Target.{Target};
@@ -12,7 +12,7 @@ ghost use Rattle.edd_syntax.specs.Rows.{rows};
 ghost use Rattle.edd_syntax.specs.Size.{unit_nodes};
 ghost use Rattle.edd_syntax.specs.Words.{Words};
 ghost use Rattle.edd_syntax.specs.Strings.{different, unit_strings};
-ghost use Rattle.edd_coverage.specs.RowContents.{strings_of_row};
+ghost use Rattle.edd_coverage.specs.RowContents.{limit_of_row, strings_of_row};
 
 /// Strings that all stand in a list come to no more different ones than the list has, and none is lost among different ones.
 pub fn different_strings_count()
@@ -30,4 +30,9 @@ pub fn strings_stand_in_rows()
 /// A description has as many nodes with the meaning of each name in its place.
 pub fn nodes_stay()
     ensures { (unit : Description Path) (resolved : Description Target) → resolved_unit unit ≡ Some resolved → unit_nodes resolved ≡ unit_nodes unit }
+{}
+
+/// The code of the rows of a description is no longer than 32 octets for each of its nodes.
+pub fn nodes_of_rows()
+    ensures { (unit : Description Target) → sum (map (λ r. limit_of_row unit r) (rows unit.items)) ≤ 32 * unit_nodes unit }
 {}
