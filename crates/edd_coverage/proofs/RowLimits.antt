@@ -67,19 +67,20 @@ module _ (d : Description Target) where
 
 -- ---- all kinds
 
+-- the items of a kind, the first of which may be of it
+abbrev with_first : (f : Item Target → ℕ) (i : Item Target) (rest : List (Item Target)) → ItemKind → Kind → ℕ
+with_first f i rest sort k = total f (cond (same_kind (kind_of_item sort) k) (i ∷ of_kind k rest) (of_kind k rest))
+
+one_kind : (f : Item Target → ℕ) (i : Item Target) (rest : List (Item Target)) (sort : ItemKind) → total (with_first f i rest sort) kinds ≡ f i + total (λ k. total f (of_kind k rest)) kinds
+one_kind f i rest VariableItem = omega arith
+one_kind f i rest CommandItem = omega arith
+one_kind f i rest MenuItem = omega arith
+one_kind f i rest (CollectionItem of) = omega arith
+one_kind f i rest MethodItem = omega arith
+
 of_five_kinds : (f : Item Target → ℕ) (items : List (Item Target)) → total (λ k. total f (of_kind k items)) kinds ≡ total f items
 of_five_kinds f [] = omega arith
-of_five_kinds f (i ∷ rest) = here i.sort (of_five_kinds f rest)
-  where
-    abbrev with_first : ItemKind → Kind → ℕ
-    with_first sort k = total f (cond (same_kind (kind_of_item sort) k) (i ∷ of_kind k rest) (of_kind k rest))
-
-    here : (sort : ItemKind) → total (λ k. total f (of_kind k rest)) kinds ≡ total f rest → total (with_first sort) kinds ≡ f i + total f rest
-    here VariableItem h = omega (arith, h)
-    here CommandItem h = omega (arith, h)
-    here MenuItem h = omega (arith, h)
-    here (CollectionItem of) h = omega (arith, h)
-    here MethodItem h = omega (arith, h)
+of_five_kinds f (i ∷ rest) = one_kind f i rest i.sort ∙ ap (λ n. f i + n) (of_five_kinds f rest)
 
 pub all_rows_limit : (d : Description Target) → sum (map (λ r. limit_of_row d r) (rows d.items)) ≤ 32 * unit_nodes d
 all_rows_limit d =
