@@ -27,12 +27,18 @@ pub fn strings_stand_in_rows()
     ensures of_rows { (unit : Description Target) (row : AttrRef) (w : Words) → Contains (strings_of_row unit row) w → Contains (unit_strings unit) w }
 {}
 
-/// A description has as many nodes with the meaning of each name in its place.
+/// A description has as many nodes with the meaning of each name in its place, and a checked one at most 524,288.
 pub fn nodes_stay()
-    ensures { (unit : Description Path) (resolved : Description Target) → resolved_unit unit ≡ Some resolved → unit_nodes resolved ≡ unit_nodes unit }
+    ensures same { (unit : Description Path) (resolved : Description Target) → resolved_unit unit ≡ Some resolved → unit_nodes resolved ≡ unit_nodes unit }
+    ensures few { (unit : Description Target) → ∥ IsChecked unit ∥₁ → unit_nodes unit ≤ 524288 }
 {}
 
 /// The code of the rows of a description is no longer than 32 octets for each of its nodes.
 pub fn nodes_of_rows()
     ensures { (unit : Description Target) → sum (map (λ r. limit_of_row unit r) (rows unit.items)) ≤ 32 * unit_nodes unit }
+{}
+
+/// The code of the rows of a checked description has at most 2^24 octets.
+pub fn code_is_short()
+    ensures { (unit : Description Target) → ∥ IsChecked unit ∥₁ → sum (map (λ r. limit_of_row unit r) (rows unit.items)) ≤ 16777216 }
 {}
