@@ -1,3 +1,6 @@
+pub mod CompiledTexts
+pub mod ImageParts
 pub mod LoweredRows
 pub mod Refused
 pub mod TextUnits
+pub mod WrittenImages

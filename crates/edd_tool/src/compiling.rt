@@ -1,28 +1,86 @@
 //! The compiler as one call.
 
+ghost use Rattle.std.specs.Prelude.{◌≡◌, ◌≤◌, ◌∷◌, [], IfErr, IfOk, OnOk, length, map};
+ghost use Rattle.edd_syntax.specs.declared.limits.Limit.TheVariants as limit;
+ghost use Rattle.edd_syntax.specs.Refusal.{TooMany};
+ghost use Rattle.edd_syntax.specs.WordsView.{string_of};
+ghost use Rattle.edd_syntax.specs.Strings.{too_many_strings};
+ghost use Rattle.edd_image.specs.Agreement.{AgreesOnData};
+ghost use Rattle.edd_image.specs.Contents.{contents_in};
+ghost use Rattle.edd_image.specs.Validity.{IsValid};
+ghost use Rattle.edd_syntax.specs.Rows.{rows};
+ghost use Rattle.edd_assembly.specs.Views.{lowered_of};
+ghost use Rattle.edd_attrs.specs.Views.{unit_of};
+ghost use Rattle.edd_tool.specs.declared.fault.Fault.TheVariants.{Memory};
+ghost use Rattle.edd_tool.specs.Faults.{IsOfLowering, Explains};
+ghost use Rattle.edd_tool.specs.Images.{IsImageOf};
+ghost use Rattle.edd_tool.specs.Lowering.{HasLowered};
+
 use crate::fault::Fault;
 use crate::lowering::lower_rows;
 use crate::source::checked_of;
 use crate::unwritten::unwritten_word;
-use edd_assembly::assemble;
-use edd_image::{WriteFault, write};
+use edd_assembly::{Lowered, assemble, sections_agree, sections_are_sound};
+use edd_coverage::{code_is_short, different_strings_count, strings_stand_in_rows};
+use edd_image::{WriteFault, fields_are_parts, sound_parts_are_valid, write};
 use edd_syntax::checked::Checked;
+use edd_syntax::words::Words;
 use std::alloc::Global;
 
-// The image of a description.
-fn image_of(alloc: Global, checked: &Checked) -> Result<Vec<u8>, Fault> {
-    let rows = checked.rows(alloc)?;
-    let lowering = lower_rows(alloc, checked, &rows)?;
-    let parts = assemble(alloc, checked, &lowering.units, lowering.table.words())?;
+// Nothing calls it: what is asked never holds.
+fn never() -> Fault
+    requires { ⊥ }
+{
+    Fault::Memory
+}
+
+// The image of a description, whose code has these units.
+fn write_image(
+    alloc: Global,
+    checked: &Checked,
+    units: &[Lowered],
+    strings: &[Words],
+) -> Result<Vec<u8>, Fault>
+    requires lowered { HasLowered (unit_of checked.now) (rows (unit_of checked.now).items) (map string_of strings.now) (map lowered_of units.now) }
+    requires few_strings { length strings.now ≤ 65535 }
+    ensures valid { IfOk result (λ bytes. IsValid bytes.items) }
+    ensures agrees { IfOk result (λ bytes. AgreesOnData (unit_of checked.now) (contents_in bytes.items)) }
+    ensures refused { IfErr result (λ e. e ≡ Memory) }
+{
+    sections_are_sound();
+    sections_agree();
+    sound_parts_are_valid();
+    fields_are_parts();
+    code_is_short();
+    let parts = assemble(alloc, checked, units, strings)?;
     match write(alloc, &parts) {
         Ok(bytes) => Ok(bytes),
         Err(WriteFault::Memory) => Err(Fault::Memory),
-        Err(WriteFault::CodeTooLong) => Err(Fault::Memory),
+        Err(WriteFault::CodeTooLong) => Err(never()),
     }
 }
 
-/// The bytes of the image of a text.
-pub fn compile(alloc: Global, text: &[u8]) -> Result<Vec<u8>, Fault> {
+// The image of a description, and how many strings it has.
+fn image_of(alloc: Global, checked: &Checked) -> Result<Vec<u8>, Fault>
+    ensures valid { IfOk result (λ bytes. IsValid bytes.items) }
+    ensures agrees { IfOk result (λ bytes. AgreesOnData (unit_of checked.now) (contents_in bytes.items)) }
+    ensures few_strings { OnOk result (too_many_strings (unit_of checked.now) ≡ []) }
+    ensures refused { IfErr result (IsOfLowering (too_many_strings (unit_of checked.now) ≡ TooMany limit.Strings ∷ [])) }
+{
+    different_strings_count();
+    strings_stand_in_rows();
+    let rows = checked.rows(alloc)?;
+    let lowering = lower_rows(alloc, checked, &rows)?;
+    let strings = lowering.table.words();
+    write_image(alloc, checked, &lowering.units, strings)
+}
+
+/// The bytes of the image of a text: a valid image, which agrees with the description that the text stands for. A text that
+/// needs what can't be written yet is refused with the first such word.
+pub fn compile(alloc: Global, text: &[u8]) -> Result<Vec<u8>, Fault>
+    ensures image { IfOk result (λ bytes. IsImageOf text.now bytes.items) }
+    ensures refused { IfErr result (Explains text.now) }
+{
     let checked = checked_of(alloc, text)?;
     if let Some(word) = unwritten_word(&checked.items) {
         return Err(Fault::NotWritten(word));
