@@ -1,5 +1,6 @@
 pub mod Acting
 pub mod AttributeReadings
+pub mod BodyUnits
 pub mod Following
 pub mod ImageUnits
 pub mod RisingRows

@@ -19,3 +19,6 @@ pub use operands::Operands;
 pub use reading::attribute;
 pub use rows::find_body;
 pub use values::Values;
+
+#[cfg(test)]
+mod tests;

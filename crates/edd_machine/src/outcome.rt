@@ -71,9 +71,9 @@ fn duplicate(operands: &mut Operands, next: usize) -> Outcome
     requires room { length operands.old < 128 }
     ensures { (sort : Sort) (values : List ℤ) → Performs sort values operands.old operands.new instructions.Duplicate next result }
 {
-    let operand = operands.pop();
-    operands.push(operand);
-    operands.push(operand);
+    let top = operands.pop();
+    operands.push(top);
+    operands.push(top);
     Outcome::GoesOn(next)
 }
 
