@@ -74,16 +74,16 @@ impl Machine {
     }
 
     // Takes on the outcome of an instruction that has left these operands.
-    fn take_on(&mut self, outcome: Outcome, next: usize)
+    fn take_on(&mut self, outcome: Outcome)
         ensures unit { self.new.unit ≡ self.old.unit }
-        ensures value { (b : List ℕ) → comes_to outcome next self.old.operands (state_of b self.old)
+        ensures value { (b : List ℕ) → comes_to outcome self.old.operands (state_of b self.old)
             ≡ record { state = state_of b self.new; emitted = self.new.emitted; changes = [] } }
     {
         self.emitted = Emitted::Nothing;
         match outcome {
             Outcome::GoesOn(place) => self.place = place,
-            Outcome::Gives(record) => {
-                self.place = next;
+            Outcome::Gives(place, record) => {
+                self.place = place;
                 self.emitted = Emitted::Record(record);
             }
             Outcome::Ends => self.status = Status::Ended,
@@ -222,7 +222,7 @@ impl Machine {
                 let sort = self.unit.sort;
                 let values = self.values.numbers.as_slice();
                 let outcome = perform(&mut self.operands, sort, values, instruction, next);
-                self.take_on(outcome, next);
+                self.take_on(outcome);
             }
         }
     }
