@@ -17,7 +17,7 @@ use Rattle.edd_image.specs.Contents.{AttributeFields, contents_in}
 use Rattle.edd_image.specs.Decoding.{item_of}
 use Rattle.edd_image.specs.References.{item_exists}
 use Rattle.edd_image.specs.Reading.{body_of, is_row_of}
-use Rattle.edd_image.specs.Validity.{IsValid, attr_of, has_attribute, is_attribute_row, is_body, sort_of, slots_of, sub_fits, rise, are_variable_rows, are_name_rows, are_attribute_rows, are_string_rows}
+use Rattle.edd_image.specs.Validity.{IsValid, attr_of, has_attribute, is_attribute_row, is_body, sort_of, slots_of, sub_fits, are_variable_rows, are_name_rows, are_attribute_rows, are_string_rows}
 use Rattle.edd_loader.proofs.LookupLaws.{all_at}
 use Rattle.edd_machine.specs.declared.code_unit.CodeUnit.{CodeUnit}
 use Rattle.edd_machine.specs.Running.{unit_at, IsUnitOf}

@@ -1,4 +1,5 @@
 pub mod Acting
+pub mod Answering
 pub mod AttributeReadings
 pub mod BodyUnits
 pub mod Following

@@ -4,6 +4,7 @@
 mod arithmetic;
 mod code_unit;
 mod fault;
+mod laws;
 mod machine;
 mod operands;
 mod outcome;
@@ -14,6 +15,7 @@ mod values;
 
 pub use code_unit::CodeUnit;
 pub use fault::{ReadFault, ValuesFault};
+pub use laws::{answers_stay_in_the_unit, asking_has_room};
 pub use machine::Machine;
 pub use operands::Operands;
 pub use reading::attribute;

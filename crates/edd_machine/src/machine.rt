@@ -196,11 +196,10 @@ impl Machine {
 
     // Ends the run without a method's end.
     #[tactic(auto, unfolding(edd_image::specs::Steps::act))]
-    fn abort(&mut self, next: usize)
+    fn abort(&mut self)
         ensures unit { self.new.unit ≡ self.old.unit }
-        ensures acts { (b : List ℕ) → ActsTo b instructions.Abort next self.old self.new }
+        ensures acts { (b : List ℕ) (next : ℕ) → ActsTo b instructions.Abort next self.old self.new }
     {
-        let _ = next;
         self.status = Status::Aborted;
         self.emitted = Emitted::Nothing;
     }
@@ -217,7 +216,7 @@ impl Machine {
             Instruction::GetLocal(slot) => self.push_slot(slot, next),
             Instruction::SetLocal(slot) => self.set_slot(slot, next),
             Instruction::Ask(ask) => self.ask(ask, next),
-            Instruction::Abort => self.abort(next),
+            Instruction::Abort => self.abort(),
             _ => {
                 let sort = self.unit.sort;
                 let values = self.values.numbers.as_slice();
