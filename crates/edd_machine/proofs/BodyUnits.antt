@@ -1,5 +1,5 @@
 -- The unit of the body of a method.
-use Rattle.std.proofs.Common.{◌≡◌, ℕ, ◌≤◌, Bool, true, false, cond, ◌&&◌, nat_eq, List, Option, Some, None, refl, sym, ap, subst, ◌∙◌, arith}
+use Rattle.std.proofs.Common.{◌≡◌, ℕ, ◌≤◌, Bool, true, false, cond, ◌&&◌, nat_eq, ℤ, List, Option, Some, None, refl, sym, ap, subst, ◌∙◌, arith}
 use Rattle.std.specs.Prelude.{option_map}
 use Rattle.std.specs.List.{list_all, slice_get}
 use Rattle.std.specs.Option.{option_map_or}
@@ -16,11 +16,13 @@ use Rattle.edd_image.specs.declared.unit.Sort.TheVariants.{Method}
 use Rattle.edd_image.specs.Contents.{AttributeFields, contents_in}
 use Rattle.edd_image.specs.Decoding.{item_of}
 use Rattle.edd_image.specs.References.{item_exists}
-use Rattle.edd_image.specs.Reading.{body_of, is_row_of}
+use Rattle.edd_image.specs.Reading.{body_of, is_row_of, opening_of}
+use Rattle.edd_image.specs.Steps.{opening}
 use Rattle.edd_image.specs.Validity.{IsValid, attr_of, has_attribute, is_attribute_row, is_body, sort_of, slots_of, sub_fits, are_variable_rows, are_name_rows, are_attribute_rows, are_string_rows}
 use Rattle.edd_loader.proofs.LookupLaws.{all_at}
 use Rattle.edd_machine.specs.declared.code_unit.CodeUnit.{CodeUnit}
-use Rattle.edd_machine.specs.Running.{unit_at, IsUnitOf}
+use Rattle.edd_machine.specs.Running.{unit_at, running_unit, IsUnitOf}
+use Rattle.edd_machine.proofs.ImageUnits.{unit_code}
 use Rattle.edd_machine.proofs.AttributeReadings.{stands}
 
 -- a method has at most 64 slots
@@ -75,3 +77,9 @@ body_by b m u (Some r) valid e f =
 
 pub is_body_unit : (b : List ℕ) (m : MethNo) (u : CodeUnit) → IsValid b → Some u ≡ option_map (unit_at b) (body_of (contents_in b) m) → IsBody b u
 is_body_unit b m u valid e = body_by b m u (body_of (contents_in b) m) valid refl e
+
+pub body_opens : (b : List ℕ) (m : MethNo) (row : AttributeFields) (values : List ℤ) → IsValid b → body_of (contents_in b) m ≡ Some row
+    → opening (running_unit b (unit_at b row)) (unit_at b row).slots values ≡ opening_of (contents_in b) row values
+body_opens b m row values valid e =
+    let at = stands (is_row_of (items.Method m) attr.Definition) (contents_in b).attributes row e in
+    ap (λ (code : List ℕ). opening (record { sort = sort_of row; code = code }) (unit_at b row).slots values) (unit_code b at.0 row valid at.1)

@@ -15,7 +15,7 @@ mod values;
 
 pub use code_unit::CodeUnit;
 pub use fault::{ReadFault, ValuesFault};
-pub use laws::{answers_stay_in_the_unit, asking_has_room};
+pub use laws::{answers_stay_in_the_unit, asking_has_room, bodies_open_as_their_rows};
 pub use machine::Machine;
 pub use operands::Operands;
 pub use reading::attribute;
