@@ -85,11 +85,11 @@ variable_there b i s v can e =
     omega (arith, ltb-true v.0 can.context.counts.variables exists, can.is.variable_count, AllZip-long _ (types_in b) s.values can.is.values)
 
 -- what an outcome makes of a state does not depend on the operands that it had
-pub comes_over : (o : Outcome) (next : ℕ) (operands : List ℤ) (s : State) → comes_to o next operands s ≡ comes_to o next operands (record s { operands = operands })
-comes_over (GoesOn place) next operands s = refl
-comes_over (Gives r) next operands s = refl
-comes_over Ends next operands s = refl
-comes_over (Traps why) next operands s = refl
+pub comes_over : (o : Outcome) (operands : List ℤ) (s : State) → comes_to o operands s ≡ comes_to o operands (record s { operands = operands })
+comes_over (GoesOn place) operands s = refl
+comes_over (Gives place r) operands s = refl
+comes_over Ends operands s = refl
+comes_over (Traps why) operands s = refl
 
 -- what a store leaves, by the numbers that were read again
 pub stored_state : (s : State) (next v w : ℕ) (below operands : List ℤ) (kept z read : ℤ) → z ≡ kept → read ≡ wrap w z → operands ≡ read ∷ below → (t : State) → t ≡ record s { place = next; operands = operands; values = slice_set s.values v z }

@@ -30,7 +30,7 @@ use Rattle.edd_machine.proofs.ImageUnits.{unit_code}
 
 -- ---- the row
 
-abbrev Stands : {A : Type 0} → (A → Bool) → List A → A → Type 0
+abbrev pub Stands : {A : Type 0} → (A → Bool) → List A → A → Type 0
 Stands p xs x = (k : ℕ) × (slice_get xs k ≡ Some x) × (p x ≡ true)
 
 stands_by : {A : Type 0} (p : A → Bool) (y : A) (ys : List A) (x : A) (test : Bool) → p y ≡ test → (find p ys ≡ Some x → Stands p ys x) → cond test (Some y) (find p ys) ≡ Some x → Stands p (y ∷ ys) x
@@ -41,7 +41,7 @@ stands_by p y ys x false fails rest f =
     let behind = rest f in
     (suc behind.0, behind.1, behind.2)
 
-stands : {A : Type 0} (p : A → Bool) (xs : List A) (x : A) → find p xs ≡ Some x → Stands p xs x
+pub stands : {A : Type 0} (p : A → Bool) (xs : List A) (x : A) → find p xs ≡ Some x → Stands p xs x
 stands p [] x e = absurd cc
 stands p (y ∷ ys) x e = stands_by p y ys x (p y) refl (λ f. stands p ys x f) e
 

@@ -139,22 +139,26 @@ module _ (b : List ℕ) (u : CodeUnit) (values : List ℤ) (place : ℕ) (operan
     next_inside = (instruction_inside (code_at b u) place (i, next) there).1
 
     module _ (o : Outcome) (left : List ℤ) (performed : Performs u.sort values operands left i next o) where
-      stepped : step (environment_of (contents_in b)) (at_place b u values place operands) ≡ Some (comes_to o next left (at_place b u values place operands))
+      stepped : step (environment_of (contents_in b)) (at_place b u values place operands) ≡ Some (comes_to o left (at_place b u values place operands))
       stepped = step_is (environment_of (contents_in b)) (at_place b u values place operands) (i, next) _ refl there (performed (environment_of (contents_in b)) (at_place b u values place operands))
 
-      pub given_on : (r : Given) → Gives (environment_of (contents_in b)) (comes_to o next left (at_place b u values place operands)).state r
-          → Gives (environment_of (contents_in b)) (at_place b u values place operands) (with_record (comes_to o next left (at_place b u values place operands)).emitted r)
+      pub given_on : (r : Given) → Gives (environment_of (contents_in b)) (comes_to o left (at_place b u values place operands)).state r
+          → Gives (environment_of (contents_in b)) (at_place b u values place operands) (with_record (comes_to o left (at_place b u values place operands)).emitted r)
       given_on r g = gives_on (environment_of (contents_in b)) (at_place b u values place operands) _ r stepped g
 
     pub state_on : (to : ℕ) (left : List ℤ) → Performs u.sort values operands left i next (GoesOn to) → IsStateIn b u (at_place b u values to left)
-    state_on to left performed = state_again b u (at_place b u values place operands) valid is refl (comes_to (GoesOn to) next left (at_place b u values place operands)) (stepped (GoesOn to) left performed) refl
+    state_on to left performed = state_again b u (at_place b u values place operands) valid is refl (comes_to (GoesOn to) left (at_place b u values place operands)) (stepped (GoesOn to) left performed) refl
 
-    pub state_behind : (r : Record) (left : List ℤ) → Performs u.sort values operands left i next (GivesRecord r) → IsStateIn b u (at_place b u values next left)
-    state_behind r left performed = state_again b u (at_place b u values place operands) valid is refl (comes_to (GivesRecord r) next left (at_place b u values place operands)) (stepped (GivesRecord r) left performed) refl
+    pub state_behind : (to : ℕ) (r : Record) (left : List ℤ) → Performs u.sort values operands left i next (GivesRecord to r) → IsStateIn b u (at_place b u values to left)
+    state_behind to r left performed = state_again b u (at_place b u values place operands) valid is refl (comes_to (GivesRecord to r) left (at_place b u values place operands)) (stepped (GivesRecord to r) left performed) refl
+
+    pub ahead_behind : (to : ℕ) (r : Record) (left : List ℤ) → Performs u.sort values operands left i next (GivesRecord to r) → place < to
+    ahead_behind to r left performed =
+        goes_forward b u (at_place b u values place operands) valid is refl (is_attribute b u is.unit attribute) (i, next) (comes_to (GivesRecord to r) left (at_place b u values place operands)) there (performed (environment_of (contents_in b)) (at_place b u values place operands)) refl
 
     pub ahead : (to : ℕ) (left : List ℤ) → Performs u.sort values operands left i next (GoesOn to) → place < to
     ahead to left performed =
-        goes_forward b u (at_place b u values place operands) valid is refl (is_attribute b u is.unit attribute) (i, next) (comes_to (GoesOn to) next left (at_place b u values place operands)) there (performed (environment_of (contents_in b)) (at_place b u values place operands)) refl
+        goes_forward b u (at_place b u values place operands) valid is refl (is_attribute b u is.unit attribute) (i, next) (comes_to (GoesOn to) left (at_place b u values place operands)) there (performed (environment_of (contents_in b)) (at_place b u values place operands)) refl
 
     pub ends_there : (left : List ℤ) → Performs u.sort values operands left i next Ends → Gives (environment_of (contents_in b)) (at_place b u values place operands) (Ok [])
     ends_there left performed = given_on Ends left performed (Ok []) (gives_end (environment_of (contents_in b)) _ (Ok []) refl)

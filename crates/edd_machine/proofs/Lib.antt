@@ -1,5 +1,7 @@
 pub mod Acting
+pub mod Answering
 pub mod AttributeReadings
+pub mod BodyUnits
 pub mod Following
 pub mod ImageUnits
 pub mod RisingRows

@@ -27,7 +27,7 @@ each [] f h = tt
 each (x ∷ xs) f h = (f x h.0, each xs f h.1)
 
 -- what is known of each instruction is known of the one that starts at a place
-pick : (P : Placed → Type 0) (xs : List Placed) (q : ℕ) → AllByRecursion P xs → is_start xs q ≡ true → (x : Placed) × (x.place ≡ q) × P x
+pub pick : (P : Placed → Type 0) (xs : List Placed) (q : ℕ) → AllByRecursion P xs → is_start xs q ≡ true → (x : Placed) × (x.place ≡ q) × P x
 pick P [] q h e = absurd cc
 pick P (x ∷ xs) q h e = elim (or_cases (nat_eq x.place q) (is_start xs q) e) [
   | inl here ↦ (x, eqb-true x.place q here, h.0)

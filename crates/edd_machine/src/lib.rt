@@ -4,6 +4,7 @@
 mod arithmetic;
 mod code_unit;
 mod fault;
+mod laws;
 mod machine;
 mod operands;
 mod outcome;
@@ -14,8 +15,12 @@ mod values;
 
 pub use code_unit::CodeUnit;
 pub use fault::{ReadFault, ValuesFault};
+pub use laws::{answers_stay_in_the_unit, asking_has_room, bodies_open_as_their_rows};
 pub use machine::Machine;
 pub use operands::Operands;
 pub use reading::attribute;
 pub use rows::find_body;
 pub use values::Values;
+
+#[cfg(test)]
+mod tests;

@@ -74,16 +74,16 @@ impl Machine {
     }
 
     // Takes on the outcome of an instruction that has left these operands.
-    fn take_on(&mut self, outcome: Outcome, next: usize)
+    fn take_on(&mut self, outcome: Outcome)
         ensures unit { self.new.unit ≡ self.old.unit }
-        ensures value { (b : List ℕ) → comes_to outcome next self.old.operands (state_of b self.old)
+        ensures value { (b : List ℕ) → comes_to outcome self.old.operands (state_of b self.old)
             ≡ record { state = state_of b self.new; emitted = self.new.emitted; changes = [] } }
     {
         self.emitted = Emitted::Nothing;
         match outcome {
             Outcome::GoesOn(place) => self.place = place,
-            Outcome::Gives(record) => {
-                self.place = next;
+            Outcome::Gives(place, record) => {
+                self.place = place;
                 self.emitted = Emitted::Record(record);
             }
             Outcome::Ends => self.status = Status::Ended,
@@ -196,11 +196,10 @@ impl Machine {
 
     // Ends the run without a method's end.
     #[tactic(auto, unfolding(edd_image::specs::Steps::act))]
-    fn abort(&mut self, next: usize)
+    fn abort(&mut self)
         ensures unit { self.new.unit ≡ self.old.unit }
-        ensures acts { (b : List ℕ) → ActsTo b instructions.Abort next self.old self.new }
+        ensures acts { (b : List ℕ) (next : ℕ) → ActsTo b instructions.Abort next self.old self.new }
     {
-        let _ = next;
         self.status = Status::Aborted;
         self.emitted = Emitted::Nothing;
     }
@@ -217,12 +216,12 @@ impl Machine {
             Instruction::GetLocal(slot) => self.push_slot(slot, next),
             Instruction::SetLocal(slot) => self.set_slot(slot, next),
             Instruction::Ask(ask) => self.ask(ask, next),
-            Instruction::Abort => self.abort(next),
+            Instruction::Abort => self.abort(),
             _ => {
                 let sort = self.unit.sort;
                 let values = self.values.numbers.as_slice();
                 let outcome = perform(&mut self.operands, sort, values, instruction, next);
-                self.take_on(outcome, next);
+                self.take_on(outcome);
             }
         }
     }

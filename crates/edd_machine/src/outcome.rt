@@ -1,6 +1,6 @@
 //! The instructions that units of both sorts have, on the operands.
 
-ghost use Rattle.std.specs.Prelude.{◌≡◌, ℕ, ℤ, ◌+◌, ◌-◌, ◌<◌, ◌≤◌, IfSome, List, length, true};
+ghost use Rattle.std.specs.Prelude.{◌≡◌, ℤ, ◌+◌, ◌-◌, ◌<◌, ◌≤◌, IfSome, List, length, true};
 ghost use Rattle.std.specs.List.{AllByRecursion};
 ghost use Rattle.edd_syntax.specs.declared.numbers.VarNo.{VarNo};
 ghost use Rattle.edd_image.specs.declared.instruction.Instruction.TheVariants as instructions;
@@ -23,8 +23,8 @@ use edd_syntax::operators::{Comparison, Operator};
 pub enum Outcome {
     /// The run goes on at a place.
     GoesOn(usize),
-    /// A record is given, and the run goes on at the next instruction.
-    Gives(Record),
+    /// A record is given, and the run goes on at a place.
+    Gives(usize, Record),
     /// The unit ends.
     Ends,
     /// An operator has no value.
@@ -71,9 +71,9 @@ fn duplicate(operands: &mut Operands, next: usize) -> Outcome
     requires room { length operands.old < 128 }
     ensures { (sort : Sort) (values : List ℤ) → Performs sort values operands.old operands.new instructions.Duplicate next result }
 {
-    let operand = operands.pop();
-    operands.push(operand);
-    operands.push(operand);
+    let top = operands.pop();
+    operands.push(top);
+    operands.push(top);
     Outcome::GoesOn(next)
 }
 
@@ -181,11 +181,11 @@ fn case(operands: &mut Operands, label: i64, target: u32, next: usize) -> Outcom
 }
 
 #[tactic(auto, unfolding(edd_image::specs::Steps::act))]
-fn give_number(operands: &mut Operands) -> Outcome
+fn give_number(operands: &mut Operands, next: usize) -> Outcome
     requires { 1 ≤ length operands.old }
-    ensures { (sort : Sort) (values : List ℤ) (next : ℕ) → Performs sort values operands.old operands.new instructions.Number next result }
+    ensures { (sort : Sort) (values : List ℤ) → Performs sort values operands.old operands.new instructions.Number next result }
 {
-    Outcome::Gives(Record::Number(operands.pop()))
+    Outcome::Gives(next, Record::Number(operands.pop()))
 }
 
 /// What an instruction that attributes may have comes to.
@@ -220,36 +220,42 @@ pub fn perform(
         Instruction::JumpIfZero(target) => jump_if_zero(operands, target, next),
         Instruction::JumpIfNotZero(target) => jump_if_not_zero(operands, target, next),
         Instruction::Case { label, target } => case(operands, label, target, next),
-        Instruction::Number => give_number(operands),
-        Instruction::Text(text) => Outcome::Gives(Record::Words(text)),
-        Instruction::Item { item, quals } => Outcome::Gives(Record::Entry { item, quals }),
-        Instruction::DataConst(number) => Outcome::Gives(Record::DataConst(number)),
+        Instruction::Number => give_number(operands, next),
+        Instruction::Text(text) => Outcome::Gives(next, Record::Words(text)),
+        Instruction::Item { item, quals } => Outcome::Gives(next, Record::Entry { item, quals }),
+        Instruction::DataConst(number) => Outcome::Gives(next, Record::DataConst(number)),
         Instruction::DataVar { var, mask, quals } => {
-            Outcome::Gives(Record::DataVar { var, mask, quals })
+            Outcome::Gives(next, Record::DataVar { var, mask, quals })
         }
         Instruction::Enumerator { value, text, help } => {
-            Outcome::Gives(Record::Enumerator { value, text, help })
+            Outcome::Gives(next, Record::Enumerator { value, text, help })
         }
         Instruction::Response {
             number,
             class,
             text,
-        } => Outcome::Gives(Record::Response {
-            number,
-            class,
-            text,
-        }),
+        } => Outcome::Gives(
+            next,
+            Record::Response {
+                number,
+                class,
+                text,
+            },
+        ),
         Instruction::Member {
             name,
             item,
             label,
             help,
-        } => Outcome::Gives(Record::Member {
-            name,
-            item,
-            label,
-            help,
-        }),
+        } => Outcome::Gives(
+            next,
+            Record::Member {
+                name,
+                item,
+                label,
+                help,
+            },
+        ),
         Instruction::Store(_)
         | Instruction::GetLocal(_)
         | Instruction::SetLocal(_)

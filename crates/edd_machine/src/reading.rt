@@ -125,9 +125,9 @@ fn run(
     while let Some((instruction, next)) = decode(code, place) {
         match perform(&mut operands, unit.sort, values, instruction, next) {
             Outcome::GoesOn(to) => place = to,
-            Outcome::Gives(record) => {
+            Outcome::Gives(to, record) => {
                 records.push(record)?;
-                place = next;
+                place = to;
             }
             Outcome::Ends => return Ok(records),
             Outcome::Traps(why) => return Err(fault_of(why)),

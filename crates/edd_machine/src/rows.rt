@@ -6,7 +6,8 @@ ghost use Rattle.edd_image.specs.Contents.{attribute_fields, contents_in};
 ghost use Rattle.edd_image.specs.Fields.{attribute_count, header_length};
 ghost use Rattle.edd_image.specs.Reading.{row_of, body_of};
 ghost use Rattle.edd_image.specs.Validity.{IsValid};
-ghost use Rattle.edd_machine.specs.Running.{unit_at};
+ghost use Rattle.edd_image.specs.declared.unit.Sort.TheVariants.{Method};
+ghost use Rattle.edd_machine.specs.Running.{unit_at, IsUnitOf};
 ghost use Rattle.edd_machine.specs.Ranks.{rank, rank_of, row_at, is_row};
 
 use crate::code_unit::CodeUnit;
@@ -189,9 +190,12 @@ pub fn find_attribute(image: &Image, attr: AttrRef) -> Option<CodeUnit>
     Some(unit_of(bytes, row))
 }
 
-/// The unit of a method's body, if it has a row.
+/// The unit of a method's body, if it has a row: a `Machine` may be opened on it.
 pub fn find_body(image: &Image, method: MethNo) -> Option<CodeUnit>
-    ensures { result ≡ option_map (unit_at image.now) (body_of (contents_in image.now) method) }
+    ensures value { result ≡ option_map (unit_at image.now) (body_of (contents_in image.now) method) }
+    ensures unit { IfSome result (IsUnitOf image.now) }
+    ensures sort { IfSome result (λ unit. unit.sort ≡ Method) }
+    ensures slots { IfSome result (λ unit. unit.slots ≤ 64) }
 {
     let bytes = image.bytes();
     let row = body_row(bytes, method)?;

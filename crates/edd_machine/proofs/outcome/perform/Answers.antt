@@ -37,7 +37,7 @@ pub returns-in-JumpIfNotZero : goal.returns-in-JumpIfNotZero
 returns-in-JumpIfNotZero c = λ env s. rw c.in-JumpIfNotZero.is (c.jump_if_not_zero.ensures c.args.sort c.args.values.now env s)
 
 pub returns-in-Number : goal.returns-in-Number
-returns-in-Number c = λ env s. rw c.in-Number.is (c.give_number.ensures c.args.sort c.args.values.now c.args.next env s)
+returns-in-Number c = λ env s. rw c.in-Number.is (c.give_number.ensures c.args.sort c.args.values.now env s)
 
 pub returns-in-Case : goal.returns-in-Case
 returns-in-Case c =

@@ -10,7 +10,7 @@ use Rattle.edd_machine.specs.declared.outcome.Outcome.TheVariants.{GoesOn, Gives
 use Rattle.edd_machine.specs.Given.{Gives}
 use Rattle.edd_machine.specs.Running.{running_unit, code_at}
 use Rattle.edd_machine.proofs.Acting.{variable_there}
-use Rattle.edd_machine.proofs.Following.{Given, after, after_none, after_more, place_there, never_past, acts_there, is_shared, next_ahead, next_inside, given_on, state_on, state_behind, ahead, ends_there, traps_there, fault_given}
+use Rattle.edd_machine.proofs.Following.{Given, after, after_none, after_more, place_there, never_past, acts_there, is_shared, next_ahead, next_inside, given_on, state_on, state_behind, ahead, ahead_behind, ends_there, traps_there, fault_given}
 use Rattle.edd_machine.proofs.Stepping.{code_inside, opened}
 use Rattle.edd_machine.proofs.reading.run.Goals as goal
 
@@ -70,6 +70,16 @@ loop-instruction-smaller-in-GoesOn c =
     let long : length c.code_of-code.result.now ≡ length (code_at c.args.image.now c.args.unit) = ap length same in
     omega (arith, more, some, end, long)
 
+pub loop-instruction-smaller : goal.loop-instruction-smaller
+loop-instruction-smaller c =
+    let same : c.code_of-code.result.now ≡ code_at c.args.image.now c.args.unit = c.code_of-code.ensures ∙ ap (λ (b : List ℕ). code_at b c.args.unit) c.bytes.ensures.value in
+    let at : instruction_at (code_at c.args.image.now c.args.unit) c.loop-instruction.place ≡ Some (c.in-Some.instruction, c.in-Some.next) = ap (λ (code : List ℕ). instruction_at code c.loop-instruction.place) (sym same) ∙ sym c.decode.ensures.value ∙ c.in-Some.is in
+    let more = ahead_behind c.args.image.now c.args.unit c.args.values.now c.loop-instruction.place c.loop-instruction.operands c.bytes.ensures.valid c.loop-instruction.invariant.state c.requires.sort c.in-Some.instruction c.in-Some.next at c.in-Gives.to c.in-Gives.record c.perform.new.operands c.in-Gives.ensures in
+    let some = next_ahead c.args.image.now c.args.unit c.args.values.now c.loop-instruction.place c.loop-instruction.operands c.bytes.ensures.valid c.loop-instruction.invariant.state c.requires.sort c.in-Some.instruction c.in-Some.next at in
+    let end = next_inside c.args.image.now c.args.unit c.args.values.now c.loop-instruction.place c.loop-instruction.operands c.bytes.ensures.valid c.loop-instruction.invariant.state c.requires.sort c.in-Some.instruction c.in-Some.next at in
+    let long : length c.code_of-code.result.now ≡ length (code_at c.args.image.now c.args.unit) = ap length same in
+    omega (arith, more, some, end, long)
+
 pub loop-instruction-preserved-in-GoesOn : goal.loop-instruction-preserved-in-GoesOn
 loop-instruction-preserved-in-GoesOn c =
     let same : c.code_of-code.result.now ≡ code_at c.args.image.now c.args.unit = c.code_of-code.ensures ∙ ap (λ (b : List ℕ). code_at b c.args.unit) c.bytes.ensures.value in
@@ -84,10 +94,10 @@ loop-instruction-preserved c =
     let same : c.code_of-code.result.now ≡ code_at c.args.image.now c.args.unit = c.code_of-code.ensures ∙ ap (λ (b : List ℕ). code_at b c.args.unit) c.bytes.ensures.value in
     let at : instruction_at (code_at c.args.image.now c.args.unit) c.loop-instruction.place ≡ Some (c.in-Some.instruction, c.in-Some.next) = ap (λ (code : List ℕ). instruction_at code c.loop-instruction.place) (sym same) ∙ sym c.decode.ensures.value ∙ c.in-Some.is in
     record {
-      state = state_behind c.args.image.now c.args.unit c.args.values.now c.loop-instruction.place c.loop-instruction.operands c.bytes.ensures.valid c.loop-instruction.invariant.state c.requires.sort c.in-Some.instruction c.in-Some.next at c.in-Gives.record c.perform.new.operands c.in-Gives.ensures;
+      state = state_behind c.args.image.now c.args.unit c.args.values.now c.loop-instruction.place c.loop-instruction.operands c.bytes.ensures.valid c.loop-instruction.invariant.state c.requires.sort c.in-Some.instruction c.in-Some.next at c.in-Gives.to c.in-Gives.record c.perform.new.operands c.in-Gives.ensures;
       gives = λ r g. subst (λ (x : Given). Gives (environment_of (contents_in c.args.image.now)) (opening (running_unit c.args.image.now c.args.unit) c.args.unit.slots c.args.values.now) x)
           (after_more c.loop-instruction.records.items c.in-Gives.record r ∙ ap (λ (records : List Record). after records r) (sym c.in_ok-push-in-Gives.ensures.items))
-          (c.loop-instruction.invariant.gives (with_record (emitted.Record c.in-Gives.record) r) (given_on c.args.image.now c.args.unit c.args.values.now c.loop-instruction.place c.loop-instruction.operands c.bytes.ensures.valid c.loop-instruction.invariant.state c.requires.sort c.in-Some.instruction c.in-Some.next at (GivesRecord c.in-Gives.record) c.perform.new.operands c.in-Gives.ensures r g));
+          (c.loop-instruction.invariant.gives (with_record (emitted.Record c.in-Gives.record) r) (given_on c.args.image.now c.args.unit c.args.values.now c.loop-instruction.place c.loop-instruction.operands c.bytes.ensures.valid c.loop-instruction.invariant.state c.requires.sort c.in-Some.instruction c.in-Some.next at (GivesRecord c.in-Gives.to c.in-Gives.record) c.perform.new.operands c.in-Gives.ensures r g));
     }
 
 pub returns-in-Ends-clause-records : goal.returns-in-Ends-clause-records

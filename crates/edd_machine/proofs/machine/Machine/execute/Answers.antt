@@ -20,11 +20,11 @@ pub returns-in_default-clause-acts : goal.returns-in_default-clause-acts
 returns-in_default-clause-acts c =
     let env = environment_of (contents_in c.args.image.now) in
     let s = state_of c.args.image.now c.args.self.now in
-    let acted : act env c.args.instruction c.args.next s ≡ Some (comes_to c.perform-outcome.result c.args.next c.perform-outcome.new.operands s) =
+    let acted : act env c.args.instruction c.args.next s ≡ Some (comes_to c.perform-outcome.result c.perform-outcome.new.operands s) =
     rw c.as_slice-values.ensures.value at (c.perform-outcome.ensures env s) in
-    let taken = comes_over c.perform-outcome.result c.args.next c.perform-outcome.new.operands s ∙ c.take_on.ensures.value c.args.image.now in
+    let taken = comes_over c.perform-outcome.result c.perform-outcome.new.operands s ∙ c.take_on.ensures.value c.args.image.now in
     record {
-      effect = comes_to c.perform-outcome.result c.args.next c.perform-outcome.new.operands s;
+      effect = comes_to c.perform-outcome.result c.perform-outcome.new.operands s;
       is = acted;
       state = ap (λ (e : Effect). e.state) taken;
       emitted = ap (λ (e : Effect). e.emitted) taken;

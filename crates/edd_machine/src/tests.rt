@@ -1,0 +1,290 @@
+ghost use Rattle.std.specs.Prelude.{◌≤◌};
+ghost use Rattle.edd_machine.specs.Running.{IsMachine};
+
+use super::*;
+use edd_image::{Emitted, Record, Request, Status};
+use edd_loader::{Image, load};
+use edd_syntax::answer::Trap;
+use edd_syntax::numbers::{Attr, AttrRef, ItemNo, MethNo, StrNo, VarNo};
+use std::alloc::{AllocError, Global};
+use std::test::Fail;
+
+// The parts of a small image: rows of variables, how many methods there are, and attribute rows with their code. All names are
+// one letter.
+#[derive(Clone, Copy)]
+struct Small<'a> {
+    variables: &'a [[u8; 4]],
+    methods: u8,
+    rows: &'a [([u8; 6], &'a [u8])],
+}
+
+// The length of at most 4096 bytes.
+fn long(bytes: &[u8]) -> u32
+    ensures { result ≤ 4096 }
+{
+    bytes.len().min(4096) as u32
+}
+
+fn image_of(alloc: Global, small: Small) -> Result<Vec<u8>, AllocError> {
+    let mut rows = Vec::new(alloc);
+    let mut units = Vec::new(alloc);
+    let mut code = Vec::new(alloc);
+    let mut names = Vec::new(alloc);
+    for row in small.variables {
+        rows.extend_from_slice(row)?;
+    }
+    let variables = small.variables.len().min(16) as u8;
+    for name in 0..variables.min(16).wrapping_add(small.methods) {
+        rows.extend_from_slice(&u32::from(name).to_be_bytes())?;
+        rows.extend_from_slice(&[0, 1, 0, 0])?;
+        names.push(b'a')?;
+    }
+    for (key, unit) in small.rows {
+        units.extend_from_slice(key)?;
+        units.extend_from_slice(&[0, 0])?;
+        units.extend_from_slice(&long(&code).to_be_bytes())?;
+        units.extend_from_slice(&long(unit).to_be_bytes())?;
+        code.extend_from_slice(unit)?;
+    }
+    let count = small.rows.len().min(16) as u32;
+    let total = 56 + long(&rows) + long(&units) + long(&code) + long(&names);
+    let mut bytes = Vec::new(alloc);
+    bytes.extend_from_slice(&[0x45, 0x44, 0x49, 0x31, 0, 1, 0, 0])?;
+    bytes.extend_from_slice(&total.to_be_bytes())?;
+    bytes.extend_from_slice(&[0, 0, 0, 1, 0, 0, 0, 2, 0, 0, 0, 3, 0, 0, 0, 4])?;
+    bytes.extend_from_slice(&[0, variables, 0, 0, 0, 0, 0, 0, 0, small.methods, 0, 0])?;
+    for number in [count, long(&names), long(&code), 0] {
+        bytes.extend_from_slice(&number.to_be_bytes())?;
+    }
+    bytes.extend_from_slice(&rows)?;
+    bytes.extend_from_slice(&units)?;
+    bytes.extend_from_slice(&code)?;
+    bytes.extend_from_slice(&names)?;
+    Ok(bytes)
+}
+
+const INTEGER: u8 = 1;
+
+const UNSIGNED: u8 = 2;
+
+fn validity_of(variable: u16) -> AttrRef {
+    AttrRef {
+        item: ItemNo::Variable(VarNo(variable)),
+        attr: Attr::Validity,
+        sub: 0,
+    }
+}
+
+fn read(
+    alloc: Global,
+    image: &Image,
+    attr: AttrRef,
+    numbers: &[i64],
+) -> Result<Result<Vec<Record>, ReadFault>, Fail> {
+    let values = Values::new(alloc, image, numbers)?;
+    Ok(attribute(alloc, image, attr, &values))
+}
+
+#[test]
+fn values_in_their_ranges(rt: HostRuntime) -> Result<(), Fail> {
+    let alloc = rt.alloc();
+    let small = Small {
+        variables: &[[INTEGER, 1, 0, 0]],
+        methods: 0,
+        rows: &[],
+    };
+    let image = load(alloc, &image_of(alloc, small)?)?;
+    assert_eq!(rt;
+        Values::new(alloc, &image, &[]).err(),
+        Some(ValuesFault::Count)
+    );
+    assert_eq!(rt;
+        Values::new(alloc, &image, &[128]).err(),
+        Some(ValuesFault::Range)
+    );
+    assert_eq!(rt;
+        Values::new(alloc, &image, &[-129]).err(),
+        Some(ValuesFault::Range)
+    );
+    let values = Values::new(alloc, &image, &[-128])?;
+    assert_eq!(rt; values.get(VarNo(0)), Some(-128));
+    assert_eq!(rt; values.get(VarNo(1)), None);
+    assert!(rt; values.are_of(&image));
+    Ok(())
+}
+
+// IF (u > 0) { TRUE; } ELSE { FALSE; }
+const ABOVE_ZERO: [u8; 32] = [
+    0x02, 0, 0, 0x01, 0, 0, 0, 0, 0x1e, 0x31, 0, 0, 0, 25, 0x01, 0, 0, 0, 1, 0x41, 0x30, 0, 0, 0,
+    31, 0x01, 0, 0, 0, 0, 0x41, 0x00,
+];
+
+// IF (1 / mode) { FALSE; }, where mode is variable 1
+const BY_MODE: [u8; 21] = [
+    0x01, 0, 0, 0, 1, 0x02, 0, 1, 0x13, 0x31, 0, 0, 0, 20, 0x01, 0, 0, 0, 0, 0x41, 0x00,
+];
+
+#[test]
+fn validity_by_values(rt: HostRuntime) -> Result<(), Fail> {
+    let alloc = rt.alloc();
+    let small = Small {
+        variables: &[[UNSIGNED, 4, 0, 0], [INTEGER, 1, 0, 0]],
+        methods: 0,
+        rows: &[
+            ([1, 6, 0, 0, 0, 0], &ABOVE_ZERO),
+            ([1, 6, 0, 1, 0, 0], &BY_MODE),
+        ],
+    };
+    let image = load(alloc, &image_of(alloc, small)?)?;
+    for (u, want) in [(4_294_967_295, 1), (0, 0)] {
+        let records = read(alloc, &image, validity_of(0), &[u, 1])??;
+        assert_eq!(rt; records.as_slice(), [Record::Number(want)].as_slice());
+    }
+    for (mode, want) in [(1, 0), (2, 1)] {
+        let records = read(alloc, &image, validity_of(1), &[0, mode])??;
+        assert_eq!(rt; records.as_slice(), [Record::Number(want)].as_slice());
+    }
+    let trapped = read(alloc, &image, validity_of(1), &[0, 0])?;
+    assert_eq!(rt; trapped.err(), Some(ReadFault::DivZero));
+    let absent = read(alloc, &image, validity_of(2), &[0, 0])?;
+    assert_eq!(rt; absent.err(), Some(ReadFault::NoItem));
+    Ok(())
+}
+
+// A variable `p` of type INTEGER (2) with the label "Pressure", in German "Druck".
+const LABEL: [u8; 125] = [
+    0x45, 0x44, 0x49, 0x31, 0x00, 0x01, 0x00, 0x00, 0x00, 0x00, 0x00, 0x7d, 0x00, 0x00, 0x00, 0x01,
+    0x00, 0x00, 0x00, 0x02, 0x00, 0x00, 0x00, 0x03, 0x00, 0x00, 0x00, 0x04, 0x00, 0x01, 0x00, 0x00,
+    0x00, 0x00, 0x00, 0x00, 0x00, 0x00, 0x00, 0x01, 0x00, 0x00, 0x00, 0x01, 0x00, 0x00, 0x00, 0x01,
+    0x00, 0x00, 0x00, 0x04, 0x00, 0x00, 0x00, 0x1c, 0x01, 0x02, 0x00, 0x00, 0x00, 0x00, 0x00, 0x00,
+    0x00, 0x01, 0x00, 0x00, 0x01, 0x01, 0x00, 0x00, 0x00, 0x00, 0x00, 0x00, 0x00, 0x00, 0x00, 0x00,
+    0x00, 0x00, 0x00, 0x04, 0x40, 0x00, 0x00, 0x00, 0x00, 0x00, 0x00, 0x00, 0x00, 0x00, 0x00, 0x1c,
+    0x70, 0x00, 0x02, 0x65, 0x6e, 0x00, 0x00, 0x00, 0x08, 0x50, 0x72, 0x65, 0x73, 0x73, 0x75, 0x72,
+    0x65, 0x02, 0x64, 0x65, 0x00, 0x00, 0x00, 0x05, 0x44, 0x72, 0x75, 0x63, 0x6b,
+];
+
+#[test]
+fn label_and_defaults(rt: HostRuntime) -> Result<(), Fail> {
+    let alloc = rt.alloc();
+    let image = load(alloc, &LABEL)?;
+    let cases: [(Attr, &[Record]); 4] = [
+        (Attr::Label, &[Record::Words(StrNo(0))]),
+        (Attr::Help, &[]),
+        (Attr::Handling, &[Record::Number(3)]),
+        (Attr::Validity, &[Record::Number(1)]),
+    ];
+    for (attr, want) in cases {
+        let item = ItemNo::Variable(VarNo(0));
+        let records = read(alloc, &image, AttrRef { item, attr, sub: 0 }, &[0])??;
+        assert_eq!(rt; records.as_slice(), want);
+        let shifted = read(alloc, &image, AttrRef { item, attr, sub: 1 }, &[0])?;
+        assert_eq!(rt; shifted.err(), Some(ReadFault::NoItem));
+    }
+    // The item is looked for before the values are.
+    let mut wrong = Values::new(alloc, &image, &[0])?;
+    if let Some(number) = wrong.numbers.get_mut(0) {
+        *number = 40_000;
+    }
+    let unknown = attribute(alloc, &image, validity_of(1), &wrong);
+    assert_eq!(rt; unknown.err(), Some(ReadFault::NoItem));
+    let refused = attribute(alloc, &image, validity_of(0), &wrong);
+    assert_eq!(rt; refused.err(), Some(ReadFault::WrongValues));
+    Ok(())
+}
+
+fn go_on(machine: &mut Machine, image: &Image)
+    requires { IsMachine image.now machine.old }
+    ensures { IsMachine image.now machine.new }
+{
+    if machine.status != Status::Running {
+        return;
+    }
+    machine.step(image);
+}
+
+// The machine on the one method of an image, after at most so many steps.
+fn after(alloc: Global, image: &Image, numbers: &[i64], steps: u8) -> Result<Machine, Fail> {
+    let values = Values::new(alloc, image, numbers)?;
+    let Some(unit) = find_body(image, MethNo(0)) else {
+        return Err(Fail::from("no body"));
+    };
+    if image.bytes().is_empty() {
+        return Err(Fail::from("no image"));
+    }
+    let mut machine = Machine::open(unit, values);
+    for _ in 0..steps {
+        go_on(&mut machine, image);
+    }
+    Ok(machine)
+}
+
+#[test]
+fn steps_of_methods(rt: HostRuntime) -> Result<(), Fail> {
+    let alloc = rt.alloc();
+    // An endless loop; x = 300; send_command(7); 5 % 0.
+    let cases: [(&[u8], usize, i64, Status, Emitted); 4] = [
+        (&[0x30, 0, 0, 0, 0], 0, 9, Status::Running, Emitted::Nothing),
+        (
+            &[0x01, 0, 0, 1, 0x2c, 0x03, 0, 0, 0x06, 0x00],
+            9,
+            44,
+            Status::Running,
+            Emitted::Nothing,
+        ),
+        (
+            &[0x01, 0, 0, 0, 7, 0x50, 6, 0, 0, 0, 0, 0x06, 0x00],
+            11,
+            9,
+            Status::Asking(Request::SendCommand(7)),
+            Emitted::Request(Request::SendCommand(7)),
+        ),
+        (
+            &[0x01, 0, 0, 0, 5, 0x01, 0, 0, 0, 0, 0x14, 0x06, 0x00],
+            10,
+            9,
+            Status::Trapped(Trap::DivZero),
+            Emitted::Nothing,
+        ),
+    ];
+    for (code, place, x, status, emitted) in cases {
+        let small = Small {
+            variables: &[[UNSIGNED, 1, 0, 0]],
+            methods: 1,
+            rows: &[([5, 21, 0, 0, 0, 0], code)],
+        };
+        let image = load(alloc, &image_of(alloc, small)?)?;
+        let machine = after(alloc, &image, &[9], 3)?;
+        assert_eq!(rt; machine.place, place);
+        assert_eq!(rt; machine.values.get(VarNo(0)), Some(x));
+        assert_eq!(rt; machine.status, status);
+        assert_eq!(rt; machine.emitted, emitted);
+    }
+    Ok(())
+}
+
+#[test]
+fn faults_print(rt: HostRuntime) -> Result<(), Fail> {
+    let alloc = rt.alloc();
+    let cases = [
+        (ValuesFault::Count, "201 COUNT"),
+        (ValuesFault::Range, "202 RANGE"),
+        (ValuesFault::Memory, "no memory"),
+    ];
+    for (fault, want) in cases {
+        let text = format!(in alloc; "{fault}")?;
+        assert_eq!(rt; text.as_str(), want);
+    }
+    let cases = [
+        (ReadFault::NoItem, "203 NO_ITEM"),
+        (ReadFault::WrongValues, "204 WRONG_VALUES"),
+        (ReadFault::DivZero, "210 DIV_ZERO"),
+        (ReadFault::DivOverflow, "211 DIV_OVERFLOW"),
+        (ReadFault::BadShift, "212 BAD_SHIFT"),
+        (ReadFault::Memory, "no memory"),
+    ];
+    for (fault, want) in cases {
+        let text = format!(in alloc; "{fault}")?;
+        assert_eq!(rt; text.as_str(), want);
+    }
+    Ok(())
+}
