@@ -1,5 +1,5 @@
 -- What stands at the rows of a small description, worked out by hand.
-use Rattle.std.proofs.Common.{◌≡◌, refl, ℕ, pos, List, [], ◌∷◌, map}
+use Rattle.std.proofs.Common.{◌≡◌, refl, pos, List, [], ◌∷◌, map}
 use Rattle.std.specs.Prelude.{Some, None, codes}
 use Rattle.edd_syntax.specs.declared.operators.Builtin.TheVariants as builtin
 use Rattle.edd_syntax.specs.declared.reference.Target.{Target}
@@ -15,7 +15,7 @@ use Rattle.edd_syntax.specs.Rows.{rows, rows_of_kind, rows_at, stands_for}
 use Rattle.edd_syntax.specs.Size.{unit_nodes}
 use Rattle.edd_syntax.specs.Statement as s
 use Rattle.edd_syntax.specs.Text as texts
-use Rattle.edd_syntax.specs.Words.{Words, Key, words_of}
+use Rattle.edd_syntax.specs.Words.{Key, words_of}
 use Rattle.edd_attrs.specs.Sizes.{tree_strings, tree_nodes, length_limit}
 use Rattle.edd_attrs.specs.Trees.{tree_at}
 use Rattle.edd_coverage.specs.RowContents.{strings_of_row, limit_of_row}
