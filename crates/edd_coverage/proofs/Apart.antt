@@ -1,8 +1,8 @@
 -- An attribute that is written stands for no attribute that an earlier one stands for.
-use Rattle.std.proofs.Common.{◌≡◌, refl, sym, ap, ◌∙◌, ◌⊎◌, inl, inr, Bool, true, false, List, [], ◌∷◌, ◌++◌, map, Option, Some, None}
-use Rattle.std.specs.Prelude.{codes, ◌||◌, ◌&&◌, if◌then◌else◌}
+use Rattle.std.proofs.Common.{◌≡◌, refl, sym, ap, ◌∙◌, inl, inr, Bool, true, false, List, [], ◌∷◌, ◌++◌, map, Option, Some}
+use Rattle.std.specs.Prelude.{codes, if◌then◌else◌}
 use Rattle.std.specs.Str.{bytes_eq}
-use Rattle.std.specs.List.{list_all, list_any, flat_map}
+use Rattle.std.specs.List.{list_all, list_any}
 use Rattle.std.proofs.lemmas.Bool.{false≢true, and_parts, or_cases, or_parts}
 use Rattle.std.proofs.lemmas.Slice.Eq.{bytes_eq-Decides}
 use Rattle.edd_syntax.specs.declared.numbers.Attr.{Attr}
@@ -13,9 +13,9 @@ use Rattle.edd_syntax.specs.Item as item
 use Rattle.edd_syntax.specs.Item.{TypePart, Attribute}
 use Rattle.edd_syntax.specs.Numbers.{same_attr}
 use Rattle.edd_syntax.specs.Refusal.{is_name_in, repeated}
-use Rattle.edd_syntax.specs.NameRules.{is_transaction, attribute_word, type_part_words, repeated_words_inside, repeated_words}
+use Rattle.edd_syntax.specs.NameRules.{is_transaction, attribute_word, repeated_words_inside, repeated_words}
 use Rattle.edd_syntax.specs.Rows.{part_attr, written_attrs, stands_for, is_written}
-use Rattle.edd_attrs.specs.Trees.{Tree, Named, trees_of_part, trees_of_parts, trees_of_attribute, trees_of, first_tree}
+use Rattle.edd_attrs.specs.Trees.{Tree, Named, trees_of_parts, trees_of_attribute, trees_of, first_tree}
 use Rattle.edd_assembly.proofs.KnownByNumber.{same_attrs}
 use Rattle.edd_coverage.proofs.Repeats.{no_front, no_rest}
 

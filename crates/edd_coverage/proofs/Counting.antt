@@ -1,13 +1,12 @@
 -- How many different strings a list has.
-use Rattle.std.proofs.Common.{◌≡◌, ◌≢◌, refl, sym, ap, subst, ◌∙◌, ℕ, zero, suc, ◌+◌, ◌<◌, ◌≤◌, ◌⊎◌, inl, inr, Bool, true, false, cond, List, [], ◌∷◌, length, arith}
-use Rattle.std.specs.Prelude.{◌||◌}
-use Rattle.std.specs.List.{All, AllPairs, Contains, list_any}
-use Rattle.std.proofs.lemmas.Bool.{false≢true, false_from_ne_true, or_cases, or_left, or_right}
+use Rattle.std.proofs.Common.{◌≡◌, ◌≢◌, refl, sym, ap, subst, ◌∙◌, suc, ◌≤◌, inl, inr, Bool, true, false, cond, List, [], ◌∷◌, length, arith}
+use Rattle.std.specs.List.{AllPairs, Contains}
+use Rattle.std.proofs.lemmas.Bool.{false≢true, or_cases, or_left, or_right}
 use Rattle.std.proofs.lemmas.List.Kept.{AllPairs-cons}
 use Rattle.std.proofs.lemmas.List.Elements.{All-contains_itself}
 use Rattle.edd_syntax.specs.Words.{Words}
 use Rattle.edd_syntax.specs.Strings.{same_words, different}
-use Rattle.edd_attrs.proofs.Different.{has, words_same, words_refl, Contains-has, has-Contains, fewer_different}
+use Rattle.edd_attrs.proofs.Different.{has, Contains-has, has-Contains, fewer_different}
 
 -- each string once is none that was not there
 different_within : (xs : List Words) (w : Words) → has w (different xs) ≡ true → has w xs ≡ true

@@ -1,5 +1,5 @@
 -- A checked description has few nodes, and so its code is short.
-use Rattle.std.proofs.Common.{◌≡◌, refl, ℕ, ◌*◌, ◌≤◌, Bool, true, false, List, [], ◌++◌, map, arith}
+use Rattle.std.proofs.Common.{◌≡◌, refl, ℕ, ◌≤◌, Bool, true, false, [], ◌++◌, map, arith}
 use Rattle.std.specs.Prelude.{nat_lt, sum}
 use Rattle.std.specs.List.{list_any}
 use Rattle.std.proofs.lemmas.Grind.{common_steps}

@@ -1,5 +1,5 @@
 -- The first trees of all attributes together have no longer code than all trees.
-use Rattle.std.proofs.Common.{◌≡◌, refl, ℕ, ◌+◌, ◌≤◌, Bool, true, false, List, [], ◌∷◌, Option, Some, None, arith}
+use Rattle.std.proofs.Common.{ℕ, ◌+◌, ◌≤◌, Bool, true, false, List, [], ◌∷◌, Option, Some, None, arith}
 use Rattle.std.specs.Prelude.{if◌then◌else◌}
 use Rattle.edd_syntax.specs.declared.numbers.Attr.{Attr}
 use Rattle.edd_syntax.specs.declared.numbers.Attr.TheVariants as attr
@@ -60,6 +60,6 @@ pub first_costs : (xs : List Named) → total (first_cost xs) attributes_in_orde
 first_costs [] = omega arith
 first_costs (x ∷ xs) =
     let less : total (first_cost (x ∷ xs)) attributes_in_order ≤ total (λ a. only_at x.0 (weight_of x) a + first_cost xs a) attributes_in_order =
-        total_le (first_cost (x ∷ xs)) (λ a. only_at x.0 (weight_of x) a + first_cost xs a) (one_more x xs) attributes_in_order in
+    total_le (first_cost (x ∷ xs)) (λ a. only_at x.0 (weight_of x) a + first_cost xs a) (one_more x xs) attributes_in_order in
     let split = total_plus (only_at x.0 (weight_of x)) (first_cost xs) attributes_in_order in
     omega (arith, less, split, counted_once x.0 (weight_of x), first_costs xs)

@@ -1,5 +1,5 @@
 -- The code of an item's attributes is no longer than 32 octets for each of its nodes.
-use Rattle.std.proofs.Common.{◌≡◌, refl, sym, ap, ◌∙◌, ℕ, zero, suc, ◌+◌, ◌*◌, ◌≤◌, inl, inr, Bool, true, false, List, [], ◌∷◌, ◌++◌, length, map, Option, Some, None, arith}
+use Rattle.std.proofs.Common.{◌≡◌, refl, sym, ap, ◌∙◌, ℕ, suc, ◌+◌, ◌*◌, ◌≤◌, inl, inr, Bool, true, false, List, [], ◌∷◌, ◌++◌, map, Option, Some, None, arith}
 use Rattle.std.specs.Prelude.{◌||◌, slice_get, is_some, sum, if◌then◌else◌}
 use Rattle.std.specs.List.{list_any}
 use Rattle.std.proofs.lemmas.Bool.{false≢true, or_cases, or_left, or_right, eq-eqb}
@@ -11,13 +11,13 @@ use Rattle.edd_syntax.specs.Execution.{body_in}
 use Rattle.edd_syntax.specs.Item as item
 use Rattle.edd_syntax.specs.Item.{TypePart, TransactionPart, Attribute, Item}
 use Rattle.edd_syntax.specs.Numbers.{attr_number, same_attr}
-use Rattle.edd_syntax.specs.Rows.{part_attr, written_attrs, stands_for, is_written, transaction_positions, positions, attributes_in_order}
-use Rattle.edd_syntax.specs.Size.{leaf, cond_nodes, conds_nodes, type_part_nodes, is_element, transaction_part_nodes, attribute_nodes, item_nodes}
+use Rattle.edd_syntax.specs.Rows.{part_attr, stands_for, is_written, transaction_positions, positions, attributes_in_order}
+use Rattle.edd_syntax.specs.Size.{type_part_nodes, transaction_part_nodes, attribute_nodes, item_nodes}
 use Rattle.edd_attrs.specs.Trees as trees
 use Rattle.edd_attrs.specs.Trees.{Tree, Named, trees_of_part, trees_of_parts, trees_of_attribute, trees_of, tree_of_transaction_part, transaction_trees, first_tree, tree_in}
 use Rattle.edd_attrs.specs.Sizes.{element_nodes, tree_nodes, length_limit}
 use Rattle.edd_assembly.proofs.KnownByNumber.{same_attrs}
-use Rattle.edd_coverage.proofs.Totals.{total, sum_is_total, total-append, total-map, total_le, total_plus, total_times}
+use Rattle.edd_coverage.proofs.Totals.{total, sum_is_total, total-append, total_le, total_plus}
 use Rattle.edd_coverage.proofs.FirstCosts.{cost_of, weight_of, weight, first_cost, first_costs}
 
 -- ---- a written attribute has a tree
@@ -124,8 +124,8 @@ module _ (a : Attr) where
   over_transactions all next (item.Transaction number parts ∷ rest) at =
       let this = (attr.Transaction, trees.Transaction number) ∷ map tree_of_transaction_part parts in
       let first : limit_at all next ≡ in_transaction a this =
-          ap (λ o. length_limit (elim o as (λ _. Option Tree) [ Some found ↦ first_tree a found | None ↦ None ]))
-          (ap (slice_get all) (omega arith) ∙ at 0) in
+      ap (λ o. length_limit (elim o as (λ _. Option Tree) [ Some found ↦ first_tree a found | None ↦ None ]))
+      (ap (slice_get all) (omega arith) ∙ at 0) in
       let later = over_transactions all (suc next) rest (λ m. ap (slice_get all) (omega arith) ∙ at (suc m)) in
       omega (arith, first, later)
   over_transactions all next (w ∷ rest) at = over_transactions all next rest at
@@ -139,8 +139,8 @@ attribute_limit ws a = pick (is_of_transaction a) (same_attr a attr.Definition) 
   where
     pick : (t s u : Bool) → is_of_transaction a ≡ t → same_attr a attr.Definition ≡ s → is_written a ws ≡ u
         → total (λ sub. if s then 32 * attribute_nodes (item.Definition (body_in ws)) else length_limit (
-            if t then elim (slice_get (transaction_trees ws) sub) as (λ _. Option Tree) [ Some found ↦ first_tree a found | None ↦ None ] else first_tree a (trees_of ws)))
-          (if t then transaction_positions 0 ws else (if u then 0 ∷ [] else []))
+        if t then elim (slice_get (transaction_trees ws) sub) as (λ _. Option Tree) [ Some found ↦ first_tree a found | None ↦ None ] else first_tree a (trees_of ws)))
+        (if t then transaction_positions 0 ws else (if u then 0 ∷ [] else []))
         ≤ first_cost (trees_of ws) a + ((if t then total (in_transaction a) (transaction_trees ws) else 0) + (if s then total body_weight ws else 0))
     pick true true u of is written = absurd (false≢true (sym (ap is_of_transaction (same_attrs a attr.Definition is)) ∙ of))
     pick true false u of is written = omega (arith, over_transactions a (transaction_trees ws) 0 ws (λ m. ap (slice_get (transaction_trees ws)) (omega arith)))
@@ -199,7 +199,7 @@ pub item_limit : (i : Item Target) → total (rows_limit i.attributes) attribute
 item_limit i =
     let ws = i.attributes in
     let each : total (rows_limit ws) attributes_in_order ≤ total (λ a. first_cost (trees_of ws) a + (transaction_cost ws a + body_cost ws a)) attributes_in_order =
-        total_le (rows_limit ws) (λ a. first_cost (trees_of ws) a + (transaction_cost ws a + body_cost ws a)) (attribute_limit ws) attributes_in_order in
+    total_le (rows_limit ws) (λ a. first_cost (trees_of ws) a + (transaction_cost ws a + body_cost ws a)) (attribute_limit ws) attributes_in_order in
     let split = total_plus (first_cost (trees_of ws)) (λ a. transaction_cost ws a + body_cost ws a) attributes_in_order in
     let others : total (λ a. transaction_cost ws a + body_cost ws a) attributes_in_order ≡ of_transactions ws + total body_weight ws = omega arith in
     omega (arith, each, split, others, first_costs (trees_of ws), all_weigh ws, sum_is_total attribute_nodes ws)

@@ -1,10 +1,9 @@
 -- A string of an item is one of an attribute that has a row.
-use Rattle.std.proofs.Common.{◌≡◌, refl, sym, ap, ◌∙◌, ◌⊎◌, inl, inr, Bool, true, false, List, [], ◌∷◌, ◌++◌, map, Option, Some, None}
+use Rattle.std.proofs.Common.{◌≡◌, refl, sym, ap, ◌∙◌, inl, inr, Bool, true, false, List, [], ◌∷◌, ◌++◌}
 use Rattle.std.specs.Prelude.{codes, ◌||◌, if◌then◌else◌}
 use Rattle.std.specs.Str.{bytes_eq}
-use Rattle.std.specs.List.{list_any, flat_map}
+use Rattle.std.specs.List.{flat_map}
 use Rattle.std.proofs.lemmas.Bool.{false≢true, or_parts, or_right}
-use Rattle.std.proofs.lemmas.List.{append_assoc}
 use Rattle.edd_syntax.specs.declared.numbers.Attr.{Attr}
 use Rattle.edd_syntax.specs.declared.numbers.Attr.TheVariants as attr
 use Rattle.edd_syntax.specs.declared.reference.Target.{Target}
@@ -15,17 +14,17 @@ use Rattle.edd_syntax.specs.Execution.{body_in}
 use Rattle.edd_syntax.specs.Item as item
 use Rattle.edd_syntax.specs.Item.{TypeWord, TypePart, Attribute}
 use Rattle.edd_syntax.specs.Numbers.{same_attr}
-use Rattle.edd_syntax.specs.Strings.{attribute_strings, type_part_texts}
+use Rattle.edd_syntax.specs.Strings.{attribute_strings}
 use Rattle.edd_syntax.specs.Refusal.{is_name_in, repeated}
-use Rattle.edd_syntax.specs.NameRules.{is_transaction, attribute_word, type_part_words, repeated_words_inside, repeated_words}
+use Rattle.edd_syntax.specs.NameRules.{is_transaction, attribute_word, repeated_words_inside, repeated_words}
 use Rattle.edd_syntax.specs.Rows.{stands_for, is_written}
-use Rattle.edd_attrs.specs.Trees.{Tree, Named, Enumerators, trees_of_parts, trees_of, first_tree}
+use Rattle.edd_attrs.specs.Trees.{trees_of_parts, trees_of, first_tree}
 use Rattle.edd_attrs.specs.Sizes.{tree_strings, strings_of_tree}
 use Rattle.edd_attrs.proofs.Different.{has}
 use Rattle.edd_assembly.proofs.KnownByNumber.{same_attrs}
 use Rattle.edd_coverage.proofs.Repeats.{no_front, no_rest}
 use Rattle.edd_coverage.proofs.Apart.{word_of, not_before, tree_passes}
-use Rattle.edd_coverage.proofs.PartStrings.{either, first_stays, InElements, InOption, InParts, in_parts}
+use Rattle.edd_coverage.proofs.PartStrings.{either, first_stays, InParts, in_parts}
 
 -- the strings of an attribute that is not of a transaction
 abbrev pub strings_in : Attr → List (Attribute Target) → List Words

@@ -1,8 +1,8 @@
 -- The strings of a type's braces are those of its formats and of its list of enumerators.
-use Rattle.std.proofs.Common.{◌≡◌, refl, sym, ap, ◌∙◌, ◌⊎◌, inl, inr, Bool, true, false, List, [], ◌∷◌, ◌++◌, map, Option, Some, None}
-use Rattle.std.specs.Prelude.{codes, ◌||◌}
+use Rattle.std.proofs.Common.{◌≡◌, refl, sym, ap, ◌∙◌, ◌⊎◌, inl, inr, Bool, true, false, List, [], ◌∷◌, ◌++◌, map, Option, Some}
+use Rattle.std.specs.Prelude.{codes}
 use Rattle.std.specs.List.{list_any, flat_map}
-use Rattle.std.proofs.lemmas.Bool.{false≢true, or_cases, or_left, or_right, or_parts}
+use Rattle.std.proofs.lemmas.Bool.{false≢true, or_cases, or_left, or_right}
 use Rattle.std.proofs.lemmas.List.{map-append}
 use Rattle.std.proofs.lemmas.List.Folds.{list_any-append}
 use Rattle.edd_syntax.specs.declared.numbers.Attr.{Attr}
@@ -19,10 +19,10 @@ use Rattle.edd_syntax.specs.Strings.{same_words, enumerator_texts, type_part_tex
 use Rattle.edd_syntax.specs.Refusal.{is_name_in, repeated}
 use Rattle.edd_syntax.specs.NameRules.{type_part_words}
 use Rattle.edd_syntax.specs.Rows.{part_attr}
-use Rattle.edd_attrs.specs.Trees.{Tree, Named, Texts, trees_of_part, trees_of_parts, first_tree}
+use Rattle.edd_attrs.specs.Trees.{Tree, Named, trees_of_parts, first_tree}
 use Rattle.edd_attrs.specs.Sizes.{element_texts, tree_strings, strings_of_tree}
 use Rattle.edd_attrs.proofs.Different.{has}
-use Rattle.edd_coverage.proofs.Apart.{same_name, repeated_parts}
+use Rattle.edd_coverage.proofs.Apart.{repeated_parts}
 
 -- ---- strings of joined texts
 

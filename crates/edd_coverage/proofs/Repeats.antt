@@ -1,5 +1,5 @@
 -- No attribute stands twice in an item, a type's braces or a transaction of a checked description.
-use Rattle.std.proofs.Common.{◌≡◌, refl, sym, ap, ◌∙◌, Bool, true, false, List, [], ◌∷◌, ◌++◌, length, map, Option, Some, None, arith}
+use Rattle.std.proofs.Common.{◌≡◌, refl, sym, ap, ◌∙◌, Bool, true, false, List, [], ◌∷◌, ◌++◌, length, map, Some, arith}
 use Rattle.std.specs.Prelude.{◌&&◌, if◌then◌else◌}
 use Rattle.std.specs.List.{flat_map, list_all}
 use Rattle.std.proofs.lemmas.Option.{same_Some}
@@ -10,10 +10,10 @@ use Rattle.edd_syntax.specs.Reference.{Path}
 use Rattle.edd_syntax.specs.declared.reference.Target.{Target}
 use Rattle.edd_syntax.specs.Item as item
 use Rattle.edd_syntax.specs.Item.{ItemKind, TypePart, TransactionPart, Attribute, Item, Description}
-use Rattle.edd_syntax.specs.Refusal.{Refusal, DuplicateAttribute, repeated}
+use Rattle.edd_syntax.specs.Refusal.{DuplicateAttribute, repeated}
 use Rattle.edd_syntax.specs.NameRules.{is_transaction, attribute_word, type_part_words, transaction_part_word, repeated_words_inside, repeated_words, too_many, duplicate_names, duplicate_attributes}
 use Rattle.edd_syntax.specs.Resolution.{member_kinds}
-use Rattle.edd_syntax.specs.ResolvedTrees.{◌>>=◌, each, unchanged, resolved_expr, resolved_cond, resolved_conds, resolved_body, at_attribute, resolved_data, resolved_entry, resolved_member, resolved_type_part, resolved_transaction_part, resolved_attribute, resolved_item, resolved_unit}
+use Rattle.edd_syntax.specs.ResolvedTrees.{each, unchanged, resolved_expr, resolved_cond, resolved_conds, resolved_body, at_attribute, resolved_data, resolved_entry, resolved_member, resolved_type_part, resolved_transaction_part, resolved_attribute, resolved_item, resolved_unit}
 use Rattle.edd_syntax.specs.Resolved.{IsResolved, IsChecked}
 use Rattle.edd_syntax.proofs.WithinLimits.{each_keeps}
 use Rattle.edd_attrs.proofs.CheckedTrees.{bind_some}
@@ -80,15 +80,15 @@ module _ (unit : Description Path) where
   keeps_shape sort (item.TypeOf word parts) b h =
       made shape (each (resolved_type_part unit) parts) (item.TypeOf word) b _
       (λ x is. ap (λ words. record { word = attribute_word (item.TypeOf word parts); may_repeat = false; inside = repeated [] words })
-          (of_mapped type_part_words x
-          ∙ ap (flat_map (λ ys. ys)) (each_keeps (resolved_type_part unit) type_part_words type_part_words keeps_part parts x is)
-          ∙ sym (of_mapped type_part_words parts))) h
+      (of_mapped type_part_words x
+      ∙ ap (flat_map (λ ys. ys)) (each_keeps (resolved_type_part unit) type_part_words type_part_words keeps_part parts x is)
+      ∙ sym (of_mapped type_part_words parts))) h
   keeps_shape sort (item.Number n) b h = stays shape (item.Number n) b h
   keeps_shape sort (item.Operation o) b h = stays shape (item.Operation o) b h
   keeps_shape sort (item.Transaction number parts) b h =
       made shape (each (resolved_transaction_part unit) parts) (item.Transaction number) b _
       (λ x is. ap (λ words. record { word = attribute_word (item.Transaction number parts); may_repeat = true; inside = repeated [] words })
-          (each_keeps (resolved_transaction_part unit) transaction_part_word transaction_part_word keeps_transaction_part parts x is)) h
+      (each_keeps (resolved_transaction_part unit) transaction_part_word transaction_part_word keeps_transaction_part parts x is)) h
   keeps_shape sort (item.ResponseCodes responses) b h = stays shape (item.ResponseCodes responses) b h
   keeps_shape sort (item.Items entries) b h = made shape (resolved_conds (at_attribute unit) (resolved_entry unit) entries) item.Items b _ (λ x is. refl) h
   keeps_shape sort (item.Members members) b h = made shape (each (resolved_member unit (member_kinds sort)) members) item.Members b _ (λ x is. refl) h

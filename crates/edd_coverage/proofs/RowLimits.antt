@@ -1,14 +1,11 @@
 -- The code of all rows is no longer than 32 octets for each node of the description.
-use Rattle.std.proofs.Common.{◌≡◌, refl, sym, ap, ◌∙◌, ℕ, zero, suc, ◌+◌, ◌*◌, ◌≤◌, Bool, true, false, List, [], ◌∷◌, ◌++◌, map, cond, Option, Some, None, arith}
+use Rattle.std.proofs.Common.{◌≡◌, refl, ap, ◌∙◌, ℕ, suc, ◌+◌, ◌*◌, ◌≤◌, List, [], ◌∷◌, map, cond, Option, Some, None, arith}
 use Rattle.std.specs.Prelude.{slice_get, sum, if◌then◌else◌}
-use Rattle.std.specs.List.{flat_map}
 use Rattle.edd_syntax.specs.declared.numbers.Attr.{Attr}
 use Rattle.edd_syntax.specs.declared.numbers.Attr.TheVariants as attr
 use Rattle.edd_syntax.specs.declared.numbers.AttrRef.{AttrRef}
 use Rattle.edd_syntax.specs.declared.numbers.Kind.{Kind}
-use Rattle.edd_syntax.specs.declared.numbers.Kind.TheVariants as kind
 use Rattle.edd_syntax.specs.declared.reference.Target.{Target}
-use Rattle.edd_syntax.specs.Device.{item_at}
 use Rattle.edd_syntax.specs.Execution.{body_in}
 use Rattle.edd_syntax.specs.Item as item
 use Rattle.edd_syntax.specs.Item.{ItemKind, VariableItem, CommandItem, MenuItem, CollectionItem, MethodItem, kind_of_item, Item, Description}
@@ -35,8 +32,8 @@ module _ (d : Description Target) where
     unfolding tree_at
     limit_there n i there s =
         ap (λ o. if same_attr a attr.Definition
-            then 32 * attribute_nodes (item.Definition (elim o [ Some found ↦ body_in found.attributes | None ↦ Nil ]))
-            else length_limit (elim o as (λ _. Option Tree) [ Some found ↦ tree_in found.attributes a s | None ↦ None ]))
+        then 32 * attribute_nodes (item.Definition (elim o [ Some found ↦ body_in found.attributes | None ↦ Nil ]))
+        else length_limit (elim o as (λ _. Option Tree) [ Some found ↦ tree_in found.attributes a s | None ↦ None ]))
         (ap (λ j. slice_get (of_kind j d.items) (index_of (item_number k n))) (numbered_kind k n) ∙ ap (slice_get (of_kind k d.items)) (numbered_index k n) ∙ there)
 
     item_rows_limit : (n : ℕ) (i : Item Target) → slice_get (of_kind k d.items) n ≡ Some i → total limit (item_rows (item_number k n) a i.attributes) ≡ rows_limit i.attributes a
@@ -60,7 +57,7 @@ module _ (d : Description Target) where
   kind_limit k =
       let by_attribute = total-flat_map limit (rows_of_attr d.items k) attributes_in_order in
       let by_item = total_same (λ a. total limit (rows_of_attr d.items k a)) (λ a. total (λ i. rows_limit i.attributes a) (of_kind k d.items))
-          (λ a. over_items k a 0 (of_kind k d.items) (λ m. ap (slice_get (of_kind k d.items)) (omega arith))) attributes_in_order in
+      (λ a. over_items k a 0 (of_kind k d.items) (λ m. ap (slice_get (of_kind k d.items)) (omega arith))) attributes_in_order in
       let swapped = total_swap (λ a i. rows_limit i.attributes a) attributes_in_order (of_kind k d.items) in
       let less = total_le (λ i. total (rows_limit i.attributes) attributes_in_order) (λ i. 32 * item_nodes i) item_limit (of_kind k d.items) in
       omega (arith, by_attribute, by_item, swapped, less)

@@ -1,13 +1,12 @@
 -- Each string of a checked description is one of a row, and the other way round.
-use Rattle.std.proofs.Common.{◌≡◌, refl, sym, ap, subst, ◌∙◌, ℕ, zero, suc, ◌+◌, ◌<◌, ◌⊎◌, inl, inr, Bool, true, false, List, [], ◌∷◌, ◌++◌, length, map, filter, cond, Option, Some, None, arith}
-use Rattle.std.specs.Prelude.{◌==◌, ◌||◌, ◌&&◌, slice_get, if◌then◌else◌}
+use Rattle.std.proofs.Common.{◌≡◌, refl, sym, ap, ◌∙◌, ℕ, suc, inl, inr, Bool, true, false, List, [], ◌∷◌, cond, Option, Some, None, arith}
+use Rattle.std.specs.Prelude.{◌==◌, ◌||◌, slice_get, if◌then◌else◌}
 use Rattle.std.specs.List.{Contains, flat_map, list_all, list_any}
 use Rattle.std.proofs.lemmas.Bool.{false≢true, and_parts, or_cases, or_right, eq-eqb}
 use Rattle.std.proofs.lemmas.Grind.{flat_map-append}
 use Rattle.edd_syntax.specs.declared.numbers.Attr.{Attr}
 use Rattle.edd_syntax.specs.declared.numbers.Attr.TheVariants as attr
 use Rattle.edd_syntax.specs.declared.numbers.AttrRef.{AttrRef}
-use Rattle.edd_syntax.specs.declared.numbers.ItemNo.{ItemNo}
 use Rattle.edd_syntax.specs.declared.numbers.Kind.{Kind}
 use Rattle.edd_syntax.specs.declared.reference.Target.{Target}
 use Rattle.edd_syntax.specs.Words.{Words}
@@ -16,12 +15,11 @@ use Rattle.edd_syntax.specs.Device.{item_at}
 use Rattle.edd_syntax.specs.Execution.{body_in}
 use Rattle.edd_syntax.specs.Item as item
 use Rattle.edd_syntax.specs.Item.{kind_of_item, Attribute, Item, Description}
-use Rattle.edd_syntax.specs.Numbers.{kind_number, kind_of, index_of, item_number, same_kind, same_attr}
+use Rattle.edd_syntax.specs.Numbers.{kind_number, index_of, item_number, same_kind, same_attr}
 use Rattle.edd_syntax.specs.Resolved.{IsChecked}
 use Rattle.edd_syntax.specs.Rows.{is_written, transaction_positions, positions, of_kind, rows}
 use Rattle.edd_syntax.specs.Statement.{Nil}
 use Rattle.edd_syntax.specs.Strings.{attribute_strings, unit_strings}
-use Rattle.edd_syntax.specs.SubsetRules.{attributes_of}
 use Rattle.edd_attrs.specs.Trees.{Tree, trees_of, transaction_trees, first_tree, tree_in, tree_at}
 use Rattle.edd_attrs.specs.Sizes.{strings_of_tree}
 use Rattle.edd_attrs.proofs.Different.{has, Contains-has, has-Contains}
@@ -29,9 +27,9 @@ use Rattle.edd_assembly.proofs.KnownByNumber.{numbered_kind, numbered_index}
 use Rattle.edd_assembly.proofs.RowsAmong.{same_ref, among_rows}
 use Rattle.edd_assembly.proofs.RowsFound.{same_refs}
 use Rattle.edd_coverage.specs.RowContents.{strings_of_row}
-use Rattle.edd_coverage.proofs.Repeats.{is_empty, empty_is_none, has_each_once, once_when_checked}
+use Rattle.edd_coverage.proofs.Repeats.{empty_is_none, has_each_once, once_when_checked}
 use Rattle.edd_coverage.proofs.PartStrings.{either}
-use Rattle.edd_coverage.proofs.ItemStrings.{strings_in, Found, of_item}
+use Rattle.edd_coverage.proofs.ItemStrings.{strings_in, of_item}
 
 -- ---- an item by its number
 
@@ -98,10 +96,10 @@ module _ (d : Description Target) (k : Kind) (m : ℕ) (i : Item Target) (there 
   unfolding tree_at
   strings_there a plain =
       ap (λ o. if same_attr a attr.Definition
-          then attribute_strings (item.Definition (elim o [ Some found ↦ body_in found.attributes | None ↦ Nil ]))
-          else strings_of_tree (elim o as (λ _. Option Tree) [ Some found ↦ tree_in found.attributes a 0 | None ↦ None ])) found_there
+      then attribute_strings (item.Definition (elim o [ Some found ↦ body_in found.attributes | None ↦ Nil ]))
+      else strings_of_tree (elim o as (λ _. Option Tree) [ Some found ↦ tree_in found.attributes a 0 | None ↦ None ])) found_there
       ∙ ap (λ b. if same_attr a attr.Definition then attribute_strings (item.Definition (body_in i.attributes)) else strings_of_tree (
-          if b then elim (slice_get (transaction_trees i.attributes) 0) [ Some trees ↦ first_tree a trees | None ↦ None ] else first_tree a (trees_of i.attributes))) plain
+      if b then elim (slice_get (transaction_trees i.attributes) 0) [ Some trees ↦ first_tree a trees | None ↦ None ] else first_tree a (trees_of i.attributes))) plain
 
 module _ (w : Words) where
   abbrev item_has : Item Target → Bool
@@ -118,8 +116,7 @@ module _ (w : Words) where
   in_a_row d checked held =
       let at = numbered item_has has_each_once d.items (by_item d.items (Contains-has (unit_strings d) w held)) (once_when_checked d checked) in
       let found = of_item w [] at.here.attributes (empty_is_none _ at.keeps) at.passes in
-      let row = row_of at.kind at.index found.attribute in
-      (
+      let row = row_of at.kind at.index found.attribute in (
         row,
         stands d at.kind at.index at.here at.there found.attribute found.plain found.written,
         has-Contains (strings_of_row d row) w (ap (has w) (strings_there d at.kind at.index at.here at.there found.attribute found.plain) ∙ found.held),

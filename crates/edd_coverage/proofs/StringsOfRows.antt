@@ -1,5 +1,5 @@
 -- What a row holds is a string of the description.
-use Rattle.std.proofs.Common.{◌≡◌, refl, sym, ap, ◌∙◌, ℕ, zero, suc, ◌⊎◌, inl, inr, Bool, true, false, List, [], ◌∷◌, ◌++◌, map, cond, Option, Some, None}
+use Rattle.std.proofs.Common.{◌≡◌, refl, sym, ap, ◌∙◌, ℕ, zero, suc, inl, inr, Bool, true, false, List, [], ◌∷◌, map, cond, Option, Some, None}
 use Rattle.std.specs.Prelude.{◌||◌, slice_get, if◌then◌else◌}
 use Rattle.std.specs.List.{Contains, flat_map, list_any}
 use Rattle.std.proofs.lemmas.Bool.{false≢true, or_cases, or_left, or_right}
@@ -164,8 +164,8 @@ module _ (w : Words) where
     where
       here : (o : Option (Item Target)) → item_at d row.item ≡ o
           → has w (if same_attr row.attr attr.Definition
-              then attribute_strings (item.Definition (elim o [ Some i ↦ body_in i.attributes | None ↦ Nil ]))
-              else strings_of_tree (elim o as (λ _. Option Tree) [ Some i ↦ tree_in i.attributes row.attr row.sub | None ↦ None ])) ≡ true
+          then attribute_strings (item.Definition (elim o [ Some i ↦ body_in i.attributes | None ↦ Nil ]))
+          else strings_of_tree (elim o as (λ _. Option Tree) [ Some i ↦ tree_in i.attributes row.attr row.sub | None ↦ None ])) ≡ true
           → list_any item_has d.items ≡ true
       here (Some i) is h = any_of_kind (kind_of row.item) d.items (index_of row.item) i is (in_item row.attr row.sub i h)
       here None is h = none (same_attr row.attr attr.Definition) h

@@ -1,5 +1,5 @@
 -- Expressions, conditionals and statements keep the number of their nodes with the meaning of each name in its place.
-use Rattle.std.proofs.Common.{◌≡◌, refl, sym, ap, ◌∙◌, ℕ, ◌+◌, List, [], ◌∷◌, length, Option, Some, None, arith}
+use Rattle.std.proofs.Common.{◌≡◌, refl, ap, ℕ, ◌+◌, List, [], ◌∷◌, length, Option, Some, None, arith}
 use Rattle.edd_syntax.specs.Reference.{Path}
 use Rattle.edd_syntax.specs.declared.reference.Target.{Target}
 use Rattle.edd_syntax.specs.declared.reference.Target.TheVariants.{Local}
@@ -11,13 +11,14 @@ use Rattle.edd_syntax.specs.Statement as s
 use Rattle.edd_syntax.specs.Statement.{Declarator, Stmt, Body, Nil, Cons, Declare, Statement, CaseLabel, DefaultLabel, slots_of}
 use Rattle.edd_syntax.specs.Item.{Description}
 use Rattle.edd_syntax.specs.Resolution.{Scope, function_meant, declared, all_declared}
-use Rattle.edd_syntax.specs.ResolvedTrees.{◌>>=◌, resolved_expr, resolved_arguments, resolved_optional, resolved_cond, resolved_conds, resolved_arms, at_scope, resolved_declarators, resolved_stmt, resolved_body}
+use Rattle.edd_syntax.specs.ResolvedTrees.{resolved_expr, resolved_arguments, resolved_optional, resolved_cond, resolved_conds, resolved_arms, at_scope, resolved_declarators, resolved_stmt, resolved_body}
 use Rattle.edd_syntax.specs.Size.{nodes, argument_nodes, cond_nodes, conds_nodes, arms_nodes, optional_nodes, declarator_nodes, statement_nodes, body_nodes}
 use Rattle.edd_coverage.proofs.Made.{stays, made, made_of_two, made_of_three, made_of_four}
 
 module _ (at : Path → Option Target) where
   mutual
     unfolding resolved_expr resolved_arguments
+
     pub expr_keeps : (e : Expr Path) (e' : Expr Target) → resolved_expr at e ≡ Some e' → nodes e' ≡ nodes e
     expr_keeps (Literal value) e' h = stays nodes (Literal value) e' h
     expr_keeps Decimal e' h = stays nodes Decimal e' h
@@ -57,6 +58,7 @@ module _ (at : Path → Option Target) where
   module _ {V W : Type 0} (of : V → Option W) (f : V → ℕ) (g : W → ℕ) (keeps : (v : V) (w : W) → of v ≡ Some w → g w ≡ f v) where
     mutual
       unfolding resolved_cond resolved_conds resolved_arms
+
       pub cond_keeps : (c : Cond Path V) (c' : Cond Target W) → resolved_cond at of c ≡ Some c' → cond_nodes g c' ≡ cond_nodes f c
       cond_keeps (Value v) c' h = made (cond_nodes g) (of v) Value c' _ (λ w p. ap (λ n. 1 + n) (keeps v w p)) h
       cond_keeps (If condition first otherwise) c' h =
@@ -93,6 +95,7 @@ module _ (unit : Description Path) where
 
   mutual
     unfolding resolved_stmt resolved_body
+
     pub statement_keeps : (t : Stmt Path) (scope : Scope) (next : ℕ) (t' : Stmt Target) → resolved_stmt unit t scope next ≡ Some t' → statement_nodes t' ≡ statement_nodes t
     statement_keeps s.Empty scope next t' h = stays statement_nodes s.Empty t' h
     statement_keeps (s.Evaluate e) scope next t' h = made statement_nodes (resolved_expr (at_scope unit scope) e) s.Evaluate t' _ (λ x p. ap (λ n. 1 + n) (expr_keeps (at_scope unit scope) e x p)) h

@@ -1,18 +1,16 @@
 -- A description keeps the number of its nodes with the meaning of each name in its place.
-use Rattle.std.proofs.Common.{◌≡◌, refl, sym, ap, ◌∙◌, ℕ, ◌+◌, ◌≤◌, Bool, true, false, List, [], ◌∷◌, ◌++◌, length, map, Option, Some, None, arith}
-use Rattle.std.specs.Prelude.{◌||◌, sum, nat_lt, if◌then◌else◌}
+use Rattle.std.proofs.Common.{◌≡◌, refl, sym, ap, ◌∙◌, ◌+◌, Bool, true, List, [], ◌∷◌, length, map, Option, Some}
+use Rattle.std.specs.Prelude.{◌||◌, sum, if◌then◌else◌}
 use Rattle.std.specs.List.{list_any}
-use Rattle.std.proofs.lemmas.Option.{same_Some}
 use Rattle.std.proofs.lemmas.List.{length-map}
 use Rattle.edd_syntax.specs.Reference.{Path}
 use Rattle.edd_syntax.specs.declared.reference.Target.{Target}
 use Rattle.edd_syntax.specs.Conditional.{Cond}
 use Rattle.edd_syntax.specs.Item as item
 use Rattle.edd_syntax.specs.Item.{ItemKind, TypePart, TransactionPart, Attribute, Item, Description}
-use Rattle.edd_syntax.specs.NameRules.{node_limit}
 use Rattle.edd_syntax.specs.Resolution.{member_kinds}
-use Rattle.edd_syntax.specs.ResolvedTrees.{◌>>=◌, each, unchanged, resolved_expr, resolved_cond, resolved_conds, resolved_body, at_attribute, resolved_data, resolved_entry, resolved_member, resolved_type_part, resolved_transaction_part, resolved_attribute, resolved_item, resolved_unit}
-use Rattle.edd_syntax.specs.Size.{nodes, leaf, cond_nodes, conds_nodes, body_nodes, type_part_nodes, is_element, transaction_part_nodes, attribute_nodes, item_nodes, unit_nodes}
+use Rattle.edd_syntax.specs.ResolvedTrees.{each, unchanged, resolved_expr, resolved_cond, resolved_conds, resolved_body, at_attribute, resolved_data, resolved_entry, resolved_member, resolved_type_part, resolved_transaction_part, resolved_attribute, resolved_item, resolved_unit}
+use Rattle.edd_syntax.specs.Size.{nodes, leaf, cond_nodes, type_part_nodes, is_element, transaction_part_nodes, attribute_nodes, item_nodes, unit_nodes}
 use Rattle.edd_syntax.proofs.WithinLimits.{each_keeps}
 use Rattle.edd_coverage.proofs.Made.{stays, made}
 use Rattle.edd_coverage.proofs.TreeNodes.{expr_keeps, cond_keeps, conds_keep, body_keeps}
@@ -64,9 +62,9 @@ module _ (unit : Description Path) where
   attribute_keeps sort (item.TypeOf word parts) b h =
       made attribute_nodes (each (resolved_type_part unit) parts) (item.TypeOf word) b _
       (λ x is.
-        ap (λ (t : Bool). 1 + ((if t then 1 else 0) + sum (map type_part_nodes x)))
-        (any_of_mapped is_element x ∙ ap (list_any (λ t. t)) (each_keeps (resolved_type_part unit) is_element is_element element_keeps parts x is) ∙ sym (any_of_mapped is_element parts))
-        ∙ ap (λ ns. 1 + ((if list_any is_element parts then 1 else 0) + sum ns)) (each_keeps (resolved_type_part unit) type_part_nodes type_part_nodes part_keeps parts x is)) h
+      ap (λ (t : Bool). 1 + ((if t then 1 else 0) + sum (map type_part_nodes x)))
+      (any_of_mapped is_element x ∙ ap (list_any (λ t. t)) (each_keeps (resolved_type_part unit) is_element is_element element_keeps parts x is) ∙ sym (any_of_mapped is_element parts))
+      ∙ ap (λ ns. 1 + ((if list_any is_element parts then 1 else 0) + sum ns)) (each_keeps (resolved_type_part unit) type_part_nodes type_part_nodes part_keeps parts x is)) h
   attribute_keeps sort (item.Number n) b h = stays attribute_nodes (item.Number n) b h
   attribute_keeps sort (item.Operation o) b h = stays attribute_nodes (item.Operation o) b h
   attribute_keeps sort (item.Transaction number parts) b h =

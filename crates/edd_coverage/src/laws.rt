@@ -33,12 +33,12 @@ pub fn nodes_stay()
     ensures few { (unit : Description Target) → ∥ IsChecked unit ∥₁ → unit_nodes unit ≤ 524288 }
 {}
 
-/// The code of the rows of a description is no longer than 32 octets for each of its nodes.
+/// What the code of each row may come to, in octets and summed over the rows, is at most 32 for each node of the description.
 pub fn nodes_of_rows()
     ensures { (unit : Description Target) → sum (map (λ r. limit_of_row unit r) (rows unit.items)) ≤ 32 * unit_nodes unit }
 {}
 
-/// The code of the rows of a checked description has at most 2^24 octets.
+/// For a checked description this sum is at most 2^24 octets.
 pub fn code_is_short()
     ensures { (unit : Description Target) → ∥ IsChecked unit ∥₁ → sum (map (λ r. limit_of_row unit r) (rows unit.items)) ≤ 16777216 }
 {}

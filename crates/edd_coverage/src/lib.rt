@@ -3,4 +3,6 @@
 
 mod laws;
 
-pub use laws::{code_is_short, different_strings_count, nodes_of_rows, nodes_stay, strings_stand_in_rows};
+pub use laws::{
+    code_is_short, different_strings_count, nodes_of_rows, nodes_stay, strings_stand_in_rows,
+};
