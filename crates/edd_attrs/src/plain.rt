@@ -1,4 +1,4 @@
-//! Which attributes have no conditions, so that their code can be written.
+//! Attributes that are a text without conditions.
 
 ghost use Rattle.std.specs.Prelude.{◌≡◌, is_some, map};
 ghost use Rattle.edd_syntax.specs.ItemView.{cond_of, identification_of, item_of};

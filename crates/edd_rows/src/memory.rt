@@ -44,13 +44,17 @@ pub struct MemoryFiles<'a> {
     pub saves: &'a Passes,
 }
 
+/// The most bytes of a read from a short file.
+const LEAST_READ: usize = 7;
+
 /// The file of this name has no end, and its reads do not count.
 const ENDLESS: &str = "endless";
 
-/// Gives at most seven bytes a read.
+/// Gives at most seven bytes a read, and more of a long file.
 #[derive(Drop)]
 pub struct MemoryReader<'a> {
     rest: &'a [u8],
+    most: usize,
     is_endless: bool,
     reads: &'a Passes,
 }
@@ -63,7 +67,7 @@ impl Read for MemoryReader<'_> {
         if !self.reads.passes() {
             return Err(io::Error::from(io::ErrorKind::Other));
         }
-        let room = buf.len().min(7);
+        let room = buf.len().min(self.most);
         self.rest.read(&mut buf[..room])
     }
 }
@@ -78,6 +82,7 @@ impl<'a> Files for MemoryFiles<'a> {
         if name == ENDLESS {
             return Ok(MemoryReader {
                 rest: b"",
+                most: 0,
                 is_endless: true,
                 reads: self.reads,
             });
@@ -86,6 +91,7 @@ impl<'a> Files for MemoryFiles<'a> {
             if file.name == name {
                 return Ok(MemoryReader {
                     rest: file.bytes.as_slice(),
+                    most: LEAST_READ.saturating_add(file.bytes.len() / 256),
                     is_endless: false,
                     reads: self.reads,
                 });

@@ -34,6 +34,33 @@ fn from_text(alloc: Global, text: &str) -> Result<Vec<u8>, AllocError> {
     Ok(bytes)
 }
 
+// `count` times the piece.
+fn push_times(bytes: &mut Vec<u8>, count: usize, piece: &str) -> Result<(), AllocError> {
+    for _ in 0..count {
+        bytes.extend_from_slice(piece.as_bytes())?;
+    }
+    Ok(())
+}
+
+fn number(word: &str) -> usize {
+    word.parse::<usize>().unwrap_or(0)
+}
+
+// Makes the file longer: by a text, by a piece so many times, or by blanks up to a length.
+fn lengthen(bytes: &mut Vec<u8>, kind: &str, words: &str) -> Result<(), AllocError> {
+    match kind {
+        "times" => {
+            let (count, piece) = words.split_once(' ').unwrap_or((words, ""));
+            push_times(bytes, number(count), piece)
+        }
+        "fill" => {
+            let missing = number(words).saturating_sub(bytes.len());
+            push_times(bytes, missing, " ")
+        }
+        _ => bytes.extend_from_slice(words.as_bytes()),
+    }
+}
+
 impl<'a> Row<'a> {
     fn new(alloc: Global, words: &'a str) -> Row<'a> {
         Row {
@@ -59,6 +86,11 @@ impl<'a> Row<'a> {
                 self.files.push(Given { name, bytes })?;
             }
             "image" => self.image = Some(from_hex(alloc, below)?),
+            "more" | "times" | "fill" => {
+                if let Some(file) = self.files.last_mut() {
+                    lengthen(&mut file.bytes, kind, name)?;
+                }
+            }
             _ => {
                 self.status = name;
                 self.lines = below;
@@ -67,8 +99,8 @@ impl<'a> Row<'a> {
         Ok(())
     }
 
-    /// Reads a row: the words, a part `@file NAME` or `@hex NAME` for each file, `@status N` with the printed lines, and
-    /// perhaps `@image`.
+    /// Reads a row: the words, a part `@file NAME` or `@hex NAME` for each file, which `@more TEXT`, `@times COUNT TEXT` and
+    /// `@fill LENGTH` make longer, `@status N` with the printed lines, and perhaps `@image`.
     pub fn parse(alloc: Global, text: &'a str) -> Result<Row<'a>, AllocError> {
         let (words, rest) = text.split_once('\n').unwrap_or((text, ""));
         let mut row = Row::new(alloc, words);
