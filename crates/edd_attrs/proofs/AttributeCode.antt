@@ -1,8 +1,8 @@
 -- What was lowered of a row of a checked description is the code of its attribute.
-use Rattle.std.proofs.Common.{◌≡◌, refl, sym, ap, subst, ◌∙◌, ℕ, ◌+◌, ◌*◌, ◌<◌, ◌≤◌, ◌⊎◌, Bool, true, false, List, [], ◌∷◌, ◌++◌, length, take, Option, Some, None, Result, Ok, Err, IsTrue, arith, length-append}
+use Rattle.std.proofs.Common.{◌≡◌, refl, sym, ap, subst, ◌∙◌, ℕ, ◌<◌, ◌≤◌, ◌⊎◌, true, List, [], ◌++◌, length, take, Option, Some, None, Result, Ok, Err, IsTrue, arith, length-append}
 use Rattle.std.specs.Prelude.{◌↔◌, IfOk, OnOk, IfSome, is_some}
 use Rattle.std.specs.List.{Contains}
-use Rattle.std.proofs.lemmas.List.{append-nil, take_at}
+use Rattle.std.proofs.lemmas.List.{take_at}
 use Rattle.edd_syntax.specs.declared.numbers.AttrRef.{AttrRef}
 use Rattle.edd_syntax.specs.declared.reference.Target.{Target}
 use Rattle.edd_syntax.specs.Item.{Description}
@@ -14,11 +14,11 @@ use Rattle.edd_syntax.specs.Attributes as source
 use Rattle.edd_syntax.proofs.WithinLimits.{few_when_checked}
 use Rattle.edd_image.specs.declared.instruction.Instruction.TheVariants as instruction
 use Rattle.edd_image.specs.Spelling.{spelling}
-use Rattle.edd_image.specs.Agreement.{SameRecords, string_of_table, IsAttributeCode}
+use Rattle.edd_image.specs.Agreement.{IsAttributeCode}
 use Rattle.edd_attrs.specs.Trees.{tree_at}
 use Rattle.edd_attrs.specs.Plain.{records_at, is_plain_at, strings_of}
 use Rattle.edd_attrs.specs.Sizes.{strings_at, length_limit}
-use Rattle.edd_attrs.specs.Code.{giving_all, AreDifferent, IsUnit, Lowers, Overflows, OverflowsWith, Grows}
+use Rattle.edd_attrs.specs.Code.{AreDifferent, IsUnit, Lowers, Overflows, OverflowsWith, Grows}
 use Rattle.edd_attrs.proofs.Different.{fewer_different}
 use Rattle.edd_attrs.proofs.Meanings.{unit_means}
 use Rattle.edd_attrs.proofs.PlainCode.{code_means, strings_are}

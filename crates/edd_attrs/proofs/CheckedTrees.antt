@@ -1,13 +1,12 @@
 -- What the trees of a checked description keep of the texts of its source.
-use Rattle.std.proofs.Common.{◌≡◌, refl, sym, ap, subst, ◌∙◌, ℕ, zero, suc, Bool, true, false, List, [], ◌∷◌, ◌++◌, map, filter, Option, Some, None, IsTrue, cond}
-use Rattle.std.specs.Prelude.{◌&&◌, not, slice_get, if◌then◌else◌}
+use Rattle.std.proofs.Common.{◌≡◌, refl, subst, ℕ, zero, suc, Bool, true, false, List, [], ◌∷◌, ◌++◌, map, filter, Option, Some, None, cond}
+use Rattle.std.specs.Prelude.{◌&&◌, slice_get}
 use Rattle.std.specs.List.{list_all}
 use Rattle.std.proofs.lemmas.Option.{none-some, same_Some}
 use Rattle.std.proofs.Math.Logic.{∥∥₁_elim}
 use Rattle.std.proofs.Math.Bool.{Bool-set}
 use Rattle.edd_syntax.specs.declared.numbers.Attr.{Attr}
 use Rattle.edd_syntax.specs.declared.numbers.AttrRef.{AttrRef}
-use Rattle.edd_syntax.specs.declared.numbers.Kind.{Kind}
 use Rattle.edd_syntax.specs.Reference.{Path}
 use Rattle.edd_syntax.specs.declared.reference.Target.{Target}
 use Rattle.edd_syntax.specs.Conditional.{Cond, Value, If, Select}
@@ -17,11 +16,10 @@ use Rattle.edd_syntax.specs.Numbers.{same_attr, same_kind, kind_of, index_of}
 use Rattle.edd_syntax.specs.Device.{items_of, item_at}
 use Rattle.edd_syntax.specs.Attributes.{is_of_transaction}
 use Rattle.edd_syntax.specs.Resolution.{member_kinds}
-use Rattle.edd_syntax.specs.Size.{attribute_height, height_limit}
 use Rattle.edd_syntax.specs.WellFormed.{is_text, is_path, is_plain, is_cond, is_single, is_type_part, is_type, is_attribute, belongs_to, stands_in, is_item, are_items}
 use Rattle.edd_syntax.specs.ResolvedTrees.{◌>>=◌, each, unchanged, resolved_expr, resolved_cond, resolved_conds, resolved_arms, resolved_body, at_attribute, resolved_entry, resolved_member, resolved_type_part, resolved_transaction_part, resolved_attribute, resolved_item, resolved_unit}
 use Rattle.edd_syntax.specs.Resolved.{IsChecked}
-use Rattle.edd_attrs.specs.Trees.{Tree, Named, Texts, Enumerators, trees_of_part, trees_of_parts, trees_of_attribute, trees_of, tree_of_transaction_part, transaction_trees, first_tree, tree_in, tree_at}
+use Rattle.edd_attrs.specs.Trees.{Tree, Named, trees_of_part, trees_of_parts, trees_of_attribute, trees_of, tree_of_transaction_part, transaction_trees, first_tree, tree_in, tree_at}
 use Rattle.edd_attrs.specs.Plain.{plain_value, is_kept, is_kept_at}
 use Rattle.edd_attrs.proofs.PlainUnits.{both_of}
 
@@ -131,8 +129,8 @@ module _ (unit : Description Path) where
       let x = bind_some (each (resolved_attribute unit i.sort) i.attributes) (λ attributes. Some (record { sort = i.sort; name = i.name; attributes = attributes })) j e in
       along_some kept_item (record { sort = i.sort; name = i.name; attributes = x.0 }) j x.2
       (each_all (resolved_attribute unit i.sort) (stands_in is_path is_plain (kind_of_item i.sort)) kept_attribute
-          (λ a b k. attribute_kept i.sort a b (both_of (belongs_to (kind_of_item i.sort) a) (is_attribute is_path is_plain a) (both_of (belongs_to (kind_of_item i.sort) a && is_attribute is_path is_plain a) _ k).0).1)
-          i.attributes x.0 (both_of _ _ h).1 x.1)
+      (λ a b k. attribute_kept i.sort a b (both_of (belongs_to (kind_of_item i.sort) a) (is_attribute is_path is_plain a) (both_of (belongs_to (kind_of_item i.sort) a && is_attribute is_path is_plain a) _ k).0).1)
+      i.attributes x.0 (both_of _ _ h).1 x.1)
 
 -- ---- the tree of a row
 
@@ -215,8 +213,8 @@ module _ (d : Description Target) (row : AttrRef) where
       let u = checked.is_resolved.unit in
       let x = bind_some (each (resolved_item u) u.items) (λ items. Some (record { identification = u.identification; items = items })) d checked.is_resolved.meanings in
       let all : list_all (kept_item u) d.items ≡ true =
-          along_some (λ e. list_all (kept_item u) e.items) (record { identification = u.identification; items = x.0 }) d x.2
-          (each_all (resolved_item u) (is_item is_path is_plain) (kept_item u) (item_kept u) u.items x.0 checked.is_resolved.well_formed x.1) in
+      along_some (λ e. list_all (kept_item u) e.items) (record { identification = u.identification; items = x.0 }) d x.2
+      (each_all (resolved_item u) (is_item is_path is_plain) (kept_item u) (item_kept u) u.items x.0 checked.is_resolved.well_formed x.1) in
       of_item u (item_at d row.item) (at_place (kept_item u) (items_of (kind_of row.item) d) (index_of row.item) (filtered (kept_item u) (λ i. same_kind (kind_of_item i.sort) (kind_of row.item)) d.items all))
     where
       of_item : (u : Description Path) (o : Option (Item Target)) → if_there (kept_item u) o ≡ true → is_kept_at (elim o as (λ _. Option Tree) [ Some i ↦ tree_in i.attributes row.attr row.sub | None ↦ None ]) ≡ true

@@ -1,7 +1,6 @@
 -- What a tree without conditions means, its strings, and how long its code is.
-use Rattle.std.proofs.Common.{◌≡◌, refl, sym, ap, subst, ◌∙◌, ℕ, zero, suc, ◌+◌, ◌*◌, ◌<◌, ◌≤◌, Bool, true, false, ℤ, List, [], ◌∷◌, ◌++◌, length, map, Option, Some, None, Ok, arith, length-append}
-use Rattle.std.specs.Prelude.{is_some, IfSome}
-use Rattle.std.specs.List.{list_all, flat_map}
+use Rattle.std.proofs.Common.{◌≡◌, refl, ap, subst, ◌+◌, ◌*◌, ◌≤◌, true, ℤ, List, [], ◌∷◌, length, Option, Some, None, Ok, arith, length-append}
+use Rattle.std.specs.List.{list_all}
 use Rattle.std.proofs.lemmas.Option.{none-some, same_Some}
 use Rattle.edd_syntax.specs.declared.reference.Target.{Target}
 use Rattle.edd_syntax.specs.Item.{Description}
@@ -11,18 +10,15 @@ use Rattle.edd_syntax.specs.Words.{Words, words_of}
 use Rattle.edd_syntax.specs.Device.{Environment}
 use Rattle.edd_syntax.specs.AttributeValue.{chosen}
 use Rattle.edd_syntax.specs.Attributes as source
-use Rattle.edd_syntax.specs.SubsetRules.{values_in}
-use Rattle.edd_syntax.specs.Strings.{strings_of_texts}
-use Rattle.edd_syntax.specs.Size.{leaf, cond_nodes}
 use Rattle.edd_image.specs.declared.records.Record.{Record}
 use Rattle.edd_image.specs.declared.records.Record.TheVariants as records
-use Rattle.edd_image.specs.Agreement.{SameRecord, SameRecords, string_of_table}
+use Rattle.edd_image.specs.Agreement.{SameRecords, string_of_table}
 use Rattle.edd_attrs.specs.Trees as trees
 use Rattle.edd_attrs.specs.Trees.{Tree}
 use Rattle.edd_attrs.specs.Plain.{plain_texts, plain_records, records_at, is_fine, strings_of}
 use Rattle.edd_attrs.specs.Sizes.{tree_strings, strings_of_tree, tree_nodes, length_limit}
 use Rattle.edd_attrs.specs.Code.{giving, bytes_of, giving_all}
-use Rattle.edd_attrs.proofs.Meanings.{meaning, meaning_at}
+use Rattle.edd_attrs.proofs.Meanings.{meaning_at}
 use Rattle.edd_attrs.proofs.Runs.{giving_more}
 
 -- what is to be shown of a tree that gives these records

@@ -1,23 +1,18 @@
 -- Code that was written, and a table that grew, in one step and in several.
-use Rattle.std.proofs.Common.{◌≡◌, ◌≢◌, refl, sym, ap, subst, ◌∙◌, ℕ, zero, suc, ◌+◌, ◌<◌, ◌≤◌, ◌⊎◌, inl, inr, List, [], ◌∷◌, ◌++◌, length, get_or, Option, Some, None, arith, append_assoc, length-append}
+use Rattle.std.proofs.Common.{◌≡◌, ◌≢◌, refl, sym, ap, subst, ◌∙◌, ℕ, zero, suc, ◌≤◌, inl, inr, List, [], ◌∷◌, ◌++◌, length, Option, Some, None, arith, length-append}
 use Rattle.std.specs.Prelude.{IfSome}
-use Rattle.std.specs.List.{AllPairs, Contains, slice_get, flat_map}
+use Rattle.std.specs.List.{Contains, slice_get}
 use Rattle.std.proofs.lemmas.List.{append-nil}
-use Rattle.std.proofs.lemmas.List.Elements.{Contains-append_left, Contains-append_right, Contains-append_cases, Contains-push}
 use Rattle.std.proofs.lemmas.List.Quantifiers.{all_pairs_push}
 use Rattle.edd_syntax.specs.declared.numbers.StrNo.{StrNo}
 use Rattle.edd_syntax.specs.Words.{Words}
 use Rattle.edd_syntax.specs.Attributes as source
-use Rattle.edd_image.specs.declared.records.Record.{Record}
 use Rattle.edd_image.specs.declared.records.Record.TheVariants as records
-use Rattle.edd_image.specs.declared.instruction.Instruction.{Instruction}
 use Rattle.edd_image.specs.declared.instruction.Instruction.TheVariants as instruction
 use Rattle.edd_image.specs.Spelling.{spelling}
-use Rattle.edd_image.specs.Agreement.{IsString, SameRecords, string_of_table}
-use Rattle.edd_strings.specs.Strings.{Adds, HasNumber}
+use Rattle.edd_strings.specs.Strings.{Adds}
 use Rattle.edd_strings.proofs.Chaining.{get_or-default}
-use Rattle.edd_attrs.specs.Plain.{strings_of}
-use Rattle.edd_attrs.specs.Code.{bytes_of, giving, giving_all, AreDifferent, Writes, Grows, Overflows, IsUnit}
+use Rattle.edd_attrs.specs.Code.{bytes_of, AreDifferent, Writes, Grows, Overflows, IsUnit}
 
 -- ---- tables
 

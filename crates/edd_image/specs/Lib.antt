@@ -1,3 +1,4 @@
+pub mod Agreement
 pub mod Contents
 pub mod Decoding
 pub mod Execution

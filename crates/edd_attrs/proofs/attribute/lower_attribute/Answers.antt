@@ -1,10 +1,9 @@
-use Rattle.std.proofs.Common.{◌≡◌, ◌∙◌, ap, sym, subst, List, map, Option, Some}
+use Rattle.std.proofs.Common.{◌∙◌, ap, sym, subst, List, map}
 use Rattle.std.specs.Prelude.{IsTrue, IfOk}
 use Rattle.std.proofs.lemmas.Result.{IfOk-weaker}
 use Rattle.edd_syntax.specs.declared.item.Item.{Item}
 use Rattle.edd_syntax.specs.declared.reference.Target.{Target}
-use Rattle.edd_syntax.specs.Item.{Description}
-use Rattle.edd_syntax.specs.ItemView.{identification_of, item_of, numbered_items}
+use Rattle.edd_syntax.specs.ItemView.{identification_of, item_of}
 use Rattle.edd_syntax.specs.Resolved.{description}
 use Rattle.edd_attrs.specs.Code.{Lowers, OverflowsWith}
 use Rattle.edd_attrs.specs.Trees.{tree_at}
