@@ -4,6 +4,10 @@ pub mod Written
 pub mod AttributeCode
 pub mod CheckedTrees
 pub mod Different
+pub mod Existing
+pub mod GoodTrees
+pub mod Growing
+pub mod InTrees
 pub mod LineUnits
 pub mod PlainCode
 pub mod Looking

@@ -46,14 +46,14 @@ module _ (unit : Description Target) (few : (k : Kind) → count_of k unit.items
 
     valid_now : (later : List Words) → IsValidUnit (attribute_context unit (new ++ later)) code
     valid_now later =
-        let spelled = records_spelled unit few new (is_unit.1.few few_strings) rs given fine same_now in
+        let spelled = records_spelled unit few new (is_unit.1.table.few few_strings) rs given fine same_now in
         let line = unit_line given in
         subst (λ (bs : List ℕ). IsValidUnit (attribute_context unit (new ++ later)) bs) (sym code_is)
         (line_is_valid unit (new ++ later) (unit_of given) spelled.0 line.0 line.1 (unit_allowed given) (records_exist unit few (new ++ later) rs given fine (is_unit.1.same later)))
 
     means_now : (later : List Words) → ((values : List ℤ) → tree_meaning unit row values ≡ Ok rs) → UnitMeans (environment unit).variables (string_of_table (new ++ later)) (tree_meaning unit row) code
     means_now later means values are =
-        let spelled = records_spelled unit few new (is_unit.1.few few_strings) rs given fine same_now in
+        let spelled = records_spelled unit few new (is_unit.1.table.few few_strings) rs given fine same_now in
         let env : Environment = record { types = (environment unit).variables } in
         let q = length (giving_all given) in
         let stands : instruction_at code q ≡ Some (instruction.End, q + 1) =
@@ -123,6 +123,6 @@ pub strings_are : (old new : List Words) (rs : List source.Record) (code : List 
 strings_are old new rs code is_unit w =
     let writes = is_unit.1 in
     let now : SameRecords (string_of_table new) rs writes.given = subst (λ (t : List Words). SameRecords (string_of_table t) rs writes.given) (append-nil new) (writes.same []) in (
-      λ held. elim (Contains-append_cases old writes.more w (subst (λ (t : List Words). Contains t w) writes.grown held)) [ inl h ↦ inl h | inr h ↦ inr (writes.only w h) ],
-      λ h. elim h [ inl held ↦ subst (λ (t : List Words). Contains t w) (sym writes.grown) (Contains-append_left old writes.more w held) | inr held ↦ records_held new rs writes.given now w held ],
+      λ held. elim (Contains-append_cases old writes.table.more w (subst (λ (t : List Words). Contains t w) writes.table.grown held)) [ inl h ↦ inl h | inr h ↦ inr (writes.table.only w h) ],
+      λ h. elim h [ inl held ↦ subst (λ (t : List Words). Contains t w) (sym writes.table.grown) (Contains-append_left old writes.table.more w held) | inr held ↦ records_held new rs writes.given now w held ],
     )

@@ -9,7 +9,7 @@ ghost use Rattle.edd_image.specs.Layout.{u16};
 ghost use Rattle.edd_image.specs.Spelling.{spelling};
 ghost use Rattle.edd_syntax.specs.ItemView.{cond_of};
 ghost use Rattle.edd_attrs.specs.Code.{Writes, Grows, Overflows};
-ghost use Rattle.edd_attrs.specs.Plain.{plain_texts, plain_value, strings_of};
+ghost use Rattle.edd_attrs.specs.Plain.{plain_one, text_record, plain_value, strings_of};
 
 use crate::fault::LowerFault;
 use crate::strings::add_text;
@@ -70,10 +70,10 @@ pub fn write_texts(
 ) -> Result<(), LowerFault>
     requires { IsTrue (plain_value is_text (cond_of (λ r. r) text_of texts.now)) }
     ensures ok { OnOk result
-        (IfSome (plain_texts (cond_of (λ r. r) text_of texts.now)) (λ rs. Writes table.old code.old.items rs table.new code.new.items)) }
+        (IfSome (plain_one text_record (cond_of (λ r. r) text_of texts.now)) (λ rs. Writes table.old code.old.items rs table.new code.new.items)) }
     ensures grows { Grows table.old table.new }
     ensures too_many { IsErrOf result LowerFault.TooMany
-        → IfSome (plain_texts (cond_of (λ r. r) text_of texts.now)) (λ rs. Overflows table.old (strings_of rs)) }
+        → IfSome (plain_one text_record (cond_of (λ r. r) text_of texts.now)) (λ rs. Overflows table.old (strings_of rs)) }
 {
     match texts {
         Cond::Value(text) => write_text(alloc, code, table, text),
