@@ -156,11 +156,11 @@ module _ (d : Description Target) (row : AttrRef) where
       let x = bind_some (each (resolved_item u) u.items) (λ items. Some (record { identification = u.identification; items = items })) d checked.is_resolved.meanings in
       let same_items : x.0 ≡ d.items = ap (λ (e : Description Target). e.items) (same_Some (record { identification = u.identification; items = x.0 }) d x.2) in
       let good : list_all (throughout_item (is_good (λ k. count_of k u.items))) x.0 ≡ true =
-          each_all (resolved_item u) (is_item is_path is_plain) (throughout_item (is_good (λ k. count_of k u.items))) (item_good u) u.items x.0 checked.is_resolved.well_formed x.1 in
+      each_all (resolved_item u) (is_item is_path is_plain) (throughout_item (is_good (λ k. count_of k u.items))) (item_good u) u.items x.0 checked.is_resolved.well_formed x.1 in
       let counts : (λ k. count_of k u.items) ≡ (λ k. count_of k d.items) = fun_ext (λ k. sym (count_kept u d.items (x.1 ∙ ap Some same_items) k)) in
       let good_here : list_all (throughout_item (is_good (λ k. count_of k d.items))) d.items ≡ true =
-          subst (λ (items : List (Item Target)). list_all (throughout_item (is_good (λ k. count_of k d.items))) items ≡ true) same_items
-          (subst (λ (count : Kind → ℕ). list_all (throughout_item (is_good count)) x.0 ≡ true) counts good) in
+      subst (λ (items : List (Item Target)). list_all (throughout_item (is_good (λ k. count_of k d.items))) items ≡ true) same_items
+      (subst (λ (count : Kind → ℕ). list_all (throughout_item (is_good count)) x.0 ≡ true) counts good) in
       let none = (front_none (wrong_constants d) _ (front_none (wrong_breaks d) _ (front_none (float_values d) _ (front_none (mismatches d) _ (front_none (wrong_types d) _ checked.no_breach).1).1).1).1).0 in
       both_there (is_good (λ k. count_of k d.items)) is_octets (tree_at d row) (tree_has (is_good (λ k. count_of k d.items)) d row good_here) (tree_has is_octets d row (items_octets d.items none))
 

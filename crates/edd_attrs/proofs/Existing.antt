@@ -65,7 +65,7 @@ numbered_exist all before (i ∷ rest) h =
     let n = count_of k before in
     let below : n < count_of k all = omega (arith, counted k before (i ∷ rest), counts_itself i rest, ap (count_of k) h) in
     let here : is_item_of (λ j. count_of j all) (item_number k n) ≡ true =
-        ap (λ (m : ℕ). nat_lt m (count_of (kind_of (item_number k n)) all)) (index_is k n) ∙ ap (λ (j : Kind). nat_lt n (count_of j all)) (kind_is k n) ∙ lt-ltb n (count_of k all) below in
+    ap (λ (m : ℕ). nat_lt m (count_of (kind_of (item_number k n)) all)) (index_is k n) ∙ ap (λ (j : Kind). nat_lt n (count_of j all)) (kind_is k n) ∙ lt-ltb n (count_of k all) below in
     rw here (numbered_exist all (before ++ i ∷ []) rest (append_assoc before (i ∷ []) rest ∙ h))
 
 abbrev IfSomeTrue : {A : Type 0} → (A → Bool) → Option A → Type 0

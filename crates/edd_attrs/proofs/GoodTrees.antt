@@ -276,5 +276,5 @@ module _ (unit : Description Path) where
       let x = bind_some (each (resolved_attribute unit i.sort) i.attributes) (λ attributes. Some (record { sort = i.sort; name = i.name; attributes = attributes })) j e in
       along_some good_item (record { sort = i.sort; name = i.name; attributes = x.0 }) j x.2
       (each_all (resolved_attribute unit i.sort) (stands_in is_path is_plain (kind_of_item i.sort)) good_attribute
-          (λ a b k. attribute_good i.sort a b (both_of (belongs_to (kind_of_item i.sort) a) (is_attribute is_path is_plain a) (both_of (belongs_to (kind_of_item i.sort) a && is_attribute is_path is_plain a) _ k).0).1)
-          i.attributes x.0 (both_of _ _ h).1 x.1)
+      (λ a b k. attribute_good i.sort a b (both_of (belongs_to (kind_of_item i.sort) a) (is_attribute is_path is_plain a) (both_of (belongs_to (kind_of_item i.sort) a && is_attribute is_path is_plain a) _ k).0).1)
+      i.attributes x.0 (both_of _ _ h).1 x.1)

@@ -100,22 +100,37 @@ keeps_optional_on b c (Some w) (Some n) keeps g later = keeps_on b c w n keeps g
 pub overflows_first : (a vs ws : List Words) → Overflows a vs → Overflows a (vs ++ ws)
 overflows_first a vs ws over = record {
   held = λ d.
-      let all = over.held d in
-      (all.0, all.1, all.2, λ w held. elim (Contains-append_cases a vs w (all.3 w held)) [
-        | inl h ↦ Contains-append_left a (vs ++ ws) w h
-        | inr h ↦ Contains-append_right a (vs ++ ws) w (Contains-append_left vs ws w h)
-      ]);
+      let all = over.held d in (
+        all.0,
+        all.1,
+        all.2,
+        λ w held. elim (Contains-append_cases a vs w (all.3 w held)) [
+          | inl h ↦ Contains-append_left a (vs ++ ws) w h
+          | inr h ↦ Contains-append_right a (vs ++ ws) w (Contains-append_left vs ws w h)
+        ],
+      );
 }
 
 pub overflows_second : (a vs b ws : List Words) → GrowsBy a vs b → Overflows b ws → Overflows a (vs ++ ws)
 overflows_second a vs b ws g over = record {
   held = λ d.
-      let all = over.held (g.different d) in
-      (all.0, all.1, all.2, λ w held. elim (Contains-append_cases b ws w (all.3 w held)) [
-        | inl h ↦ elim (Contains-append_cases a g.more w (subst (λ (t : List Words). Contains t w) g.grown h)) [
-          | inl k ↦ Contains-append_left a (vs ++ ws) w k
-          | inr k ↦ Contains-append_right a (vs ++ ws) w (Contains-append_left vs ws w (g.only w k))
-        ]
-        | inr h ↦ Contains-append_right a (vs ++ ws) w (Contains-append_right vs ws w h)
-      ]);
+      let all = over.held (g.different d) in (
+        all.0,
+        all.1,
+        all.2,
+        λ w held. elim (Contains-append_cases b ws w (all.3 w held)) [
+          | inl h ↦ elim (Contains-append_cases a g.more w (subst (λ (t : List Words). Contains t w) g.grown h)) [
+            | inl k ↦ Contains-append_left a (vs ++ ws) w k
+            | inr k ↦ Contains-append_right a (vs ++ ws) w (Contains-append_left vs ws w (g.only w k))
+          ]
+          | inr h ↦ Contains-append_right a (vs ++ ws) w (Contains-append_right vs ws w h)
+        ],
+      );
 }
+
+-- too many in one of the strings of a record
+pub overflows_head : (a : List Words) (w : Words) (ws : List Words) → Overflows a (w ∷ []) → Overflows a (w ∷ ws)
+overflows_head a w ws over = overflows_first a (w ∷ []) ws over
+
+pub overflows_tail : (a b : List Words) (w : Words) (ws : List Words) → GrowsBy a (w ∷ []) b → Overflows b ws → Overflows a (w ∷ ws)
+overflows_tail a b w ws g over = overflows_second a (w ∷ []) b ws g over

@@ -2,6 +2,7 @@ pub mod Lines
 pub mod Runs
 pub mod Written
 pub mod AttributeCode
+pub mod BareValues
 pub mod CheckedTrees
 pub mod Different
 pub mod Existing
@@ -12,6 +13,7 @@ pub mod LineUnits
 pub mod PlainCode
 pub mod Looking
 pub mod ItemTrees
+pub mod Loops
 pub mod Meanings
 pub mod Picking
 pub mod PlainTrees

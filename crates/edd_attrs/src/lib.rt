@@ -2,8 +2,10 @@
 #![tactic(auto)]
 
 mod attribute;
+mod elements;
 mod fault;
 mod items;
+mod lists;
 mod lowering;
 mod strings;
 mod trees;
