@@ -1,5 +1,6 @@
 pub mod Lines
 pub mod Runs
+pub mod UnitStrings
 pub mod Written
 pub mod AttributeCode
 pub mod BareValues

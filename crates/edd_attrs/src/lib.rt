@@ -5,6 +5,7 @@ mod attribute;
 mod elements;
 mod fault;
 mod items;
+mod laws;
 mod lists;
 mod lowering;
 mod strings;
@@ -13,3 +14,4 @@ mod writing;
 
 pub use attribute::lower_attribute;
 pub use fault::LowerFault;
+pub use laws::strings_are_the_descriptions;
