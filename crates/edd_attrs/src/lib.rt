@@ -15,3 +15,6 @@ mod writing;
 pub use attribute::lower_attribute;
 pub use fault::LowerFault;
 pub use laws::strings_are_the_descriptions;
+
+#[cfg(test)]
+mod tests;
