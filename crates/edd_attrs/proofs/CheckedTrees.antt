@@ -1,5 +1,5 @@
 -- What the tree of a row of a checked description keeps.
-use Rattle.std.proofs.Common.{◌≡◌, refl, sym, ap, subst, ◌∙◌, ℕ, ◌<◌, ◌≤◌, Bool, true, false, List, [], ◌∷◌, ◌++◌, length, map, filter, Option, Some, None, cond, arith}
+use Rattle.std.proofs.Common.{◌≡◌, refl, sym, ap, subst, ◌∙◌, ℕ, Bool, true, false, List, [], ◌∷◌, ◌++◌, length, map, filter, Option, Some, None, cond, arith}
 use Rattle.std.specs.Prelude.{◌&&◌, nat_lt}
 use Rattle.std.specs.List.{list_all, flat_map}
 use Rattle.std.proofs.Math.Logic.{∥∥₁_elim}
@@ -16,18 +16,17 @@ use Rattle.edd_syntax.specs.Item as item
 use Rattle.edd_syntax.specs.Item.{kind_of_item, DataItem, TypePart, TransactionPart, Attribute, Item, Description}
 use Rattle.edd_syntax.specs.Numbers.{same_kind}
 use Rattle.edd_syntax.specs.Resolution.{count_of}
-use Rattle.edd_syntax.specs.Refusal.{Refusal, ConstRange, refused_if}
-use Rattle.edd_syntax.specs.SubsetRules.{values_in, values_of, attributes_of, data_breaches, transaction_part_breaches, attribute_data_breaches, wrong_types, mismatches, float_values, wrong_breaks, wrong_constants, subset_breaches}
+use Rattle.edd_syntax.specs.Refusal.{ConstRange, refused_if}
+use Rattle.edd_syntax.specs.SubsetRules.{values_in, values_of, data_breaches, transaction_part_breaches, attribute_data_breaches, wrong_types, mismatches, float_values, wrong_breaks, wrong_constants}
 use Rattle.edd_syntax.specs.WellFormed.{is_path, is_plain, is_item, are_items}
-use Rattle.edd_syntax.specs.ResolvedTrees.{◌>>=◌, each, resolved_attribute, resolved_item, resolved_unit}
+use Rattle.edd_syntax.specs.ResolvedTrees.{each, resolved_attribute, resolved_item, resolved_unit}
 use Rattle.edd_syntax.specs.Resolved.{IsChecked}
 use Rattle.edd_syntax.proofs.WithinLimits.{each_keeps}
 use Rattle.edd_attrs.specs.Trees as trees
 use Rattle.edd_attrs.specs.Trees.{Tree, trees_of_part, trees_of_parts, tree_of_transaction_part, tree_at}
 use Rattle.edd_attrs.specs.Plain.{plain_value, plain_values, kept_data}
-use Rattle.edd_attrs.proofs.PlainUnits.{both_of}
 use Rattle.edd_attrs.proofs.InTrees.{if_there, all_append, named, throughout, throughout_item, tree_has}
-use Rattle.edd_attrs.proofs.GoodTrees.{bind_some, along_some, each_all, is_good, item_good}
+use Rattle.edd_attrs.proofs.GoodTrees.{bind_some, each_all, is_good, item_good}
 
 -- ---- constants are octets
 

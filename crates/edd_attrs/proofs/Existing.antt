@@ -1,16 +1,14 @@
 -- What a name means exists.
-use Rattle.std.proofs.Common.{◌≡◌, refl, sym, ap, subst, ◌∙◌, ℕ, zero, suc, ◌+◌, ◌<◌, ◌≤◌, Bool, true, false, List, [], ◌∷◌, ◌++◌, length, map, filter, Option, Some, None, cond, arith, append_assoc, length-append}
-use Rattle.std.specs.Prelude.{◌&&◌, ◌||◌, nat_lt, find, option_map, option_and_then, if◌then◌else◌}
+use Rattle.std.proofs.Common.{◌≡◌, refl, sym, ap, subst, ◌∙◌, ℕ, ◌+◌, ◌<◌, Bool, true, false, List, [], ◌∷◌, ◌++◌, length, filter, Option, Some, None, cond, arith, append_assoc, length-append}
+use Rattle.std.specs.Prelude.{nat_lt, find, option_map, option_and_then, if◌then◌else◌}
 use Rattle.std.specs.Str.{bytes_eq}
-use Rattle.std.specs.List.{list_all, list_any}
-use Rattle.std.proofs.lemmas.Grind.{common_steps}
+use Rattle.std.specs.List.{list_all}
 use Rattle.std.proofs.lemmas.List.Elements.{filter-append}
-use Rattle.std.proofs.lemmas.Option.{none-some, same_Some}
-use Rattle.std.proofs.lemmas.Bool.{lt-ltb, ltb-true}
+use Rattle.std.proofs.lemmas.Option.{same_Some}
+use Rattle.std.proofs.lemmas.Bool.{lt-ltb}
 use Rattle.edd_syntax.specs.declared.numbers.Kind.{Kind}
 use Rattle.edd_syntax.specs.declared.numbers.Kind.TheVariants as kind
 use Rattle.edd_syntax.specs.declared.numbers.ItemNo.{ItemNo}
-use Rattle.edd_syntax.specs.declared.numbers.ItemNo.TheVariants as item_no
 use Rattle.edd_syntax.specs.Reference.{Path}
 use Rattle.edd_syntax.specs.declared.reference.Target.TheVariants.{Item}
 use Rattle.edd_syntax.specs.declared.reference.Target.{Target}
@@ -18,8 +16,7 @@ use Rattle.edd_syntax.specs.Text.{Name}
 use Rattle.edd_syntax.specs.Item as item
 use Rattle.edd_syntax.specs.Item.{kind_of_item, Description}
 use Rattle.edd_syntax.specs.Numbers.{same_kind, item_number, kind_of, index_of}
-use Rattle.edd_syntax.specs.Resolution.{look_up, count_of, numbered_names, item_named, FoundMember, of_kind, item_of_member, member_at, along, is_among, item_meant, local_meant, meaning, variable_kinds}
-use Rattle.edd_syntax.specs.Attributes.{item_of, variable_of}
+use Rattle.edd_syntax.specs.Resolution.{count_of, numbered_names, item_named, FoundMember, of_kind, item_of_member, member_at, along, is_among, meaning}
 use Rattle.edd_attrs.proofs.PlainUnits.{both_of}
 
 -- the item is one of so many of its kind

@@ -1,10 +1,9 @@
 -- What the trees of a resolved description keep of those of its unit: texts and numbers of tokens, and items that exist.
-use Rattle.std.proofs.Common.{◌≡◌, refl, sym, ap, subst, ◌∙◌, ℕ, ◌<◌, ◌^◌, Bool, true, false, ℤ, List, [], ◌∷◌, ◌++◌, map, Option, Some, None, cond, arith}
-use Rattle.std.specs.Prelude.{◌&&◌, nat_lt, not}
+use Rattle.std.proofs.Common.{◌≡◌, refl, ap, subst, ◌∙◌, ℕ, ◌^◌, Bool, true, false, List, [], ◌∷◌, map, Option, Some, None}
+use Rattle.std.specs.Prelude.{◌&&◌, nat_lt}
 use Rattle.std.specs.List.{list_all}
 use Rattle.std.proofs.lemmas.Option.{none-some, same_Some}
 use Rattle.edd_syntax.specs.declared.numbers.Kind.{Kind}
-use Rattle.edd_syntax.specs.declared.numbers.Kind.TheVariants as kind
 use Rattle.edd_syntax.specs.declared.numbers.ItemNo.{ItemNo}
 use Rattle.edd_syntax.specs.declared.numbers.ItemNo.TheVariants as item_no
 use Rattle.edd_syntax.specs.Reference.{Path}
@@ -15,8 +14,7 @@ use Rattle.edd_syntax.specs.Conditional.{Cond, Value, If, Select, Conds, Nil, Co
 use Rattle.edd_syntax.specs.Item as item
 use Rattle.edd_syntax.specs.Item.{ItemKind, kind_of_item, DataItem, MenuEntry, TypePart, TransactionPart, Attribute, Item, Description}
 use Rattle.edd_syntax.specs.Attributes.{item_of, variable_of}
-use Rattle.edd_syntax.specs.Numbers.{kind_of, index_of}
-use Rattle.edd_syntax.specs.Resolution.{count_of, variable_kinds, entry_kinds, member_kinds, meaning, is_among}
+use Rattle.edd_syntax.specs.Resolution.{count_of, variable_kinds, entry_kinds, member_kinds, is_among}
 use Rattle.edd_syntax.specs.WellFormed.{is_text, if_some, is_path, is_plain, is_cond, are_conds, is_single, is_type_part, is_type, is_attribute, is_enumerator, is_entry, is_data_item, is_response_code, is_member, is_transaction_part, belongs_to, stands_in, is_item}
 use Rattle.edd_syntax.specs.ResolvedTrees.{◌>>=◌, each, unchanged, resolved_expr, resolved_cond, resolved_conds, resolved_arms, resolved_body, item_among, at_attribute, resolved_entry, resolved_data, resolved_member, resolved_type_part, resolved_transaction_part, resolved_attribute, resolved_item}
 use Rattle.edd_image.specs.Agreement.{mask_number}
@@ -24,8 +22,8 @@ use Rattle.edd_attrs.specs.Trees as trees
 use Rattle.edd_attrs.specs.Trees.{Tree, Named, trees_of_part, trees_of_parts, trees_of_attribute, tree_of_transaction_part}
 use Rattle.edd_attrs.specs.Plain.{is_label, plain_value, plain_values, kept_enumerator, kept_response, kept_member}
 use Rattle.edd_attrs.proofs.PlainUnits.{both_of}
-use Rattle.edd_attrs.proofs.Existing.{is_item_of, exists_in, meant_exists}
-use Rattle.edd_attrs.proofs.InTrees.{all_append, named, inside, throughout, throughout_item}
+use Rattle.edd_attrs.proofs.Existing.{is_item_of, meant_exists}
+use Rattle.edd_attrs.proofs.InTrees.{all_append, named, throughout, throughout_item}
 
 -- ---- steps that may fail
 

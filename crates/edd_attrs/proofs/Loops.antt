@@ -1,12 +1,12 @@
 -- A loop that writes one element after the other.
-use Rattle.std.proofs.Common.{◌≡◌, refl, sym, ap, subst, ◌∙◌, ℕ, zero, suc, ◌+◌, ◌<◌, ◌≤◌, Bool, true, false, List, [], ◌∷◌, ◌++◌, length, get_or, take, drop, map, Option, Some, None, IsTrue, arith, append_assoc}
+use Rattle.std.proofs.Common.{◌≡◌, refl, sym, ap, subst, ◌∙◌, ℕ, zero, suc, ◌+◌, ◌<◌, ◌≤◌, Bool, true, false, List, [], ◌∷◌, ◌++◌, length, get_or, take, drop, Option, Some, None, arith, append_assoc}
 use Rattle.std.specs.Prelude.{◌&&◌, IfSome}
 use Rattle.std.specs.List.{list_all}
 use Rattle.std.proofs.lemmas.List.{append-nil, take_more, take_all, take-append-drop, drop_more}
 use Rattle.edd_syntax.specs.Words.{Words}
 use Rattle.edd_syntax.specs.Attributes.{Record}
 use Rattle.edd_attrs.specs.Plain.{both, plain_all, strings_of}
-use Rattle.edd_attrs.specs.Code.{Writes, Grows, Overflows}
+use Rattle.edd_attrs.specs.Code.{Writes, Overflows}
 use Rattle.edd_attrs.proofs.Written.{nothing_written, both_written, both_overflow}
 
 both_nil : (o : Option (List Record)) → both o (Some []) ≡ o

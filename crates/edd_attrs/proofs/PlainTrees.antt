@@ -1,10 +1,10 @@
 -- What a tree without conditions means, its strings, and how long its code is.
-use Rattle.std.proofs.Common.{◌≡◌, refl, sym, ap, subst, ◌∙◌, ℕ, zero, suc, ◌+◌, ◌*◌, ◌<◌, ◌≤◌, ◌^◌, Bool, true, false, ℤ, pos, List, [], ◌∷◌, ◌++◌, length, map, sum, Option, Some, None, Ok, arith, length-append}
-use Rattle.std.specs.Prelude.{◌&&◌, nat_lt, is_some, IfSome, option_map}
+use Rattle.std.proofs.Common.{◌≡◌, refl, sym, ap, subst, ◌∙◌, ℕ, ◌+◌, ◌*◌, ◌≤◌, Bool, true, false, ℤ, pos, List, [], ◌∷◌, ◌++◌, length, map, sum, Option, Some, None, Ok, arith, length-append}
+use Rattle.std.specs.Prelude.{◌&&◌, option_map}
 use Rattle.std.specs.List.{list_all, flat_map}
 use Rattle.std.specs.Option.{option_to_list}
 use Rattle.std.proofs.lemmas.Option.{none-some, same_Some}
-use Rattle.std.proofs.lemmas.List.{map-append, length-map, append_assoc}
+use Rattle.std.proofs.lemmas.List.{map-append, length-map}
 use Rattle.std.proofs.lemmas.Grind.{flat_map-append}
 use Rattle.std.proofs.lemmas.List.Sums.{sum_by-cons}
 use Rattle.edd_syntax.specs.declared.numbers.ItemNo.{ItemNo}
@@ -27,12 +27,12 @@ use Rattle.edd_syntax.specs.Attributes.{bit, handling_number, operation_number, 
 use Rattle.edd_syntax.specs.Resolution.{count_of}
 use Rattle.edd_syntax.specs.SubsetRules.{values_in, values_of}
 use Rattle.edd_syntax.specs.Strings.{strings_of_texts, optional_text, enumerator_texts, entry_texts, member_strings}
-use Rattle.edd_syntax.specs.Size.{leaf, cond_nodes, conds_nodes}
-use Rattle.edd_syntax.specs.WellFormed.{if_some, is_text}
+use Rattle.edd_syntax.specs.Size.{leaf, conds_nodes}
+use Rattle.edd_syntax.specs.WellFormed.{is_text}
 use Rattle.edd_image.specs.declared.records.Record.{Record}
 use Rattle.edd_image.specs.declared.records.Record.TheVariants as records
 use Rattle.edd_image.specs.References.{item_exists}
-use Rattle.edd_image.specs.Agreement.{SameRecord, SameRecords, string_of_table, mask_number}
+use Rattle.edd_image.specs.Agreement.{SameRecords, string_of_table}
 use Rattle.edd_attrs.specs.Trees as trees
 use Rattle.edd_attrs.specs.Trees.{Tree}
 use Rattle.edd_attrs.specs.Plain.{both, plain_all, only, plain_one, plain_conds, plain_element, text_record, class_record, handling_record, validity_record, plain_records, records_at, is_fine, counts_in, strings_of_record, strings_of, plain_value, plain_values, kept_enumerator, kept_element, kept_entry, kept_data, kept_response, kept_member, is_kept, is_kept_at}
@@ -41,9 +41,9 @@ use Rattle.edd_attrs.specs.Code.{giving, bytes_of, giving_all}
 use Rattle.edd_attrs.proofs.PlainUnits.{both_of}
 use Rattle.edd_attrs.proofs.InTrees.{if_there}
 use Rattle.edd_attrs.proofs.Existing.{is_item_of}
-use Rattle.edd_attrs.proofs.GoodTrees.{good_enumerator, good_element, good_response, good_data, good_entry, good_member, is_good, is_small}
-use Rattle.edd_attrs.proofs.CheckedTrees.{is_octets, is_whole}
-use Rattle.edd_attrs.proofs.Meanings.{meaning, meaning_at}
+use Rattle.edd_attrs.proofs.GoodTrees.{good_enumerator, good_element, good_response, good_data, good_entry, good_member, is_small}
+use Rattle.edd_attrs.proofs.CheckedTrees.{is_whole}
+use Rattle.edd_attrs.proofs.Meanings.{meaning_at}
 use Rattle.edd_attrs.proofs.Runs.{giving_more}
 
 -- ---- lists of conditionals that are values

@@ -1,16 +1,15 @@
 -- The strings of an attribute are strings of its description.
-use Rattle.std.proofs.Common.{◌≡◌, refl, sym, ap, subst, ◌∙◌, ℕ, ◌⊎◌, Bool, true, false, List, [], ◌∷◌, ◌++◌, map, Option, Some, None}
+use Rattle.std.proofs.Common.{◌≡◌, refl, sym, ap, subst, ◌∙◌, Bool, true, false, List, [], ◌∷◌, ◌++◌, map, Option, Some, None}
 use Rattle.std.specs.Prelude.{◌&&◌, ◌||◌}
-use Rattle.std.specs.List.{Contains, list_all, list_any, flat_map}
+use Rattle.std.specs.List.{Contains, list_all, flat_map}
 use Rattle.std.proofs.lemmas.List.{map-append}
 use Rattle.edd_syntax.specs.declared.numbers.AttrRef.{AttrRef}
 use Rattle.edd_syntax.specs.declared.reference.Target.{Target}
 use Rattle.edd_syntax.specs.Item as item
 use Rattle.edd_syntax.specs.Item.{TypePart, TransactionPart, Attribute, Item, Description}
 use Rattle.edd_syntax.specs.Words.{Words, words_of}
-use Rattle.edd_syntax.specs.SubsetRules.{values_in, attributes_of}
-use Rattle.edd_syntax.specs.Strings.{strings_of_texts, enumerator_texts, type_part_texts, attribute_strings, unit_strings, same_words}
-use Rattle.edd_attrs.specs.Trees as trees
+use Rattle.edd_syntax.specs.SubsetRules.{attributes_of}
+use Rattle.edd_syntax.specs.Strings.{strings_of_texts, type_part_texts, attribute_strings, unit_strings, same_words}
 use Rattle.edd_attrs.specs.Trees.{Tree, trees_of_part, trees_of_parts, tree_of_transaction_part, tree_at}
 use Rattle.edd_attrs.specs.Sizes.{element_texts, tree_strings, strings_of_tree, strings_at}
 use Rattle.edd_attrs.proofs.Different.{has, Contains-has, has-Contains, words_same, words_refl}

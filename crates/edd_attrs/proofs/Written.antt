@@ -20,9 +20,9 @@ use Rattle.edd_image.specs.declared.instruction.Instruction.{Instruction}
 use Rattle.edd_image.specs.declared.instruction.Instruction.TheVariants as instruction
 use Rattle.edd_image.specs.Layout.{u16}
 use Rattle.edd_image.specs.Spelling.{i64, optional_bytes, spelling}
-use Rattle.edd_image.specs.Agreement.{class_number, mask_number, IsString, SameRecord, SameRecords, string_of_table}
+use Rattle.edd_image.specs.Agreement.{class_number, mask_number, SameRecord, SameRecords, string_of_table}
 use Rattle.edd_attrs.specs.Plain.{both, strings_of_record, strings_of}
-use Rattle.edd_attrs.specs.Code.{bytes_of, giving, giving_all, GrowsBy, Grows, Keeps, KeepsOptional, Overflows, Writes, IsUnit}
+use Rattle.edd_attrs.specs.Code.{bytes_of, giving, giving_all, GrowsBy, Keeps, KeepsOptional, Overflows, Writes, IsUnit}
 use Rattle.edd_attrs.proofs.Growing.{no_growth, nothing_added, growth, grows_on, both_added, keeps_on, keeps_optional_on, overflows_first, overflows_second}
 use Rattle.edd_attrs.proofs.Lines.{bytes_of-append}
 

@@ -1,4 +1,3 @@
-use Rattle.std.proofs.Common.{◌≡◌}
 use Rattle.edd_attrs.specs.Plain.{only}
 use Rattle.edd_attrs.specs.Code.{Grows}
 use Rattle.edd_attrs.proofs.Loops.{Front}

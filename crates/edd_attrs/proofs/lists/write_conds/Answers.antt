@@ -1,4 +1,4 @@
-use Rattle.std.proofs.Common.{◌≡◌, arith, List}
+use Rattle.std.proofs.Common.{arith, List}
 use Rattle.std.specs.Prelude.{IfSome}
 use Rattle.std.proofs.lemmas.Grind.{common_steps}
 use Rattle.edd_syntax.specs.ItemView.{cond_of}
@@ -7,7 +7,7 @@ use Rattle.edd_syntax.specs.Attributes.{Record}
 use Rattle.edd_attrs.specs.Plain.{strings_of}
 use Rattle.edd_attrs.specs.Code.{Overflows}
 use Rattle.edd_attrs.proofs.Growing.{no_growth, grows_on}
-use Rattle.edd_attrs.proofs.Loops.{front_starts, front_grows, front_overflows, front_ends, each_kept}
+use Rattle.edd_attrs.proofs.Loops.{front_starts, front_grows, front_overflows, each_kept}
 use Rattle.edd_attrs.proofs.lists.write_conds.Goals as goal
 
 pub write_cond-requires : goal.write_cond-requires

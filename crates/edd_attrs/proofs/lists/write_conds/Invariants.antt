@@ -1,6 +1,5 @@
-use Rattle.std.proofs.Common.{◌≡◌}
 use Rattle.edd_syntax.specs.ItemView.{cond_of}
-use Rattle.edd_attrs.specs.Plain.{plain_one, plain_value}
+use Rattle.edd_attrs.specs.Plain.{plain_one}
 use Rattle.edd_attrs.specs.Code.{Grows}
 use Rattle.edd_attrs.proofs.Loops.{Front}
 use Rattle.edd_attrs.proofs.lists.write_conds.Given as goal

@@ -1,6 +1,5 @@
-use Rattle.std.proofs.Common.{◌≡◌}
 use Rattle.edd_syntax.specs.ItemView.{type_part_of}
-use Rattle.edd_attrs.specs.Plain.{plain_element, kept_element}
+use Rattle.edd_attrs.specs.Plain.{plain_element}
 use Rattle.edd_attrs.specs.Code.{Grows}
 use Rattle.edd_attrs.proofs.Loops.{Front}
 use Rattle.edd_attrs.proofs.lowering.write_parts.Given as goal

@@ -1,6 +1,5 @@
-use Rattle.std.proofs.Common.{◌≡◌, sym, ap, subst, ◌∙◌, true, List, Option, string_bytes}
+use Rattle.std.proofs.Common.{sym, ap, subst, ◌∙◌, List, Option, string_bytes}
 use Rattle.std.specs.Prelude.{IfSome, OnOk, IsErrOf}
-use Rattle.std.specs.List.{list_all}
 use Rattle.edd_syntax.specs.Attributes as source
 use Rattle.edd_syntax.specs.ItemView.{type_part_of, data_item_of, response_code_of, entry_of, member_of}
 use Rattle.edd_syntax.specs.WordsView.{text_of}

@@ -1,11 +1,10 @@
-use Rattle.std.proofs.Common.{◌≡◌, arith, List, [], ◌∷◌, Option}
+use Rattle.std.proofs.Common.{arith, List, [], ◌∷◌}
 use Rattle.std.specs.Prelude.{option_map}
 use Rattle.std.specs.Option.{option_to_list}
 use Rattle.std.proofs.lemmas.Grind.{common_steps}
-use Rattle.std.proofs.lemmas.Result.{on_ok_weaker}
 use Rattle.edd_syntax.specs.Words.{Words, words_of}
 use Rattle.edd_syntax.specs.WordsView.{text_of}
-use Rattle.edd_attrs.specs.Code.{Overflows, Grows}
+use Rattle.edd_attrs.specs.Code.{Overflows}
 use Rattle.edd_attrs.proofs.Growing.{grows_on, overflows_head, overflows_tail}
 use Rattle.edd_attrs.proofs.Written.{enumerator_written}
 use Rattle.edd_attrs.proofs.elements.EnumeratorElement.write.Goals as goal
