@@ -119,9 +119,6 @@ entry_strings : (e : MenuEntry Target) → strings_of_record (entry e) ≡ strin
 entry_strings (item.Text text) = refl
 entry_strings (item.Reference to qualifiers) = refl
 
-no_texts : {V : Type 0} → V → List Text
-no_texts v = []
-
 members_strings : (ms : List (item.Member Target)) → strings_of (map member ms) ≡ flat_map member_strings ms
 members_strings [] = refl
 members_strings (m ∷ ms) =
