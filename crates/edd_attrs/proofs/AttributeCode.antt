@@ -1,8 +1,8 @@
 -- What was lowered of a row of a checked description is the code of its attribute.
-use Rattle.std.proofs.Common.{◌≡◌, refl, sym, ap, subst, ◌∙◌, ℕ, ◌+◌, ◌*◌, ◌<◌, ◌≤◌, ◌⊎◌, Bool, true, false, List, [], ◌∷◌, ◌++◌, length, take, Option, Some, None, Result, Ok, Err, IsTrue, arith, length-append}
+use Rattle.std.proofs.Common.{◌≡◌, refl, sym, ap, subst, ◌∙◌, ℕ, ◌<◌, ◌≤◌, ◌⊎◌, true, List, [], ◌++◌, length, take, Option, Some, None, Result, Ok, Err, IsTrue, arith, length-append}
 use Rattle.std.specs.Prelude.{◌↔◌, IfOk, OnOk, IfSome, is_some}
 use Rattle.std.specs.List.{Contains}
-use Rattle.std.proofs.lemmas.List.{append-nil, take_at}
+use Rattle.std.proofs.lemmas.List.{take_at}
 use Rattle.edd_syntax.specs.declared.numbers.AttrRef.{AttrRef}
 use Rattle.edd_syntax.specs.declared.reference.Target.{Target}
 use Rattle.edd_syntax.specs.Item.{Description}
@@ -14,15 +14,16 @@ use Rattle.edd_syntax.specs.Attributes as source
 use Rattle.edd_syntax.proofs.WithinLimits.{few_when_checked}
 use Rattle.edd_image.specs.declared.instruction.Instruction.TheVariants as instruction
 use Rattle.edd_image.specs.Spelling.{spelling}
-use Rattle.edd_image.specs.Agreement.{SameRecords, string_of_table, IsAttributeCode}
+use Rattle.edd_image.specs.Agreement.{IsAttributeCode}
 use Rattle.edd_attrs.specs.Trees.{tree_at}
-use Rattle.edd_attrs.specs.Plain.{records_at, is_plain_at, strings_of}
+use Rattle.edd_attrs.specs.Plain.{records_at, is_plain_at, is_kept_at, strings_of}
 use Rattle.edd_attrs.specs.Sizes.{strings_at, length_limit}
-use Rattle.edd_attrs.specs.Code.{giving_all, AreDifferent, IsUnit, Lowers, Overflows, OverflowsWith, Grows}
+use Rattle.edd_attrs.specs.Code.{AreDifferent, IsUnit, Lowers, Overflows, OverflowsWith, Grows}
+use Rattle.edd_attrs.proofs.CheckedTrees.{whole_when_checked}
 use Rattle.edd_attrs.proofs.Different.{fewer_different}
 use Rattle.edd_attrs.proofs.Meanings.{unit_means}
 use Rattle.edd_attrs.proofs.PlainCode.{code_means, strings_are}
-use Rattle.edd_attrs.proofs.PlainTrees.{IsPlain, plain_at, code_short}
+use Rattle.edd_attrs.proofs.PlainTrees.{IsPlain, plain_at, kept_at, code_short}
 
 is_there : {A : Type 0} (o : Option A) → is_some o ≡ true → (x : A) × (o ≡ Some x)
 is_there None h = absurd cc
@@ -31,7 +32,7 @@ is_there (Some x) h = (x, refl)
 if_is : {A : Type 0} (P : A → Type 0) (o : Option A) (x : A) → o ≡ Some x → IfSome o P → P x
 if_is P o x is h = subst (λ (p : Option _). IfSome p P) is h
 
-module _ (unit : Description Target) (row : AttrRef) (plain : IsTrue (is_plain_at unit row)) where
+module _ (unit : Description Target) (checked : ∥ IsChecked unit ∥₁) (row : AttrRef) (plain : IsTrue (is_plain_at unit row)) where
   abbrev found : (rs : List source.Record) × (records_at (tree_at unit row) ≡ Some rs)
   found = is_there (records_at (tree_at unit row)) plain
 
@@ -39,12 +40,13 @@ module _ (unit : Description Target) (row : AttrRef) (plain : IsTrue (is_plain_a
   rs = found.0
 
   is_plain : IsPlain unit (environment unit) (tree_at unit row) rs
-  is_plain = plain_at unit (environment unit) (tree_at unit row) rs found.1
+  is_plain = plain_at unit (environment unit) (tree_at unit row) (whole_when_checked unit row checked) rs found.1
 
   -- too many strings are too many different ones
   pub overflowing : (old : List Words) → AreDifferent old → OverflowsWith old (tree_at unit row) → 65535 < length (different (old ++ strings_at unit row))
   overflowing old d over =
-      let all = if_is (λ xs. Overflows old (strings_of xs)) (records_at (tree_at unit row)) rs found.1 over d in
+      let overflow = if_is (λ xs. Overflows old (strings_of xs)) (records_at (tree_at unit row)) rs found.1 over in
+      let all = overflow.held d in
       let within : (w : Words) → Contains all.0 w → Contains (old ++ strings_at unit row) w = λ w held. subst (λ (ws : List Words). Contains (old ++ ws) w) is_plain.strings (all.3 w held) in
       omega (arith, all.2, fewer_different (old ++ strings_at unit row) all.0 all.1 within)
 
@@ -52,8 +54,8 @@ module _ (unit : Description Target) (row : AttrRef) (plain : IsTrue (is_plain_a
     is_unit : IsUnit old rs new code
     is_unit = if_is (λ xs. IsUnit old xs new code) (records_at (tree_at unit row)) rs found.1 lowered
 
-    pub lowered_means : ∥ IsChecked unit ∥₁ → length old ≤ 65535 → (later : List Words) → IsAttributeCode unit (new ++ later) row code
-    lowered_means checked few later =
+    pub lowered_means : length old ≤ 65535 → (later : List Words) → IsAttributeCode unit (new ++ later) row code
+    lowered_means few later =
         code_means unit (few_when_checked unit checked) row old new rs code few is_unit is_plain.fine (λ values. ap (λ (m : source.Meaning). m values) (unit_means unit row) ∙ is_plain.means values) later
 
     pub lowered_strings : (w : Words) → Contains new w ↔ (Contains old w ⊎ Contains (strings_at unit row) w)
@@ -63,6 +65,9 @@ module _ (unit : Description Target) (row : AttrRef) (plain : IsTrue (is_plain_a
     lowered_short =
         let writes = is_unit.1 in
         omega (arith, is_plain.short, ap length is_unit.2, ap length writes.written, length-append is_unit.0 (spelling instruction.End), code_short (new ++ []) rs writes.given (writes.same []))
+
+pub kept_when_checked : (unit : Description Target) (row : AttrRef) → ∥ IsChecked unit ∥₁ → is_kept_at (tree_at unit row) ≡ true
+kept_when_checked unit row checked = kept_at unit (tree_at unit row) (whole_when_checked unit row checked)
 
 -- the strings that were there are the first ones of the table that grew
 pub cut_back : (old grown cut : List Words) (n : ℕ) → Grows old grown → n ≡ length old → cut ≡ take n grown → cut ≡ old

@@ -1,227 +1,167 @@
--- What the trees of a checked description keep of the texts of its source.
-use Rattle.std.proofs.Common.{◌≡◌, refl, sym, ap, subst, ◌∙◌, ℕ, zero, suc, Bool, true, false, List, [], ◌∷◌, ◌++◌, map, filter, Option, Some, None, IsTrue, cond}
-use Rattle.std.specs.Prelude.{◌&&◌, not, slice_get, if◌then◌else◌}
-use Rattle.std.specs.List.{list_all}
-use Rattle.std.proofs.lemmas.Option.{none-some, same_Some}
+-- What the tree of a row of a checked description keeps.
+use Rattle.std.proofs.Common.{◌≡◌, refl, sym, ap, subst, ◌∙◌, ℕ, Bool, true, false, List, [], ◌∷◌, ◌++◌, length, map, filter, Option, Some, None, cond, arith}
+use Rattle.std.specs.Prelude.{◌&&◌, nat_lt}
+use Rattle.std.specs.List.{list_all, flat_map}
 use Rattle.std.proofs.Math.Logic.{∥∥₁_elim}
 use Rattle.std.proofs.Math.Bool.{Bool-set}
-use Rattle.edd_syntax.specs.declared.numbers.Attr.{Attr}
-use Rattle.edd_syntax.specs.declared.numbers.AttrRef.{AttrRef}
+use Rattle.std.proofs.Math.Path.{fun_ext}
+use Rattle.std.proofs.lemmas.Option.{same_Some}
+use Rattle.std.proofs.lemmas.Bool.{lt-ltb, ltb-false}
 use Rattle.edd_syntax.specs.declared.numbers.Kind.{Kind}
+use Rattle.edd_syntax.specs.declared.numbers.AttrRef.{AttrRef}
 use Rattle.edd_syntax.specs.Reference.{Path}
 use Rattle.edd_syntax.specs.declared.reference.Target.{Target}
-use Rattle.edd_syntax.specs.Conditional.{Cond, Value, If, Select}
+use Rattle.edd_syntax.specs.Conditional.{Cond, Value, If, Select, Conds, Nil, Cons}
 use Rattle.edd_syntax.specs.Item as item
-use Rattle.edd_syntax.specs.Item.{ItemKind, kind_of_item, TypePart, TransactionPart, Attribute, Item, Description}
-use Rattle.edd_syntax.specs.Numbers.{same_attr, same_kind, kind_of, index_of}
-use Rattle.edd_syntax.specs.Device.{items_of, item_at}
-use Rattle.edd_syntax.specs.Attributes.{is_of_transaction}
-use Rattle.edd_syntax.specs.Resolution.{member_kinds}
-use Rattle.edd_syntax.specs.Size.{attribute_height, height_limit}
-use Rattle.edd_syntax.specs.WellFormed.{is_text, is_path, is_plain, is_cond, is_single, is_type_part, is_type, is_attribute, belongs_to, stands_in, is_item, are_items}
-use Rattle.edd_syntax.specs.ResolvedTrees.{◌>>=◌, each, unchanged, resolved_expr, resolved_cond, resolved_conds, resolved_arms, resolved_body, at_attribute, resolved_entry, resolved_member, resolved_type_part, resolved_transaction_part, resolved_attribute, resolved_item, resolved_unit}
+use Rattle.edd_syntax.specs.Item.{kind_of_item, DataItem, TypePart, TransactionPart, Attribute, Item, Description}
+use Rattle.edd_syntax.specs.Numbers.{same_kind}
+use Rattle.edd_syntax.specs.Resolution.{count_of}
+use Rattle.edd_syntax.specs.Refusal.{ConstRange, refused_if}
+use Rattle.edd_syntax.specs.SubsetRules.{values_in, values_of, data_breaches, transaction_part_breaches, attribute_data_breaches, wrong_types, mismatches, float_values, wrong_breaks, wrong_constants}
+use Rattle.edd_syntax.specs.WellFormed.{is_path, is_plain, is_item, are_items}
+use Rattle.edd_syntax.specs.ResolvedTrees.{each, resolved_attribute, resolved_item, resolved_unit}
 use Rattle.edd_syntax.specs.Resolved.{IsChecked}
-use Rattle.edd_attrs.specs.Trees.{Tree, Named, Texts, Enumerators, trees_of_part, trees_of_parts, trees_of_attribute, trees_of, tree_of_transaction_part, transaction_trees, first_tree, tree_in, tree_at}
-use Rattle.edd_attrs.specs.Plain.{plain_value, is_kept, is_kept_at}
-use Rattle.edd_attrs.proofs.PlainUnits.{both_of}
+use Rattle.edd_syntax.proofs.WithinLimits.{each_keeps}
+use Rattle.edd_attrs.specs.Trees as trees
+use Rattle.edd_attrs.specs.Trees.{Tree, trees_of_part, trees_of_parts, tree_of_transaction_part, tree_at}
+use Rattle.edd_attrs.specs.Plain.{plain_value, plain_values, kept_data}
+use Rattle.edd_attrs.proofs.InTrees.{if_there, all_append, named, throughout, throughout_item, tree_has}
+use Rattle.edd_attrs.proofs.GoodTrees.{bind_some, each_all, is_good, item_good}
 
--- ---- steps that may fail
+-- ---- constants are octets
 
-pub bind_some : {A B : Type 0} (o : Option A) (f : A → Option B) (z : B) → (o >>= f) ≡ Some z → (x : A) × (o ≡ Some x) × (f x ≡ Some z)
-bind_some None f z h = absurd (none-some z h)
-bind_some (Some x) f z h = (x, refl, h)
+front_none : {A : Type 0} (xs ys : List A) → xs ++ ys ≡ [] → (xs ≡ []) × (ys ≡ [])
+front_none [] ys h = (refl, h)
+front_none (x ∷ xs) ys h = absurd (omega (arith, ap length h))
 
--- what holds of a value holds of the one that it is
-pub along_some : {A : Type 0} (P : A → Bool) (x y : A) → Some x ≡ Some y → P x ≡ true → P y ≡ true
-along_some P x y e h = subst (λ z. P z ≡ true) (same_Some x y e) h
-
-pub each_all : {A B : Type 0} (of : A → Option B) (p : A → Bool) (q : B → Bool) → ((x : A) (y : B) → p x ≡ true → of x ≡ Some y → q y ≡ true)
-    → (xs : List A) (ys : List B) → list_all p xs ≡ true → each of xs ≡ Some ys → list_all q ys ≡ true
-each_all of p q keeps [] ys all h = along_some (list_all q) [] ys h refl
-each_all of p q keeps (x ∷ xs) ys all h =
-    let parts = both_of (p x) (list_all p xs) all in
-    let first = bind_some (of x) (λ y. each of xs >>= λ others. Some (y ∷ others)) ys h in
-    let rest = bind_some (each of xs) (λ others. Some (first.0 ∷ others)) ys first.2 in
-    along_some (list_all q) (first.0 ∷ rest.0) ys rest.2 (rw (keeps x first.0 parts.0 first.1, each_all of p q keeps xs rest.0 parts.1 rest.1) refl)
-
--- ---- conditionals without references in their values
-
-module _ (at : Path → Option Target) {V : Type 0} (of : V → Bool) where
-  cond_kept : (c : Cond Path V) (d : Cond Target V) → is_cond is_path is_plain of c ≡ true → resolved_cond at unchanged c ≡ Some d → plain_value of d ≡ true
-  unfolding resolved_cond
-  cond_kept (Value v) d h e = along_some (plain_value of) (Value v) d e h
-  cond_kept (If condition first otherwise) d h e =
-      let x = bind_some (resolved_expr at condition) (λ condition'. resolved_conds at unchanged first >>= λ first'. resolved_conds at unchanged otherwise >>= λ otherwise'. Some (If condition' first' otherwise')) d e in
-      let y = bind_some (resolved_conds at unchanged first) (λ first'. resolved_conds at unchanged otherwise >>= λ otherwise'. Some (If x.0 first' otherwise')) d x.2 in
-      let z = bind_some (resolved_conds at unchanged otherwise) (λ otherwise'. Some (If x.0 y.0 otherwise')) d y.2 in
-      along_some (plain_value of) (If x.0 y.0 z.0) d z.2 refl
-  cond_kept (Select on arms) d h e =
-      let x = bind_some (resolved_expr at on) (λ on'. resolved_arms at unchanged arms >>= λ arms'. Some (Select on' arms')) d e in
-      let y = bind_some (resolved_arms at unchanged arms) (λ arms'. Some (Select x.0 arms')) d x.2 in
-      along_some (plain_value of) (Select x.0 y.0) d y.2 refl
-
--- ---- attributes
-
-abbrev kept_named : Named → Bool
-kept_named x = is_kept x.1
-
-abbrev kept_part : TypePart Target → Bool
-kept_part p = list_all kept_named (trees_of_part p)
-
-abbrev kept_attribute : Attribute Target → Bool
-kept_attribute a = list_all kept_named (trees_of_attribute a)
-
-all_append : {A : Type 0} (p : A → Bool) (xs ys : List A) → list_all p xs ≡ true → list_all p ys ≡ true → list_all p (xs ++ ys) ≡ true
-all_append p [] ys h k = k
-all_append p (x ∷ xs) ys h k = let parts = both_of (p x) (list_all p xs) h in rw parts.0 (all_append p xs ys parts.1 k)
-
-module _ (unit : Description Path) where
-  abbrev at : Path → Option Target
-  at = at_attribute unit
-
-  texts_kept : (c : Cond Path _) (d : Cond Target _) → (is_cond is_path is_plain is_text c && is_single is_path is_plain c) ≡ true → resolved_cond at unchanged c ≡ Some d → (plain_value is_text d && true) ≡ true
-  texts_kept c d h e = rw (cond_kept at is_text c d (both_of (is_cond is_path is_plain is_text c) (is_single is_path is_plain c) h).0 e) refl
-
-  part_kept : (p : TypePart Path) (q : TypePart Target) → is_type_part is_path is_plain p ≡ true → resolved_type_part unit p ≡ Some q → kept_part q ≡ true
-  unfolding is_kept
-  part_kept (item.DefaultValue c) q h e = let x = bind_some (resolved_cond at (resolved_expr at) c) (λ c'. Some (item.DefaultValue c')) q e in along_some kept_part (item.DefaultValue x.0) q x.2 refl
-  part_kept (item.MinValue c) q h e = let x = bind_some (resolved_cond at (resolved_expr at) c) (λ c'. Some (item.MinValue c')) q e in along_some kept_part (item.MinValue x.0) q x.2 refl
-  part_kept (item.MaxValue c) q h e = let x = bind_some (resolved_cond at (resolved_expr at) c) (λ c'. Some (item.MaxValue c')) q e in along_some kept_part (item.MaxValue x.0) q x.2 refl
-  part_kept (item.DisplayFormat c) q h e = let x = bind_some (resolved_cond at unchanged c) (λ c'. Some (item.DisplayFormat c')) q e in along_some kept_part (item.DisplayFormat x.0) q x.2 (texts_kept c x.0 h x.1)
-  part_kept (item.EditFormat c) q h e = let x = bind_some (resolved_cond at unchanged c) (λ c'. Some (item.EditFormat c')) q e in along_some kept_part (item.EditFormat x.0) q x.2 (texts_kept c x.0 h x.1)
-  part_kept (item.Element c) q h e = let x = bind_some (resolved_cond at unchanged c) (λ c'. Some (item.Element c')) q e in along_some kept_part (item.Element x.0) q x.2 refl
-
-parts_kept : (parts : List (TypePart Target)) → list_all kept_part parts ≡ true → list_all kept_named (trees_of_parts parts) ≡ true
-parts_kept [] h = refl
-parts_kept (p ∷ rest) h =
-    let both = both_of (kept_part p) (list_all kept_part rest) h in
-    all_append kept_named (trees_of_part p) (trees_of_parts rest) both.0 (parts_kept rest both.1)
-
-type_parts : (word : item.TypeWord) (parts : List (TypePart Path)) → is_type is_path is_plain word parts ≡ true → list_all (is_type_part is_path is_plain) parts ≡ true
-type_parts (item.Known type size) parts h = (both_of _ (list_all (is_type_part is_path is_plain) parts) h).1
-type_parts (item.Other word) [] h = refl
-type_parts (item.Other word) (p ∷ parts) h = absurd (cc ((both_of _ false h).1))
-
-module _ (unit : Description Path) where
-  attribute_kept : (sort : ItemKind) (a : Attribute Path) (b : Attribute Target) → is_attribute is_path is_plain a ≡ true → resolved_attribute unit sort a ≡ Some b → kept_attribute b ≡ true
-  unfolding is_kept
-  attribute_kept sort (item.Label c) b h e = let x = bind_some (resolved_cond (at unit) unchanged c) (λ c'. Some (item.Label c')) b e in along_some kept_attribute (item.Label x.0) b x.2 (texts_kept unit c x.0 h x.1)
-  attribute_kept sort (item.Help c) b h e = let x = bind_some (resolved_cond (at unit) unchanged c) (λ c'. Some (item.Help c')) b e in along_some kept_attribute (item.Help x.0) b x.2 (texts_kept unit c x.0 h x.1)
-  attribute_kept sort (item.Class words) b h e = along_some kept_attribute (item.Class words) b e refl
-  attribute_kept sort (item.Handling c) b h e = let x = bind_some (resolved_cond (at unit) unchanged c) (λ c'. Some (item.Handling c')) b e in along_some kept_attribute (item.Handling x.0) b x.2 refl
-  attribute_kept sort (item.ConstantUnit c) b h e = let x = bind_some (resolved_cond (at unit) unchanged c) (λ c'. Some (item.ConstantUnit c')) b e in along_some kept_attribute (item.ConstantUnit x.0) b x.2 (texts_kept unit c x.0 h x.1)
-  attribute_kept sort (item.Validity c) b h e = let x = bind_some (resolved_cond (at unit) unchanged c) (λ c'. Some (item.Validity c')) b e in along_some kept_attribute (item.Validity x.0) b x.2 refl
-  attribute_kept sort (item.TypeOf word parts) b h e =
-      let x = bind_some (each (resolved_type_part unit) parts) (λ parts'. Some (item.TypeOf word parts')) b e in
-      along_some kept_attribute (item.TypeOf word x.0) b x.2
-      (parts_kept x.0 (each_all (resolved_type_part unit) (is_type_part is_path is_plain) kept_part (part_kept unit) parts x.0 (type_parts word parts h) x.1))
-  attribute_kept sort (item.Number n) b h e = along_some kept_attribute (item.Number n) b e refl
-  attribute_kept sort (item.Operation o) b h e = along_some kept_attribute (item.Operation o) b e refl
-  attribute_kept sort (item.Transaction number parts) b h e = let x = bind_some (each (resolved_transaction_part unit) parts) (λ parts'. Some (item.Transaction number parts')) b e in along_some kept_attribute (item.Transaction number x.0) b x.2 refl
-  attribute_kept sort (item.ResponseCodes responses) b h e = along_some kept_attribute (item.ResponseCodes responses) b e refl
-  attribute_kept sort (item.Items entries) b h e = let x = bind_some (resolved_conds (at unit) (resolved_entry unit) entries) (λ entries'. Some (item.Items entries')) b e in along_some kept_attribute (item.Items x.0) b x.2 refl
-  attribute_kept sort (item.Members members) b h e = let x = bind_some (each (resolved_member unit (member_kinds sort)) members) (λ members'. Some (item.Members members')) b e in along_some kept_attribute (item.Members x.0) b x.2 refl
-  attribute_kept sort (item.Definition body) b h e = let x = bind_some (resolved_body unit body [] 0) (λ body'. Some (item.Definition body')) b e in along_some kept_attribute (item.Definition x.0) b x.2 refl
-
-  abbrev kept_item : Item Target → Bool
-  kept_item i = list_all kept_attribute i.attributes
-
-  item_kept : (i : Item Path) (j : Item Target) → is_item is_path is_plain i ≡ true → resolved_item unit i ≡ Some j → kept_item j ≡ true
-  item_kept i j h e =
-      let x = bind_some (each (resolved_attribute unit i.sort) i.attributes) (λ attributes. Some (record { sort = i.sort; name = i.name; attributes = attributes })) j e in
-      along_some kept_item (record { sort = i.sort; name = i.name; attributes = x.0 }) j x.2
-      (each_all (resolved_attribute unit i.sort) (stands_in is_path is_plain (kind_of_item i.sort)) kept_attribute
-          (λ a b k. attribute_kept i.sort a b (both_of (belongs_to (kind_of_item i.sort) a) (is_attribute is_path is_plain a) (both_of (belongs_to (kind_of_item i.sort) a && is_attribute is_path is_plain a) _ k).0).1)
-          i.attributes x.0 (both_of _ _ h).1 x.1)
-
--- ---- the tree of a row
-
-first_kept : (a : Attr) (xs : List Named) → list_all kept_named xs ≡ true → is_kept_at (first_tree a xs) ≡ true
-first_kept a [] h = refl
-first_kept a (x ∷ rest) h =
-    let parts = both_of (kept_named x) (list_all kept_named rest) h in
-    here (same_attr x.0 a) parts.0 (first_kept a rest parts.1)
+data_small : (d : DataItem Target) → data_breaches d ≡ [] → kept_data d ≡ true
+data_small (item.Constant n) h = here (nat_lt 255 n) refl h
   where
-    here : (b : Bool) → is_kept x.1 ≡ true → is_kept_at (first_tree a rest) ≡ true → is_kept_at (elim b as (λ _. Option Tree) [ true ↦ Some x.1 | false ↦ first_tree a rest ]) ≡ true
-    here true p q = p
-    here false p q = q
+    here : (b : Bool) → nat_lt 255 n ≡ b → refused_if b ConstRange ≡ [] → nat_lt n 256 ≡ true
+    here true is h = absurd (omega (arith, ap length h))
+    here false is h = lt-ltb n 256 (omega (arith, ltb-false 255 n is))
+data_small (item.Variable variable mask qualifiers) h = refl
 
-trees_kept : (attributes : List (Attribute Target)) → list_all kept_attribute attributes ≡ true → list_all kept_named (trees_of attributes) ≡ true
-trees_kept [] h = refl
-trees_kept (a ∷ rest) h =
-    let parts = both_of (kept_attribute a) (list_all kept_attribute rest) h in
-    all_append kept_named (trees_of_attribute a) (trees_of rest) parts.0 (trees_kept rest parts.1)
+value_small : (c : Cond Target (DataItem Target)) → flat_map data_breaches (values_in c) ≡ [] → plain_value kept_data c ≡ true
+value_small (Value d) h = data_small d (front_none (data_breaches d) [] h).0
+value_small (If condition first otherwise) h = refl
+value_small (Select on arms) h = refl
 
--- the trees of transactions have no texts
-transaction_parts_kept : (parts : List (TransactionPart Target)) → list_all kept_named (map tree_of_transaction_part parts) ≡ true
-unfolding is_kept
-transaction_parts_kept [] = refl
-transaction_parts_kept (item.Request all ∷ rest) = transaction_parts_kept rest
-transaction_parts_kept (item.Reply all ∷ rest) = transaction_parts_kept rest
+flat_none : {A B : Type 0} (f : A → List B) (xs ys : List A) → flat_map f (xs ++ ys) ≡ [] → (flat_map f xs ≡ []) × (flat_map f ys ≡ [])
+flat_none f [] ys h = (refl, h)
+flat_none f (x ∷ xs) ys h =
+    let first = front_none (f x) (flat_map f (xs ++ ys)) h in
+    let rest = flat_none f xs ys first.1 in
+    (ap (λ zs. zs ++ flat_map f xs) first.0 ∙ rest.0, rest.1)
 
-transactions_kept : (attributes : List (Attribute Target)) → list_all (list_all kept_named) (transaction_trees attributes) ≡ true
-unfolding is_kept
-transactions_kept [] = refl
-transactions_kept (item.Label c ∷ rest) = transactions_kept rest
-transactions_kept (item.Help c ∷ rest) = transactions_kept rest
-transactions_kept (item.Class names ∷ rest) = transactions_kept rest
-transactions_kept (item.Handling c ∷ rest) = transactions_kept rest
-transactions_kept (item.ConstantUnit c ∷ rest) = transactions_kept rest
-transactions_kept (item.Validity c ∷ rest) = transactions_kept rest
-transactions_kept (item.TypeOf word parts ∷ rest) = transactions_kept rest
-transactions_kept (item.Number n ∷ rest) = transactions_kept rest
-transactions_kept (item.Operation o ∷ rest) = transactions_kept rest
-transactions_kept (item.Transaction number parts ∷ rest) = rw (transaction_parts_kept parts) (transactions_kept rest)
-transactions_kept (item.ResponseCodes responses ∷ rest) = transactions_kept rest
-transactions_kept (item.Items entries ∷ rest) = transactions_kept rest
-transactions_kept (item.Members members ∷ rest) = transactions_kept rest
-transactions_kept (item.Definition body ∷ rest) = transactions_kept rest
+values_small : (c : Conds Target (DataItem Target)) → flat_map data_breaches (values_of c) ≡ [] → plain_values kept_data c ≡ true
+values_small Nil h = refl
+values_small (Cons first rest) h = let both = flat_none data_breaches (values_in first) (values_of rest) h in rw (value_small first both.0, values_small rest both.1) refl
 
--- what holds of all elements holds of the one at a place
-abbrev if_there : {A : Type 0} → (A → Bool) → Option A → Bool
-if_there p None = true
-if_there p (Some x) = p x
+abbrev pub is_octets : Tree → Bool
+is_octets (trees.Texts c) = true
+is_octets (trees.Class names) = true
+is_octets (trees.Handling c) = true
+is_octets (trees.Validity c) = true
+is_octets (trees.Expressions c) = true
+is_octets (trees.Enumerators parts) = true
+is_octets (trees.Number n) = true
+is_octets (trees.Operation o) = true
+is_octets (trees.Transaction number) = true
+is_octets (trees.Data all) = plain_values kept_data all
+is_octets (trees.ResponseCodes responses) = true
+is_octets (trees.Items entries) = true
+is_octets (trees.Members members) = true
 
-at_place : {A : Type 0} (p : A → Bool) (xs : List A) (n : ℕ) → list_all p xs ≡ true → if_there p (slice_get xs n) ≡ true
-at_place p [] n h = refl
-at_place p (x ∷ xs) zero h = (both_of (p x) (list_all p xs) h).0
-at_place p (x ∷ xs) (suc n) h = at_place p xs n (both_of (p x) (list_all p xs) h).1
+part_octets : (p : TransactionPart Target) → transaction_part_breaches p ≡ [] → named is_octets (tree_of_transaction_part p) ≡ true
+part_octets (item.Request all) h = values_small all h
+part_octets (item.Reply all) h = values_small all h
 
-filtered : {A : Type 0} (p q : A → Bool) (xs : List A) → list_all p xs ≡ true → list_all p (filter q xs) ≡ true
-filtered p q [] h = refl
-filtered p q (x ∷ xs) h =
-    let parts = both_of (p x) (list_all p xs) h in
-    here (q x) parts.0 (filtered p q xs parts.1)
+parts_octets : (parts : List (TransactionPart Target)) → flat_map transaction_part_breaches parts ≡ [] → list_all (named is_octets) (map tree_of_transaction_part parts) ≡ true
+parts_octets [] h = refl
+parts_octets (p ∷ rest) h = let both = front_none (transaction_part_breaches p) (flat_map transaction_part_breaches rest) h in rw (part_octets p both.0, parts_octets rest both.1) refl
+
+type_parts_octets : (parts : List (TypePart Target)) → list_all (named is_octets) (trees_of_parts parts) ≡ true
+type_parts_octets [] = refl
+type_parts_octets (p ∷ rest) = all_append (named is_octets) (trees_of_part p) (trees_of_parts rest) (one p) (type_parts_octets rest)
   where
-    here : (b : Bool) → p x ≡ true → list_all p (filter q xs) ≡ true → list_all p (cond b (x ∷ filter q xs) (filter q xs)) ≡ true
-    here true h k = rw h k
-    here false h k = k
+    one : (q : TypePart Target) → list_all (named is_octets) (trees_of_part q) ≡ true
+    one (item.DefaultValue c) = refl
+    one (item.MinValue c) = refl
+    one (item.MaxValue c) = refl
+    one (item.DisplayFormat c) = refl
+    one (item.EditFormat c) = refl
+    one (item.Element c) = refl
 
-tree_in_kept : (attributes : List (Attribute Target)) (a : Attr) (sub : ℕ) → list_all kept_attribute attributes ≡ true → is_kept_at (tree_in attributes a sub) ≡ true
-tree_in_kept attributes a sub h = here (is_of_transaction a) _ _ (of_transaction (slice_get (transaction_trees attributes) sub) (at_place (list_all kept_named) (transaction_trees attributes) sub (transactions_kept attributes))) (first_kept a (trees_of attributes) (trees_kept attributes h))
+attribute_octets : (a : Attribute Target) → attribute_data_breaches a ≡ [] → throughout is_octets a ≡ true
+attribute_octets (item.Label c) h = refl
+attribute_octets (item.Help c) h = refl
+attribute_octets (item.Class words) h = refl
+attribute_octets (item.Handling c) h = refl
+attribute_octets (item.ConstantUnit c) h = refl
+attribute_octets (item.Validity c) h = refl
+attribute_octets (item.TypeOf word parts) h = rw (type_parts_octets parts) refl
+attribute_octets (item.Number n) h = refl
+attribute_octets (item.Operation o) h = refl
+attribute_octets (item.Transaction number parts) h = parts_octets parts h
+attribute_octets (item.ResponseCodes responses) h = refl
+attribute_octets (item.Items entries) h = refl
+attribute_octets (item.Members members) h = refl
+attribute_octets (item.Definition body) h = refl
+
+attributes_octets : (attributes : List (Attribute Target)) → flat_map attribute_data_breaches attributes ≡ [] → list_all (throughout is_octets) attributes ≡ true
+attributes_octets [] h = refl
+attributes_octets (a ∷ rest) h = let both = front_none (attribute_data_breaches a) (flat_map attribute_data_breaches rest) h in rw (attribute_octets a both.0, attributes_octets rest both.1) refl
+
+items_octets : (items : List (Item Target)) → flat_map attribute_data_breaches (flat_map (λ i. i.attributes) items) ≡ [] → list_all (throughout_item is_octets) items ≡ true
+items_octets [] h = refl
+items_octets (i ∷ rest) h = let both = flat_none attribute_data_breaches i.attributes (flat_map (λ j. j.attributes) rest) h in rw (attributes_octets i.attributes both.0, items_octets rest both.1) refl
+
+-- ---- the items of a description and of the unit that it comes from are as many
+
+filter_lengths : {X C : Type 0} (κ : X → C) (p : C → Bool) (xs : List X) → length (filter (λ x. p (κ x)) xs) ≡ length (filter p (map κ xs))
+filter_lengths κ p [] = refl
+filter_lengths κ p (x ∷ xs) = here (p (κ x)) (filter_lengths κ p xs)
   where
-    of_transaction : (o : Option (List Named)) → if_there (list_all kept_named) o ≡ true → is_kept_at (elim o as (λ _. Option Tree) [ Some trees ↦ first_tree a trees | None ↦ None ]) ≡ true
-    of_transaction None k = refl
-    of_transaction (Some trees) k = first_kept a trees k
+    here : (b : Bool) → length (filter (λ x. p (κ x)) xs) ≡ length (filter p (map κ xs)) → length (cond b (x ∷ filter (λ y. p (κ y)) xs) (filter (λ y. p (κ y)) xs)) ≡ length (cond b (κ x ∷ filter p (map κ xs)) (filter p (map κ xs)))
+    here true h = omega (arith, h)
+    here false h = h
 
-    here : (b : Bool) (s t : Option Tree) → is_kept_at s ≡ true → is_kept_at t ≡ true → is_kept_at (cond b s t) ≡ true
-    here true s t p q = p
-    here false s t p q = q
+sort_kept : (unit : Description Path) (i : Item Path) (y : Item Target) → resolved_item unit i ≡ Some y → y.sort ≡ i.sort
+sort_kept unit i y h =
+    let x = bind_some (each (resolved_attribute unit i.sort) i.attributes) (λ attributes. Some (record { sort = i.sort; name = i.name; attributes = attributes })) y h in
+    sym (ap (λ (z : Item Target). z.sort) (same_Some (record { sort = i.sort; name = i.name; attributes = x.0 }) y x.2))
+
+count_kept : (unit : Description Path) (items : List (Item Target)) → each (resolved_item unit) unit.items ≡ Some items → (k : Kind) → count_of k items ≡ count_of k unit.items
+count_kept unit items meant k =
+    filter_lengths (λ i. i.sort) (λ s. same_kind (kind_of_item s) k) items
+    ∙ ap (λ ss. length (filter (λ s. same_kind (kind_of_item s) k) ss)) (each_keeps (resolved_item unit) (λ i. i.sort) (λ i. i.sort) (sort_kept unit) unit.items items meant)
+    ∙ sym (filter_lengths (λ i. i.sort) (λ s. same_kind (kind_of_item s) k) unit.items)
+
+-- ---- a checked description
+
+abbrev pub is_whole : Description Target → Tree → Bool
+is_whole d t = is_good (λ k. count_of k d.items) t && is_octets t
+
+both_there : {A : Type 0} (p q : A → Bool) (o : Option A) → if_there p o ≡ true → if_there q o ≡ true → if_there (λ x. p x && q x) o ≡ true
+both_there p q None h k = refl
+both_there p q (Some x) h k = rw (h, k) refl
 
 module _ (d : Description Target) (row : AttrRef) where
-  kept_in : IsChecked d → is_kept_at (tree_at d row) ≡ true
-  unfolding resolved_unit are_items tree_at
-  kept_in checked =
+  whole_in : IsChecked d → if_there (is_whole d) (tree_at d row) ≡ true
+  unfolding resolved_unit are_items
+  whole_in checked =
       let u = checked.is_resolved.unit in
       let x = bind_some (each (resolved_item u) u.items) (λ items. Some (record { identification = u.identification; items = items })) d checked.is_resolved.meanings in
-      let all : list_all (kept_item u) d.items ≡ true =
-          along_some (λ e. list_all (kept_item u) e.items) (record { identification = u.identification; items = x.0 }) d x.2
-          (each_all (resolved_item u) (is_item is_path is_plain) (kept_item u) (item_kept u) u.items x.0 checked.is_resolved.well_formed x.1) in
-      of_item u (item_at d row.item) (at_place (kept_item u) (items_of (kind_of row.item) d) (index_of row.item) (filtered (kept_item u) (λ i. same_kind (kind_of_item i.sort) (kind_of row.item)) d.items all))
-    where
-      of_item : (u : Description Path) (o : Option (Item Target)) → if_there (kept_item u) o ≡ true → is_kept_at (elim o as (λ _. Option Tree) [ Some i ↦ tree_in i.attributes row.attr row.sub | None ↦ None ]) ≡ true
-      of_item u None k = refl
-      of_item u (Some i) k = tree_in_kept i.attributes row.attr row.sub k
+      let same_items : x.0 ≡ d.items = ap (λ (e : Description Target). e.items) (same_Some (record { identification = u.identification; items = x.0 }) d x.2) in
+      let good : list_all (throughout_item (is_good (λ k. count_of k u.items))) x.0 ≡ true =
+      each_all (resolved_item u) (is_item is_path is_plain) (throughout_item (is_good (λ k. count_of k u.items))) (item_good u) u.items x.0 checked.is_resolved.well_formed x.1 in
+      let counts : (λ k. count_of k u.items) ≡ (λ k. count_of k d.items) = fun_ext (λ k. sym (count_kept u d.items (x.1 ∙ ap Some same_items) k)) in
+      let good_here : list_all (throughout_item (is_good (λ k. count_of k d.items))) d.items ≡ true =
+      subst (λ (items : List (Item Target)). list_all (throughout_item (is_good (λ k. count_of k d.items))) items ≡ true) same_items
+      (subst (λ (count : Kind → ℕ). list_all (throughout_item (is_good count)) x.0 ≡ true) counts good) in
+      let none = (front_none (wrong_constants d) _ (front_none (wrong_breaks d) _ (front_none (float_values d) _ (front_none (mismatches d) _ (front_none (wrong_types d) _ checked.no_breach).1).1).1).1).0 in
+      both_there (is_good (λ k. count_of k d.items)) is_octets (tree_at d row) (tree_has (is_good (λ k. count_of k d.items)) d row good_here) (tree_has is_octets d row (items_octets d.items none))
 
-  pub kept_when_checked : ∥ IsChecked d ∥₁ → is_kept_at (tree_at d row) ≡ true
-  kept_when_checked checked = ∥∥₁_elim checked (Bool-set _ _) kept_in
+  pub whole_when_checked : ∥ IsChecked d ∥₁ → if_there (is_whole d) (tree_at d row) ≡ true
+  whole_when_checked checked = ∥∥₁_elim checked (Bool-set _ _) whole_in

@@ -1,5 +1,5 @@
 -- The tree of a row is that of its item's attributes.
-use Rattle.std.proofs.Common.{◌≡◌, refl, sym, ap, ◌∙◌, List, Option, Some, None, map}
+use Rattle.std.proofs.Common.{◌≡◌, refl, ap, ◌∙◌, List, Option, Some, None}
 use Rattle.std.specs.Prelude.{option_map}
 use Rattle.std.specs.List.{slice_get}
 use Rattle.edd_syntax.specs.declared.numbers.AttrRef.{AttrRef}

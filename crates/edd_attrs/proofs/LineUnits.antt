@@ -1,6 +1,6 @@
 -- Code that stands in a line is a valid unit.
-use Rattle.std.proofs.Common.{◌≡◌, refl, sym, ap, subst, ◌∙◌, ℕ, zero, suc, ◌+◌, ◌-◌, ◌<◌, ◌≤◌, Bool, true, false, List, [], ◌∷◌, ◌++◌, length, Option, Some, None, IsTrue, arith, append_assoc, length-append, cond}
-use Rattle.std.specs.Prelude.{◌&&◌, ◌||◌, ◌==◌, nat_lt}
+use Rattle.std.proofs.Common.{◌≡◌, refl, sym, ap, subst, ◌∙◌, ℕ, ◌+◌, ◌-◌, ◌<◌, ◌≤◌, Bool, true, false, List, [], ◌∷◌, ◌++◌, length, Option, Some, None, arith, append_assoc, length-append}
+use Rattle.std.specs.Prelude.{◌&&◌, ◌==◌, nat_lt}
 use Rattle.std.specs.List.{AllByRecursion, list_all, list_any}
 use Rattle.std.specs.Option.{option_map_or}
 use Rattle.std.proofs.lemmas.Bool.Decides.{nat_tests}
@@ -12,14 +12,13 @@ use Rattle.edd_image.specs.declared.instruction.Ask.{Ask}
 use Rattle.edd_image.specs.declared.instruction.Ask.TheVariants as ask
 use Rattle.edd_image.specs.declared.instruction.Instruction.{Instruction}
 use Rattle.edd_image.specs.declared.instruction.Instruction.TheVariants as instruction
-use Rattle.edd_image.specs.declared.unit.Context.{Context}
 use Rattle.edd_image.specs.declared.unit.Sort.TheVariants.{Attribute}
 use Rattle.edd_image.specs.declared.unit.Version.TheVariants.{One}
 use Rattle.edd_image.specs.declared.unit.Way.{Way}
 use Rattle.edd_image.specs.Decoding.{instruction_at}
 use Rattle.edd_image.specs.Spelling.{spelling, IsSpelled}
 use Rattle.edd_image.specs.References.{names_exist}
-use Rattle.edd_image.specs.Units.{Placed, instructions, end_of, numbers_asked, takes, leaves, onward, jump, ways, is_allowed, is_chain, is_start, is_forward, lands, all_land, leads_to, IsFresh, AreDepths, all_exist, IsValidUnit}
+use Rattle.edd_image.specs.Units.{Placed, instructions, end_of, numbers_asked, takes, leaves, jump, ways, is_allowed, is_chain, is_start, is_forward, lands, all_land, leads_to, IsFresh, AreDepths, all_exist, IsValidUnit}
 use Rattle.edd_image.specs.Agreement.{attribute_context}
 use Rattle.edd_image.proofs.Spelled.{stands_where_spelled}
 use Rattle.edd_attrs.specs.Code.{bytes_of}
@@ -112,9 +111,10 @@ agreeing depth p (i ∷ []) line are =
     (subst (λ (ws : List Way). AllByRecursion (λ w. depth w.to ≡ depth p - takes i + w.leaves) ws) (sym (no_way x line.0 line.1)) tt, tt)
 agreeing depth p (i ∷ (j ∷ rest)) line are =
     let x : Placed = record { place = p; instruction = i; next = p + length (spelling i) } in
-    let here : depth x.next ≡ depth p - takes i + takes j = omega (arith, are.0, are.1.0) in
-    (subst (λ (ws : List Way). AllByRecursion (λ w. depth w.to ≡ depth p - takes i + w.leaves) ws) (sym (one_way x (takes j) line.0 line.1)) (here, tt),
-    agreeing depth x.next (j ∷ rest) line.2 are.1)
+    let here : depth x.next ≡ depth p - takes i + takes j = omega (arith, are.0, are.1.0) in (
+      subst (λ (ws : List Way). AllByRecursion (λ w. depth w.to ≡ depth p - takes i + w.leaves) ws) (sym (one_way x (takes j) line.0 line.1)) (here, tt),
+      agreeing depth x.next (j ∷ rest) line.2 are.1,
+    )
 
 -- an instruction behind another is not fresh
 led_to : (y : Placed) (n : ℕ) → leaves y.instruction ≡ Some n → jump y.instruction ≡ None → leads_to y y.next ≡ true
@@ -125,10 +125,12 @@ not_fresh : (xs : List Placed) (depth : ℕ → ℕ) (p : ℕ) (is : List Instru
 not_fresh xs depth p [] line within first = tt
 not_fresh xs depth p (i ∷ []) line within first = (first, tt)
 not_fresh xs depth p (i ∷ (j ∷ rest)) line within first =
-    let y : Placed = record { place = p; instruction = i; next = p + length (spelling i) } in
-    (first, not_fresh xs depth y.next (j ∷ rest) line.2 (λ P h. (within P h).1) (λ fresh.
-    let no : leads_to y y.next ≡ false = (within (λ z. z.place < y.next → leads_to z y.next ≡ false) fresh).0 (omega (arith, spelling_not_empty i)) in
-    absurd (cc (led_to y (takes j) line.0 line.1, no))))
+    let y : Placed = record { place = p; instruction = i; next = p + length (spelling i) } in (
+      first,
+      not_fresh xs depth y.next (j ∷ rest) line.2 (λ P h. (within P h).1) (λ fresh.
+          let no : leads_to y y.next ≡ false = (within (λ z. z.place < y.next → leads_to z y.next ≡ false) fresh).0 (omega (arith, spelling_not_empty i)) in
+          absurd (cc (led_to y (takes j) line.0 line.1, no))),
+    )
 
 -- ---- the ways lead to instructions
 
@@ -169,8 +171,8 @@ module _ (unit : Description Target) (strings : List Words) (is : List Instructi
   chained allowed =
       let ends : end_of 0 (instructions (bytes_of is)) ≡ length (bytes_of is) = ap (end_of 0) read ∙ end_is 0 is ∙ omega arith in
       all_true (lt-ltb 0 (length (bytes_of is)) (line_not_empty is line))
-          (grind (arith, nat_tests, ends))
-          (ap (list_all (λ x. is_allowed One Attribute x.instruction)) read ∙ all_placed (is_allowed One Attribute) 0 is ∙ allowed)
+      (grind (arith, nat_tests, ends))
+      (ap (list_all (λ x. is_allowed One Attribute x.instruction)) read ∙ all_placed (is_allowed One Attribute) 0 is ∙ allowed)
 
   depths : AreDepths (placed 0 is) (depth_in (bytes_of is))
   depths =

@@ -1,17 +1,13 @@
 -- Code that stands in a line: instructions one after the other, each of which leaves what the next one takes, up to an end.
-use Rattle.std.proofs.Common.{◌≡◌, refl, sym, ap, subst, ◌∙◌, ℕ, zero, suc, ◌+◌, ◌-◌, ◌<◌, ◌≤◌, Bool, true, false, List, [], ◌∷◌, ◌++◌, length, drop, Option, Some, None, IsTrue, arith, append_assoc, length-append}
-use Rattle.std.specs.Prelude.{◌&&◌, ◌==◌, nat_lt}
-use Rattle.std.specs.List.{AllByRecursion, list_all, list_any, flat_map}
-use Rattle.std.proofs.lemmas.Grind.{common_steps}
-use Rattle.std.proofs.lemmas.List.{append-nil, drop_at}
-use Rattle.std.proofs.lemmas.Bool.Decides.{nat_tests}
+use Rattle.std.proofs.Common.{◌≡◌, refl, sym, ap, ◌∙◌, ℕ, zero, suc, ◌+◌, ◌<◌, ◌≤◌, Bool, List, [], ◌∷◌, ◌++◌, length, None, arith, append_assoc, length-append}
+use Rattle.std.specs.Prelude.{◌&&◌}
+use Rattle.std.specs.List.{AllByRecursion, list_all}
+use Rattle.std.proofs.lemmas.List.{drop_at}
 use Rattle.edd_image.specs.declared.instruction.Instruction.{Instruction}
 use Rattle.edd_image.specs.declared.instruction.Instruction.TheVariants as instruction
-use Rattle.edd_image.specs.declared.unit.Context.{Context}
 use Rattle.edd_image.specs.Decoding.{instruction_from, instruction_at}
 use Rattle.edd_image.specs.Spelling.{spelling, IsSpelled}
-use Rattle.edd_image.specs.References.{names_exist}
-use Rattle.edd_image.specs.Units.{Placed, before, instructions_from, instructions, end_of, is_start}
+use Rattle.edd_image.specs.Units.{Placed, instructions_from, instructions, end_of}
 use Rattle.edd_image.proofs.Spelled.{stands_where_spelled}
 use Rattle.edd_attrs.specs.Code.{bytes_of}
 

@@ -1,6 +1,6 @@
 -- What an attribute means is what its tree means.
-use Rattle.std.proofs.Common.{◌≡◌, refl, sym, ap, ◌∙◌, ℕ, Bool, true, false, ℤ, pos, List, [], ◌∷◌, ◌++◌, map, Option, Some, None, Ok, cond}
-use Rattle.std.specs.Prelude.{if◌then◌else◌, option_map, slice_get}
+use Rattle.std.proofs.Common.{◌≡◌, refl, sym, ap, ◌∙◌, ℕ, Bool, true, false, pos, List, [], ◌∷◌, ◌++◌, map, Option, Some, None, cond}
+use Rattle.std.specs.Prelude.{option_map, slice_get}
 use Rattle.std.proofs.lemmas.List.{map-append}
 use Rattle.std.proofs.lemmas.Option.{slice_get-map}
 use Rattle.edd_syntax.specs.declared.numbers.Attr.{Attr}
@@ -9,7 +9,7 @@ use Rattle.edd_syntax.specs.declared.numbers.AttrRef.{AttrRef}
 use Rattle.edd_syntax.specs.declared.reference.Target.{Target}
 use Rattle.edd_syntax.specs.Item as item
 use Rattle.edd_syntax.specs.Item.{TypePart, TransactionPart, Attribute, Item, Description}
-use Rattle.edd_syntax.specs.Words.{words_of, name_words}
+use Rattle.edd_syntax.specs.Words.{name_words}
 use Rattle.edd_syntax.specs.Numbers.{same_attr}
 use Rattle.edd_syntax.specs.Device.{Environment, environment, item_at}
 use Rattle.edd_syntax.specs.Attributes as source

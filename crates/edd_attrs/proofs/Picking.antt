@@ -1,7 +1,6 @@
 -- A loop that looks for the n-th of the elements that have something.
-use Rattle.std.proofs.Common.{◌≡◌, refl, sym, ap, ◌∙◌, ℕ, zero, suc, ◌+◌, ◌-◌, ◌<◌, ◌≤◌, Bool, true, false, List, [], ◌∷◌, ◌++◌, length, get_or, drop, map, Option, Some, None, if◌then◌else◌, arith}
+use Rattle.std.proofs.Common.{◌≡◌, refl, sym, ap, ◌∙◌, ℕ, suc, ◌+◌, ◌<◌, ◌≤◌, Bool, true, false, List, [], ◌∷◌, ◌++◌, length, get_or, drop, map, Option, Some, None}
 use Rattle.std.proofs.lemmas.List.{at_drop_more}
-use Rattle.std.proofs.lemmas.Grind.{common_steps}
 use Rattle.std.proofs.Math.ListN.{drop_of_length-le}
 use Rattle.std.specs.Option.{option_to_list}
 use Rattle.std.specs.List.{slice_get}
@@ -10,7 +9,7 @@ use Rattle.edd_syntax.specs.declared.reference.Target.{Target}
 use Rattle.edd_syntax.specs.Item as item
 use Rattle.edd_syntax.specs.Item.{kind_of_item, Attribute, Item}
 use Rattle.edd_syntax.specs.Numbers.{same_kind}
-use Rattle.edd_attrs.specs.Trees.{Named, transaction_trees}
+use Rattle.edd_attrs.specs.Trees.{transaction_trees}
 use Rattle.edd_attrs.specs.Rows.{attributes_of_kind, attributes_of_items, transaction_in}
 
 module _ {X Y Z : Type 0} (view : X → Y) (pick : Y → Option Z) (all : List Y → List Z) (splits : (y : Y) (ys : List Y) → all (y ∷ ys) ≡ option_to_list (pick y) ++ all ys) where

@@ -1,11 +1,10 @@
 -- The code of an attribute without conditions means the attribute.
-use Rattle.std.proofs.Common.{◌≡◌, refl, sym, ap, subst, ◌∙◌, ℕ, ◌+◌, ◌*◌, ◌<◌, ◌≤◌, ◌⊎◌, inl, inr, Bool, true, false, ℤ, zero, suc, List, [], ◌∷◌, ◌++◌, length, Option, Some, None, Ok, IsTrue, arith, length-append}
-use Rattle.std.specs.Prelude.{◌↔◌, IfSome, is_some, replicate}
-use Rattle.std.specs.List.{Contains, list_all, slice_get, flat_map}
+use Rattle.std.proofs.Common.{◌≡◌, refl, sym, ap, subst, ◌∙◌, ℕ, ◌+◌, ◌≤◌, ◌⊎◌, inl, inr, true, ℤ, zero, suc, List, [], ◌∷◌, ◌++◌, length, Option, Some, None, Ok, arith}
+use Rattle.std.specs.Prelude.{◌↔◌}
+use Rattle.std.specs.List.{Contains, list_all, flat_map}
 use Rattle.std.specs.Option.{option_to_list}
 use Rattle.std.proofs.lemmas.List.{append-nil}
-use Rattle.std.proofs.lemmas.List.Elements.{Contains-append_left, Contains-append_right, Contains-append_cases}
-use Rattle.std.proofs.lemmas.Option.{none-some, same_Some}
+use Rattle.std.proofs.lemmas.List.Elements.{Contains-append_left, Contains-append_cases}
 use Rattle.edd_syntax.specs.declared.numbers.Kind.{Kind}
 use Rattle.edd_syntax.specs.declared.numbers.StrNo.{StrNo}
 use Rattle.edd_syntax.specs.declared.numbers.AttrRef.{AttrRef}
@@ -26,13 +25,11 @@ use Rattle.edd_image.specs.Reading.{given_within}
 use Rattle.edd_image.specs.Steps.{Environment}
 use Rattle.edd_image.proofs.Spelled.{stands_where_spelled}
 use Rattle.edd_strings.proofs.Numbering.{Contains-from_slice_get}
-use Rattle.edd_attrs.specs.Trees.{Tree, tree_at}
-use Rattle.edd_attrs.specs.Plain.{records_at, is_fine, strings_of_record, strings_of}
-use Rattle.edd_attrs.specs.Code.{giving, bytes_of, giving_all, Writes, IsUnit, Lowers}
+use Rattle.edd_attrs.specs.Plain.{is_fine, strings_of_record, strings_of}
+use Rattle.edd_attrs.specs.Code.{giving, bytes_of, giving_all, IsUnit}
 use Rattle.edd_attrs.proofs.LineUnits.{line_is_valid}
 use Rattle.edd_attrs.proofs.Runs.{at, steps_of, all_behind, all_behind-ok, all_split, ends, records_run}
 use Rattle.edd_attrs.proofs.PlainUnits.{unit_of, unit_bytes, unit_line, unit_allowed, records_spelled, records_exist}
-use Rattle.edd_attrs.proofs.Meanings.{meaning_at, unit_means}
 
 module _ (unit : Description Target) (few : (k : Kind) → count_of k unit.items ≤ 4096) where
   -- the code of a unit that gives the records that an attribute means
@@ -49,26 +46,26 @@ module _ (unit : Description Target) (few : (k : Kind) → count_of k unit.items
 
     valid_now : (later : List Words) → IsValidUnit (attribute_context unit (new ++ later)) code
     valid_now later =
-        let spelled = records_spelled unit few new (is_unit.1.few few_strings) rs given fine same_now in
+        let spelled = records_spelled unit few new (is_unit.1.table.few few_strings) rs given fine same_now in
         let line = unit_line given in
         subst (λ (bs : List ℕ). IsValidUnit (attribute_context unit (new ++ later)) bs) (sym code_is)
         (line_is_valid unit (new ++ later) (unit_of given) spelled.0 line.0 line.1 (unit_allowed given) (records_exist unit few (new ++ later) rs given fine (is_unit.1.same later)))
 
     means_now : (later : List Words) → ((values : List ℤ) → tree_meaning unit row values ≡ Ok rs) → UnitMeans (environment unit).variables (string_of_table (new ++ later)) (tree_meaning unit row) code
     means_now later means values are =
-        let spelled = records_spelled unit few new (is_unit.1.few few_strings) rs given fine same_now in
+        let spelled = records_spelled unit few new (is_unit.1.table.few few_strings) rs given fine same_now in
         let env : Environment = record { types = (environment unit).variables } in
         let q = length (giving_all given) in
         let stands : instruction_at code q ≡ Some (instruction.End, q + 1) =
-            ap (λ (bs : List ℕ). instruction_at bs q) (is_unit.2 ∙ ap (λ (bs : List ℕ). bs ++ spelling instruction.End) is_unit.1.written)
-            ∙ stands_where_spelled (giving_all given) [] instruction.End tt in
+        ap (λ (bs : List ℕ). instruction_at bs q) (is_unit.2 ∙ ap (λ (bs : List ℕ). bs ++ spelling instruction.End) is_unit.1.written)
+        ∙ stands_where_spelled (giving_all given) [] instruction.End tt in
         let run : given_within (steps_of given 1) env (at code 0 [] values) ≡ Some (Ok given) =
-            records_run env values given 1 code [] (spelling instruction.End) q (all_split (flat_map giving given) (instruction.End ∷ []) spelled.0).0 spelled.1
-                (is_unit.2 ∙ ap (λ (bs : List ℕ). bs ++ spelling instruction.End) is_unit.1.written) (omega arith)
-            ∙ ap (all_behind given) (ends env code values q (q + 1) stands)
-            ∙ all_behind-ok given in
+        records_run env values given 1 code [] (spelling instruction.End) q (all_split (flat_map giving given) (instruction.End ∷ []) spelled.0).0 spelled.1
+        (is_unit.2 ∙ ap (λ (bs : List ℕ). bs ++ spelling instruction.End) is_unit.1.written) (omega arith)
+        ∙ ap (all_behind given) (ends env code values q (q + 1) stands)
+        ∙ all_behind-ok given in
         let same : SameRun (string_of_table (new ++ later)) (tree_meaning unit row values) (Ok given) =
-            subst (λ (m : source_value.Trapping (List source.Record)). SameRun (string_of_table (new ++ later)) m (Ok given)) (sym (means values)) (given, refl, is_unit.1.same later) in
+        subst (λ (m : source_value.Trapping (List source.Record)). SameRun (string_of_table (new ++ later)) m (Ok given)) (sym (means values)) (given, refl, is_unit.1.same later) in
         (steps_of given 1, Ok given, run, same)
 
     pub code_means : ((values : List ℤ) → tree_meaning unit row values ≡ Ok rs) → (later : List Words) → IsAttributeCode unit (new ++ later) row code
@@ -125,8 +122,7 @@ module _ (strings : List Words) where
 pub strings_are : (old new : List Words) (rs : List source.Record) (code : List ℕ) → IsUnit old rs new code → (w : Words) → Contains new w ↔ (Contains old w ⊎ Contains (strings_of rs) w)
 strings_are old new rs code is_unit w =
     let writes = is_unit.1 in
-    let now : SameRecords (string_of_table new) rs writes.given = subst (λ (t : List Words). SameRecords (string_of_table t) rs writes.given) (append-nil new) (writes.same []) in
-    (
-      λ held. elim (Contains-append_cases old writes.more w (subst (λ (t : List Words). Contains t w) writes.grown held)) [ inl h ↦ inl h | inr h ↦ inr (writes.only w h) ],
-      λ h. elim h [ inl held ↦ subst (λ (t : List Words). Contains t w) (sym writes.grown) (Contains-append_left old writes.more w held) | inr held ↦ records_held new rs writes.given now w held ],
+    let now : SameRecords (string_of_table new) rs writes.given = subst (λ (t : List Words). SameRecords (string_of_table t) rs writes.given) (append-nil new) (writes.same []) in (
+      λ held. elim (Contains-append_cases old writes.table.more w (subst (λ (t : List Words). Contains t w) writes.table.grown held)) [ inl h ↦ inl h | inr h ↦ inr (writes.table.only w h) ],
+      λ h. elim h [ inl held ↦ subst (λ (t : List Words). Contains t w) (sym writes.table.grown) (Contains-append_left old writes.table.more w held) | inr held ↦ records_held new rs writes.given now w held ],
     )

@@ -1,11 +1,10 @@
 -- Code that gives records in a line is the code of an attribute that means these records.
-use Rattle.std.proofs.Common.{◌≡◌, refl, sym, ap, subst, ◌∙◌, ℕ, zero, suc, ◌+◌, ◌*◌, ◌<◌, ◌≤◌, ◌^◌, Bool, true, false, ℤ, pos, negsuc, List, [], ◌∷◌, ◌++◌, length, Option, Some, None, Ok, IsTrue, arith, append_assoc, length-append}
-use Rattle.std.specs.Prelude.{◌&&◌, nat_lt, unsigned_abs, FitsSigned}
+use Rattle.std.proofs.Common.{◌≡◌, refl, sym, ap, subst, ◌∙◌, ℕ, suc, ◌<◌, ◌≤◌, ◌^◌, Bool, true, false, ℤ, pos, negsuc, List, [], ◌∷◌, ◌++◌, length, Option, Some, None, arith, append_assoc}
+use Rattle.std.specs.Prelude.{◌&&◌, nat_lt, FitsSigned}
 use Rattle.std.specs.Int.{w64}
 use Rattle.std.specs.List.{AllByRecursion, list_all, flat_map}
 use Rattle.std.proofs.lemmas.Int.{ints}
 use Rattle.std.proofs.lemmas.Option.{slice_get_within}
-use Rattle.std.proofs.lemmas.List.{append-nil}
 use Rattle.std.proofs.lemmas.Bool.{ltb-true, lt-ltb}
 use Rattle.edd_syntax.specs.declared.numbers.Kind.{Kind}
 use Rattle.edd_syntax.specs.declared.numbers.Kind.TheVariants as kind
@@ -32,8 +31,8 @@ use Rattle.edd_image.specs.declared.unit.Sort.TheVariants.{Attribute}
 use Rattle.edd_image.specs.declared.unit.Version.TheVariants.{One}
 use Rattle.edd_image.specs.Spelling.{spelling, IsSpelled, IsOptional}
 use Rattle.edd_image.specs.References.{names_exist, item_exists, variable_exists, optional_string_exists}
-use Rattle.edd_image.specs.Units.{takes, is_allowed}
-use Rattle.edd_image.specs.Agreement.{class_number, mask_number, IsString, IsOptionalString, SameRecord, SameRecords, string_of_table, counts_of, attribute_context}
+use Rattle.edd_image.specs.Units.{is_allowed}
+use Rattle.edd_image.specs.Agreement.{class_number, mask_number, IsString, IsOptionalString, SameRecord, SameRecords, string_of_table, attribute_context}
 use Rattle.edd_attrs.specs.Code.{giving, bytes_of, giving_all}
 use Rattle.edd_attrs.specs.Plain.{is_number, is_label, counts_in, is_fine}
 use Rattle.edd_attrs.proofs.Lines.{bytes_of-append}

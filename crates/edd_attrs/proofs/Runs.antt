@@ -1,23 +1,22 @@
 -- What code in a line gives, followed from its first byte.
-use Rattle.std.proofs.Common.{◌≡◌, refl, sym, ap, subst, ◌∙◌, ℕ, zero, suc, ◌+◌, ◌-◌, ◌%◌, ◌<◌, ◌^◌, Bool, true, false, cond, ltb, ℤ, pos, negsuc, List, [], ◌∷◌, ◌++◌, length, Option, Some, None, Result, Ok, Err, arith, append_assoc, length-append}
-use Rattle.std.specs.Prelude.{option_map, unsigned_abs}
+use Rattle.std.proofs.Common.{◌≡◌, refl, sym, ap, subst, ◌∙◌, ℕ, suc, ◌+◌, ◌-◌, ◌%◌, ◌<◌, ◌^◌, true, cond, ltb, ℤ, pos, negsuc, List, [], ◌∷◌, ◌++◌, length, Option, Some, None, Result, Ok, arith, append_assoc, length-append}
+use Rattle.std.specs.Prelude.{option_map}
 use Rattle.std.specs.List.{AllByRecursion, flat_map}
-use Rattle.std.proofs.lemmas.Grind.{flat_map-append}
 use Rattle.std.proofs.lemmas.Bool.{lt-ltb}
 use Rattle.std.proofs.Math.Nat.{mod-eq_of_lt}
 use Rattle.edd_syntax.specs.declared.answer.Trap.{Trap}
-use Rattle.edd_syntax.specs.TwosComplement.{wrap, residue, as_signed}
+use Rattle.edd_syntax.specs.TwosComplement.{wrap, as_signed}
 use Rattle.edd_image.specs.declared.records.Record.{Record}
 use Rattle.edd_image.specs.declared.records.Record.TheVariants as records
 use Rattle.edd_image.specs.declared.records.Emitted.TheVariants as emitted
-use Rattle.edd_image.specs.declared.records.Status.TheVariants.{Running, Ended}
+use Rattle.edd_image.specs.declared.records.Status.TheVariants.{Running}
 use Rattle.edd_image.specs.declared.instruction.Instruction.{Instruction}
 use Rattle.edd_image.specs.declared.instruction.Instruction.TheVariants as instruction
 use Rattle.edd_image.specs.declared.unit.Sort.TheVariants.{Attribute}
 use Rattle.edd_image.specs.Decoding.{instruction_at}
 use Rattle.edd_image.specs.Spelling.{spelling, IsSpelled}
-use Rattle.edd_image.specs.Steps.{State, Environment, Effect, act, step, give, go, quietly}
-use Rattle.edd_image.specs.Reading.{given_within, given_by, with_record}
+use Rattle.edd_image.specs.Steps.{State, Environment, act, step, give, go}
+use Rattle.edd_image.specs.Reading.{given_within, with_record}
 use Rattle.edd_image.proofs.Spelled.{stands_where_spelled}
 use Rattle.edd_attrs.specs.Code.{giving, bytes_of, giving_all}
 use Rattle.edd_attrs.proofs.Lines.{bytes_of-append}
@@ -125,12 +124,12 @@ module _ (env : Environment) (values : List ℤ) where
       let push = spelling (instruction.Push n) in
       let code = front ++ (push ++ (spelling instruction.Number ++ after)) in
       let second : instruction_at code (length front + 5) ≡ Some (instruction.Number, length front + 6) =
-          ap (λ (c : List ℕ). instruction_at c (length front + 5)) (sym (append_assoc front push (spelling instruction.Number ++ after)))
-          ∙ ap (λ (p : ℕ). instruction_at ((front ++ push) ++ (spelling instruction.Number ++ after)) p) (sym (length-append front push))
-          ∙ stands_where_spelled (front ++ push) after instruction.Number tt
-          ∙ ap (λ (p : ℕ). Some (instruction.Number, p)) (omega (arith, length-append front push)) in
+      ap (λ (c : List ℕ). instruction_at c (length front + 5)) (sym (append_assoc front push (spelling instruction.Number ++ after)))
+      ∙ ap (λ (p : ℕ). instruction_at ((front ++ push) ++ (spelling instruction.Number ++ after)) p) (sym (length-append front push))
+      ∙ stands_where_spelled (front ++ push) after instruction.Number tt
+      ∙ ap (λ (p : ℕ). Some (instruction.Number, p)) (omega (arith, length-append front push)) in
       none_given env code values (suc k) (length front) (length front + 5) [] (pos n ∷ []) (instruction.Push n) (stands_where_spelled front (spelling instruction.Number ++ after) (instruction.Push n) lt)
-          (ap (λ (z : ℤ). go (at code (length front) [] values) (length front + 5) (z ∷ [])) (wrap_small n lt))
+      (ap (λ (z : ℤ). go (at code (length front) [] values) (length front + 5) (z ∷ [])) (wrap_small n lt))
       ∙ one_given env code values k (length front + 5) (length front + 6) (pos n ∷ []) [] instruction.Number (records.Number (pos n)) second refl
 
   -- the code runs from behind `front` to behind the record, and gives it
@@ -171,11 +170,11 @@ module _ (env : Environment) (values : List ℤ) where
       let here = bytes_of (giving r) in
       let split = all_split (giving r) (flat_map giving rs) spelled in
       let same : code ≡ front ++ (here ++ (giving_all rs ++ after)) =
-          is ∙ ap (λ (bs : List ℕ). front ++ (bs ++ after)) (giving_more r rs) ∙ ap (λ (bs : List ℕ). front ++ bs) (append_assoc here (giving_all rs) after) in
+      is ∙ ap (λ (bs : List ℕ). front ++ (bs ++ after)) (giving_more r rs) ∙ ap (λ (bs : List ℕ). front ++ bs) (append_assoc here (giving_all rs) after) in
       let first = record_runs env values (steps_of rs k) front (giving_all rs ++ after) r split.0 sayable.0 in
       let rest = records_run rs k code (front ++ here) after q split.1 sayable.1
-          (same ∙ sym (append_assoc front here (giving_all rs ++ after)))
-          (omega (arith, there, length-append front here, ap length (giving_more r rs), length-append here (giving_all rs))) in
+      (same ∙ sym (append_assoc front here (giving_all rs ++ after)))
+      (omega (arith, there, length-append front here, ap length (giving_more r rs), length-append here (giving_all rs))) in
       ap (λ (c : List ℕ). given_within (steps_after r (steps_of rs k)) env (at c (length front) [] values)) same
       ∙ first
       ∙ ap (λ (c : List ℕ). behind r (given_within (steps_of rs k) env (at c (length front + length here) [] values))) (sym same)

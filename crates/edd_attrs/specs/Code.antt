@@ -8,7 +8,8 @@ use Rattle.edd_image.specs.declared.records.Record.TheVariants as records
 use Rattle.edd_image.specs.declared.instruction.Instruction.{Instruction}
 use Rattle.edd_image.specs.declared.instruction.Instruction.TheVariants as instruction
 use Rattle.edd_image.specs.Spelling.{spelling}
-use Rattle.edd_image.specs.Agreement.{SameRecords, string_of_table}
+use Rattle.edd_image.specs.Agreement.{IsString, IsOptionalString, SameRecords, string_of_table}
+use Rattle.edd_syntax.specs.declared.numbers.StrNo.{StrNo}
 use Rattle.edd_attrs.specs.Trees.{Tree}
 use Rattle.edd_attrs.specs.Plain.{records_at, strings_of}
 
@@ -34,22 +35,32 @@ giving_all given = bytes_of (flat_map giving given)
 abbrev pub AreDifferent : List Words → Type 0
 AreDifferent strings = AllPairs (λ s t. s ≢ t) strings
 
--- The table grew by strings of these records alone, and the code by what gives them, with strings by their numbers in the new
--- table and in any that begins with it.
-pub record Writes (old : List Words) (before : List ℕ) (rs : List source.Record) (new : List Words) (after : List ℕ) : Type 0 where
+-- the table grew by some of these strings, and holds no string twice
+pub record GrowsBy (old strings new : List Words) : Type 0 where
   pub more : List Words
   pub grown : new ≡ old ++ more
-  pub given : List Record
-  pub written : after ≡ before ++ giving_all given
-  pub same : (later : List Words) → SameRecords (string_of_table (new ++ later)) rs given
-  pub only : (w : Words) → Contains more w → Contains (strings_of rs) w
+  pub only : (w : Words) → Contains more w → Contains strings w
   pub different : AreDifferent old → AreDifferent new
   pub few : length old ≤ 65535 → length new ≤ 65535
 
+-- the string has its number in the table and in any that begins with it
+abbrev pub Keeps : (table : List Words) → Words → StrNo → Type 0
+Keeps table w n = (later : List Words) → IsString (string_of_table (table ++ later)) w n
+
+abbrev pub KeepsOptional : (table : List Words) → Option Words → Option StrNo → Type 0
+KeepsOptional table o n = (later : List Words) → IsOptionalString (string_of_table (table ++ later)) o n
+
+-- The table grew by strings of these records alone, and the code by what gives them, with strings by their numbers in the new
+-- table and in any that begins with it.
+pub record Writes (old : List Words) (before : List ℕ) (rs : List source.Record) (new : List Words) (after : List ℕ) : Type 0 where
+  pub table : GrowsBy old (strings_of rs) new
+  pub given : List Record
+  pub written : after ≡ before ++ giving_all given
+  pub same : (later : List Words) → SameRecords (string_of_table (new ++ later)) rs given
+
 -- more than 65,535 different strings stand among those of the table and these
-abbrev pub Overflows : (old strings : List Words) → Type 0
-Overflows old strings =
-    AreDifferent old → (held : List Words) × AreDifferent held × (65535 < length held) × ((w : Words) → Contains held w → Contains (old ++ strings) w)
+pub record Overflows (old strings : List Words) : Type 0 where
+  pub held : AreDifferent old → (held : List Words) × AreDifferent held × (65535 < length held) × ((w : Words) → Contains held w → Contains (old ++ strings) w)
 
 -- the strings of the table keep their numbers
 abbrev pub Grows : (old new : List Words) → Type 0

@@ -1,46 +1,86 @@
 -- Attributes without conditions: what they give, whatever the values of the device are.
 use Rattle.std.specs.Prelude.{◌^◌, ℤ, pos, negsuc, unsigned_abs, nat_lt, ◌&&◌, Bool, true, false, List, [], ◌∷◌, ◌++◌, Option, Some, None, is_some}
-use Rattle.std.specs.List.{flat_map}
+use Rattle.std.specs.List.{flat_map, list_all}
 use Rattle.std.specs.Option.{option_to_list}
 use Rattle.edd_syntax.specs.declared.numbers.AttrRef.{AttrRef}
 use Rattle.edd_syntax.specs.declared.reference.Target.{Target}
-use Rattle.edd_syntax.specs.Conditional.{Cond, Value, If, Select}
-use Rattle.edd_syntax.specs.Item.{Description}
+use Rattle.edd_syntax.specs.declared.types.Handling as handling
+use Rattle.edd_syntax.specs.Conditional.{Cond, Value, If, Select, Conds, Nil, Cons}
+use Rattle.edd_syntax.specs.Item as item
+use Rattle.edd_syntax.specs.Item.{DataItem, MenuEntry, TypePart, Description}
 use Rattle.edd_image.specs.declared.parts.Counts.{Counts}
 use Rattle.edd_image.specs.References.{item_exists, variable_exists}
 use Rattle.edd_image.specs.Agreement.{mask_number, counts_of}
-use Rattle.edd_syntax.specs.Text.{Text}
+use Rattle.edd_syntax.specs.Text.{Text, Name}
 use Rattle.edd_syntax.specs.Words as words
-use Rattle.edd_syntax.specs.Words.{words_of}
-use Rattle.edd_syntax.specs.WellFormed.{is_text}
-use Rattle.edd_syntax.specs.Attributes.{Record, Words, Number, Entry, DataConst, DataVar, Enumerator, Response, Member}
+use Rattle.edd_syntax.specs.Words.{words_of, name_words}
+use Rattle.edd_syntax.specs.WellFormed.{is_text, if_some}
+use Rattle.edd_syntax.specs.Attributes.{Record, Words, Number, Entry, DataConst, DataVar, Enumerator, Response, Member, bit, handling_number, operation_number, written_number, enumerator, data_item, response, entry, member}
 use Rattle.edd_attrs.specs.Trees.{Tree, Texts, Class, Handling, Validity, Expressions, Enumerators, Operation, Transaction, Data, ResponseCodes, Items, Members, tree_at}
 use Rattle.edd_attrs.specs.Trees as trees
 
--- the records of a conditional that is a value
+abbrev pub both : Option (List Record) → Option (List Record) → Option (List Record)
+both None o = None
+both (Some xs) None = None
+both (Some xs) (Some ys) = Some (xs ++ ys)
+
+-- the records of all elements, where each has records
+abbrev pub plain_all : {Y : Type 0} → (Y → Option (List Record)) → List Y → Option (List Record)
+plain_all of [] = Some []
+plain_all of (y ∷ ys) = both (of y) (plain_all of ys)
+
+-- one record
+abbrev pub only : {V : Type 0} → (V → Record) → V → Option (List Record)
+only f v = Some (f v ∷ [])
+
+-- the records of a conditional that is a value, and of a list of such
 abbrev pub plain_one : {V : Type 0} → (V → Record) → Cond Target V → Option (List Record)
-plain_one f (Value v) = Some (f v ∷ [])
+plain_one f (Value v) = only f v
 plain_one f (If condition first otherwise) = None
 plain_one f (Select on arms) = None
 
-abbrev pub plain_texts : Cond Target Text → Option (List Record)
-plain_texts = plain_one (λ t. Words (words_of t))
+abbrev pub plain_conds : {V : Type 0} → (V → Record) → Conds Target V → Option (List Record)
+plain_conds f Nil = Some []
+plain_conds f (Cons first rest) = both (plain_one f first) (plain_conds f rest)
 
--- the records of a tree without conditions, of the trees that are lowered
+-- ---- the records of each kind of tree
+
+abbrev pub text_record : Text → Record
+text_record t = Words (words_of t)
+
+abbrev pub class_record : Name → Record
+class_record n = Words (name_words n)
+
+abbrev pub handling_record : handling.Handling → Record
+handling_record h = Number (pos (handling_number h))
+
+abbrev pub validity_record : Bool → Record
+validity_record valid = Number (pos (bit valid))
+
+-- an element of a type's list
+abbrev pub plain_element : TypePart Target → Option (List Record)
+plain_element (item.DefaultValue c) = Some []
+plain_element (item.MinValue c) = Some []
+plain_element (item.MaxValue c) = Some []
+plain_element (item.DisplayFormat c) = Some []
+plain_element (item.EditFormat c) = Some []
+plain_element (item.Element c) = plain_one enumerator c
+
+-- the records of a tree without conditions and expressions
 unfoldable pub plain_records : Tree → Option (List Record)
-plain_records (Texts c) = plain_texts c
-plain_records (Class names) = None
-plain_records (Handling c) = None
-plain_records (Validity c) = None
+plain_records (Texts c) = plain_one text_record c
+plain_records (Class names) = plain_all (only class_record) names
+plain_records (Handling c) = plain_one handling_record c
+plain_records (Validity c) = plain_one validity_record c
 plain_records (Expressions c) = None
-plain_records (Enumerators parts) = None
-plain_records (trees.Number n) = None
-plain_records (Operation o) = None
-plain_records (Transaction number) = None
-plain_records (Data all) = None
-plain_records (ResponseCodes responses) = None
-plain_records (Items entries) = None
-plain_records (Members members) = None
+plain_records (Enumerators parts) = plain_all plain_element parts
+plain_records (trees.Number n) = Some (Number (pos n) ∷ [])
+plain_records (Operation o) = Some (Number (pos (operation_number o)) ∷ [])
+plain_records (Transaction number) = Some (written_number number)
+plain_records (Data all) = plain_conds data_item all
+plain_records (ResponseCodes responses) = plain_all (only response) responses
+plain_records (Items entries) = plain_conds entry entries
+plain_records (Members members) = plain_all (only member) members
 
 -- an attribute that isn't written gives nothing
 abbrev pub records_at : Option Tree → Option (List Record)
@@ -96,21 +136,50 @@ plain_value of (Value v) = of v
 plain_value of (If condition first otherwise) = true
 plain_value of (Select on arms) = true
 
--- in texts each backslash begins an escape, and keys are names
+abbrev pub plain_values : {V : Type 0} → (V → Bool) → Conds Target V → Bool
+plain_values of Nil = true
+plain_values of (Cons first rest) = plain_value of first && plain_values of rest
+
+abbrev pub kept_enumerator : item.Enumerator → Bool
+kept_enumerator e = is_text e.text && if_some is_text e.help
+
+abbrev pub kept_element : TypePart Target → Bool
+kept_element (item.DefaultValue c) = true
+kept_element (item.MinValue c) = true
+kept_element (item.MaxValue c) = true
+kept_element (item.DisplayFormat c) = true
+kept_element (item.EditFormat c) = true
+kept_element (item.Element c) = plain_value kept_enumerator c
+
+abbrev pub kept_entry : MenuEntry Target → Bool
+kept_entry (item.Text text) = is_text text
+kept_entry (item.Reference to qualifiers) = true
+
+abbrev pub kept_data : DataItem Target → Bool
+kept_data (item.Constant n) = nat_lt n 256
+kept_data (item.Variable variable mask qualifiers) = true
+
+abbrev pub kept_response : item.ResponseCode → Bool
+kept_response r = is_text r.text
+
+abbrev pub kept_member : item.Member Target → Bool
+kept_member m = if_some is_text m.label && if_some is_text m.help
+
+-- in texts each backslash begins an escape, and keys are names; constants are octets
 unfoldable pub is_kept : Tree → Bool
 is_kept (Texts c) = plain_value is_text c
 is_kept (Class names) = true
 is_kept (Handling c) = true
 is_kept (Validity c) = true
 is_kept (Expressions c) = true
-is_kept (Enumerators parts) = true
+is_kept (Enumerators parts) = list_all kept_element parts
 is_kept (trees.Number n) = true
 is_kept (Operation o) = true
 is_kept (Transaction number) = true
-is_kept (Data all) = true
-is_kept (ResponseCodes responses) = true
-is_kept (Items entries) = true
-is_kept (Members members) = true
+is_kept (Data all) = plain_values kept_data all
+is_kept (ResponseCodes responses) = list_all kept_response responses
+is_kept (Items entries) = plain_values kept_entry entries
+is_kept (Members members) = list_all kept_member members
 
 abbrev pub is_kept_at : Option Tree → Bool
 is_kept_at None = true

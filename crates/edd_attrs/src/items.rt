@@ -21,7 +21,7 @@ fn is_same_kind(a: Kind, b: Kind) -> bool
     a as u8 == b as u8
 }
 
-fn kind_and_index(number: ItemNo) -> (Kind, u16)
+pub fn kind_and_index(number: ItemNo) -> (Kind, u16)
     ensures kind { result.0 ≡ numbers.kind_of number }
     ensures index { result.1 ≡ numbers.index_of number }
 {

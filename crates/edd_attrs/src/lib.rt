@@ -2,8 +2,11 @@
 #![tactic(auto)]
 
 mod attribute;
+mod elements;
 mod fault;
 mod items;
+mod laws;
+mod lists;
 mod lowering;
 mod plain;
 mod strings;
@@ -12,4 +15,8 @@ mod writing;
 
 pub use attribute::lower_attribute;
 pub use fault::LowerFault;
-pub use plain::is_plain;
+pub use plain::is_plain_text;
+pub use laws::strings_are_the_descriptions;
+
+#[cfg(test)]
+mod tests;

@@ -1,25 +1,14 @@
-//! The code that gives records.
+//! The bytes of the instructions that give records.
 
-ghost use Rattle.std.specs.Prelude.{◌≡◌, ◌++◌, ◌∷◌, [], IfSome, IsErrOf, IsTrue, OnOk};
-ghost use Rattle.edd_syntax.specs.Attributes as source;
-ghost use Rattle.edd_syntax.specs.WellFormed.{is_text};
-ghost use Rattle.edd_syntax.specs.Words.{words_of};
-ghost use Rattle.edd_syntax.specs.WordsView.{text_of};
-ghost use Rattle.edd_image.specs.Layout.{u16};
-ghost use Rattle.edd_image.specs.Spelling.{spelling};
-ghost use Rattle.edd_syntax.specs.ItemView.{cond_of};
-ghost use Rattle.edd_attrs.specs.Code.{Writes, Grows, Overflows};
-ghost use Rattle.edd_attrs.specs.Plain.{plain_texts, plain_value, strings_of};
+ghost use Rattle.std.specs.Prelude.{◌≡◌, ◌++◌, ◌∷◌, OnOk};
+ghost use Rattle.edd_syntax.specs.Numbers as numbers;
+ghost use Rattle.edd_image.specs.Layout.{u16, u32};
+ghost use Rattle.edd_image.specs.Spelling.{item_bytes, optional_bytes, spelling};
 
-use crate::fault::LowerFault;
-use crate::strings::add_text;
+use crate::items::kind_and_index;
 use edd_image::Instruction;
-use edd_strings::Table;
-use edd_syntax::cond::Cond;
-use edd_syntax::numbers::StrNo;
-use edd_syntax::reference::Target;
-use edd_syntax::text::Text;
-use std::alloc::{AllocError, Global};
+use edd_syntax::numbers::{ItemNo, StrNo, VarNo};
+use std::alloc::AllocError;
 
 fn put_u16(code: &mut Vec<u8>, number: u16) -> Result<(), AllocError>
     ensures { OnOk result (code.new.items ≡ code.old.items ++ u16 number) }
@@ -27,11 +16,35 @@ fn put_u16(code: &mut Vec<u8>, number: u16) -> Result<(), AllocError>
     code.extend_from_slice(&number.to_be_bytes())
 }
 
-fn put_text(code: &mut Vec<u8>, text: StrNo) -> Result<(), AllocError>
-    ensures { OnOk result (code.new.items ≡ code.old.items ++ spelling (Instruction.Text text)) }
+fn put_u32(code: &mut Vec<u8>, number: u32) -> Result<(), AllocError>
+    ensures { OnOk result (code.new.items ≡ code.old.items ++ u32 number) }
 {
-    code.push(0x40)?;
-    put_u16(code, text.0)
+    code.extend_from_slice(&number.to_be_bytes())
+}
+
+fn put_item(code: &mut Vec<u8>, item: ItemNo) -> Result<(), AllocError>
+    ensures { OnOk result (code.new.items ≡ code.old.items ++ item_bytes item) }
+{
+    let (kind, index) = kind_and_index(item);
+    code.push(kind as u8)?;
+    put_u16(code, index)
+}
+
+// The number of a string that may be missing, which FFFF says.
+fn put_optional(code: &mut Vec<u8>, string: Option<StrNo>) -> Result<(), AllocError>
+    ensures { OnOk result (code.new.items ≡ code.old.items ++ optional_bytes string) }
+{
+    match string {
+        None => put_u16(code, 0xffff),
+        Some(string) => put_u16(code, string.0),
+    }
+}
+
+fn put_texts(code: &mut Vec<u8>, text: StrNo, help: Option<StrNo>) -> Result<(), AllocError>
+    ensures { OnOk result (code.new.items ≡ code.old.items ++ (u16 text.0 ++ optional_bytes help)) }
+{
+    put_u16(code, text.0)?;
+    put_optional(code, help)
 }
 
 pub fn put_end(code: &mut Vec<u8>) -> Result<(), AllocError>
@@ -41,42 +54,98 @@ pub fn put_end(code: &mut Vec<u8>) -> Result<(), AllocError>
     Ok(())
 }
 
-/// The code that gives a text.
-#[tactic(auto, using(crate::proofs::Written::text_steps))]
-pub fn write_text(
-    alloc: Global,
-    code: &mut Vec<u8>,
-    table: &mut Table,
-    text: &Text,
-) -> Result<(), LowerFault>
-    requires { IsTrue (is_text (text_of text.now)) }
-    ensures ok { OnOk result
-        (Writes table.old code.old.items (source.Words (words_of (text_of text.now)) ∷ []) table.new code.new.items) }
-    ensures grows { Grows table.old table.new }
-    ensures too_many { IsErrOf result LowerFault.TooMany → Overflows table.old (words_of (text_of text.now) ∷ []) }
+pub fn put_push(code: &mut Vec<u8>, number: u32) -> Result<(), AllocError>
+    ensures { OnOk result (code.new.items ≡ code.old.items ++ spelling (Instruction.Push number)) }
 {
-    let number = add_text(alloc, table, text)?;
-    put_text(code, number)?;
+    code.push(0x01)?;
+    put_u32(code, number)
+}
+
+pub fn put_text(code: &mut Vec<u8>, text: StrNo) -> Result<(), AllocError>
+    ensures { OnOk result (code.new.items ≡ code.old.items ++ spelling (Instruction.Text text)) }
+{
+    code.push(0x40)?;
+    put_u16(code, text.0)
+}
+
+pub fn put_number(code: &mut Vec<u8>) -> Result<(), AllocError>
+    ensures { OnOk result (code.new.items ≡ code.old.items ++ spelling Instruction.Number) }
+{
+    code.push(0x41)?;
     Ok(())
 }
 
-/// The code that gives a text that depends on nothing.
-#[tactic(auto, using(crate::proofs::Written::text_steps, edd_syntax::proofs::CondRows::equations))]
-pub fn write_texts(
-    alloc: Global,
-    code: &mut Vec<u8>,
-    table: &mut Table,
-    texts: &Cond<Target, Text>,
-) -> Result<(), LowerFault>
-    requires { IsTrue (plain_value is_text (cond_of (λ r. r) text_of texts.now)) }
-    ensures ok { OnOk result
-        (IfSome (plain_texts (cond_of (λ r. r) text_of texts.now)) (λ rs. Writes table.old code.old.items rs table.new code.new.items)) }
-    ensures grows { Grows table.old table.new }
-    ensures too_many { IsErrOf result LowerFault.TooMany
-        → IfSome (plain_texts (cond_of (λ r. r) text_of texts.now)) (λ rs. Overflows table.old (strings_of rs)) }
+pub fn put_entry(code: &mut Vec<u8>, item: ItemNo, quals: u16) -> Result<(), AllocError>
+    ensures { OnOk result (code.new.items ≡ code.old.items ++ spelling (Instruction.Item item quals)) }
 {
-    match texts {
-        Cond::Value(text) => write_text(alloc, code, table, text),
-        Cond::If { .. } | Cond::Select { .. } => Ok(()),
-    }
+    code.push(0x42)?;
+    put_item(code, item)?;
+    put_u16(code, quals)
+}
+
+pub fn put_data_const(code: &mut Vec<u8>, octet: u8) -> Result<(), AllocError>
+    ensures { OnOk result (code.new.items ≡ code.old.items ++ spelling (Instruction.DataConst octet)) }
+{
+    code.push(0x43)?;
+    code.push(octet)?;
+    Ok(())
+}
+
+pub fn put_data_var(
+    code: &mut Vec<u8>,
+    variable: VarNo,
+    mask: u32,
+    quals: u8,
+) -> Result<(), AllocError>
+    ensures { OnOk result (code.new.items ≡ code.old.items ++ spelling (Instruction.DataVar variable mask quals)) }
+{
+    code.push(0x44)?;
+    put_u16(code, variable.0)?;
+    put_u32(code, mask)?;
+    code.push(quals)?;
+    Ok(())
+}
+
+/// An enumerator, whose value is given by its eight bytes.
+pub fn put_enumerator(
+    code: &mut Vec<u8>,
+    value: &[u8],
+    text: StrNo,
+    help: Option<StrNo>,
+) -> Result<(), AllocError>
+    ensures { OnOk result (code.new.items ≡ code.old.items ++ 0x45 ∷ (value.now ++ (u16 text.0 ++ optional_bytes help))) }
+{
+    code.push(0x45)?;
+    code.extend_from_slice(value)?;
+    put_texts(code, text, help)
+}
+
+pub fn put_response(
+    code: &mut Vec<u8>,
+    number: u32,
+    class: u8,
+    text: StrNo,
+) -> Result<(), AllocError>
+    ensures { OnOk result (code.new.items ≡ code.old.items ++ spelling (Instruction.Response number class text)) }
+{
+    code.push(0x46)?;
+    put_u32(code, number)?;
+    code.push(class)?;
+    put_u16(code, text.0)
+}
+
+pub fn put_member(
+    code: &mut Vec<u8>,
+    name: StrNo,
+    item: ItemNo,
+    label: Option<StrNo>,
+    help: Option<StrNo>,
+) -> Result<(), AllocError>
+    ensures { OnOk result (code.new.items ≡ code.old.items ++ spelling (Instruction.Member name item label help)) }
+{
+    code.push(0x47)?;
+    put_u16(code, name.0)?;
+    put_item(code, item)?;
+    put_optional(code, label)?;
+    put_optional(code, help)
 }

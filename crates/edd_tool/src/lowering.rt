@@ -15,7 +15,7 @@ ghost use Rattle.edd_tool.specs.Lowering.{IsNoBody, IsCodeOf, HasLowered, AddsRo
 
 use crate::fault::Fault;
 use edd_assembly::Lowered;
-use edd_attrs::{is_plain, lower_attribute};
+use edd_attrs::{is_plain_text, lower_attribute};
 use edd_strings::Table;
 use edd_syntax::checked::Checked;
 use edd_syntax::numbers::{Attr, AttrRef};
@@ -51,7 +51,7 @@ fn lower_row(
     if is_body(row.attr) {
         return Err(Fault::NotWritten("METHOD"));
     }
-    if !is_plain(checked, row) {
+    if !is_plain_text(checked, row) {
         return Err(Fault::NotWritten("IF"));
     }
     let code = lower_attribute(alloc, checked, row, table)?;

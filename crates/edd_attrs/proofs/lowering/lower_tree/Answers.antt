@@ -1,4 +1,4 @@
-use Rattle.std.proofs.Common.{◌≡◌, refl, sym, ap, subst, List, [], Option, Some, ℕ}
+use Rattle.std.proofs.Common.{sym, ap, subst, [], Option, Some}
 use Rattle.std.specs.Prelude.{IfSome, option_map}
 use Rattle.edd_attrs.specs.Code.{IsUnit}
 use Rattle.edd_attrs.specs.Plain.{plain_records, records_at}

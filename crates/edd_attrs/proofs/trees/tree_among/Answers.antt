@@ -1,8 +1,8 @@
-use Rattle.std.proofs.Common.{arith, refl, ap}
+use Rattle.std.proofs.Common.{arith}
 use Rattle.edd_syntax.specs.ItemView.{attribute_of}
 use Rattle.edd_attrs.specs.Trees.{trees_of_attribute, trees_of}
 use Rattle.edd_attrs.specs.Views.{tree_of}
-use Rattle.edd_attrs.proofs.Looking.{goes_on, stops, none_found, attributes_split}
+use Rattle.edd_attrs.proofs.Looking.{goes_on, stops, attributes_split}
 use Rattle.edd_attrs.proofs.trees.tree_among.Goals as goal
 
 pub returns-in-Some : goal.returns-in-Some

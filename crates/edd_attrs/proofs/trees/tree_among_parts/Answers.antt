@@ -1,8 +1,8 @@
-use Rattle.std.proofs.Common.{arith, refl, ap}
+use Rattle.std.proofs.Common.{arith}
 use Rattle.edd_syntax.specs.ItemView.{type_part_of}
 use Rattle.edd_attrs.specs.Trees.{trees_of_part, trees_of_parts}
 use Rattle.edd_attrs.specs.Views.{tree_of}
-use Rattle.edd_attrs.proofs.Looking.{goes_on, stops, none_found, parts_split}
+use Rattle.edd_attrs.proofs.Looking.{goes_on, stops, parts_split}
 use Rattle.edd_attrs.proofs.trees.tree_among_parts.Goals as goal
 
 pub returns-in-Some : goal.returns-in-Some

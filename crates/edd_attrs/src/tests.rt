@@ -1,0 +1,71 @@
+use crate::lowering::lower_tree;
+use crate::trees::Tree;
+use crate::writing::{
+    put_data_const, put_data_var, put_end, put_entry, put_enumerator, put_member, put_response,
+};
+use edd_strings::Table;
+use edd_syntax::cond::Cond;
+use edd_syntax::numbers::{CmdNo, ItemNo, MenuNo, StrNo, VarNo};
+use edd_syntax::types::{Handling, Operation};
+use std::test::Fail;
+
+// The codes were worked out by hand from the table of instructions.
+
+#[test]
+fn numbers_are_lowered(rt: HostRuntime) -> Result<(), Fail> {
+    let alloc = rt.alloc();
+    let mut table = Table::new(alloc);
+    let code = lower_tree(alloc, &mut table, None)?;
+    assert_eq!(rt; code.as_slice(), [0x00].as_slice());
+    let code = lower_tree(alloc, &mut table, Some(Tree::Number(258)))?;
+    assert_eq!(rt; code.as_slice(), [0x01, 0, 0, 1, 2, 0x41, 0x00].as_slice());
+    let code = lower_tree(alloc, &mut table, Some(Tree::Transaction(None)))?;
+    assert_eq!(rt; code.as_slice(), [0x00].as_slice());
+    let operation = Tree::Operation(Operation::Command);
+    let code = lower_tree(alloc, &mut table, Some(operation))?;
+    assert_eq!(rt; code.as_slice(), [0x01, 0, 0, 0, 3, 0x41, 0x00].as_slice());
+    let handling = Cond::Value(Handling::Write);
+    let code = lower_tree(alloc, &mut table, Some(Tree::Handling(&handling)))?;
+    assert_eq!(rt; code.as_slice(), [0x01, 0, 0, 0, 2, 0x41, 0x00].as_slice());
+    let validity = Cond::Value(false);
+    let code = lower_tree(alloc, &mut table, Some(Tree::Validity(&validity)))?;
+    assert_eq!(rt; code.as_slice(), [0x01, 0, 0, 0, 0, 0x41, 0x00].as_slice());
+    Ok(())
+}
+
+#[test]
+fn class_words_are_lowered(rt: HostRuntime) -> Result<(), Fail> {
+    let alloc = rt.alloc();
+    let mut table = Table::new(alloc);
+    let names = vec![in alloc;
+        String::from_str(alloc, "DYNAMIC")?,
+        String::from_str(alloc, "INPUT")?,
+    ]?;
+    let code = lower_tree(alloc, &mut table, Some(Tree::Class(&names)))?;
+    assert_eq!(rt; code.as_slice(), [0x40, 0, 0, 0x40, 0, 1, 0x00].as_slice());
+    // A string that the table holds keeps its number.
+    let code = lower_tree(alloc, &mut table, Some(Tree::Class(&names)))?;
+    assert_eq!(rt; code.as_slice(), [0x40, 0, 0, 0x40, 0, 1, 0x00].as_slice());
+    assert_eq!(rt; table.words().len(), 2);
+    Ok(())
+}
+
+#[test]
+fn records_are_spelled(rt: HostRuntime) -> Result<(), Fail> {
+    let mut code = Vec::new(rt.alloc());
+    put_entry(&mut code, ItemNo::Menu(MenuNo(258)), 9)?;
+    put_data_const(&mut code, 255)?;
+    put_data_var(&mut code, VarNo(3), 0x8000, 2)?;
+    put_enumerator(&mut code, &(-2i64).to_be_bytes(), StrNo(4), None)?;
+    put_response(&mut code, 5, 6, StrNo(7))?;
+    let item = ItemNo::Command(CmdNo(8));
+    put_member(&mut code, StrNo(9), item, Some(StrNo(10)), None)?;
+    put_end(&mut code)?;
+    let expected = [
+        0x42, 3, 1, 2, 0, 9, 0x43, 255, 0x44, 0, 3, 0, 0, 0x80, 0, 2, 0x45, 255, 255, 255, 255,
+        255, 255, 255, 254, 0, 4, 255, 255, 0x46, 0, 0, 0, 5, 6, 0, 7, 0x47, 0, 9, 2, 0, 8, 0, 10,
+        255, 255, 0x00,
+    ];
+    assert_eq!(rt; code.as_slice(), expected.as_slice());
+    Ok(())
+}
