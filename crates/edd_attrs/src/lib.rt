@@ -15,8 +15,8 @@ mod writing;
 
 pub use attribute::lower_attribute;
 pub use fault::LowerFault;
-pub use plain::is_plain_text;
 pub use laws::strings_are_the_descriptions;
+pub use plain::is_plain_text;
 
 #[cfg(test)]
 mod tests;

@@ -8,7 +8,9 @@ use crate::words::{attribute_word, kind_word, type_word};
 use edd_image::{Counts, Record, VarKind};
 use edd_loader::Image;
 use edd_machine::{ReadFault, Values, attribute};
-use edd_syntax::numbers::{Attr, AttrRef, CmdNo, CollNo, ItemNo, KINDS, Kind, MenuNo, MethNo, VarNo};
+use edd_syntax::numbers::{
+    Attr, AttrRef, CmdNo, CollNo, ItemNo, KINDS, Kind, MenuNo, MethNo, VarNo,
+};
 use std::alloc::Global;
 use std::fmt::Write as _;
 use std::io::Write;

@@ -63,11 +63,7 @@ impl<'a> Page<'a> {
     }
 
     /// A blank and the text, where there is one.
-    pub fn push_optional(
-        &self,
-        line: &mut String,
-        string: Option<StrNo>,
-    ) -> Result<(), ShowFault> {
+    pub fn push_optional(&self, line: &mut String, string: Option<StrNo>) -> Result<(), ShowFault> {
         if let Some(string) = string {
             line.push(' ')?;
             self.push_text(line, string)?;

@@ -49,7 +49,11 @@ fn variable(image: &Image, name: &str) -> Option<VarNo> {
 }
 
 // `NAME N`
-fn setting<'a>(image: &Image, name: Option<&'a str>, value: Option<&'a str>) -> Option<(VarNo, i64)> {
+fn setting<'a>(
+    image: &Image,
+    name: Option<&'a str>,
+    value: Option<&'a str>,
+) -> Option<(VarNo, i64)> {
     Some((variable(image, name?)?, number(value?)?))
 }
 

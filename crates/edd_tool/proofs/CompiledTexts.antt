@@ -1,5 +1,5 @@
 -- What the image of a description, or its refusal, says of the text.
-use Rattle.std.proofs.Common.{◌≡◌, sym, ap, ◌∙◌, ℕ, List, [], ◌∷◌, ◌++◌, Some}
+use Rattle.std.proofs.Common.{◌≡◌, ap, ◌∙◌, ℕ, List, [], ◌∷◌, ◌++◌}
 use Rattle.std.specs.Prelude.{Result, Ok, Err, IfOk, IfErr, OnOk}
 use Rattle.edd_syntax.specs.declared.limits.Limit.TheVariants as limit
 use Rattle.edd_syntax.specs.declared.reference.Target.{Target}
@@ -8,7 +8,6 @@ use Rattle.edd_syntax.specs.Accepted.{profile_breaches}
 use Rattle.edd_syntax.specs.Refusal.{TooMany, first_of}
 use Rattle.edd_syntax.specs.ResolvedTrees.{resolved_unit}
 use Rattle.edd_syntax.specs.Strings.{too_many_strings}
-use Rattle.edd_syntax.specs.SubsetRules.{subset_breaches}
 use Rattle.edd_image.specs.Agreement.{AgreesOnData}
 use Rattle.edd_image.specs.Contents.{contents_in}
 use Rattle.edd_image.specs.Validity.{IsValid}
@@ -42,9 +41,12 @@ module _ (text : List ℕ) (d : Description Target) (of : IsDescriptionOf text d
   explained (fault.Name e) is = absurd is
   explained (fault.Type e) is = absurd is
   explained (fault.NotWritten word) is = tt
-  explained fault.TooManyStrings is = (of.0.is_resolved.unit, of.1,
-      profile_decides text of.0.is_resolved.unit of.1 d of.0.is_resolved.meanings of.0.is_resolved.no_breach
-      ∙ ap (λ xs. first_of (xs ++ too_many_strings d)) of.0.no_breach ∙ ap first_of is)
+  explained fault.TooManyStrings is = (
+    of.0.is_resolved.unit,
+    of.1,
+    profile_decides text of.0.is_resolved.unit of.1 d of.0.is_resolved.meanings of.0.is_resolved.no_breach
+        ∙ ap (λ xs. first_of (xs ++ too_many_strings d)) of.0.no_breach ∙ ap first_of is,
+  )
   explained fault.Memory is = tt
 
 -- a good answer that keeps these clauses keeps what follows from them

@@ -1,17 +1,14 @@
 -- What the units of a description's rows make of its image.
-use Rattle.std.proofs.Common.{◌≡◌, refl, sym, ap, subst, ◌∙◌, ℕ, zero, suc, ◌+◌, ◌<◌, ◌≤◌, Bool, true, false, List, [], ◌∷◌, ◌++◌, length, map, arith}
+use Rattle.std.proofs.Common.{◌≡◌, refl, sym, ap, subst, ◌∙◌, ℕ, suc, ◌+◌, ◌<◌, ◌≤◌, List, [], ◌∷◌, ◌++◌, length, map, arith}
 use Rattle.std.specs.Prelude.{sum, if◌then◌else◌, nat_lt, ◌≢◌, OnOk, Result, Ok, Err}
 use Rattle.std.specs.List.{All, AllPairs, Contains, flat_map, sum_by}
 use Rattle.std.proofs.lemmas.List.{append-nil, length-append}
 use Rattle.std.proofs.lemmas.List.Sums.{sum-map, sum_by-cons}
 use Rattle.std.proofs.lemmas.Grind.{common_steps}
 use Rattle.edd_syntax.specs.declared.limits.Limit.TheVariants as limit
-use Rattle.edd_syntax.specs.declared.numbers.Attr.TheVariants as attr
 use Rattle.edd_syntax.specs.declared.numbers.AttrRef.{AttrRef}
 use Rattle.edd_syntax.specs.declared.reference.Target.{Target}
-use Rattle.edd_syntax.specs.Numbers.{same_attr}
-use Rattle.edd_syntax.specs.Refusal.{Refusal, TooMany, refused_if}
-use Rattle.edd_syntax.specs.Resolved.{IsChecked}
+use Rattle.edd_syntax.specs.Refusal.{TooMany, refused_if}
 use Rattle.edd_syntax.specs.Rows.{rows}
 use Rattle.edd_syntax.specs.Strings.{different, too_many_strings, unit_strings}
 use Rattle.edd_syntax.specs.Words.{Words}
@@ -23,7 +20,7 @@ use Rattle.edd_attrs.specs.Sizes.{length_limit}
 use Rattle.edd_attrs.specs.Trees.{tree_at}
 use Rattle.edd_coverage.specs.RowContents.{strings_of_row, limit_of_row}
 use Rattle.edd_attrs.specs.Sizes.{strings_at}
-use Rattle.edd_tool.specs.Lowering.{IsNoBody, IsCodeOf, IsOfAttribute, HasLowered, HasTooMany}
+use Rattle.edd_tool.specs.Lowering.{IsNoBody, IsCodeOf, HasLowered, HasTooMany}
 
 -- ---- the units
 
@@ -83,8 +80,8 @@ module _ (d : Description Target) where
         → HasLowered d (rows d.items) table units → too_many_strings d ≡ []
     few_strings itself in_rows table units apart short has =
         let all_held = λ (w : Words) (there : Contains (unit_strings d) w).
-            let found = in_rows w there in
-            has.holds found.0 found.1 w (subst (λ ws. Contains ws w) (strings_of_attribute found.0 (has.no_body found.0 found.1)) found.2) in
+        let found = in_rows w there in
+        has.holds found.0 found.1 w (subst (λ ws. Contains ws w) (strings_of_attribute found.0 (has.no_body found.0 found.1)) found.2) in
         let least = within (unit_strings d) table all_held in
         let most = itself table apart in
         few (length (different (unit_strings d))) (omega arith)
@@ -93,8 +90,8 @@ module _ (d : Description Target) where
         → HasTooMany d → too_many_strings d ≡ TooMany limit.Strings ∷ []
     too_many of_rows has =
         let all_held = λ (w : Words) (there : Contains has.0 w).
-            let found = has.2 w there in
-            of_rows found.0 w (subst (λ ws. Contains ws w) (sym (strings_of_attribute found.0 found.1)) found.2) in
+        let found = has.2 w there in
+        of_rows found.0 w (subst (λ ws. Contains ws w) (sym (strings_of_attribute found.0 found.1)) found.2) in
         let least = within has.0 (unit_strings d) all_held in
         let over = has.1 in
         many (length (different (unit_strings d))) (omega arith)

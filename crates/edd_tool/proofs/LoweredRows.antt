@@ -1,12 +1,10 @@
 -- The units of rows, one more at a time.
-use Rattle.std.proofs.Common.{◌≡◌, refl, sym, ap, subst, ◌∙◌, ℕ, ◌+◌, ◌<◌, ◌≤◌, ◌⊎◌, inl, inr, List, [], ◌∷◌, ◌++◌, length, map, take, drop, get_or, zero, suc, add-one, arith}
-use Rattle.std.specs.Prelude.{◌↔◌}
-use Rattle.std.specs.List.{All, Contains, flat_map}
+use Rattle.std.proofs.Common.{◌≡◌, refl, sym, ap, subst, ◌∙◌, ℕ, ◌+◌, ◌<◌, inl, inr, List, [], ◌∷◌, ◌++◌, length, map, take, get_or, zero, suc, add-one, arith}
+use Rattle.std.specs.List.{All, Contains}
 use Rattle.std.proofs.Math.Logic.{⊎_elim}
 use Rattle.std.proofs.Math.Seq.{take-suc}
-use Rattle.std.proofs.lemmas.Grind.{flat_map-append}
-use Rattle.std.proofs.lemmas.List.{append-nil, append_assoc, map_push, take-append-drop}
-use Rattle.std.proofs.lemmas.List.Elements.{All-push, Contains-append_left, Contains-append_right, Contains-append_cases}
+use Rattle.std.proofs.lemmas.List.{append_assoc, map_push}
+use Rattle.std.proofs.lemmas.List.Elements.{All-push, Contains-append_cases}
 use Rattle.edd_syntax.specs.declared.numbers.AttrRef.{AttrRef}
 use Rattle.edd_syntax.specs.declared.reference.Target.{Target}
 use Rattle.edd_syntax.specs.Words.{Words}
@@ -57,26 +55,30 @@ module _ (d : Description Target) where
     each = subst (All (IsCodeOf d new)) (sym adds.pushed)
         (All-push (IsCodeOf d new) before adds.unit (λ k x h. code_stays old new _ adds.grown (has.each k x h)) adds.code);
     no_body = λ r there. ⊎_elim
-    (λ before. has.no_body r before)
-    (λ last. subst IsNoBody (adds.of_row ∙ single row r last) adds.code.no_body)
-    (Contains-append_cases rows (row ∷ []) r there);
+        (λ before. has.no_body r before)
+        (λ last. subst IsNoBody (adds.of_row ∙ single row r last) adds.code.no_body)
+        (Contains-append_cases rows (row ∷ []) r there);
     holds = λ r there w of_row. (adds.strings w).1 (⊎_elim
-    (λ before. inl (has.holds r before w of_row))
-    (λ last. inr (subst (λ x. Contains (strings_at d x) w) (sym (single row r last)) of_row))
-    (Contains-append_cases rows (row ∷ []) r there));
+        (λ before. inl (has.holds r before w of_row))
+        (λ last. inr (subst (λ x. Contains (strings_at d x) w) (sym (single row r last)) of_row))
+        (Contains-append_cases rows (row ∷ []) r there));
     only = λ w there. ⊎_elim
-    (λ held. has.only w held)
-    (λ of_row. (row, subst IsNoBody adds.of_row adds.code.no_body, of_row))
-    ((adds.strings w).0 there);
+        (λ held. has.only w held)
+        (λ of_row. (row, subst IsNoBody adds.of_row adds.code.no_body, of_row))
+        ((adds.strings w).0 there);
   }
 
   -- strings of the rows so far and of the next
   pub too_many_at : (rows : List AttrRef) (table : List Words) (units : List Lowered) (row : AttrRef) → HasLowered d rows table units
       → IsNoBody row × (65535 < length (different (table ++ strings_at d row))) → HasTooMany d
-  too_many_at rows table units row has over = (table ++ strings_at d row, over.1, λ w there. ⊎_elim
-      (λ held. has.only w held)
-      (λ of_row. (row, over.0, of_row))
-      (Contains-append_cases table (strings_at d row) w there))
+  too_many_at rows table units row has over = (
+    table ++ strings_at d row,
+    over.1,
+    λ w there. ⊎_elim
+        (λ held. has.only w held)
+        (λ of_row. (row, over.0, of_row))
+        (Contains-append_cases table (strings_at d row) w there),
+  )
 
   -- the same in a loop over all rows
   pub next_row : (all : List AttrRef) (i : ℕ) (row any : AttrRef) (old new : List Words) (before after : List Lowered) → i < length all → row ≡ get_or all i any

@@ -1,5 +1,5 @@
 -- What is written of the units of a description's rows.
-use Rattle.std.proofs.Common.{◌≡◌, sym, ap, subst, ◌∙◌, ℕ, ◌<◌, ◌≤◌, List, length, map, arith}
+use Rattle.std.proofs.Common.{◌≡◌, sym, ap, subst, ◌∙◌, ◌<◌, ◌≤◌, List, length, map, arith}
 use Rattle.std.specs.Prelude.{sum}
 use Rattle.std.specs.List.{flat_map}
 use Rattle.edd_syntax.specs.declared.reference.Target.{Target}
@@ -19,7 +19,7 @@ use Rattle.edd_tool.specs.Lowering.{HasLowered}
 use Rattle.edd_tool.proofs.ImageParts.{are_units, code_within}
 
 module _ (d : Description Target) (words : List in_code.Words) (units : List Lowered)
-  (has : HasLowered d (rows d.items) (map string_of words) units) (s : Sections) (made : s ≡ assembled d units (map string_of words)) where
+    (has : HasLowered d (rows d.items) (map string_of words) units) (s : Sections) (made : s ≡ assembled d units (map string_of words)) where
   their_units : AreUnitsOf d (map string_of words) units
   their_units = are_units d (map string_of words) units has
 

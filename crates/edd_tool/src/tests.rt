@@ -1,7 +1,7 @@
 //! Texts and readers whose outcome was worked out by hand.
 
-use crate::files::read_all;
 use crate::compiling::compile;
+use crate::files::read_all;
 use crate::source::{checked_of, unit_of};
 use edd_syntax::numbers::{Attr, AttrRef, CmdNo, ItemNo, MenuNo, VarNo};
 use std::alloc::Global;
@@ -154,7 +154,10 @@ fn trees_have_a_greatest_height(rt: HostRuntime) -> Result<(), Fail> {
     text.push('1')?;
     push_times(&mut text, ")", 10_000)?;
     text.push_str("; } }")?;
-    assert_eq!(rt; compiled(alloc, text.as_str())?.as_str(), "11 TOO_DEEP line 2");
+    assert_eq!(rt;
+        compiled(alloc, text.as_str())?.as_str(),
+        "11 TOO_DEEP line 2"
+    );
     Ok(())
 }
 
@@ -165,6 +168,9 @@ fn descriptions_have_a_greatest_number_of_nodes(rt: HostRuntime) -> Result<(), F
     text.push_str("METHOD m { DEFINITION { ")?;
     push_times(&mut text, ";", 524_289)?;
     text.push_str(" } }")?;
-    assert_eq!(rt; compiled(alloc, text.as_str())?.as_str(), "40 TOO_MANY nodes");
+    assert_eq!(rt;
+        compiled(alloc, text.as_str())?.as_str(),
+        "40 TOO_MANY nodes"
+    );
     Ok(())
 }

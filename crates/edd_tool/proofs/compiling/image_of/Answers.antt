@@ -1,6 +1,5 @@
-use Rattle.std.proofs.Common.{subst, sym, map, ◌∙◌}
+use Rattle.std.proofs.Common.{subst, map, ◌∙◌}
 use Rattle.std.proofs.lemmas.Result.{err_from_is_err_and}
-use Rattle.edd_syntax.specs.Rows.{rows}
 use Rattle.edd_assembly.specs.Views.{lowered_of}
 use Rattle.edd_attrs.specs.Views.{unit_of}
 use Rattle.edd_tool.specs.Lowering.{HasLowered}

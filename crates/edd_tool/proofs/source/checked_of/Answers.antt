@@ -15,13 +15,15 @@ returns-in_err-resolved-clause-refused c =
 pub returns-clause-description : goal.returns-clause-description
 returns-clause-description c =
     let same = ap (λ i. description (identification_of i) (numbered_items c.in_ok-check.field-0.items.value.items)) c.in_ok-check.ensures.identification
-            ∙ ap (λ items. description (identification_of c.in_ok-resolved.resolved.identification) (numbered_items items.items)) c.in_ok-check.ensures.items in
-    (record {
-      is_resolved = record {
-        unit = unit_view c.in_ok-unit.unit;
-        well_formed = c.in_ok-unit.unit.kept;
-        meanings = c.in_ok-resolved.ensures.ok ∙ ap Some (sym same);
-        no_breach = c.in_ok-resolved.ensures.none;
-      };
-      no_breach = ap subset_breaches same ∙ c.in_ok-check.ensures.accepted;
-    }, c.in_ok-unit.ensures.unit)
+    ∙ ap (λ items. description (identification_of c.in_ok-resolved.resolved.identification) (numbered_items items.items)) c.in_ok-check.ensures.items in (
+      record {
+        is_resolved = record {
+          unit = unit_view c.in_ok-unit.unit;
+          well_formed = c.in_ok-unit.unit.kept;
+          meanings = c.in_ok-resolved.ensures.ok ∙ ap Some (sym same);
+          no_breach = c.in_ok-resolved.ensures.none;
+        };
+        no_breach = ap subset_breaches same ∙ c.in_ok-check.ensures.accepted;
+      },
+      c.in_ok-unit.ensures.unit,
+    )
