@@ -27,13 +27,6 @@ use edd_syntax::checked::Checked;
 use edd_syntax::words::Words;
 use std::alloc::Global;
 
-// Nothing calls it: what is asked never holds.
-fn never() -> Fault
-    requires { ⊥ }
-{
-    Fault::Memory
-}
-
 // The image of a description, whose code has these units.
 fn write_image(
     alloc: Global,
@@ -56,7 +49,7 @@ fn write_image(
     match write(alloc, &parts) {
         Ok(bytes) => Ok(bytes),
         Err(WriteFault::Memory) => Err(Fault::Memory),
-        Err(WriteFault::CodeTooLong) => Err(never()),
+        Err(WriteFault::CodeTooLong) => unreachable!(),
     }
 }
 

@@ -24,16 +24,9 @@ returns-in-Ok-clause-agrees c =
     (sections_of c.in_ok-parts.parts) c.in_ok-parts.ensures
     c.in-Ok.ensures.fit (c.sections_agree.ensures d) c.fields_are_parts.ensures)
 
-pub never-requires : goal.never-requires
-never-requires c =
+pub unreachable-requires : goal.unreachable-requires
+unreachable-requires c =
     let d = unit_of c.args.checked.now in
     never_longer d c.args.strings.now (map lowered_of c.args.units.now) c.requires.lowered
     (sections_of c.in_ok-parts.parts) c.in_ok-parts.ensures
     (c.code_is_short.ensures d) c.args.checked.now.checked (subst (λ n. 16777216 < n) c.in_ok-parts.parts.code.ok.0 (c.write.ensures.too_long.0 (c.in-Err-CodeTooLong.is ∙ ap Err c.in-Err-CodeTooLong.field-0-is)))
-
-pub returns-clause-refused : goal.returns-clause-refused
-returns-clause-refused c = absurd (
-    let d = unit_of c.args.checked.now in
-    never_longer d c.args.strings.now (map lowered_of c.args.units.now) c.requires.lowered
-    (sections_of c.in_ok-parts.parts) c.in_ok-parts.ensures
-    (c.code_is_short.ensures d) c.args.checked.now.checked (subst (λ n. 16777216 < n) c.in_ok-parts.parts.code.ok.0 (c.write.ensures.too_long.0 (c.in-Err-CodeTooLong.is ∙ ap Err c.in-Err-CodeTooLong.field-0-is))))
