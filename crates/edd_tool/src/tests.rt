@@ -1,6 +1,5 @@
 //! Texts and readers whose outcome was worked out by hand.
 
-use crate::compiling::compile;
 use crate::files::read_all;
 use crate::source::{checked_of, unit_of};
 use edd_syntax::numbers::{Attr, AttrRef, CmdNo, ItemNo, MenuNo, VarNo};
@@ -118,59 +117,16 @@ fn rows_stand_by_kind_attribute_item_and_position(rt: HostRuntime) -> Result<(),
     Ok(())
 }
 
-// The length of the image, or the fault as it prints.
-fn compiled(alloc: Global, text: &str) -> Result<String, Fail> {
-    match compile(alloc, text.as_bytes()) {
-        Ok(bytes) => Ok(format!(in alloc; "image {}", bytes.len())?),
-        Err(fault) => Ok(format!(in alloc; "{fault}")?),
-    }
-}
-
-// `count` times the piece.
-fn push_times(text: &mut String, piece: &str, count: usize) -> Result<(), Fail> {
-    for _ in 0..count {
-        text.push_str(piece)?;
-    }
-    Ok(())
-}
-
 #[test]
-fn sources_have_a_greatest_length(rt: HostRuntime) -> Result<(), Fail> {
+fn a_type_without_braces_has_no_row(rt: HostRuntime) -> Result<(), Fail> {
     let alloc = rt.alloc();
-    let mut text = String::from_str(alloc, IDENTIFICATION)?;
-    push_times(&mut text, " ", 1_048_576 - IDENTIFICATION.len())?;
-    assert_eq!(rt; compiled(alloc, text.as_str())?.as_str(), "image 56");
-    text.push(' ')?;
-    assert_eq!(rt; compiled(alloc, text.as_str())?.as_str(), "2 TOO_LONG");
-    Ok(())
-}
-
-#[test]
-fn trees_have_a_greatest_height(rt: HostRuntime) -> Result<(), Fail> {
-    let alloc = rt.alloc();
-    let mut text = String::from_str(alloc, IDENTIFICATION)?;
-    text.push_str("VARIABLE v { TYPE INTEGER { MIN_VALUE ")?;
-    push_times(&mut text, "(", 10_000)?;
-    text.push('1')?;
-    push_times(&mut text, ")", 10_000)?;
-    text.push_str("; } }")?;
-    assert_eq!(rt;
-        compiled(alloc, text.as_str())?.as_str(),
-        "11 TOO_DEEP line 2"
-    );
-    Ok(())
-}
-
-#[test]
-fn descriptions_have_a_greatest_number_of_nodes(rt: HostRuntime) -> Result<(), Fail> {
-    let alloc = rt.alloc();
-    let mut text = String::from_str(alloc, IDENTIFICATION)?;
-    text.push_str("METHOD m { DEFINITION { ")?;
-    push_times(&mut text, ";", 524_289)?;
-    text.push_str(" } }")?;
-    assert_eq!(rt;
-        compiled(alloc, text.as_str())?.as_str(),
-        "40 TOO_MANY nodes"
-    );
+    let items = "VARIABLE p { LABEL \"|en|Pressure|de|Druck\"; TYPE INTEGER (2); }";
+    let text = format!(in alloc; "{IDENTIFICATION}{items}")?;
+    let Ok(checked) = checked_of(alloc, text.as_bytes()) else {
+        panic!(rt; "it breaks no rule")
+    };
+    let rows = checked.rows(alloc)?;
+    let expected = [row(ItemNo::Variable(VarNo(0)), Attr::Label, 0)];
+    assert_eq!(rt; rows.as_slice(), expected.as_slice());
     Ok(())
 }
