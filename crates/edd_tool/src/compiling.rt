@@ -53,7 +53,7 @@ fn write_image(
     }
 }
 
-// The image of a description, and how many strings it has.
+// The image of a description, if it has no more strings than a table holds.
 fn image_of(alloc: Global, checked: &Checked) -> Result<Vec<u8>, Fault>
     ensures valid { IfOk result (λ bytes. IsValid bytes.items) }
     ensures agrees { IfOk result (λ bytes. AgreesOnData (unit_of checked.now) (contents_in bytes.items)) }
