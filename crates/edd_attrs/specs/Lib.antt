@@ -1,7 +1,10 @@
 pub mod Code
 pub mod Faults
+pub mod Kept
+pub mod Lowered
 pub mod Plain
 pub mod Rows
 pub mod Sizes
+pub mod TreeBlocks
 pub mod Trees
 pub mod Views

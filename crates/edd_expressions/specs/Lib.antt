@@ -1,0 +1,4 @@
+pub mod Blocks
+pub mod Flow
+pub mod Outcomes
+pub mod Expressions

@@ -1,0 +1,2 @@
+//! Code in blocks, and the code of expressions.
+#![tactic(auto)]
