@@ -3,6 +3,10 @@ pub mod Runs
 pub mod UnitStrings
 pub mod Written
 pub mod AttributeCode
+pub mod Made
+pub mod BlockKeeps
+pub mod BlockGood
+pub mod BlockChecked
 pub mod BareValues
 pub mod CheckedTrees
 pub mod Different

@@ -13,7 +13,7 @@ use Rattle.edd_syntax.specs.Item.{Description}
 use Rattle.edd_syntax.specs.Resolution.{Scope, function_meant, declared, all_declared}
 use Rattle.edd_syntax.specs.ResolvedTrees.{resolved_expr, resolved_arguments, resolved_optional, resolved_cond, resolved_conds, resolved_arms, at_scope, resolved_declarators, resolved_stmt, resolved_body}
 use Rattle.edd_syntax.specs.Size.{nodes, argument_nodes, cond_nodes, conds_nodes, arms_nodes, optional_nodes, declarator_nodes, statement_nodes, body_nodes}
-use Rattle.edd_coverage.proofs.Made.{stays, made, made_of_two, made_of_three, made_of_four}
+use Rattle.edd_attrs.proofs.Made.{stays, made, made_of_two, made_of_three, made_of_four}
 
 module _ (at : Path → Option Target) where
   mutual

@@ -12,7 +12,7 @@ use Rattle.edd_syntax.specs.Resolution.{member_kinds}
 use Rattle.edd_syntax.specs.ResolvedTrees.{each, unchanged, resolved_expr, resolved_cond, resolved_conds, resolved_body, at_attribute, resolved_data, resolved_entry, resolved_member, resolved_type_part, resolved_transaction_part, resolved_attribute, resolved_item, resolved_unit}
 use Rattle.edd_syntax.specs.Size.{nodes, leaf, cond_nodes, type_part_nodes, is_element, transaction_part_nodes, attribute_nodes, item_nodes, unit_nodes}
 use Rattle.edd_syntax.proofs.WithinLimits.{each_keeps}
-use Rattle.edd_coverage.proofs.Made.{stays, made}
+use Rattle.edd_attrs.proofs.Made.{stays, made}
 use Rattle.edd_coverage.proofs.TreeNodes.{expr_keeps, cond_keeps, conds_keep, body_keeps}
 
 any_of_mapped : {X : Type 0} (p : X → Bool) (xs : List X) → list_any p xs ≡ list_any (λ b. b) (map p xs)
