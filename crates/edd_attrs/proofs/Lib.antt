@@ -7,6 +7,7 @@ pub mod Made
 pub mod BlockKeeps
 pub mod BlockGood
 pub mod BlockChecked
+pub mod BlockSound
 pub mod BareValues
 pub mod CheckedTrees
 pub mod Different

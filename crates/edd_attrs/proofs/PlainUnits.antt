@@ -122,11 +122,11 @@ class_small class.ModeError = omega arith
 class_small class.ProcessError = omega arith
 class_small class.MiscError = omega arith
 
-label_fits : (z : ℤ) → is_label z ≡ true → FitsSigned w64 z
+pub label_fits : (z : ℤ) → is_label z ≡ true → FitsSigned w64 z
 label_fits (pos n) h = let lt = ltb-true n (2 ^ 32) h in omega (arith, ints)
 label_fits (negsuc n) h = let lt = ltb-true (suc n) (2 ^ 32) h in omega (arith, ints)
 
-number_is : (z : ℤ) → is_number z ≡ true → (n : ℕ) × (z ≡ pos n) × (n < 2 ^ 32)
+pub number_is : (z : ℤ) → is_number z ≡ true → (n : ℕ) × (z ≡ pos n) × (n < 2 ^ 32)
 number_is (pos n) h = (n, refl, ltb-true n (2 ^ 32) h)
 number_is (negsuc n) h = absurd cc
 
@@ -153,7 +153,7 @@ module _ (unit : Description Target) (few : (k : Kind) → count_of k unit.items
     abbrev IsSpelledRecord : Record → Type 0
     IsSpelledRecord r = AllByRecursion IsSpelled (giving r) × IsSayable r
 
-    record_spelled : (x : source.Record) (r : Record) → is_fine unit x ≡ true → SameRecord (string_of_table strings) x r → IsSpelledRecord r
+    pub record_spelled : (x : source.Record) (r : Record) → is_fine unit x ≡ true → SameRecord (string_of_table strings) x r → IsSpelledRecord r
     record_spelled (source.Words w) r fine same =
         subst IsSpelledRecord (sym same.1) ((omega (arith, string_small w same.0 same.2), tt), tt)
     record_spelled (source.Number z) r fine same =
@@ -207,7 +207,7 @@ module _ (unit : Description Target) (few : (k : Kind) → count_of k unit.items
     abbrev Exists : Record → Type 0
     Exists r = list_all (names_exist context) (giving r) ≡ true
 
-    record_exists : (x : source.Record) (r : Record) → is_fine unit x ≡ true → SameRecord (string_of_table strings) x r → Exists r
+    pub record_exists : (x : source.Record) (r : Record) → is_fine unit x ≡ true → SameRecord (string_of_table strings) x r → Exists r
     record_exists (source.Words w) r fine same = subst Exists (sym same.1) (rw (string_there w same.0 same.2) refl)
     record_exists (source.Number z) r fine same = subst Exists (sym same) refl
     record_exists (source.Entry item quals) r fine same = subst Exists (sym same) (rw (item_there item fine) refl)
