@@ -24,6 +24,7 @@ use Rattle.edd_expressions.specs.Outcomes.{Outcome, Goes, Traps, Stuck, behind, 
 use Rattle.edd_expressions.specs.Expressions.{expression_block}
 use Rattle.edd_attrs.specs.TreeBlocks.{IsCondBlock, IsCondsBlock, IsArmsBlock, IsDefaultBlock, IsLineBlock}
 use Rattle.edd_attrs.proofs.PlainUnits.{both_of}
+use Rattle.edd_attrs.proofs.BlockGiven.{given, all_given, case_given, default_given}
 
 -- the value on top of the operands, or the trap
 abbrev pub value_outcome : Trapping ℤ → List ℤ → Outcome
@@ -106,61 +107,53 @@ module _ (string_numbered : StrNo → Option Words) where
 
     module _ (reads : Target → Bool) {V : Type 0} (of : V → Block → Type 0) (p : V → Bool) (gives : V → Trapping (List source.Record))
         (values : (v : V) (b : Block) → of v b → p v ≡ true → Same (gives v) b) where
-      abbrev mutual
-        pub given : Cond Target V → Trapping (List source.Record)
-        given (Value v) = gives v
-        given (If condition first otherwise) = value there d condition >>= λ a. elim (is_zero a) [ true ↦ all_given otherwise | false ↦ all_given first ]
-        given (Select on arms) = value there d on >>= λ a. case_given a arms (default_given arms)
+      abbrev gives_cond : Cond Target V → Trapping (List source.Record)
+      gives_cond c = given there d gives c
 
-        pub all_given : Conds Target V → Trapping (List source.Record)
-        all_given Nil = Ok []
-        all_given (Cons first rest) = given first >>= λ xs. all_given rest >>= λ ys. Ok (xs ++ ys)
+      abbrev gives_all : Conds Target V → Trapping (List source.Record)
+      gives_all c = all_given there d gives c
 
-        pub case_given : ℤ → Arms Target V → Trapping (List source.Record) → Trapping (List source.Record)
-        case_given a NoArms otherwise = otherwise
-        case_given a (ConsArm (Case label body) rest) otherwise = elim (int_eq a label) [ true ↦ all_given body | false ↦ case_given a rest otherwise ]
-        case_given a (ConsArm (Default body) rest) otherwise = case_given a rest otherwise
+      abbrev gives_case : ℤ → Arms Target V → Trapping (List source.Record) → Trapping (List source.Record)
+      gives_case a arms otherwise = case_given there d gives a arms otherwise
 
-        pub default_given : Arms Target V → Trapping (List source.Record)
-        default_given NoArms = Ok []
-        default_given (ConsArm (Case label body) rest) = default_given rest
-        default_given (ConsArm (Default body) rest) = all_given body
+      abbrev gives_default : Arms Target V → Trapping (List source.Record)
+      gives_default arms = default_given there d gives arms
 
       mutual
-        pub cond_means : (c : Cond Target V) (b : Block) → IsCondBlock of c b → is_cond reads reads p c ≡ true → Same (given c) b
+        pub cond_means : (c : Cond Target V) (b : Block) → IsCondBlock of c b → is_cond reads reads p c ≡ true → Same (gives_cond c) b
         cond_means (Value v) b is t = values v b is t
         cond_means (If condition first otherwise) b is t =
             let tests = both_of _ (are_conds reads reads p otherwise) t in
             let front = both_of (is_pure_expr reads reads condition) (are_conds reads reads p first) tests.0 in
-            subst (Same (given (If condition first otherwise))) (sym is.2)
-            (on_value condition (block.Either is.0 is.1) (λ a. elim (is_zero a) [ true ↦ all_given otherwise | false ↦ all_given first ])
-            (either_means (all_given first) (all_given otherwise) is.0 is.1 (conds_mean first is.0 is.3 front.1) (conds_mean otherwise is.1 is.4 tests.1)))
+            subst (Same (gives_cond (If condition first otherwise))) (sym is.2)
+            (on_value condition (block.Either is.0 is.1) (λ a. elim (is_zero a) [ true ↦ gives_all otherwise | false ↦ gives_all first ])
+            (either_means (gives_all first) (gives_all otherwise) is.0 is.1 (conds_mean first is.0 is.3 front.1) (conds_mean otherwise is.1 is.4 tests.1)))
         cond_means (Select on arms) b is t =
             let tests = both_of (is_pure_expr reads reads on) (are_arms reads reads p arms) t in
             let otherwise = default_means arms is.1 is.3 tests.1 in
-            subst (Same (given (Select on arms))) (sym is.2)
-            (on_value on is.0 (λ a. case_given a arms (default_given arms)) (λ a. arms_mean a arms (default_given arms) is.1 otherwise is.0 is.4 tests.1))
+            subst (Same (gives_cond (Select on arms))) (sym is.2)
+            (on_value on is.0 (λ a. gives_case a arms (gives_default arms)) (λ a. arms_mean a arms (gives_default arms) is.1 otherwise is.0 is.4 tests.1))
 
-        pub conds_mean : (c : Conds Target V) (b : Block) → IsCondsBlock of c b → are_conds reads reads p c ≡ true → Same (all_given c) b
+        pub conds_mean : (c : Conds Target V) (b : Block) → IsCondsBlock of c b → are_conds reads reads p c ≡ true → Same (gives_all c) b
         conds_mean Nil b is t = subst (Same (Ok [])) (sym is) nothing_means
         conds_mean (Cons first rest) b is t =
             let tests = both_of (is_cond reads reads p first) (are_conds reads reads p rest) t in
-            subst (Same (all_given (Cons first rest))) (sym is.2)
-            (then_means (given first) (all_given rest) is.0 is.1 (cond_means first is.0 is.3 tests.0) (conds_mean rest is.1 is.4 tests.1))
+            subst (Same (gives_all (Cons first rest))) (sym is.2)
+            (then_means (gives_cond first) (gives_all rest) is.0 is.1 (cond_means first is.0 is.3 tests.0) (conds_mean rest is.1 is.4 tests.1))
 
-        default_means : (arms : Arms Target V) (y : Block) → IsDefaultBlock of arms y → are_arms reads reads p arms ≡ true → Same (default_given arms) y
+        default_means : (arms : Arms Target V) (y : Block) → IsDefaultBlock of arms y → are_arms reads reads p arms ≡ true → Same (gives_default arms) y
         default_means NoArms y is t = subst (Same (Ok [])) (sym is) nothing_means
         default_means (ConsArm (Case label body) rest) y is t = default_means rest y is (both_of _ (are_arms reads reads p rest) t).1
         default_means (ConsArm (Default body) rest) y is t = conds_mean body y is (both_of (are_conds reads reads p body) (are_arms reads reads p rest) t).0
 
         arms_mean : (a : ℤ) (arms : Arms Target V) (otherwise : Trapping (List source.Record)) (y : Block) → Same otherwise y → (b : Block) → IsArmsBlock of y arms b → are_arms reads reads p arms ≡ true
-            → SameWith a (case_given a arms otherwise) b
+            → SameWith a (gives_case a arms otherwise) b
         arms_mean a NoArms otherwise y h b is t = subst (SameWith a otherwise) (sym is) (drop_means otherwise y h a)
         arms_mean a (ConsArm (Case label body) rest) otherwise y h b is t =
             let tests = both_of _ (are_arms reads reads p rest) t in
             let front = both_of (is_label label) (are_conds reads reads p body) tests.0 in
-            subst (SameWith a (case_given a (ConsArm (Case label body) rest) otherwise)) (sym is.2)
-            (match_means label (all_given body) (case_given a rest otherwise) is.0 is.1 a (conds_mean body is.0 is.3 front.1) (arms_mean a rest otherwise y h is.1 is.4 tests.1))
+            subst (SameWith a (gives_case a (ConsArm (Case label body) rest) otherwise)) (sym is.2)
+            (match_means label (gives_all body) (gives_case a rest otherwise) is.0 is.1 a (conds_mean body is.0 is.3 front.1) (arms_mean a rest otherwise y h is.1 is.4 tests.1))
         arms_mean a (ConsArm (Default body) rest) otherwise y h b is t =
             arms_mean a rest otherwise y h b is (both_of (are_conds reads reads p body) (are_arms reads reads p rest) t).1
 

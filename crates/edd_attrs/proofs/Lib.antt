@@ -8,6 +8,7 @@ pub mod BlockKeeps
 pub mod BlockGood
 pub mod BlockChecked
 pub mod BlockSound
+pub mod BlockGiven
 pub mod BlockMeans
 pub mod BareValues
 pub mod CheckedTrees
