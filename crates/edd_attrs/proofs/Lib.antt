@@ -10,6 +10,8 @@ pub mod BlockChecked
 pub mod BlockSound
 pub mod BlockGiven
 pub mod BlockMeans
+pub mod BlockRecords
+pub mod BlockLater
 pub mod BareValues
 pub mod CheckedTrees
 pub mod Different

@@ -1,0 +1,113 @@
+-- The block that gives a record of a checked description.
+use Rattle.std.proofs.Common.{◌≡◌, refl, sym, ap, subst, ◌∙◌, ℕ, ◌+◌, ◌≤◌, Bool, true, ℤ, pos, List, [], ◌∷◌, length, arith}
+use Rattle.std.specs.Prelude.{◌&&◌, Ok, Option}
+use Rattle.std.specs.List.{AllByRecursion, list_all}
+use Rattle.edd_syntax.specs.declared.numbers.Kind.{Kind}
+use Rattle.edd_syntax.specs.declared.numbers.StrNo.{StrNo}
+use Rattle.edd_syntax.specs.declared.reference.Target.{Target}
+use Rattle.edd_syntax.specs.Item.{Description}
+use Rattle.edd_syntax.specs.Resolution.{count_of}
+use Rattle.edd_syntax.specs.Words.{Words}
+use Rattle.edd_syntax.specs.Attributes as source
+use Rattle.edd_image.specs.declared.records.Record.{Record}
+use Rattle.edd_image.specs.declared.records.Record.TheVariants as records
+use Rattle.edd_image.specs.declared.instruction.Instruction.{Instruction}
+use Rattle.edd_image.specs.declared.instruction.Instruction.TheVariants as instruction
+use Rattle.edd_image.specs.References.{names_exist}
+use Rattle.edd_image.specs.Spelling.{IsSpelled}
+use Rattle.edd_image.specs.Steps.{Environment, act}
+use Rattle.edd_image.specs.Agreement.{SameRecord, SameRecords, string_of_table, attribute_context}
+use Rattle.edd_expressions.specs.Blocks as block
+use Rattle.edd_expressions.specs.Blocks.{Block, size}
+use Rattle.edd_expressions.specs.Flow.{AreSpelled, Flows, all_straight, depth_after}
+use Rattle.edd_expressions.specs.Outcomes.{Goes, does}
+use Rattle.edd_attrs.specs.Code.{giving}
+use Rattle.edd_attrs.specs.Plain.{is_fine}
+use Rattle.edd_attrs.specs.TreeBlocks.{straight_line, IsRecordBlock}
+use Rattle.edd_attrs.proofs.PlainUnits.{both_of, number_is, record_spelled, record_exists}
+use Rattle.edd_attrs.proofs.BlockSound.{IsSound}
+use Rattle.edd_attrs.proofs.BlockMeans.{SameOutcome}
+use Rattle.edd_attrs.proofs.Runs.{IsSayable, wrap_small}
+
+line_spelled : (is : List Instruction) → AllByRecursion IsSpelled is → AreSpelled (straight_line is)
+line_spelled [] h = tt
+line_spelled (i ∷ is) h = (h.0, line_spelled is h.1)
+
+line_passes : (f : Instruction → Bool) (is : List Instruction) → list_all f is ≡ true → all_straight f (straight_line is) ≡ true
+line_passes f [] h = refl
+line_passes f (i ∷ is) h = let parts = both_of (f i) (list_all f is) h in rw (parts.0, line_passes f is parts.1) refl
+
+record_flows : (r : Record) → Flows (straight_line (giving r)) 0
+record_flows (records.Words s) = ((refl, omega arith, omega arith), tt)
+record_flows (records.Number z) = ((refl, omega arith, omega arith), ((refl, omega arith, omega arith), tt))
+record_flows (records.Entry item quals) = ((refl, omega arith, omega arith), tt)
+record_flows (records.DataConst n) = ((refl, omega arith, omega arith), tt)
+record_flows (records.DataVar v mask quals) = ((refl, omega arith, omega arith), tt)
+record_flows (records.Enumerator n text help) = ((refl, omega arith, omega arith), tt)
+record_flows (records.Response n class text) = ((refl, omega arith, omega arith), tt)
+record_flows (records.Member name item label help) = ((refl, omega arith, omega arith), tt)
+
+record_even : (r : Record) → depth_after (straight_line (giving r)) 0 ≡ 0
+record_even (records.Words s) = refl
+record_even (records.Number z) = refl
+record_even (records.Entry item quals) = refl
+record_even (records.DataConst n) = refl
+record_even (records.DataVar v mask quals) = refl
+record_even (records.Enumerator n text help) = refl
+record_even (records.Response n class text) = refl
+record_even (records.Member name item label help) = refl
+
+record_short : (r : Record) → size (straight_line (giving r)) ≤ 13
+record_short (records.Words s) = omega arith
+record_short (records.Number z) = omega arith
+record_short (records.Entry item quals) = omega arith
+record_short (records.DataConst n) = omega arith
+record_short (records.DataVar v mask quals) = omega arith
+record_short (records.Enumerator n text help) = omega arith
+record_short (records.Response n class text) = omega arith
+record_short (records.Member name item label help) = omega arith
+
+module _ (env : Environment) (d : List ℤ) where
+  record_does : (r : Record) → IsSayable r → does env d (straight_line (giving r)) [] ≡ Goes (r ∷ []) []
+  unfolding does act
+  record_does (records.Words s) h = refl
+  record_does (records.Number z) h =
+      subst (λ (y : ℤ). does env d (straight_line (giving (records.Number y))) [] ≡ Goes (records.Number y ∷ []) []) (sym h.1)
+      (ap (λ (y : ℤ). Goes (records.Number y ∷ []) []) (wrap_small h.0 h.2))
+  record_does (records.Entry item quals) h = refl
+  record_does (records.DataConst n) h = refl
+  record_does (records.DataVar v mask quals) h = refl
+  record_does (records.Enumerator n text help) h = refl
+  record_does (records.Response n class text) h = refl
+  record_does (records.Member name item label help) h = refl
+
+-- a number is one of 32 bits
+module _ (unit : Description Target) (strings : List Words) where
+  sayable : (x : source.Record) (r : Record) → is_fine unit x ≡ true → SameRecord (string_of_table strings) x r → IsSayable r
+  sayable (source.Words w) r fine same = subst IsSayable (sym same.1) tt
+  sayable (source.Number z) r fine same = let n = number_is z fine in subst IsSayable (sym (same ∙ ap records.Number n.1)) (n.0, refl, n.2)
+  sayable (source.Entry item quals) r fine same = subst IsSayable (sym same) tt
+  sayable (source.DataConst n) r fine same = subst IsSayable (sym same) tt
+  sayable (source.DataVar v mask quals) r fine same = subst IsSayable (sym same) tt
+  sayable (source.Enumerator value text help) r fine same = subst IsSayable (sym same.2) tt
+  sayable (source.Response number class text) r fine same = subst IsSayable (sym same.1) tt
+  sayable (source.Member name item label help) r fine same = subst IsSayable (sym same.3) tt
+
+  pub record_means : (env : Environment) (d : List ℤ) (x : source.Record) (b : Block) → is_fine unit x ≡ true → IsRecordBlock (string_of_table strings) x b
+      → SameOutcome (string_of_table strings) (Ok (x ∷ [])) (does env d b [])
+  record_means env d x b fine is = (is.0 ∷ [], ap (λ c. does env d c []) is.2 ∙ record_does env d is.0 (sayable x is.0 fine is.1), (is.1, tt))
+
+module _ (unit : Description Target) (few : (k : Kind) → count_of k unit.items ≤ 4096) (strings : List Words) (few_strings : length strings ≤ 65535) where
+  -- with strings by their numbers in a table that begins with these
+  pub record_is_sound : (x : source.Record) (b : Block) → is_fine unit x ≡ true → IsRecordBlock (string_of_table strings) x b → IsSound (attribute_context unit strings) b 1
+  record_is_sound x b fine is =
+      let spelled = record_spelled unit few strings few_strings x is.0 fine is.1 in
+      let exist = record_exists unit few strings x is.0 fine is.1 in
+      subst (λ c. IsSound (attribute_context unit strings) c 1) (sym is.2) (record {
+        flows = record_flows is.0;
+        even = record_even is.0;
+        spelled = line_spelled (giving is.0) spelled.0;
+        exist = line_passes (names_exist (attribute_context unit strings)) (giving is.0) exist;
+        short = omega (arith, record_short is.0);
+      })
+
