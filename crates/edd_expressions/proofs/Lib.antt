@@ -1,0 +1,4 @@
+pub mod Lines
+pub mod BlockBytes
+pub mod BlockPlaces
+pub mod BlockDepths
