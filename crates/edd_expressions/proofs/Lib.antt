@@ -2,3 +2,4 @@ pub mod Lines
 pub mod BlockBytes
 pub mod BlockPlaces
 pub mod BlockDepths
+pub mod BlockJumps
