@@ -8,13 +8,13 @@ use Rattle.edd_expressions.specs.Flow.{Flows, depth_after}
 use Rattle.edd_expressions.proofs.Lines.{spelling_not_empty}
 
 -- this in front of a place, and that from there on
-abbrev until : (place x : ℕ) → (here behind : ℕ) → ℕ
+abbrev pub until : (place x : ℕ) → (here behind : ℕ) → ℕ
 until place x here behind = elim (nat_lt x place) as (λ _. ℕ) [ true ↦ here | false ↦ behind ]
 
-until_front : (place x here behind : ℕ) → x < place → until place x here behind ≡ here
+pub until_front : (place x here behind : ℕ) → x < place → until place x here behind ≡ here
 until_front place x here behind h = ap (λ (b : Bool). elim b as (λ _. ℕ) [ true ↦ here | false ↦ behind ]) (lt-ltb x place h)
 
-until_behind : (place x here behind : ℕ) → place ≤ x → until place x here behind ≡ behind
+pub until_behind : (place x here behind : ℕ) → place ≤ x → until place x here behind ≡ behind
 until_behind place x here behind h = ap (λ (b : Bool). elim b as (λ _. ℕ) [ true ↦ here | false ↦ behind ]) (le-ltb x place h)
 
 -- the number of operands at a place x inside a block at a place p, with d in front of the block

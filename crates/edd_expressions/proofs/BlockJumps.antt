@@ -84,7 +84,7 @@ module _ (xs : List Placed) where
   Inside p b = (P : Placed → Type 0) → AllByRecursion P xs → AllIn P p b
 
   -- an instruction is among them
-  abbrev Among : Placed → Type 1
+  abbrev pub Among : Placed → Type 1
   Among x = (P : Placed → Type 0) → AllByRecursion P xs → P x
 
   not_fresh : (x : Placed) (place : ℕ) → Among x → x.place < place → leads_to x place ≡ true → IsFresh xs place → ⊥
@@ -92,7 +92,7 @@ module _ (xs : List Placed) where
       let no : leads_to x place ≡ false = among (λ y. y.place < place → leads_to y place ≡ false) fresh before in
       absurd (cc (leads, no))
 
-  starts : (x : Placed) → Among x → is_start xs x.place ≡ true
+  pub starts : (x : Placed) → Among x → is_start xs x.place ≡ true
   starts x among = among (λ y. is_start xs y.place ≡ true) (starts_among xs)
 
   -- where the place behind a block is a start, so is its own

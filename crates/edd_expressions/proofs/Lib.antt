@@ -3,3 +3,4 @@ pub mod BlockBytes
 pub mod BlockPlaces
 pub mod BlockDepths
 pub mod BlockJumps
+pub mod BlockUnits
