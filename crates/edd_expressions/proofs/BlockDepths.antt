@@ -1,8 +1,7 @@
 -- The number of operands at each place of a block.
-use Rattle.std.proofs.Common.{◌≡◌, refl, sym, ap, subst, ◌∙◌, ℕ, ◌+◌, ◌-◌, ◌<◌, ◌≤◌, Bool, true, false, length, arith}
+use Rattle.std.proofs.Common.{◌≡◌, sym, ap, ◌∙◌, ℕ, ◌+◌, ◌-◌, ◌<◌, ◌≤◌, Bool, true, false, arith}
 use Rattle.std.specs.Prelude.{nat_lt}
 use Rattle.std.proofs.lemmas.Bool.{lt-ltb, le-ltb}
-use Rattle.edd_image.specs.Spelling.{spelling}
 use Rattle.edd_expressions.specs.Blocks.{Block, Nothing, Straight, Then, WhenNotZero, WhenZero, Either, Match, size}
 use Rattle.edd_expressions.specs.Flow.{Flows, depth_after}
 use Rattle.edd_expressions.proofs.Lines.{spelling_not_empty}

@@ -4,3 +4,5 @@ pub mod BlockPlaces
 pub mod BlockDepths
 pub mod BlockJumps
 pub mod BlockUnits
+pub mod BlockRuns
+pub mod UnitRuns
