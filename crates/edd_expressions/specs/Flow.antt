@@ -1,5 +1,5 @@
 -- What a block needs so that its unit is valid: operands that are there, and instructions that are allowed.
-use Rattle.std.specs.Prelude.{◌≡◌, ℕ, ◌+◌, ◌-◌, ◌≤◌, Bool, true, ◌&&◌, ℤ, ⊤, FitsSigned, IsTrue, Option, Some, None, is_some, is_none}
+use Rattle.std.specs.Prelude.{◌≡◌, ℕ, ◌+◌, ◌-◌, ◌≤◌, Bool, true, ◌&&◌, ⊤, FitsSigned, IsTrue, Option, Some, None, is_some, is_none}
 use Rattle.std.specs.Int.{w64}
 use Rattle.edd_image.specs.declared.instruction.Instruction.{Instruction}
 use Rattle.edd_image.specs.declared.unit.Version.TheVariants as version

@@ -2,3 +2,4 @@ pub mod Blocks
 pub mod Flow
 pub mod Outcomes
 pub mod Expressions
+pub mod Closing

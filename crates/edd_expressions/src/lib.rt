@@ -1,2 +1,9 @@
 //! Code in blocks, and the code of expressions.
 #![tactic(auto)]
+
+mod emit;
+
+pub use emit::{
+    close, open_case, open_if_not_zero, open_if_zero, open_jump, put_end, put_number, put_pop,
+    put_push,
+};
