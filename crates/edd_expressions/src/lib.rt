@@ -2,8 +2,10 @@
 #![tactic(auto)]
 
 mod emit;
+mod expression;
 
 pub use emit::{
     close, open_case, open_if_not_zero, open_if_zero, open_jump, put_end, put_number, put_pop,
     put_push,
 };
+pub use expression::write_expression;
