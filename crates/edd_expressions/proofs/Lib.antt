@@ -6,3 +6,10 @@ pub mod BlockJumps
 pub mod BlockUnits
 pub mod BlockRuns
 pub mod UnitRuns
+pub mod Sizes
+pub mod Closing
+pub mod Writing
+pub mod ExpressionSizes
+pub mod ExpressionFlow
+pub mod ExpressionSpelling
+pub mod ExpressionValues
