@@ -29,11 +29,13 @@ use Rattle.edd_attrs.specs.Trees as trees
 use Rattle.edd_attrs.specs.Trees.{Tree, trees_of_part, trees_of_parts, tree_of_transaction_part, tree_at}
 use Rattle.edd_attrs.specs.Plain.{kept_data}
 use Rattle.edd_attrs.proofs.InTrees.{if_there, all_append, named, throughout, throughout_item, tree_has}
+use Rattle.edd_image.specs.declared.parts.Counts.{Counts}
+use Rattle.edd_expressions.specs.Reads.{reads_existing}
 use Rattle.edd_attrs.proofs.BlockGood.{bind_some, each_all, is_good, item_good}
 use Rattle.edd_attrs.proofs.Existing.{is_item_of}
 use Rattle.edd_attrs.proofs.PlainUnits.{both_of}
 
-front_none : {A : Type 0} (xs ys : List A) → xs ++ ys ≡ [] → (xs ≡ []) × (ys ≡ [])
+pub front_none : {A : Type 0} (xs ys : List A) → xs ++ ys ≡ [] → (xs ≡ []) × (ys ≡ [])
 front_none [] ys h = (refl, h)
 front_none (x ∷ xs) ys h = absurd (omega (arith, ap length h))
 
@@ -181,17 +183,26 @@ count_kept unit items meant k =
 
 -- ---- a checked description
 
--- what may be read: a variable that exists, and what is no variable, which gives 0
-abbrev pub is_readable : (Kind → ℕ) → Target → Bool
-is_readable count (target.Item (item_no.Variable v)) = nat_lt v.0 (count kind.Variable)
-is_readable count (target.Item (item_no.Command n)) = true
-is_readable count (target.Item (item_no.Menu n)) = true
-is_readable count (target.Item (item_no.Collection n)) = true
-is_readable count (target.Item (item_no.Method n)) = true
-is_readable count (target.Local slot) = true
-is_readable count (target.Function f) = true
+-- how many items there are, and nothing else
+abbrev pub counts_with : (Kind → ℕ) → Counts
+counts_with count = record {
+  variables = count kind.Variable;
+  commands = count kind.Command;
+  menus = count kind.Menu;
+  collections = count kind.Collection;
+  methods = count kind.Method;
+  strings = 0;
+  manufacturer = 0;
+  device_type = 0;
+  device_revision = 0;
+  dd_revision = 0;
+}
 
-item_readable : (count : Kind → ℕ) (i : ItemNo) → is_item_of count i ≡ true → is_among variable_kinds i ≡ true → is_readable count (target.Item i) ≡ true
+-- what an expression may read of a description with so many items
+abbrev pub reads_of : (Kind → ℕ) → Target → Bool
+reads_of count t = reads_existing (counts_with count) t
+
+item_readable : (count : Kind → ℕ) (i : ItemNo) → is_item_of count i ≡ true → is_among variable_kinds i ≡ true → reads_of count (target.Item i) ≡ true
 item_readable count (item_no.Variable v) h k = h
 item_readable count (item_no.Command n) h k = refl
 item_readable count (item_no.Menu n) h k = refl
@@ -199,14 +210,14 @@ item_readable count (item_no.Collection n) h k = refl
 item_readable count (item_no.Method n) h k = refl
 
 abbrev pub is_whole : Description Target → Tree → Bool
-is_whole d t = is_good (λ k. count_of k d.items) (is_readable (λ k. count_of k d.items)) t && is_ruled t
+is_whole d t = is_good (λ k. count_of k d.items) (reads_of (λ k. count_of k d.items)) t && is_ruled t
 
 both_there : {A : Type 0} (p q : A → Bool) (o : Option A) → if_there p o ≡ true → if_there q o ≡ true → if_there (λ x. p x && q x) o ≡ true
 both_there p q None h k = refl
 both_there p q (Some x) h k = rw (h, k) refl
 
 abbrev good_with : (Kind → ℕ) → Tree → Bool
-good_with count t = is_good count (is_readable count) t
+good_with count t = is_good count (reads_of count) t
 
 module _ (d : Description Target) (row : AttrRef) where
   whole_in : IsChecked d → if_there (is_whole d) (tree_at d row) ≡ true
@@ -217,7 +228,7 @@ module _ (d : Description Target) (row : AttrRef) where
       let same_items : x.0 ≡ d.items = ap (λ (e : Description Target). e.items) (same_Some (record { identification = u.identification; items = x.0 }) d x.2) in
       let good : list_all (throughout_item (good_with (λ k. count_of k u.items))) x.0 ≡ true =
       each_all (resolved_item u) (is_item is_path is_plain) (throughout_item (good_with (λ k. count_of k u.items)))
-      (item_good u (is_readable (λ k. count_of k u.items)) (item_readable (λ k. count_of k u.items))) u.items x.0 checked.is_resolved.well_formed x.1 in
+      (item_good u (reads_of (λ k. count_of k u.items)) (item_readable (λ k. count_of k u.items))) u.items x.0 checked.is_resolved.well_formed x.1 in
       let counts : (λ k. count_of k u.items) ≡ (λ k. count_of k d.items) = fun_ext (λ k. sym (count_kept u d.items (x.1 ∙ ap Some same_items) k)) in
       let good_here : list_all (throughout_item (good_with (λ k. count_of k d.items))) d.items ≡ true =
       subst (λ (items : List (Item Target)). list_all (throughout_item (good_with (λ k. count_of k d.items))) items ≡ true) same_items

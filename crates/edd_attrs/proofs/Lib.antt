@@ -12,6 +12,7 @@ pub mod BlockGiven
 pub mod BlockMeans
 pub mod BlockRecords
 pub mod BlockLater
+pub mod BlockElements
 pub mod BareValues
 pub mod CheckedTrees
 pub mod Different
