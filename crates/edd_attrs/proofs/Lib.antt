@@ -13,6 +13,7 @@ pub mod BlockMeans
 pub mod BlockRecords
 pub mod BlockLater
 pub mod BlockElements
+pub mod BlockHeld
 pub mod BareValues
 pub mod CheckedTrees
 pub mod Different

@@ -98,10 +98,10 @@ module _ (strings : List Words) where
     | inr rest ↦ others v rest
   ]
 
-  both_held : (vs ws : List Words) → ((v : Words) → Contains vs v → Contains strings v) → ((v : Words) → Contains ws v → Contains strings v) → (v : Words) → Contains (vs ++ ws) v → Contains strings v
+  pub both_held : (vs ws : List Words) → ((v : Words) → Contains vs v → Contains strings v) → ((v : Words) → Contains ws v → Contains strings v) → (v : Words) → Contains (vs ++ ws) v → Contains strings v
   both_held vs ws p q v held = elim (Contains-append_cases vs ws v held) [ inl h ↦ p v h | inr h ↦ q v h ]
 
-  record_held : (x : source.Record) (r : Record) → SameRecord (string_of_table strings) x r → (v : Words) → Contains (strings_of_record x) v → Contains strings v
+  pub record_held : (x : source.Record) (r : Record) → SameRecord (string_of_table strings) x r → (v : Words) → Contains (strings_of_record x) v → Contains strings v
   record_held (source.Words w) r same v held = one_held w same.0 same.2 v held
   record_held (source.Number z) r same v held = absurd (omega (arith, held.1))
   record_held (source.Entry item quals) r same v held = absurd (omega (arith, held.1))
