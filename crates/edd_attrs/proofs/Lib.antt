@@ -14,6 +14,7 @@ pub mod BlockRecords
 pub mod BlockLater
 pub mod BlockElements
 pub mod BlockHeld
+pub mod BlockTrees
 pub mod BareValues
 pub mod CheckedTrees
 pub mod Different
