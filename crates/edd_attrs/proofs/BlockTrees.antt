@@ -60,21 +60,21 @@ use Rattle.edd_attrs.proofs.BlockGiven.{given_are_chosen, all_are_chosen, expres
 use Rattle.edd_attrs.proofs.BlockRecords.{record_is_sound, record_means, line_short}
 use Rattle.edd_attrs.proofs.BlockHeld.{Held, none_in, one_held, cond_held, conds_held, line_held}
 
-handling_small : (h : handlings.Handling) → is_small (handling_number h) ≡ true
+pub handling_small : (h : handlings.Handling) → is_small (handling_number h) ≡ true
 handling_small handling.Read = refl
 handling_small handling.Write = refl
 handling_small handling.ReadWrite = refl
 
-operation_small : (o : operations.Operation) → is_small (operation_number o) ≡ true
+pub operation_small : (o : operations.Operation) → is_small (operation_number o) ≡ true
 operation_small operation.Read = refl
 operation_small operation.Write = refl
 operation_small operation.Command = refl
 
-bit_small : (b : Bool) → is_small (bit b) ≡ true
+pub bit_small : (b : Bool) → is_small (bit b) ≡ true
 bit_small true = refl
 bit_small false = refl
 
-always : {V : Type 0} (vs : List V) → list_all any_value vs ≡ true
+pub always : {V : Type 0} (vs : List V) → list_all any_value vs ≡ true
 always [] = refl
 always (v ∷ vs) = always vs
 

@@ -15,6 +15,7 @@ pub mod BlockLater
 pub mod BlockElements
 pub mod BlockHeld
 pub mod BlockTrees
+pub mod BlockTreeMeaning
 pub mod BareValues
 pub mod CheckedTrees
 pub mod Different
