@@ -16,6 +16,10 @@ pub mod BlockElements
 pub mod BlockHeld
 pub mod BlockTrees
 pub mod BlockTreeMeaning
+pub mod TreeNodes
+pub mod UnitNodes
+pub mod FewNodes
+pub mod BlockNodes
 pub mod BareValues
 pub mod CheckedTrees
 pub mod Different
