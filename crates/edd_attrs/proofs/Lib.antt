@@ -20,6 +20,7 @@ pub mod TreeNodes
 pub mod UnitNodes
 pub mod FewNodes
 pub mod BlockNodes
+pub mod BlockCode
 pub mod BareValues
 pub mod CheckedTrees
 pub mod Different
