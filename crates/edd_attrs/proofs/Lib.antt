@@ -2,8 +2,10 @@ pub mod Lines
 pub mod Runs
 pub mod UnitStrings
 pub mod Written
+pub mod Among
+pub mod Loops
+pub mod Flat
 pub mod AttributeCode
-pub mod BareValues
 pub mod CheckedTrees
 pub mod Different
 pub mod Existing
@@ -14,7 +16,6 @@ pub mod LineUnits
 pub mod PlainCode
 pub mod Looking
 pub mod ItemTrees
-pub mod Loops
 pub mod Meanings
 pub mod Picking
 pub mod PlainTrees

@@ -2,7 +2,9 @@
 #![tactic(auto)]
 
 mod attribute;
+mod conditions;
 mod elements;
+mod expression_stub;
 mod fault;
 mod items;
 mod laws;
