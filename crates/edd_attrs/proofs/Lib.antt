@@ -5,6 +5,10 @@ pub mod Written
 pub mod Among
 pub mod Loops
 pub mod Flat
+pub mod Arms
+pub mod CondViews
+pub mod Carried
+pub mod Conditionals
 pub mod AttributeCode
 pub mod CheckedTrees
 pub mod Different

@@ -58,12 +58,12 @@ fn write_if<V: Element>(
     requires first { IsTrue (list_all V.is_kept (values_of (conds_of (λ r. r) V.view first.now))) }
     requires otherwise { IsTrue (list_all V.is_kept (values_of (conds_of (λ r. r) V.view otherwise.now))) }
     ensures ok { OnOk result (WritesBlock table.old code.old.items
-        (conds_strings V.strings (conds_of (λ r. r) V.view first.now) ++ conds_strings V.strings (conds_of (λ r. r) V.view otherwise.now))
+        (cond_strings V.strings (If (expr_of (λ r. r) condition.now) (conds_of (λ r. r) V.view first.now) (conds_of (λ r. r) V.view otherwise.now)))
         (λ numbered b. IsCondBlock (V.is_block numbered) (If (expr_of (λ r. r) condition.now) (conds_of (λ r. r) V.view first.now) (conds_of (λ r. r) V.view otherwise.now)) b)
         table.new code.new.items) }
     ensures grows { Grows table.old table.new }
     ensures too_many { IsErrOf result LowerFault.TooMany → Overflows table.old
-        (conds_strings V.strings (conds_of (λ r. r) V.view first.now) ++ conds_strings V.strings (conds_of (λ r. r) V.view otherwise.now)) }
+        (cond_strings V.strings (If (expr_of (λ r. r) condition.now) (conds_of (λ r. r) V.view first.now) (conds_of (λ r. r) V.view otherwise.now))) }
 {
     write_expression(code, condition)?;
     let otherwise_hole = open_if_zero(code)?;
