@@ -12,9 +12,8 @@ ghost use Rattle.edd_attrs.specs.TreeBlocks.{IsCondBlock, IsCondsBlock, IsDefaul
 ghost use Rattle.edd_attrs.specs.Writing.{WritesArm, WritesArms, WritesBody, arms_strings, cond_strings, conds_strings, default_of, header, headers};
 
 use crate::elements::Element;
-use crate::expression_stub::write_expression;
 use crate::fault::LowerFault;
-use edd_expressions::{close, open_case, open_if_zero, open_jump, put_pop};
+use edd_expressions::{close, open_case, open_if_zero, open_jump, put_pop, write_expression};
 use edd_strings::Table;
 use edd_syntax::cond::{Arm, Cond};
 use edd_syntax::expr::Expr;

@@ -22,13 +22,12 @@ ghost use Rattle.edd_attrs.specs.Plain.{class_record, handling_record, kept_data
 ghost use Rattle.edd_attrs.specs.TreeBlocks.{Giving, IsValueBlock};
 ghost use Rattle.edd_attrs.specs.Writing.{WritesRecord};
 
-use crate::expression_stub::write_expression;
 use crate::fault::LowerFault;
 use crate::strings::{add_name, add_optional, add_text};
 use crate::writing::{
     put_data_const, put_data_var, put_entry, put_enumerator, put_member, put_response, put_text,
 };
-use edd_expressions::{put_number, put_push};
+use edd_expressions::{put_number, put_push, write_expression};
 use edd_strings::Table;
 use edd_syntax::expr::Expr;
 use edd_syntax::item::{

@@ -4,7 +4,6 @@
 mod attribute;
 mod conditions;
 mod elements;
-mod expression_stub;
 mod fault;
 mod items;
 mod laws;
