@@ -3,3 +3,5 @@ pub mod Flow
 pub mod Outcomes
 pub mod Expressions
 pub mod Closing
+pub mod ExpressionMeaning
+pub mod Reads

@@ -2,8 +2,14 @@
 #![tactic(auto)]
 
 mod emit;
+mod expression;
+mod expression_laws;
 
 pub use emit::{
     close, open_case, open_if_not_zero, open_if_zero, open_jump, put_end, put_number, put_pop,
     put_push,
+};
+pub use expression::write_expression;
+pub use expression_laws::{
+    expressions_are_short, expressions_are_spelled, expressions_flow, expressions_mean_their_values,
 };
