@@ -16,16 +16,15 @@ use Rattle.edd_image.specs.Spelling.{spelling}
 use Rattle.edd_expressions.specs.Blocks.{Block, Nothing, Straight, Then, Either, bytes_at}
 use Rattle.edd_expressions.specs.Closing.{closed}
 use Rattle.edd_expressions.specs.Expressions.{expression_block}
-use Rattle.edd_expressions.proofs.Closing.{either_closed, nothing_written, straight_written}
+use Rattle.edd_expressions.proofs.Closing.{either_closed, straight_written}
 use Rattle.edd_attrs.specs.Code.{GrowsBy, Overflows}
 use Rattle.edd_attrs.specs.Lowered.{WritesBlock}
 use Rattle.edd_attrs.specs.TreeBlocks.{IsCondBlock, IsCondsBlock, IsArmsBlock, IsDefaultBlock}
 use Rattle.edd_attrs.specs.Writing.{WritesArms, WritesBody, arms_strings, cond_strings, conds_strings, default_of, headers, with_body}
 use Rattle.edd_attrs.proofs.Flat.{default_within}
 use Rattle.edd_attrs.proofs.Among.{block_within, grows_twice, overflows_later, overflows_within, within_left, within_right}
-use Rattle.edd_attrs.proofs.Growing.{nothing_added}
 use Rattle.edd_attrs.proofs.Loops.{later_on}
-use Rattle.edd_attrs.proofs.Written.{both_blocks}
+use Rattle.edd_attrs.proofs.Written.{both_blocks, no_block}
 
 module _ {V : Type 0} (strings : V → List Words) (is_block : (StrNo → Option Words) → V → Block → Type 0) where
   -- ---- IF
@@ -77,11 +76,8 @@ module _ {V : Type 0} (strings : V → List Words) (is_block : (StrNo → Option
   pub none_written : (old : List Words) (before : List ℕ) (arms : Arms Target V) → default_of arms ≡ None
       → WritesBlock old before (arms_strings strings arms) (λ numbered b. IsDefaultBlock (is_block numbered) arms b) old before
   none_written old before arms none =
-      block_within (arms_strings strings arms) (λ numbered b. IsDefaultBlock (is_block numbered) arms b) (nothing_more old before) (λ w held. absurd (omega (arith, held.1)))
+      block_within (arms_strings strings arms) (λ numbered b. IsDefaultBlock (is_block numbered) arms b) (no_block old before) (λ w held. absurd (omega (arith, held.1)))
       (λ numbered b is. subst (λ (x : Block). IsDefaultBlock (is_block numbered) arms x) (sym is) (no_default numbered arms none))
-    where
-      nothing_more : (old : List Words) (before : List ℕ) → WritesBlock old before [] (λ numbered b. b ≡ Nothing) old before
-      nothing_more old before = record { table = nothing_added old; block = Nothing; written = nothing_written before; is = λ later. refl }
 
   pub default_block : (old new : List Words) (before after : List ℕ) (arms : Arms Target V) (body : Conds Target V) → default_of arms ≡ Some body
       → WritesBlock old before (conds_strings strings body) (λ numbered b. IsCondsBlock (is_block numbered) body b) new after

@@ -9,6 +9,8 @@ pub mod Arms
 pub mod CondViews
 pub mod Carried
 pub mod Conditionals
+pub mod Parts
+pub mod TreeStrings
 pub mod AttributeCode
 pub mod CheckedTrees
 pub mod Different

@@ -1,5 +1,5 @@
 -- Code that gives one record.
-use Rattle.std.proofs.Common.{◌≡◌, ℕ, ℤ, pos, refl, sym, ap, ◌∙◌, List, [], ◌∷◌, ◌++◌, length, Option, Some, None}
+use Rattle.std.proofs.Common.{◌≡◌, ℕ, ℤ, pos, refl, sym, ap, subst, ◌∙◌, List, [], ◌∷◌, ◌++◌, length, Option, Some, None}
 use Rattle.std.specs.Option.{option_to_list}
 use Rattle.edd_syntax.specs.declared.numbers.StrNo.{StrNo}
 use Rattle.edd_syntax.specs.declared.numbers.VarNo.{VarNo}
@@ -23,9 +23,11 @@ use Rattle.edd_expressions.specs.Blocks.{Block, Nothing, Straight, Then, bytes_a
 use Rattle.edd_expressions.specs.Expressions.{expression_block}
 use Rattle.edd_expressions.proofs.Closing.{nothing_written, straight_written, then_written}
 use Rattle.edd_attrs.specs.Code.{giving, GrowsBy, Keeps, KeepsOptional}
-use Rattle.edd_attrs.specs.Lowered.{WritesBlock}
+use Rattle.edd_attrs.specs.Lowered.{WritesBlock, LowersTree}
 use Rattle.edd_attrs.specs.Plain.{strings_of_record}
-use Rattle.edd_attrs.specs.TreeBlocks.{IsValueBlock, straight_line}
+use Rattle.edd_attrs.specs.Sizes.{strings_of_tree}
+use Rattle.edd_attrs.specs.Trees.{Tree}
+use Rattle.edd_attrs.specs.TreeBlocks.{IsValueBlock, IsBlockOf, straight_line}
 use Rattle.edd_attrs.specs.Writing.{WritesRecord}
 use Rattle.edd_attrs.proofs.Growing.{no_growth, nothing_added, growth, grows_on, both_added, keeps_on, keeps_optional_on}
 
@@ -43,6 +45,11 @@ line_ends before after i is =
 pub line_goes_on : (before between after : List ℕ) (i : Instruction) (is : List Instruction) → between ≡ before ++ spelling i → after ≡ between ++ bytes_at (length between) (straight_line is)
     → after ≡ before ++ bytes_at (length before) (straight_line (i ∷ is))
 line_goes_on before between after i is first rest = both_blocks before between after (Straight i) (straight_line is) (first ∙ straight_written before i) rest
+
+-- ---- nothing
+
+pub no_block : (old : List Words) (before : List ℕ) → WritesBlock old before [] (λ numbered b. b ≡ Nothing) old before
+no_block old before = record { table = nothing_added old; block = Nothing; written = nothing_written before; is = λ later. refl }
 
 -- ---- one record
 
@@ -115,3 +122,16 @@ pub member_written : (old named labelled new : List Words) (before after : List 
 member_written old named labelled new before after i w o p s l h first keeps second labels third helps is =
     record_written old new before after (source.Member w i o p) (records.Member s i l h) (instruction.Member s i l h) refl (both_added first (both_added second third)) is
     (λ later. (s, l, h, refl, keeps_on named new w s keeps (grows_on named labelled new (growth second) (growth third)) later, keeps_optional_on labelled new o l labels (growth third) later, helps later))
+
+-- ---- whole units
+
+pub unit_lowered : (tree : Option Tree) (old new table : List Words) (before written body code : List ℕ) → before ≡ [] → table ≡ new → body ≡ written
+    → WritesBlock old before (strings_of_tree tree) (λ numbered b. IsBlockOf numbered tree b) new written → code ≡ body ++ spelling instruction.End → LowersTree old tree table code
+unit_lowered tree old new table before written body code empty same_table same_body w is =
+    subst (λ (t : List Words). LowersTree old tree t code) (sym same_table)
+    (record {
+      table = w.table;
+      block = w.block;
+      is_unit = is ∙ ap (λ (bs : List ℕ). bs ++ spelling instruction.End) (same_body ∙ w.written ∙ ap (λ (bs : List ℕ). bs ++ bytes_at (length bs) w.block) empty);
+      is = w.is;
+    })

@@ -1,16 +1,18 @@
 //! The code of trees.
 
-ghost use Rattle.std.specs.Prelude.{◌≡◌, IfOk, IsErrOf, IsTrue, OnOk, map, option_map, pos};
+ghost use Rattle.std.specs.Prelude.{◌≡◌, [], IfOk, IsErrOf, IsTrue, List, OnOk, map, option_map};
 ghost use Rattle.std.specs.List.{list_all};
 ghost use Rattle.edd_syntax.specs.Attributes as source;
 ghost use Rattle.edd_syntax.specs.ItemView.{type_part_of};
 ghost use Rattle.edd_syntax.specs.SubsetRules.{values_of};
+ghost use Rattle.edd_syntax.specs.Words.{Words};
 ghost use Rattle.edd_attrs.specs.Code.{Grows, Overflows};
 ghost use Rattle.edd_attrs.specs.Kept.{is_kept_row, is_kept_tree};
 ghost use Rattle.edd_attrs.specs.Lowered.{LowersTree, OverflowsTree, WritesBlock};
 ghost use Rattle.edd_attrs.specs.Plain.{kept_enumerator};
 ghost use Rattle.edd_attrs.specs.Sizes.{tree_strings};
 ghost use Rattle.edd_attrs.specs.TreeBlocks.{Giving, IsCondsBlock, IsTreeBlock, elements};
+ghost use Rattle.edd_attrs.specs.Trees as trees;
 ghost use Rattle.edd_attrs.specs.Views as views;
 ghost use Rattle.edd_attrs.specs.Writing.{WritesPart, conds_strings, element_strings, enumerator_strings, is_kept_part};
 
@@ -24,7 +26,7 @@ use edd_strings::Table;
 use edd_syntax::item::TypePart;
 use edd_syntax::reference::Target;
 use edd_syntax::types::Operation;
-use std::alloc::Global;
+use std::alloc::{AllocError, Global};
 
 fn operation_number(operation: Operation) -> u32
     ensures { result ≡ source.operation_number operation }
@@ -33,6 +35,18 @@ fn operation_number(operation: Operation) -> u32
         Operation::Read => 1,
         Operation::Write => 2,
         Operation::Command => 3,
+    }
+}
+
+// The number of a transaction, which may have none.
+#[tactic(auto, unfolding(crate::specs::TreeBlocks::IsTreeBlock))]
+fn write_optional_number(code: &mut Vec<u8>, number: Option<u32>) -> Result<(), AllocError>
+    ensures { OnOk result ((table : List Words)
+        → WritesBlock table code.old.items [] (λ numbered b. IsTreeBlock numbered (trees.Transaction number) b) table code.new.items) }
+{
+    match number {
+        None => Ok(()),
+        Some(number) => write_number(code, number),
     }
 }
 
@@ -98,8 +112,7 @@ fn write_tree(
         Tree::Enumerators(parts) => write_parts(alloc, code, table, parts),
         Tree::Number(number) => Ok(write_number(code, number)?),
         Tree::Operation(operation) => Ok(write_number(code, operation_number(operation))?),
-        Tree::Transaction(None) => Ok(()),
-        Tree::Transaction(Some(number)) => Ok(write_number(code, number)?),
+        Tree::Transaction(number) => Ok(write_optional_number(code, number)?),
         Tree::Data(all) => write_conds(alloc, code, table, all),
         Tree::ResponseCodes(codes) => write_all(alloc, code, table, codes),
         Tree::Items(entries) => write_conds(alloc, code, table, entries),

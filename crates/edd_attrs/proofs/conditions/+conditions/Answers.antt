@@ -225,13 +225,13 @@ write_bodies-loop-left-preserved g t c =
     let e : c.loop-left.left ≡ c.loop-left.left - 1 + 1 = omega arith in
     let back = subst (λ (k : ℕ). Back g.V.Element.strings g.V.Element.is_block k (map (arm_viewed g.V.Element.view) c.args.arms.now) c.args.table.now c.args.code.now.items c.args.behind c.loop-left.table c.loop-left.code.items c.loop-left.start) e c.loop-left.invariant.back in
     record {
-  back = back_grows g.V.Element.strings g.V.Element.is_block (c.loop-left.left - 1) (map (arm_viewed g.V.Element.view) c.args.arms.now) (arm_viewed g.V.Element.view c.index-arms-left.result) (omega (arith, length-map c.args.arms.now (arm_viewed g.V.Element.view)))
-    (viewed_at (arm_viewed g.V.Element.view) c.args.arms.now (c.loop-left.left - 1) c.index-arms-left.result (omega arith) c.index-arms-left.is)
-      c.args.table.now c.loop-left.table c.write_arm.new.table c.args.code.now.items c.loop-left.code.items c.write_arm.new.code.items c.args.behind c.loop-left.start c.in_ok-start.start
-      back c.in_ok-start.ensures.ok;
-  within = omega arith;
-  grows = grows_on c.args.table.now c.loop-left.table c.write_arm.new.table c.loop-left.invariant.grows c.in_ok-start.ensures.grows;
-}
+      back = back_grows g.V.Element.strings g.V.Element.is_block (c.loop-left.left - 1) (map (arm_viewed g.V.Element.view) c.args.arms.now) (arm_viewed g.V.Element.view c.index-arms-left.result) (omega (arith, length-map c.args.arms.now (arm_viewed g.V.Element.view)))
+          (viewed_at (arm_viewed g.V.Element.view) c.args.arms.now (c.loop-left.left - 1) c.index-arms-left.result (omega arith) c.index-arms-left.is)
+          c.args.table.now c.loop-left.table c.write_arm.new.table c.args.code.now.items c.loop-left.code.items c.write_arm.new.code.items c.args.behind c.loop-left.start c.in_ok-start.start
+          back c.in_ok-start.ensures.ok;
+      within = omega arith;
+      grows = grows_on c.args.table.now c.loop-left.table c.write_arm.new.table c.loop-left.invariant.grows c.in_ok-start.ensures.grows;
+    }
 
 pub write_bodies-returns-clause-ok : goal.write_bodies-returns-clause-ok
 write_bodies-returns-clause-ok g t c =
