@@ -2,7 +2,15 @@ pub mod Lines
 pub mod Runs
 pub mod UnitStrings
 pub mod Written
-pub mod AttributeCode
+pub mod Among
+pub mod Loops
+pub mod Flat
+pub mod Arms
+pub mod CondViews
+pub mod Carried
+pub mod Conditionals
+pub mod Parts
+pub mod TreeStrings
 pub mod Made
 pub mod BlockKeeps
 pub mod BlockGood
@@ -21,7 +29,6 @@ pub mod UnitNodes
 pub mod FewNodes
 pub mod BlockNodes
 pub mod BlockCode
-pub mod BareValues
 pub mod CheckedTrees
 pub mod Different
 pub mod Existing
@@ -32,7 +39,6 @@ pub mod LineUnits
 pub mod PlainCode
 pub mod Looking
 pub mod ItemTrees
-pub mod Loops
 pub mod Meanings
 pub mod Picking
 pub mod PlainTrees

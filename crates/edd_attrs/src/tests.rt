@@ -1,8 +1,9 @@
 use crate::lowering::lower_tree;
 use crate::trees::Tree;
 use crate::writing::{
-    put_data_const, put_data_var, put_end, put_entry, put_enumerator, put_member, put_response,
+    put_data_const, put_data_var, put_entry, put_enumerator, put_member, put_response,
 };
+use edd_expressions::put_end;
 use edd_strings::Table;
 use edd_syntax::cond::Cond;
 use edd_syntax::numbers::{CmdNo, ItemNo, MenuNo, StrNo, VarNo};
