@@ -28,11 +28,12 @@ use Rattle.edd_tool.specs.Sources.{is_method}
 
 none_counted : (all : List (Item Target)) → list_any is_method all ≡ false → count_of kind.Method all ≡ 0
 none_counted [] h = refl
-none_counted (i ∷ rest) h = here (is_method i) h
+none_counted (i ∷ rest) h = here (is_method i) h (λ k. none_counted rest k)
   where
-    here : (b : Bool) → (b || list_any is_method rest) ≡ false → length (cond b (i ∷ filter is_method rest) (filter is_method rest)) ≡ 0
-    here true h = absurd (cc h)
-    here false h = none_counted rest h
+    here : (b : Bool) → (b || list_any is_method rest) ≡ false → (list_any is_method rest ≡ false → count_of kind.Method rest ≡ 0)
+        → length (cond b (i ∷ filter is_method rest) (filter is_method rest)) ≡ 0
+    here true h k = absurd (cc h)
+    here false h k = k h
 
 module _ (d : Description Target) (none : list_any is_method d.items ≡ false) where
   no_method : (i : ItemNo) → has_attr (kind_of i) attr.Definition ≡ true → item_exists (counts_of d.identification d.items 0) i ≡ true → ⊥
