@@ -251,9 +251,9 @@ fn write_body<V: Element>(
     ensures grows { Grows table.old table.new }
     ensures too_many { IsErrOf result LowerFault.TooMany → Overflows table.old (conds_strings V.strings (conds_of (λ r. r) V.view body.now)) }
 {
-    let end_hole = open_jump(code)?;
+    let jump_hole = open_jump(code)?;
     close(code, case_hole);
     write_conds(alloc, code, table, body)?;
-    close(code, end_hole);
+    close(code, jump_hole);
     Ok(())
 }
