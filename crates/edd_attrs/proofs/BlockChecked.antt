@@ -27,13 +27,13 @@ use Rattle.edd_syntax.specs.Resolved.{IsChecked}
 use Rattle.edd_syntax.proofs.WithinLimits.{each_keeps}
 use Rattle.edd_attrs.specs.Trees as trees
 use Rattle.edd_attrs.specs.Trees.{Tree, trees_of_part, trees_of_parts, tree_of_transaction_part, tree_at}
-use Rattle.edd_attrs.specs.Plain.{kept_data}
+use Rattle.edd_attrs.specs.Records.{kept_data}
 use Rattle.edd_attrs.proofs.InTrees.{if_there, all_append, named, throughout, throughout_item, tree_has}
 use Rattle.edd_image.specs.declared.parts.Counts.{Counts}
 use Rattle.edd_expressions.specs.Reads.{reads_existing}
 use Rattle.edd_attrs.proofs.BlockGood.{bind_some, each_all, is_good, item_good}
 use Rattle.edd_attrs.proofs.Existing.{is_item_of}
-use Rattle.edd_attrs.proofs.PlainUnits.{both_of}
+use Rattle.edd_attrs.proofs.RecordOperands.{both_of}
 
 pub front_none : {A : Type 0} (xs ys : List A) → xs ++ ys ≡ [] → (xs ≡ []) × (ys ≡ [])
 front_none [] ys h = (refl, h)

@@ -1,6 +1,6 @@
 -- What the trees of a resolved description keep of those of its unit: texts and numbers of tokens, items that exist, variables that
 -- are read, and the limit on heights.
-use Rattle.std.proofs.Common.{◌≡◌, refl, ap, subst, ◌∙◌, ℕ, ◌≤◌, arith, ◌^◌, Bool, true, false, List, [], ◌∷◌, map, Option, Some, None}
+use Rattle.std.proofs.Common.{◌≡◌, refl, ap, subst, ◌∙◌, ℕ, arith, ◌^◌, Bool, true, false, List, [], ◌∷◌, map, Option, Some, None}
 use Rattle.std.specs.Prelude.{◌&&◌, max, nat_lt, nat_le}
 use Rattle.std.specs.List.{list_all}
 use Rattle.std.proofs.lemmas.Option.{none-some, same_Some}
@@ -24,8 +24,8 @@ use Rattle.edd_syntax.specs.ResolvedTrees.{◌>>=◌, each, unchanged, resolved_
 use Rattle.edd_image.specs.Agreement.{mask_number}
 use Rattle.edd_attrs.specs.Trees as trees
 use Rattle.edd_attrs.specs.Trees.{Tree, Named, trees_of_part, trees_of_parts, trees_of_attribute, tree_of_transaction_part}
-use Rattle.edd_attrs.specs.Plain.{is_label, kept_enumerator, kept_response, kept_member}
-use Rattle.edd_attrs.proofs.PlainUnits.{both_of}
+use Rattle.edd_attrs.specs.Records.{is_label, kept_enumerator, kept_response, kept_member}
+use Rattle.edd_attrs.proofs.RecordOperands.{both_of}
 use Rattle.edd_attrs.proofs.Existing.{is_item_of, meant_exists}
 use Rattle.edd_attrs.proofs.BlockKeeps.{expr_pure, expr_height, cond_tested, conds_tested, same_height, same_heights, stays_single}
 use Rattle.edd_attrs.proofs.InTrees.{all_append, named, throughout, throughout_item}

@@ -1,5 +1,3 @@
-pub mod Lines
-pub mod Runs
 pub mod UnitStrings
 pub mod Written
 pub mod Among
@@ -29,17 +27,13 @@ pub mod UnitNodes
 pub mod FewNodes
 pub mod BlockNodes
 pub mod BlockCode
-pub mod CheckedTrees
 pub mod Different
 pub mod Existing
-pub mod GoodTrees
 pub mod Growing
 pub mod InTrees
-pub mod LineUnits
-pub mod PlainCode
 pub mod Looking
 pub mod ItemTrees
 pub mod Meanings
 pub mod Picking
-pub mod PlainTrees
-pub mod PlainUnits
+pub mod RecordOperands
+pub mod RecordStrings
