@@ -22,14 +22,10 @@ use Rattle.edd_expressions.specs.Blocks as block
 use Rattle.edd_expressions.specs.Blocks.{Block}
 use Rattle.edd_expressions.specs.Outcomes.{Outcome, Goes, Traps, Stuck, behind, and_then, does}
 use Rattle.edd_expressions.specs.Expressions.{expression_block}
+use Rattle.edd_expressions.specs.ExpressionMeaning.{of_value}
 use Rattle.edd_attrs.specs.TreeBlocks.{IsCondBlock, IsCondsBlock, IsArmsBlock, IsDefaultBlock, IsLineBlock}
 use Rattle.edd_attrs.proofs.PlainUnits.{both_of}
 use Rattle.edd_attrs.proofs.BlockGiven.{given, all_given, case_given, default_given}
-
--- the value on top of the operands, or the trap
-abbrev pub value_outcome : Trapping ℤ → List ℤ → Outcome
-value_outcome (Ok z) operands = Goes [] (z ∷ operands)
-value_outcome (Err why) operands = Traps why
 
 behind_nothing : (o : Outcome) → behind [] o ≡ o
 behind_nothing (Goes records operands) = refl
@@ -49,7 +45,7 @@ module _ (string_numbered : StrNo → Option Words) where
   same_append (x ∷ xs) ys (r ∷ rs) ss h k = (h.0, same_append xs ys rs ss h.1 k)
 
   module _ (env : Environment) (there : device.Environment) (d : List ℤ)
-      (expression_means : (e : Expr Target) (operands : List ℤ) → does env d (expression_block e) operands ≡ value_outcome (value there d e) operands) where
+      (expression_means : (e : Expr Target) (operands : List ℤ) → does env d (expression_block e) operands ≡ of_value (value there d e) operands) where
     abbrev Same : Trapping (List source.Record) → Block → Type 0
     Same t b = SameOutcome t (does env d b [])
 
@@ -79,7 +75,7 @@ module _ (string_numbered : StrNo → Option Words) where
     unfolding does
     on_value e b next h = here (value there d e) (expression_means e [])
       where
-        here : (v : Trapping ℤ) → does env d (expression_block e) [] ≡ value_outcome v [] → SameOutcome (v >>= next) (and_then (does env d (expression_block e) []) (does env d b))
+        here : (v : Trapping ℤ) → does env d (expression_block e) [] ≡ of_value v [] → SameOutcome (v >>= next) (and_then (does env d (expression_block e) []) (does env d b))
         here (Err why) is = ap (λ o. and_then o (does env d b)) is
         here (Ok a) is = same_on (next a) _ _ (ap (λ o. and_then o (does env d b)) is ∙ behind_nothing (does env d b (a ∷ []))) (h a)
 

@@ -57,15 +57,15 @@ record_even (records.Enumerator n text help) = refl
 record_even (records.Response n class text) = refl
 record_even (records.Member name item label help) = refl
 
-record_short : (r : Record) → size (straight_line (giving r)) ≤ 13
-record_short (records.Words s) = omega arith
-record_short (records.Number z) = omega arith
-record_short (records.Entry item quals) = omega arith
-record_short (records.DataConst n) = omega arith
-record_short (records.DataVar v mask quals) = omega arith
-record_short (records.Enumerator n text help) = omega arith
-record_short (records.Response n class text) = omega arith
-record_short (records.Member name item label help) = omega arith
+pub line_short : (r : Record) → size (straight_line (giving r)) ≤ 13
+line_short (records.Words s) = omega arith
+line_short (records.Number z) = omega arith
+line_short (records.Entry item quals) = omega arith
+line_short (records.DataConst n) = omega arith
+line_short (records.DataVar v mask quals) = omega arith
+line_short (records.Enumerator n text help) = omega arith
+line_short (records.Response n class text) = omega arith
+line_short (records.Member name item label help) = omega arith
 
 module _ (env : Environment) (d : List ℤ) where
   record_does : (r : Record) → IsSayable r → does env d (straight_line (giving r)) [] ≡ Goes (r ∷ []) []
@@ -108,6 +108,6 @@ module _ (unit : Description Target) (few : (k : Kind) → count_of k unit.items
         even = record_even is.0;
         spelled = line_spelled (giving is.0) spelled.0;
         exist = line_passes (names_exist (attribute_context unit strings)) (giving is.0) exist;
-        short = omega (arith, record_short is.0);
+        short = omega (arith, line_short is.0);
       })
 

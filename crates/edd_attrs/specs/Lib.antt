@@ -8,3 +8,4 @@ pub mod Sizes
 pub mod TreeBlocks
 pub mod Trees
 pub mod Views
+pub mod Writing

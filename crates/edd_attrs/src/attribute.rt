@@ -7,8 +7,9 @@ ghost use Rattle.edd_syntax.specs.Resolved.{description};
 ghost use Rattle.edd_syntax.specs.Strings.{different};
 ghost use Rattle.edd_syntax.specs.Words.{Words};
 ghost use Rattle.edd_image.specs.Agreement.{IsAttributeCode};
-ghost use Rattle.edd_attrs.specs.Code.{Grows, OverflowsWith, Lowers};
-ghost use Rattle.edd_attrs.specs.Plain.{is_kept_at, is_plain_at};
+ghost use Rattle.edd_attrs.specs.Code.{Grows};
+ghost use Rattle.edd_attrs.specs.Kept.{is_kept_row};
+ghost use Rattle.edd_attrs.specs.Lowered.{LowersTree, OverflowsTree};
 ghost use Rattle.edd_attrs.specs.Sizes.{strings_at, length_limit};
 ghost use Rattle.edd_attrs.specs.Trees as trees;
 ghost use Rattle.edd_attrs.specs.Views.{unit_of};
@@ -31,12 +32,12 @@ fn lower_row(
     row: AttrRef,
     table: &mut Table,
 ) -> Result<Vec<u8>, LowerFault>
-    requires { IsTrue (is_kept_at (trees.tree_at (description (identification_of identification) (map (item_of (λ r. r)) items.now)) row)) }
+    requires { IsTrue (is_kept_row (trees.tree_at (description (identification_of identification) (map (item_of (λ r. r)) items.now)) row)) }
     ensures ok { IfOk result
-        (λ code. Lowers table.old (trees.tree_at (description (identification_of identification) (map (item_of (λ r. r)) items.now)) row) table.new code.items) }
+        (λ code. LowersTree table.old (trees.tree_at (description (identification_of identification) (map (item_of (λ r. r)) items.now)) row) table.new code.items) }
     ensures grows { Grows table.old table.new }
     ensures too_many { IsErrOf result LowerFault.TooMany
-        → OverflowsWith table.old (trees.tree_at (description (identification_of identification) (map (item_of (λ r. r)) items.now)) row) }
+        → OverflowsTree table.old (trees.tree_at (description (identification_of identification) (map (item_of (λ r. r)) items.now)) row) }
 {
     let tree = tree_at(identification, items, row);
     lower_tree(alloc, table, tree)
@@ -50,7 +51,6 @@ pub fn lower_attribute(
     row: AttrRef,
     table: &mut Table,
 ) -> Result<Vec<u8>, LowerFault>
-    requires without_conditions { IsTrue (is_plain_at (unit_of checked.now) row) }
     ensures code { IfOk result (λ code. (more : List Words) → IsAttributeCode (unit_of checked.now) (table.new ++ more) row code.items) }
     ensures begins { OnOk result (Grows table.old table.new) }
     ensures strings { OnOk result

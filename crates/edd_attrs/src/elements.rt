@@ -1,23 +1,35 @@
 //! The elements of attributes, each of which gives one record.
 
-ghost use Rattle.std.specs.Prelude.{◌≡◌, ◌<◌, ◌∷◌, [], Bool, IsErrOf, IsTrue, List, OnOk, pos, string_bytes, true};
+ghost use Rattle.std.specs.Prelude.{◌≡◌, ℕ, ◌<◌, [], Bool, IsErrOf, IsTrue, List, OnOk, Option, pos, string_bytes, true};
+ghost use Rattle.edd_syntax.specs.declared.numbers.StrNo.{StrNo};
+ghost use Rattle.edd_syntax.specs.declared.reference.Target.{Target};
+ghost use Rattle.edd_syntax.specs.declared.types.Handling.{Handling};
 ghost use Rattle.edd_syntax.specs.Attributes as source;
+ghost use Rattle.edd_syntax.specs.Expression as expression;
+ghost use Rattle.edd_syntax.specs.Item as item;
 ghost use Rattle.edd_syntax.specs.ItemView.{data_item_of, entry_of, enumerator_of, member_of, response_code_of};
+ghost use Rattle.edd_syntax.specs.Text as texts;
+ghost use Rattle.edd_syntax.specs.TreeView.{expr_of};
 ghost use Rattle.edd_syntax.specs.WellFormed.{is_text};
 ghost use Rattle.edd_syntax.specs.Words.{Words};
 ghost use Rattle.edd_syntax.specs.WordsView.{text_of};
 ghost use Rattle.edd_image.specs.Agreement as agreement;
 ghost use Rattle.edd_image.specs.Spelling.{i64};
-ghost use Rattle.edd_attrs.specs.Code.{Writes, Grows, Overflows};
+ghost use Rattle.edd_expressions.specs.Blocks.{Block};
+ghost use Rattle.edd_attrs.specs.Code.{Grows, Overflows};
+ghost use Rattle.edd_attrs.specs.Lowered.{WritesBlock};
 ghost use Rattle.edd_attrs.specs.Plain.{class_record, handling_record, kept_data, kept_entry, kept_enumerator, kept_member, kept_response, strings_of_record, text_record, validity_record};
+ghost use Rattle.edd_attrs.specs.TreeBlocks.{Giving, IsValueBlock};
+ghost use Rattle.edd_attrs.specs.Writing.{WritesRecord};
 
 use crate::fault::LowerFault;
 use crate::strings::{add_name, add_optional, add_text};
 use crate::writing::{
-    put_data_const, put_data_var, put_entry, put_enumerator, put_member, put_number, put_push,
-    put_response, put_text,
+    put_data_const, put_data_var, put_entry, put_enumerator, put_member, put_response, put_text,
 };
+use edd_expressions::{put_number, put_push, write_expression};
 use edd_strings::Table;
+use edd_syntax::expr::Expr;
 use edd_syntax::item::{
     DataItem, DataQualifiers, Enumerator, Member, MenuEntry, MenuQualifiers, ResponseCode,
 };
@@ -29,16 +41,25 @@ use std::alloc::{AllocError, Global};
 
 /// What gives one record.
 pub trait Element {
-    ghost gives: { Self → source.Record };
+    /// What the element stands for.
+    ghost Meant: { Type 0 };
 
-    ghost is_kept: { Self → Bool };
+    ghost view: { Self → Meant };
+
+    ghost strings: { Meant → List Words };
+
+    /// The blocks that give its record, with strings by number.
+    ghost is_block: { (StrNo → Option Words) → Meant → Block → Type 0 };
+
+    ghost is_kept: { Meant → Bool };
 
     /// Writes the code that gives its record.
     fn write(&self, alloc: Global, code: &mut Vec<u8>, table: &mut Table) -> Result<(), LowerFault>
-        requires { IsTrue (is_kept self.now) }
-        ensures ok { OnOk result (Writes table.old code.old.items (gives self.now ∷ []) table.new code.new.items) }
+        requires { IsTrue (is_kept (view self.now)) }
+        ensures ok { OnOk result (WritesBlock table.old code.old.items (strings (view self.now)) (λ numbered b. is_block numbered (view self.now) b)
+            table.new code.new.items) }
         ensures grows { Grows table.old table.new }
-        ensures too_many { IsErrOf result LowerFault.TooMany → Overflows table.old (strings_of_record (gives self.now)) };
+        ensures too_many { IsErrOf result LowerFault.TooMany → Overflows table.old (strings (view self.now)) };
 }
 
 // ---- numbers
@@ -47,7 +68,7 @@ pub trait Element {
 #[tactic(auto, using(crate::proofs::Written::number_written))]
 pub fn write_number(code: &mut Vec<u8>, number: u32) -> Result<(), AllocError>
     ensures { OnOk result
-        ((table : List Words) → Writes table code.old.items (source.Number (pos number) ∷ []) table code.new.items) }
+        ((table : List Words) → WritesRecord table code.old.items (source.Number (pos number)) table code.new.items) }
 {
     put_push(code, number)?;
     put_number(code)
@@ -64,7 +85,13 @@ fn handling_number(handling: Handling) -> u32
 }
 
 impl Element for Handling {
-    ghost gives = { handling_record };
+    ghost Meant = { Handling };
+
+    ghost view = { λ h. h };
+
+    ghost strings = { λ v. strings_of_record (handling_record v) };
+
+    ghost is_block = { λ numbered. Giving numbered handling_record };
 
     ghost is_kept = { λ h. true };
 
@@ -81,7 +108,13 @@ impl Element for Handling {
 }
 
 impl Element for bool {
-    ghost gives = { validity_record };
+    ghost Meant = { Bool };
+
+    ghost view = { λ b. b };
+
+    ghost strings = { λ v. strings_of_record (validity_record v) };
+
+    ghost is_block = { λ numbered. Giving numbered validity_record };
 
     ghost is_kept = { λ b. true };
 
@@ -97,12 +130,44 @@ impl Element for bool {
     }
 }
 
+// ---- expressions
+
+impl Element for Expr<Target> {
+    ghost Meant = { expression.Expr Target };
+
+    ghost view = { expr_of (λ r. r) };
+
+    ghost strings = { λ e. [] };
+
+    ghost is_block = { λ numbered. IsValueBlock };
+
+    ghost is_kept = { λ e. true };
+
+    #[tactic(auto, using(crate::proofs::Written::value_steps))]
+    fn write(
+        &self,
+        _alloc: Global,
+        code: &mut Vec<u8>,
+        _table: &mut Table,
+    ) -> Result<(), LowerFault> {
+        write_expression(code, self)?;
+        put_number(code)?;
+        Ok(())
+    }
+}
+
 // ---- texts
 
 impl Element for Text {
-    ghost gives = { λ t. text_record (text_of t) };
+    ghost Meant = { texts.Text };
 
-    ghost is_kept = { λ t. is_text (text_of t) };
+    ghost view = { text_of };
+
+    ghost strings = { λ v. strings_of_record (text_record v) };
+
+    ghost is_block = { λ numbered. Giving numbered text_record };
+
+    ghost is_kept = { is_text };
 
     #[tactic(auto, using(crate::proofs::Written::text_steps))]
     fn write(
@@ -119,7 +184,13 @@ impl Element for Text {
 
 // A class word.
 impl Element for String {
-    ghost gives = { λ n. class_record (string_bytes n) };
+    ghost Meant = { texts.Name };
+
+    ghost view = { string_bytes };
+
+    ghost strings = { λ v. strings_of_record (class_record v) };
+
+    ghost is_block = { λ numbered. Giving numbered class_record };
 
     ghost is_kept = { λ n. true };
 
@@ -161,15 +232,21 @@ fn item_of(target: Target) -> ItemNo
 #[tactic(auto, using(crate::proofs::Written::item_written))]
 fn write_item(code: &mut Vec<u8>, to: Target, qualifiers: MenuQualifiers) -> Result<(), AllocError>
     ensures { OnOk result
-        ((table : List Words) → Writes table code.old.items (source.Entry (source.item_of to) qualifiers ∷ []) table code.new.items) }
+        ((table : List Words) → WritesRecord table code.old.items (source.Entry (source.item_of to) qualifiers) table code.new.items) }
 {
     put_entry(code, item_of(to), menu_bits(qualifiers))
 }
 
 impl Element for MenuEntry<Target> {
-    ghost gives = { λ e. source.entry (entry_of (λ r. r) e) };
+    ghost Meant = { item.MenuEntry Target };
 
-    ghost is_kept = { λ e. kept_entry (entry_of (λ r. r) e) };
+    ghost view = { entry_of (λ r. r) };
+
+    ghost strings = { λ v. strings_of_record (source.entry v) };
+
+    ghost is_block = { λ numbered. Giving numbered source.entry };
+
+    ghost is_kept = { kept_entry };
 
     #[tactic(auto, using(crate::proofs::Growing::no_growth))]
     fn write(
@@ -221,7 +298,7 @@ fn write_variable(
     qualifiers: DataQualifiers,
 ) -> Result<(), AllocError>
     ensures { OnOk result
-        ((table : List Words) → Writes table code.old.items (source.DataVar (source.variable_of variable) mask qualifiers ∷ []) table code.new.items) }
+        ((table : List Words) → WritesRecord table code.old.items (source.DataVar (source.variable_of variable) mask qualifiers) table code.new.items) }
 {
     put_data_var(
         code,
@@ -235,15 +312,21 @@ fn write_variable(
 fn write_constant(code: &mut Vec<u8>, value: u32) -> Result<(), AllocError>
     requires { value < 256 }
     ensures { OnOk result
-        ((table : List Words) → Writes table code.old.items (source.DataConst value ∷ []) table code.new.items) }
+        ((table : List Words) → WritesRecord table code.old.items (source.DataConst value) table code.new.items) }
 {
     put_data_const(code, value as u8)
 }
 
 impl Element for DataItem<Target> {
-    ghost gives = { λ d. source.data_item (data_item_of (λ r. r) d) };
+    ghost Meant = { item.DataItem Target };
 
-    ghost is_kept = { λ d. kept_data (data_item_of (λ r. r) d) };
+    ghost view = { data_item_of (λ r. r) };
+
+    ghost strings = { λ v. strings_of_record (source.data_item v) };
+
+    ghost is_block = { λ numbered. Giving numbered source.data_item };
+
+    ghost is_kept = { kept_data };
 
     #[tactic(auto, using(crate::proofs::Growing::no_growth))]
     fn write(
@@ -273,9 +356,15 @@ fn value_bytes(e: &Enumerator) -> [u8; 8]
 }
 
 impl Element for Enumerator {
-    ghost gives = { λ e. source.enumerator (enumerator_of e) };
+    ghost Meant = { item.Enumerator };
 
-    ghost is_kept = { λ e. kept_enumerator (enumerator_of e) };
+    ghost view = { enumerator_of };
+
+    ghost strings = { λ v. strings_of_record (source.enumerator v) };
+
+    ghost is_block = { λ numbered. Giving numbered source.enumerator };
+
+    ghost is_kept = { kept_enumerator };
 
     fn write(
         &self,
@@ -306,9 +395,15 @@ fn class_number(class: ResponseClass) -> u8
 }
 
 impl Element for ResponseCode {
-    ghost gives = { λ r. source.response (response_code_of r) };
+    ghost Meant = { item.ResponseCode };
 
-    ghost is_kept = { λ r. kept_response (response_code_of r) };
+    ghost view = { response_code_of };
+
+    ghost strings = { λ v. strings_of_record (source.response v) };
+
+    ghost is_block = { λ numbered. Giving numbered source.response };
+
+    ghost is_kept = { kept_response };
 
     #[tactic(auto, using(crate::proofs::Written::response_written))]
     fn write(
@@ -324,9 +419,15 @@ impl Element for ResponseCode {
 }
 
 impl Element for Member<Target> {
-    ghost gives = { λ m. source.member (member_of (λ r. r) m) };
+    ghost Meant = { item.Member Target };
 
-    ghost is_kept = { λ m. kept_member (member_of (λ r. r) m) };
+    ghost view = { member_of (λ r. r) };
+
+    ghost strings = { λ v. strings_of_record (source.member v) };
+
+    ghost is_block = { λ numbered. Giving numbered source.member };
+
+    ghost is_kept = { kept_member };
 
     fn write(
         &self,

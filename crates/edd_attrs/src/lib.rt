@@ -2,6 +2,7 @@
 #![tactic(auto)]
 
 mod attribute;
+mod conditions;
 mod elements;
 mod fault;
 mod items;

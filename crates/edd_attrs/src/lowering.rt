@@ -1,23 +1,32 @@
 //! The code of trees.
 
-ghost use Rattle.std.specs.Prelude.{◌≡◌, IfOk, IfSome, IsErrOf, IsTrue, OnOk, option_map};
+ghost use Rattle.std.specs.Prelude.{◌≡◌, [], IfOk, IsErrOf, IsTrue, List, OnOk, map, option_map};
 ghost use Rattle.std.specs.List.{list_all};
 ghost use Rattle.edd_syntax.specs.Attributes as source;
 ghost use Rattle.edd_syntax.specs.ItemView.{type_part_of};
-ghost use Rattle.edd_attrs.specs.Code.{Writes, Grows, Overflows, OverflowsWith, Lowers};
-ghost use Rattle.edd_attrs.specs.Plain.{is_kept, is_kept_at, kept_element, plain_all, plain_element, plain_records, strings_of};
+ghost use Rattle.edd_syntax.specs.SubsetRules.{values_of};
+ghost use Rattle.edd_syntax.specs.Words.{Words};
+ghost use Rattle.edd_attrs.specs.Code.{Grows, Overflows};
+ghost use Rattle.edd_attrs.specs.Kept.{is_kept_row, is_kept_tree};
+ghost use Rattle.edd_attrs.specs.Lowered.{LowersTree, OverflowsTree, WritesBlock};
+ghost use Rattle.edd_attrs.specs.Plain.{kept_enumerator};
+ghost use Rattle.edd_attrs.specs.Sizes.{tree_strings};
+ghost use Rattle.edd_attrs.specs.TreeBlocks.{Giving, IsCondsBlock, IsTreeBlock, elements};
+ghost use Rattle.edd_attrs.specs.Trees as trees;
 ghost use Rattle.edd_attrs.specs.Views as views;
+ghost use Rattle.edd_attrs.specs.Writing.{WritesPart, conds_strings, element_strings, enumerator_strings, is_kept_part};
 
+use crate::conditions::{write_cond, write_conds};
 use crate::elements::write_number;
 use crate::fault::LowerFault;
-use crate::lists::{write_all, write_cond, write_conds};
+use crate::lists::write_all;
 use crate::trees::Tree;
-use crate::writing::put_end;
+use edd_expressions::put_end;
 use edd_strings::Table;
 use edd_syntax::item::TypePart;
 use edd_syntax::reference::Target;
 use edd_syntax::types::Operation;
-use std::alloc::Global;
+use std::alloc::{AllocError, Global};
 
 fn operation_number(operation: Operation) -> u32
     ensures { result ≡ source.operation_number operation }
@@ -29,20 +38,30 @@ fn operation_number(operation: Operation) -> u32
     }
 }
 
+// The number of a transaction, which may have none.
+#[tactic(auto, unfolding(crate::specs::TreeBlocks::IsTreeBlock))]
+fn write_optional_number(code: &mut Vec<u8>, number: Option<u32>) -> Result<(), AllocError>
+    ensures { OnOk result ((table : List Words)
+        → WritesBlock table code.old.items [] (λ numbered b. IsTreeBlock numbered (trees.Transaction number) b) table code.new.items) }
+{
+    match number {
+        None => Ok(()),
+        Some(number) => write_number(code, number),
+    }
+}
+
 // The code of a part of a type, which gives something where it is an element of the type's list.
-#[tactic(auto, using(crate::proofs::BareValues::bare_values, crate::proofs::Written::nothing))]
+#[tactic(auto, using(crate::proofs::Growing::no_growth))]
 fn write_part(
     alloc: Global,
     code: &mut Vec<u8>,
     table: &mut Table,
     part: &TypePart<Target>,
 ) -> Result<(), LowerFault>
-    requires { IsTrue (kept_element (type_part_of (λ r. r) part.now)) }
-    ensures ok { OnOk result
-        (IfSome (plain_element (type_part_of (λ r. r) part.now)) (λ rs. Writes table.old code.old.items rs table.new code.new.items)) }
+    requires { IsTrue (is_kept_part (type_part_of (λ r. r) part.now)) }
+    ensures ok { OnOk result (WritesPart table.old code.old.items (type_part_of (λ r. r) part.now) table.new code.new.items) }
     ensures grows { Grows table.old table.new }
-    ensures too_many { IsErrOf result LowerFault.TooMany
-        → IfSome (plain_element (type_part_of (λ r. r) part.now)) (λ rs. Overflows table.old (strings_of rs)) }
+    ensures too_many { IsErrOf result LowerFault.TooMany → Overflows table.old (element_strings (type_part_of (λ r. r) part.now)) }
 {
     match part {
         TypePart::Element(element) => write_cond(alloc, code, table, element),
@@ -56,12 +75,13 @@ fn write_parts(
     table: &mut Table,
     parts: &[TypePart<Target>],
 ) -> Result<(), LowerFault>
-    requires { IsTrue (list_all (λ p. kept_element (type_part_of (λ r. r) p)) parts.now) }
-    ensures ok { OnOk result
-        (IfSome (plain_all (λ p. plain_element (type_part_of (λ r. r) p)) parts.now) (λ rs. Writes table.old code.old.items rs table.new code.new.items)) }
+    requires { IsTrue (list_all kept_enumerator (values_of (elements (map (type_part_of (λ r. r)) parts.now)))) }
+    ensures ok { OnOk result (WritesBlock table.old code.old.items (conds_strings enumerator_strings (elements (map (type_part_of (λ r. r)) parts.now)))
+        (λ numbered b. IsCondsBlock (Giving numbered source.enumerator) (elements (map (type_part_of (λ r. r)) parts.now)) b)
+        table.new code.new.items) }
     ensures grows { Grows table.old table.new }
     ensures too_many { IsErrOf result LowerFault.TooMany
-        → IfSome (plain_all (λ p. plain_element (type_part_of (λ r. r) p)) parts.now) (λ rs. Overflows table.old (strings_of rs)) }
+        → Overflows table.old (conds_strings enumerator_strings (elements (map (type_part_of (λ r. r)) parts.now))) }
 {
     for part in parts {
         write_part(alloc, code, table, part)?;
@@ -70,31 +90,29 @@ fn write_parts(
 }
 
 // The code that gives a tree's records.
-#[tactic(auto, unfolding(crate::specs::Plain::plain_records, crate::specs::Plain::is_kept), using(crate::proofs::BareValues::bare_values, crate::proofs::Written::nothing))]
+#[tactic(auto, unfolding(crate::specs::Kept::is_kept_tree, crate::specs::Sizes::tree_strings, crate::specs::TreeBlocks::IsTreeBlock))]
 fn write_tree(
     alloc: Global,
     code: &mut Vec<u8>,
     table: &mut Table,
     tree: Tree,
 ) -> Result<(), LowerFault>
-    requires { IsTrue (is_kept (views.tree_of tree)) }
-    ensures ok { OnOk result
-        (IfSome (plain_records (views.tree_of tree.entry)) (λ rs. Writes table.old code.old.items rs table.new code.new.items)) }
+    requires { IsTrue (is_kept_tree (views.tree_of tree)) }
+    ensures ok { OnOk result (WritesBlock table.old code.old.items (tree_strings (views.tree_of tree.entry))
+        (λ numbered b. IsTreeBlock numbered (views.tree_of tree.entry) b) table.new code.new.items) }
     ensures grows { Grows table.old table.new }
-    ensures too_many { IsErrOf result LowerFault.TooMany
-        → IfSome (plain_records (views.tree_of tree.entry)) (λ rs. Overflows table.old (strings_of rs)) }
+    ensures too_many { IsErrOf result LowerFault.TooMany → Overflows table.old (tree_strings (views.tree_of tree.entry)) }
 {
     match tree {
         Tree::Texts(c) => write_cond(alloc, code, table, c),
         Tree::Class(names) => write_all(alloc, code, table, names),
         Tree::Handling(c) => write_cond(alloc, code, table, c),
         Tree::Validity(c) => write_cond(alloc, code, table, c),
-        Tree::Expressions(_) => Ok(()),
+        Tree::Expressions(c) => write_cond(alloc, code, table, c),
         Tree::Enumerators(parts) => write_parts(alloc, code, table, parts),
         Tree::Number(number) => Ok(write_number(code, number)?),
         Tree::Operation(operation) => Ok(write_number(code, operation_number(operation))?),
-        Tree::Transaction(None) => Ok(()),
-        Tree::Transaction(Some(number)) => Ok(write_number(code, number)?),
+        Tree::Transaction(number) => Ok(write_optional_number(code, number)?),
         Tree::Data(all) => write_conds(alloc, code, table, all),
         Tree::ResponseCodes(codes) => write_all(alloc, code, table, codes),
         Tree::Items(entries) => write_conds(alloc, code, table, entries),
@@ -108,10 +126,10 @@ pub fn lower_tree(
     table: &mut Table,
     tree: Option<Tree>,
 ) -> Result<Vec<u8>, LowerFault>
-    requires { IsTrue (is_kept_at (option_map views.tree_of tree)) }
-    ensures ok { IfOk result (λ code. Lowers table.old (option_map views.tree_of tree.entry) table.new code.items) }
+    requires { IsTrue (is_kept_row (option_map views.tree_of tree)) }
+    ensures ok { IfOk result (λ code. LowersTree table.old (option_map views.tree_of tree.entry) table.new code.items) }
     ensures grows { Grows table.old table.new }
-    ensures too_many { IsErrOf result LowerFault.TooMany → OverflowsWith table.old (option_map views.tree_of tree.entry) }
+    ensures too_many { IsErrOf result LowerFault.TooMany → OverflowsTree table.old (option_map views.tree_of tree.entry) }
 {
     let mut code = Vec::new(alloc);
     if let Some(tree) = tree {

@@ -1,10 +1,12 @@
 use crate::lowering::lower_tree;
 use crate::trees::Tree;
 use crate::writing::{
-    put_data_const, put_data_var, put_end, put_entry, put_enumerator, put_member, put_response,
+    put_data_const, put_data_var, put_entry, put_enumerator, put_member, put_response,
 };
+use edd_expressions::put_end;
 use edd_strings::Table;
-use edd_syntax::cond::Cond;
+use edd_syntax::cond::{Arm, Cond};
+use edd_syntax::expr::Expr;
 use edd_syntax::numbers::{CmdNo, ItemNo, MenuNo, StrNo, VarNo};
 use edd_syntax::types::{Handling, Operation};
 use std::test::Fail;
@@ -30,6 +32,56 @@ fn numbers_are_lowered(rt: HostRuntime) -> Result<(), Fail> {
     let validity = Cond::Value(false);
     let code = lower_tree(alloc, &mut table, Some(Tree::Validity(&validity)))?;
     assert_eq!(rt; code.as_slice(), [0x01, 0, 0, 0, 0, 0x41, 0x00].as_slice());
+    Ok(())
+}
+
+#[test]
+fn conditions_are_lowered(rt: HostRuntime) -> Result<(), Fail> {
+    let alloc = rt.alloc();
+    let mut table = Table::new(alloc);
+    let condition = Cond::If {
+        condition: Expr::Literal(7),
+        first: vec![in alloc; Cond::Value(true)]?,
+        otherwise: vec![in alloc; Cond::Value(false)]?,
+    };
+    let code = lower_tree(alloc, &mut table, Some(Tree::Validity(&condition)))?;
+    let expected = [
+        0x01, 0, 0, 0, 7, 0x31, 0, 0, 0, 21, 0x01, 0, 0, 0, 1, 0x41, 0x30, 0, 0, 0, 27, 0x01, 0, 0,
+        0, 0, 0x41, 0x00,
+    ];
+    assert_eq!(rt; code.as_slice(), expected.as_slice());
+    Ok(())
+}
+
+#[test]
+fn selections_are_lowered(rt: HostRuntime) -> Result<(), Fail> {
+    let alloc = rt.alloc();
+    let mut table = Table::new(alloc);
+    let arms = vec![in alloc;
+        Arm::Case {
+            label: -1,
+            body: vec![in alloc; Cond::Value(Handling::Read)]?
+        },
+        Arm::Default {
+            line: 1,
+            body: vec![in alloc; Cond::Value(Handling::Write)]?
+        },
+        Arm::Case {
+            label: 2,
+            body: vec![in alloc; Cond::Value(Handling::ReadWrite)]?
+        },
+    ]?;
+    let selection = Cond::Select {
+        on: Expr::Literal(2),
+        arms,
+    };
+    let code = lower_tree(alloc, &mut table, Some(Tree::Handling(&selection)))?;
+    let expected = [
+        0x01, 0, 0, 0, 2, 0x33, 255, 255, 255, 255, 255, 255, 255, 255, 0, 0, 0, 54, 0x33, 0, 0, 0,
+        0, 0, 0, 0, 2, 0, 0, 0, 43, 0x06, 0x01, 0, 0, 0, 2, 0x41, 0x30, 0, 0, 0, 49, 0x01, 0, 0, 0,
+        3, 0x41, 0x30, 0, 0, 0, 60, 0x01, 0, 0, 0, 1, 0x41, 0x00,
+    ];
+    assert_eq!(rt; code.as_slice(), expected.as_slice());
     Ok(())
 }
 

@@ -47,32 +47,11 @@ fn put_texts(code: &mut Vec<u8>, text: StrNo, help: Option<StrNo>) -> Result<(),
     put_optional(code, help)
 }
 
-pub fn put_end(code: &mut Vec<u8>) -> Result<(), AllocError>
-    ensures { OnOk result (code.new.items ≡ code.old.items ++ spelling Instruction.End) }
-{
-    code.push(0x00)?;
-    Ok(())
-}
-
-pub fn put_push(code: &mut Vec<u8>, number: u32) -> Result<(), AllocError>
-    ensures { OnOk result (code.new.items ≡ code.old.items ++ spelling (Instruction.Push number)) }
-{
-    code.push(0x01)?;
-    put_u32(code, number)
-}
-
 pub fn put_text(code: &mut Vec<u8>, text: StrNo) -> Result<(), AllocError>
     ensures { OnOk result (code.new.items ≡ code.old.items ++ spelling (Instruction.Text text)) }
 {
     code.push(0x40)?;
     put_u16(code, text.0)
-}
-
-pub fn put_number(code: &mut Vec<u8>) -> Result<(), AllocError>
-    ensures { OnOk result (code.new.items ≡ code.old.items ++ spelling Instruction.Number) }
-{
-    code.push(0x41)?;
-    Ok(())
 }
 
 pub fn put_entry(code: &mut Vec<u8>, item: ItemNo, quals: u16) -> Result<(), AllocError>

@@ -40,7 +40,7 @@ module _ (text : List ℕ) (d : Description Target) (of : IsDescriptionOf text d
   explained (fault.Parse e) is = absurd is
   explained (fault.Name e) is = absurd is
   explained (fault.Type e) is = absurd is
-  explained (fault.NotWritten word) is = tt
+  explained fault.Method is = absurd is
   explained fault.TooManyStrings is = (
     of.0.is_resolved.unit,
     of.1,

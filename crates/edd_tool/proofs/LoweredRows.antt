@@ -92,6 +92,6 @@ over_more (fault.Lex e) more is = is
 over_more (fault.Parse e) more is = is
 over_more (fault.Name e) more is = is
 over_more (fault.Type e) more is = is
-over_more (fault.NotWritten word) more is = is
+over_more fault.Method more is = is
 over_more fault.TooManyStrings more is = more is
 over_more fault.Memory more is = is

@@ -21,7 +21,7 @@ use Rattle.edd_attrs.specs.declared.fault.LowerFault.{LowerFault}
 use Rattle.edd_attrs.specs.declared.fault.LowerFault.TheVariants as lower
 use Rattle.edd_tool.specs.declared.fault.Fault.{Fault}
 use Rattle.edd_tool.specs.declared.fault.Fault.TheVariants as fault
-use Rattle.edd_tool.specs.Sources.{IsUnitOf, IsRefused}
+use Rattle.edd_tool.specs.Sources.{IsUnitOf, HasMethod, IsRefused}
 
 -- want of memory is one fault, whoever met it
 abbrev pub of_lex : LexFault → Fault
@@ -71,17 +71,17 @@ IsOfLowering over (fault.Lex e) = ⊥
 IsOfLowering over (fault.Parse e) = ⊥
 IsOfLowering over (fault.Name e) = ⊥
 IsOfLowering over (fault.Type e) = ⊥
-IsOfLowering over (fault.NotWritten word) = ⊤
+IsOfLowering over fault.Method = ⊥
 IsOfLowering over fault.TooManyStrings = over
 IsOfLowering over fault.Memory = ⊤
 
 -- A lexical fault is the text's. A syntax fault comes only where its tokens spell no unit. A broken rule is the first of a unit
--- that it spells. Nothing is said of a word that can't be written yet, nor of memory.
+-- that it spells. A method is one of a unit that it spells and that breaks no rule. Nothing is said of memory.
 abbrev pub Explains : List ℕ → Fault → Type 0
 Explains text (fault.Lex e) = IfSome (fault_of e) (LexicalFault text)
 Explains text (fault.Parse e) = Says e ((unit : Description Path) → ¬ IsUnitOf text unit)
 Explains text (fault.Name e) = IfSome (refusal_of e) (IsRefused text)
 Explains text (fault.Type e) = IfSome (refusal_of_fault e) (IsRefused text)
-Explains text (fault.NotWritten word) = ⊤
+Explains text fault.Method = HasMethod text
 Explains text fault.TooManyStrings = IsRefused text (TooMany limit.Strings)
 Explains text fault.Memory = ⊤

@@ -1,6 +1,7 @@
 //! The compiler as one call.
 
-ghost use Rattle.std.specs.Prelude.{◌≡◌, ◌≤◌, ◌∷◌, [], IfErr, IfOk, OnOk, length, map};
+ghost use Rattle.std.specs.Prelude.{◌≡◌, ◌≤◌, ◌∷◌, [], false, IfErr, IfOk, OnOk, length, map};
+ghost use Rattle.std.specs.List.{list_any};
 ghost use Rattle.edd_syntax.specs.declared.limits.Limit.TheVariants as limit;
 ghost use Rattle.edd_syntax.specs.Refusal.{TooMany};
 ghost use Rattle.edd_syntax.specs.WordsView.{string_of};
@@ -15,11 +16,12 @@ ghost use Rattle.edd_tool.specs.declared.fault.Fault.TheVariants.{Memory};
 ghost use Rattle.edd_tool.specs.Faults.{IsOfLowering, Explains};
 ghost use Rattle.edd_tool.specs.Images.{IsImageOf};
 ghost use Rattle.edd_tool.specs.Lowering.{HasLowered};
+ghost use Rattle.edd_tool.specs.Sources.{is_method};
 
 use crate::fault::Fault;
 use crate::lowering::lower_rows;
+use crate::methods::has_method;
 use crate::source::checked_of;
-use crate::unwritten::unwritten_word;
 use edd_assembly::{Lowered, assemble, sections_agree, sections_are_sound};
 use edd_coverage::{code_is_short, different_strings_count, strings_stand_in_rows};
 use edd_image::{WriteFault, fields_are_parts, sound_parts_are_valid, write};
@@ -53,8 +55,9 @@ fn write_image(
     }
 }
 
-// The image of a description, if it has no more strings than a table holds.
+// The image of a description without methods, if it has no more strings than a table holds.
 fn image_of(alloc: Global, checked: &Checked) -> Result<Vec<u8>, Fault>
+    requires no_method { list_any is_method (unit_of checked.now).items ≡ false }
     ensures valid { IfOk result (λ bytes. IsValid bytes.items) }
     ensures agrees { IfOk result (λ bytes. AgreesOnData (unit_of checked.now) (contents_in bytes.items)) }
     ensures few_strings { OnOk result (too_many_strings (unit_of checked.now) ≡ []) }
@@ -68,15 +71,15 @@ fn image_of(alloc: Global, checked: &Checked) -> Result<Vec<u8>, Fault>
     write_image(alloc, checked, &lowering.units, strings)
 }
 
-/// The bytes of the image of a text: a valid image, which agrees with the description that the text stands for. A text that
-/// needs what can't be written yet is refused with the first such word.
+/// The bytes of the image of a text: a valid image, which agrees with the description that the text stands for. A description
+/// with a method is refused, since no image can say it yet.
 pub fn compile(alloc: Global, text: &[u8]) -> Result<Vec<u8>, Fault>
     ensures image { IfOk result (λ bytes. IsImageOf text.now bytes.items) }
     ensures refused { IfErr result (Explains text.now) }
 {
     let checked = checked_of(alloc, text)?;
-    if let Some(word) = unwritten_word(&checked.items) {
-        return Err(Fault::NotWritten(word));
+    if has_method(&checked.items) {
+        return Err(Fault::Method);
     }
     image_of(alloc, &checked)
 }

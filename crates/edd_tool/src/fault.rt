@@ -22,9 +22,9 @@ pub enum Fault {
     Name(NameFault),
     #[error("{0}")]
     Type(TypeFault),
-    /// The first word in the source that stands for what no image can say yet.
-    #[error("12 UNSUPPORTED {0}")]
-    NotWritten(&'static str),
+    /// The description has a method, which no image can say yet.
+    #[error("12 UNSUPPORTED METHOD")]
+    Method,
     /// More than 65,535 different strings.
     #[error("40 TOO_MANY strings")]
     TooManyStrings,

@@ -7,9 +7,9 @@ mod compiling;
 mod fault;
 mod files;
 mod lowering;
+mod methods;
 mod requests;
 mod source;
-mod unwritten;
 
 pub use compiling::compile;
 pub use fault::Fault;

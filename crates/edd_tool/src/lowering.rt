@@ -1,9 +1,7 @@
 //! The code of the attributes of a description, and the table of their strings.
 
-ghost use Rattle.std.specs.Prelude.{◌≡◌, ◌↔◌, ◌⊎◌, ◌<◌, ◌++◌, false, IfErr, IfOk, OnOk, [], length, map};
-ghost use Rattle.std.specs.List.{Contains};
-ghost use Rattle.edd_syntax.specs.declared.numbers.Attr.TheVariants as attr;
-ghost use Rattle.edd_syntax.specs.Numbers.{same_attr};
+ghost use Rattle.std.specs.Prelude.{◌≡◌, ◌↔◌, ◌⊎◌, ◌<◌, ◌++◌, IfErr, IfOk, OnOk, [], length, map};
+ghost use Rattle.std.specs.List.{All, Contains};
 ghost use Rattle.edd_syntax.specs.Strings.{different};
 ghost use Rattle.edd_syntax.specs.Words.{Words};
 ghost use Rattle.edd_assembly.specs.Views.{lowered_of};
@@ -15,10 +13,10 @@ ghost use Rattle.edd_tool.specs.Lowering.{IsNoBody, IsCodeOf, HasLowered, AddsRo
 
 use crate::fault::Fault;
 use edd_assembly::Lowered;
-use edd_attrs::{is_plain_text, lower_attribute};
+use edd_attrs::lower_attribute;
 use edd_strings::Table;
 use edd_syntax::checked::Checked;
-use edd_syntax::numbers::{Attr, AttrRef};
+use edd_syntax::numbers::AttrRef;
 use std::alloc::Global;
 
 /// The code of rows, in their order, and the strings that it names.
@@ -28,19 +26,14 @@ pub struct Lowering {
     pub table: Table,
 }
 
-fn is_body(which: Attr) -> bool
-    ensures { result ≡ same_attr which attr.Definition }
-{
-    which as u8 == Attr::Definition as u8
-}
-
-// The unit of a row. No image can hold a method yet, nor what depends on conditions.
+// The unit of a row.
 fn lower_row(
     alloc: Global,
     checked: &Checked,
     row: AttrRef,
     table: &mut Table,
 ) -> Result<Lowered, Fault>
+    requires { IsNoBody row }
     ensures row { IfOk result (λ l. l.row ≡ row) }
     ensures code { IfOk result (λ l. IsCodeOf (unit_of checked.now) table.new (lowered_of l)) }
     ensures grows { OnOk result (Grows table.old table.new) }
@@ -48,12 +41,6 @@ fn lower_row(
         ((w : Words) → Contains table.new w ↔ (Contains table.old w ⊎ Contains (strings_at (unit_of checked.now) row) w)) }
     ensures refused { IfErr result (IsOfLowering (IsNoBody row × (65535 < length (different (table.old ++ strings_at (unit_of checked.now) row))))) }
 {
-    if is_body(row.attr) {
-        return Err(Fault::NotWritten("METHOD"));
-    }
-    if !is_plain_text(checked, row) {
-        return Err(Fault::NotWritten("IF"));
-    }
     let code = lower_attribute(alloc, checked, row, table)?;
     Ok(Lowered { row, code })
 }
@@ -70,6 +57,7 @@ impl Lowering {
     }
 
     fn add(&mut self, alloc: Global, checked: &Checked, row: AttrRef) -> Result<(), Fault>
+        requires { IsNoBody row }
         ensures adds { OnOk result (AddsRow (unit_of checked.now) row self.old.table (map lowered_of self.old.units.items)
             self.new.table (map lowered_of self.new.units.items)) }
         ensures refused { IfErr result (IsOfLowering (IsNoBody row × (65535 < length (different (self.old.table ++ strings_at (unit_of checked.now) row))))) }
@@ -80,8 +68,9 @@ impl Lowering {
     }
 }
 
-/// The code of these rows of a description.
+/// The code of these rows of a description, of which none is a method's body.
 pub fn lower_rows(alloc: Global, checked: &Checked, rows: &[AttrRef]) -> Result<Lowering, Fault>
+    requires { All IsNoBody rows.now }
     ensures lowered { IfOk result (λ l. HasLowered (unit_of checked.now) rows.now l.table (map lowered_of l.units.items)) }
     ensures refused { IfErr result (IsOfLowering (HasTooMany (unit_of checked.now))) }
 {

@@ -5,45 +5,45 @@ use Rattle.edd_syntax.specs.declared.item.Item.{Item}
 use Rattle.edd_syntax.specs.declared.reference.Target.{Target}
 use Rattle.edd_syntax.specs.ItemView.{identification_of, item_of}
 use Rattle.edd_syntax.specs.Resolved.{description}
-use Rattle.edd_attrs.specs.Code.{Lowers, OverflowsWith}
+use Rattle.edd_attrs.specs.Kept.{is_kept_row}
+use Rattle.edd_attrs.specs.Lowered.{LowersTree, OverflowsTree}
 use Rattle.edd_attrs.specs.Trees.{tree_at}
-use Rattle.edd_attrs.specs.Plain.{is_kept_at}
 use Rattle.edd_attrs.specs.Views.{unit_of}
-use Rattle.edd_attrs.proofs.AttributeCode.{overflowing, lowered_means, lowered_strings, lowered_short, then_on_ok, kept_when_checked}
+use Rattle.edd_attrs.proofs.BlockCode.{overflowing, lowered_means, lowered_strings, lowered_short, then_on_ok, kept_when_checked}
 use Rattle.edd_attrs.proofs.attribute.lower_attribute.Goals as goal
 
 pub lower_row-result-requires : goal.lower_row-result-requires
 lower_row-result-requires c =
-    subst (λ (items : List (Item Target)). IsTrue (is_kept_at (tree_at (description (identification_of c.args.checked.now.identification) (map (item_of (λ r. r)) items)) c.args.row)))
+    subst (λ (items : List (Item Target)). IsTrue (is_kept_row (tree_at (description (identification_of c.args.checked.now.identification) (map (item_of (λ r. r)) items)) c.args.row)))
     (sym (c.deref-2.ensures.value ∙ ap (λ v. v.items) c.deref.ensures))
     (kept_when_checked (unit_of c.args.checked.now) c.args.row c.args.checked.now.checked)
 
 pub returns-then-is_err-clause-too_many : goal.returns-then-is_err-clause-too_many
 returns-then-is_err-clause-too_many c h =
-    overflowing (unit_of c.args.checked.now) c.args.checked.now.checked c.args.row c.requires.without_conditions c.args.table.now c.words.ensures.different
-    (subst (λ (items : List (Item Target)). OverflowsWith c.args.table.now (tree_at (description (identification_of c.args.checked.now.identification) (map (item_of (λ r. r)) items)) c.args.row))
+    overflowing (unit_of c.args.checked.now) c.args.checked.now.checked c.args.row c.args.table.now c.words.ensures.different
+    (subst (λ (items : List (Item Target)). OverflowsTree c.args.table.now (tree_at (description (identification_of c.args.checked.now.identification) (map (item_of (λ r. r)) items)) c.args.row))
     (c.deref-2.ensures.value ∙ ap (λ v. v.items) c.deref.ensures) (c.lower_row-result.ensures.too_many h))
 
 -- what the call ensures, of the description
-abbrev lowered_here : (c : goal.Else-is_err) → IfOk c.lower_row-result.result (λ code. Lowers c.args.table.now (tree_at (unit_of c.args.checked.now) c.args.row) c.lower_row-result.new.table code.items)
+abbrev lowered_here : (c : goal.Else-is_err) → IfOk c.lower_row-result.result (λ code. LowersTree c.args.table.now (tree_at (unit_of c.args.checked.now) c.args.row) c.lower_row-result.new.table code.items)
 lowered_here c =
-    subst (λ (items : List (Item Target)). IfOk c.lower_row-result.result (λ code. Lowers c.args.table.now (tree_at (description (identification_of c.args.checked.now.identification) (map (item_of (λ r. r)) items)) c.args.row) c.lower_row-result.new.table code.items))
+    subst (λ (items : List (Item Target)). IfOk c.lower_row-result.result (λ code. LowersTree c.args.table.now (tree_at (description (identification_of c.args.checked.now.identification) (map (item_of (λ r. r)) items)) c.args.row) c.lower_row-result.new.table code.items))
     (c.deref-2.ensures.value ∙ ap (λ v. v.items) c.deref.ensures) c.lower_row-result.ensures.ok
 
 pub returns-else-is_err-clause-code : goal.returns-else-is_err-clause-code
 returns-else-is_err-clause-code c =
     IfOk-weaker c.lower_row-result.result _ _ (λ code lowered more.
-    lowered_means (unit_of c.args.checked.now) c.args.checked.now.checked c.args.row c.requires.without_conditions c.args.table.now c.lower_row-result.new.table code.items lowered c.words.ensures.few more)
+    lowered_means (unit_of c.args.checked.now) c.args.checked.now.checked c.args.row c.args.table.now c.lower_row-result.new.table code.items lowered c.words.ensures.few more)
     (lowered_here c)
 
 pub returns-else-is_err-clause-strings : goal.returns-else-is_err-clause-strings
 returns-else-is_err-clause-strings c =
     then_on_ok c.lower_row-result.result (λ code lowered w.
-    lowered_strings (unit_of c.args.checked.now) c.args.checked.now.checked c.args.row c.requires.without_conditions c.args.table.now c.lower_row-result.new.table code.items lowered w)
+    lowered_strings (unit_of c.args.checked.now) c.args.checked.now.checked c.args.row c.args.table.now c.lower_row-result.new.table code.items lowered w)
     (lowered_here c)
 
 pub returns-else-is_err-clause-size : goal.returns-else-is_err-clause-size
 returns-else-is_err-clause-size c =
     IfOk-weaker c.lower_row-result.result _ _ (λ code lowered.
-    lowered_short (unit_of c.args.checked.now) c.args.checked.now.checked c.args.row c.requires.without_conditions c.args.table.now c.lower_row-result.new.table code.items lowered)
+    lowered_short (unit_of c.args.checked.now) c.args.checked.now.checked c.args.row c.args.table.now c.lower_row-result.new.table code.items lowered c.words.ensures.few)
     (lowered_here c)

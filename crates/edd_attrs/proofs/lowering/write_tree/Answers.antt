@@ -1,110 +1,179 @@
-use Rattle.std.proofs.Common.{sym, ap, subst, ◌∙◌, List, Option, string_bytes}
-use Rattle.std.specs.Prelude.{IfSome, OnOk, IsErrOf}
+use Rattle.std.proofs.Common.{sym, subst, List, map, string_bytes}
+use Rattle.std.specs.Prelude.{OnOk, IsErrOf, pos}
 use Rattle.edd_syntax.specs.Attributes as source
-use Rattle.edd_syntax.specs.ItemView.{type_part_of, data_item_of, response_code_of, entry_of, member_of}
+use Rattle.edd_syntax.specs.ItemView.{cond_of, conds_of, type_part_of, data_item_of, response_code_of, entry_of, member_of}
+use Rattle.edd_syntax.specs.SubsetRules.{values_in}
+use Rattle.edd_syntax.specs.TreeView.{expr_of}
+use Rattle.edd_syntax.specs.Words.{Words}
 use Rattle.edd_syntax.specs.WordsView.{text_of}
-use Rattle.edd_attrs.specs.declared.trees.Tree.{Tree}
 use Rattle.edd_attrs.specs.declared.fault.LowerFault.TheVariants.{TooMany}
-use Rattle.edd_attrs.specs.Code.{Writes, Overflows}
-use Rattle.edd_attrs.specs.Plain.{is_kept, plain_records, plain_element, class_record, text_record, kept_element, kept_data, kept_entry, kept_response, kept_member, strings_of}
+use Rattle.edd_attrs.specs.declared.trees.Tree.{Tree}
+use Rattle.edd_attrs.specs.Code.{Overflows}
+use Rattle.edd_attrs.specs.Lowered.{WritesBlock}
+use Rattle.edd_attrs.specs.Sizes.{tree_strings}
+use Rattle.edd_attrs.specs.TreeBlocks.{IsTreeBlock}
+use Rattle.edd_attrs.specs.Trees as trees
 use Rattle.edd_attrs.specs.Views.{tree_of}
-use Rattle.edd_attrs.proofs.BareValues.{bare_one, bare_conds, bare_values_of, bare_all, bare_tests, all_viewed}
+use Rattle.edd_attrs.specs.Writing.{WritesRecord}
+use Rattle.edd_attrs.proofs.TreeStrings.{always, of_texts, of_class, of_handling, of_validity, of_expressions, of_enumerators, of_data_items, of_responses, of_items, of_members}
 use Rattle.edd_attrs.proofs.lowering.write_tree.Goals as goal
 
-pub returns-in-Class-clause-ok : goal.returns-in-Class-clause-ok
-unfolding plain_records
-returns-in-Class-clause-ok c =
-    subst (λ (o : Option (List source.Record)). OnOk c.write_all.result (IfSome o (λ rs. Writes c.args.table.now c.args.code.now.items rs c.write_all.new.table c.write_all.new.code.items)))
-    (bare_all string_bytes class_record c.in-Class.names.now ∙ ap (λ (t : Tree). plain_records (tree_of t)) (sym c.in-Class.is)) c.write_all.ensures.ok
+pub write_all-requires : goal.write_all-requires
+write_all-requires c = always (map string_bytes c.in-Class.names.now)
 
-pub returns-in-Class-clause-too_many : goal.returns-in-Class-clause-too_many
-unfolding plain_records
-returns-in-Class-clause-too_many c =
-    subst (λ (o : Option (List source.Record)). IsErrOf c.write_all.result TooMany → IfSome o (λ rs. Overflows c.args.table.now (strings_of rs)))
-    (bare_all string_bytes class_record c.in-Class.names.now ∙ ap (λ (t : Tree). plain_records (tree_of t)) (sym c.in-Class.is)) c.write_all.ensures.too_many
+pub write_cond-requires-in-Handling : goal.write_cond-requires-in-Handling
+write_cond-requires-in-Handling c = always (values_in (cond_of (λ r. r) (λ h. h) c.in-Handling.c.now))
 
-pub write_parts-requires : goal.write_parts-requires
-unfolding is_kept
-write_parts-requires c = bare_tests (type_part_of (λ r. r)) kept_element c.in-Enumerators.parts.now ∙ (sym (ap (λ (t : Tree). is_kept (tree_of t)) c.in-Enumerators.is) ∙ c.requires)
+pub write_cond-requires-in-Validity : goal.write_cond-requires-in-Validity
+write_cond-requires-in-Validity c = always (values_in (cond_of (λ r. r) (λ b. b) c.in-Validity.c.now))
 
-pub returns-in-Enumerators-clause-ok : goal.returns-in-Enumerators-clause-ok
-unfolding plain_records
-returns-in-Enumerators-clause-ok c =
-    subst (λ (o : Option (List source.Record)). OnOk c.write_parts.result (IfSome o (λ rs. Writes c.args.table.now c.args.code.now.items rs c.write_parts.new.table c.write_parts.new.code.items)))
-    (all_viewed (type_part_of (λ r. r)) plain_element c.in-Enumerators.parts.now ∙ ap (λ (t : Tree). plain_records (tree_of t)) (sym c.in-Enumerators.is)) c.write_parts.ensures.ok
+pub write_cond-requires-in-Expressions : goal.write_cond-requires-in-Expressions
+write_cond-requires-in-Expressions c = always (values_in (cond_of (λ r. r) (expr_of (λ r. r)) c.in-Expressions.c.now))
 
-pub returns-in-Enumerators-clause-too_many : goal.returns-in-Enumerators-clause-too_many
-unfolding plain_records
-returns-in-Enumerators-clause-too_many c =
-    subst (λ (o : Option (List source.Record)). IsErrOf c.write_parts.result TooMany → IfSome o (λ rs. Overflows c.args.table.now (strings_of rs)))
-    (all_viewed (type_part_of (λ r. r)) plain_element c.in-Enumerators.parts.now ∙ ap (λ (t : Tree). plain_records (tree_of t)) (sym c.in-Enumerators.is)) c.write_parts.ensures.too_many
-
-pub write_conds-requires : goal.write_conds-requires
-unfolding is_kept
-write_conds-requires c = bare_values_of (data_item_of (λ r. r)) kept_data c.in-Data.all.now ∙ (sym (ap (λ (t : Tree). is_kept (tree_of t)) c.in-Data.is) ∙ c.requires)
-
-pub returns-in-Data-clause-ok : goal.returns-in-Data-clause-ok
-unfolding plain_records
-returns-in-Data-clause-ok c =
-    subst (λ (o : Option (List source.Record)). OnOk c.write_conds.result (IfSome o (λ rs. Writes c.args.table.now c.args.code.now.items rs c.write_conds.new.table c.write_conds.new.code.items)))
-    (bare_conds (data_item_of (λ r. r)) source.data_item c.in-Data.all.now ∙ ap (λ (t : Tree). plain_records (tree_of t)) (sym c.in-Data.is)) c.write_conds.ensures.ok
-
-pub returns-in-Data-clause-too_many : goal.returns-in-Data-clause-too_many
-unfolding plain_records
-returns-in-Data-clause-too_many c =
-    subst (λ (o : Option (List source.Record)). IsErrOf c.write_conds.result TooMany → IfSome o (λ rs. Overflows c.args.table.now (strings_of rs)))
-    (bare_conds (data_item_of (λ r. r)) source.data_item c.in-Data.all.now ∙ ap (λ (t : Tree). plain_records (tree_of t)) (sym c.in-Data.is)) c.write_conds.ensures.too_many
-
-pub write_all-requires-in-ResponseCodes : goal.write_all-requires-in-ResponseCodes
-unfolding is_kept
-write_all-requires-in-ResponseCodes c = bare_tests response_code_of kept_response c.in-ResponseCodes.codes.now ∙ (sym (ap (λ (t : Tree). is_kept (tree_of t)) c.in-ResponseCodes.is) ∙ c.requires)
-
-pub returns-in-ResponseCodes-clause-ok : goal.returns-in-ResponseCodes-clause-ok
-unfolding plain_records
-returns-in-ResponseCodes-clause-ok c =
-    subst (λ (o : Option (List source.Record)). OnOk c.write_all-in-ResponseCodes.result (IfSome o (λ rs. Writes c.args.table.now c.args.code.now.items rs c.write_all-in-ResponseCodes.new.table c.write_all-in-ResponseCodes.new.code.items)))
-    (bare_all response_code_of source.response c.in-ResponseCodes.codes.now ∙ ap (λ (t : Tree). plain_records (tree_of t)) (sym c.in-ResponseCodes.is)) c.write_all-in-ResponseCodes.ensures.ok
-
-pub returns-in-ResponseCodes-clause-too_many : goal.returns-in-ResponseCodes-clause-too_many
-unfolding plain_records
-returns-in-ResponseCodes-clause-too_many c =
-    subst (λ (o : Option (List source.Record)). IsErrOf c.write_all-in-ResponseCodes.result TooMany → IfSome o (λ rs. Overflows c.args.table.now (strings_of rs)))
-    (bare_all response_code_of source.response c.in-ResponseCodes.codes.now ∙ ap (λ (t : Tree). plain_records (tree_of t)) (sym c.in-ResponseCodes.is)) c.write_all-in-ResponseCodes.ensures.too_many
-
-pub write_conds-requires-in-Items : goal.write_conds-requires-in-Items
-unfolding is_kept
-write_conds-requires-in-Items c = bare_values_of (entry_of (λ r. r)) kept_entry c.in-Items.entries.now ∙ (sym (ap (λ (t : Tree). is_kept (tree_of t)) c.in-Items.is) ∙ c.requires)
-
-pub returns-in-Items-clause-ok : goal.returns-in-Items-clause-ok
-unfolding plain_records
-returns-in-Items-clause-ok c =
-    subst (λ (o : Option (List source.Record)). OnOk c.write_conds-in-Items.result (IfSome o (λ rs. Writes c.args.table.now c.args.code.now.items rs c.write_conds-in-Items.new.table c.write_conds-in-Items.new.code.items)))
-    (bare_conds (entry_of (λ r. r)) source.entry c.in-Items.entries.now ∙ ap (λ (t : Tree). plain_records (tree_of t)) (sym c.in-Items.is)) c.write_conds-in-Items.ensures.ok
-
-pub returns-in-Items-clause-too_many : goal.returns-in-Items-clause-too_many
-unfolding plain_records
-returns-in-Items-clause-too_many c =
-    subst (λ (o : Option (List source.Record)). IsErrOf c.write_conds-in-Items.result TooMany → IfSome o (λ rs. Overflows c.args.table.now (strings_of rs)))
-    (bare_conds (entry_of (λ r. r)) source.entry c.in-Items.entries.now ∙ ap (λ (t : Tree). plain_records (tree_of t)) (sym c.in-Items.is)) c.write_conds-in-Items.ensures.too_many
-
-pub write_all-requires-in-Members : goal.write_all-requires-in-Members
-unfolding is_kept
-write_all-requires-in-Members c = bare_tests (member_of (λ r. r)) kept_member c.in-Members.members.now ∙ (sym (ap (λ (t : Tree). is_kept (tree_of t)) c.in-Members.is) ∙ c.requires)
-
-pub returns-in-Members-clause-ok : goal.returns-in-Members-clause-ok
-unfolding plain_records
-returns-in-Members-clause-ok c =
-    subst (λ (o : Option (List source.Record)). OnOk c.write_all-in-Members.result (IfSome o (λ rs. Writes c.args.table.now c.args.code.now.items rs c.write_all-in-Members.new.table c.write_all-in-Members.new.code.items)))
-    (bare_all (member_of (λ r. r)) source.member c.in-Members.members.now ∙ ap (λ (t : Tree). plain_records (tree_of t)) (sym c.in-Members.is)) c.write_all-in-Members.ensures.ok
-
-pub returns-in-Members-clause-too_many : goal.returns-in-Members-clause-too_many
-unfolding plain_records
-returns-in-Members-clause-too_many c =
-    subst (λ (o : Option (List source.Record)). IsErrOf c.write_all-in-Members.result TooMany → IfSome o (λ rs. Overflows c.args.table.now (strings_of rs)))
-    (bare_all (member_of (λ r. r)) source.member c.in-Members.members.now ∙ ap (λ (t : Tree). plain_records (tree_of t)) (sym c.in-Members.is)) c.write_all-in-Members.ensures.too_many
+pub returns-in-Texts-clause-ok : goal.returns-in-Texts-clause-ok
+unfolding IsTreeBlock
+returns-in-Texts-clause-ok c =
+    subst (λ (t : Tree). OnOk c.write_cond.result (WritesBlock c.args.table.now c.args.code.now.items (tree_strings (tree_of t)) (λ numbered b. IsTreeBlock numbered (tree_of t) b) c.write_cond.new.table c.write_cond.new.code.items)) (sym c.in-Texts.is)
+    (subst (λ (ws : List Words). OnOk c.write_cond.result (WritesBlock c.args.table.now c.args.code.now.items ws (λ numbered b. IsTreeBlock numbered (trees.Texts (cond_of (λ r. r) text_of c.in-Texts.c.now)) b) c.write_cond.new.table c.write_cond.new.code.items))
+    (of_texts (cond_of (λ r. r) text_of c.in-Texts.c.now)) c.write_cond.ensures.ok)
 
 pub returns-in-Texts-clause-too_many : goal.returns-in-Texts-clause-too_many
-unfolding plain_records
 returns-in-Texts-clause-too_many c =
-    subst (λ (o : Option (List source.Record)). IsErrOf c.write_cond.result TooMany → IfSome o (λ rs. Overflows c.args.table.now (strings_of rs)))
-    (bare_one text_of text_record c.in-Texts.c.now ∙ ap (λ (t : Tree). plain_records (tree_of t)) (sym c.in-Texts.is)) c.write_cond.ensures.too_many
+    subst (λ (t : Tree). IsErrOf c.write_cond.result TooMany → Overflows c.args.table.now (tree_strings (tree_of t))) (sym c.in-Texts.is)
+    (subst (λ (ws : List Words). IsErrOf c.write_cond.result TooMany → Overflows c.args.table.now ws)
+    (of_texts (cond_of (λ r. r) text_of c.in-Texts.c.now)) c.write_cond.ensures.too_many)
+
+pub returns-in-Class-clause-ok : goal.returns-in-Class-clause-ok
+unfolding IsTreeBlock
+returns-in-Class-clause-ok c =
+    subst (λ (t : Tree). OnOk c.write_all.result (WritesBlock c.args.table.now c.args.code.now.items (tree_strings (tree_of t)) (λ numbered b. IsTreeBlock numbered (tree_of t) b) c.write_all.new.table c.write_all.new.code.items)) (sym c.in-Class.is)
+    (subst (λ (ws : List Words). OnOk c.write_all.result (WritesBlock c.args.table.now c.args.code.now.items ws (λ numbered b. IsTreeBlock numbered (trees.Class (map string_bytes c.in-Class.names.now)) b) c.write_all.new.table c.write_all.new.code.items))
+    (of_class (map string_bytes c.in-Class.names.now)) c.write_all.ensures.ok)
+
+pub returns-in-Class-clause-too_many : goal.returns-in-Class-clause-too_many
+returns-in-Class-clause-too_many c =
+    subst (λ (t : Tree). IsErrOf c.write_all.result TooMany → Overflows c.args.table.now (tree_strings (tree_of t))) (sym c.in-Class.is)
+    (subst (λ (ws : List Words). IsErrOf c.write_all.result TooMany → Overflows c.args.table.now ws)
+    (of_class (map string_bytes c.in-Class.names.now)) c.write_all.ensures.too_many)
+
+pub returns-in-Handling-clause-ok : goal.returns-in-Handling-clause-ok
+unfolding IsTreeBlock
+returns-in-Handling-clause-ok c =
+    subst (λ (t : Tree). OnOk c.write_cond-in-Handling.result (WritesBlock c.args.table.now c.args.code.now.items (tree_strings (tree_of t)) (λ numbered b. IsTreeBlock numbered (tree_of t) b) c.write_cond-in-Handling.new.table c.write_cond-in-Handling.new.code.items)) (sym c.in-Handling.is)
+    (subst (λ (ws : List Words). OnOk c.write_cond-in-Handling.result (WritesBlock c.args.table.now c.args.code.now.items ws (λ numbered b. IsTreeBlock numbered (trees.Handling (cond_of (λ r. r) (λ h. h) c.in-Handling.c.now)) b) c.write_cond-in-Handling.new.table c.write_cond-in-Handling.new.code.items))
+    (of_handling (cond_of (λ r. r) (λ h. h) c.in-Handling.c.now)) c.write_cond-in-Handling.ensures.ok)
+
+pub returns-in-Handling-clause-too_many : goal.returns-in-Handling-clause-too_many
+returns-in-Handling-clause-too_many c =
+    subst (λ (t : Tree). IsErrOf c.write_cond-in-Handling.result TooMany → Overflows c.args.table.now (tree_strings (tree_of t))) (sym c.in-Handling.is)
+    (subst (λ (ws : List Words). IsErrOf c.write_cond-in-Handling.result TooMany → Overflows c.args.table.now ws)
+    (of_handling (cond_of (λ r. r) (λ h. h) c.in-Handling.c.now)) c.write_cond-in-Handling.ensures.too_many)
+
+pub returns-in-Validity-clause-ok : goal.returns-in-Validity-clause-ok
+unfolding IsTreeBlock
+returns-in-Validity-clause-ok c =
+    subst (λ (t : Tree). OnOk c.write_cond-in-Validity.result (WritesBlock c.args.table.now c.args.code.now.items (tree_strings (tree_of t)) (λ numbered b. IsTreeBlock numbered (tree_of t) b) c.write_cond-in-Validity.new.table c.write_cond-in-Validity.new.code.items)) (sym c.in-Validity.is)
+    (subst (λ (ws : List Words). OnOk c.write_cond-in-Validity.result (WritesBlock c.args.table.now c.args.code.now.items ws (λ numbered b. IsTreeBlock numbered (trees.Validity (cond_of (λ r. r) (λ b. b) c.in-Validity.c.now)) b) c.write_cond-in-Validity.new.table c.write_cond-in-Validity.new.code.items))
+    (of_validity (cond_of (λ r. r) (λ b. b) c.in-Validity.c.now)) c.write_cond-in-Validity.ensures.ok)
+
+pub returns-in-Validity-clause-too_many : goal.returns-in-Validity-clause-too_many
+returns-in-Validity-clause-too_many c =
+    subst (λ (t : Tree). IsErrOf c.write_cond-in-Validity.result TooMany → Overflows c.args.table.now (tree_strings (tree_of t))) (sym c.in-Validity.is)
+    (subst (λ (ws : List Words). IsErrOf c.write_cond-in-Validity.result TooMany → Overflows c.args.table.now ws)
+    (of_validity (cond_of (λ r. r) (λ b. b) c.in-Validity.c.now)) c.write_cond-in-Validity.ensures.too_many)
+
+pub returns-in-Expressions-clause-ok : goal.returns-in-Expressions-clause-ok
+unfolding IsTreeBlock
+returns-in-Expressions-clause-ok c =
+    subst (λ (t : Tree). OnOk c.write_cond-in-Expressions.result (WritesBlock c.args.table.now c.args.code.now.items (tree_strings (tree_of t)) (λ numbered b. IsTreeBlock numbered (tree_of t) b) c.write_cond-in-Expressions.new.table c.write_cond-in-Expressions.new.code.items)) (sym c.in-Expressions.is)
+    (subst (λ (ws : List Words). OnOk c.write_cond-in-Expressions.result (WritesBlock c.args.table.now c.args.code.now.items ws (λ numbered b. IsTreeBlock numbered (trees.Expressions (cond_of (λ r. r) (expr_of (λ r. r)) c.in-Expressions.c.now)) b) c.write_cond-in-Expressions.new.table c.write_cond-in-Expressions.new.code.items))
+    (of_expressions (cond_of (λ r. r) (expr_of (λ r. r)) c.in-Expressions.c.now)) c.write_cond-in-Expressions.ensures.ok)
+
+pub returns-in-Expressions-clause-too_many : goal.returns-in-Expressions-clause-too_many
+returns-in-Expressions-clause-too_many c =
+    subst (λ (t : Tree). IsErrOf c.write_cond-in-Expressions.result TooMany → Overflows c.args.table.now (tree_strings (tree_of t))) (sym c.in-Expressions.is)
+    (subst (λ (ws : List Words). IsErrOf c.write_cond-in-Expressions.result TooMany → Overflows c.args.table.now ws)
+    (of_expressions (cond_of (λ r. r) (expr_of (λ r. r)) c.in-Expressions.c.now)) c.write_cond-in-Expressions.ensures.too_many)
+
+pub returns-in-Enumerators-clause-ok : goal.returns-in-Enumerators-clause-ok
+unfolding IsTreeBlock
+returns-in-Enumerators-clause-ok c =
+    subst (λ (t : Tree). OnOk c.write_parts.result (WritesBlock c.args.table.now c.args.code.now.items (tree_strings (tree_of t)) (λ numbered b. IsTreeBlock numbered (tree_of t) b) c.write_parts.new.table c.write_parts.new.code.items)) (sym c.in-Enumerators.is)
+    (subst (λ (ws : List Words). OnOk c.write_parts.result (WritesBlock c.args.table.now c.args.code.now.items ws (λ numbered b. IsTreeBlock numbered (trees.Enumerators (map (type_part_of (λ r. r)) c.in-Enumerators.parts.now)) b) c.write_parts.new.table c.write_parts.new.code.items))
+    (of_enumerators (map (type_part_of (λ r. r)) c.in-Enumerators.parts.now)) c.write_parts.ensures.ok)
+
+pub returns-in-Enumerators-clause-too_many : goal.returns-in-Enumerators-clause-too_many
+returns-in-Enumerators-clause-too_many c =
+    subst (λ (t : Tree). IsErrOf c.write_parts.result TooMany → Overflows c.args.table.now (tree_strings (tree_of t))) (sym c.in-Enumerators.is)
+    (subst (λ (ws : List Words). IsErrOf c.write_parts.result TooMany → Overflows c.args.table.now ws)
+    (of_enumerators (map (type_part_of (λ r. r)) c.in-Enumerators.parts.now)) c.write_parts.ensures.too_many)
+
+pub returns-in-Data-clause-ok : goal.returns-in-Data-clause-ok
+unfolding IsTreeBlock
+returns-in-Data-clause-ok c =
+    subst (λ (t : Tree). OnOk c.write_conds.result (WritesBlock c.args.table.now c.args.code.now.items (tree_strings (tree_of t)) (λ numbered b. IsTreeBlock numbered (tree_of t) b) c.write_conds.new.table c.write_conds.new.code.items)) (sym c.in-Data.is)
+    (subst (λ (ws : List Words). OnOk c.write_conds.result (WritesBlock c.args.table.now c.args.code.now.items ws (λ numbered b. IsTreeBlock numbered (trees.Data (conds_of (λ r. r) (data_item_of (λ r. r)) c.in-Data.all.now)) b) c.write_conds.new.table c.write_conds.new.code.items))
+    (of_data_items (conds_of (λ r. r) (data_item_of (λ r. r)) c.in-Data.all.now)) c.write_conds.ensures.ok)
+
+pub returns-in-Data-clause-too_many : goal.returns-in-Data-clause-too_many
+returns-in-Data-clause-too_many c =
+    subst (λ (t : Tree). IsErrOf c.write_conds.result TooMany → Overflows c.args.table.now (tree_strings (tree_of t))) (sym c.in-Data.is)
+    (subst (λ (ws : List Words). IsErrOf c.write_conds.result TooMany → Overflows c.args.table.now ws)
+    (of_data_items (conds_of (λ r. r) (data_item_of (λ r. r)) c.in-Data.all.now)) c.write_conds.ensures.too_many)
+
+pub returns-in-ResponseCodes-clause-ok : goal.returns-in-ResponseCodes-clause-ok
+unfolding IsTreeBlock
+returns-in-ResponseCodes-clause-ok c =
+    subst (λ (t : Tree). OnOk c.write_all-in-ResponseCodes.result (WritesBlock c.args.table.now c.args.code.now.items (tree_strings (tree_of t)) (λ numbered b. IsTreeBlock numbered (tree_of t) b) c.write_all-in-ResponseCodes.new.table c.write_all-in-ResponseCodes.new.code.items)) (sym c.in-ResponseCodes.is)
+    (subst (λ (ws : List Words). OnOk c.write_all-in-ResponseCodes.result (WritesBlock c.args.table.now c.args.code.now.items ws (λ numbered b. IsTreeBlock numbered (trees.ResponseCodes (map response_code_of c.in-ResponseCodes.codes.now)) b) c.write_all-in-ResponseCodes.new.table c.write_all-in-ResponseCodes.new.code.items))
+    (of_responses (map response_code_of c.in-ResponseCodes.codes.now)) c.write_all-in-ResponseCodes.ensures.ok)
+
+pub returns-in-ResponseCodes-clause-too_many : goal.returns-in-ResponseCodes-clause-too_many
+returns-in-ResponseCodes-clause-too_many c =
+    subst (λ (t : Tree). IsErrOf c.write_all-in-ResponseCodes.result TooMany → Overflows c.args.table.now (tree_strings (tree_of t))) (sym c.in-ResponseCodes.is)
+    (subst (λ (ws : List Words). IsErrOf c.write_all-in-ResponseCodes.result TooMany → Overflows c.args.table.now ws)
+    (of_responses (map response_code_of c.in-ResponseCodes.codes.now)) c.write_all-in-ResponseCodes.ensures.too_many)
+
+pub returns-in-Items-clause-ok : goal.returns-in-Items-clause-ok
+unfolding IsTreeBlock
+returns-in-Items-clause-ok c =
+    subst (λ (t : Tree). OnOk c.write_conds-in-Items.result (WritesBlock c.args.table.now c.args.code.now.items (tree_strings (tree_of t)) (λ numbered b. IsTreeBlock numbered (tree_of t) b) c.write_conds-in-Items.new.table c.write_conds-in-Items.new.code.items)) (sym c.in-Items.is)
+    (subst (λ (ws : List Words). OnOk c.write_conds-in-Items.result (WritesBlock c.args.table.now c.args.code.now.items ws (λ numbered b. IsTreeBlock numbered (trees.Items (conds_of (λ r. r) (entry_of (λ r. r)) c.in-Items.entries.now)) b) c.write_conds-in-Items.new.table c.write_conds-in-Items.new.code.items))
+    (of_items (conds_of (λ r. r) (entry_of (λ r. r)) c.in-Items.entries.now)) c.write_conds-in-Items.ensures.ok)
+
+pub returns-in-Items-clause-too_many : goal.returns-in-Items-clause-too_many
+returns-in-Items-clause-too_many c =
+    subst (λ (t : Tree). IsErrOf c.write_conds-in-Items.result TooMany → Overflows c.args.table.now (tree_strings (tree_of t))) (sym c.in-Items.is)
+    (subst (λ (ws : List Words). IsErrOf c.write_conds-in-Items.result TooMany → Overflows c.args.table.now ws)
+    (of_items (conds_of (λ r. r) (entry_of (λ r. r)) c.in-Items.entries.now)) c.write_conds-in-Items.ensures.too_many)
+
+pub returns-in-Members-clause-ok : goal.returns-in-Members-clause-ok
+unfolding IsTreeBlock
+returns-in-Members-clause-ok c =
+    subst (λ (t : Tree). OnOk c.write_all-in-Members.result (WritesBlock c.args.table.now c.args.code.now.items (tree_strings (tree_of t)) (λ numbered b. IsTreeBlock numbered (tree_of t) b) c.write_all-in-Members.new.table c.write_all-in-Members.new.code.items)) (sym c.in-Members.is)
+    (subst (λ (ws : List Words). OnOk c.write_all-in-Members.result (WritesBlock c.args.table.now c.args.code.now.items ws (λ numbered b. IsTreeBlock numbered (trees.Members (map (member_of (λ r. r)) c.in-Members.members.now)) b) c.write_all-in-Members.new.table c.write_all-in-Members.new.code.items))
+    (of_members (map (member_of (λ r. r)) c.in-Members.members.now)) c.write_all-in-Members.ensures.ok)
+
+pub returns-in-Members-clause-too_many : goal.returns-in-Members-clause-too_many
+returns-in-Members-clause-too_many c =
+    subst (λ (t : Tree). IsErrOf c.write_all-in-Members.result TooMany → Overflows c.args.table.now (tree_strings (tree_of t))) (sym c.in-Members.is)
+    (subst (λ (ws : List Words). IsErrOf c.write_all-in-Members.result TooMany → Overflows c.args.table.now ws)
+    (of_members (map (member_of (λ r. r)) c.in-Members.members.now)) c.write_all-in-Members.ensures.too_many)
+
+pub returns-in_ok-write_number-in-Number-clause-ok : goal.returns-in_ok-write_number-in-Number-clause-ok
+unfolding IsTreeBlock tree_strings
+returns-in_ok-write_number-in-Number-clause-ok c =
+    subst (λ (t : Tree). WritesBlock c.args.table.now c.args.code.now.items (tree_strings (tree_of t)) (λ numbered b. IsTreeBlock numbered (tree_of t) b) c.args.table.now c.write_number.new.code.items) (sym (c.in-Number.is))
+    (c.in_ok-write_number-in-Number.ensures c.args.table.now)
+
+pub returns-in_ok-write_number-in-Operation-clause-ok : goal.returns-in_ok-write_number-in-Operation-clause-ok
+unfolding IsTreeBlock tree_strings
+returns-in_ok-write_number-in-Operation-clause-ok c =
+    subst (λ (t : Tree). WritesBlock c.args.table.now c.args.code.now.items (tree_strings (tree_of t)) (λ numbered b. IsTreeBlock numbered (tree_of t) b) c.args.table.now c.write_number-in-Operation.new.code.items) (sym (c.in-Operation.is))
+    (subst (λ n. WritesRecord c.args.table.now c.args.code.now.items (source.Number (pos n)) c.args.table.now c.write_number-in-Operation.new.code.items) c.operation_number.ensures (c.in_ok-write_number-in-Operation.ensures c.args.table.now))
+
+pub returns-in_ok-write_optional_number-in-Transaction-clause-ok : goal.returns-in_ok-write_optional_number-in-Transaction-clause-ok
+unfolding IsTreeBlock tree_strings
+returns-in_ok-write_optional_number-in-Transaction-clause-ok c =
+    subst (λ (t : Tree). WritesBlock c.args.table.now c.args.code.now.items (tree_strings (tree_of t)) (λ numbered b. IsTreeBlock numbered (tree_of t) b) c.args.table.now c.write_optional_number.new.code.items) (sym c.in-Transaction.is)
+    (c.in_ok-write_optional_number-in-Transaction.ensures c.args.table.now)

@@ -1,4 +1,4 @@
-use Rattle.edd_coverage.proofs.FewNodes.{short_code}
+use Rattle.edd_coverage.proofs.ShortCode.{short_code}
 use Rattle.edd_coverage.proofs.laws.code_is_short.Goals as goal
 
 pub returns : goal.returns

@@ -1,10 +1,13 @@
-use Rattle.std.proofs.Common.{subst, map, ◌∙◌}
+use Rattle.std.proofs.Common.{subst, sym, map, ◌∙◌}
 use Rattle.std.proofs.lemmas.Result.{err_from_is_err_and}
 use Rattle.edd_assembly.specs.Views.{lowered_of}
 use Rattle.edd_attrs.specs.Views.{unit_of}
 use Rattle.edd_tool.specs.Lowering.{HasLowered}
 use Rattle.edd_tool.proofs.ImageParts.{few_strings, on_ok, too_many}
 use Rattle.edd_tool.proofs.LoweredRows.{over_more}
+use Rattle.std.specs.List.{All}
+use Rattle.edd_tool.specs.Lowering.{IsNoBody}
+use Rattle.edd_tool.proofs.NoMethods.{no_bodies}
 use Rattle.edd_tool.proofs.compiling.image_of.Goals as goal
 
 pub returns-in_err-lowering-clause-refused : goal.returns-in_err-lowering-clause-refused
@@ -19,3 +22,8 @@ returns-clause-few_strings c =
     c.in_ok-lowering.lowering.table (map lowered_of c.in_ok-lowering.lowering.units.items) c.words-strings.ensures.different c.words-strings.ensures.few
     (subst (λ rs. HasLowered (unit_of c.args.checked.now) rs c.in_ok-lowering.lowering.table (map lowered_of c.in_ok-lowering.lowering.units.items))
     (c.deref.ensures.value ∙ c.in_ok-rows.ensures) c.in_ok-lowering.ensures.lowered))
+
+pub lower_rows-requires : goal.lower_rows-requires
+lower_rows-requires c =
+    subst (All IsNoBody) (sym (c.deref.ensures.value ∙ c.in_ok-rows.ensures))
+    (no_bodies (unit_of c.args.checked.now) c.requires.no_method c.args.checked.now.checked)

@@ -13,7 +13,7 @@ use Rattle.edd_syntax.specs.ResolvedTrees.{each, unchanged, resolved_expr, resol
 use Rattle.edd_syntax.specs.Size.{nodes, leaf, cond_nodes, type_part_nodes, is_element, transaction_part_nodes, attribute_nodes, item_nodes, unit_nodes}
 use Rattle.edd_syntax.proofs.WithinLimits.{each_keeps}
 use Rattle.edd_attrs.proofs.Made.{stays, made}
-use Rattle.edd_coverage.proofs.TreeNodes.{expr_keeps, cond_keeps, conds_keep, body_keeps}
+use Rattle.edd_attrs.proofs.TreeNodes.{expr_keeps, cond_keeps, conds_keep, body_keeps}
 
 any_of_mapped : {X : Type 0} (p : X → Bool) (xs : List X) → list_any p xs ≡ list_any (λ b. b) (map p xs)
 any_of_mapped p [] = refl

@@ -1,6 +1,6 @@
--- A checked description has few nodes, and so its code is short.
-use Rattle.std.proofs.Common.{◌≡◌, refl, ℕ, ◌≤◌, Bool, true, false, [], ◌++◌, map, arith}
-use Rattle.std.specs.Prelude.{nat_lt, sum}
+-- A checked description has few nodes.
+use Rattle.std.proofs.Common.{◌≡◌, refl, ℕ, ◌≤◌, Bool, true, false, [], ◌++◌, arith}
+use Rattle.std.specs.Prelude.{nat_lt}
 use Rattle.std.specs.List.{list_any}
 use Rattle.std.proofs.lemmas.Grind.{common_steps}
 use Rattle.std.proofs.Math.Bridge.{le_prop}
@@ -13,12 +13,9 @@ use Rattle.edd_syntax.specs.NameRules.{item_limit, transaction_limit, local_limi
 use Rattle.edd_syntax.specs.Refusal.{Refusal, TooMany, refused_if}
 use Rattle.edd_syntax.specs.Resolution.{count_of}
 use Rattle.edd_syntax.specs.Resolved.{IsChecked}
-use Rattle.edd_syntax.specs.Rows.{rows}
 use Rattle.edd_syntax.specs.Size.{unit_nodes}
-use Rattle.edd_coverage.specs.RowContents.{limit_of_row}
-use Rattle.edd_coverage.proofs.Repeats.{no_front, no_rest}
-use Rattle.edd_coverage.proofs.RowLimits.{all_rows_limit}
-use Rattle.edd_coverage.proofs.UnitNodes.{unit_keeps}
+use Rattle.edd_attrs.proofs.BlockChecked.{front_none}
+use Rattle.edd_attrs.proofs.UnitNodes.{unit_keeps}
 
 no_refusal : (b : Bool) (why : Refusal) → refused_if b why ≡ [] → b ≡ false
 no_refusal true why h = absurd (cc)
@@ -35,15 +32,12 @@ few_in_unit u h =
     let nodes = refused_if (nat_lt node_limit (unit_nodes u)) (TooMany limit.Nodes) in
     at_most node_limit (unit_nodes u)
     (no_refusal (nat_lt node_limit (unit_nodes u)) (TooMany limit.Nodes)
-    (no_rest locals nodes (no_rest transactions (locals ++ nodes) (no_rest items (transactions ++ (locals ++ nodes)) h))))
+    (front_none locals nodes (front_none transactions (locals ++ nodes) (front_none items (transactions ++ (locals ++ nodes)) h).1).1).1)
 
 few : (d : Description Target) → IsChecked d → unit_nodes d ≤ 524288
 few d checked =
     let r = checked.is_resolved in
-    omega (arith, unit_keeps r.unit d r.meanings, few_in_unit r.unit (no_front (too_many r.unit) _ r.no_breach))
+    omega (arith, unit_keeps r.unit d r.meanings, few_in_unit r.unit (front_none (too_many r.unit) _ r.no_breach).0)
 
 pub few_nodes : (d : Description Target) → ∥ IsChecked d ∥₁ → unit_nodes d ≤ 524288
 few_nodes d checked = ∥∥₁_elim checked le_prop (few d)
-
-pub short_code : (d : Description Target) → ∥ IsChecked d ∥₁ → sum (map (λ r. limit_of_row d r) (rows d.items)) ≤ 16777216
-short_code d checked = omega (arith, all_rows_limit d, few_nodes d checked)

@@ -1,0 +1,165 @@
+-- The bodies of the arms of a SELECT, which are written from the last to the first.
+use Rattle.std.proofs.Common.{◌≡◌, refl, sym, ap, subst, ◌∙◌, ℕ, ◌+◌, ◌<◌, ◌≤◌, ℤ, List, [], ◌∷◌, ◌++◌, length, get_or, take, drop, Option, arith, append_assoc, length-append}
+use Rattle.std.specs.List.{flat_map}
+use Rattle.std.proofs.lemmas.List.{append-nil, take_all, drop_all}
+use Rattle.edd_syntax.specs.declared.numbers.StrNo.{StrNo}
+use Rattle.edd_syntax.specs.declared.reference.Target.{Target}
+use Rattle.edd_syntax.specs.Conditional.{Conds, Arm, Arms, NoArms, ConsArm, Case, Default, arms_from}
+use Rattle.edd_syntax.specs.SubsetRules.{values_of}
+use Rattle.edd_syntax.specs.Words.{Words}
+use Rattle.edd_image.specs.Agreement.{string_of_table}
+use Rattle.edd_image.specs.Layout.{u32}
+use Rattle.edd_image.specs.Spelling.{i64}
+use Rattle.edd_expressions.specs.Blocks.{Block, Match, bytes_at}
+use Rattle.edd_expressions.specs.Closing.{closed}
+use Rattle.edd_expressions.proofs.Closing.{match_closed, closed_length}
+use Rattle.edd_attrs.specs.Code.{GrowsBy, Overflows}
+use Rattle.edd_attrs.specs.TreeBlocks.{IsCondsBlock, IsArmsBlock}
+use Rattle.edd_attrs.specs.Writing.{WritesArm, WritesArms, WritesBody, arms_strings, conds_strings, header, headers, with_body}
+use Rattle.edd_attrs.proofs.Among.{Within, within_same, within_left, within_right, grows_within, grows_twice, overflows_later}
+use Rattle.edd_attrs.proofs.Flat.{arms_strings_are, strings_at_arm}
+use Rattle.edd_attrs.proofs.Growing.{nothing_added}
+use Rattle.edd_attrs.proofs.Loops.{later_on, dropped, flat_take, flat_drop, flat_parts}
+
+-- ---- one body
+
+-- code with a body behind it has those bytes more that its jump and its body have
+pub with_body_length : (before : List ℕ) (hole : ℕ) (body : Block) → hole + 4 ≤ length before → length before ≤ length (with_body before hole body)
+with_body_length before hole body inside =
+    let jumped : List ℕ = before ++ (0x30 ∷ u32 0) in
+    let l1 : length jumped ≡ length before + 5 = length-append before (0x30 ∷ u32 0) in
+    let l2 = closed_length jumped hole (omega arith) in
+    let opened : List ℕ = closed jumped hole in
+    let l3 = length-append opened (bytes_at (length opened) body) in
+    let l4 = closed_length (opened ++ bytes_at (length opened) body) (length before + 1) (omega arith) in
+    omega (arith, l1, l2, l3, l4)
+
+-- behind the header of its CASE and the rest, the code with a body is that of a match
+pub body_matches : (front before : List ℕ) (label : ℤ) (body rest : Block) → before ≡ (front ++ (0x33 ∷ (i64 label ++ u32 0))) ++ bytes_at (length (front ++ (0x33 ∷ (i64 label ++ u32 0)))) rest
+    → with_body before (length front + 9) body ≡ front ++ bytes_at (length front) (Match label body rest)
+body_matches front before label body rest is =
+    let c1 : List ℕ = front ++ (0x33 ∷ (i64 label ++ u32 0)) in
+    let c3 : List ℕ = before ++ (0x30 ∷ u32 0) in
+    let c4 : List ℕ = closed c3 (length front + 9) in
+    match_closed front c1 before c3 c4 (c4 ++ bytes_at (length c4) body) label body rest refl is refl refl refl
+
+-- ---- one arm
+
+module _ {V : Type 0} (strings : V → List Words) (is_block : (StrNo → Option Words) → V → Block → Type 0) where
+  pub case_written : (old new : List Words) (before after : List ℕ) (behind start hole : ℕ) (label : ℤ) (body : Conds Target V) → start + 13 ≡ behind → behind ≤ length before → hole ≡ start + 9
+      → WritesBody old before hole (conds_strings strings body) (λ numbered b. IsCondsBlock (is_block numbered) body b) new after → WritesArm strings is_block old before behind (Case label body) new after start
+  case_written old new before after behind start hole label body starts inside at w = record {
+    table = grows_within (arms_strings strings (ConsArm (Case label body) NoArms)) w.table (within_left (conds_strings strings body) [] (arms_strings strings (ConsArm (Case label body) NoArms)) (ap (flat_map strings) (append-nil (values_of body)) ∙ sym (append-nil (conds_strings strings body))));
+    starts = omega arith;
+    longer = subst (λ (code : List ℕ). length before ≤ length code) (sym w.written) (with_body_length before hole w.block (omega arith));
+    around = λ rest. Match label w.block rest;
+    written = λ front rest is ends.
+        w.written
+        ∙ ap (λ (place : ℕ). with_body before place w.block) (omega (arith, length-append front (0x33 ∷ (i64 label ++ u32 0))))
+        ∙ body_matches front before label w.block rest is;
+    is = λ later otherwise rest b held. (w.block, b, refl, w.is later, held);
+  }
+
+  pub default_written : (old : List Words) (before : List ℕ) (behind : ℕ) (body : Conds Target V) → WritesArm strings is_block old before behind (Default body) old before behind
+  default_written old before behind body = record {
+    table = grows_within (arms_strings strings (ConsArm (Default body) NoArms)) (nothing_added old) (λ w held. absurd (omega (arith, held.1)));
+    starts = omega arith;
+    longer = omega arith;
+    around = λ rest. rest;
+    written = λ front rest is ends. is ∙ ap (λ (code : List ℕ). code ++ bytes_at (length code) rest) (append-nil front);
+    is = λ later otherwise rest b held. held;
+  }
+
+  -- ---- all arms
+
+  -- the arms from the one at i on are written, whose headers begin at `start`
+  pub record Back (i : ℕ) (arms : List (Arm Target V)) (a : List Words) (before : List ℕ) (behind : ℕ) (b : List Words) (now : List ℕ) (start : ℕ) : Type 0 where
+    pub table : GrowsBy a (arms_strings strings (arms_from (drop i arms))) b
+    pub starts : start + length (headers (drop i arms)) ≡ behind
+    pub longer : length before ≤ length now
+    pub around : Block → Block
+    pub written : (front : List ℕ) (rest : Block) → before ≡ (front ++ headers arms) ++ bytes_at (length (front ++ headers arms)) rest
+        → length (front ++ headers arms) ≡ behind → now ≡ (front ++ headers (take i arms)) ++ bytes_at (length (front ++ headers (take i arms))) (around rest)
+    pub is : (later : List Words) (otherwise : Block) (x : Block) → IsArmsBlock (is_block (string_of_table (b ++ later))) otherwise NoArms x
+        → IsArmsBlock (is_block (string_of_table (b ++ later))) otherwise (arms_from (drop i arms)) (around x)
+
+  pub back_starts : (i : ℕ) (arms : List (Arm Target V)) (a : List Words) (before : List ℕ) (behind : ℕ) → length arms ≤ i → Back i arms a before behind a before behind
+  back_starts i arms a before behind h =
+      let none : drop i arms ≡ [] = drop_all i arms h in record {
+        table = subst (λ (xs : List (Arm Target V)). GrowsBy a (arms_strings strings (arms_from xs)) a) (sym none) (nothing_added a);
+        starts = omega (arith, ap (λ (xs : List (Arm Target V)). length (headers xs)) none);
+        longer = omega arith;
+        around = λ x. x;
+        written = λ front rest is ends. subst (λ (xs : List (Arm Target V)). before ≡ (front ++ headers xs) ++ bytes_at (length (front ++ headers xs)) rest) (sym (take_all i arms h)) is;
+        is = λ later otherwise x held. subst (λ (xs : List (Arm Target V)). IsArmsBlock (is_block (string_of_table (a ++ later))) otherwise (arms_from xs) x) (sym none) held;
+      }
+
+  -- ---- one arm more
+
+  module _ (i : ℕ) (arms : List (Arm Target V)) (arm : Arm Target V) (below : i < length arms) (at : arm ≡ get_or arms i arm) where
+    rest_within : Within (arms_strings strings (arms_from (drop (i + 1) arms))) (arms_strings strings (arms_from (drop i arms)))
+    rest_within w held =
+        within_same (flat_map (strings_at_arm strings) (drop i arms)) (arms_strings strings (arms_from (drop i arms))) (arms_strings_are strings (drop i arms)) w
+        (within_right (strings_at_arm strings arm) (flat_map (strings_at_arm strings) (drop (i + 1) arms)) (flat_map (strings_at_arm strings) (drop i arms)) (flat_drop (strings_at_arm strings) arms i arm below at) w
+        (within_same (arms_strings strings (arms_from (drop (i + 1) arms))) (flat_map (strings_at_arm strings) (drop (i + 1) arms)) (sym (arms_strings_are strings (drop (i + 1) arms))) w held))
+
+    arm_within : Within (strings_at_arm strings arm) (arms_strings strings (arms_from (drop i arms)))
+    arm_within w held =
+        within_same (flat_map (strings_at_arm strings) (drop i arms)) (arms_strings strings (arms_from (drop i arms))) (arms_strings_are strings (drop i arms)) w
+        (within_left (strings_at_arm strings arm) (flat_map (strings_at_arm strings) (drop (i + 1) arms)) (flat_map (strings_at_arm strings) (drop i arms)) (flat_drop (strings_at_arm strings) arms i arm below at) w held)
+
+    all_within : Within (arms_strings strings (arms_from (drop i arms))) (arms_strings strings (arms_from arms))
+    all_within w held =
+        within_same (flat_map (strings_at_arm strings) arms) (arms_strings strings (arms_from arms)) (arms_strings_are strings arms) w
+        (within_right (flat_map (strings_at_arm strings) (take i arms)) (flat_map (strings_at_arm strings) (drop i arms)) (flat_map (strings_at_arm strings) arms) (flat_parts (strings_at_arm strings) arms i) w
+        (within_same (arms_strings strings (arms_from (drop i arms))) (flat_map (strings_at_arm strings) (drop i arms)) (sym (arms_strings_are strings (drop i arms))) w held))
+
+    -- how many bytes the headers have
+    behind_rest : length (headers (drop i arms)) ≡ length (header arm) + length (headers (drop (i + 1) arms))
+    behind_rest = ap length (flat_drop header arms i arm below at) ∙ length-append (header arm) (headers (drop (i + 1) arms))
+
+    in_front : (front : List ℕ) → front ++ headers (take (i + 1) arms) ≡ (front ++ headers (take i arms)) ++ header arm
+    in_front front = ap (λ (code : List ℕ). front ++ code) (flat_take header arms i arm below at) ∙ sym (append_assoc front (headers (take i arms)) (header arm))
+
+    all_headers : length (headers arms) ≡ length (headers (take (i + 1) arms)) + length (headers (drop (i + 1) arms))
+    all_headers = ap length (flat_parts header arms (i + 1)) ∙ length-append (headers (take (i + 1) arms)) (headers (drop (i + 1) arms))
+
+    taken_headers : length (headers (take (i + 1) arms)) ≡ length (headers (take i arms)) + length (header arm)
+    taken_headers = ap length (flat_take header arms i arm below at) ∙ length-append (headers (take i arms)) (header arm)
+
+    -- there is room for the header of the arm
+    pub back_room : (behind start : ℕ) → length (headers arms) ≤ behind → start + length (headers (drop (i + 1) arms)) ≡ behind → length (header arm) ≤ start
+    back_room behind start room starts = omega (arith, all_headers, taken_headers)
+
+    pub back_overflows : (a b : List Words) (before now : List ℕ) (behind start : ℕ) → Back (i + 1) arms a before behind b now start → Overflows b (strings_at_arm strings arm) → Overflows a (arms_strings strings (arms_from arms))
+    back_overflows a b before now behind start back over =
+        overflows_later a (arms_strings strings (arms_from (drop (i + 1) arms))) b (strings_at_arm strings arm) (arms_strings strings (arms_from arms)) back.table over
+        (λ w held. all_within w (rest_within w held)) (λ w held. all_within w (arm_within w held))
+
+    pub back_grows : (a b c : List Words) (before now after : List ℕ) (behind start start' : ℕ) → Back (i + 1) arms a before behind b now start → WritesArm strings is_block b now start arm c after start' → Back i arms a before behind c after start'
+    back_grows a b c before now after behind start start' back w = record {
+      table = grows_twice (arms_strings strings (arms_from (drop i arms))) back.table w.table rest_within arm_within;
+      starts = omega (arith, behind_rest, w.starts, back.starts);
+      longer = omega (arith, w.longer, back.longer);
+      around = λ x. w.around (back.around x);
+      written = λ front rest is ends.
+          w.written (front ++ headers (take i arms)) (back.around rest)
+          (back.written front rest is ends ∙ ap (λ (code : List ℕ). code ++ bytes_at (length code) (back.around rest)) (in_front front))
+          (omega (arith, ap length (in_front front), length-append front (headers (take (i + 1) arms)), length-append front (headers arms), all_headers, back.starts));
+      is = λ later otherwise x held.
+          let e : c ++ later ≡ b ++ (w.table.more ++ later) = later_on b c w.table.more later w.table.grown in
+          let behind_it : IsArmsBlock (is_block (string_of_table (c ++ later))) otherwise (arms_from (drop (i + 1) arms)) (back.around x) =
+          subst (λ (t : List Words). IsArmsBlock (is_block (string_of_table t)) otherwise (arms_from (drop (i + 1) arms)) (back.around x)) (sym e)
+          (back.is (w.table.more ++ later) otherwise x (subst (λ (t : List Words). IsArmsBlock (is_block (string_of_table t)) otherwise NoArms x) e held)) in
+          subst (λ (xs : List (Arm Target V)). IsArmsBlock (is_block (string_of_table (c ++ later))) otherwise (arms_from xs) (w.around (back.around x))) (sym (dropped arms i arm below at))
+          (w.is later otherwise (arms_from (drop (i + 1) arms)) (back.around x) behind_it);
+    }
+
+  pub back_ends : (i : ℕ) (arms : List (Arm Target V)) (a b : List Words) (before now : List ℕ) (behind start : ℕ) → i ≤ 0 → Back i arms a before behind b now start → WritesArms strings is_block a before behind arms b now
+  back_ends i arms a b before now behind start h back =
+      let whole : Back 0 arms a before behind b now start = let none : i ≡ 0 = omega arith in subst (λ (k : ℕ). Back k arms a before behind b now start) none back in record {
+        table = whole.table;
+        around = whole.around;
+        written = λ front rest is ends. whole.written front rest is ends ∙ ap (λ (code : List ℕ). code ++ bytes_at (length code) (whole.around rest)) (append-nil front);
+        is = whole.is;
+      }

@@ -1,0 +1,274 @@
+use Rattle.std.proofs.Common.{◌≡◌, rules, refl, sym, ap, subst, ◌∙◌, ℕ, ◌+◌, ◌-◌, arith, true, List, [], ◌∷◌, ◌++◌, length, map, Some, None}
+use Rattle.std.specs.Prelude.{OnOk, IsErrOf, option_map}
+use Rattle.std.specs.Borrow.{Bor}
+use Rattle.std.specs.List.{flat_map, list_all}
+use Rattle.std.proofs.lemmas.Grind.{common_steps}
+use Rattle.std.proofs.lemmas.List.{append-nil, length-map}
+use Rattle.edd_syntax.specs.declared.cond.Cond as code
+use Rattle.edd_syntax.specs.declared.reference.Target.{Target}
+use Rattle.edd_syntax.specs.Conditional.{Cond, Arm, NoArms, ConsArm, If, Select, Case, Default, conds_from, arms_from}
+use Rattle.edd_syntax.specs.ItemView.{cond_of, conds_of, arm_of}
+use Rattle.edd_syntax.specs.SubsetRules.{values_in, values_of, values_under}
+use Rattle.edd_syntax.specs.TreeView.{expr_of}
+use Rattle.edd_syntax.specs.Words.{Words}
+use Rattle.edd_attrs.specs.declared.fault.LowerFault.TheVariants.{TooMany}
+use Rattle.edd_attrs.specs.Code.{Overflows}
+use Rattle.edd_attrs.specs.Lowered.{WritesBlock}
+use Rattle.edd_attrs.specs.TreeBlocks.{IsCondBlock, IsCondsBlock}
+use Rattle.edd_attrs.specs.Writing.{WritesArm, arms_strings, cond_strings, conds_strings, header}
+use Rattle.edd_attrs.proofs.Arms.{Back, case_written, default_written, back_starts, back_room, back_overflows, back_grows, back_ends}
+use Rattle.edd_attrs.proofs.Carried.{carried}
+use Rattle.edd_attrs.proofs.CondViews.{viewed, all_viewed, arm_viewed, arms_viewed, value_is, if_is, select_is, case_is, default_is, case_header, first_falls, arms_fall, case_falls, element_falls, arm_falls, default_falls}
+use Rattle.edd_attrs.proofs.Conditionals.{if_written, if_overflows, else_overflows, none_written, default_block, default_overflows, select_written, select_overflows}
+use Rattle.edd_attrs.proofs.Flat.{all_parts, alone, element_kept, arm_kept, default_kept, conds_strings_are}
+use Rattle.edd_attrs.proofs.Growing.{no_growth, grows_on}
+use Rattle.edd_attrs.proofs.Loops.{front_starts, front_grows, front_overflows, front_ends, block_step, viewed_at}
+use Rattle.edd_attrs.proofs.conditions.+conditions.Goals as goal
+
+-- ---- write_cond
+
+pub write_cond-write-requires : goal.write_cond-write-requires
+write_cond-write-requires g t c =
+    alone g.V.Element.is_kept (g.V.Element.view c.in-Value.v)
+    (subst (λ (x : Cond Target g.V.Element.Meant). list_all g.V.Element.is_kept (values_in x) ≡ true) (value_is g.V.Element.view c.args.c.now c.in-Value.v c.in-Value.is) c.requires)
+
+pub write_cond-returns-in-Value-clause-ok : goal.write_cond-returns-in-Value-clause-ok
+write_cond-returns-in-Value-clause-ok g t c =
+    subst (λ (x : Cond Target g.V.Element.Meant). OnOk c.write.result (WritesBlock c.args.table.now c.args.code.now.items (cond_strings g.V.Element.strings x) (λ numbered b. IsCondBlock (g.V.Element.is_block numbered) x b) c.write.new.table c.write.new.code.items))
+    (sym (value_is g.V.Element.view c.args.c.now c.in-Value.v c.in-Value.is))
+    (subst (λ (ws : List Words). OnOk c.write.result (WritesBlock c.args.table.now c.args.code.now.items ws (λ numbered b. g.V.Element.is_block numbered (g.V.Element.view c.in-Value.v) b) c.write.new.table c.write.new.code.items))
+    (sym (append-nil (g.V.Element.strings (g.V.Element.view c.in-Value.v)))) c.write.ensures.ok)
+
+pub write_cond-returns-in-Value-clause-too_many : goal.write_cond-returns-in-Value-clause-too_many
+write_cond-returns-in-Value-clause-too_many g t c =
+    subst (λ (x : Cond Target g.V.Element.Meant). IsErrOf c.write.result TooMany → Overflows c.args.table.now (cond_strings g.V.Element.strings x)) (sym (value_is g.V.Element.view c.args.c.now c.in-Value.v c.in-Value.is))
+    (subst (λ (ws : List Words). IsErrOf c.write.result TooMany → Overflows c.args.table.now ws) (sym (append-nil (g.V.Element.strings (g.V.Element.view c.in-Value.v)))) c.write.ensures.too_many)
+
+pub write_cond-write_if-requires : goal.write_cond-write_if-requires
+write_cond-write_if-requires g t c κs within =
+    let is = if_is g.V.Element.view c.args.c.now c.in-If.condition c.in-If.first c.in-If.otherwise c.deref.result.now c.deref-in-If.result.now c.in-If.is c.deref.ensures.value c.deref-in-If.ensures.value in
+    let kept = all_parts g.V.Element.is_kept (values_of (all_viewed g.V.Element.view c.deref.result.now)) (values_of (all_viewed g.V.Element.view c.deref-in-If.result.now))
+    (subst (λ (x : Cond Target g.V.Element.Meant). list_all g.V.Element.is_kept (values_in x) ≡ true) is c.requires) in
+    let h = first_falls g.V.Element.view c.args.c.now c.in-If.condition c.in-If.first c.in-If.otherwise c.deref.result.now c.deref-in-If.result.now c.in-If.is c.deref.ensures.value c.deref-in-If.ensures.value in
+    let m = c.decreases in
+    (omega (arith, h, m), (search rules, kept))
+
+pub write_cond-returns-in-If-clause-ok : goal.write_cond-returns-in-If-clause-ok
+write_cond-returns-in-If-clause-ok g t c =
+    subst (λ (x : Cond Target g.V.Element.Meant). OnOk c.write_if.result (WritesBlock c.args.table.now c.args.code.now.items (cond_strings g.V.Element.strings x) (λ numbered b. IsCondBlock (g.V.Element.is_block numbered) x b) c.write_if.new.table c.write_if.new.code.items))
+    (sym (if_is g.V.Element.view c.args.c.now c.in-If.condition c.in-If.first c.in-If.otherwise c.deref.result.now c.deref-in-If.result.now c.in-If.is c.deref.ensures.value c.deref-in-If.ensures.value)) c.write_if.ensures.ok
+
+pub write_cond-returns-in-If-clause-too_many : goal.write_cond-returns-in-If-clause-too_many
+write_cond-returns-in-If-clause-too_many g t c =
+    subst (λ (x : Cond Target g.V.Element.Meant). IsErrOf c.write_if.result TooMany → Overflows c.args.table.now (cond_strings g.V.Element.strings x))
+    (sym (if_is g.V.Element.view c.args.c.now c.in-If.condition c.in-If.first c.in-If.otherwise c.deref.result.now c.deref-in-If.result.now c.in-If.is c.deref.ensures.value c.deref-in-If.ensures.value)) c.write_if.ensures.too_many
+
+pub write_cond-write_select-requires : goal.write_cond-write_select-requires
+write_cond-write_select-requires g t c κs within =
+    let is = select_is g.V.Element.view c.args.c.now c.in-Select.on c.in-Select.arms c.deref-in-Select.result.now c.in-Select.is c.deref-in-Select.ensures.value in
+    let kept = subst (λ (x : Cond Target g.V.Element.Meant). list_all g.V.Element.is_kept (values_in x) ≡ true) is c.requires in
+    let h = arms_fall g.V.Element.view c.args.c.now c.in-Select.on c.in-Select.arms c.deref-in-Select.result.now c.in-Select.is c.deref-in-Select.ensures.value in
+    let m = c.decreases in
+    (omega (arith, h, m), (search rules, kept))
+
+pub write_cond-returns-in-Select-clause-ok : goal.write_cond-returns-in-Select-clause-ok
+write_cond-returns-in-Select-clause-ok g t c =
+    subst (λ (x : Cond Target g.V.Element.Meant). OnOk c.write_select.result (WritesBlock c.args.table.now c.args.code.now.items (cond_strings g.V.Element.strings x) (λ numbered b. IsCondBlock (g.V.Element.is_block numbered) x b) c.write_select.new.table c.write_select.new.code.items))
+    (sym (select_is g.V.Element.view c.args.c.now c.in-Select.on c.in-Select.arms c.deref-in-Select.result.now c.in-Select.is c.deref-in-Select.ensures.value)) c.write_select.ensures.ok
+
+pub write_cond-returns-in-Select-clause-too_many : goal.write_cond-returns-in-Select-clause-too_many
+write_cond-returns-in-Select-clause-too_many g t c =
+    subst (λ (x : Cond Target g.V.Element.Meant). IsErrOf c.write_select.result TooMany → Overflows c.args.table.now (cond_strings g.V.Element.strings x))
+    (sym (select_is g.V.Element.view c.args.c.now c.in-Select.on c.in-Select.arms c.deref-in-Select.result.now c.in-Select.is c.deref-in-Select.ensures.value)) c.write_select.ensures.too_many
+
+-- ---- write_if
+
+pub write_if-returns-in_err-write_conds-clause-too_many : goal.write_if-returns-in_err-write_conds-clause-too_many
+write_if-returns-in_err-write_conds-clause-too_many g t c h =
+    let over : Overflows c.args.table.now (conds_strings g.V.Element.strings (all_viewed g.V.Element.view c.args.first.now)) = grind (arith, common_steps) in
+    if_overflows g.V.Element.strings g.V.Element.is_block c.args.table.now (expr_of (λ r. r) c.args.condition.now) (all_viewed g.V.Element.view c.args.first.now) (all_viewed g.V.Element.view c.args.otherwise.now) over
+
+pub write_if-returns-in_err-write_conds-2-clause-too_many : goal.write_if-returns-in_err-write_conds-2-clause-too_many
+write_if-returns-in_err-write_conds-2-clause-too_many g t c h =
+    let over : Overflows c.write_conds.new.table (conds_strings g.V.Element.strings (all_viewed g.V.Element.view c.args.otherwise.now)) = grind (arith, common_steps) in
+    else_overflows g.V.Element.strings g.V.Element.is_block c.args.table.now c.write_conds.new.table (expr_of (λ r. r) c.args.condition.now) (all_viewed g.V.Element.view c.args.first.now) (all_viewed g.V.Element.view c.args.otherwise.now) c.in_ok-write_conds.ensures.ok.table over
+
+pub write_if-returns-clause-grows : goal.write_if-returns-clause-grows
+write_if-returns-clause-grows g t c = grows_on c.args.table.now c.write_conds.new.table c.write_conds-2.new.table c.in_ok-write_conds.ensures.grows c.in_ok-write_conds-2.ensures.grows
+
+pub write_if-returns-clause-ok : goal.write_if-returns-clause-ok
+write_if-returns-clause-ok g t c =
+    if_written g.V.Element.strings g.V.Element.is_block c.args.table.now c.write_conds.new.table c.write_conds-2.new.table c.args.code.now.items c.write_expression.new.code.items c.open_if_zero.new.code.items c.write_conds.new.code.items
+    c.open_jump.new.code.items c.close.new.code.items c.write_conds-2.new.code.items c.close-2.new.code.items (expr_of (λ r. r) c.args.condition.now) (all_viewed g.V.Element.view c.args.first.now) (all_viewed g.V.Element.view c.args.otherwise.now)
+    c.in_ok-otherwise_hole.otherwise_hole c.in_ok-end_hole.end_hole
+    c.in_ok-write_expression.ensures c.in_ok-otherwise_hole.ensures.code c.in_ok-otherwise_hole.ensures.place c.in_ok-write_conds.ensures.ok c.in_ok-end_hole.ensures.code c.in_ok-end_hole.ensures.place c.close.ensures c.in_ok-write_conds-2.ensures.ok c.close-2.ensures
+
+-- ---- write_conds
+
+pub write_conds-write_cond-requires : goal.write_conds-write_cond-requires
+write_conds-write_cond-requires g t c κs within =
+    let kept = element_kept g.V.Element.is_kept (map (viewed g.V.Element.view) c.args.all.now) c.loop-c.c-index (viewed g.V.Element.view c.c-item.result) (omega (arith, length-map c.args.all.now (viewed g.V.Element.view)))
+    (viewed_at (viewed g.V.Element.view) c.args.all.now c.loop-c.c-index c.c-item.result (omega arith) c.c-item.is) c.requires in
+    let h = element_falls g.V.Element.view c.loop-c.c-index c.args.all.now c.c-item.result (omega arith) c.c-item.is in
+    let m = c.decreases in
+    (omega (arith, h, m), (search rules, kept))
+
+pub write_conds-loop-c-init : goal.write_conds-loop-c-init
+write_conds-loop-c-init g t c = record {
+  front = front_starts (cond_strings g.V.Element.strings) (λ numbered xs b. IsCondsBlock (g.V.Element.is_block numbered) (conds_from xs) b) (map (viewed g.V.Element.view) c.args.all.now) c.args.table.now c.args.code.now.items;
+  grows = no_growth c.args.table.now;
+}
+
+pub write_conds-loop-c-preserved : goal.write_conds-loop-c-preserved
+write_conds-loop-c-preserved g t c = record {
+  front =
+      front_grows (cond_strings g.V.Element.strings) (λ numbered xs b. IsCondsBlock (g.V.Element.is_block numbered) (conds_from xs) b) c.loop-c.c-index (map (viewed g.V.Element.view) c.args.all.now) (viewed g.V.Element.view c.c-item.result)
+      c.args.table.now c.loop-c.table c.write_cond.new.table c.args.code.now.items c.loop-c.code.items c.write_cond.new.code.items (omega (arith, length-map c.args.all.now (viewed g.V.Element.view)))
+      (viewed_at (viewed g.V.Element.view) c.args.all.now c.loop-c.c-index c.c-item.result (omega arith) c.c-item.is) c.loop-c.invariant.front
+      (block_step (cond_strings g.V.Element.strings) (λ numbered xs b. IsCondsBlock (g.V.Element.is_block numbered) (conds_from xs) b) (viewed g.V.Element.view c.c-item.result) c.loop-c.table c.write_cond.new.table c.loop-c.code.items c.write_cond.new.code.items
+      (λ numbered b. IsCondBlock (g.V.Element.is_block numbered) (viewed g.V.Element.view c.c-item.result) b) c.in_ok-write_cond.ensures.ok (λ numbered rest p q one more. (p, q, refl, one, more)));
+  grows = grows_on c.args.table.now c.loop-c.table c.write_cond.new.table c.loop-c.invariant.grows c.in_ok-write_cond.ensures.grows;
+}
+
+pub write_conds-returns-in_err-write_cond-clause-grows : goal.write_conds-returns-in_err-write_cond-clause-grows
+write_conds-returns-in_err-write_cond-clause-grows g t c = grows_on c.args.table.now c.loop-c.table c.write_cond.new.table c.loop-c.invariant.grows c.in_err-write_cond.ensures.grows
+
+pub write_conds-returns-in_err-write_cond-clause-too_many : goal.write_conds-returns-in_err-write_cond-clause-too_many
+write_conds-returns-in_err-write_cond-clause-too_many g t c h =
+    let over : Overflows c.loop-c.table (cond_strings g.V.Element.strings (viewed g.V.Element.view c.c-item.result)) = grind (arith, common_steps) in
+    subst (λ (ws : List Words). Overflows c.args.table.now ws) (conds_strings_are g.V.Element.strings (map (viewed g.V.Element.view) c.args.all.now))
+    (front_overflows (cond_strings g.V.Element.strings) (λ numbered xs b. IsCondsBlock (g.V.Element.is_block numbered) (conds_from xs) b) c.loop-c.c-index (map (viewed g.V.Element.view) c.args.all.now) (viewed g.V.Element.view c.c-item.result)
+    c.args.table.now c.loop-c.table c.args.code.now.items c.loop-c.code.items (omega (arith, length-map c.args.all.now (viewed g.V.Element.view)))
+    (viewed_at (viewed g.V.Element.view) c.args.all.now c.loop-c.c-index c.c-item.result (omega arith) c.c-item.is) c.loop-c.invariant.front over)
+
+pub write_conds-returns-clause-ok : goal.write_conds-returns-clause-ok
+write_conds-returns-clause-ok g t c =
+    subst (λ (ws : List Words). WritesBlock c.args.table.now c.args.code.now.items ws (λ numbered b. IsCondsBlock (g.V.Element.is_block numbered) (all_viewed g.V.Element.view c.args.all.now) b) c.loop-c.table c.loop-c.code.items)
+    (conds_strings_are g.V.Element.strings (map (viewed g.V.Element.view) c.args.all.now))
+    (front_ends (cond_strings g.V.Element.strings) (λ numbered xs b. IsCondsBlock (g.V.Element.is_block numbered) (conds_from xs) b) c.loop-c.c-index (map (viewed g.V.Element.view) c.args.all.now) c.args.table.now c.loop-c.table c.args.code.now.items c.loop-c.code.items
+    (omega (arith, length-map c.args.all.now (viewed g.V.Element.view))) c.loop-c.invariant.front (λ numbered. refl))
+
+-- ---- write_select
+
+pub write_select-returns-clause-ok : goal.write_select-returns-clause-ok
+write_select-returns-clause-ok g t c =
+    carried c.write_bodies.result
+    (select_written g.V.Element.strings g.V.Element.is_block c.args.table.now c.write_default.new.table c.write_bodies.new.table c.args.code.now.items c.write_expression.new.code.items c.open_cases.new.code.items c.put_pop.new.code.items c.write_default.new.code.items
+    c.write_bodies.new.code.items (expr_of (λ r. r) c.args.on.now) (map (arm_viewed g.V.Element.view) c.args.arms.now) c.len-behind.result
+    c.in_ok-write_expression.ensures c.in_ok-open_cases.ensures (omega arith) c.in_ok-put_pop.ensures c.in_ok-write_default.ensures.ok) c.write_bodies.ensures.ok
+
+pub write_select-returns-clause-too_many : goal.write_select-returns-clause-too_many
+write_select-returns-clause-too_many g t c h =
+    select_overflows g.V.Element.strings g.V.Element.is_block c.args.table.now c.write_default.new.table c.put_pop.new.code.items c.write_default.new.code.items (arms_viewed g.V.Element.view c.args.arms.now) c.in_ok-write_default.ensures.ok
+    (c.write_bodies.ensures.too_many h)
+
+-- ---- write_default
+
+pub write_default-returns-in-None-clause-ok : goal.write_default-returns-in-None-clause-ok
+write_default-returns-in-None-clause-ok g t c =
+    none_written g.V.Element.strings g.V.Element.is_block c.args.table.now c.args.code.now.items (arms_viewed g.V.Element.view c.args.arms.now)
+    (sym c.default_among.ensures ∙ ap (option_map (λ (body : Bor (List (code.Cond Target g.row.V.Denot))). all_viewed g.V.Element.view body.now)) c.in-None.is)
+
+pub write_default-write_conds-requires : goal.write_default-write_conds-requires
+write_default-write_conds-requires g t c κs within =
+    let is = sym c.default_among.ensures ∙ ap (option_map (λ (body : Bor (List (code.Cond Target g.row.V.Denot))). all_viewed g.V.Element.view body.now)) c.in-Some.is in
+    let kept = default_kept g.V.Element.is_kept (arms_viewed g.V.Element.view c.args.arms.now) (all_viewed g.V.Element.view c.in-Some.body.now) is c.requires in
+    let h = default_falls (arms_viewed g.V.Element.view c.args.arms.now) (all_viewed g.V.Element.view c.in-Some.body.now) is in
+    let m = c.decreases in
+    (omega (arith, h, m), (search rules, kept))
+
+pub write_default-returns-in-Some-clause-ok : goal.write_default-returns-in-Some-clause-ok
+write_default-returns-in-Some-clause-ok g t c =
+    carried c.write_conds.result
+    (default_block g.V.Element.strings g.V.Element.is_block c.args.table.now c.write_conds.new.table c.args.code.now.items c.write_conds.new.code.items (arms_viewed g.V.Element.view c.args.arms.now) (all_viewed g.V.Element.view c.in-Some.body.now)
+    (sym c.default_among.ensures ∙ ap (option_map (λ (body : Bor (List (code.Cond Target g.row.V.Denot))). all_viewed g.V.Element.view body.now)) c.in-Some.is)) c.write_conds.ensures.ok
+
+pub write_default-returns-in-Some-clause-too_many : goal.write_default-returns-in-Some-clause-too_many
+write_default-returns-in-Some-clause-too_many g t c h =
+    default_overflows g.V.Element.strings g.V.Element.is_block c.args.table.now (arms_viewed g.V.Element.view c.args.arms.now) (all_viewed g.V.Element.view c.in-Some.body.now)
+    (sym c.default_among.ensures ∙ ap (option_map (λ (body : Bor (List (code.Cond Target g.row.V.Denot))). all_viewed g.V.Element.view body.now)) c.in-Some.is) (c.write_conds.ensures.too_many h)
+
+-- ---- write_bodies
+
+pub write_bodies-loop-left-init : goal.write_bodies-loop-left-init
+write_bodies-loop-left-init g t c = record {
+  back = back_starts g.V.Element.strings g.V.Element.is_block (length c.args.arms.now) (map (arm_viewed g.V.Element.view) c.args.arms.now) c.args.table.now c.args.code.now.items c.args.behind (omega (arith, length-map c.args.arms.now (arm_viewed g.V.Element.view)));
+  within = omega arith;
+  grows = no_growth c.args.table.now;
+}
+
+pub write_bodies-write_arm-requires : goal.write_bodies-write_arm-requires
+write_bodies-write_arm-requires g t c κs within =
+    let e : c.loop-left.left ≡ c.loop-left.left - 1 + 1 = omega arith in
+    let back = subst (λ (k : ℕ). Back g.V.Element.strings g.V.Element.is_block k (map (arm_viewed g.V.Element.view) c.args.arms.now) c.args.table.now c.args.code.now.items c.args.behind c.loop-left.table c.loop-left.code.items c.loop-left.start) e c.loop-left.invariant.back in
+    let kept = arm_kept g.V.Element.is_kept (map (arm_viewed g.V.Element.view) c.args.arms.now) (c.loop-left.left - 1) (arm_viewed g.V.Element.view c.index-arms-left.result) (omega (arith, length-map c.args.arms.now (arm_viewed g.V.Element.view)))
+    (viewed_at (arm_viewed g.V.Element.view) c.args.arms.now (c.loop-left.left - 1) c.index-arms-left.result (omega arith) c.index-arms-left.is) c.requires.kept in
+    let room = back_room g.V.Element.strings g.V.Element.is_block (c.loop-left.left - 1) (map (arm_viewed g.V.Element.view) c.args.arms.now) (arm_viewed g.V.Element.view c.index-arms-left.result) (omega (arith, length-map c.args.arms.now (arm_viewed g.V.Element.view)))
+    (viewed_at (arm_viewed g.V.Element.view) c.args.arms.now (c.loop-left.left - 1) c.index-arms-left.result (omega arith) c.index-arms-left.is) c.args.behind c.loop-left.start c.requires.room
+    back.starts in
+    let h = arm_falls g.V.Element.view (c.loop-left.left - 1) c.args.arms.now c.index-arms-left.result (omega arith) c.index-arms-left.is in
+    let m = c.decreases in
+    (omega (arith, h, m), (search rules, (kept, (room, omega (arith, c.loop-left.invariant.back.starts, c.loop-left.invariant.back.longer, c.requires.inside)))))
+
+pub write_bodies-returns-in_err-start-clause-too_many : goal.write_bodies-returns-in_err-start-clause-too_many
+write_bodies-returns-in_err-start-clause-too_many g t c h =
+    let e : c.loop-left.left ≡ c.loop-left.left - 1 + 1 = omega arith in
+    let back = subst (λ (k : ℕ). Back g.V.Element.strings g.V.Element.is_block k (map (arm_viewed g.V.Element.view) c.args.arms.now) c.args.table.now c.args.code.now.items c.args.behind c.loop-left.table c.loop-left.code.items c.loop-left.start) e c.loop-left.invariant.back in
+    let over : Overflows c.loop-left.table (arms_strings g.V.Element.strings (ConsArm (arm_viewed g.V.Element.view c.index-arms-left.result) NoArms)) = grind (arith, common_steps) in
+    back_overflows g.V.Element.strings g.V.Element.is_block (c.loop-left.left - 1) (map (arm_viewed g.V.Element.view) c.args.arms.now) (arm_viewed g.V.Element.view c.index-arms-left.result) (omega (arith, length-map c.args.arms.now (arm_viewed g.V.Element.view)))
+    (viewed_at (arm_viewed g.V.Element.view) c.args.arms.now (c.loop-left.left - 1) c.index-arms-left.result (omega arith) c.index-arms-left.is)
+    c.args.table.now c.loop-left.table c.args.code.now.items c.loop-left.code.items c.args.behind c.loop-left.start
+    back over
+
+pub write_bodies-loop-left-preserved : goal.write_bodies-loop-left-preserved
+write_bodies-loop-left-preserved g t c =
+    let e : c.loop-left.left ≡ c.loop-left.left - 1 + 1 = omega arith in
+    let back = subst (λ (k : ℕ). Back g.V.Element.strings g.V.Element.is_block k (map (arm_viewed g.V.Element.view) c.args.arms.now) c.args.table.now c.args.code.now.items c.args.behind c.loop-left.table c.loop-left.code.items c.loop-left.start) e c.loop-left.invariant.back in
+    record {
+      back = back_grows g.V.Element.strings g.V.Element.is_block (c.loop-left.left - 1) (map (arm_viewed g.V.Element.view) c.args.arms.now) (arm_viewed g.V.Element.view c.index-arms-left.result) (omega (arith, length-map c.args.arms.now (arm_viewed g.V.Element.view)))
+          (viewed_at (arm_viewed g.V.Element.view) c.args.arms.now (c.loop-left.left - 1) c.index-arms-left.result (omega arith) c.index-arms-left.is)
+          c.args.table.now c.loop-left.table c.write_arm.new.table c.args.code.now.items c.loop-left.code.items c.write_arm.new.code.items c.args.behind c.loop-left.start c.in_ok-start.start
+          back c.in_ok-start.ensures.ok;
+      within = omega arith;
+      grows = grows_on c.args.table.now c.loop-left.table c.write_arm.new.table c.loop-left.invariant.grows c.in_ok-start.ensures.grows;
+    }
+
+pub write_bodies-returns-clause-ok : goal.write_bodies-returns-clause-ok
+write_bodies-returns-clause-ok g t c =
+    back_ends g.V.Element.strings g.V.Element.is_block c.loop-left.left (map (arm_viewed g.V.Element.view) c.args.arms.now) c.args.table.now c.loop-left.table c.args.code.now.items c.loop-left.code.items c.args.behind c.loop-left.start (omega arith) c.loop-left.invariant.back
+
+-- ---- write_arm
+
+pub write_arm-overflow_sub-start : goal.write_arm-overflow_sub-start
+write_arm-overflow_sub-start g t c = omega (arith, ap length (case_header g.V.Element.view c.args.arm.now c.in-Case.label c.in-Case.body c.in-Case.is), c.requires.room)
+
+pub write_arm-write_body-requires : goal.write_arm-write_body-requires
+write_arm-write_body-requires g t c κs within =
+    let is = case_is g.V.Element.view c.args.arm.now c.in-Case.label c.in-Case.body c.deref.result.now c.in-Case.is c.deref.ensures.value in
+    let kept = all_parts g.V.Element.is_kept (values_of (all_viewed g.V.Element.view c.deref.result.now)) []
+    (subst (λ (arm : Arm Target g.V.Element.Meant). list_all g.V.Element.is_kept (values_under (ConsArm arm NoArms)) ≡ true) is c.requires.kept) in
+    let h = case_falls g.V.Element.view c.args.arm.now c.in-Case.label c.in-Case.body c.deref.result.now c.in-Case.is c.deref.ensures.value in
+    let m = c.decreases in
+    let long = ap length (case_header g.V.Element.view c.args.arm.now c.in-Case.label c.in-Case.body c.in-Case.is) in
+    (omega (arith, h, m), (search rules, (kept.0, omega (arith, long, c.requires.room, c.requires.inside))))
+
+pub write_arm-returns-in_err-write_body-in-Case-clause-too_many : goal.write_arm-returns-in_err-write_body-in-Case-clause-too_many
+write_arm-returns-in_err-write_body-in-Case-clause-too_many g t c h =
+    let over : Overflows c.args.table.now (conds_strings g.V.Element.strings (all_viewed g.V.Element.view c.deref.result.now)) = grind (arith, common_steps) in
+    subst (λ (arm : Arm Target g.V.Element.Meant). Overflows c.args.table.now (arms_strings g.V.Element.strings (ConsArm arm NoArms)))
+    (sym (case_is g.V.Element.view c.args.arm.now c.in-Case.label c.in-Case.body c.deref.result.now c.in-Case.is c.deref.ensures.value))
+    (subst (λ (vs : List g.V.Element.Meant). Overflows c.args.table.now (flat_map g.V.Element.strings vs)) (sym (append-nil (values_of (all_viewed g.V.Element.view c.deref.result.now)))) over)
+
+pub write_arm-returns-in_ok-write_body-in-Case-clause-ok : goal.write_arm-returns-in_ok-write_body-in-Case-clause-ok
+write_arm-returns-in_ok-write_body-in-Case-clause-ok g t c =
+    let long = ap length (case_header g.V.Element.view c.args.arm.now c.in-Case.label c.in-Case.body c.in-Case.is) in
+    subst (λ (arm : Arm Target g.V.Element.Meant). WritesArm g.V.Element.strings g.V.Element.is_block c.args.table.now c.args.code.now.items c.args.behind arm c.write_body.new.table c.write_body.new.code.items (c.args.behind - 13))
+    (sym (case_is g.V.Element.view c.args.arm.now c.in-Case.label c.in-Case.body c.deref.result.now c.in-Case.is c.deref.ensures.value))
+    (case_written g.V.Element.strings g.V.Element.is_block c.args.table.now c.write_body.new.table c.args.code.now.items c.write_body.new.code.items c.args.behind (c.args.behind - 13) (c.args.behind - 13 + 9) c.in-Case.label (all_viewed g.V.Element.view c.deref.result.now)
+    (omega (arith, long, c.requires.room)) c.requires.inside refl c.in_ok-write_body-in-Case.ensures.ok)
+
+pub write_arm-returns-in-Default-clause-ok : goal.write_arm-returns-in-Default-clause-ok
+write_arm-returns-in-Default-clause-ok g t c =
+    subst (λ (arm : Arm Target g.V.Element.Meant). WritesArm g.V.Element.strings g.V.Element.is_block c.args.table.now c.args.code.now.items c.args.behind arm c.args.table.now c.args.code.now.items c.args.behind)
+    (sym (default_is g.V.Element.view c.args.arm.now c.in-Default.line c.in-Default.body c.in-Default.body.items c.in-Default.is refl))
+    (default_written g.V.Element.strings g.V.Element.is_block c.args.table.now c.args.code.now.items c.args.behind (all_viewed g.V.Element.view c.in-Default.body.items))

@@ -1,0 +1,259 @@
+//! The code of conditionals. A jump is written with an open target, which is closed when the place behind is known.
+
+ghost use Rattle.std.specs.Prelude.{◌≡◌, ◌+◌, ◌≤◌, ◌++◌, IfOk, IsErrOf, IsTrue, OnOk, length, map, option_map};
+ghost use Rattle.std.specs.List.{list_all};
+ghost use Rattle.edd_syntax.specs.Conditional.{If, Select, NoArms, ConsArm, conds_from, arms_from};
+ghost use Rattle.edd_syntax.specs.ItemView.{cond_of, conds_of, arm_of};
+ghost use Rattle.edd_syntax.specs.SubsetRules.{values_in, values_of, values_under};
+ghost use Rattle.edd_syntax.specs.TreeView.{expr_of};
+ghost use Rattle.edd_attrs.specs.Code.{Grows, Overflows};
+ghost use Rattle.edd_attrs.specs.Lowered.{WritesBlock};
+ghost use Rattle.edd_attrs.specs.TreeBlocks.{IsCondBlock, IsCondsBlock, IsDefaultBlock};
+ghost use Rattle.edd_attrs.specs.Writing.{WritesArm, WritesArms, WritesBody, arms_strings, cond_strings, conds_strings, default_of, header, headers};
+
+use crate::elements::Element;
+use crate::fault::LowerFault;
+use edd_expressions::{close, open_case, open_if_zero, open_jump, put_pop, write_expression};
+use edd_strings::Table;
+use edd_syntax::cond::{Arm, Cond};
+use edd_syntax::expr::Expr;
+use edd_syntax::reference::Target;
+use std::alloc::{AllocError, Global};
+
+/// The code of a conditional.
+#[cycle(conditions)]
+pub fn write_cond<V: Element>(
+    alloc: Global,
+    code: &mut Vec<u8>,
+    table: &mut Table,
+    c: &Cond<Target, V>,
+) -> Result<(), LowerFault>
+    requires { IsTrue (list_all V.is_kept (values_in (cond_of (λ r. r) V.view c.now))) }
+    ensures ok { OnOk result (WritesBlock table.old code.old.items (cond_strings V.strings (cond_of (λ r. r) V.view c.now))
+        (λ numbered b. IsCondBlock (V.is_block numbered) (cond_of (λ r. r) V.view c.now) b) table.new code.new.items) }
+    ensures grows { Grows table.old table.new }
+    ensures too_many { IsErrOf result LowerFault.TooMany → Overflows table.old (cond_strings V.strings (cond_of (λ r. r) V.view c.now)) }
+{
+    match c {
+        Cond::Value(v) => v.write(alloc, code, table),
+        Cond::If {
+            condition,
+            first,
+            otherwise,
+        } => write_if(alloc, code, table, condition, first, otherwise),
+        Cond::Select { on, arms } => write_select(alloc, code, table, on, arms),
+    }
+}
+
+#[cycle(conditions)]
+fn write_if<V: Element>(
+    alloc: Global,
+    code: &mut Vec<u8>,
+    table: &mut Table,
+    condition: &Expr<Target>,
+    first: &[Cond<Target, V>],
+    otherwise: &[Cond<Target, V>],
+) -> Result<(), LowerFault>
+    requires first { IsTrue (list_all V.is_kept (values_of (conds_of (λ r. r) V.view first.now))) }
+    requires otherwise { IsTrue (list_all V.is_kept (values_of (conds_of (λ r. r) V.view otherwise.now))) }
+    ensures ok { OnOk result (WritesBlock table.old code.old.items
+        (cond_strings V.strings (If (expr_of (λ r. r) condition.now) (conds_of (λ r. r) V.view first.now) (conds_of (λ r. r) V.view otherwise.now)))
+        (λ numbered b. IsCondBlock (V.is_block numbered) (If (expr_of (λ r. r) condition.now) (conds_of (λ r. r) V.view first.now) (conds_of (λ r. r) V.view otherwise.now)) b)
+        table.new code.new.items) }
+    ensures grows { Grows table.old table.new }
+    ensures too_many { IsErrOf result LowerFault.TooMany → Overflows table.old
+        (cond_strings V.strings (If (expr_of (λ r. r) condition.now) (conds_of (λ r. r) V.view first.now) (conds_of (λ r. r) V.view otherwise.now))) }
+{
+    write_expression(code, condition)?;
+    let otherwise_hole = open_if_zero(code)?;
+    write_conds(alloc, code, table, first)?;
+    let end_hole = open_jump(code)?;
+    close(code, otherwise_hole);
+    write_conds(alloc, code, table, otherwise)?;
+    close(code, end_hole);
+    Ok(())
+}
+
+/// The code of conditionals, one behind the other.
+#[cycle(conditions)]
+pub fn write_conds<V: Element>(
+    alloc: Global,
+    code: &mut Vec<u8>,
+    table: &mut Table,
+    all: &[Cond<Target, V>],
+) -> Result<(), LowerFault>
+    requires { IsTrue (list_all V.is_kept (values_of (conds_of (λ r. r) V.view all.now))) }
+    ensures ok { OnOk result (WritesBlock table.old code.old.items (conds_strings V.strings (conds_of (λ r. r) V.view all.now))
+        (λ numbered b. IsCondsBlock (V.is_block numbered) (conds_of (λ r. r) V.view all.now) b) table.new code.new.items) }
+    ensures grows { Grows table.old table.new }
+    ensures too_many { IsErrOf result LowerFault.TooMany → Overflows table.old (conds_strings V.strings (conds_of (λ r. r) V.view all.now)) }
+{
+    for c in all {
+        write_cond(alloc, code, table, c)?;
+    }
+    Ok(())
+}
+
+// Each CASE in turn with an open target, what DEFAULT gives, and then the bodies, from the last to the first.
+#[cycle(conditions)]
+fn write_select<V: Element>(
+    alloc: Global,
+    code: &mut Vec<u8>,
+    table: &mut Table,
+    on: &Expr<Target>,
+    arms: &[Arm<Target, V>],
+) -> Result<(), LowerFault>
+    requires { IsTrue (list_all V.is_kept (values_under (arms_from (map (arm_of (λ r. r) V.view) arms.now)))) }
+    ensures ok { OnOk result (WritesBlock table.old code.old.items (arms_strings V.strings (arms_from (map (arm_of (λ r. r) V.view) arms.now)))
+        (λ numbered b. IsCondBlock (V.is_block numbered) (Select (expr_of (λ r. r) on.now) (arms_from (map (arm_of (λ r. r) V.view) arms.now))) b)
+        table.new code.new.items) }
+    ensures grows { Grows table.old table.new }
+    ensures too_many { IsErrOf result LowerFault.TooMany
+        → Overflows table.old (arms_strings V.strings (arms_from (map (arm_of (λ r. r) V.view) arms.now))) }
+{
+    write_expression(code, on)?;
+    open_cases(code, arms)?;
+    let behind = code.len();
+    put_pop(code)?;
+    write_default(alloc, code, table, arms)?;
+    write_bodies(alloc, code, table, behind, arms)
+}
+
+fn open_arm<V: Element>(code: &mut Vec<u8>, arm: &Arm<Target, V>) -> Result<(), AllocError>
+    ensures { OnOk result (code.new.items ≡ code.old.items ++ header (arm_of (λ r. r) V.view arm.now)) }
+{
+    if let Arm::Case { label, .. } = arm {
+        open_case(code, *label)?;
+    }
+    Ok(())
+}
+
+fn open_cases<V: Element>(code: &mut Vec<u8>, arms: &[Arm<Target, V>]) -> Result<(), AllocError>
+    ensures { OnOk result (code.new.items ≡ code.old.items ++ headers (map (arm_of (λ r. r) V.view) arms.now)) }
+{
+    for arm in arms {
+        open_arm(code, arm)?;
+    }
+    Ok(())
+}
+
+// The body of an arm that is a DEFAULT.
+fn default_in<'a, V: Element>(arm: &'a Arm<Target, V>) -> Option<&'a [Cond<Target, V>]>
+    ensures { option_map (λ body. conds_of (λ r. r) V.view body.now) result ≡ default_of (ConsArm (arm_of (λ r. r) V.view arm.now) NoArms) }
+{
+    match arm {
+        Arm::Case { .. } => None,
+        Arm::Default { body, .. } => Some(body),
+    }
+}
+
+// The body of the first DEFAULT.
+fn default_among<'a, V: Element>(arms: &'a [Arm<Target, V>]) -> Option<&'a [Cond<Target, V>]>
+    ensures { option_map (λ body. conds_of (λ r. r) V.view body.now) result ≡ default_of (arms_from (map (arm_of (λ r. r) V.view) arms.now)) }
+{
+    for arm in arms {
+        if let Some(body) = default_in(arm) {
+            return Some(body);
+        }
+    }
+    None
+}
+
+// What the first DEFAULT gives, wherever it stands.
+#[cycle(conditions)]
+fn write_default<V: Element>(
+    alloc: Global,
+    code: &mut Vec<u8>,
+    table: &mut Table,
+    arms: &[Arm<Target, V>],
+) -> Result<(), LowerFault>
+    requires { IsTrue (list_all V.is_kept (values_under (arms_from (map (arm_of (λ r. r) V.view) arms.now)))) }
+    ensures ok { OnOk result (WritesBlock table.old code.old.items (arms_strings V.strings (arms_from (map (arm_of (λ r. r) V.view) arms.now)))
+        (λ numbered b. IsDefaultBlock (V.is_block numbered) (arms_from (map (arm_of (λ r. r) V.view) arms.now)) b) table.new code.new.items) }
+    ensures grows { Grows table.old table.new }
+    ensures too_many { IsErrOf result LowerFault.TooMany
+        → Overflows table.old (arms_strings V.strings (arms_from (map (arm_of (λ r. r) V.view) arms.now))) }
+{
+    match default_among(arms) {
+        None => Ok(()),
+        Some(body) => write_conds(alloc, code, table, body),
+    }
+}
+
+// The bodies of all arms, whose CASEs end at `behind`.
+#[cycle(conditions)]
+fn write_bodies<V: Element>(
+    alloc: Global,
+    code: &mut Vec<u8>,
+    table: &mut Table,
+    behind: usize,
+    arms: &[Arm<Target, V>],
+) -> Result<(), LowerFault>
+    requires kept { IsTrue (list_all V.is_kept (values_under (arms_from (map (arm_of (λ r. r) V.view) arms.now)))) }
+    requires room { length (headers (map (arm_of (λ r. r) V.view) arms.now)) ≤ behind }
+    requires inside { behind ≤ length code.old.items }
+    ensures ok { OnOk result
+        (WritesArms V.strings V.is_block table.old code.old.items behind (map (arm_of (λ r. r) V.view) arms.now) table.new code.new.items) }
+    ensures grows { Grows table.old table.new }
+    ensures too_many { IsErrOf result LowerFault.TooMany
+        → Overflows table.old (arms_strings V.strings (arms_from (map (arm_of (λ r. r) V.view) arms.now))) }
+{
+    let mut start = behind;
+    let mut left = arms.len();
+    while left > 0 {
+        left -= 1;
+        start = write_arm(alloc, code, table, start, &arms[left])?;
+    }
+    Ok(())
+}
+
+// The body of an arm, whose CASE ends at `behind`; gives where it begins.
+#[cycle(conditions)]
+fn write_arm<V: Element>(
+    alloc: Global,
+    code: &mut Vec<u8>,
+    table: &mut Table,
+    behind: usize,
+    arm: &Arm<Target, V>,
+) -> Result<usize, LowerFault>
+    requires kept { IsTrue (list_all V.is_kept (values_under (ConsArm (arm_of (λ r. r) V.view arm.now) NoArms))) }
+    requires room { length (header (arm_of (λ r. r) V.view arm.now)) ≤ behind }
+    requires inside { behind ≤ length code.old.items }
+    ensures ok { IfOk result
+        (λ start. WritesArm V.strings V.is_block table.old code.old.items behind (arm_of (λ r. r) V.view arm.now) table.new code.new.items start) }
+    ensures grows { Grows table.old table.new }
+    ensures too_many { IsErrOf result LowerFault.TooMany
+        → Overflows table.old (arms_strings V.strings (ConsArm (arm_of (λ r. r) V.view arm.now) NoArms)) }
+{
+    match arm {
+        Arm::Case { body, .. } => {
+            let start = behind - 13;
+            write_body(alloc, code, table, start + 9, body)?;
+            Ok(start)
+        }
+        Arm::Default { .. } => Ok(behind),
+    }
+}
+
+// A jump over the body, which is the target of its CASE.
+#[cycle(conditions)]
+fn write_body<V: Element>(
+    alloc: Global,
+    code: &mut Vec<u8>,
+    table: &mut Table,
+    case_hole: usize,
+    body: &[Cond<Target, V>],
+) -> Result<(), LowerFault>
+    requires kept { IsTrue (list_all V.is_kept (values_of (conds_of (λ r. r) V.view body.now))) }
+    requires inside { case_hole + 4 ≤ length code.old.items }
+    ensures ok { OnOk result (WritesBody table.old code.old.items case_hole (conds_strings V.strings (conds_of (λ r. r) V.view body.now))
+        (λ numbered b. IsCondsBlock (V.is_block numbered) (conds_of (λ r. r) V.view body.now) b) table.new code.new.items) }
+    ensures grows { Grows table.old table.new }
+    ensures too_many { IsErrOf result LowerFault.TooMany → Overflows table.old (conds_strings V.strings (conds_of (λ r. r) V.view body.now)) }
+{
+    let jump_hole = open_jump(code)?;
+    close(code, case_hole);
+    write_conds(alloc, code, table, body)?;
+    close(code, jump_hole);
+    Ok(())
+}
