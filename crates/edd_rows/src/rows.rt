@@ -63,12 +63,7 @@ fn number(word: &str) -> usize {
 }
 
 // Makes the file longer: by a text, by a piece so many times, or by blanks up to a length.
-fn lengthen(
-    alloc: Global,
-    bytes: &mut Vec<u8>,
-    kind: &str,
-    words: &str,
-) -> Result<(), AllocError> {
+fn lengthen(alloc: Global, bytes: &mut Vec<u8>, kind: &str, words: &str) -> Result<(), AllocError> {
     let (count, piece) = words.split_once(' ').unwrap_or((words, ""));
     match kind {
         "times" => push_times(bytes, number(count), piece),
