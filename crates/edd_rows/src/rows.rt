@@ -1,4 +1,4 @@
-//! A row of the table: a command line, files, the status, the lines that are printed and the image that is written.
+//! A row of the table: a command line, a name, files, the status, the lines that are printed and the image that is written.
 
 use std::alloc::{AllocError, Global};
 
@@ -12,6 +12,7 @@ pub struct Given<'a> {
 #[derive(Drop)]
 pub struct Row<'a> {
     pub words: &'a str,
+    pub name: &'a str,
     pub files: Vec<Given<'a>>,
     pub status: &'a str,
     pub lines: &'a str,
@@ -42,17 +43,31 @@ fn push_times(bytes: &mut Vec<u8>, count: usize, piece: &str) -> Result<(), Allo
     Ok(())
 }
 
+// `count` times the piece, each time with the number of the time in place of a `#`.
+fn push_numbered(
+    alloc: Global,
+    bytes: &mut Vec<u8>,
+    count: usize,
+    piece: &str,
+) -> Result<(), AllocError> {
+    let (before, behind) = piece.split_once('#').unwrap_or((piece, ""));
+    for number in 0..count {
+        let text = format!(in alloc; "{before}{number}{behind}")?;
+        bytes.extend_from_slice(text.as_bytes())?;
+    }
+    Ok(())
+}
+
 fn number(word: &str) -> usize {
     word.parse::<usize>().unwrap_or(0)
 }
 
 // Makes the file longer: by a text, by a piece so many times, or by blanks up to a length.
-fn lengthen(bytes: &mut Vec<u8>, kind: &str, words: &str) -> Result<(), AllocError> {
+fn lengthen(alloc: Global, bytes: &mut Vec<u8>, kind: &str, words: &str) -> Result<(), AllocError> {
+    let (count, piece) = words.split_once(' ').unwrap_or((words, ""));
     match kind {
-        "times" => {
-            let (count, piece) = words.split_once(' ').unwrap_or((words, ""));
-            push_times(bytes, number(count), piece)
-        }
+        "times" => push_times(bytes, number(count), piece),
+        "numbered" => push_numbered(alloc, bytes, number(count), piece),
         "fill" => {
             let missing = number(words).saturating_sub(bytes.len());
             push_times(bytes, missing, " ")
@@ -65,6 +80,7 @@ impl<'a> Row<'a> {
     fn new(alloc: Global, words: &'a str) -> Row<'a> {
         Row {
             words,
+            name: "",
             files: Vec::new(alloc),
             status: "",
             lines: "",
@@ -77,6 +93,7 @@ impl<'a> Row<'a> {
         let (head, below) = part.split_once('\n').unwrap_or((part, ""));
         let (kind, name) = head.split_once(' ').unwrap_or((head, ""));
         match kind {
+            "name" => self.name = name,
             "file" => {
                 let bytes = from_text(alloc, below)?;
                 self.files.push(Given { name, bytes })?;
@@ -86,9 +103,9 @@ impl<'a> Row<'a> {
                 self.files.push(Given { name, bytes })?;
             }
             "image" => self.image = Some(from_hex(alloc, below)?),
-            "more" | "times" | "fill" => {
+            "more" | "times" | "numbered" | "fill" => {
                 if let Some(file) = self.files.last_mut() {
-                    lengthen(&mut file.bytes, kind, name)?;
+                    lengthen(alloc, &mut file.bytes, kind, name)?;
                 }
             }
             _ => {
@@ -99,8 +116,8 @@ impl<'a> Row<'a> {
         Ok(())
     }
 
-    /// Reads a row: the words, a part `@file NAME` or `@hex NAME` for each file, which `@more TEXT`, `@times COUNT TEXT` and
-    /// `@fill LENGTH` make longer, `@status N` with the printed lines, and perhaps `@image`.
+    /// Reads a row: the words, `@name NAME`, a part `@file NAME` or `@hex NAME` for each file, which `@more TEXT`, `@times COUNT TEXT`,
+    /// `@numbered COUNT TEXT` and `@fill LENGTH` make longer, `@status N` with the printed lines, and perhaps `@image`.
     pub fn parse(alloc: Global, text: &'a str) -> Result<Row<'a>, AllocError> {
         let (words, rest) = text.split_once('\n').unwrap_or((text, ""));
         let mut row = Row::new(alloc, words);
