@@ -16,7 +16,7 @@ use Rattle.edd_syntax.specs.Resolution.{member_kinds}
 use Rattle.edd_syntax.specs.ResolvedTrees.{each, unchanged, resolved_expr, resolved_cond, resolved_conds, resolved_body, at_attribute, resolved_data, resolved_entry, resolved_member, resolved_type_part, resolved_transaction_part, resolved_attribute, resolved_item, resolved_unit}
 use Rattle.edd_syntax.specs.Resolved.{IsResolved, IsChecked}
 use Rattle.edd_syntax.proofs.WithinLimits.{each_keeps}
-use Rattle.edd_attrs.proofs.BlockGood.{bind_some}
+use Rattle.edd_attrs.proofs.GoodTrees.{bind_some}
 use Rattle.edd_attrs.proofs.Made.{stays, made}
 
 -- ---- lists

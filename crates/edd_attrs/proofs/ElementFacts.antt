@@ -31,8 +31,8 @@ use Rattle.edd_attrs.specs.Sizes.{element_texts, element_nodes}
 use Rattle.edd_attrs.specs.TreeBlocks.{elements}
 use Rattle.edd_attrs.proofs.RecordOperands.{both_of}
 use Rattle.edd_attrs.proofs.Existing.{is_item_of}
-use Rattle.edd_attrs.proofs.BlockGood.{is_low, good_cond, good_enumerator, good_element, good_response, good_data, good_entry, good_member, is_small}
-use Rattle.edd_attrs.proofs.BlockChecked.{no_breach, none_broken, ruled_element}
+use Rattle.edd_attrs.proofs.GoodTrees.{is_low, good_cond, good_enumerator, good_element, good_response, good_data, good_entry, good_member, is_small}
+use Rattle.edd_attrs.proofs.CheckedTrees.{no_breach, none_broken, ruled_element}
 
 both_true : {a b : Bool} → a ≡ true → b ≡ true → (a && b) ≡ true
 both_true p q = rw (p, q) refl

@@ -13,7 +13,7 @@ use Rattle.edd_expressions.specs.Blocks.{Block}
 use Rattle.edd_attrs.specs.Records.{strings_of_record, strings_of}
 use Rattle.edd_attrs.specs.TreeBlocks.{IsCondBlock, IsCondsBlock, IsArmsBlock, IsDefaultBlock, IsLineBlock, IsRecordBlock, Giving}
 use Rattle.edd_attrs.proofs.RecordStrings.{record_held, both_held}
-use Rattle.edd_attrs.proofs.BlockChecked.{front_none}
+use Rattle.edd_attrs.proofs.CheckedTrees.{front_none}
 
 -- an empty list holds nothing
 pub none_in : {A : Type 0} (strings : List Words) (v : Words) → Contains [] v → A

@@ -31,7 +31,7 @@ use Rattle.edd_attrs.specs.Records.{kept_data}
 use Rattle.edd_attrs.proofs.InTrees.{if_there, all_append, named, throughout, throughout_item, tree_has}
 use Rattle.edd_image.specs.declared.parts.Counts.{Counts}
 use Rattle.edd_expressions.specs.Reads.{reads_existing}
-use Rattle.edd_attrs.proofs.BlockGood.{bind_some, each_all, is_good, item_good}
+use Rattle.edd_attrs.proofs.GoodTrees.{bind_some, each_all, is_good, item_good}
 use Rattle.edd_attrs.proofs.Existing.{is_item_of}
 use Rattle.edd_attrs.proofs.RecordOperands.{both_of}
 

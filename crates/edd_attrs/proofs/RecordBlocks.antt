@@ -22,8 +22,8 @@ use Rattle.edd_attrs.specs.Code.{giving}
 use Rattle.edd_attrs.specs.Records.{is_fine}
 use Rattle.edd_attrs.specs.TreeBlocks.{straight_line, IsRecordBlock}
 use Rattle.edd_attrs.proofs.RecordOperands.{both_of, number_is, record_spelled, record_exists}
-use Rattle.edd_attrs.proofs.BlockSound.{IsSound}
-use Rattle.edd_attrs.proofs.BlockMeans.{SameOutcome}
+use Rattle.edd_attrs.proofs.SoundBlocks.{IsSound}
+use Rattle.edd_attrs.proofs.MeaningBlocks.{SameOutcome}
 use Rattle.edd_attrs.proofs.RecordOperands.{IsSayable, wrap_small}
 
 line_spelled : (is : List Instruction) → AllByRecursion IsSpelled is → AreSpelled (straight_line is)

@@ -35,14 +35,14 @@ use Rattle.edd_attrs.specs.TreeBlocks.{elements, IsCondBlock, IsCondsBlock, IsLi
 use Rattle.edd_attrs.proofs.RecordOperands.{both_of}
 use Rattle.edd_attrs.proofs.Meanings.{meaning, meaning_at}
 use Rattle.edd_attrs.proofs.InTrees.{if_there}
-use Rattle.edd_attrs.proofs.BlockGood.{is_low, any_value, good_cond, good_enumerator, good_expression, good_response, good_data, good_entry, good_member, is_good}
-use Rattle.edd_attrs.proofs.BlockChecked.{reads_of, is_ruled, is_whole, none_broken, no_breach}
-use Rattle.edd_attrs.proofs.BlockElements.{conds_both, elements_tested, elements_ruled, elements_same, elements_texts, enumerator_fine, response_fine, member_fine, entry_fine, data_fine, strings_by, enumerator_strings, entry_strings, texts_strings, members_strings, classes_strings, responses_strings}
-use Rattle.edd_attrs.proofs.BlockMeans.{SameOutcome, nothing_means, cond_means, conds_mean, line_means}
-use Rattle.edd_attrs.proofs.BlockGiven.{given_are_chosen, all_are_chosen, expression_given, expression_is_chosen}
-use Rattle.edd_attrs.proofs.BlockRecords.{record_means}
-use Rattle.edd_attrs.proofs.BlockHeld.{Held, none_in, cond_held, conds_held, line_held}
-use Rattle.edd_attrs.proofs.BlockTrees.{handling_small, operation_small, bit_small, always}
+use Rattle.edd_attrs.proofs.GoodTrees.{is_low, any_value, good_cond, good_enumerator, good_expression, good_response, good_data, good_entry, good_member, is_good}
+use Rattle.edd_attrs.proofs.CheckedTrees.{reads_of, is_ruled, is_whole, none_broken, no_breach}
+use Rattle.edd_attrs.proofs.ElementFacts.{conds_both, elements_tested, elements_ruled, elements_same, elements_texts, enumerator_fine, response_fine, member_fine, entry_fine, data_fine, strings_by, enumerator_strings, entry_strings, texts_strings, members_strings, classes_strings, responses_strings}
+use Rattle.edd_attrs.proofs.MeaningBlocks.{SameOutcome, nothing_means, cond_means, conds_mean, line_means}
+use Rattle.edd_attrs.proofs.GivenRecords.{given_are_chosen, all_are_chosen, expression_given, expression_is_chosen}
+use Rattle.edd_attrs.proofs.RecordBlocks.{record_means}
+use Rattle.edd_attrs.proofs.HeldStrings.{Held, none_in, cond_held, conds_held, line_held}
+use Rattle.edd_attrs.proofs.SoundTrees.{handling_small, operation_small, bit_small, always}
 
 module _ (unit : Description Target) (strings : List Words) where
   abbrev count : Kind → ℕ

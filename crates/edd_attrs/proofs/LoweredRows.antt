@@ -46,14 +46,14 @@ use Rattle.edd_attrs.proofs.Different.{fewer_different}
 use Rattle.edd_attrs.proofs.InTrees.{if_there}
 use Rattle.edd_attrs.proofs.Meanings.{unit_means}
 use Rattle.edd_attrs.proofs.FewNodes.{few_nodes}
-use Rattle.edd_attrs.proofs.BlockNodes.{few_at}
-use Rattle.edd_attrs.proofs.BlockGood.{is_low, is_small, all_good, good_cond, good_enumerator, good_element, good_response, good_entry, good_member}
-use Rattle.edd_attrs.proofs.BlockChecked.{reads_of, is_ruled, is_whole, no_breach, whole_when_checked}
-use Rattle.edd_attrs.proofs.BlockElements.{values_pass, all_values_pass, elements_tested, entry_kept}
-use Rattle.edd_attrs.proofs.BlockLater.{still_exist}
-use Rattle.edd_attrs.proofs.BlockMeans.{SameOutcome}
-use Rattle.edd_attrs.proofs.BlockTrees.{IsSoundUnit, tree_sound}
-use Rattle.edd_attrs.proofs.BlockTreeMeaning.{block_means, block_held}
+use Rattle.edd_attrs.proofs.NodeBounds.{few_at}
+use Rattle.edd_attrs.proofs.GoodTrees.{is_low, is_small, all_good, good_cond, good_enumerator, good_element, good_response, good_entry, good_member}
+use Rattle.edd_attrs.proofs.CheckedTrees.{reads_of, is_ruled, is_whole, no_breach, whole_when_checked}
+use Rattle.edd_attrs.proofs.ElementFacts.{values_pass, all_values_pass, elements_tested, entry_kept}
+use Rattle.edd_attrs.proofs.GrowingTables.{still_exist}
+use Rattle.edd_attrs.proofs.MeaningBlocks.{SameOutcome}
+use Rattle.edd_attrs.proofs.SoundTrees.{IsSoundUnit, tree_sound}
+use Rattle.edd_attrs.proofs.MeaningTrees.{block_means, block_held}
 
 -- ---- what the code asks of a tree
 
