@@ -7,10 +7,7 @@ use Rattle.std.proofs.lemmas.Slice.Eq.{bytes_eq-Decides}
 use Rattle.edd_syntax.specs.Words.{Variant, Words, Variants, Key}
 use Rattle.edd_syntax.specs.Strings.{same_variants, same_words, different}
 use Rattle.edd_attrs.specs.Code.{AreDifferent}
-
-both_of : (a b : Bool) → (a && b) ≡ true → (a ≡ true) × (b ≡ true)
-both_of true b h = (refl, h)
-both_of false b h = absurd cc
+use Rattle.edd_attrs.proofs.BothTests.{both_of}
 
 -- ---- the test of strings
 

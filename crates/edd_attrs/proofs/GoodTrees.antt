@@ -25,10 +25,10 @@ use Rattle.edd_image.specs.Agreement.{mask_number}
 use Rattle.edd_attrs.specs.Trees as trees
 use Rattle.edd_attrs.specs.Trees.{Tree, Named, trees_of_part, trees_of_parts, trees_of_attribute, tree_of_transaction_part}
 use Rattle.edd_attrs.specs.Records.{is_label, kept_enumerator, kept_response, kept_member}
-use Rattle.edd_attrs.proofs.RecordOperands.{both_of}
 use Rattle.edd_attrs.proofs.Existing.{is_item_of, meant_exists}
 use Rattle.edd_attrs.proofs.KeptConditions.{expr_pure, expr_height, cond_tested, conds_tested, same_height, same_heights, stays_single}
 use Rattle.edd_attrs.proofs.InTrees.{all_append, named, throughout, throughout_item}
+use Rattle.edd_attrs.proofs.BothTests.{both_of, both_true}
 
 -- ---- steps that may fail
 
@@ -50,9 +50,6 @@ each_all of p q keeps (x ∷ xs) ys all h =
     along_some (list_all q) (first.0 ∷ rest.0) ys rest.2 (rw (keeps x first.0 parts.0 first.1, each_all of p q keeps xs rest.0 parts.1 rest.1) refl)
 
 -- ---- lists of tests
-
-both_true : {a b : Bool} → a ≡ true → b ≡ true → (a && b) ≡ true
-both_true p q = rw (p, q) refl
 
 pub all_good : {A : Type 0} (p q : A → Bool) → ((x : A) → p x ≡ true → q x ≡ true) → (xs : List A) → list_all p xs ≡ true → list_all q xs ≡ true
 all_good p q keeps [] h = refl

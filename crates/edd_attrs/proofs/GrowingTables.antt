@@ -1,6 +1,6 @@
 -- What exists still does when the table of strings grows.
 use Rattle.std.proofs.Common.{◌≡◌, refl, Bool, true, List, ◌++◌, length, Option, Some, None, arith, length-append}
-use Rattle.std.specs.Prelude.{◌&&◌, nat_lt}
+use Rattle.std.specs.Prelude.{nat_lt}
 use Rattle.std.proofs.lemmas.Bool.{lt-ltb, ltb-true}
 use Rattle.edd_syntax.specs.declared.numbers.StrNo.{StrNo}
 use Rattle.edd_syntax.specs.declared.reference.Target.{Target}
@@ -17,10 +17,7 @@ use Rattle.edd_image.specs.Agreement.{attribute_context}
 use Rattle.edd_expressions.specs.Blocks as block
 use Rattle.edd_expressions.specs.Blocks.{Block}
 use Rattle.edd_expressions.specs.Flow.{all_straight}
-use Rattle.edd_attrs.proofs.RecordOperands.{both_of}
-
-both_true : {a b : Bool} → a ≡ true → b ≡ true → (a && b) ≡ true
-both_true p q = rw (p, q) refl
+use Rattle.edd_attrs.proofs.BothTests.{both_of, both_true}
 
 pub all_weaker : (f g : Instruction → Bool) → ((i : Instruction) → f i ≡ true → g i ≡ true) → (b : Block) → all_straight f b ≡ true → all_straight g b ≡ true
 all_weaker f g weaker block.Nothing h = refl

@@ -1,3 +1,4 @@
+pub mod BothTests
 pub mod UnitStrings
 pub mod Written
 pub mod Among

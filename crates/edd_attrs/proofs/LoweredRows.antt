@@ -41,7 +41,6 @@ use Rattle.edd_attrs.specs.Code.{AreDifferent, Grows}
 use Rattle.edd_attrs.specs.Lowered.{LowersTree, OverflowsTree}
 use Rattle.edd_attrs.specs.Kept.{is_kept_tree, is_kept_row}
 use Rattle.edd_attrs.specs.TreeBlocks.{elements, IsBlockOf}
-use Rattle.edd_attrs.proofs.RecordOperands.{both_of}
 use Rattle.edd_attrs.proofs.Different.{fewer_different}
 use Rattle.edd_attrs.proofs.InTrees.{if_there}
 use Rattle.edd_attrs.proofs.Meanings.{unit_means}
@@ -54,6 +53,7 @@ use Rattle.edd_attrs.proofs.GrowingTables.{still_exist}
 use Rattle.edd_attrs.proofs.MeaningBlocks.{SameOutcome}
 use Rattle.edd_attrs.proofs.SoundTrees.{IsSoundUnit, tree_sound}
 use Rattle.edd_attrs.proofs.MeaningTrees.{block_means, block_held}
+use Rattle.edd_attrs.proofs.BothTests.{both_of}
 
 -- ---- what the code asks of a tree
 

@@ -23,8 +23,8 @@ use Rattle.edd_expressions.specs.Outcomes.{Outcome, Goes, Traps, Stuck, behind, 
 use Rattle.edd_expressions.specs.Expressions.{expression_block}
 use Rattle.edd_expressions.specs.ExpressionMeaning.{of_value}
 use Rattle.edd_attrs.specs.TreeBlocks.{IsCondBlock, IsCondsBlock, IsArmsBlock, IsDefaultBlock, IsLineBlock}
-use Rattle.edd_attrs.proofs.RecordOperands.{both_of}
 use Rattle.edd_attrs.proofs.GivenRecords.{given, all_given, case_given, default_given}
+use Rattle.edd_attrs.proofs.BothTests.{both_of}
 
 behind_nothing : (o : Outcome) → behind [] o ≡ o
 behind_nothing (Goes records operands) = refl

@@ -32,7 +32,6 @@ use Rattle.edd_attrs.specs.Trees.{Tree}
 use Rattle.edd_attrs.specs.Records.{text_record, class_record, handling_record, validity_record, is_fine, kept_data}
 use Rattle.edd_attrs.specs.Sizes.{tree_strings, strings_of_tree}
 use Rattle.edd_attrs.specs.TreeBlocks.{elements, IsCondBlock, IsCondsBlock, IsLineBlock, IsValueBlock, Giving, IsTreeBlock, IsBlockOf}
-use Rattle.edd_attrs.proofs.RecordOperands.{both_of}
 use Rattle.edd_attrs.proofs.Meanings.{meaning, meaning_at}
 use Rattle.edd_attrs.proofs.InTrees.{if_there}
 use Rattle.edd_attrs.proofs.GoodTrees.{is_low, any_value, good_cond, good_enumerator, good_expression, good_response, good_data, good_entry, good_member, is_good}
@@ -43,6 +42,7 @@ use Rattle.edd_attrs.proofs.GivenRecords.{given_are_chosen, all_are_chosen, expr
 use Rattle.edd_attrs.proofs.RecordBlocks.{record_means}
 use Rattle.edd_attrs.proofs.HeldStrings.{Held, none_in, cond_held, conds_held, line_held}
 use Rattle.edd_attrs.proofs.SoundTrees.{handling_small, operation_small, bit_small, always}
+use Rattle.edd_attrs.proofs.BothTests.{both_of}
 
 module _ (unit : Description Target) (strings : List Words) where
   abbrev count : Kind → ℕ

@@ -21,10 +21,11 @@ use Rattle.edd_expressions.specs.Outcomes.{Goes, does}
 use Rattle.edd_attrs.specs.Code.{giving}
 use Rattle.edd_attrs.specs.Records.{is_fine}
 use Rattle.edd_attrs.specs.TreeBlocks.{straight_line, IsRecordBlock}
-use Rattle.edd_attrs.proofs.RecordOperands.{both_of, number_is, record_spelled, record_exists}
+use Rattle.edd_attrs.proofs.RecordOperands.{number_is, record_spelled, record_exists}
 use Rattle.edd_attrs.proofs.SoundBlocks.{IsSound}
 use Rattle.edd_attrs.proofs.MeaningBlocks.{SameOutcome}
 use Rattle.edd_attrs.proofs.RecordOperands.{IsSayable, wrap_small}
+use Rattle.edd_attrs.proofs.BothTests.{both_of}
 
 line_spelled : (is : List Instruction) → AllByRecursion IsSpelled is → AreSpelled (straight_line is)
 line_spelled [] h = tt

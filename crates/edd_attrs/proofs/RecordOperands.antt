@@ -1,6 +1,6 @@
 -- The operands of the instructions that give a record fit, and its names exist.
 use Rattle.std.proofs.Common.{◌-◌, ◌%◌, cond, ltb, ◌≡◌, refl, sym, ap, subst, ◌∙◌, ℕ, suc, ◌<◌, ◌≤◌, ◌^◌, Bool, true, false, ℤ, pos, negsuc, List, length, Option, Some, None, arith}
-use Rattle.std.specs.Prelude.{◌&&◌, nat_lt, FitsSigned}
+use Rattle.std.specs.Prelude.{nat_lt, FitsSigned}
 use Rattle.std.specs.Int.{w64}
 use Rattle.std.specs.List.{AllByRecursion, list_all}
 use Rattle.std.proofs.lemmas.Int.{ints}
@@ -32,10 +32,7 @@ use Rattle.edd_image.specs.References.{names_exist, item_exists, variable_exists
 use Rattle.edd_image.specs.Agreement.{class_number, mask_number, IsString, IsOptionalString, SameRecord, string_of_table, attribute_context}
 use Rattle.edd_attrs.specs.Code.{giving}
 use Rattle.edd_attrs.specs.Records.{is_number, is_label, counts_in, is_fine}
-
-pub both_of : (a b : Bool) → (a && b) ≡ true → (a ≡ true) × (b ≡ true)
-both_of true b h = (refl, h)
-both_of false b h = absurd cc
+use Rattle.edd_attrs.proofs.BothTests.{both_of}
 
 -- what a record needs so that its code gives it: a number is one of 32 bits
 abbrev pub IsSayable : Record → Type 0

@@ -1,6 +1,6 @@
 -- The block of a conditional finds its operands, leaves none, names what exists, and is short.
 use Rattle.std.proofs.Common.{◌≡◌, refl, sym, ap, subst, ◌∙◌, ℕ, suc, ◌+◌, ◌*◌, ◌≤◌, Bool, true, arith}
-use Rattle.std.specs.Prelude.{◌&&◌, max}
+use Rattle.std.specs.Prelude.{max}
 use Rattle.std.proofs.Math.Nat.{le-max_left, le-max_right}
 use Rattle.edd_syntax.specs.declared.reference.Target.{Target}
 use Rattle.edd_syntax.specs.Expression.{Expr}
@@ -15,7 +15,8 @@ use Rattle.edd_expressions.specs.Blocks.{Block, size}
 use Rattle.edd_expressions.specs.Flow.{AreSpelled, Flows, all_straight, depth_after}
 use Rattle.edd_expressions.specs.Expressions.{expression_block}
 use Rattle.edd_attrs.specs.TreeBlocks.{IsCondBlock, IsCondsBlock, IsArmsBlock, IsDefaultBlock}
-use Rattle.edd_attrs.proofs.RecordOperands.{both_of, label_fits}
+use Rattle.edd_attrs.proofs.RecordOperands.{label_fits}
+use Rattle.edd_attrs.proofs.BothTests.{both_of, both_true}
 
 -- what is known of the blocks of expressions
 pub record ExpressionFacts (context : Context) (reads : Target → Bool) : Type 0 where
@@ -43,9 +44,6 @@ module _ (context : Context) where
 
   may_be_longer : (b : Block) (m n : ℕ) → m ≤ n → TakesOne b m → TakesOne b n
   may_be_longer b m n le t = record { flows = t.flows; even = t.even; spelled = t.spelled; exist = t.exist; short = omega (arith, t.short, le) }
-
-  both_true : {a b : Bool} → a ≡ true → b ≡ true → (a && b) ≡ true
-  both_true p q = rw (p, q) refl
 
   pub nothing_sound : (n : ℕ) → IsSound block.Nothing n
   nothing_sound n = record { flows = tt; even = refl; spelled = tt; exist = refl; short = omega arith }

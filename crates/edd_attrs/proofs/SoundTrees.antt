@@ -40,12 +40,12 @@ use Rattle.edd_attrs.specs.Trees.{Tree}
 use Rattle.edd_attrs.specs.Records.{text_record, class_record, handling_record, validity_record, is_fine, kept_data}
 use Rattle.edd_attrs.specs.Sizes.{tree_nodes, length_limit}
 use Rattle.edd_attrs.specs.TreeBlocks.{elements, IsCondBlock, IsCondsBlock, IsLineBlock, IsRecordBlock, IsValueBlock, Giving, IsTreeBlock}
-use Rattle.edd_attrs.proofs.RecordOperands.{both_of}
 use Rattle.edd_attrs.proofs.GoodTrees.{is_low, is_small, any_value, good_cond, good_enumerator, good_expression, good_response, good_data, good_entry, good_member, is_good}
 use Rattle.edd_attrs.proofs.CheckedTrees.{reads_of, is_ruled, is_whole, no_breach}
 use Rattle.edd_attrs.proofs.ElementFacts.{conds_both, elements_tested, elements_low, elements_nodes, enumerator_fine, response_fine, member_fine, entry_fine, data_fine}
 use Rattle.edd_attrs.proofs.SoundBlocks.{ExpressionFacts, IsSound, nothing_sound, then_sound, cond_sound, conds_sound}
 use Rattle.edd_attrs.proofs.RecordBlocks.{record_is_sound, line_short}
+use Rattle.edd_attrs.proofs.BothTests.{both_of}
 
 pub handling_small : (h : handlings.Handling) → is_small (handling_number h) ≡ true
 handling_small handling.Read = refl

@@ -13,13 +13,10 @@ use Rattle.edd_syntax.specs.Strings.{strings_of_texts, type_part_texts, attribut
 use Rattle.edd_attrs.specs.Trees.{Tree, trees_of_part, trees_of_parts, tree_of_transaction_part, tree_at}
 use Rattle.edd_attrs.specs.Sizes.{element_texts, tree_strings, strings_of_tree, strings_at}
 use Rattle.edd_attrs.proofs.Different.{has, Contains-has, has-Contains, words_same, words_refl}
-use Rattle.edd_attrs.proofs.RecordOperands.{both_of}
 use Rattle.edd_attrs.proofs.InTrees.{if_there, all_append, named, throughout, throughout_item, tree_has}
+use Rattle.edd_attrs.proofs.BothTests.{both_of, both_true}
 
 -- ---- tests on all elements
-
-both_true : {a b : Bool} → a ≡ true → b ≡ true → (a && b) ≡ true
-both_true p q = rw (p, q) refl
 
 all_parts : {A : Type 0} (p : A → Bool) (xs ys : List A) → list_all p (xs ++ ys) ≡ true → (list_all p xs ≡ true) × (list_all p ys ≡ true)
 all_parts p [] ys h = (refl, h)
