@@ -4,7 +4,7 @@ use Rattle.std.specs.List.{flat_map}
 use Rattle.std.proofs.lemmas.List.{append-nil, take_all, drop_all}
 use Rattle.edd_syntax.specs.declared.numbers.StrNo.{StrNo}
 use Rattle.edd_syntax.specs.declared.reference.Target.{Target}
-use Rattle.edd_syntax.specs.Conditional.{Conds, Arm, Arms, NoArms, ConsArm, Case, Default, arms_from}
+use Rattle.edd_syntax.specs.Conditional.{Conds, Arm, NoArms, ConsArm, Case, Default, arms_from}
 use Rattle.edd_syntax.specs.SubsetRules.{values_of}
 use Rattle.edd_syntax.specs.Words.{Words}
 use Rattle.edd_image.specs.Agreement.{string_of_table}

@@ -8,29 +8,34 @@ use Rattle.std.proofs.Math.Path.{fun_ext}
 use Rattle.std.proofs.lemmas.Option.{same_Some}
 use Rattle.std.proofs.lemmas.Bool.{lt-ltb, ltb-false}
 use Rattle.edd_syntax.specs.declared.numbers.Kind.{Kind}
+use Rattle.edd_syntax.specs.declared.numbers.Kind.TheVariants as kind
+use Rattle.edd_syntax.specs.declared.numbers.ItemNo.{ItemNo}
+use Rattle.edd_syntax.specs.declared.numbers.ItemNo.TheVariants as item_no
 use Rattle.edd_syntax.specs.declared.numbers.AttrRef.{AttrRef}
 use Rattle.edd_syntax.specs.Reference.{Path}
 use Rattle.edd_syntax.specs.declared.reference.Target.{Target}
-use Rattle.edd_syntax.specs.Conditional.{Cond, Value, If, Select, Conds, Nil, Cons}
+use Rattle.edd_syntax.specs.declared.reference.Target.TheVariants as target
 use Rattle.edd_syntax.specs.Item as item
 use Rattle.edd_syntax.specs.Item.{kind_of_item, DataItem, TypePart, TransactionPart, Attribute, Item, Description}
 use Rattle.edd_syntax.specs.Numbers.{same_kind}
-use Rattle.edd_syntax.specs.Resolution.{count_of}
-use Rattle.edd_syntax.specs.Refusal.{ConstRange, refused_if}
-use Rattle.edd_syntax.specs.SubsetRules.{values_in, values_of, data_breaches, transaction_part_breaches, attribute_data_breaches, wrong_types, mismatches, float_values, wrong_breaks, wrong_constants}
+use Rattle.edd_syntax.specs.Resolution.{count_of, variable_kinds, is_among}
+use Rattle.edd_syntax.specs.Refusal.{Refusal, ConstRange, refused_if}
+use Rattle.edd_syntax.specs.SubsetRules.{values_of, cond_defaults, conds_defaults, type_part_defaults, transaction_part_defaults, repeated_cases, duplicate_cases, data_breaches, transaction_part_breaches, attribute_data_breaches, wrong_types, mismatches, float_values, wrong_breaks, wrong_constants}
 use Rattle.edd_syntax.specs.WellFormed.{is_path, is_plain, is_item, are_items}
 use Rattle.edd_syntax.specs.ResolvedTrees.{each, resolved_attribute, resolved_item, resolved_unit}
 use Rattle.edd_syntax.specs.Resolved.{IsChecked}
 use Rattle.edd_syntax.proofs.WithinLimits.{each_keeps}
 use Rattle.edd_attrs.specs.Trees as trees
 use Rattle.edd_attrs.specs.Trees.{Tree, trees_of_part, trees_of_parts, tree_of_transaction_part, tree_at}
-use Rattle.edd_attrs.specs.Plain.{plain_value, plain_values, kept_data}
+use Rattle.edd_attrs.specs.Records.{kept_data}
 use Rattle.edd_attrs.proofs.InTrees.{if_there, all_append, named, throughout, throughout_item, tree_has}
+use Rattle.edd_image.specs.declared.parts.Counts.{Counts}
+use Rattle.edd_expressions.specs.Reads.{reads_existing}
 use Rattle.edd_attrs.proofs.GoodTrees.{bind_some, each_all, is_good, item_good}
+use Rattle.edd_attrs.proofs.Existing.{is_item_of}
+use Rattle.edd_attrs.proofs.RecordOperands.{both_of}
 
--- ---- constants are octets
-
-front_none : {A : Type 0} (xs ys : List A) → xs ++ ys ≡ [] → (xs ≡ []) × (ys ≡ [])
+pub front_none : {A : Type 0} (xs ys : List A) → xs ++ ys ≡ [] → (xs ≡ []) × (ys ≡ [])
 front_none [] ys h = (refl, h)
 front_none (x ∷ xs) ys h = absurd (omega (arith, ap length h))
 
@@ -42,11 +47,6 @@ data_small (item.Constant n) h = here (nat_lt 255 n) refl h
     here false is h = lt-ltb n 256 (omega (arith, ltb-false 255 n is))
 data_small (item.Variable variable mask qualifiers) h = refl
 
-value_small : (c : Cond Target (DataItem Target)) → flat_map data_breaches (values_in c) ≡ [] → plain_value kept_data c ≡ true
-value_small (Value d) h = data_small d (front_none (data_breaches d) [] h).0
-value_small (If condition first otherwise) h = refl
-value_small (Select on arms) h = refl
-
 flat_none : {A B : Type 0} (f : A → List B) (xs ys : List A) → flat_map f (xs ++ ys) ≡ [] → (flat_map f xs ≡ []) × (flat_map f ys ≡ [])
 flat_none f [] ys h = (refl, h)
 flat_none f (x ∷ xs) ys h =
@@ -54,68 +54,111 @@ flat_none f (x ∷ xs) ys h =
     let rest = flat_none f xs ys first.1 in
     (ap (λ zs. zs ++ flat_map f xs) first.0 ∙ rest.0, rest.1)
 
-values_small : (c : Conds Target (DataItem Target)) → flat_map data_breaches (values_of c) ≡ [] → plain_values kept_data c ≡ true
-values_small Nil h = refl
-values_small (Cons first rest) h = let both = flat_none data_breaches (values_in first) (values_of rest) h in rw (value_small first both.0, values_small rest both.1) refl
+all_small : (ds : List (DataItem Target)) → flat_map data_breaches ds ≡ [] → list_all kept_data ds ≡ true
+all_small [] h = refl
+all_small (d ∷ ds) h = let both = front_none (data_breaches d) (flat_map data_breaches ds) h in rw (data_small d both.0, all_small ds both.1) refl
 
-abbrev pub is_octets : Tree → Bool
-is_octets (trees.Texts c) = true
-is_octets (trees.Class names) = true
-is_octets (trees.Handling c) = true
-is_octets (trees.Validity c) = true
-is_octets (trees.Expressions c) = true
-is_octets (trees.Enumerators parts) = true
-is_octets (trees.Number n) = true
-is_octets (trees.Operation o) = true
-is_octets (trees.Transaction number) = true
-is_octets (trees.Data all) = plain_values kept_data all
-is_octets (trees.ResponseCodes responses) = true
-is_octets (trees.Items entries) = true
-is_octets (trees.Members members) = true
+-- ---- constants are octets, and no SELECT has two DEFAULTs
 
-part_octets : (p : TransactionPart Target) → transaction_part_breaches p ≡ [] → named is_octets (tree_of_transaction_part p) ≡ true
-part_octets (item.Request all) h = values_small all h
-part_octets (item.Reply all) h = values_small all h
+abbrev pub no_breach : List Refusal → Bool
+no_breach [] = true
+no_breach (r ∷ rs) = false
 
-parts_octets : (parts : List (TransactionPart Target)) → flat_map transaction_part_breaches parts ≡ [] → list_all (named is_octets) (map tree_of_transaction_part parts) ≡ true
-parts_octets [] h = refl
-parts_octets (p ∷ rest) h = let both = front_none (transaction_part_breaches p) (flat_map transaction_part_breaches rest) h in rw (part_octets p both.0, parts_octets rest both.1) refl
+pub none_broken : (rs : List Refusal) → no_breach rs ≡ true → rs ≡ []
+none_broken [] h = refl
+none_broken (r ∷ rs) h = absurd cc
 
-type_parts_octets : (parts : List (TypePart Target)) → list_all (named is_octets) (trees_of_parts parts) ≡ true
-type_parts_octets [] = refl
-type_parts_octets (p ∷ rest) = all_append (named is_octets) (trees_of_part p) (trees_of_parts rest) (one p) (type_parts_octets rest)
-  where
-    one : (q : TypePart Target) → list_all (named is_octets) (trees_of_part q) ≡ true
-    one (item.DefaultValue c) = refl
-    one (item.MinValue c) = refl
-    one (item.MaxValue c) = refl
-    one (item.DisplayFormat c) = refl
-    one (item.EditFormat c) = refl
-    one (item.Element c) = refl
+none_is : (rs : List Refusal) → rs ≡ [] → no_breach rs ≡ true
+none_is rs h = ap no_breach h
 
-attribute_octets : (a : Attribute Target) → attribute_data_breaches a ≡ [] → throughout is_octets a ≡ true
-attribute_octets (item.Label c) h = refl
-attribute_octets (item.Help c) h = refl
-attribute_octets (item.Class words) h = refl
-attribute_octets (item.Handling c) h = refl
-attribute_octets (item.ConstantUnit c) h = refl
-attribute_octets (item.Validity c) h = refl
-attribute_octets (item.TypeOf word parts) h = rw (type_parts_octets parts) refl
-attribute_octets (item.Number n) h = refl
-attribute_octets (item.Operation o) h = refl
-attribute_octets (item.Transaction number parts) h = parts_octets parts h
-attribute_octets (item.ResponseCodes responses) h = refl
-attribute_octets (item.Items entries) h = refl
-attribute_octets (item.Members members) h = refl
-attribute_octets (item.Definition body) h = refl
+abbrev pub ruled_element : TypePart Target → Bool
+ruled_element (item.DefaultValue c) = true
+ruled_element (item.MinValue c) = true
+ruled_element (item.MaxValue c) = true
+ruled_element (item.DisplayFormat c) = true
+ruled_element (item.EditFormat c) = true
+ruled_element (item.Element c) = no_breach (cond_defaults c)
 
-attributes_octets : (attributes : List (Attribute Target)) → flat_map attribute_data_breaches attributes ≡ [] → list_all (throughout is_octets) attributes ≡ true
-attributes_octets [] h = refl
-attributes_octets (a ∷ rest) h = let both = front_none (attribute_data_breaches a) (flat_map attribute_data_breaches rest) h in rw (attribute_octets a both.0, attributes_octets rest both.1) refl
+abbrev pub is_ruled : Tree → Bool
+is_ruled (trees.Texts c) = no_breach (cond_defaults c)
+is_ruled (trees.Class names) = true
+is_ruled (trees.Handling c) = no_breach (cond_defaults c)
+is_ruled (trees.Validity c) = no_breach (cond_defaults c)
+is_ruled (trees.Expressions c) = no_breach (cond_defaults c)
+is_ruled (trees.Enumerators parts) = list_all ruled_element parts
+is_ruled (trees.Number n) = true
+is_ruled (trees.Operation o) = true
+is_ruled (trees.Transaction number) = true
+is_ruled (trees.Data all) = list_all kept_data (values_of all) && no_breach (conds_defaults all)
+is_ruled (trees.ResponseCodes responses) = true
+is_ruled (trees.Items entries) = no_breach (conds_defaults entries)
+is_ruled (trees.Members members) = true
 
-items_octets : (items : List (Item Target)) → flat_map attribute_data_breaches (flat_map (λ i. i.attributes) items) ≡ [] → list_all (throughout_item is_octets) items ≡ true
-items_octets [] h = refl
-items_octets (i ∷ rest) h = let both = flat_none attribute_data_breaches i.attributes (flat_map (λ j. j.attributes) rest) h in rw (attributes_octets i.attributes both.0, items_octets rest both.1) refl
+part_ruled : (p : TransactionPart Target) → transaction_part_breaches p ≡ [] → transaction_part_defaults p ≡ [] → named is_ruled (tree_of_transaction_part p) ≡ true
+part_ruled (item.Request all) h k = rw (all_small (values_of all) h, none_is (conds_defaults all) k) refl
+part_ruled (item.Reply all) h k = rw (all_small (values_of all) h, none_is (conds_defaults all) k) refl
+
+parts_ruled : (parts : List (TransactionPart Target)) → flat_map transaction_part_breaches parts ≡ [] → flat_map transaction_part_defaults parts ≡ []
+    → list_all (named is_ruled) (map tree_of_transaction_part parts) ≡ true
+parts_ruled [] h k = refl
+parts_ruled (p ∷ rest) h k =
+    let both = front_none (transaction_part_breaches p) (flat_map transaction_part_breaches rest) h in
+    let defaults = front_none (transaction_part_defaults p) (flat_map transaction_part_defaults rest) k in
+    rw (part_ruled p both.0 defaults.0, parts_ruled rest both.1 defaults.1) refl
+
+abbrev ruled_part : TypePart Target → Bool
+ruled_part p = list_all (named is_ruled) (trees_of_part p) && ruled_element p
+
+type_part_ruled : (p : TypePart Target) → type_part_defaults p ≡ [] → ruled_part p ≡ true
+type_part_ruled (item.DefaultValue c) k = rw (none_is (cond_defaults c) k) refl
+type_part_ruled (item.MinValue c) k = rw (none_is (cond_defaults c) k) refl
+type_part_ruled (item.MaxValue c) k = rw (none_is (cond_defaults c) k) refl
+type_part_ruled (item.DisplayFormat c) k = rw (none_is (cond_defaults c) k) refl
+type_part_ruled (item.EditFormat c) k = rw (none_is (cond_defaults c) k) refl
+type_part_ruled (item.Element c) k = none_is (cond_defaults c) k
+
+type_parts_ruled : (parts : List (TypePart Target)) → flat_map type_part_defaults parts ≡ [] → (list_all ruled_element parts && list_all (named is_ruled) (trees_of_parts parts)) ≡ true
+type_parts_ruled [] k = refl
+type_parts_ruled (p ∷ rest) k =
+    let defaults = front_none (type_part_defaults p) (flat_map type_part_defaults rest) k in
+    let here = both_of (list_all (named is_ruled) (trees_of_part p)) (ruled_element p) (type_part_ruled p defaults.0) in
+    let others = both_of (list_all ruled_element rest) (list_all (named is_ruled) (trees_of_parts rest)) (type_parts_ruled rest defaults.1) in
+    rw (here.1, others.0) (all_append (named is_ruled) (trees_of_part p) (trees_of_parts rest) here.0 others.1)
+
+-- one tree, and none inside
+alone : {b : Bool} → b ≡ true → ((b && true) && true) ≡ true
+alone h = rw h refl
+
+attribute_ruled : (a : Attribute Target) → attribute_data_breaches a ≡ [] → repeated_cases a ≡ [] → throughout is_ruled a ≡ true
+attribute_ruled (item.Label c) h k = alone (none_is (cond_defaults c) k)
+attribute_ruled (item.Help c) h k = alone (none_is (cond_defaults c) k)
+attribute_ruled (item.Class words) h k = refl
+attribute_ruled (item.Handling c) h k = alone (none_is (cond_defaults c) k)
+attribute_ruled (item.ConstantUnit c) h k = alone (none_is (cond_defaults c) k)
+attribute_ruled (item.Validity c) h k = alone (none_is (cond_defaults c) k)
+attribute_ruled (item.TypeOf word parts) h k = rw (type_parts_ruled parts k) refl
+attribute_ruled (item.Number n) h k = refl
+attribute_ruled (item.Operation o) h k = refl
+attribute_ruled (item.Transaction number parts) h k = parts_ruled parts h k
+attribute_ruled (item.ResponseCodes responses) h k = refl
+attribute_ruled (item.Items entries) h k = alone (none_is (conds_defaults entries) k)
+attribute_ruled (item.Members members) h k = refl
+attribute_ruled (item.Definition body) h k = refl
+
+attributes_ruled : (attributes : List (Attribute Target)) → flat_map attribute_data_breaches attributes ≡ [] → flat_map repeated_cases attributes ≡ [] → list_all (throughout is_ruled) attributes ≡ true
+attributes_ruled [] h k = refl
+attributes_ruled (a ∷ rest) h k =
+    let both = front_none (attribute_data_breaches a) (flat_map attribute_data_breaches rest) h in
+    let defaults = front_none (repeated_cases a) (flat_map repeated_cases rest) k in
+    rw (attribute_ruled a both.0 defaults.0, attributes_ruled rest both.1 defaults.1) refl
+
+items_ruled : (items : List (Item Target)) → flat_map attribute_data_breaches (flat_map (λ i. i.attributes) items) ≡ [] → flat_map repeated_cases (flat_map (λ i. i.attributes) items) ≡ []
+    → list_all (throughout_item is_ruled) items ≡ true
+items_ruled [] h k = refl
+items_ruled (i ∷ rest) h k =
+    let both = flat_none attribute_data_breaches i.attributes (flat_map (λ j. j.attributes) rest) h in
+    let defaults = flat_none repeated_cases i.attributes (flat_map (λ j. j.attributes) rest) k in
+    rw (attributes_ruled i.attributes both.0 defaults.0, items_ruled rest both.1 defaults.1) refl
 
 -- ---- the items of a description and of the unit that it comes from are as many
 
@@ -140,12 +183,41 @@ count_kept unit items meant k =
 
 -- ---- a checked description
 
+-- how many items there are, and nothing else
+abbrev pub counts_with : (Kind → ℕ) → Counts
+counts_with count = record {
+  variables = count kind.Variable;
+  commands = count kind.Command;
+  menus = count kind.Menu;
+  collections = count kind.Collection;
+  methods = count kind.Method;
+  strings = 0;
+  manufacturer = 0;
+  device_type = 0;
+  device_revision = 0;
+  dd_revision = 0;
+}
+
+-- what an expression may read of a description with so many items
+abbrev pub reads_of : (Kind → ℕ) → Target → Bool
+reads_of count t = reads_existing (counts_with count) t
+
+item_readable : (count : Kind → ℕ) (i : ItemNo) → is_item_of count i ≡ true → is_among variable_kinds i ≡ true → reads_of count (target.Item i) ≡ true
+item_readable count (item_no.Variable v) h k = h
+item_readable count (item_no.Command n) h k = refl
+item_readable count (item_no.Menu n) h k = refl
+item_readable count (item_no.Collection n) h k = refl
+item_readable count (item_no.Method n) h k = refl
+
 abbrev pub is_whole : Description Target → Tree → Bool
-is_whole d t = is_good (λ k. count_of k d.items) t && is_octets t
+is_whole d t = is_good (λ k. count_of k d.items) (reads_of (λ k. count_of k d.items)) t && is_ruled t
 
 both_there : {A : Type 0} (p q : A → Bool) (o : Option A) → if_there p o ≡ true → if_there q o ≡ true → if_there (λ x. p x && q x) o ≡ true
 both_there p q None h k = refl
 both_there p q (Some x) h k = rw (h, k) refl
+
+abbrev good_with : (Kind → ℕ) → Tree → Bool
+good_with count t = is_good count (reads_of count) t
 
 module _ (d : Description Target) (row : AttrRef) where
   whole_in : IsChecked d → if_there (is_whole d) (tree_at d row) ≡ true
@@ -154,14 +226,17 @@ module _ (d : Description Target) (row : AttrRef) where
       let u = checked.is_resolved.unit in
       let x = bind_some (each (resolved_item u) u.items) (λ items. Some (record { identification = u.identification; items = items })) d checked.is_resolved.meanings in
       let same_items : x.0 ≡ d.items = ap (λ (e : Description Target). e.items) (same_Some (record { identification = u.identification; items = x.0 }) d x.2) in
-      let good : list_all (throughout_item (is_good (λ k. count_of k u.items))) x.0 ≡ true =
-      each_all (resolved_item u) (is_item is_path is_plain) (throughout_item (is_good (λ k. count_of k u.items))) (item_good u) u.items x.0 checked.is_resolved.well_formed x.1 in
+      let good : list_all (throughout_item (good_with (λ k. count_of k u.items))) x.0 ≡ true =
+      each_all (resolved_item u) (is_item is_path is_plain) (throughout_item (good_with (λ k. count_of k u.items)))
+      (item_good u (reads_of (λ k. count_of k u.items)) (item_readable (λ k. count_of k u.items))) u.items x.0 checked.is_resolved.well_formed x.1 in
       let counts : (λ k. count_of k u.items) ≡ (λ k. count_of k d.items) = fun_ext (λ k. sym (count_kept u d.items (x.1 ∙ ap Some same_items) k)) in
-      let good_here : list_all (throughout_item (is_good (λ k. count_of k d.items))) d.items ≡ true =
-      subst (λ (items : List (Item Target)). list_all (throughout_item (is_good (λ k. count_of k d.items))) items ≡ true) same_items
-      (subst (λ (count : Kind → ℕ). list_all (throughout_item (is_good count)) x.0 ≡ true) counts good) in
-      let none = (front_none (wrong_constants d) _ (front_none (wrong_breaks d) _ (front_none (float_values d) _ (front_none (mismatches d) _ (front_none (wrong_types d) _ checked.no_breach).1).1).1).1).0 in
-      both_there (is_good (λ k. count_of k d.items)) is_octets (tree_at d row) (tree_has (is_good (λ k. count_of k d.items)) d row good_here) (tree_has is_octets d row (items_octets d.items none))
+      let good_here : list_all (throughout_item (good_with (λ k. count_of k d.items))) d.items ≡ true =
+      subst (λ (items : List (Item Target)). list_all (throughout_item (good_with (λ k. count_of k d.items))) items ≡ true) same_items
+      (subst (λ (count : Kind → ℕ). list_all (throughout_item (good_with count)) x.0 ≡ true) counts good) in
+      let last = (front_none (wrong_breaks d) _ (front_none (float_values d) _ (front_none (mismatches d) _ (front_none (wrong_types d) _ checked.no_breach).1).1).1).1 in
+      let none = front_none (wrong_constants d) (duplicate_cases d) last in
+      both_there (good_with (λ k. count_of k d.items)) is_ruled (tree_at d row) (tree_has (good_with (λ k. count_of k d.items)) d row good_here)
+      (tree_has is_ruled d row (items_ruled d.items none.0 none.1))
 
   pub whole_when_checked : ∥ IsChecked d ∥₁ → if_there (is_whole d) (tree_at d row) ≡ true
   whole_when_checked checked = ∥∥₁_elim checked (Bool-set _ _) whole_in

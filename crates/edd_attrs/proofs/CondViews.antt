@@ -1,6 +1,6 @@
 -- What conditionals and arms in the code stand for, and that their parts are smaller.
-use Rattle.std.proofs.Common.{◌≡◌, refl, sym, ap, ◌∙◌, ℕ, zero, suc, ◌+◌, ◌*◌, ◌<◌, ◌≤◌, ℤ, List, [], ◌∷◌, ◌++◌, length, get_or, map, arith}
-use Rattle.std.specs.Prelude.{Option, Some, None, Vec}
+use Rattle.std.proofs.Common.{◌≡◌, refl, sym, ap, ◌∙◌, ℕ, zero, suc, ◌+◌, ◌<◌, ◌≤◌, ℤ, List, [], ◌∷◌, ◌++◌, length, get_or, map, arith}
+use Rattle.std.specs.Prelude.{Some, None, Vec}
 use Rattle.std.specs.declared.alloc.Global.{Global}
 use Rattle.edd_syntax.specs.declared.cond.Arm as code_arm
 use Rattle.edd_syntax.specs.declared.cond.Cond as code
@@ -8,9 +8,9 @@ use Rattle.edd_syntax.specs.declared.cond.Arm.TheVariants as a
 use Rattle.edd_syntax.specs.declared.cond.Cond.TheVariants as c
 use Rattle.edd_syntax.specs.declared.expr.Expr.{Expr}
 use Rattle.edd_syntax.specs.declared.reference.Target.{Target}
-use Rattle.edd_syntax.specs.Conditional.{Cond, Conds, Arm, Arms, NoArms, ConsArm, Value, If, Select, Case, Default, conds_from, arms_from}
+use Rattle.edd_syntax.specs.Conditional.{Cond, Conds, Arm, Arms, NoArms, ConsArm, Value, If, Select, Case, Default, arms_from}
 use Rattle.edd_syntax.specs.ItemView.{cond_of, conds_of, arm_of}
-use Rattle.edd_syntax.specs.Size.{nodes, cond_nodes, conds_nodes, arms_nodes, leaf}
+use Rattle.edd_syntax.specs.Size.{cond_nodes, conds_nodes, arms_nodes, leaf}
 use Rattle.edd_syntax.specs.TreeView.{expr_of}
 use Rattle.edd_syntax.proofs.CondRows.{of_value, of_if, of_select, of_case, of_default}
 use Rattle.edd_image.specs.Layout.{u32}

@@ -1,11 +1,10 @@
 -- The code of conditionals, put together from that of their parts.
-use Rattle.std.proofs.Common.{◌≡◌, refl, sym, ap, subst, ◌∙◌, ℕ, ◌+◌, List, [], ◌∷◌, ◌++◌, length, arith}
+use Rattle.std.proofs.Common.{◌≡◌, refl, sym, ap, subst, ◌∙◌, ℕ, ◌+◌, List, ◌∷◌, ◌++◌, length, arith}
 use Rattle.std.specs.Prelude.{Option, Some, None}
-use Rattle.std.specs.List.{flat_map}
 use Rattle.std.proofs.lemmas.Grind.{flat_map-append}
 use Rattle.edd_syntax.specs.declared.numbers.StrNo.{StrNo}
 use Rattle.edd_syntax.specs.declared.reference.Target.{Target}
-use Rattle.edd_syntax.specs.Conditional.{Cond, Conds, Arm, Arms, NoArms, ConsArm, If, Select, Case, Default, arms_from}
+use Rattle.edd_syntax.specs.Conditional.{Conds, Arm, Arms, NoArms, ConsArm, If, Select, Case, Default, arms_from}
 use Rattle.edd_syntax.specs.Expression.{Expr}
 use Rattle.edd_syntax.specs.SubsetRules.{values_of}
 use Rattle.edd_syntax.specs.Words.{Words}
@@ -19,8 +18,8 @@ use Rattle.edd_expressions.specs.Expressions.{expression_block}
 use Rattle.edd_expressions.proofs.Closing.{either_closed, straight_written}
 use Rattle.edd_attrs.specs.Code.{GrowsBy, Overflows}
 use Rattle.edd_attrs.specs.Lowered.{WritesBlock}
-use Rattle.edd_attrs.specs.TreeBlocks.{IsCondBlock, IsCondsBlock, IsArmsBlock, IsDefaultBlock}
-use Rattle.edd_attrs.specs.Writing.{WritesArms, WritesBody, arms_strings, cond_strings, conds_strings, default_of, headers, with_body}
+use Rattle.edd_attrs.specs.TreeBlocks.{IsCondBlock, IsCondsBlock, IsDefaultBlock}
+use Rattle.edd_attrs.specs.Writing.{WritesArms, arms_strings, cond_strings, conds_strings, default_of, headers}
 use Rattle.edd_attrs.proofs.Flat.{default_within}
 use Rattle.edd_attrs.proofs.Among.{block_within, grows_twice, overflows_later, overflows_within, within_left, within_right}
 use Rattle.edd_attrs.proofs.Loops.{later_on}

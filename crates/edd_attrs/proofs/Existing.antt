@@ -17,7 +17,7 @@ use Rattle.edd_syntax.specs.Item as item
 use Rattle.edd_syntax.specs.Item.{kind_of_item, Description}
 use Rattle.edd_syntax.specs.Numbers.{same_kind, item_number, kind_of, index_of}
 use Rattle.edd_syntax.specs.Resolution.{count_of, numbered_names, item_named, FoundMember, of_kind, item_of_member, member_at, along, is_among, meaning}
-use Rattle.edd_attrs.proofs.PlainUnits.{both_of}
+use Rattle.edd_attrs.proofs.RecordOperands.{both_of}
 
 -- the item is one of so many of its kind
 abbrev pub is_item_of : (Kind → ℕ) → ItemNo → Bool

@@ -14,7 +14,7 @@ use Rattle.edd_syntax.specs.Refusal.{Refusal, TooMany, refused_if}
 use Rattle.edd_syntax.specs.Resolution.{count_of}
 use Rattle.edd_syntax.specs.Resolved.{IsChecked}
 use Rattle.edd_syntax.specs.Size.{unit_nodes}
-use Rattle.edd_attrs.proofs.BlockChecked.{front_none}
+use Rattle.edd_attrs.proofs.CheckedTrees.{front_none}
 use Rattle.edd_attrs.proofs.UnitNodes.{unit_keeps}
 
 no_refusal : (b : Bool) (why : Refusal) → refused_if b why ≡ [] → b ≡ false

@@ -1,6 +1,6 @@
 -- The values of lists of conditionals and arms, one element after the other.
-use Rattle.std.proofs.Common.{◌≡◌, refl, sym, ap, subst, ◌∙◌, ℕ, zero, suc, ◌+◌, ◌<◌, Bool, true, false, List, [], ◌∷◌, ◌++◌, length, get_or, map, take, drop, arith}
-use Rattle.std.specs.Prelude.{◌&&◌, Option, Some, None}
+use Rattle.std.proofs.Common.{◌≡◌, refl, sym, ap, subst, ◌∙◌, ℕ, zero, suc, ◌<◌, Bool, true, false, List, [], ◌∷◌, ◌++◌, length, get_or, arith}
+use Rattle.std.specs.Prelude.{◌&&◌, Some}
 use Rattle.std.specs.List.{flat_map, list_all}
 use Rattle.std.proofs.lemmas.Grind.{flat_map-append}
 use Rattle.std.proofs.lemmas.List.{append-nil, append_assoc}
@@ -10,7 +10,7 @@ use Rattle.edd_syntax.specs.Item as item
 use Rattle.edd_syntax.specs.Item.{TypePart}
 use Rattle.edd_syntax.specs.SubsetRules.{values_in, values_of, values_under}
 use Rattle.edd_syntax.specs.Words.{Words}
-use Rattle.edd_attrs.specs.Plain.{kept_enumerator}
+use Rattle.edd_attrs.specs.Records.{kept_enumerator}
 use Rattle.edd_attrs.specs.TreeBlocks.{elements}
 use Rattle.edd_attrs.specs.Writing.{cond_strings, conds_strings, arms_strings, default_of, element_strings, enumerator_strings, is_kept_part}
 use Rattle.edd_attrs.proofs.Among.{Within, within_left, within_right}

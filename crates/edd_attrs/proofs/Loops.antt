@@ -10,7 +10,7 @@ use Rattle.edd_expressions.specs.Blocks.{Block, Nothing, Then, bytes_at}
 use Rattle.edd_expressions.proofs.Closing.{nothing_written}
 use Rattle.edd_attrs.specs.Code.{GrowsBy, Overflows}
 use Rattle.edd_attrs.specs.Lowered.{WritesBlock}
-use Rattle.edd_attrs.proofs.Among.{Within, within_left, within_right, overflows_later}
+use Rattle.edd_attrs.proofs.Among.{within_left, within_right, overflows_later}
 use Rattle.edd_attrs.proofs.Growing.{nothing_added, both_added}
 use Rattle.edd_attrs.proofs.Written.{both_blocks}
 

@@ -1,5 +1,5 @@
 -- The parts of a type, of which the elements give something.
-use Rattle.std.proofs.Common.{◌≡◌, refl, ℕ, List}
+use Rattle.std.proofs.Common.{refl, ℕ, List}
 use Rattle.std.specs.Prelude.{Option}
 use Rattle.edd_syntax.specs.declared.numbers.StrNo.{StrNo}
 use Rattle.edd_syntax.specs.declared.reference.Target.{Target}

@@ -13,7 +13,7 @@ use Rattle.edd_syntax.specs.Strings.{enumerator_texts, entry_texts, optional_tex
 use Rattle.edd_syntax.specs.SubsetRules.{values_in, values_of}
 use Rattle.edd_syntax.specs.Text as texts
 use Rattle.edd_syntax.specs.Words.{Words, words_of, name_words}
-use Rattle.edd_attrs.specs.Plain.{text_record, class_record, handling_record, validity_record, strings_of_record}
+use Rattle.edd_attrs.specs.Records.{text_record, class_record, handling_record, validity_record, strings_of_record}
 use Rattle.edd_attrs.specs.Sizes.{element_texts, tree_strings}
 use Rattle.edd_attrs.specs.TreeBlocks.{elements}
 use Rattle.edd_attrs.specs.Trees.{Texts, Class, Handling, Validity, Expressions, Enumerators, Data, ResponseCodes, Items, Members}

@@ -1,5 +1,5 @@
 -- Code that gives one record.
-use Rattle.std.proofs.Common.{◌≡◌, ℕ, ℤ, pos, refl, sym, ap, subst, ◌∙◌, List, [], ◌∷◌, ◌++◌, length, Option, Some, None}
+use Rattle.std.proofs.Common.{◌≡◌, ℕ, ℤ, pos, refl, sym, ap, subst, ◌∙◌, List, [], ◌∷◌, ◌++◌, length, Option}
 use Rattle.std.specs.Option.{option_to_list}
 use Rattle.edd_syntax.specs.declared.numbers.StrNo.{StrNo}
 use Rattle.edd_syntax.specs.declared.numbers.VarNo.{VarNo}
@@ -24,7 +24,7 @@ use Rattle.edd_expressions.specs.Expressions.{expression_block}
 use Rattle.edd_expressions.proofs.Closing.{nothing_written, straight_written, then_written}
 use Rattle.edd_attrs.specs.Code.{giving, GrowsBy, Keeps, KeepsOptional}
 use Rattle.edd_attrs.specs.Lowered.{WritesBlock, LowersTree}
-use Rattle.edd_attrs.specs.Plain.{strings_of_record}
+use Rattle.edd_attrs.specs.Records.{strings_of_record}
 use Rattle.edd_attrs.specs.Sizes.{strings_of_tree}
 use Rattle.edd_attrs.specs.Trees.{Tree}
 use Rattle.edd_attrs.specs.TreeBlocks.{IsValueBlock, IsBlockOf, straight_line}

@@ -1,9 +1,9 @@
 -- What lowering needs of a tree: in texts each backslash begins an escape, keys are names, and constants are octets.
-use Rattle.std.specs.Prelude.{Bool, true, List, Option, Some, None}
+use Rattle.std.specs.Prelude.{Bool, true, Option, Some, None}
 use Rattle.std.specs.List.{list_all}
 use Rattle.edd_syntax.specs.WellFormed.{is_text}
 use Rattle.edd_syntax.specs.SubsetRules.{values_in, values_of}
-use Rattle.edd_attrs.specs.Plain.{kept_enumerator, kept_entry, kept_data, kept_response, kept_member}
+use Rattle.edd_attrs.specs.Records.{kept_enumerator, kept_entry, kept_data, kept_response, kept_member}
 use Rattle.edd_attrs.specs.Trees.{Tree, Texts, Class, Handling, Validity, Expressions, Enumerators, Number, Operation, Transaction, Data, ResponseCodes, Items, Members}
 use Rattle.edd_attrs.specs.TreeBlocks.{elements}
 

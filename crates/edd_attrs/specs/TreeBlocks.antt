@@ -1,5 +1,5 @@
 -- The block of an attribute's tree, with its strings by number.
-use Rattle.std.specs.Prelude.{◌≡◌, ℕ, pos, List, [], ◌∷◌, Option, Some, None}
+use Rattle.std.specs.Prelude.{◌≡◌, pos, List, [], ◌∷◌, Option, Some, None}
 use Rattle.edd_syntax.specs.declared.numbers.StrNo.{StrNo}
 use Rattle.edd_syntax.specs.declared.reference.Target.{Target}
 use Rattle.edd_syntax.specs.Expression.{Expr}
@@ -17,7 +17,7 @@ use Rattle.edd_expressions.specs.Blocks as block
 use Rattle.edd_expressions.specs.Blocks.{Block}
 use Rattle.edd_expressions.specs.Expressions.{expression_block}
 use Rattle.edd_attrs.specs.Code.{giving}
-use Rattle.edd_attrs.specs.Plain.{text_record, class_record, handling_record, validity_record}
+use Rattle.edd_attrs.specs.Records.{text_record, class_record, handling_record, validity_record}
 use Rattle.edd_attrs.specs.Trees.{Tree, Texts, Class, Handling, Validity, Expressions, Enumerators, Number, Operation, Transaction, Data, ResponseCodes, Items, Members}
 
 -- instructions one behind the other

@@ -17,7 +17,7 @@ use Rattle.edd_expressions.specs.Blocks.{Block, bytes_at}
 use Rattle.edd_expressions.specs.Closing.{closed}
 use Rattle.edd_attrs.specs.Code.{GrowsBy}
 use Rattle.edd_attrs.specs.Lowered.{WritesBlock}
-use Rattle.edd_attrs.specs.Plain.{kept_enumerator, strings_of_record}
+use Rattle.edd_attrs.specs.Records.{kept_enumerator, strings_of_record}
 use Rattle.edd_attrs.specs.TreeBlocks.{Giving, IsRecordBlock, IsCondBlock, IsArmsBlock}
 
 -- one record

@@ -18,7 +18,7 @@ ghost use Rattle.edd_image.specs.Spelling.{i64};
 ghost use Rattle.edd_expressions.specs.Blocks.{Block};
 ghost use Rattle.edd_attrs.specs.Code.{Grows, Overflows};
 ghost use Rattle.edd_attrs.specs.Lowered.{WritesBlock};
-ghost use Rattle.edd_attrs.specs.Plain.{class_record, handling_record, kept_data, kept_entry, kept_enumerator, kept_member, kept_response, strings_of_record, text_record, validity_record};
+ghost use Rattle.edd_attrs.specs.Records.{class_record, handling_record, kept_data, kept_entry, kept_enumerator, kept_member, kept_response, strings_of_record, text_record, validity_record};
 ghost use Rattle.edd_attrs.specs.TreeBlocks.{Giving, IsValueBlock};
 ghost use Rattle.edd_attrs.specs.Writing.{WritesRecord};
 

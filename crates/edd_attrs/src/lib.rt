@@ -9,7 +9,6 @@ mod items;
 mod laws;
 mod lists;
 mod lowering;
-mod plain;
 mod strings;
 mod trees;
 mod writing;
@@ -17,7 +16,6 @@ mod writing;
 pub use attribute::lower_attribute;
 pub use fault::LowerFault;
 pub use laws::strings_are_the_descriptions;
-pub use plain::is_plain_text;
 
 #[cfg(test)]
 mod tests;

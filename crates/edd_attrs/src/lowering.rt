@@ -9,7 +9,7 @@ ghost use Rattle.edd_syntax.specs.Words.{Words};
 ghost use Rattle.edd_attrs.specs.Code.{Grows, Overflows};
 ghost use Rattle.edd_attrs.specs.Kept.{is_kept_row, is_kept_tree};
 ghost use Rattle.edd_attrs.specs.Lowered.{LowersTree, OverflowsTree, WritesBlock};
-ghost use Rattle.edd_attrs.specs.Plain.{kept_enumerator};
+ghost use Rattle.edd_attrs.specs.Records.{kept_enumerator};
 ghost use Rattle.edd_attrs.specs.Sizes.{tree_strings};
 ghost use Rattle.edd_attrs.specs.TreeBlocks.{Giving, IsCondsBlock, IsTreeBlock, elements};
 ghost use Rattle.edd_attrs.specs.Trees as trees;

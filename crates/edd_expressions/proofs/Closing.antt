@@ -6,7 +6,8 @@ use Rattle.edd_image.specs.Layout.{u32}
 use Rattle.edd_image.specs.Spelling.{i64, spelling}
 use Rattle.edd_expressions.specs.Blocks.{Block, Nothing, Straight, Then, WhenNotZero, WhenZero, Either, Match, size, target, bytes_at}
 use Rattle.edd_expressions.specs.Closing.{closed}
-use Rattle.edd_expressions.proofs.Sizes.{bytes_of_nothing, bytes_of_straight, bytes_of_then, bytes_of_when_not_zero, bytes_of_when_zero, bytes_of_either, bytes_of_match, none_more, size_is_length}
+use Rattle.edd_expressions.proofs.BlockBytes.{lengths}
+use Rattle.edd_expressions.proofs.PieceBytes.{bytes_of_nothing, bytes_of_straight, bytes_of_then, bytes_of_when_not_zero, bytes_of_when_zero, bytes_of_either, bytes_of_match, none_more}
 
 -- ---- code without jumps
 
@@ -17,7 +18,7 @@ pub straight_written : (before : List ℕ) (i : Instruction) → before ++ spell
 straight_written before i = ap (λ bytes. before ++ bytes) (sym (bytes_of_straight (length before) i))
 
 pub length_written : (before : List ℕ) (a : Block) → length (before ++ bytes_at (length before) a) ≡ length before + size a
-length_written before a = omega (arith, length-append before (bytes_at (length before) a), size_is_length (length before) a)
+length_written before a = omega (arith, length-append before (bytes_at (length before) a), lengths (length before) a)
 
 pub then_written : (before : List ℕ) (a b : Block) → (before ++ bytes_at (length before) a) ++ bytes_at (length (before ++ bytes_at (length before) a)) b ≡ before ++ bytes_at (length before) (Then a b)
 then_written before a b =
@@ -52,7 +53,7 @@ opened before byte hollow = sym (append_assoc before (byte ∷ []) hollow)
 pub when_not_zero_closed : (before c1 c2 : List ℕ) (body : Block) → c1 ≡ before ++ (0x31 ∷ u32 0) → c2 ≡ c1 ++ bytes_at (length c1) body → closed c2 (length before + 1) ≡ before ++ bytes_at (length before) (WhenNotZero body)
 when_not_zero_closed before c1 c2 body one two =
     let l1 : length c1 ≡ length before + 5 = ap length one ∙ length-append before (0x31 ∷ u32 0) in
-    let l2 : length c2 ≡ length before + (5 + size body) = ap length two ∙ omega (arith, length-append c1 (bytes_at (length c1) body), size_is_length (length c1) body) in
+    let l2 : length c2 ≡ length before + (5 + size body) = ap length two ∙ omega (arith, length-append c1 (bytes_at (length c1) body), lengths (length c1) body) in
     part_closed (before ++ 0x31 ∷ []) c1 c2 (bytes_at (length c1) body) (length before + 1) (one ∙ opened before 0x31 (u32 0)) two (omega (arith, length-append before (0x31 ∷ [])))
     ∙ append_assoc before (0x31 ∷ []) (u32 (target (length c2)) ++ bytes_at (length c1) body)
     ∙ ap (λ n. before ++ (0x31 ∷ (u32 (target n) ++ bytes_at (length c1) body))) l2
@@ -62,7 +63,7 @@ when_not_zero_closed before c1 c2 body one two =
 pub when_zero_closed : (before c1 c2 : List ℕ) (body : Block) → c1 ≡ before ++ (0x32 ∷ u32 0) → c2 ≡ c1 ++ bytes_at (length c1) body → closed c2 (length before + 1) ≡ before ++ bytes_at (length before) (WhenZero body)
 when_zero_closed before c1 c2 body one two =
     let l1 : length c1 ≡ length before + 5 = ap length one ∙ length-append before (0x32 ∷ u32 0) in
-    let l2 : length c2 ≡ length before + (5 + size body) = ap length two ∙ omega (arith, length-append c1 (bytes_at (length c1) body), size_is_length (length c1) body) in
+    let l2 : length c2 ≡ length before + (5 + size body) = ap length two ∙ omega (arith, length-append c1 (bytes_at (length c1) body), lengths (length c1) body) in
     part_closed (before ++ 0x32 ∷ []) c1 c2 (bytes_at (length c1) body) (length before + 1) (one ∙ opened before 0x32 (u32 0)) two (omega (arith, length-append before (0x32 ∷ [])))
     ∙ append_assoc before (0x32 ∷ []) (u32 (target (length c2)) ++ bytes_at (length c1) body)
     ∙ ap (λ n. before ++ (0x32 ∷ (u32 (target n) ++ bytes_at (length c1) body))) l2
@@ -92,10 +93,10 @@ pub either_closed : (before c1 c2 c3 c4 c5 : List ℕ) (first otherwise : Block)
 either_closed before c1 c2 c3 c4 c5 first otherwise one two three four five =
     let p = length before in
     let l1 : length c1 ≡ p + 5 = ap length one ∙ length-append before (0x31 ∷ u32 0) in
-    let l2 : length c2 ≡ p + (5 + size first) = ap length two ∙ omega (arith, length-append c1 (bytes_at (length c1) first), size_is_length (length c1) first) in
+    let l2 : length c2 ≡ p + (5 + size first) = ap length two ∙ omega (arith, length-append c1 (bytes_at (length c1) first), lengths (length c1) first) in
     let l3 : length c3 ≡ p + (5 + (size first + 5)) = ap length three ∙ omega (arith, length-append c2 (0x30 ∷ u32 0)) in
     let l4 : length c4 ≡ p + (5 + (size first + 5)) = ap length four ∙ omega (arith, closed_length c3 (length before + 1) (omega arith)) in
-    let l5 : length c5 ≡ p + (5 + (size first + (5 + size otherwise))) = ap length five ∙ omega (arith, length-append c4 (bytes_at (length c4) otherwise), size_is_length (length c4) otherwise) in
+    let l5 : length c5 ≡ p + (5 + (size first + (5 + size otherwise))) = ap length five ∙ omega (arith, length-append c4 (bytes_at (length c4) otherwise), lengths (length c4) otherwise) in
     parts_closed (before ++ 0x31 ∷ []) c1 c2 c3 c4 c5 (bytes_at (length c1) first) (bytes_at (length c4) otherwise) (length before + 1) (one ∙ opened before 0x31 (u32 0)) two three (omega (arith, length-append before (0x31 ∷ []))) four five
     ∙ append_assoc before (0x31 ∷ []) _
     ∙ rw (l1, l3, l4, l5) (ap (λ bytes. before ++ bytes) (sym (bytes_of_either p first otherwise)))
@@ -105,10 +106,10 @@ pub match_closed : (before c1 c2 c3 c4 c5 : List ℕ) (label : ℤ) (body rest :
 match_closed before c1 c2 c3 c4 c5 label body rest one two three four five =
     let p = length before in
     let l1 : length c1 ≡ p + 13 = ap length one ∙ length-append before (0x33 ∷ (i64 label ++ u32 0)) in
-    let l2 : length c2 ≡ p + (13 + size rest) = ap length two ∙ omega (arith, length-append c1 (bytes_at (length c1) rest), size_is_length (length c1) rest) in
+    let l2 : length c2 ≡ p + (13 + size rest) = ap length two ∙ omega (arith, length-append c1 (bytes_at (length c1) rest), lengths (length c1) rest) in
     let l3 : length c3 ≡ p + (13 + (size rest + 5)) = ap length three ∙ omega (arith, length-append c2 (0x30 ∷ u32 0)) in
     let l4 : length c4 ≡ p + (13 + (size rest + 5)) = ap length four ∙ omega (arith, closed_length c3 (length before + 9) (omega arith)) in
-    let l5 : length c5 ≡ p + (13 + (size rest + (5 + size body))) = ap length five ∙ omega (arith, length-append c4 (bytes_at (length c4) body), size_is_length (length c4) body) in
+    let l5 : length c5 ≡ p + (13 + (size rest + (5 + size body))) = ap length five ∙ omega (arith, length-append c4 (bytes_at (length c4) body), lengths (length c4) body) in
     parts_closed (before ++ (0x33 ∷ i64 label)) c1 c2 c3 c4 c5 (bytes_at (length c1) rest) (bytes_at (length c4) body) (length before + 9) (one ∙ sym (append_assoc before (0x33 ∷ i64 label) (u32 0))) two three (omega (arith, length-append before (0x33 ∷ i64 label))) four five
     ∙ append_assoc before (0x33 ∷ i64 label) _
     ∙ rw (l1, l3, l4, l5) (ap (λ bytes. before ++ bytes) (sym (bytes_of_match p label body rest)))

@@ -6,7 +6,7 @@ pub mod BlockJumps
 pub mod BlockUnits
 pub mod BlockRuns
 pub mod UnitRuns
-pub mod Sizes
+pub mod PieceBytes
 pub mod Closing
 pub mod Writing
 pub mod ExpressionSizes

@@ -1,7 +1,11 @@
 //! Texts and readers whose outcome was worked out by hand.
 
+use crate::compiling::compile;
 use crate::files::read_all;
 use crate::source::{checked_of, unit_of};
+use edd_image::Record;
+use edd_loader::load;
+use edd_machine::{Values, attribute};
 use edd_syntax::numbers::{Attr, AttrRef, CmdNo, ItemNo, MenuNo, VarNo};
 use std::alloc::Global;
 use std::io::{Error, ErrorKind, Read};
@@ -128,5 +132,56 @@ fn a_type_without_braces_has_no_row(rt: HostRuntime) -> Result<(), Fail> {
     let rows = checked.rows(alloc)?;
     let expected = [row(ItemNo::Variable(VarNo(0)), Attr::Label, 0)];
     assert_eq!(rt; rows.as_slice(), expected.as_slice());
+    Ok(())
+}
+
+// Each attribute that isn't a method's, once.
+const EVERY_ATTRIBUTE: &str =
+    "VARIABLE a { LABEL \"A\"; HELP \"a\"; CLASS DEVICE & INPUT; HANDLING READ; CONSTANT_UNIT \"bar\";
+        VALIDITY IF (b) { TRUE; } ELSE { FALSE; }
+        TYPE INTEGER { DEFAULT_VALUE 1; MIN_VALUE b - 1; MAX_VALUE SELECT (b) { CASE 0: 7; DEFAULT: 8; }
+            DISPLAY_FORMAT \"d\"; EDIT_FORMAT \"e\"; } }
+    VARIABLE b { TYPE ENUMERATED { {0, \"off\"}, {1, \"on\"} } }
+    COMMAND c { NUMBER 3; OPERATION WRITE; TRANSACTION 9 { REQUEST { 1, a } REPLY { a (INFO) } }
+        RESPONSE_CODES { 0, SUCCESS, \"ok\"; } }
+    MENU m { ITEMS { a, \"text\" } }
+    COLLECTION OF VARIABLE k { MEMBERS { x, a; } }";
+
+#[test]
+fn every_attribute_is_compiled_and_read(rt: HostRuntime) -> Result<(), Fail> {
+    let alloc = rt.alloc();
+    let text = format!(in alloc; "{IDENTIFICATION}{EVERY_ATTRIBUTE}")?;
+    let Ok(checked) = checked_of(alloc, text.as_bytes()) else {
+        panic!(rt; "it breaks no rule")
+    };
+    let Ok(bytes) = compile(alloc, text.as_bytes()) else {
+        panic!(rt; "it has no method")
+    };
+    let Ok(image) = load(alloc, &bytes) else {
+        panic!(rt; "the image is valid")
+    };
+    let Ok(values) = Values::new(alloc, &image, &[0, 0]) else {
+        panic!(rt; "these are values of the two variables")
+    };
+    let counts = [1, 1, 2, 1, 1, 1, 1, 1, 1, 1, 1, 2, 1, 1, 1, 2, 1, 1, 2, 1];
+    let rows = checked.rows(alloc)?;
+    assert_eq!(rt; rows.len(), counts.len());
+    for (row, count) in rows.iter().zip(counts) {
+        let Ok(records) = attribute(alloc, &image, *row, &values) else {
+            panic!(rt; "each row is read")
+        };
+        assert_eq!(rt; records.len(), count);
+    }
+    let a = ItemNo::Variable(VarNo(0));
+    for (attr, number) in [
+        (Attr::Validity, 0),
+        (Attr::MinValue, -1),
+        (Attr::MaxValue, 7),
+    ] {
+        let Ok(records) = attribute(alloc, &image, row(a, attr, 0), &values) else {
+            panic!(rt; "no expression traps")
+        };
+        assert_eq!(rt; records.as_slice(), [Record::Number(number)].as_slice());
+    }
     Ok(())
 }

@@ -1,4 +1,4 @@
-use Rattle.std.proofs.Common.{◌≡◌, rules, refl, sym, ap, subst, ◌∙◌, ℕ, ◌+◌, ◌-◌, arith, true, List, [], ◌∷◌, ◌++◌, length, map, Some, None}
+use Rattle.std.proofs.Common.{◌≡◌, rules, refl, sym, ap, subst, ◌∙◌, ℕ, ◌+◌, ◌-◌, arith, true, List, [], length, map}
 use Rattle.std.specs.Prelude.{OnOk, IsErrOf, option_map}
 use Rattle.std.specs.Borrow.{Bor}
 use Rattle.std.specs.List.{flat_map, list_all}
@@ -6,8 +6,7 @@ use Rattle.std.proofs.lemmas.Grind.{common_steps}
 use Rattle.std.proofs.lemmas.List.{append-nil, length-map}
 use Rattle.edd_syntax.specs.declared.cond.Cond as code
 use Rattle.edd_syntax.specs.declared.reference.Target.{Target}
-use Rattle.edd_syntax.specs.Conditional.{Cond, Arm, NoArms, ConsArm, If, Select, Case, Default, conds_from, arms_from}
-use Rattle.edd_syntax.specs.ItemView.{cond_of, conds_of, arm_of}
+use Rattle.edd_syntax.specs.Conditional.{Cond, Arm, NoArms, ConsArm, conds_from}
 use Rattle.edd_syntax.specs.SubsetRules.{values_in, values_of, values_under}
 use Rattle.edd_syntax.specs.TreeView.{expr_of}
 use Rattle.edd_syntax.specs.Words.{Words}
@@ -15,7 +14,7 @@ use Rattle.edd_attrs.specs.declared.fault.LowerFault.TheVariants.{TooMany}
 use Rattle.edd_attrs.specs.Code.{Overflows}
 use Rattle.edd_attrs.specs.Lowered.{WritesBlock}
 use Rattle.edd_attrs.specs.TreeBlocks.{IsCondBlock, IsCondsBlock}
-use Rattle.edd_attrs.specs.Writing.{WritesArm, arms_strings, cond_strings, conds_strings, header}
+use Rattle.edd_attrs.specs.Writing.{WritesArm, arms_strings, cond_strings, conds_strings}
 use Rattle.edd_attrs.proofs.Arms.{Back, case_written, default_written, back_starts, back_room, back_overflows, back_grows, back_ends}
 use Rattle.edd_attrs.proofs.Carried.{carried}
 use Rattle.edd_attrs.proofs.CondViews.{viewed, all_viewed, arm_viewed, arms_viewed, value_is, if_is, select_is, case_is, default_is, case_header, first_falls, arms_fall, case_falls, element_falls, arm_falls, default_falls}

@@ -1,4 +1,4 @@
-use Rattle.std.proofs.Common.{◌≡◌, List, sym, ap, ◌∙◌, ◌+◌, ◌∷◌, arith, map, drop, Some, None}
+use Rattle.std.proofs.Common.{List, sym, ap, ◌∙◌, ◌+◌, arith, map, drop}
 use Rattle.std.specs.Prelude.{option_map}
 use Rattle.std.specs.Borrow.{Bor}
 use Rattle.std.proofs.lemmas.List.{length-map}

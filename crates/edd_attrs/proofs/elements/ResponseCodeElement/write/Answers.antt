@@ -1,4 +1,4 @@
-use Rattle.std.proofs.Common.{ℕ, subst, ◌∙◌, ap, ◌++◌}
+use Rattle.std.proofs.Common.{ℕ, ◌∙◌, ap, ◌++◌}
 use Rattle.edd_syntax.specs.Words.{words_of}
 use Rattle.edd_syntax.specs.WordsView.{text_of}
 use Rattle.edd_image.specs.declared.instruction.Instruction.TheVariants as instruction

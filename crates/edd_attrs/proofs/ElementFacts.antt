@@ -1,6 +1,6 @@
 -- The values of conditionals, and the elements of a type's list.
-use Rattle.std.proofs.Common.{◌≡◌, refl, sym, ap, ◌∙◌, ℕ, ◌+◌, ◌≤◌, Bool, true, false, List, [], ◌∷◌, ◌++◌, map, sum, Option, Some, None, arith}
-use Rattle.std.specs.Prelude.{◌&&◌, max, nat_le, nat_lt, ◌^◌, option_map}
+use Rattle.std.proofs.Common.{◌≡◌, refl, sym, ap, ◌∙◌, ℕ, ◌≤◌, Bool, true, List, [], ◌∷◌, ◌++◌, map, sum, Option, Some, None, arith}
+use Rattle.std.specs.Prelude.{◌&&◌, max, option_map}
 use Rattle.std.specs.List.{list_all, flat_map}
 use Rattle.std.specs.Option.{option_to_list}
 use Rattle.std.proofs.lemmas.Bool.{leb-true}
@@ -24,16 +24,15 @@ use Rattle.edd_syntax.specs.Refusal.{Refusal}
 use Rattle.edd_syntax.specs.SubsetRules.{values_in, values_of, values_under, cond_defaults, conds_defaults}
 use Rattle.edd_syntax.specs.Strings.{strings_of_texts, optional_text, enumerator_texts, entry_texts, member_strings}
 use Rattle.edd_syntax.specs.Size.{leaf, cond_height, conds_height, conds_nodes}
-use Rattle.edd_syntax.specs.WellFormed.{is_text, is_label, is_pure_expr, is_cond, are_conds, are_arms}
+use Rattle.edd_syntax.specs.WellFormed.{is_label, is_pure_expr, is_cond, are_conds, are_arms}
 use Rattle.edd_image.specs.References.{item_exists}
-use Rattle.edd_image.specs.Agreement.{mask_number}
-use Rattle.edd_attrs.specs.Plain.{text_record, class_record, is_fine, counts_in, strings_of_record, strings_of, kept_enumerator, kept_data, kept_entry, kept_response, kept_member}
+use Rattle.edd_attrs.specs.Records.{text_record, class_record, is_fine, counts_in, strings_of_record, strings_of, kept_enumerator, kept_data, kept_entry, kept_response, kept_member}
 use Rattle.edd_attrs.specs.Sizes.{element_texts, element_nodes}
 use Rattle.edd_attrs.specs.TreeBlocks.{elements}
-use Rattle.edd_attrs.proofs.PlainUnits.{both_of}
+use Rattle.edd_attrs.proofs.RecordOperands.{both_of}
 use Rattle.edd_attrs.proofs.Existing.{is_item_of}
-use Rattle.edd_attrs.proofs.BlockGood.{is_low, good_cond, good_enumerator, good_element, good_response, good_data, good_entry, good_member, is_small}
-use Rattle.edd_attrs.proofs.BlockChecked.{no_breach, none_broken, ruled_element, front_none}
+use Rattle.edd_attrs.proofs.GoodTrees.{is_low, good_cond, good_enumerator, good_element, good_response, good_data, good_entry, good_member, is_small}
+use Rattle.edd_attrs.proofs.CheckedTrees.{no_breach, none_broken, ruled_element}
 
 both_true : {a b : Bool} → a ≡ true → b ≡ true → (a && b) ≡ true
 both_true p q = rw (p, q) refl

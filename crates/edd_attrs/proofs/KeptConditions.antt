@@ -1,6 +1,6 @@
 -- Expressions and conditionals keep their tests and their height with the meaning of each name in its place.
-use Rattle.std.proofs.Common.{◌≡◌, refl, ap, ◌∙◌, ℕ, ◌+◌, ◌≤◌, Bool, true, false, Option, Some, None, arith}
-use Rattle.std.specs.Prelude.{◌&&◌, max}
+use Rattle.std.proofs.Common.{◌≡◌, refl, ap, ◌∙◌, ℕ, ◌+◌, Bool, true, false, Option, Some}
+use Rattle.std.specs.Prelude.{◌&&◌}
 use Rattle.edd_syntax.specs.Reference.{Path}
 use Rattle.edd_syntax.specs.declared.reference.Target.{Target}
 use Rattle.edd_syntax.specs.Expression.{Expr, Literal, Decimal, Reference, Parentheses, Unary, Binary, Compare, LogicalAnd, LogicalOr, Conditional, Assign, CompoundAssign, Increment, Call}
@@ -10,7 +10,7 @@ use Rattle.edd_syntax.specs.ResolvedTrees.{resolved_expr, resolved_cond, resolve
 use Rattle.edd_syntax.specs.Size.{height, cond_height, conds_height, arms_height}
 use Rattle.edd_syntax.specs.WellFormed.{is_path, is_plain, is_label, is_pure_expr, is_cond, are_conds, are_arms, is_single, is_one, is_at_most_one, are_single_arms}
 use Rattle.edd_attrs.proofs.Made.{stays, made, made_of_two, made_of_three}
-use Rattle.edd_attrs.proofs.PlainUnits.{both_of}
+use Rattle.edd_attrs.proofs.RecordOperands.{both_of}
 
 both_true : {a b : Bool} → a ≡ true → b ≡ true → (a && b) ≡ true
 both_true p q = rw (p, q) refl

@@ -1,11 +1,13 @@
--- Code that gives records in a line is the code of an attribute that means these records.
-use Rattle.std.proofs.Common.{◌≡◌, refl, sym, ap, subst, ◌∙◌, ℕ, suc, ◌<◌, ◌≤◌, ◌^◌, Bool, true, false, ℤ, pos, negsuc, List, [], ◌∷◌, ◌++◌, length, Option, Some, None, arith, append_assoc}
+-- The operands of the instructions that give a record fit, and its names exist.
+use Rattle.std.proofs.Common.{◌-◌, ◌%◌, cond, ltb, ◌≡◌, refl, sym, ap, subst, ◌∙◌, ℕ, suc, ◌<◌, ◌≤◌, ◌^◌, Bool, true, false, ℤ, pos, negsuc, List, length, Option, Some, None, arith}
 use Rattle.std.specs.Prelude.{◌&&◌, nat_lt, FitsSigned}
 use Rattle.std.specs.Int.{w64}
-use Rattle.std.specs.List.{AllByRecursion, list_all, flat_map}
+use Rattle.std.specs.List.{AllByRecursion, list_all}
 use Rattle.std.proofs.lemmas.Int.{ints}
 use Rattle.std.proofs.lemmas.Option.{slice_get_within}
 use Rattle.std.proofs.lemmas.Bool.{ltb-true, lt-ltb}
+use Rattle.std.proofs.Math.Nat.{mod-eq_of_lt}
+use Rattle.edd_syntax.specs.TwosComplement.{wrap, as_signed}
 use Rattle.edd_syntax.specs.declared.numbers.Kind.{Kind}
 use Rattle.edd_syntax.specs.declared.numbers.Kind.TheVariants as kind
 use Rattle.edd_syntax.specs.declared.numbers.StrNo.{StrNo}
@@ -24,82 +26,35 @@ use Rattle.edd_syntax.specs.Attributes as source
 use Rattle.edd_syntax.specs.Attributes.{bit, menu_bits, data_bits}
 use Rattle.edd_image.specs.declared.records.Record.{Record}
 use Rattle.edd_image.specs.declared.records.Record.TheVariants as records
-use Rattle.edd_image.specs.declared.instruction.Instruction.{Instruction}
-use Rattle.edd_image.specs.declared.instruction.Instruction.TheVariants as instruction
 use Rattle.edd_image.specs.declared.unit.Context.{Context}
-use Rattle.edd_image.specs.declared.unit.Sort.TheVariants.{Attribute}
-use Rattle.edd_image.specs.declared.unit.Version.TheVariants.{One}
-use Rattle.edd_image.specs.Spelling.{spelling, IsSpelled, IsOptional}
+use Rattle.edd_image.specs.Spelling.{IsSpelled, IsOptional}
 use Rattle.edd_image.specs.References.{names_exist, item_exists, variable_exists, optional_string_exists}
-use Rattle.edd_image.specs.Units.{is_allowed}
-use Rattle.edd_image.specs.Agreement.{class_number, mask_number, IsString, IsOptionalString, SameRecord, SameRecords, string_of_table, attribute_context}
-use Rattle.edd_attrs.specs.Code.{giving, bytes_of, giving_all}
-use Rattle.edd_attrs.specs.Plain.{is_number, is_label, counts_in, is_fine}
-use Rattle.edd_attrs.proofs.Lines.{bytes_of-append}
-use Rattle.edd_attrs.proofs.LineUnits.{IsLine, BeginsEmpty}
-use Rattle.edd_attrs.proofs.Runs.{IsSayable}
-
--- the instructions of a unit that gives these records
-abbrev pub unit_of : List Record → List Instruction
-unit_of given = flat_map giving given ++ instruction.End ∷ []
-
-pub unit_bytes : (given : List Record) → bytes_of (unit_of given) ≡ giving_all given ++ spelling instruction.End
-unfolding bytes_of
-unit_bytes given = bytes_of-append (flat_map giving given) (instruction.End ∷ [])
-
--- ---- a line
-
-abbrev IsUnitLine : List Instruction → Type 0
-IsUnitLine is = IsLine is × BeginsEmpty is
-
-line_more : (r : Record) (is : List Instruction) → IsUnitLine is → IsUnitLine (giving r ++ is)
-line_more r [] h = absurd h.1
-line_more (records.Words s) (j ∷ rest) h = ((ap Some (sym h.1), refl, h.0), refl)
-line_more (records.Number z) (j ∷ rest) h = ((refl, refl, (ap Some (sym h.1), refl, h.0)), refl)
-line_more (records.Entry item quals) (j ∷ rest) h = ((ap Some (sym h.1), refl, h.0), refl)
-line_more (records.DataConst n) (j ∷ rest) h = ((ap Some (sym h.1), refl, h.0), refl)
-line_more (records.DataVar v mask quals) (j ∷ rest) h = ((ap Some (sym h.1), refl, h.0), refl)
-line_more (records.Enumerator n text help) (j ∷ rest) h = ((ap Some (sym h.1), refl, h.0), refl)
-line_more (records.Response n class text) (j ∷ rest) h = ((ap Some (sym h.1), refl, h.0), refl)
-line_more (records.Member name item label help) (j ∷ rest) h = ((ap Some (sym h.1), refl, h.0), refl)
-
-pub unit_line : (given : List Record) → IsUnitLine (unit_of given)
-unit_line [] = ((refl, refl), refl)
-unit_line (r ∷ given) = subst (λ (is : List Instruction). IsUnitLine is) (sym (append_assoc (giving r) (flat_map giving given) (instruction.End ∷ []))) (line_more r (unit_of given) (unit_line given))
-
--- ---- tests on all instructions of a unit
+use Rattle.edd_image.specs.Agreement.{class_number, mask_number, IsString, IsOptionalString, SameRecord, string_of_table, attribute_context}
+use Rattle.edd_attrs.specs.Code.{giving}
+use Rattle.edd_attrs.specs.Records.{is_number, is_label, counts_in, is_fine}
 
 pub both_of : (a b : Bool) → (a && b) ≡ true → (a ≡ true) × (b ≡ true)
 both_of true b h = (refl, h)
 both_of false b h = absurd cc
 
-spelled_append : (is js : List Instruction) → AllByRecursion IsSpelled is → AllByRecursion IsSpelled js → AllByRecursion IsSpelled (is ++ js)
-spelled_append [] js p q = q
-spelled_append (i ∷ is) js p q = (p.0, spelled_append is js p.1 q)
+-- what a record needs so that its code gives it: a number is one of 32 bits
+abbrev pub IsSayable : Record → Type 0
+IsSayable (records.Number z) = (n : ℕ) × (z ≡ pos n) × (n < 2 ^ 32)
+IsSayable (records.Words s) = Unit {0}
+IsSayable (records.Entry item quals) = Unit {0}
+IsSayable (records.DataConst n) = Unit {0}
+IsSayable (records.DataVar v mask quals) = Unit {0}
+IsSayable (records.Enumerator n text help) = Unit {0}
+IsSayable (records.Response n class text) = Unit {0}
+IsSayable (records.Member name item label help) = Unit {0}
 
-module _ (test : Instruction → Bool) where
-  all_append : (is js : List Instruction) → list_all test is ≡ true → list_all test js ≡ true → list_all test (is ++ js) ≡ true
-  all_append [] js p q = q
-  all_append (i ∷ is) js p q = let parts = both_of (test i) (list_all test is) p in rw parts.0 (all_append is js parts.1 q)
-
-abbrev pub allowed_here : Instruction → Bool
-allowed_here i = is_allowed One Attribute i
-
-giving_allowed : (r : Record) → list_all allowed_here (giving r) ≡ true
-giving_allowed (records.Words s) = refl
-giving_allowed (records.Number z) = refl
-giving_allowed (records.Entry item quals) = refl
-giving_allowed (records.DataConst n) = refl
-giving_allowed (records.DataVar v mask quals) = refl
-giving_allowed (records.Enumerator n text help) = refl
-giving_allowed (records.Response n class text) = refl
-giving_allowed (records.Member name item label help) = refl
-
-pub unit_allowed : (given : List Record) → list_all allowed_here (unit_of given) ≡ true
-unit_allowed [] = refl
-unit_allowed (r ∷ given) =
-    ap (list_all allowed_here) (append_assoc (giving r) (flat_map giving given) (instruction.End ∷ []))
-    ∙ all_append allowed_here (giving r) (unit_of given) (giving_allowed r) (unit_allowed given)
+-- a number of 32 bits stays itself in 64
+pub wrap_small : (n : ℕ) → n < 2 ^ 32 → wrap 64 (pos n) ≡ pos n
+unfolding wrap
+wrap_small n lt =
+    let same : n % (2 ^ 64) ≡ n = mod-eq_of_lt (omega arith) in
+    let small : ltb n (2 ^ 63) ≡ true = lt-ltb n (2 ^ 63) (omega arith) in
+    ap (as_signed 64) same ∙ ap (λ b. cond b (pos n) (negsuc (2 ^ 64 - suc n))) small
 
 -- ---- operands
 
@@ -172,17 +127,6 @@ module _ (unit : Description Target) (few : (k : Kind) → count_of k unit.items
     record_spelled (source.Member name item label help) r fine same =
         subst IsSpelledRecord (sym same.3) (((omega (arith, string_small name same.0 same.4), index_small item fine, optional_small label same.1 same.5, optional_small help same.2 same.6), tt), tt)
 
-    pub records_spelled : (xs : List source.Record) (rs : List Record) → list_all (is_fine unit) xs ≡ true → SameRecords (string_of_table strings) xs rs
-        → AllByRecursion IsSpelled (unit_of rs) × AllByRecursion IsSayable rs
-    records_spelled [] [] fine same = ((tt, tt), tt)
-    records_spelled [] (r ∷ rs) fine same = absurd same
-    records_spelled (x ∷ xs) [] fine same = absurd same
-    records_spelled (x ∷ xs) (r ∷ rs) fine same =
-        let parts = both_of (is_fine unit x) (list_all (is_fine unit) xs) fine in
-        let first = record_spelled x r parts.0 same.0 in
-        let rest = records_spelled xs rs parts.1 same.1 in
-        (subst (λ (is : List Instruction). AllByRecursion IsSpelled is) (sym (append_assoc (giving r) (flat_map giving rs) (instruction.End ∷ []))) (spelled_append (giving r) (unit_of rs) first.0 rest.0), (first.1, rest.1))
-
   module _ (strings : List Words) where
     abbrev context : Context
     context = attribute_context unit strings
@@ -218,13 +162,3 @@ module _ (unit : Description Target) (few : (k : Kind) → count_of k unit.items
     record_exists (source.Response number class text) r fine same = subst Exists (sym same.1) (rw (string_there text same.0 same.2) refl)
     record_exists (source.Member name item label help) r fine same =
         subst Exists (sym same.3) (rw (string_there name same.0 same.4, item_there item fine, optional_there label same.1 same.5, optional_there help same.2 same.6) refl)
-
-    pub records_exist : (xs : List source.Record) (rs : List Record) → list_all (is_fine unit) xs ≡ true → SameRecords (string_of_table strings) xs rs
-        → list_all (names_exist context) (unit_of rs) ≡ true
-    records_exist [] [] fine same = refl
-    records_exist [] (r ∷ rs) fine same = absurd same
-    records_exist (x ∷ xs) [] fine same = absurd same
-    records_exist (x ∷ xs) (r ∷ rs) fine same =
-        let parts = both_of (is_fine unit x) (list_all (is_fine unit) xs) fine in
-        ap (list_all (names_exist context)) (append_assoc (giving r) (flat_map giving rs) (instruction.End ∷ []))
-        ∙ all_append (names_exist context) (giving r) (unit_of rs) (record_exists x r parts.0 same.0) (records_exist xs rs parts.1 same.1)

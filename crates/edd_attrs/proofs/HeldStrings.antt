@@ -1,21 +1,19 @@
 -- The strings of all branches stand in the table, since their records are written.
-use Rattle.std.proofs.Common.{◌≡◌, refl, sym, ap, subst, ◌∙◌, ℕ, ◌<◌, ◌⊎◌, inl, inr, Bool, true, false, List, [], ◌∷◌, ◌++◌, length, map, arith}
-use Rattle.std.specs.List.{Contains, flat_map}
-use Rattle.std.proofs.lemmas.List.Elements.{Contains-append_cases}
+use Rattle.std.proofs.Common.{◌≡◌, refl, sym, ap, subst, ◌∙◌, Bool, true, false, List, [], ◌∷◌, ◌++◌, length, map, arith}
+use Rattle.std.specs.List.{Contains}
 use Rattle.std.proofs.lemmas.List.{map-append}
 use Rattle.std.proofs.lemmas.Grind.{flat_map-append}
 use Rattle.edd_syntax.specs.declared.reference.Target.{Target}
 use Rattle.edd_syntax.specs.Conditional.{Cond, Value, If, Select, Conds, Nil, Cons, Arms, NoArms, ConsArm, Case, Default}
 use Rattle.edd_syntax.specs.Words.{Words}
 use Rattle.edd_syntax.specs.Attributes as source
-use Rattle.edd_syntax.specs.Refusal.{DuplicateCase, refused_if}
 use Rattle.edd_syntax.specs.SubsetRules.{values_in, values_of, values_under, cond_defaults, conds_defaults, arms_defaults}
 use Rattle.edd_image.specs.Agreement.{string_of_table}
 use Rattle.edd_expressions.specs.Blocks.{Block}
-use Rattle.edd_attrs.specs.Plain.{strings_of_record, strings_of}
+use Rattle.edd_attrs.specs.Records.{strings_of_record, strings_of}
 use Rattle.edd_attrs.specs.TreeBlocks.{IsCondBlock, IsCondsBlock, IsArmsBlock, IsDefaultBlock, IsLineBlock, IsRecordBlock, Giving}
-use Rattle.edd_attrs.proofs.PlainCode.{record_held, both_held}
-use Rattle.edd_attrs.proofs.BlockChecked.{front_none}
+use Rattle.edd_attrs.proofs.RecordStrings.{record_held, both_held}
+use Rattle.edd_attrs.proofs.CheckedTrees.{front_none}
 
 -- an empty list holds nothing
 pub none_in : {A : Type 0} (strings : List Words) (v : Words) → Contains [] v → A

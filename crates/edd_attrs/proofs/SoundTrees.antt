@@ -1,7 +1,7 @@
 -- The block of a tree of a checked description: it is sound, means the tree, and its strings are the tree's.
-use Rattle.std.proofs.Common.{◌≡◌, refl, sym, ap, subst, ◌∙◌, ℕ, ◌+◌, ◌*◌, ◌^◌, ◌<◌, ◌≤◌, Bool, true, false, ℤ, pos, List, [], ◌∷◌, ◌++◌, length, map, Option, Some, None, arith}
-use Rattle.std.specs.Prelude.{◌&&◌, Ok}
-use Rattle.std.specs.List.{Contains, list_all}
+use Rattle.std.proofs.Common.{◌≡◌, refl, sym, ap, subst, ℕ, ◌+◌, ◌*◌, ◌≤◌, Bool, true, false, pos, List, [], ◌∷◌, length, Option, Some, None, arith}
+use Rattle.std.specs.Prelude.{◌&&◌}
+use Rattle.std.specs.List.{list_all}
 use Rattle.std.proofs.lemmas.Bool.{leb-true}
 use Rattle.std.proofs.Math.Path.{fun_ext}
 use Rattle.edd_syntax.specs.declared.numbers.Kind.{Kind}
@@ -16,49 +16,36 @@ use Rattle.edd_syntax.specs.declared.types.Operation as operations
 use Rattle.edd_syntax.specs.declared.types.Operation.TheVariants as operation
 use Rattle.edd_syntax.specs.Expression.{Expr}
 use Rattle.edd_syntax.specs.Conditional.{Cond, Conds}
-use Rattle.edd_syntax.specs.Item as item
-use Rattle.edd_syntax.specs.Item.{DataItem, MenuEntry, TypePart, Description}
+use Rattle.edd_syntax.specs.Item.{Description}
 use Rattle.edd_syntax.specs.Resolution.{count_of}
-use Rattle.edd_syntax.specs.Text.{Text, Name}
 use Rattle.edd_syntax.specs.Words.{Words}
-use Rattle.edd_syntax.specs.Device as device
-use Rattle.edd_syntax.specs.AttributeValue.{Trapping, value, chosen, all_chosen}
 use Rattle.edd_syntax.specs.Attributes as source
 use Rattle.edd_syntax.specs.Attributes.{bit, handling_number, operation_number, enumerator, data_item, response, entry, member}
 use Rattle.edd_syntax.specs.Size.{leaf, height, nodes, cond_nodes, conds_nodes, cond_height, conds_height}
-use Rattle.edd_syntax.specs.SubsetRules.{values_in, values_of, cond_defaults, conds_defaults}
-use Rattle.edd_syntax.specs.Strings.{strings_of_texts, enumerator_texts, entry_texts}
+use Rattle.edd_syntax.specs.SubsetRules.{values_of, conds_defaults}
 use Rattle.edd_syntax.specs.WellFormed.{is_text, if_some, is_pure_expr, is_cond, are_conds, is_single}
 use Rattle.edd_image.specs.declared.instruction.Instruction.TheVariants as instruction
 use Rattle.edd_image.specs.declared.unit.Context.{Context}
 use Rattle.edd_image.specs.References.{names_exist}
-use Rattle.edd_image.specs.Steps.{Environment, act}
 use Rattle.edd_image.specs.Agreement.{string_of_table, attribute_context}
 use Rattle.edd_expressions.specs.Blocks as block
 use Rattle.edd_expressions.specs.Blocks.{Block, size}
 use Rattle.edd_expressions.specs.Flow.{AreSpelled, Flows, all_straight, depth_after}
-use Rattle.edd_expressions.specs.Outcomes.{does}
 use Rattle.edd_expressions.specs.Reads.{reads_existing}
-use Rattle.edd_expressions.specs.Expressions.{expression_block}
 use Rattle.edd_expressions.proofs.ExpressionFlow.{expression_runs}
 use Rattle.edd_expressions.proofs.ExpressionSizes.{is_short}
 use Rattle.edd_expressions.proofs.ExpressionSpelling.{is_spelled, is_named}
-use Rattle.edd_expressions.proofs.ExpressionValues as values
 use Rattle.edd_attrs.specs.Trees as trees
 use Rattle.edd_attrs.specs.Trees.{Tree}
-use Rattle.edd_attrs.specs.Plain.{text_record, class_record, handling_record, validity_record, is_fine, strings_of, kept_data}
-use Rattle.edd_attrs.specs.Sizes.{element_texts, tree_strings, tree_nodes, length_limit}
-use Rattle.edd_attrs.specs.TreeBlocks.{elements, straight_line, IsCondBlock, IsCondsBlock, IsLineBlock, IsRecordBlock, IsValueBlock, Giving, IsTreeBlock}
-use Rattle.edd_attrs.proofs.PlainUnits.{both_of}
-use Rattle.edd_attrs.proofs.Meanings.{meaning}
-use Rattle.edd_attrs.proofs.BlockGood.{is_low, is_small, any_value, good_cond, good_conds, good_enumerator, good_expression, good_element, good_response, good_data, good_entry, good_member, is_good}
-use Rattle.edd_attrs.proofs.BlockChecked.{counts_with, reads_of, is_ruled, is_whole, none_broken, no_breach, ruled_element}
-use Rattle.edd_attrs.proofs.BlockElements.{conds_both, elements_tested, elements_low, elements_ruled, elements_same, elements_texts, elements_nodes, enumerator_fine, response_fine, member_fine, entry_fine, data_fine, strings_by, enumerator_strings, entry_strings, texts_strings, members_strings, classes_strings, responses_strings}
-use Rattle.edd_attrs.proofs.BlockSound.{ExpressionFacts, IsSound, nothing_sound, then_sound, cond_sound, conds_sound}
-use Rattle.edd_attrs.proofs.BlockMeans.{SameOutcome, nothing_means, cond_means, conds_mean, line_means}
-use Rattle.edd_attrs.proofs.BlockGiven.{given_are_chosen, all_are_chosen, expression_given, expression_is_chosen}
-use Rattle.edd_attrs.proofs.BlockRecords.{record_is_sound, record_means, line_short}
-use Rattle.edd_attrs.proofs.BlockHeld.{Held, none_in, one_held, cond_held, conds_held, line_held}
+use Rattle.edd_attrs.specs.Records.{text_record, class_record, handling_record, validity_record, is_fine, kept_data}
+use Rattle.edd_attrs.specs.Sizes.{tree_nodes, length_limit}
+use Rattle.edd_attrs.specs.TreeBlocks.{elements, IsCondBlock, IsCondsBlock, IsLineBlock, IsRecordBlock, IsValueBlock, Giving, IsTreeBlock}
+use Rattle.edd_attrs.proofs.RecordOperands.{both_of}
+use Rattle.edd_attrs.proofs.GoodTrees.{is_low, is_small, any_value, good_cond, good_enumerator, good_expression, good_response, good_data, good_entry, good_member, is_good}
+use Rattle.edd_attrs.proofs.CheckedTrees.{reads_of, is_ruled, is_whole, no_breach}
+use Rattle.edd_attrs.proofs.ElementFacts.{conds_both, elements_tested, elements_low, elements_nodes, enumerator_fine, response_fine, member_fine, entry_fine, data_fine}
+use Rattle.edd_attrs.proofs.SoundBlocks.{ExpressionFacts, IsSound, nothing_sound, then_sound, cond_sound, conds_sound}
+use Rattle.edd_attrs.proofs.RecordBlocks.{record_is_sound, line_short}
 
 pub handling_small : (h : handlings.Handling) → is_small (handling_number h) ≡ true
 handling_small handling.Read = refl

@@ -1,9 +1,8 @@
 -- The block that gives a record of a checked description.
-use Rattle.std.proofs.Common.{◌≡◌, refl, sym, ap, subst, ◌∙◌, ℕ, ◌+◌, ◌≤◌, Bool, true, ℤ, pos, List, [], ◌∷◌, length, arith}
-use Rattle.std.specs.Prelude.{◌&&◌, Ok, Option}
+use Rattle.std.proofs.Common.{◌≡◌, refl, sym, ap, subst, ◌∙◌, ◌≤◌, Bool, true, ℤ, List, [], ◌∷◌, length, arith}
+use Rattle.std.specs.Prelude.{Ok}
 use Rattle.std.specs.List.{AllByRecursion, list_all}
 use Rattle.edd_syntax.specs.declared.numbers.Kind.{Kind}
-use Rattle.edd_syntax.specs.declared.numbers.StrNo.{StrNo}
 use Rattle.edd_syntax.specs.declared.reference.Target.{Target}
 use Rattle.edd_syntax.specs.Item.{Description}
 use Rattle.edd_syntax.specs.Resolution.{count_of}
@@ -12,22 +11,20 @@ use Rattle.edd_syntax.specs.Attributes as source
 use Rattle.edd_image.specs.declared.records.Record.{Record}
 use Rattle.edd_image.specs.declared.records.Record.TheVariants as records
 use Rattle.edd_image.specs.declared.instruction.Instruction.{Instruction}
-use Rattle.edd_image.specs.declared.instruction.Instruction.TheVariants as instruction
 use Rattle.edd_image.specs.References.{names_exist}
 use Rattle.edd_image.specs.Spelling.{IsSpelled}
 use Rattle.edd_image.specs.Steps.{Environment, act}
-use Rattle.edd_image.specs.Agreement.{SameRecord, SameRecords, string_of_table, attribute_context}
-use Rattle.edd_expressions.specs.Blocks as block
+use Rattle.edd_image.specs.Agreement.{SameRecord, string_of_table, attribute_context}
 use Rattle.edd_expressions.specs.Blocks.{Block, size}
 use Rattle.edd_expressions.specs.Flow.{AreSpelled, Flows, all_straight, depth_after}
 use Rattle.edd_expressions.specs.Outcomes.{Goes, does}
 use Rattle.edd_attrs.specs.Code.{giving}
-use Rattle.edd_attrs.specs.Plain.{is_fine}
+use Rattle.edd_attrs.specs.Records.{is_fine}
 use Rattle.edd_attrs.specs.TreeBlocks.{straight_line, IsRecordBlock}
-use Rattle.edd_attrs.proofs.PlainUnits.{both_of, number_is, record_spelled, record_exists}
-use Rattle.edd_attrs.proofs.BlockSound.{IsSound}
-use Rattle.edd_attrs.proofs.BlockMeans.{SameOutcome}
-use Rattle.edd_attrs.proofs.Runs.{IsSayable, wrap_small}
+use Rattle.edd_attrs.proofs.RecordOperands.{both_of, number_is, record_spelled, record_exists}
+use Rattle.edd_attrs.proofs.SoundBlocks.{IsSound}
+use Rattle.edd_attrs.proofs.MeaningBlocks.{SameOutcome}
+use Rattle.edd_attrs.proofs.RecordOperands.{IsSayable, wrap_small}
 
 line_spelled : (is : List Instruction) → AllByRecursion IsSpelled is → AreSpelled (straight_line is)
 line_spelled [] h = tt
@@ -110,4 +107,3 @@ module _ (unit : Description Target) (few : (k : Kind) → count_of k unit.items
         exist = line_passes (names_exist (attribute_context unit strings)) (giving is.0) exist;
         short = omega (arith, line_short is.0);
       })
-

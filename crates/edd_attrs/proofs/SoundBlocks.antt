@@ -1,14 +1,12 @@
 -- The block of a conditional finds its operands, leaves none, names what exists, and is short.
-use Rattle.std.proofs.Common.{◌≡◌, refl, sym, ap, subst, ◌∙◌, ℕ, suc, ◌+◌, ◌*◌, ◌≤◌, Bool, true, false, List, [], ◌∷◌, arith}
-use Rattle.std.specs.Prelude.{◌&&◌, max, FitsSigned}
-use Rattle.std.specs.Int.{w64}
+use Rattle.std.proofs.Common.{◌≡◌, refl, sym, ap, subst, ◌∙◌, ℕ, suc, ◌+◌, ◌*◌, ◌≤◌, Bool, true, arith}
+use Rattle.std.specs.Prelude.{◌&&◌, max}
 use Rattle.std.proofs.Math.Nat.{le-max_left, le-max_right}
 use Rattle.edd_syntax.specs.declared.reference.Target.{Target}
 use Rattle.edd_syntax.specs.Expression.{Expr}
 use Rattle.edd_syntax.specs.Conditional.{Cond, Value, If, Select, Conds, Nil, Cons, Arms, NoArms, ConsArm, Case, Default}
 use Rattle.edd_syntax.specs.Size.{nodes, height, cond_nodes, conds_nodes, arms_nodes, cond_height, conds_height, arms_height}
 use Rattle.edd_syntax.specs.WellFormed.{is_label, is_pure_expr, is_cond, are_conds, are_arms}
-use Rattle.edd_image.specs.declared.instruction.Instruction.{Instruction}
 use Rattle.edd_image.specs.declared.instruction.Instruction.TheVariants as instruction
 use Rattle.edd_image.specs.declared.unit.Context.{Context}
 use Rattle.edd_image.specs.References.{names_exist}
@@ -16,8 +14,8 @@ use Rattle.edd_expressions.specs.Blocks as block
 use Rattle.edd_expressions.specs.Blocks.{Block, size}
 use Rattle.edd_expressions.specs.Flow.{AreSpelled, Flows, all_straight, depth_after}
 use Rattle.edd_expressions.specs.Expressions.{expression_block}
-use Rattle.edd_attrs.specs.TreeBlocks.{IsCondBlock, IsCondsBlock, IsArmsBlock, IsDefaultBlock, IsLineBlock}
-use Rattle.edd_attrs.proofs.PlainUnits.{both_of, label_fits}
+use Rattle.edd_attrs.specs.TreeBlocks.{IsCondBlock, IsCondsBlock, IsArmsBlock, IsDefaultBlock}
+use Rattle.edd_attrs.proofs.RecordOperands.{both_of, label_fits}
 
 -- what is known of the blocks of expressions
 pub record ExpressionFacts (context : Context) (reads : Target → Bool) : Type 0 where

@@ -1,7 +1,7 @@
 -- The block of a tree of a checked description means the tree, and the table holds the tree's strings.
-use Rattle.std.proofs.Common.{◌≡◌, refl, sym, ap, subst, ◌∙◌, ℕ, ◌+◌, ◌≤◌, Bool, true, ℤ, pos, List, [], ◌∷◌, ◌++◌, length, map, Option, Some, None, arith}
+use Rattle.std.proofs.Common.{◌≡◌, refl, sym, ap, subst, ◌∙◌, ℕ, Bool, true, ℤ, pos, List, [], ◌∷◌, map, Option, Some, None}
 use Rattle.std.specs.Prelude.{◌&&◌, Ok, Err}
-use Rattle.std.specs.List.{Contains, list_all}
+use Rattle.std.specs.List.{list_all}
 use Rattle.edd_syntax.specs.declared.numbers.Kind.{Kind}
 use Rattle.edd_syntax.specs.declared.reference.Target.{Target}
 use Rattle.edd_syntax.specs.Expression.{Expr}
@@ -23,26 +23,26 @@ use Rattle.edd_image.specs.Steps.{Environment, act}
 use Rattle.edd_image.specs.Agreement.{string_of_table}
 use Rattle.edd_expressions.specs.Blocks as block
 use Rattle.edd_expressions.specs.Blocks.{Block}
-use Rattle.edd_expressions.specs.Outcomes.{Goes, and_then, does}
+use Rattle.edd_expressions.specs.Outcomes.{and_then, does}
 use Rattle.edd_expressions.specs.Expressions.{expression_block}
 use Rattle.edd_expressions.specs.ExpressionMeaning.{of_value}
 use Rattle.edd_expressions.proofs.ExpressionValues.{means}
 use Rattle.edd_attrs.specs.Trees as trees
 use Rattle.edd_attrs.specs.Trees.{Tree}
-use Rattle.edd_attrs.specs.Plain.{text_record, class_record, handling_record, validity_record, is_fine, strings_of, kept_data}
+use Rattle.edd_attrs.specs.Records.{text_record, class_record, handling_record, validity_record, is_fine, kept_data}
 use Rattle.edd_attrs.specs.Sizes.{tree_strings, strings_of_tree}
-use Rattle.edd_attrs.specs.TreeBlocks.{elements, IsCondBlock, IsCondsBlock, IsLineBlock, IsRecordBlock, IsValueBlock, Giving, IsTreeBlock, IsBlockOf}
-use Rattle.edd_attrs.proofs.PlainUnits.{both_of}
+use Rattle.edd_attrs.specs.TreeBlocks.{elements, IsCondBlock, IsCondsBlock, IsLineBlock, IsValueBlock, Giving, IsTreeBlock, IsBlockOf}
+use Rattle.edd_attrs.proofs.RecordOperands.{both_of}
 use Rattle.edd_attrs.proofs.Meanings.{meaning, meaning_at}
 use Rattle.edd_attrs.proofs.InTrees.{if_there}
-use Rattle.edd_attrs.proofs.BlockGood.{is_low, is_small, any_value, good_cond, good_enumerator, good_expression, good_response, good_data, good_entry, good_member, is_good}
-use Rattle.edd_attrs.proofs.BlockChecked.{reads_of, is_ruled, is_whole, none_broken, no_breach, ruled_element}
-use Rattle.edd_attrs.proofs.BlockElements.{conds_both, elements_tested, elements_ruled, elements_same, elements_texts, enumerator_fine, response_fine, member_fine, entry_fine, data_fine, strings_by, enumerator_strings, entry_strings, texts_strings, members_strings, classes_strings, responses_strings}
-use Rattle.edd_attrs.proofs.BlockMeans.{SameOutcome, nothing_means, cond_means, conds_mean, line_means}
-use Rattle.edd_attrs.proofs.BlockGiven.{given_are_chosen, all_are_chosen, expression_given, expression_is_chosen}
-use Rattle.edd_attrs.proofs.BlockRecords.{record_means}
-use Rattle.edd_attrs.proofs.BlockHeld.{Held, none_in, one_held, cond_held, conds_held, line_held}
-use Rattle.edd_attrs.proofs.BlockTrees.{handling_small, operation_small, bit_small, always}
+use Rattle.edd_attrs.proofs.GoodTrees.{is_low, any_value, good_cond, good_enumerator, good_expression, good_response, good_data, good_entry, good_member, is_good}
+use Rattle.edd_attrs.proofs.CheckedTrees.{reads_of, is_ruled, is_whole, none_broken, no_breach}
+use Rattle.edd_attrs.proofs.ElementFacts.{conds_both, elements_tested, elements_ruled, elements_same, elements_texts, enumerator_fine, response_fine, member_fine, entry_fine, data_fine, strings_by, enumerator_strings, entry_strings, texts_strings, members_strings, classes_strings, responses_strings}
+use Rattle.edd_attrs.proofs.MeaningBlocks.{SameOutcome, nothing_means, cond_means, conds_mean, line_means}
+use Rattle.edd_attrs.proofs.GivenRecords.{given_are_chosen, all_are_chosen, expression_given, expression_is_chosen}
+use Rattle.edd_attrs.proofs.RecordBlocks.{record_means}
+use Rattle.edd_attrs.proofs.HeldStrings.{Held, none_in, cond_held, conds_held, line_held}
+use Rattle.edd_attrs.proofs.SoundTrees.{handling_small, operation_small, bit_small, always}
 
 module _ (unit : Description Target) (strings : List Words) where
   abbrev count : Kind → ℕ

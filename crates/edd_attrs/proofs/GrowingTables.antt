@@ -1,5 +1,5 @@
 -- What exists still does when the table of strings grows.
-use Rattle.std.proofs.Common.{◌≡◌, refl, ap, ◌∙◌, ℕ, ◌+◌, ◌<◌, Bool, true, List, ◌++◌, length, Option, Some, None, arith, length-append}
+use Rattle.std.proofs.Common.{◌≡◌, refl, Bool, true, List, ◌++◌, length, Option, Some, None, arith, length-append}
 use Rattle.std.specs.Prelude.{◌&&◌, nat_lt}
 use Rattle.std.proofs.lemmas.Bool.{lt-ltb, ltb-true}
 use Rattle.edd_syntax.specs.declared.numbers.StrNo.{StrNo}
@@ -12,12 +12,12 @@ use Rattle.edd_image.specs.declared.instruction.Ask.{Ask}
 use Rattle.edd_image.specs.declared.instruction.Ask.TheVariants as ask
 use Rattle.edd_image.specs.declared.instruction.Instruction.{Instruction}
 use Rattle.edd_image.specs.declared.instruction.Instruction.TheVariants as instruction
-use Rattle.edd_image.specs.References.{string_exists, optional_string_exists, item_exists, variable_exists, request_exists, names_exist}
+use Rattle.edd_image.specs.References.{optional_string_exists, item_exists, request_exists, names_exist}
 use Rattle.edd_image.specs.Agreement.{attribute_context}
 use Rattle.edd_expressions.specs.Blocks as block
 use Rattle.edd_expressions.specs.Blocks.{Block}
 use Rattle.edd_expressions.specs.Flow.{all_straight}
-use Rattle.edd_attrs.proofs.PlainUnits.{both_of}
+use Rattle.edd_attrs.proofs.RecordOperands.{both_of}
 
 both_true : {a b : Bool} → a ≡ true → b ≡ true → (a && b) ≡ true
 both_true p q = rw (p, q) refl

@@ -1,5 +1,5 @@
 -- What was lowered of a row of a checked description is the code of its attribute.
-use Rattle.std.proofs.Common.{◌≡◌, refl, sym, ap, subst, ◌∙◌, ℕ, ◌+◌, ◌*◌, ◌^◌, ◌<◌, ◌≤◌, ◌⊎◌, inl, inr, Bool, true, ℤ, List, [], ◌∷◌, ◌++◌, length, take, Option, Some, None, arith, length-append}
+use Rattle.std.proofs.Common.{◌≡◌, refl, sym, ap, subst, ◌∙◌, ℕ, ◌+◌, ◌*◌, ◌^◌, ◌<◌, ◌≤◌, ◌⊎◌, inl, inr, Bool, true, ℤ, List, [], ◌++◌, length, take, Option, Some, None, arith, length-append}
 use Rattle.std.specs.Prelude.{◌↔◌, ◌&&◌, Result, Ok, Err, IfOk, OnOk}
 use Rattle.std.specs.List.{Contains, list_all}
 use Rattle.std.proofs.lemmas.List.{append-nil, take_at}
@@ -15,7 +15,7 @@ use Rattle.edd_syntax.specs.Resolved.{IsChecked}
 use Rattle.edd_syntax.specs.Size.{leaf, unit_nodes, conds_height}
 use Rattle.edd_syntax.specs.Resolution.{count_of}
 use Rattle.edd_syntax.specs.Strings.{different}
-use Rattle.edd_syntax.specs.SubsetRules.{values_in, values_of, conds_defaults}
+use Rattle.edd_syntax.specs.SubsetRules.{values_of, conds_defaults}
 use Rattle.edd_syntax.specs.AttributeValue.{Trapping}
 use Rattle.edd_syntax.specs.Attributes as source
 use Rattle.edd_syntax.specs.WellFormed.{is_text, is_cond, are_conds}
@@ -26,9 +26,8 @@ use Rattle.edd_image.specs.declared.unit.Sort.TheVariants.{Attribute}
 use Rattle.edd_image.specs.Spelling.{spelling}
 use Rattle.edd_image.specs.Units.{IsValidUnit}
 use Rattle.edd_image.specs.Reading.{given_within}
-use Rattle.edd_image.specs.Steps.{Environment, opening}
+use Rattle.edd_image.specs.Steps.{opening}
 use Rattle.edd_image.specs.Agreement.{SameRun, UnitMeans, IsAttributeCode, string_of_table, attribute_context, tree_meaning}
-use Rattle.edd_expressions.specs.Blocks as block
 use Rattle.edd_expressions.specs.Blocks.{Block, size, bytes_at, unit_code}
 use Rattle.edd_expressions.specs.Outcomes.{does}
 use Rattle.edd_expressions.proofs.BlockBytes.{lengths}
@@ -36,25 +35,25 @@ use Rattle.edd_expressions.proofs.BlockUnits.{unit_is_valid}
 use Rattle.edd_expressions.proofs.UnitRuns.{unit_goes, unit_traps}
 use Rattle.edd_attrs.specs.Trees as trees
 use Rattle.edd_attrs.specs.Trees.{Tree, tree_at}
-use Rattle.edd_attrs.specs.Plain.{kept_enumerator, kept_data, kept_entry, kept_response, kept_member}
-use Rattle.edd_attrs.specs.Sizes.{strings_at, strings_of_tree, tree_nodes, length_limit}
-use Rattle.edd_attrs.specs.Code.{AreDifferent, Overflows, Grows}
+use Rattle.edd_attrs.specs.Records.{kept_enumerator, kept_data, kept_entry, kept_response, kept_member}
+use Rattle.edd_attrs.specs.Sizes.{strings_at, tree_nodes, length_limit}
+use Rattle.edd_attrs.specs.Code.{AreDifferent, Grows}
 use Rattle.edd_attrs.specs.Lowered.{LowersTree, OverflowsTree}
 use Rattle.edd_attrs.specs.Kept.{is_kept_tree, is_kept_row}
 use Rattle.edd_attrs.specs.TreeBlocks.{elements, IsBlockOf}
-use Rattle.edd_attrs.proofs.PlainUnits.{both_of}
+use Rattle.edd_attrs.proofs.RecordOperands.{both_of}
 use Rattle.edd_attrs.proofs.Different.{fewer_different}
 use Rattle.edd_attrs.proofs.InTrees.{if_there}
-use Rattle.edd_attrs.proofs.Meanings.{meaning_at, unit_means}
+use Rattle.edd_attrs.proofs.Meanings.{unit_means}
 use Rattle.edd_attrs.proofs.FewNodes.{few_nodes}
-use Rattle.edd_attrs.proofs.BlockNodes.{few_at}
-use Rattle.edd_attrs.proofs.BlockGood.{is_low, is_small, all_good, good_cond, good_enumerator, good_element, good_response, good_data, good_entry, good_member, is_good}
-use Rattle.edd_attrs.proofs.BlockChecked.{reads_of, is_ruled, is_whole, no_breach, whole_when_checked}
-use Rattle.edd_attrs.proofs.BlockElements.{values_pass, all_values_pass, elements_tested, entry_kept}
-use Rattle.edd_attrs.proofs.BlockLater.{still_exist}
-use Rattle.edd_attrs.proofs.BlockMeans.{SameOutcome}
-use Rattle.edd_attrs.proofs.BlockTrees.{IsSoundUnit, tree_sound}
-use Rattle.edd_attrs.proofs.BlockTreeMeaning.{block_means, block_held}
+use Rattle.edd_attrs.proofs.NodeBounds.{few_at}
+use Rattle.edd_attrs.proofs.GoodTrees.{is_low, is_small, all_good, good_cond, good_enumerator, good_element, good_response, good_entry, good_member}
+use Rattle.edd_attrs.proofs.CheckedTrees.{reads_of, is_ruled, is_whole, no_breach, whole_when_checked}
+use Rattle.edd_attrs.proofs.ElementFacts.{values_pass, all_values_pass, elements_tested, entry_kept}
+use Rattle.edd_attrs.proofs.GrowingTables.{still_exist}
+use Rattle.edd_attrs.proofs.MeaningBlocks.{SameOutcome}
+use Rattle.edd_attrs.proofs.SoundTrees.{IsSoundUnit, tree_sound}
+use Rattle.edd_attrs.proofs.MeaningTrees.{block_means, block_held}
 
 -- ---- what the code asks of a tree
 

@@ -1,31 +1,30 @@
 -- The block of a conditional comes to what the conditional means.
-use Rattle.std.proofs.Common.{◌≡◌, refl, sym, ap, subst, ◌∙◌, Bool, true, false, ℤ, List, [], ◌∷◌, ◌++◌, map, append_assoc}
-use Rattle.std.specs.Prelude.{◌&&◌, Result, Ok, Err, Option}
+use Rattle.std.proofs.Common.{◌≡◌, refl, sym, ap, subst, ◌∙◌, Bool, true, false, ℤ, List, [], ◌∷◌, ◌++◌, map}
+use Rattle.std.specs.Prelude.{Ok, Err, Option}
 use Rattle.std.specs.List.{list_all}
 use Rattle.std.specs.Ordering.{int_eq}
-use Rattle.edd_syntax.specs.declared.answer.Trap.{Trap}
 use Rattle.edd_syntax.specs.declared.numbers.StrNo.{StrNo}
 use Rattle.edd_syntax.specs.declared.reference.Target.{Target}
 use Rattle.edd_syntax.specs.Expression.{Expr}
 use Rattle.edd_syntax.specs.Conditional.{Cond, Value, If, Select, Conds, Nil, Cons, Arms, NoArms, ConsArm, Case, Default}
-use Rattle.edd_syntax.specs.AttributeValue.{Trapping, ◌>>=◌, value, chosen, all_chosen, case_chosen, default_chosen}
+use Rattle.edd_syntax.specs.AttributeValue.{Trapping, ◌>>=◌, value}
 use Rattle.edd_syntax.specs.TwosComplement.{is_zero}
 use Rattle.edd_syntax.specs.Device as device
 use Rattle.edd_syntax.specs.Words.{Words}
 use Rattle.edd_syntax.specs.Attributes as source
-use Rattle.edd_syntax.specs.WellFormed.{is_pure_expr, is_cond, are_conds, are_arms, is_label, is_single, is_one, is_at_most_one, are_single_arms}
+use Rattle.edd_syntax.specs.WellFormed.{is_pure_expr, is_cond, are_conds, are_arms, is_label}
 use Rattle.edd_image.specs.declared.records.Record.{Record}
 use Rattle.edd_image.specs.declared.instruction.Instruction.TheVariants as instruction
 use Rattle.edd_image.specs.Steps.{Environment, act}
-use Rattle.edd_image.specs.Agreement.{SameRecord, SameRecords}
+use Rattle.edd_image.specs.Agreement.{SameRecords}
 use Rattle.edd_expressions.specs.Blocks as block
 use Rattle.edd_expressions.specs.Blocks.{Block}
 use Rattle.edd_expressions.specs.Outcomes.{Outcome, Goes, Traps, Stuck, behind, and_then, does}
 use Rattle.edd_expressions.specs.Expressions.{expression_block}
 use Rattle.edd_expressions.specs.ExpressionMeaning.{of_value}
 use Rattle.edd_attrs.specs.TreeBlocks.{IsCondBlock, IsCondsBlock, IsArmsBlock, IsDefaultBlock, IsLineBlock}
-use Rattle.edd_attrs.proofs.PlainUnits.{both_of}
-use Rattle.edd_attrs.proofs.BlockGiven.{given, all_given, case_given, default_given}
+use Rattle.edd_attrs.proofs.RecordOperands.{both_of}
+use Rattle.edd_attrs.proofs.GivenRecords.{given, all_given, case_given, default_given}
 
 behind_nothing : (o : Outcome) → behind [] o ≡ o
 behind_nothing (Goes records operands) = refl
