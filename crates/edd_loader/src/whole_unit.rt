@@ -11,6 +11,7 @@ use edd_image::{Context, Instruction, Way, decode};
 use std::alloc::{AllocError, Global};
 
 // Whether a way, where there is one, stays inside the unit.
+#[inline(always)]
 fn stays_inside(size: usize, way: Option<Way>) -> bool
     ensures { result ≡ option_map_or (λ w. nat_lt w.to size) way true }
 {
@@ -21,6 +22,7 @@ fn stays_inside(size: usize, way: Option<Way>) -> bool
 }
 
 // Whether an instruction by itself may stand here in a unit of this size.
+#[inline(always)]
 fn may_stand(
     context: Context,
     size: usize,
