@@ -44,12 +44,11 @@ fn are_starts(table: &[Option<u8>], starts: &[bool]) -> bool
     requires { length table.now ≡ length starts.now }
     ensures { IsTrue result → (q d : ℕ) → slice_index_or table.now q None ≡ Some d → slice_index_or starts.now q false ≡ true }
 {
+    let mut are_starts = true;
     for place in 0..table.len() {
-        if table[place].is_some() && !starts[place] {
-            return false;
-        }
+        are_starts = are_starts & (table[place].is_none() | starts[place]);
     }
-    true
+    are_starts
 }
 
 /// Whether one walk over a unit sees that it keeps all rules. It says nothing of the rule that another unit breaks.
