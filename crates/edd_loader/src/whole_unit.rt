@@ -51,7 +51,7 @@ fn are_starts(table: &[Option<u8>], starts: &[bool]) -> bool
     are_starts
 }
 
-/// Whether one walk over a unit sees that it keeps all rules. It says nothing of the rule that another unit breaks.
+/// Whether one walk over a unit sees that it keeps all rules. Where it doesn't, that says nothing of which one is broken.
 pub fn is_accepted(alloc: Global, context: Context, code: &[u8]) -> Result<bool, AllocError>
     ensures { IfOk result (λ accepted. IsTrue accepted → IsValidUnit context code.now) }
 {
