@@ -1,5 +1,9 @@
 //! The lines of the items of an image.
 
+ghost use Rattle.std.specs.Prelude.{IsTrue};
+ghost use Rattle.edd_syntax.specs.DeviceValues.{AreDeviceValues};
+ghost use Rattle.edd_machine.specs.Types.{types_in};
+
 use crate::fault::ShowFault;
 use crate::lines::print;
 use crate::page::Page;
@@ -7,7 +11,7 @@ use crate::records::push_records;
 use crate::words::{attribute_word, kind_word, type_word};
 use edd_image::{Counts, Record, VarKind};
 use edd_loader::Image;
-use edd_machine::{ReadFault, Values, attribute};
+use edd_machine::{ReadFault, Values, attribute_of_device};
 use edd_syntax::numbers::{
     Attr, AttrRef, CmdNo, CollNo, ItemNo, KINDS, Kind, MenuNo, MethNo, VarNo,
 };
@@ -47,8 +51,10 @@ enum Found {
     Trap(&'static str),
 }
 
-fn read(alloc: Global, page: &Page<'_>, row: AttrRef, values: &Values) -> Result<Found, ShowFault> {
-    match attribute(alloc, page.image, row, values) {
+fn read(alloc: Global, page: &Page<'_>, row: AttrRef, values: &Values) -> Result<Found, ShowFault>
+    requires { AreDeviceValues (types_in page.now.image.now) values.now.numbers.items }
+{
+    match attribute_of_device(alloc, page.image, row, values) {
         Ok(records) => Ok(Found::Records(records)),
         Err(ReadFault::NoItem) => Ok(Found::Nothing),
         Err(ReadFault::DivZero) => Ok(Found::Trap("DIV_ZERO")),
@@ -83,7 +89,9 @@ fn print_attribute<W: Write>(
     values: &Values,
     row: AttrRef,
     out: &mut W,
-) -> Result<(), ShowFault> {
+) -> Result<(), ShowFault>
+    requires { AreDeviceValues (types_in page.now.image.now) values.now.numbers.items }
+{
     let found = read(alloc, page, row, values)?;
     let is_empty = match &found {
         Found::Nothing => true,
@@ -104,7 +112,9 @@ fn print_attributes<W: Write>(
     item: ItemNo,
     attributes: &[Attr],
     out: &mut W,
-) -> Result<(), ShowFault> {
+) -> Result<(), ShowFault>
+    requires { AreDeviceValues (types_in page.now.image.now) values.now.numbers.items }
+{
     for attr in attributes {
         let row = AttrRef {
             item,
@@ -124,7 +134,9 @@ fn print_transaction<W: Write>(
     item: ItemNo,
     sub: u16,
     out: &mut W,
-) -> Result<bool, ShowFault> {
+) -> Result<bool, ShowFault>
+    requires { AreDeviceValues (types_in page.now.image.now) values.now.numbers.items }
+{
     for attr in OF_TRANSACTIONS {
         let row = AttrRef { item, attr, sub };
         let found = read(alloc, page, row, values)?;
@@ -143,7 +155,9 @@ fn print_transactions<W: Write>(
     values: &Values,
     item: ItemNo,
     out: &mut W,
-) -> Result<(), ShowFault> {
+) -> Result<(), ShowFault>
+    requires { AreDeviceValues (types_in page.now.image.now) values.now.numbers.items }
+{
     for sub in 0..=u16::MAX {
         if !print_transaction(alloc, page, values, item, sub, out)? {
             return Ok(());
@@ -184,16 +198,24 @@ fn print_head<W: Write>(
     }
 }
 
+// `are_good` says whether the values are those of a device of this description. Each item has an attribute that is read, so
+// with other values none gets past its first line.
 fn print_item<W: Write>(
     alloc: Global,
     page: &Page<'_>,
     values: &Values,
+    are_good: bool,
     kind: Kind,
     number: u16,
     out: &mut W,
-) -> Result<(), ShowFault> {
+) -> Result<(), ShowFault>
+    requires { IsTrue are_good → AreDeviceValues (types_in page.now.image.now) values.now.numbers.items }
+{
     let item = item_number(kind, number);
     print_head(alloc, page, kind, item, out)?;
+    if !are_good {
+        return Err(ShowFault::WrongValues);
+    }
     print_attributes(alloc, page, values, item, &BEFORE_TRANSACTIONS, out)?;
     if kind == Kind::Command {
         print_transactions(alloc, page, values, item, out)?;
@@ -215,12 +237,15 @@ fn print_kind<W: Write>(
     alloc: Global,
     page: &Page<'_>,
     values: &Values,
+    are_good: bool,
     kind: Kind,
     out: &mut W,
-) -> Result<(), ShowFault> {
+) -> Result<(), ShowFault>
+    requires { IsTrue are_good → AreDeviceValues (types_in page.now.image.now) values.now.numbers.items }
+{
     let count = count_of(&page.image.counts(), kind);
     for number in 0..count {
-        print_item(alloc, page, values, kind, number, out)?;
+        print_item(alloc, page, values, are_good, kind, number, out)?;
     }
     Ok(())
 }
@@ -246,8 +271,9 @@ pub fn show<W: Write>(
         out,
         format_args!("identification {maker} {device} {revision} {dd}"),
     )?;
+    let are_good = values.are_of(image);
     for kind in KINDS {
-        print_kind(alloc, &page, values, kind, out)?;
+        print_kind(alloc, &page, values, are_good, kind, out)?;
     }
     Ok(())
 }

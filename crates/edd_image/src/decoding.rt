@@ -1,6 +1,7 @@
 //! Reading an instruction from the bytes of a unit.
 
-ghost use Rattle.std.specs.Prelude.{◌≡◌, ◌<◌, ◌≤◌, length, IfSome, option_map, Some};
+ghost use Rattle.std.specs.Prelude.{◌≡◌, ◌<◌, ◌≤◌, length, ◌==◌, IfSome, option_map, nat_lt, if◌then◌else◌, None, Some};
+ghost use Rattle.edd_image.specs.declared.instruction.Instruction.TheVariants as instructions;
 ghost use Rattle.std.specs.Int.{w16, w32, w64};
 ghost use Rattle.edd_image.specs.Decoding.{byte_from, number_from, signed_from, item_from, optional_string, basic_from, operator_of, comparison_of, unary_of, jump_from, entry_from, data_from, enumerator_from, response_from, member_from, record_from, ask_of, ask_from, instruction_from, instruction_at};
 
@@ -9,6 +10,7 @@ use crate::numbers::item_of;
 use edd_syntax::numbers::{ItemNo, StrNo, VarNo};
 use edd_syntax::operators::{Comparison, Operator};
 
+#[inline(always)]
 #[tactic(auto, unfolding(crate::specs::Decoding::byte_from))]
 fn byte_from(bytes: &[u8]) -> Option<(u8, &[u8])>
     ensures { option_map (λ x. (x.0, x.1.now)) result ≡ byte_from bytes.now }
@@ -19,6 +21,7 @@ fn byte_from(bytes: &[u8]) -> Option<(u8, &[u8])>
     }
 }
 
+#[inline(always)]
 #[tactic(auto, unfolding(crate::specs::Decoding::number_from))]
 fn u16_from(bytes: &[u8]) -> Option<(u16, &[u8])>
     ensures { option_map (λ x. (x.0, x.1.now)) result ≡ number_from w16 bytes.now }
@@ -31,6 +34,7 @@ fn u16_from(bytes: &[u8]) -> Option<(u16, &[u8])>
     Some((number, rest))
 }
 
+#[inline(always)]
 #[tactic(auto, unfolding(crate::specs::Decoding::number_from))]
 fn u32_from(bytes: &[u8]) -> Option<(u32, &[u8])>
     ensures { option_map (λ x. (x.0, x.1.now)) result ≡ number_from w32 bytes.now }
@@ -43,6 +47,7 @@ fn u32_from(bytes: &[u8]) -> Option<(u32, &[u8])>
     Some((number, rest))
 }
 
+#[inline(always)]
 #[tactic(auto, unfolding(crate::specs::Decoding::signed_from))]
 fn i64_from(bytes: &[u8]) -> Option<(i64, &[u8])>
     ensures { option_map (λ x. (x.0, x.1.now)) result ≡ signed_from w64 bytes.now }
@@ -77,6 +82,7 @@ fn item_from(bytes: &[u8]) -> Option<(ItemNo, &[u8])>
     Some((item, rest))
 }
 
+#[inline(always)]
 #[tactic(auto, unfolding(crate::specs::Decoding::basic_from))]
 fn basic_from(code: u8, bytes: &[u8]) -> Option<(Instruction, &[u8])>
     ensures { option_map (λ x. (x.0, x.1.now)) result ≡ basic_from code bytes.now }
@@ -109,6 +115,7 @@ fn basic_from(code: u8, bytes: &[u8]) -> Option<(Instruction, &[u8])>
     }
 }
 
+#[inline(always)]
 #[tactic(auto, unfolding(crate::specs::Decoding::operator_of))]
 fn operator_of(code: u8) -> Option<Operator>
     ensures { result ≡ operator_of code }
@@ -128,6 +135,7 @@ fn operator_of(code: u8) -> Option<Operator>
     }
 }
 
+#[inline(always)]
 #[tactic(auto, unfolding(crate::specs::Decoding::comparison_of))]
 fn comparison_of(code: u8) -> Option<Comparison>
     ensures { result ≡ comparison_of code }
@@ -143,6 +151,7 @@ fn comparison_of(code: u8) -> Option<Comparison>
     }
 }
 
+#[inline(always)]
 #[tactic(auto, unfolding(crate::specs::Decoding::unary_of))]
 fn unary_of(code: u8) -> Option<Instruction>
     ensures { result ≡ unary_of code }
@@ -155,6 +164,7 @@ fn unary_of(code: u8) -> Option<Instruction>
     }
 }
 
+#[inline(always)]
 #[tactic(auto, unfolding(crate::specs::Decoding::jump_from))]
 fn jump_from(code: u8, bytes: &[u8]) -> Option<(Instruction, &[u8])>
     ensures { option_map (λ x. (x.0, x.1.now)) result ≡ jump_from code bytes.now }
@@ -318,6 +328,26 @@ fn ask_from(bytes: &[u8]) -> Option<(Instruction, &[u8])>
     Some((Instruction::Ask(request), rest))
 }
 
+// What is not arithmetic: records, requests and the end without a method's end.
+#[inline(never)]
+fn other_from(code: u8, bytes: &[u8]) -> Option<(Instruction, &[u8])>
+    ensures { option_map (λ x. (x.0, x.1.now)) result ≡
+        (if nat_lt code 0x50 then record_from code bytes.now else
+        if code == 0x50 then ask_from bytes.now else
+        if code == 0x51 then Some (instructions.Abort, bytes.now) else None) }
+{
+    if code < 0x50 {
+        record_from(code, bytes)
+    } else if code == 0x50 {
+        ask_from(bytes)
+    } else if code == 0x51 {
+        Some((Instruction::Abort, bytes))
+    } else {
+        None
+    }
+}
+
+#[inline(always)]
 #[tactic(auto, unfolding(crate::specs::Decoding::instruction_from))]
 fn instruction_from(bytes: &[u8]) -> Option<(Instruction, &[u8])>
     ensures { option_map (λ x. (x.0, x.1.now)) result ≡ instruction_from bytes.now }
@@ -339,18 +369,13 @@ fn instruction_from(bytes: &[u8]) -> Option<(Instruction, &[u8])>
         Some((instruction, rest))
     } else if code < 0x40 {
         jump_from(code, rest)
-    } else if code < 0x50 {
-        record_from(code, rest)
-    } else if code == 0x50 {
-        ask_from(rest)
-    } else if code == 0x51 {
-        Some((Instruction::Abort, rest))
     } else {
-        None
+        other_from(code, rest)
     }
 }
 
 /// The instruction at a place and the place after it, where a whole instruction stands there.
+#[inline(always)]
 #[tactic(auto, unfolding(crate::specs::Decoding::instruction_at))]
 pub fn decode(code: &[u8], place: usize) -> Option<(Instruction, usize)>
     requires { place ≤ length code.now }

@@ -39,6 +39,7 @@ pub struct Way {
 
 impl Instruction {
     /// How many operands it takes off the stack, or reads there.
+    #[inline(always)]
     pub fn takes(self) -> u8
         ensures { result ≡ takes self }
     {
@@ -64,6 +65,7 @@ impl Instruction {
     }
 
     /// The way to the instruction after it, at `next`.
+    #[inline(always)]
     pub fn onward(self, next: usize) -> Option<Way>
         ensures { result ≡ onward self next }
     {
@@ -88,6 +90,7 @@ impl Instruction {
     }
 
     /// The way to its target.
+    #[inline(always)]
     pub fn jump(self) -> Option<Way>
         ensures { result ≡ jump self }
     {
@@ -104,6 +107,7 @@ impl Instruction {
     }
 
     /// Whether a unit of this sort may have it in an image of this version.
+    #[inline(always)]
     pub fn is_allowed(self, version: Version, sort: Sort) -> bool
         ensures { result ≡ is_allowed version sort self }
     {
@@ -185,6 +189,7 @@ impl Counts {
 
 impl Context {
     /// Whether there is all that an instruction names.
+    #[inline(always)]
     pub fn has_names(self, instruction: Instruction) -> bool
         ensures { result ≡ names_exist self instruction }
     {

@@ -6,7 +6,11 @@ use Rattle.edd_image.specs.declared.rules.UnitRule.TheVariants as unit_rule
 use Rattle.edd_image.specs.declared.rules.Rule.{Rule}
 use Rattle.edd_image.specs.declared.rules.Rule.TheVariants as rule
 use Rattle.edd_image.specs.Fields.{total_length, sections_end}
-use Rattle.edd_image.specs.Validity.{Keeps, IsValid, fault_number, lengths_agree}
+use Rattle.edd_image.specs.Contents.{contents_in}
+use Rattle.edd_image.specs.Units.{IsValidUnit}
+use Rattle.edd_image.specs.Validity.{Keeps, IsValid, fault_number, lengths_agree, units}
+use Rattle.std.specs.List.{AllByRecursion}
+use Rattle.edd_loader.proofs.DepthLaws.{each}
 use Rattle.edd_loader.specs.Rules.{KeepsBelow}
 use Rattle.edd_loader.specs.Sections.{AreSectionsOf}
 
@@ -94,3 +98,17 @@ valid_sections b valid = sections_fill b 112 (omega arith) (λ r h. valid r)
 -- the same of other words for the bytes
 pub has_header : (b c : List ℕ) → c ≡ b → IsValid b → 56 ≤ length c
 has_header b c e valid = rw e (valid_sections b valid).header
+
+-- where all units are valid, so is an image that keeps the rules before those on units
+pub valid_by_units : (b : List ℕ) → KeepsBelow b 108 → AllByRecursion (λ u. IsValidUnit u.context u.code) (units (contents_in b)) → IsValid b
+valid_by_units b below all rule.Short = below rule.Short (omega arith)
+valid_by_units b below all rule.Magic = below rule.Magic (omega arith)
+valid_by_units b below all rule.Version = below rule.Version (omega arith)
+valid_by_units b below all rule.Length = below rule.Length (omega arith)
+valid_by_units b below all rule.Row = below rule.Row (omega arith)
+valid_by_units b below all rule.Name = below rule.Name (omega arith)
+valid_by_units b below all rule.Text = below rule.Text (omega arith)
+valid_by_units b below all (rule.Unit unit_rule.Chain) = each (units (contents_in b)) (λ u valid. valid.chain) all
+valid_by_units b below all (rule.Unit unit_rule.Jump) = each (units (contents_in b)) (λ u valid. valid.jumps) all
+valid_by_units b below all (rule.Unit unit_rule.Depth) = each (units (contents_in b)) (λ u valid. valid.depths) all
+valid_by_units b below all (rule.Unit unit_rule.Reference) = each (units (contents_in b)) (λ u valid. valid.references) all

@@ -53,6 +53,12 @@ kept_here counts code unit rule r context place size e u p s h =
     let same : unit ≡ part r.span code = u ∙ rw (p, s) refl in
     subst (λ (c : Context). UnitKeeps c unit rule) (sym e) (subst (λ (x : List ℕ). UnitKeeps (context_of counts r) x rule) (sym same) h)
 
+pub holds_here : (P : Context → List ℕ → Type 0) (counts : Counts) (code unit : List ℕ) (r : AttributeFields) (context : Context) (place size : ℕ) → context ≡ context_of counts r → unit ≡ part (record { start = place; size = size }) code → place ≡ r.span.start → size ≡ r.span.size
+    → P context unit → P (context_of counts r) (part r.span code)
+holds_here P counts code unit r context place size e u p s h =
+    let same : unit ≡ part r.span code = u ∙ rw (p, s) refl in
+    subst (λ (c : Context). P c (part r.span code)) e (subst (λ (x : List ℕ). P context x) same h)
+
 -- ---- the units of an image, and those of its rows
 
 one_version : (v : Version) → One ≡ v

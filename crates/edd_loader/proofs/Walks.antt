@@ -88,7 +88,7 @@ some_bytes (suc n) e = omega arith
 
 -- ---- where ways lead
 
-if_any : (p : Way → Bool) (a b : Option Way) → list_all p (option_to_list a ++ option_to_list b) ≡ (option_map_or p a true && option_map_or p b true)
+pub if_any : (p : Way → Bool) (a b : Option Way) → list_all p (option_to_list a ++ option_to_list b) ≡ (option_map_or p a true && option_map_or p b true)
 if_any p None None = refl
 if_any p None (Some w) = elim (cases_Bool (p w)) [ inl e ↦ rw e refl | inr e ↦ rw e refl ]
 if_any p (Some v) None = refl

@@ -6,7 +6,7 @@ use Rattle.edd_image.specs.declared.unit.Context.{Context}
 use Rattle.edd_image.specs.declared.rules.UnitRule.{UnitRule}
 use Rattle.edd_image.specs.declared.rules.UnitRule.TheVariants.{Chain, Jump, Depth, Reference}
 use Rattle.edd_image.specs.Contents.{AttributeFields, Contents, part}
-use Rattle.edd_image.specs.Units.{UnitKeeps}
+use Rattle.edd_image.specs.Units.{UnitKeeps, IsValidUnit}
 use Rattle.edd_image.specs.Validity.{sort_of, slots_of, UnitsKeep}
 
 -- what is known of a unit before it is looked at for a rule
@@ -31,3 +31,7 @@ RowKeeps counts code rule r = UnitKeeps (context_of counts r) (part r.span code)
 
 abbrev pub RowNeeds : Counts → List ℕ → UnitRule → AttributeFields → Type 0
 RowNeeds counts code rule r = Needs (context_of counts r) (part r.span code) rule
+
+-- the unit of the row keeps all rules
+abbrev pub RowIsValid : Counts → List ℕ → AttributeFields → Type 0
+RowIsValid counts code r = IsValidUnit (context_of counts r) (part r.span code)

@@ -6,7 +6,7 @@ ghost use Rattle.edd_loader.specs.Rules.{KeepsBelow};
 
 use crate::header::broken_in_header;
 use crate::sections::{are_names, are_rows, are_strings};
-use crate::units::units_keep;
+use crate::units::{units_accepted, units_keep};
 use edd_image::{Rule, UnitRule};
 use std::alloc::{AllocError, Global};
 
@@ -27,11 +27,15 @@ fn broken_in_sections(bytes: &[u8]) -> Option<Rule>
     None
 }
 
-// The first of the rules on units that is broken, if one is. All units are looked at for a rule before any is for the next.
+// The first of the rules on units that is broken, if one is. All units are looked at for a rule before any is for the next, but
+// only where one walk that looks for all rules doesn't accept them.
 fn broken_in_units(alloc: Global, bytes: &[u8]) -> Result<Option<Rule>, AllocError>
     requires { KeepsBelow bytes.now 108 }
     ensures { IfOk result (λ broken. MatchOption broken (IsValid bytes.now) (BreaksFirst bytes.now)) }
 {
+    if units_accepted(alloc, bytes)? {
+        return Ok(None);
+    }
     if !units_keep(alloc, UnitRule::Chain, bytes)? {
         return Ok(Some(Rule::Unit(UnitRule::Chain)));
     }

@@ -16,6 +16,7 @@ mod spans;
 mod texts;
 mod unit;
 mod units;
+mod whole_unit;
 mod words;
 
 pub use fault::LoadFault;

@@ -94,6 +94,76 @@ fn faults_come_in_order(rt: HostRuntime) -> Result<(), Fail> {
     Ok(())
 }
 
+// Where an answer is counted: behind the images each fault by its number.
+fn count_of(fault: LoadFault) -> usize {
+    match fault {
+        LoadFault::Short => 1,
+        LoadFault::Magic => 2,
+        LoadFault::Version => 3,
+        LoadFault::Length => 4,
+        LoadFault::Row => 5,
+        LoadFault::Name => 6,
+        LoadFault::Text => 7,
+        LoadFault::Instruction => 8,
+        LoadFault::Jump => 9,
+        LoadFault::Depth => 10,
+        LoadFault::Reference => 11,
+        LoadFault::Memory => 12,
+    }
+}
+
+// Where the answer to these bytes is counted. An image has to give them back.
+fn answer_to(alloc: Global, bytes: &[u8]) -> Result<usize, Fail> {
+    match load(alloc, bytes) {
+        Ok(image) if image.bytes() == bytes => Ok(0),
+        Ok(_) => Err(Fail::from("other bytes")),
+        Err(fault) => Ok(count_of(fault)),
+    }
+}
+
+// Counts the answers where the byte at a place, which is `byte`, is set to each other value.
+fn count_at(
+    alloc: Global,
+    image: &[u8],
+    place: usize,
+    byte: u8,
+    counts: &mut [u32; 13],
+) -> Result<(), Fail> {
+    for step in 1..=u8::MAX {
+        let bytes = edited(alloc, image, place, byte.wrapping_add(step))?;
+        let answer = answer_to(alloc, &bytes)?;
+        if let Some(count) = counts.get_mut(answer) {
+            *count = count.wrapping_add(1);
+        }
+    }
+    Ok(())
+}
+
+fn count_edits(alloc: Global, image: &[u8]) -> Result<[u32; 13], Fail> {
+    let mut counts = [0; 13];
+    for (place, byte) in image.iter().enumerate() {
+        count_at(alloc, image, place, *byte, &mut counts)?;
+    }
+    Ok(counts)
+}
+
+// How many of the edits give an image, and how many each fault, by `tools/count_edits`.
+#[test]
+fn each_byte_set_to_each_value(rt: HostRuntime) -> Result<(), Fail> {
+    let alloc = rt.alloc();
+    assert_eq!(rt;
+        count_edits(alloc, &LOOP)?,
+        [4198, 0, 1020, 510, 8160, 6562, 203, 0, 225, 1027, 23, 2, 0]
+    );
+    assert_eq!(rt;
+        count_edits(alloc, &LABEL)?,
+        [
+            5904, 0, 1020, 510, 8160, 9673, 203, 5388, 463, 22, 22, 510, 0
+        ]
+    );
+    Ok(())
+}
+
 #[test]
 fn prefixes_are_short(rt: HostRuntime) -> Result<(), Fail> {
     let alloc = rt.alloc();

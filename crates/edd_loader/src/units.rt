@@ -3,15 +3,16 @@
 ghost use Rattle.std.specs.Prelude.{◌≡◌, ◌↔◌, ◌+◌, ◌*◌, ◌≤◌, IfOk, IsTrue, length};
 ghost use Rattle.std.specs.List.{AllByRecursion, list_all};
 ghost use Rattle.edd_image.specs.Contents.{part, rows_from, attribute_fields, contents_in};
-ghost use Rattle.edd_image.specs.Units.{UnitKeeps};
-ghost use Rattle.edd_image.specs.Validity.{are_rows, UnitsKeep};
+ghost use Rattle.edd_image.specs.Units.{UnitKeeps, IsValidUnit};
+ghost use Rattle.edd_image.specs.Validity.{are_rows, units, UnitsKeep};
 ghost use Rattle.edd_loader.specs.Sections.{AreSectionsOf, lies_within};
-ghost use Rattle.edd_loader.specs.UnitRows.{Needs, UnitsNeed, RowKeeps, RowNeeds, context_of};
+ghost use Rattle.edd_loader.specs.UnitRows.{Needs, UnitsNeed, RowKeeps, RowNeeds, RowIsValid, context_of};
 
 use crate::attributes::DEFINITION;
 use crate::depths::has_depths;
 use crate::spans::part;
 use crate::unit::{all_exist, all_land, is_chain, starts};
+use crate::whole_unit::is_accepted;
 use edd_image::{
     ATTRIBUTE_ROW, Context, Counts, Sort, UnitRule, Version, attribute_count, attribute_length,
     attribute_number, attribute_rows_start, attribute_start, attribute_sub, code_length,
@@ -103,4 +104,44 @@ pub fn units_keep(alloc: Global, rule: UnitRule, bytes: &[u8]) -> Result<bool, A
     let size = code_length(bytes) as usize;
     let code = part(bytes, place, size);
     rows_keep(alloc, rule, bytes, code, counts(bytes), start, count)
+}
+
+// Whether the units of `count` attribute rows, the first of which stands at `start`, are accepted.
+fn rows_accepted(
+    alloc: Global,
+    bytes: &[u8],
+    code: &[u8],
+    counts: Counts,
+    start: usize,
+    count: usize,
+) -> Result<bool, AllocError>
+    requires room { start + ATTRIBUTE_ROW * count ≤ length bytes.now }
+    requires within { IsTrue (list_all (λ r. lies_within (length code.now) r.span) (rows_from (attribute_fields bytes.now) 16 count start)) }
+    ensures { IfOk result (λ accepted. IsTrue accepted → AllByRecursion (RowIsValid counts code.now) (rows_from (attribute_fields bytes.now) 16 count start)) }
+{
+    for index in 0..count {
+        let row = start + ATTRIBUTE_ROW * index;
+        let place = attribute_start(bytes, row) as usize;
+        let size = attribute_length(bytes, row) as usize;
+        let unit = part(code, place, size);
+        let context = context_of(bytes, counts, row);
+        if !is_accepted(alloc, context, unit)? {
+            return Ok(false);
+        }
+    }
+    Ok(true)
+}
+
+/// Whether one walk over each unit sees that all keep all rules. Of units that break one it doesn't say which.
+pub fn units_accepted(alloc: Global, bytes: &[u8]) -> Result<bool, AllocError>
+    requires sections { AreSectionsOf bytes.now }
+    requires rows { IsTrue (are_rows (contents_in bytes.now)) }
+    ensures { IfOk result (λ accepted. IsTrue accepted → AllByRecursion (λ u. IsValidUnit u.context u.code) (units (contents_in bytes.now))) }
+{
+    let start = attribute_rows_start(bytes);
+    let count = attribute_count(bytes) as usize;
+    let place = code_start(bytes);
+    let size = code_length(bytes) as usize;
+    let code = part(bytes, place, size);
+    rows_accepted(alloc, bytes, code, counts(bytes), start, count)
 }

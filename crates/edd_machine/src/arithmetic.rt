@@ -196,6 +196,7 @@ fn remainder(sort: Sort, a: i64, b: i64) -> Result<i64, Trap>
 }
 
 /// The value of an operator on two operands, or the trap.
+#[inline(always)]
 #[tactic(auto, unfolding(edd_syntax::specs::TwosComplement::operate))]
 pub fn operate(sort: Sort, operator: Operator, a: i64, b: i64) -> Result<i64, Trap>
     requires left { Fits sort a }
@@ -217,6 +218,7 @@ pub fn operate(sort: Sort, operator: Operator, a: i64, b: i64) -> Result<i64, Tr
 }
 
 /// 1 where the comparison holds, else 0.
+#[inline(always)]
 #[tactic(auto, unfolding(edd_syntax::specs::TwosComplement::compare))]
 pub fn compare(comparison: Comparison, a: i64, b: i64) -> i64
     ensures { result ≡ compare comparison a b }
@@ -245,6 +247,7 @@ fn short(number: i64) -> i64
 }
 
 /// The number, wrapped to the width.
+#[inline(always)]
 pub fn wrapped(sort: Sort, number: i64) -> i64
     ensures { result ≡ wrap (width_of sort) number }
 {

@@ -18,7 +18,7 @@ pub use fault::{ReadFault, ValuesFault};
 pub use laws::{answers_stay_in_the_unit, asking_has_room, bodies_open_as_their_rows};
 pub use machine::Machine;
 pub use operands::Operands;
-pub use reading::attribute;
+pub use reading::{attribute, attribute_of_device};
 pub use rows::find_body;
 pub use values::Values;
 

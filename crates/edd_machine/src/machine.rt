@@ -74,6 +74,7 @@ impl Machine {
     }
 
     // Takes on the outcome of an instruction that has left these operands.
+    #[inline(always)]
     fn take_on(&mut self, outcome: Outcome)
         ensures unit { self.new.unit ≡ self.old.unit }
         ensures value { (b : List ℕ) → comes_to outcome self.old.operands (state_of b self.old)
@@ -92,6 +93,7 @@ impl Machine {
     }
 
     // The value of a slot.
+    #[inline(always)]
     #[tactic(auto, unfolding(edd_image::specs::Steps::act))]
     fn push_slot(&mut self, slot: u16, next: usize)
         requires room { length self.old.operands < 128 }
@@ -105,6 +107,7 @@ impl Machine {
     }
 
     // Sets a slot to the topmost operand, which stays.
+    #[inline(always)]
     #[tactic(auto, unfolding(edd_image::specs::Steps::act))]
     fn set_slot(&mut self, slot: u16, next: usize)
         requires enough { 1 ≤ length self.old.operands }
@@ -205,6 +208,7 @@ impl Machine {
     }
 
     // The effect of an instruction that the rules on its unit let stand here.
+    #[inline(always)]
     fn execute(&mut self, image: &Image, instruction: Instruction, next: usize)
         requires valid { IsValid image.now }
         requires ready { CanAct image.now instruction (state_of image.now self.old) }

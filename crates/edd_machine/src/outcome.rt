@@ -31,6 +31,7 @@ pub enum Outcome {
     Traps(Trap),
 }
 
+#[inline(always)]
 #[tactic(auto, unfolding(edd_image::specs::Steps::act))]
 fn push(operands: &mut Operands, sort: Sort, number: u32, next: usize) -> Outcome
     requires { length operands.old < 128 }
@@ -40,6 +41,7 @@ fn push(operands: &mut Operands, sort: Sort, number: u32, next: usize) -> Outcom
     Outcome::GoesOn(next)
 }
 
+#[inline(always)]
 #[tactic(auto, unfolding(edd_image::specs::Steps::act))]
 fn push_variable(
     operands: &mut Operands,
@@ -56,6 +58,7 @@ fn push_variable(
     Outcome::GoesOn(next)
 }
 
+#[inline(always)]
 #[tactic(auto, unfolding(edd_image::specs::Steps::act))]
 fn pop(operands: &mut Operands, next: usize) -> Outcome
     requires { 1 ≤ length operands.old }
@@ -65,6 +68,7 @@ fn pop(operands: &mut Operands, next: usize) -> Outcome
     Outcome::GoesOn(next)
 }
 
+#[inline(always)]
 #[tactic(auto, unfolding(edd_image::specs::Steps::act))]
 fn duplicate(operands: &mut Operands, next: usize) -> Outcome
     requires enough { 1 ≤ length operands.old }
@@ -77,6 +81,7 @@ fn duplicate(operands: &mut Operands, next: usize) -> Outcome
     Outcome::GoesOn(next)
 }
 
+#[inline(always)]
 #[tactic(auto, unfolding(edd_image::specs::Steps::act))]
 fn operate_two(operands: &mut Operands, sort: Sort, operator: Operator, next: usize) -> Outcome
     requires enough { 2 ≤ length operands.old }
@@ -95,6 +100,7 @@ fn operate_two(operands: &mut Operands, sort: Sort, operator: Operator, next: us
     }
 }
 
+#[inline(always)]
 #[tactic(auto, unfolding(edd_image::specs::Steps::act))]
 fn compare_two(operands: &mut Operands, comparison: Comparison, next: usize) -> Outcome
     requires enough { 2 ≤ length operands.old }
@@ -107,6 +113,7 @@ fn compare_two(operands: &mut Operands, comparison: Comparison, next: usize) -> 
     Outcome::GoesOn(next)
 }
 
+#[inline(always)]
 #[tactic(auto, unfolding(edd_image::specs::Steps::act))]
 fn negate_top(operands: &mut Operands, sort: Sort, next: usize) -> Outcome
     requires enough { 1 ≤ length operands.old }
@@ -119,6 +126,7 @@ fn negate_top(operands: &mut Operands, sort: Sort, next: usize) -> Outcome
     Outcome::GoesOn(next)
 }
 
+#[inline(always)]
 #[tactic(auto, unfolding(edd_image::specs::Steps::act))]
 fn not_top(operands: &mut Operands, next: usize) -> Outcome
     requires enough { 1 ≤ length operands.old }
@@ -130,6 +138,7 @@ fn not_top(operands: &mut Operands, next: usize) -> Outcome
     Outcome::GoesOn(next)
 }
 
+#[inline(always)]
 #[tactic(auto, unfolding(edd_image::specs::Steps::act))]
 fn complement_top(operands: &mut Operands, next: usize) -> Outcome
     requires enough { 1 ≤ length operands.old }
@@ -141,6 +150,7 @@ fn complement_top(operands: &mut Operands, next: usize) -> Outcome
     Outcome::GoesOn(next)
 }
 
+#[inline(always)]
 #[tactic(auto, unfolding(edd_image::specs::Steps::act))]
 fn jump_if_zero(operands: &mut Operands, target: u32, next: usize) -> Outcome
     requires { 1 ≤ length operands.old }
@@ -153,6 +163,7 @@ fn jump_if_zero(operands: &mut Operands, target: u32, next: usize) -> Outcome
     }
 }
 
+#[inline(always)]
 #[tactic(auto, unfolding(edd_image::specs::Steps::act))]
 fn jump_if_not_zero(operands: &mut Operands, target: u32, next: usize) -> Outcome
     requires { 1 ≤ length operands.old }
@@ -165,6 +176,7 @@ fn jump_if_not_zero(operands: &mut Operands, target: u32, next: usize) -> Outcom
     }
 }
 
+#[inline(always)]
 #[tactic(auto, unfolding(edd_image::specs::Steps::act))]
 fn case(operands: &mut Operands, label: i64, target: u32, next: usize) -> Outcome
     requires enough { 1 ≤ length operands.old }
@@ -180,6 +192,7 @@ fn case(operands: &mut Operands, label: i64, target: u32, next: usize) -> Outcom
     }
 }
 
+#[inline(always)]
 #[tactic(auto, unfolding(edd_image::specs::Steps::act))]
 fn give_number(operands: &mut Operands, next: usize) -> Outcome
     requires { 1 ≤ length operands.old }
@@ -189,6 +202,7 @@ fn give_number(operands: &mut Operands, next: usize) -> Outcome
 }
 
 /// What an instruction that attributes may have comes to.
+#[inline(always)]
 #[tactic(auto, unfolding(edd_image::specs::Steps::act))]
 pub fn perform(
     operands: &mut Operands,

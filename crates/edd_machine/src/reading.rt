@@ -1,6 +1,6 @@
 //! What is read of an attribute.
 
-ghost use Rattle.std.specs.Prelude.{◌≡◌, IfErr, IfOk, OnOk, Ok, is_some};
+ghost use Rattle.std.specs.Prelude.{◌≡◌, ℤ, List, IfErr, IfOk, OnOk, Ok, is_some};
 ghost use Rattle.edd_syntax.specs.DeviceValues.{AreDeviceValues};
 ghost use Rattle.edd_syntax.specs.Numbers.{has_attr, kind_of};
 ghost use Rattle.edd_image.specs.declared.unit.Sort.TheVariants.{Attribute};
@@ -136,12 +136,50 @@ fn run(
     unreachable!()
 }
 
-/// The records of an attribute under these values: what its unit gives from its first byte to its end. Where it has no row or
-/// gives no record, HANDLING is 3, VALIDITY is 1, and every other attribute has no records.
+/// The records of an attribute under values of a device of this description: what its unit gives from its first byte to its
+/// end. Where it has no row or gives no record, HANDLING is 3, VALIDITY is 1, and every other attribute has no records.
 ///
 /// The fault is `NoItem` where there is no such item, its kind hasn't the attribute, the attribute is DEFINITION, a transaction
-/// has no row, or `sub` is not 0 elsewhere; else `WrongValues` where the values are not those of a device of this description;
-/// else the trap of the unit; and `Memory` where memory for the records is refused.
+/// has no row, or `sub` is not 0 elsewhere; else the trap of the unit; and `Memory` where memory for the records is refused.
+pub fn attribute_of_device(
+    alloc: Global,
+    image: &Image,
+    attr: AttrRef,
+    values: &Values,
+) -> Result<Vec<Record>, ReadFault>
+    requires { AreDeviceValues (types_in image.now) values.now.numbers.items }
+    ensures records { IfOk result (λ records. IsReading image.now attr values.now.numbers.items (Records records.items)) }
+    ensures fault { IfErr result (IsReadFault image.now attr values.now.numbers.items) }
+{
+    let unit = find_attribute(image, attr);
+    if is_no_item(image.counts(), attr, unit.is_some()) {
+        return Err(ReadFault::NoItem);
+    }
+    match unit {
+        None => Ok(default_records(alloc, attr.attr)?),
+        Some(unit) => {
+            let records = run(alloc, image, unit, values.numbers.as_slice())?;
+            Ok(or_default(alloc, attr.attr, records)?)
+        }
+    }
+}
+
+// What a read comes to under values that are not those of a device of this description.
+fn fault_of_values(image: &Image, attr: AttrRef) -> ReadFault
+    ensures { (values : List ℤ) → (¬ AreDeviceValues (types_in image.now) values) → IsReadFault image.now attr values result }
+{
+    let unit = find_attribute(image, attr);
+    if is_no_item(image.counts(), attr, unit.is_some()) {
+        ReadFault::NoItem
+    } else {
+        ReadFault::WrongValues
+    }
+}
+
+/// The records of an attribute under these values, as `attribute_of_device` gives them.
+///
+/// The fault is its fault, but `WrongValues` where there is such an attribute, and the values are not those of a device of this
+/// description.
 pub fn attribute(
     alloc: Global,
     image: &Image,
@@ -152,18 +190,8 @@ pub fn attribute(
     ensures values { OnOk result (AreDeviceValues (types_in image.now) values.now.numbers.items) }
     ensures fault { IfErr result (IsReadFault image.now attr values.now.numbers.items) }
 {
-    let unit = find_attribute(image, attr);
-    if is_no_item(image.counts(), attr, unit.is_some()) {
-        return Err(ReadFault::NoItem);
-    }
     if !values.are_of(image) {
-        return Err(ReadFault::WrongValues);
+        return Err(fault_of_values(image, attr));
     }
-    match unit {
-        None => Ok(default_records(alloc, attr.attr)?),
-        Some(unit) => {
-            let records = run(alloc, image, unit, values.numbers.as_slice())?;
-            Ok(or_default(alloc, attr.attr, records)?)
-        }
-    }
+    attribute_of_device(alloc, image, attr, values)
 }
