@@ -36,5 +36,6 @@ pub mod Looking
 pub mod ItemTrees
 pub mod Meanings
 pub mod Picking
+pub mod Places
 pub mod RecordOperands
 pub mod RecordStrings

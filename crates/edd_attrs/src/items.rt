@@ -34,19 +34,44 @@ pub fn kind_and_index(number: ItemNo) -> (Kind, u16)
     }
 }
 
+fn kind_of(item: &Item<Target>) -> Kind
+    ensures { result ≡ kind_of_item (item_of (λ r. r) item.now).sort }
+{
+    match item {
+        Item::Variable(_) => Kind::Variable,
+        Item::Command(_) => Kind::Command,
+        Item::Menu(_) => Kind::Menu,
+        Item::Collection(_) => Kind::Collection,
+        Item::Method(_) => Kind::Method,
+    }
+}
+
+/// Whether an item is of this kind.
+pub fn has_kind(item: &Item<Target>, kind: Kind) -> bool
+    ensures { result ≡ numbers.same_kind (kind_of_item (item_of (λ r. r) item.now).sort) kind }
+{
+    is_same_kind(kind_of(item), kind)
+}
+
+/// The attributes of an item.
+pub fn attributes_of(item: &Item<Target>) -> &[Attribute<Target>]
+    ensures { map (attribute_of (λ r. r)) result.now ≡ (item_of (λ r. r) item.now).attributes }
+{
+    match item {
+        Item::Variable(d) => &d.attributes,
+        Item::Command(d) => &d.attributes,
+        Item::Menu(d) => &d.attributes,
+        Item::Collection(d) => &d.attributes,
+        Item::Method(d) => &d.attributes,
+    }
+}
+
 // The attributes of an item of this kind.
 fn attributes_of_kind<'a>(item: &'a Item<Target>, kind: Kind) -> Option<&'a [Attribute<Target>]>
     ensures { option_map (λ a. map (attribute_of (λ r. r)) a.now) result ≡ rows.attributes_of_kind kind (item_of (λ r. r) item.now) }
 {
-    let (of, attributes) = match item {
-        Item::Variable(d) => (Kind::Variable, &d.attributes),
-        Item::Command(d) => (Kind::Command, &d.attributes),
-        Item::Menu(d) => (Kind::Menu, &d.attributes),
-        Item::Collection(d) => (Kind::Collection, &d.attributes),
-        Item::Method(d) => (Kind::Method, &d.attributes),
-    };
-    if is_same_kind(of, kind) {
-        Some(attributes)
+    if has_kind(item, kind) {
+        Some(attributes_of(item))
     } else {
         None
     }
@@ -143,7 +168,8 @@ fn is_of_transaction(attr: Attr) -> bool
     matches!(attr, Attr::Transaction | Attr::Request | Attr::Reply)
 }
 
-fn tree_in<'a>(attributes: &'a [Attribute<Target>], attr: Attr, sub: u16) -> Option<Tree<'a>>
+/// The tree of an attribute among these.
+pub fn tree_in<'a>(attributes: &'a [Attribute<Target>], attr: Attr, sub: u16) -> Option<Tree<'a>>
     ensures { option_map views.tree_of result ≡ trees.tree_in (map (attribute_of (λ r. r)) attributes.now) attr sub }
 {
     if is_of_transaction(attr) {

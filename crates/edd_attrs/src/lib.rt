@@ -5,6 +5,7 @@ mod attribute;
 mod conditions;
 mod elements;
 mod fault;
+mod index;
 mod items;
 mod laws;
 mod lists;

@@ -1,0 +1,10 @@
+use Rattle.std.proofs.Common.{◌≡◌, map, take, Some}
+use Rattle.edd_syntax.specs.ItemView.{item_of}
+use Rattle.edd_attrs.specs.Places.{attributes_at_place}
+use Rattle.edd_attrs.specs.Rows.{attributes_of_items}
+use Rattle.edd_attrs.proofs.index.places_of_kind.Given as goal
+
+-- the places are those of the items so far
+abbrev pub invariant-loop-place : goal.invariant-loop-place
+invariant-loop-place l =
+    map (attributes_at_place (map (item_of (λ r. r)) l.items)) l.places.items ≡ map Some (attributes_of_items l.kind (take l.place (map (item_of (λ r. r)) l.items)))

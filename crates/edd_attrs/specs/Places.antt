@@ -1,0 +1,31 @@
+-- Where the items of a kind stand among all items.
+use Rattle.std.specs.Prelude.{◌≡◌, ℕ, Bool, if◌then◌else◌, List, [], ◌∷◌, ◌++◌, map, slice_get, Option, Some, option_map}
+use Rattle.edd_syntax.specs.declared.numbers.Kind.{Kind}
+use Rattle.edd_syntax.specs.declared.numbers.Kind.TheVariants as kind
+use Rattle.edd_syntax.specs.declared.reference.Target.{Target}
+use Rattle.edd_syntax.specs.Item.{Attribute, Item}
+use Rattle.edd_attrs.specs.declared.index.ItemIndex.{ItemIndex}
+use Rattle.edd_attrs.specs.Rows.{attributes_of_items}
+
+-- the attributes of the item at a place
+abbrev pub attributes_at_place : List (Item Target) → ℕ → Option (List (Attribute Target))
+attributes_at_place items place = option_map (λ i. i.attributes) (slice_get items place)
+
+-- these are the places of the items of a kind, in their order
+abbrev pub ArePlaces : Kind → List (Item Target) → List ℕ → Type 0
+ArePlaces k items places = map (attributes_at_place items) places ≡ map Some (attributes_of_items k items)
+
+-- one place more, where it is one of the kind
+abbrev pub with_place : Bool → List ℕ → ℕ → List ℕ
+with_place b places place = if b then places ++ place ∷ [] else places
+
+abbrev pub places_of : ItemIndex → Kind → List ℕ
+places_of index kind.Variable = index.variables.items
+places_of index kind.Command = index.commands.items
+places_of index kind.Menu = index.menus.items
+places_of index kind.Collection = index.collections.items
+places_of index kind.Method = index.methods.items
+
+-- the index has the places of these items
+abbrev pub IsIndexOf : List (Item Target) → ItemIndex → Type 0
+IsIndexOf items index = (k : Kind) → ArePlaces k items (places_of index k)

@@ -1,0 +1,125 @@
+//! Where the items of each kind stand among all items, so that an item is found by its number at once.
+
+ghost use Rattle.std.specs.Prelude.{◌≡◌, IfOk, OnOk, map, option_map, slice_get};
+ghost use Rattle.edd_syntax.specs.Item.{kind_of_item};
+ghost use Rattle.edd_syntax.specs.Numbers.{same_kind};
+ghost use Rattle.edd_syntax.specs.ItemView.{attribute_of, identification_of, item_of};
+ghost use Rattle.edd_syntax.specs.Resolved.{description};
+ghost use Rattle.edd_attrs.specs.Places.{ArePlaces, IsIndexOf, attributes_at_place, places_of, with_place};
+ghost use Rattle.edd_attrs.specs.Rows as rows;
+ghost use Rattle.edd_attrs.specs.Trees as trees;
+ghost use Rattle.edd_attrs.specs.Views as views;
+
+use crate::items::{attributes_of, has_kind, kind_and_index, tree_in};
+use crate::trees::Tree;
+use edd_syntax::item::{Attribute, Identification, Item};
+use edd_syntax::numbers::{AttrRef, Kind};
+use edd_syntax::reference::Target;
+use std::alloc::{AllocError, Global};
+
+/// The places of the items of each kind among the items of a description.
+#[derive(Drop)]
+pub struct ItemIndex {
+    pub variables: Vec<usize>,
+    pub commands: Vec<usize>,
+    pub menus: Vec<usize>,
+    pub collections: Vec<usize>,
+    pub methods: Vec<usize>,
+}
+
+// Adds the place of an item that is of the kind.
+fn add_place(
+    places: &mut Vec<usize>,
+    item: &Item<Target>,
+    kind: Kind,
+    place: usize,
+) -> Result<(), AllocError>
+    ensures { OnOk result (places.new.items ≡ with_place (same_kind (kind_of_item (item_of (λ r. r) item.now).sort) kind) places.old.items place) }
+{
+    if has_kind(item, kind) {
+        places.push(place)?;
+    }
+    Ok(())
+}
+
+// The places of the items of a kind.
+fn places_of_kind(
+    alloc: Global,
+    items: &[Item<Target>],
+    kind: Kind,
+) -> Result<Vec<usize>, AllocError>
+    ensures { IfOk result (λ places. ArePlaces kind (map (item_of (λ r. r)) items.now) places.items) }
+{
+    let mut places = Vec::new(alloc);
+    for place in 0..items.len() {
+        add_place(&mut places, &items[place], kind, place)?;
+    }
+    Ok(places)
+}
+
+impl ItemIndex {
+    /// The index of these items.
+    pub fn new(alloc: Global, items: &[Item<Target>]) -> Result<ItemIndex, AllocError>
+        ensures { IfOk result (λ index. IsIndexOf (map (item_of (λ r. r)) items.now) index) }
+    {
+        Ok(ItemIndex {
+            variables: places_of_kind(alloc, items, Kind::Variable)?,
+            commands: places_of_kind(alloc, items, Kind::Command)?,
+            menus: places_of_kind(alloc, items, Kind::Menu)?,
+            collections: places_of_kind(alloc, items, Kind::Collection)?,
+            methods: places_of_kind(alloc, items, Kind::Method)?,
+        })
+    }
+
+    fn places(&self, kind: Kind) -> &[usize]
+        ensures { result.now ≡ places_of self.now kind }
+    {
+        match kind {
+            Kind::Variable => &self.variables,
+            Kind::Command => &self.commands,
+            Kind::Menu => &self.menus,
+            Kind::Collection => &self.collections,
+            Kind::Method => &self.methods,
+        }
+    }
+}
+
+// The attributes of the item at a place.
+fn at_place(items: &[Item<Target>], place: usize) -> Option<&[Attribute<Target>]>
+    ensures { option_map (λ a. map (attribute_of (λ r. r)) a.now) result ≡ attributes_at_place (map (item_of (λ r. r)) items.now) place }
+{
+    Some(attributes_of(items.get(place)?))
+}
+
+// The attributes of an item by its number among those of its kind.
+#[tactic(auto, using(crate::proofs::Places::found_at_place))]
+fn attributes_by<'a>(
+    index: &ItemIndex,
+    items: &'a [Item<Target>],
+    kind: Kind,
+    number: u16,
+) -> Option<&'a [Attribute<Target>]>
+    requires { IsIndexOf (map (item_of (λ r. r)) items.now) index.now }
+    ensures { option_map (λ a. map (attribute_of (λ r. r)) a.now) result
+        ≡ slice_get (rows.attributes_of_items kind (map (item_of (λ r. r)) items.now)) number }
+{
+    let place = *index.places(kind).get(number as usize)?;
+    at_place(items, place)
+}
+
+/// The tree of a row, if it is written, found by the index of the items.
+#[tactic(auto, unfolding(crate::specs::Trees::tree_at), using(crate::proofs::ItemTrees::tree_of_row))]
+pub fn tree_by<'a>(
+    index: &ItemIndex,
+    identification: Identification,
+    items: &'a [Item<Target>],
+    row: AttrRef,
+) -> Option<Tree<'a>>
+    requires { IsIndexOf (map (item_of (λ r. r)) items.now) index.now }
+    ensures { option_map views.tree_of result
+        ≡ trees.tree_at (description (identification_of identification) (map (item_of (λ r. r)) items.now)) row }
+{
+    let (kind, number) = kind_and_index(row.item);
+    let attributes = attributes_by(index, items, kind, number)?;
+    tree_in(attributes, row.attr, row.sub)
+}
