@@ -14,8 +14,9 @@ mod strings;
 mod trees;
 mod writing;
 
-pub use attribute::lower_attribute;
+pub use attribute::{lower_attribute, lower_indexed};
 pub use fault::LowerFault;
+pub use index::ItemIndex;
 pub use laws::strings_are_the_descriptions;
 
 #[cfg(test)]

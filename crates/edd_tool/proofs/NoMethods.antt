@@ -1,24 +1,21 @@
 -- A description without methods has no row of a method's body.
-use Rattle.std.proofs.Common.{◌≡◌, refl, sym, ap, subst, ◌∙◌, ℕ, ◌<◌, ◌≤◌, Bool, true, false, List, [], ◌∷◌, length, filter, cond, arith}
-use Rattle.std.specs.Prelude.{◌&&◌, ◌||◌, nat_lt}
-use Rattle.std.specs.List.{All, list_all, list_any}
+use Rattle.std.proofs.Common.{◌≡◌, refl, sym, ap, ◌∙◌, Bool, true, false, List, [], ◌∷◌, length, filter, cond, arith}
+use Rattle.std.specs.Prelude.{◌||◌}
+use Rattle.std.specs.List.{All, list_any}
 use Rattle.std.proofs.lemmas.Bool.{false≢true, and_parts, ltb-true}
 use Rattle.std.proofs.lemmas.List.Sums.{AllPass-from_list_all}
-use Rattle.edd_syntax.specs.declared.numbers.Kind.{Kind}
 use Rattle.edd_syntax.specs.declared.numbers.Kind.TheVariants as kind
-use Rattle.edd_syntax.specs.declared.numbers.Attr.{Attr}
 use Rattle.edd_syntax.specs.declared.numbers.Attr.TheVariants as attr
 use Rattle.edd_syntax.specs.declared.numbers.ItemNo.{ItemNo}
 use Rattle.edd_syntax.specs.declared.numbers.ItemNo.TheVariants as items
 use Rattle.edd_syntax.specs.declared.numbers.AttrRef.{AttrRef}
 use Rattle.edd_syntax.specs.declared.reference.Target.{Target}
-use Rattle.edd_syntax.specs.Item.{kind_of_item, Item, Description}
-use Rattle.edd_syntax.specs.Numbers.{kind_of, has_attr, same_attr, same_kind}
+use Rattle.edd_syntax.specs.Item.{Item, Description}
+use Rattle.edd_syntax.specs.Numbers.{kind_of, has_attr, same_attr}
 use Rattle.edd_syntax.specs.Resolution.{count_of}
 use Rattle.edd_syntax.specs.Resolved.{IsChecked}
 use Rattle.edd_syntax.specs.Rows.{rows}
 use Rattle.edd_image.specs.References.{item_exists}
-use Rattle.edd_image.specs.Validity.{is_of_transaction}
 use Rattle.edd_image.specs.Agreement.{counts_of}
 use Rattle.edd_assembly.proofs.ItemForms.{formed_when_checked}
 use Rattle.edd_assembly.proofs.KnownByNumber.{same_attrs}

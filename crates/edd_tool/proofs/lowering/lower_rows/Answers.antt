@@ -7,7 +7,7 @@ use Rattle.edd_tool.proofs.lowering.lower_rows.Goals as goal
 
 pub returns-in_err-add-clause-refused : goal.returns-in_err-add-clause-refused
 returns-in_err-add-clause-refused c =
-    let p = err_from_is_err_and c.from_residual.result c.from_residual.ensures.1 in rw (p.1, p.2)
+    let p = err_from_is_err_and c.from_residual-in_err-add.result c.from_residual-in_err-add.ensures.1 in rw (p.1, p.2)
     (over_more c.in_err-add.field-0.0 (too_many_at (unit_of c.args.checked.now) _ c.loop-row.lowering.table (map lowered_of c.loop-row.lowering.units.items) _ c.loop-row.invariant) c.in_err-add.ensures.refused)
 
 pub loop-row-preserved : goal.loop-row-preserved
