@@ -3,18 +3,19 @@
 ghost use Rattle.std.specs.Prelude.{◌≡◌, ◌≤◌, map, option_map};
 ghost use Rattle.edd_grammar.specs.DeclarationReading as reading;
 ghost use Rattle.edd_grammar.specs.StatementReading.{at_local_type, declaration_at};
-ghost use Rattle.edd_parser.specs.Views.{expr_view, Gives};
+ghost use Rattle.edd_token_reader.specs.Views.{Gives};
+ghost use Rattle.edd_expression_parser.specs.Expressions.{expr_view};
 ghost use Rattle.edd_parser.specs.Bodies.{declarator_view};
 
-use crate::cursor::Cursor;
-use crate::expr::expr;
-use crate::fault::ParseFault;
-use crate::operators::Place;
-use crate::trees::plain;
+use edd_expression_parser::expr::expr;
+use edd_expression_parser::trees::plain;
 use edd_syntax::expr::Expr;
 use edd_syntax::reference::Path;
 use edd_syntax::stmt::Declarator;
 use edd_syntax::symbols::{Keyword, Symbol};
+use edd_token_reader::cursor::Cursor;
+use edd_token_reader::fault::ParseFault;
+use edd_token_reader::operators::Place;
 
 // A value behind `=`, or none.
 #[tactic(auto, unfolding(edd_grammar::specs::DeclarationReading::value_at))]

@@ -3,23 +3,24 @@
 ghost use Rattle.std.specs.Prelude.{◌≡◌, ◌≤◌, ◌<◌, ◌+◌, length, Some, true, false, option_map};
 ghost use Rattle.edd_grammar.specs.StatementReading as reading;
 ghost use Rattle.edd_grammar.specs.StatementReading.{statement_at};
-ghost use Rattle.edd_parser.specs.Views.{expr_view, Gives};
+ghost use Rattle.edd_token_reader.specs.Views.{Gives};
+ghost use Rattle.edd_expression_parser.specs.Expressions.{expr_view};
 ghost use Rattle.edd_parser.specs.Bodies.{stmt_view, part_view, body_view, for_head_at, head_view, simple_at};
 
-use crate::cond::{condition, label};
-use crate::cursor::Cursor;
 use crate::declarators::{declaration, is_at_local_type};
-use crate::expr::expr;
-use crate::fault::ParseFault;
-use crate::left_out::{left_out_reserved, unsupported};
-use crate::operators::Place;
 use crate::statement_trees::{
     ForHead, block, do_loop, for_loop, if_alone, if_else, switch, while_loop,
 };
+use edd_expression_parser::cond::{condition, label};
+use edd_expression_parser::expr::expr;
 use edd_syntax::expr::Expr;
 use edd_syntax::reference::Path;
 use edd_syntax::stmt::{Part, Stmt};
 use edd_syntax::symbols::{Keyword, Symbol};
+use edd_token_reader::cursor::Cursor;
+use edd_token_reader::fault::ParseFault;
+use edd_token_reader::left_out::{left_out_reserved, unsupported};
+use edd_token_reader::operators::Place;
 use std::alloc::Global;
 
 // A label and the colon behind it.
