@@ -1,4 +1,3 @@
-pub mod BodyLoops
 pub mod ClassNames
 pub mod Parsed
 pub mod TypeEnds

@@ -1,5 +1,5 @@
 -- Reading one thing of a row after the other.
-use Rattle.std.proofs.Common.{◌≡◌, ℕ, suc, ◌+◌, ◌-◌, ◌≤◌, ◌<◌, Bool, true, false, List, [], ◌∷◌, ◌++◌, map, Some, None, refl, ap, ◌∙◌, arith}
+use Rattle.std.proofs.Common.{◌≡◌, ℕ, suc, ◌+◌, ◌-◌, ◌≤◌, ◌<◌, Bool, true, false, List, [], ◌∷◌, ◌++◌, map, Some, None, refl, ap, arith}
 use Rattle.edd_syntax.specs.Token.{Token}
 use Rattle.edd_grammar.specs.Reading.{Read}
 use Rattle.edd_grammar.specs.WordReading.{row_at}

@@ -1,4 +1,3 @@
-pub mod Bodies
 pub mod Items
 pub mod Units
 pub use Rattle.edd_token_reader.specs.TokenTexts

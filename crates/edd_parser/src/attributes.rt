@@ -13,10 +13,10 @@ ghost use Rattle.edd_parser.specs.Items as views;
 ghost use Rattle.edd_parser.specs.Items.{attribute_view, class_read};
 
 use crate::rows::{Thing, braced_row};
-use crate::statements::definition;
 use crate::types::written_type;
 use edd_expression_parser::cond::{braced_list, one};
 use edd_expression_parser::trees::plain;
+use edd_statement_parser::statements::definition;
 use edd_syntax::item::{Attribute, Member, ResponseCode, TransactionPart};
 use edd_syntax::numbers::Kind;
 use edd_syntax::reference::Path;

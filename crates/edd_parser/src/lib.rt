@@ -2,12 +2,9 @@
 #![tactic(auto)]
 
 mod attributes;
-mod declarators;
 mod items;
 mod parser;
 mod rows;
-mod statement_trees;
-mod statements;
 #[cfg(test)]
 mod tests;
 mod types;

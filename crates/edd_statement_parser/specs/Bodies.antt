@@ -13,7 +13,7 @@ use Rattle.edd_syntax.specs.Statement.{Declarator, Stmt, Break, Continue, Return
 use Rattle.edd_syntax.specs.TreeView.{path_of, declarator_of, stmt_of, part_of}
 use Rattle.edd_grammar.specs.Reading.{◌>>=◌, Read, at_word, expect}
 use Rattle.edd_grammar.specs.StatementReading.{statement_at, optional_at, evaluate_at}
-use Rattle.edd_parser.specs.declared.statement_trees.ForHead.{ForHead}
+use Rattle.edd_statement_parser.specs.declared.statement_trees.ForHead.{ForHead}
 use Rattle.edd_expression_parser.specs.Expressions.{expr_view}
 
 abbrev pub declarator_view : code_declarator.Declarator path.Path → Declarator Path

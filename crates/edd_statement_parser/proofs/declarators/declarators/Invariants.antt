@@ -1,7 +1,7 @@
 use Rattle.std.proofs.Common.{◌≡◌, ◌-◌, length}
 use Rattle.edd_grammar.specs.DeclarationReading.{some_declarators}
-use Rattle.edd_parser.proofs.BodyLoops.{with_declarators}
-use Rattle.edd_parser.proofs.declarators.declarators.Given as goal
+use Rattle.edd_statement_parser.proofs.BodyLoops.{with_declarators}
+use Rattle.edd_statement_parser.proofs.declarators.declarators.Given as goal
 
 abbrev pub invariant-loop : goal.invariant-loop
 invariant-loop l =

@@ -5,7 +5,7 @@ ghost use Rattle.edd_grammar.specs.DeclarationReading as reading;
 ghost use Rattle.edd_grammar.specs.StatementReading.{at_local_type, declaration_at};
 ghost use Rattle.edd_token_reader.specs.Views.{Gives};
 ghost use Rattle.edd_expression_parser.specs.Expressions.{expr_view};
-ghost use Rattle.edd_parser.specs.Bodies.{declarator_view};
+ghost use Rattle.edd_statement_parser.specs.Bodies.{declarator_view};
 
 use edd_expression_parser::expr::expr;
 use edd_expression_parser::trees::plain;

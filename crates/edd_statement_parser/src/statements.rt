@@ -5,7 +5,7 @@ ghost use Rattle.edd_grammar.specs.StatementReading as reading;
 ghost use Rattle.edd_grammar.specs.StatementReading.{statement_at};
 ghost use Rattle.edd_token_reader.specs.Views.{Gives};
 ghost use Rattle.edd_expression_parser.specs.Expressions.{expr_view};
-ghost use Rattle.edd_parser.specs.Bodies.{stmt_view, part_view, body_view, for_head_at, head_view, simple_at};
+ghost use Rattle.edd_statement_parser.specs.Bodies.{stmt_view, part_view, body_view, for_head_at, head_view, simple_at};
 
 use crate::declarators::{declaration, is_at_local_type};
 use crate::statement_trees::{

@@ -1,8 +1,8 @@
 use Rattle.std.proofs.Common.{◌≡◌, ℕ, ◌+◌, ◌-◌, ◌*◌, List, length}
 use Rattle.edd_syntax.specs.Token.{Token}
 use Rattle.edd_grammar.specs.StatementReading.{statement_at, parts_at}
-use Rattle.edd_parser.proofs.BodyLoops.{with_parts}
-use Rattle.edd_parser.proofs.statements.+statement.Given as goal
+use Rattle.edd_statement_parser.proofs.BodyLoops.{with_parts}
+use Rattle.edd_statement_parser.proofs.statements.+statement.Given as goal
 
 abbrev pub decreases-statement : goal.decreases-statement
 decreases-statement l = 8 * l.high

@@ -3,7 +3,7 @@
 ghost use Rattle.std.specs.Prelude.{◌≡◌, IfOk, option_map};
 ghost use Rattle.edd_syntax.specs.Statement as tree;
 ghost use Rattle.edd_expression_parser.specs.Expressions.{expr_view};
-ghost use Rattle.edd_parser.specs.Bodies.{stmt_view, body_view};
+ghost use Rattle.edd_statement_parser.specs.Bodies.{stmt_view, body_view};
 
 use edd_syntax::expr::Expr;
 use edd_syntax::reference::Path;

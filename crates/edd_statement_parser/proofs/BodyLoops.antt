@@ -10,7 +10,7 @@ use Rattle.edd_syntax.specs.Statement.{Declarator, Stmt, Body, Nil, Cons}
 use Rattle.edd_grammar.specs.Reading.{◌>>=◌, Read, at, expect}
 use Rattle.edd_grammar.specs.DeclarationReading.{declarator_at, some_declarators, declarators_at}
 use Rattle.edd_grammar.specs.StatementReading.{declaration_at, part_at, parts_at, statement_at, statement_layer}
-use Rattle.edd_parser.specs.Bodies.{declarator_view, part_view, body_view}
+use Rattle.edd_statement_parser.specs.Bodies.{declarator_view, part_view, body_view}
 use Rattle.edd_token_reader.proofs.Fronts.{behind, with_front, regroup}
 
 -- ---- declarators
