@@ -1,10 +1,4 @@
-pub mod BodyLoops
 pub mod ClassNames
-pub mod CondLoops
-pub mod Fronts
-pub mod Loops
-pub mod ArgumentHeights
 pub mod Parsed
-pub mod TokenTexts
 pub mod TypeEnds
-pub mod WordLoops
+pub mod RowLoops

@@ -17,11 +17,11 @@ use Rattle.edd_grammar.specs.KeptTokens.{is_kept_token, Kept}
 use Rattle.edd_grammar.specs.UnitReading.{unit_at, identification_at, items_at}
 use Rattle.edd_grammar.proofs.KeptUnits.{unit_kept}
 use Rattle.edd_grammar.proofs.Units.{unit_sound, unit_again}
-use Rattle.edd_parser.specs.declared.fault.ParseFault.{ParseFault}
-use Rattle.edd_parser.specs.declared.fault.ParseFault.TheVariants as fault
-use Rattle.edd_parser.specs.TokenTexts.{tokens_in}
+use Rattle.edd_token_reader.specs.declared.fault.ParseFault.{ParseFault}
+use Rattle.edd_token_reader.specs.declared.fault.ParseFault.TheVariants as fault
+use Rattle.edd_token_reader.specs.TokenTexts.{tokens_in}
 use Rattle.edd_parser.specs.Units.{unit_view, Answers}
-use Rattle.edd_parser.specs.Views.{Says}
+use Rattle.edd_token_reader.specs.Views.{Says}
 
 -- the items of a unit that is read from kept tokens are items
 pub read_is_kept : (tokens : List Token) (unit : Description Path) → unit_at tokens ≡ Some unit → Kept tokens → IsTrue (are_items unit.items)

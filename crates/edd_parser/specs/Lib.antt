@@ -1,8 +1,4 @@
-pub mod Bodies
-pub mod Conditionals
 pub mod Items
-pub mod Pieces
-pub mod Qualifiers
-pub mod Views
 pub mod Units
-pub mod TokenTexts
+pub use Rattle.edd_token_reader.specs.TokenTexts
+pub use Rattle.edd_token_reader.specs.Views

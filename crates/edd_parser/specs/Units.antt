@@ -10,8 +10,8 @@ use Rattle.edd_syntax.specs.TreeView.{path_of}
 use Rattle.edd_syntax.specs.ItemView.{item_of, identification_of, named_items}
 use Rattle.edd_grammar.specs.Reading.{◌>>=◌, Read}
 use Rattle.edd_grammar.specs.UnitReading.{kind_at, sort_behind}
-use Rattle.edd_parser.specs.declared.fault.ParseFault.{ParseFault}
-use Rattle.edd_parser.specs.declared.fault.ParseFault.TheVariants as fault
+use Rattle.edd_token_reader.specs.declared.fault.ParseFault.{ParseFault}
+use Rattle.edd_token_reader.specs.declared.fault.ParseFault.TheVariants as fault
 use Rattle.edd_parser.specs.declared.items.Sort.{Sort}
 use Rattle.edd_parser.specs.declared.items.Sort.TheVariants as sort
 

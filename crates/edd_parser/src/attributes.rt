@@ -8,24 +8,26 @@ ghost use Rattle.edd_syntax.specs.TreeView.{path_of};
 ghost use Rattle.edd_syntax.specs.ItemView.{response_code_of, member_of, transaction_part_of};
 ghost use Rattle.edd_grammar.specs.WordReading as words;
 ghost use Rattle.edd_grammar.specs.AttributeReading as reading;
-ghost use Rattle.edd_parser.specs.Views.{Gives};
+ghost use Rattle.edd_token_reader.specs.Views.{Gives};
 ghost use Rattle.edd_parser.specs.Items as views;
 ghost use Rattle.edd_parser.specs.Items.{attribute_view, class_read};
 
-use crate::cond::{braced_list, one};
-use crate::cursor::Cursor;
-use crate::fault::ParseFault;
-use crate::left_out::{misfit, misfit_without_codes};
 use crate::rows::{Thing, braced_row};
-use crate::statements::definition;
-use crate::trees::plain;
 use crate::types::written_type;
-use crate::words::{integer, number, operation, optional_text, skip_semicolons, some_text};
+use edd_expression_parser::cond::{braced_list, one};
+use edd_expression_parser::trees::plain;
+use edd_statement_parser::statements::definition;
 use edd_syntax::item::{Attribute, Member, ResponseCode, TransactionPart};
 use edd_syntax::numbers::Kind;
 use edd_syntax::reference::Path;
 use edd_syntax::symbols::{Keyword, Symbol};
 use edd_syntax::types::ResponseClass;
+use edd_token_reader::cursor::Cursor;
+use edd_token_reader::fault::ParseFault;
+use edd_token_reader::left_out::{misfit, misfit_without_codes};
+use edd_token_reader::words::{
+    integer, number, operation, optional_text, skip_semicolons, some_text,
+};
 
 // The class with this name.
 fn class_named(name: &str) -> Option<ResponseClass>

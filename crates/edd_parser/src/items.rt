@@ -6,22 +6,21 @@ ghost use Rattle.edd_syntax.specs.ItemView.{identification_of};
 ghost use Rattle.edd_grammar.specs.WordReading.{closed, row_inside};
 ghost use Rattle.edd_grammar.specs.AttributeReading.{own_attribute_at};
 ghost use Rattle.edd_grammar.specs.UnitReading as reading;
-ghost use Rattle.edd_parser.specs.Views.{Gives};
+ghost use Rattle.edd_token_reader.specs.Views.{Gives};
 ghost use Rattle.edd_parser.specs.Items.{attribute_view};
 ghost use Rattle.edd_parser.specs.Units.{sort_view, sort_at, item_view};
 
 use crate::attributes::own_attribute;
-use crate::cond::skip_comma;
-use crate::cursor::Cursor;
-use crate::fault::ParseFault;
-use crate::left_out::{expect_item_brace, misfit_item};
-use crate::words::{integer, skip_semicolons};
 use edd_syntax::item::{
     Attribute, CollectionDef, CommandDef, Identification, Item, MenuDef, MethodDef, VariableDef,
 };
 use edd_syntax::numbers::Kind;
 use edd_syntax::reference::Path;
 use edd_syntax::symbols::{Keyword, Symbol};
+use edd_token_reader::cursor::Cursor;
+use edd_token_reader::fault::ParseFault;
+use edd_token_reader::left_out::{expect_item_brace, misfit_item};
+use edd_token_reader::words::{integer, skip_comma, skip_semicolons};
 
 /// What an item is; a collection has the kind of its members.
 #[derive(Clone, Copy, PartialEq, Eq, Debug)]
@@ -100,7 +99,7 @@ fn item_sort(cursor: &mut Cursor) -> Result<Sort, ParseFault>
 }
 
 // The attributes up to the closing brace.
-#[tactic(auto, unfolding(edd_grammar::specs::WordReading::row_inside), using(crate::proofs::WordLoops::rows))]
+#[tactic(auto, unfolding(edd_grammar::specs::WordReading::row_inside), using(crate::proofs::RowLoops::rows))]
 fn attribute_row(
     cursor: &mut Cursor,
     kind: Kind,
@@ -177,7 +176,7 @@ fn closed_item(cursor: &mut Cursor) -> Result<Item<Path>, ParseFault>
 }
 
 /// The items up to the end of the text.
-#[tactic(auto, unfolding(edd_grammar::specs::UnitReading::items_at), using(crate::proofs::WordLoops::rows))]
+#[tactic(auto, unfolding(edd_grammar::specs::UnitReading::items_at), using(crate::proofs::RowLoops::rows))]
 pub fn items(cursor: &mut Cursor) -> Result<Vec<Item<Path>>, ParseFault>
     ensures { Gives (λ v. map item_view v.items) result cursor.new (reading.items_at cursor.old) }
 {

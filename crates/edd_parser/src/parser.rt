@@ -8,17 +8,17 @@ ghost use Rattle.edd_lexer.specs.Tokens.{AreTokens};
 ghost use Rattle.edd_lexer.specs.Views.{lexeme_of};
 ghost use Rattle.edd_grammar.specs.KeptTokens.{Kept};
 ghost use Rattle.edd_grammar.specs.UnitReading.{unit_at};
-ghost use Rattle.edd_parser.specs.declared.fault.ParseFault.TheVariants.{Memory};
-ghost use Rattle.edd_parser.specs.TokenTexts.{tokens_in};
+ghost use Rattle.edd_token_reader.specs.declared.fault.ParseFault.TheVariants.{Memory};
+ghost use Rattle.edd_token_reader.specs.TokenTexts.{tokens_in};
 ghost use Rattle.edd_parser.specs.Units.{unit_view, Answers};
-ghost use Rattle.edd_parser.specs.Views.{Says};
+ghost use Rattle.edd_token_reader.specs.Views.{Says};
 
-use crate::cursor::Cursor;
-use crate::fault::ParseFault;
 use crate::items::{identification, items};
-use crate::pieces::pieces;
 use edd_lexer::token::Token;
 use edd_syntax::unit::Unit;
+use edd_token_reader::cursor::Cursor;
+use edd_token_reader::fault::ParseFault;
+use edd_token_reader::pieces::pieces;
 use std::alloc::Global;
 
 // The line on which a text ends.

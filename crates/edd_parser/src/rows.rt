@@ -4,11 +4,11 @@ ghost use Rattle.std.specs.Prelude.{◌≡◌, ◌≤◌, ℕ, List, map};
 ghost use Rattle.edd_syntax.specs.Token.{Token};
 ghost use Rattle.edd_grammar.specs.Reading.{Read};
 ghost use Rattle.edd_grammar.specs.WordReading.{braced, row_inside};
-ghost use Rattle.edd_parser.specs.Views.{Gives};
+ghost use Rattle.edd_token_reader.specs.Views.{Gives};
 
-use crate::cursor::Cursor;
-use crate::fault::ParseFault;
 use edd_syntax::symbols::Symbol;
+use edd_token_reader::cursor::Cursor;
+use edd_token_reader::fault::ParseFault;
 
 /// What may stand between braces any number of times, and how it is read.
 pub trait Thing: Sized + Drop {
@@ -25,7 +25,7 @@ pub trait Thing: Sized + Drop {
 }
 
 // The things up to the closing brace.
-#[tactic(auto, unfolding(edd_grammar::specs::WordReading::row_inside), using(crate::proofs::WordLoops::rows))]
+#[tactic(auto, unfolding(edd_grammar::specs::WordReading::row_inside), using(crate::proofs::RowLoops::rows))]
 fn row<T: Thing>(cursor: &mut Cursor, high: u32) -> Result<Vec<T>, ParseFault>
     requires { high ≤ 100 }
     ensures { Gives (λ v. map T.view v.items) result cursor.new (row_inside (T.read high) cursor.old) }

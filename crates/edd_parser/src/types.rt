@@ -7,18 +7,18 @@ ghost use Rattle.edd_syntax.specs.ItemGrammar.{behind_braces};
 ghost use Rattle.edd_syntax.specs.TreeView.{path_of};
 ghost use Rattle.edd_syntax.specs.ItemView.{type_part_of, type_word_of};
 ghost use Rattle.edd_grammar.specs.TypeReading as reading;
-ghost use Rattle.edd_parser.specs.Views.{Gives, Leaves};
+ghost use Rattle.edd_token_reader.specs.Views.{Gives, Leaves};
 ghost use Rattle.edd_parser.specs.Items.{written_view};
 
-use crate::cond::{element, one, skip_comma};
-use crate::cursor::Cursor;
-use crate::fault::ParseFault;
 use crate::rows::{Thing, braced_row};
-use crate::words::integer;
+use edd_expression_parser::cond::{element, one};
 use edd_syntax::item::{TypePart, TypeWord};
 use edd_syntax::reference::Path;
 use edd_syntax::symbols::{Keyword, Symbol};
 use edd_syntax::types::VarType;
+use edd_token_reader::cursor::Cursor;
+use edd_token_reader::fault::ParseFault;
+use edd_token_reader::words::{integer, skip_comma};
 
 /// A type as it is written, and what stands in its braces.
 #[derive(Drop)]

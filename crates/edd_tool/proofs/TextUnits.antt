@@ -6,8 +6,8 @@ use Rattle.edd_syntax.specs.ItemGrammar.{Spells}
 use Rattle.edd_lexer.specs.declared.token.Token.{Token}
 use Rattle.edd_lexer.specs.Tokens.{Lexeme, AreTokens}
 use Rattle.edd_lexer.specs.Views.{lexeme_of}
-use Rattle.edd_parser.specs.declared.fault.ParseFault.{ParseFault}
-use Rattle.edd_parser.specs.declared.fault.ParseFault.TheVariants as parse
+use Rattle.edd_token_reader.specs.declared.fault.ParseFault.{ParseFault}
+use Rattle.edd_token_reader.specs.declared.fault.ParseFault.TheVariants as parse
 use Rattle.edd_parser.specs.TokenTexts.{tokens_in}
 use Rattle.edd_parser.specs.Views.{Says}
 use Rattle.edd_tool.specs.Faults.{of_parse, Explains}

@@ -8,8 +8,8 @@ use Rattle.edd_lexer.specs.declared.fault.LexFault.{LexFault}
 use Rattle.edd_lexer.specs.declared.fault.LexFault.TheVariants as lex
 use Rattle.edd_lexer.specs.Faults.{LexicalFault}
 use Rattle.edd_lexer.specs.Views.{fault_of}
-use Rattle.edd_parser.specs.declared.fault.ParseFault.{ParseFault}
-use Rattle.edd_parser.specs.declared.fault.ParseFault.TheVariants as parse
+use Rattle.edd_token_reader.specs.declared.fault.ParseFault.{ParseFault}
+use Rattle.edd_token_reader.specs.declared.fault.ParseFault.TheVariants as parse
 use Rattle.edd_parser.specs.Views.{Says}
 use Rattle.edd_names.specs.declared.fault.NameFault.{NameFault}
 use Rattle.edd_names.specs.declared.fault.NameFault.TheVariants as name

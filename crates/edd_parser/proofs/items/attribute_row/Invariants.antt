@@ -3,7 +3,7 @@ use Rattle.edd_syntax.specs.Token.{Token}
 use Rattle.edd_grammar.specs.WordReading.{at_close, closed, row_at}
 use Rattle.edd_grammar.specs.AttributeReading.{own_attribute_at}
 use Rattle.edd_parser.specs.Items.{attribute_view}
-use Rattle.edd_parser.proofs.WordLoops.{with_things}
+use Rattle.edd_token_reader.proofs.Fronts.{with_things}
 use Rattle.edd_parser.proofs.items.attribute_row.Given as goal
 
 abbrev pub invariant-loop : goal.invariant-loop

@@ -3,7 +3,7 @@ use Rattle.edd_syntax.specs.Token.{Token}
 use Rattle.edd_grammar.specs.WordReading.{at_end, closed, row_at}
 use Rattle.edd_grammar.specs.UnitReading.{item_at}
 use Rattle.edd_parser.specs.Units.{item_view}
-use Rattle.edd_parser.proofs.WordLoops.{with_things}
+use Rattle.edd_token_reader.proofs.Fronts.{with_things}
 use Rattle.edd_parser.proofs.items.items.Given as goal
 
 abbrev pub invariant-loop : goal.invariant-loop

@@ -1,4 +1,4 @@
-use Rattle.edd_parser.specs.TokenTexts.{tokens_in}
+use Rattle.edd_token_reader.specs.TokenTexts.{tokens_in}
 use Rattle.edd_parser.proofs.Parsed.{answered_unit, answered_none, answered_only}
 use Rattle.edd_parser.proofs.parser.parse.Goals as goal
 

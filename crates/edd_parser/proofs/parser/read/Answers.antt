@@ -1,8 +1,8 @@
 use Rattle.std.proofs.Common.{sym, ap, subst, ◌∙◌, map}
 use Rattle.edd_grammar.specs.KeptTokens.{Kept}
-use Rattle.edd_parser.specs.Views.{piece_token}
+use Rattle.edd_token_reader.specs.Views.{piece_token}
 use Rattle.edd_parser.proofs.Parsed.{kept_tokens}
-use Rattle.edd_parser.proofs.TokenTexts.{tokens_readable}
+use Rattle.edd_token_reader.proofs.TokenTexts.{tokens_readable}
 use Rattle.edd_parser.proofs.parser.read.Goals as goal
 
 pub pieces-requires : goal.pieces-requires

@@ -1,7 +1,7 @@
 use Rattle.std.proofs.Common.{◌≡◌, ℕ, ◌+◌, ◌-◌, List, length}
 use Rattle.edd_syntax.specs.Token.{Token}
 use Rattle.edd_grammar.specs.WordReading.{at_close, row_at}
-use Rattle.edd_parser.proofs.WordLoops.{with_things}
+use Rattle.edd_token_reader.proofs.Fronts.{with_things}
 use Rattle.edd_parser.proofs.rows.row.Given as goal
 
 abbrev pub invariant-loop : goal.invariant-loop

@@ -1,0 +1,3 @@
+pub mod CondLoops
+pub mod Loops
+pub mod ArgumentHeights

@@ -1,0 +1,58 @@
+use Rattle.std.proofs.Common.{◌≡◌, ℕ, ◌+◌, ◌-◌, ◌*◌, ◌≤◌, List, length}
+use Rattle.edd_syntax.specs.Token.{Token}
+use Rattle.edd_syntax.specs.Reference.{Path}
+use Rattle.edd_syntax.specs.Expression.{Expr}
+use Rattle.edd_grammar.specs.ExpressionReading.{expr_at, chain, some_arguments}
+use Rattle.edd_token_reader.specs.Views.{place_view}
+use Rattle.edd_expression_parser.specs.Expressions.{expr_view}
+use Rattle.edd_expression_parser.proofs.Loops.{with_front}
+use Rattle.edd_expression_parser.proofs.expr.+expr.Given as goal
+
+abbrev pub decreases-expr : goal.decreases-expr
+decreases-expr l = 8 * l.high
+
+abbrev pub decreases-layer : goal.decreases-layer
+decreases-layer l = 8 * l.high + 7
+
+abbrev pub decreases-operand : goal.decreases-operand
+decreases-operand l = 8 * l.high + 6
+
+abbrev pub decreases-chain : goal.decreases-chain
+decreases-chain l = 8 * l.high + 2
+
+abbrev pub decreases-choice : goal.decreases-choice
+decreases-choice l = 8 * l.high + 1
+
+abbrev pub decreases-assignment : goal.decreases-assignment
+decreases-assignment l = 8 * l.high + 1
+
+abbrev pub decreases-named : goal.decreases-named
+decreases-named l = 8 * l.high + 5
+
+abbrev pub decreases-signed : goal.decreases-signed
+decreases-signed l = 8 * l.high + 5
+
+abbrev pub decreases-unary : goal.decreases-unary
+decreases-unary l = 8 * l.high + 1
+
+abbrev pub decreases-arguments : goal.decreases-arguments
+decreases-arguments l = 8 * l.high + 4
+
+abbrev pub decreases-some_arguments : goal.decreases-some_arguments
+decreases-some_arguments l = 8 * l.high + 3
+
+abbrev pub decreases-argument : goal.decreases-argument
+decreases-argument l = 8 * l.high + 2
+
+abbrev pub decreases-joined : goal.decreases-joined
+decreases-joined l = 8 * l.high + 1
+
+abbrev pub invariant-chain-loop : goal.invariant-chain-loop
+invariant-chain-loop l =
+    let read = λ (n : ℕ) (left : Expr Path) (here : List Token). chain (place_view l.place) (expr_at (place_view l.place) l.high) l.high l.row n left here in
+    (l.left.levels ≤ l.high + 1) × (read (l.high + 1 - l.counter) (expr_view l.left.expr) l.cursor ≡ read (l.high + 1) (expr_view l.fn.first.expr) l.fn.cursor)
+
+abbrev pub invariant-some_arguments-loop : goal.invariant-some_arguments-loop
+invariant-some_arguments-loop l =
+    let read = λ (n : ℕ) (here : List Token). some_arguments (place_view l.place) (expr_at (place_view l.place) l.high) n here in
+    (l.all.levels ≤ l.high) × (with_front l.all.arguments.items (read (length l.fn.cursor - l.counter) l.cursor) ≡ read (length l.fn.cursor) l.fn.cursor)

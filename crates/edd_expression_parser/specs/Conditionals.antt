@@ -1,0 +1,83 @@
+-- Conditionals of single values and in lists, read by one function.
+use Rattle.std.specs.Prelude.{ℕ, zero, suc, List, drop, map, Some, None, if◌then◌else◌}
+use Rattle.edd_syntax.specs.declared.symbols.Keyword.TheVariants as word
+use Rattle.edd_syntax.specs.declared.cond.Cond as code
+use Rattle.edd_syntax.specs.declared.cond.Arm as code_arm
+use Rattle.edd_syntax.specs.declared.reference.Path as path
+use Rattle.edd_syntax.specs.Token.{Token}
+use Rattle.edd_syntax.specs.Reference.{Path}
+use Rattle.edd_syntax.specs.Conditional as cond
+use Rattle.edd_syntax.specs.Conditional.{Cond, Conds, Arm, Arms, Case, Default}
+use Rattle.edd_syntax.specs.TreeView.{path_of}
+use Rattle.edd_syntax.specs.ItemView.{cond_of, arm_of}
+use Rattle.edd_grammar.specs.Reading.{◌>>=◌, Read, at_word}
+use Rattle.edd_grammar.specs.ConditionalReading.{ended, only, listed, cond_layer, if_at, select_at, braces_at, else_at, case_at, default_at, arms_at}
+use Rattle.edd_expression_parser.specs.declared.cond.Form.{Form}
+use Rattle.edd_expression_parser.specs.declared.cond.Form.TheVariants.{One, Many}
+
+-- ---- what the code's conditionals stand for
+
+abbrev pub cond_view : {V W : Type 0} → (V → W) → code.Cond path.Path V → Cond Path W
+cond_view view c = cond_of path_of view c
+
+abbrev pub conds_view : {V W : Type 0} → (V → W) → List (code.Cond path.Path V) → Conds Path W
+conds_view view all = cond.conds_from (map (cond_of path_of view) all)
+
+abbrev pub arm_view : {V W : Type 0} → (V → W) → code_arm.Arm path.Path V → Arm Path W
+arm_view view a = arm_of path_of view a
+
+abbrev pub arms_view : {V W : Type 0} → (V → W) → List (code_arm.Arm path.Path V) → Arms Path W
+arms_view view all = cond.arms_from (map (arm_of path_of view) all)
+
+-- ---- reading
+
+-- a value, with a semicolon behind a single one
+unfoldable pub value_in : {V : Type 0} → Form → (List Token → Read V) → List Token → Read V
+value_in One value here = ended value here
+value_in Many value here = value here
+
+-- what stands in a branch
+unfoldable pub branch_in : {V : Type 0} → Form → (List Token → Read (Cond Path V)) → List Token → Read (Conds Path V)
+branch_in One inner here = only inner here
+branch_in Many inner here = listed inner here
+
+-- a conditional of at most this height, each of whose values of at most some height `value` reads
+unfoldable pub cond_at : {V : Type 0} → Form → (ℕ → List Token → Read V) → ℕ → List Token → Read (Cond Path V)
+cond_at form value zero here = None
+cond_at form value (suc high) here = cond_layer high (value_in form (value high)) (branch_in form (cond_at form value high)) (cond_at form value high) here
+
+-- the parts of such a conditional whose children have at most the height `high`
+module _ {V : Type 0} (form : Form) (value : ℕ → List Token → Read V) (high : ℕ) where
+  abbrev pub values : List Token → Read V
+  values = value_in form (value high)
+
+  abbrev pub conds : List Token → Read (Cond Path V)
+  conds = cond_at form value high
+
+  abbrev pub branches : List Token → Read (Conds Path V)
+  branches = branch_in form conds
+
+  abbrev pub layer : List Token → Read (Cond Path V)
+  layer = cond_layer high values branches conds
+
+  abbrev pub if_behind : List Token → Read (Cond Path V)
+  if_behind = if_at high values branches conds
+
+  abbrev pub select_behind : List Token → Read (Cond Path V)
+  select_behind = select_at high values branches conds
+
+  abbrev pub braces : List Token → Read (Conds Path V)
+  braces = braces_at high values branches conds
+
+  abbrev pub otherwise : List Token → Read (Conds Path V)
+  otherwise = else_at high values branches conds
+
+  abbrev pub arms : ℕ → List Token → Read (Arms Path V)
+  arms = arms_at high values branches conds
+
+  -- one arm
+  unfoldable pub arm_at : List Token → Read (Arm Path V)
+  arm_at here =
+      if at_word word.Case here then (case_at high values branches conds (drop 1 here) >>= λ x. Some (Case x.0.0 x.0.1, x.1))
+      else if at_word word.Default here then (default_at high values branches conds (drop 1 here) >>= λ x. Some (Default x.0, x.1))
+      else None

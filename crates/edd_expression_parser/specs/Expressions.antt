@@ -1,0 +1,23 @@
+-- What the code's expressions stand for.
+use Rattle.std.specs.Prelude.{ℕ, List, map}
+use Rattle.edd_syntax.specs.declared.expr.Expr as code
+use Rattle.edd_syntax.specs.declared.expr.Argument as argument
+use Rattle.edd_syntax.specs.declared.reference.Path as path
+use Rattle.edd_syntax.specs.Reference.{Path}
+use Rattle.edd_syntax.specs.Expression as pure_tree
+use Rattle.edd_syntax.specs.Size.{argument_height}
+use Rattle.edd_syntax.specs.TreeView.{path_of, expr_of, argument_of}
+
+abbrev pub expr_view : code.Expr path.Path → pure_tree.Expr Path
+expr_view e = expr_of path_of e
+
+abbrev pub argument_view : argument.Argument path.Path → pure_tree.Argument Path
+argument_view a = argument_of path_of a
+
+-- the arguments that a list has
+abbrev pub listed : List (argument.Argument path.Path) → pure_tree.Arguments Path
+listed all = pure_tree.arguments_from (map argument_view all)
+
+-- the height of one argument
+abbrev pub argument_levels : argument.Argument path.Path → ℕ
+argument_levels a = argument_height (pure_tree.Cons (argument_view a) pure_tree.Nil)

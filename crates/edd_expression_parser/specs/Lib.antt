@@ -1,0 +1,2 @@
+pub mod Conditionals
+pub mod Expressions

@@ -1,0 +1,341 @@
+//! Conditionals of values of any kind.
+
+ghost use Rattle.std.specs.Prelude.{◌≡◌, ◌≤◌, ◌<◌, ◌+◌, ℕ, List, [], ◌∷◌, length, Some, None, IfOk};
+ghost use Rattle.edd_syntax.specs.Token.{Token};
+ghost use Rattle.edd_syntax.specs.Grammar.{InAttribute};
+ghost use Rattle.edd_grammar.specs.Reading.{Read};
+ghost use Rattle.edd_grammar.specs.WordReading.{braced};
+ghost use Rattle.edd_grammar.specs.ConditionalReading as reading;
+ghost use Rattle.edd_expression_parser.specs.declared.cond.Form.TheVariants.{Many};
+ghost use Rattle.edd_expression_parser.specs.Conditionals as conditionals;
+ghost use Rattle.edd_expression_parser.specs.Conditionals.{cond_view, conds_view, arm_view, arms_view, cond_at, value_in, branch_in};
+ghost use Rattle.edd_token_reader.specs.Views.{place_view, Gives};
+ghost use Rattle.edd_expression_parser.specs.Expressions.{expr_view};
+
+use crate::expr::expr;
+use edd_syntax::cond::{Arm, Cond};
+use edd_syntax::expr::Expr;
+use edd_syntax::operators::Operator;
+use edd_syntax::reference::Path;
+use edd_syntax::symbols::{Keyword, Symbol};
+use edd_token_reader::cursor::Cursor;
+use edd_token_reader::fault::ParseFault;
+use edd_token_reader::operators::{Place, loosest};
+use edd_token_reader::words::skip_comma;
+use std::alloc::{AllocError, Global};
+
+/// Whether a conditional has one value in each branch or stands in a list.
+#[derive(Clone, Copy, PartialEq, Eq, Debug)]
+pub enum Form {
+    One,
+    Many,
+}
+
+/// What may be a value of a conditional, and how it is read.
+pub trait Value: Sized + Drop {
+    ghost Pure: { Type 0 };
+
+    ghost view: { Self → Pure };
+
+    ghost read: { ℕ → List Token → Read Pure };
+
+    /// A value of at most this height.
+    fn read_value(cursor: &mut Cursor, high: u32) -> Result<Self, ParseFault>
+        requires { high ≤ 100 }
+        ensures { Gives view result cursor.new (read high cursor.old) };
+}
+
+// An integer behind a minus sign.
+fn negative(cursor: &mut Cursor) -> Result<i64, ParseFault>
+    ensures { Gives (λ z. z) result cursor.new (reading.negative_at cursor.old) }
+{
+    let Some(n) = cursor.integer() else {
+        return Err(cursor.syntax());
+    };
+    Ok(-i64::from(n))
+}
+
+/// An integer, or its negative.
+pub fn label(cursor: &mut Cursor) -> Result<i64, ParseFault>
+    ensures { Gives (λ z. z) result cursor.new (reading.label_at cursor.old) }
+{
+    if let Some(n) = cursor.integer() {
+        return Ok(i64::from(n));
+    }
+    if !cursor.is_at(Symbol::Operator(Operator::Subtract)) {
+        return Err(cursor.syntax());
+    }
+    cursor.skip();
+    negative(cursor)
+}
+
+/// `( e )`
+#[tactic(auto, unfolding(edd_grammar::specs::ConditionalReading::condition_at))]
+pub fn condition(cursor: &mut Cursor, place: Place, high: u32) -> Result<Expr<Path>, ParseFault>
+    requires { high ≤ 100 }
+    ensures { Gives expr_view result cursor.new (reading.condition_at (place_view place) high cursor.old) }
+{
+    cursor.expect(Symbol::OpenParenthesis)?;
+    let inside = expr(cursor, place, high, loosest(place))?;
+    cursor.expect(Symbol::CloseParenthesis)?;
+    Ok(inside.expr)
+}
+
+fn list_ends(cursor: &Cursor) -> bool
+    ensures { result ≡ reading.list_ends cursor.now }
+{
+    cursor.is_at(Symbol::CloseBrace)
+        || cursor.is_at_word(Keyword::Case)
+        || cursor.is_at_word(Keyword::Default)
+}
+
+// A value, with a semicolon behind a single one.
+#[tactic(auto, unfolding(crate::specs::Conditionals::value_in, edd_grammar::specs::ConditionalReading::ended))]
+fn one_value<V: Value>(cursor: &mut Cursor, form: Form, high: u32) -> Result<V, ParseFault>
+    requires { high ≤ 100 }
+    ensures { Gives V.view result cursor.new (value_in form (V.read high) cursor.old) }
+{
+    let value = V::read_value(cursor, high)?;
+    match form {
+        Form::One => cursor.expect(Symbol::Semicolon)?,
+        Form::Many => {}
+    }
+    Ok(value)
+}
+
+fn alone<V: Value>(alloc: Global, inner: Cond<Path, V>) -> Result<Vec<Cond<Path, V>>, AllocError>
+    ensures { IfOk result (λ v. v.items ≡ inner ∷ []) }
+{
+    let mut all = Vec::new(alloc);
+    all.push(inner)?;
+    Ok(all)
+}
+
+/// A conditional of at most this height.
+#[cycle(cond)]
+#[tactic(auto, using(crate::proofs::CondLoops::levels))]
+pub fn cond<V: Value>(
+    cursor: &mut Cursor,
+    form: Form,
+    high: u32,
+) -> Result<Cond<Path, V>, ParseFault>
+    requires { high ≤ 100 }
+    ensures { Gives (cond_view V.view) result cursor.new (cond_at form V.read high cursor.old) }
+{
+    if high == 0 {
+        return Err(cursor.too_deep());
+    }
+    layer(cursor, form, high - 1)
+}
+
+// A conditional whose children are of at most this height.
+#[cycle(cond)]
+#[tactic(auto, unfolding(edd_grammar::specs::ConditionalReading::cond_layer), using(edd_syntax::proofs::CondRows::equations))]
+fn layer<V: Value>(cursor: &mut Cursor, form: Form, high: u32) -> Result<Cond<Path, V>, ParseFault>
+    requires { high < 100 }
+    ensures { Gives (cond_view V.view) result cursor.new (conditionals.layer form V.read high cursor.old) }
+{
+    if cursor.is_at_word(Keyword::If) {
+        cursor.skip();
+        return if_behind(cursor, form, high);
+    }
+    if cursor.is_at_word(Keyword::Select) {
+        cursor.skip();
+        return select_behind(cursor, form, high);
+    }
+    Ok(Cond::Value(one_value(cursor, form, high)?))
+}
+
+// Behind IF.
+#[cycle(cond)]
+#[tactic(auto, unfolding(edd_grammar::specs::ConditionalReading::if_at), using(edd_syntax::proofs::CondRows::equations))]
+fn if_behind<V: Value>(
+    cursor: &mut Cursor,
+    form: Form,
+    high: u32,
+) -> Result<Cond<Path, V>, ParseFault>
+    requires { high < 100 }
+    ensures { Gives (cond_view V.view) result cursor.new (conditionals.if_behind form V.read high cursor.old) }
+{
+    let condition = condition(cursor, Place::Attribute, high)?;
+    let first = braces(cursor, form, high)?;
+    let otherwise = otherwise(cursor, form, high)?;
+    Ok(Cond::If {
+        condition,
+        first,
+        otherwise,
+    })
+}
+
+// ELSE and what belongs to it, or nothing.
+#[cycle(cond)]
+#[tactic(auto, unfolding(edd_grammar::specs::ConditionalReading::else_at))]
+fn otherwise<V: Value>(
+    cursor: &mut Cursor,
+    form: Form,
+    high: u32,
+) -> Result<Vec<Cond<Path, V>>, ParseFault>
+    requires { high < 100 }
+    ensures { Gives (λ v. conds_view V.view v.items) result cursor.new (conditionals.otherwise form V.read high cursor.old) }
+{
+    if !cursor.is_at_word(Keyword::Else) {
+        return Ok(Vec::new(cursor.alloc()));
+    }
+    cursor.skip();
+    if !cursor.is_at_word(Keyword::If) {
+        return braces(cursor, form, high);
+    }
+    let inner = cond(cursor, form, high)?;
+    Ok(alone(cursor.alloc(), inner)?)
+}
+
+// A branch in braces.
+#[cycle(cond)]
+#[tactic(auto, unfolding(edd_grammar::specs::ConditionalReading::braces_at))]
+fn braces<V: Value>(
+    cursor: &mut Cursor,
+    form: Form,
+    high: u32,
+) -> Result<Vec<Cond<Path, V>>, ParseFault>
+    requires { high < 100 }
+    ensures { Gives (λ v. conds_view V.view v.items) result cursor.new (conditionals.braces form V.read high cursor.old) }
+{
+    cursor.expect(Symbol::OpenBrace)?;
+    let all = branch(cursor, form, high)?;
+    cursor.expect(Symbol::CloseBrace)?;
+    Ok(all)
+}
+
+// What stands in a branch.
+#[cycle(cond)]
+#[tactic(auto, unfolding(crate::specs::Conditionals::branch_in, edd_grammar::specs::ConditionalReading::only))]
+fn branch<V: Value>(
+    cursor: &mut Cursor,
+    form: Form,
+    high: u32,
+) -> Result<Vec<Cond<Path, V>>, ParseFault>
+    requires { high < 100 }
+    ensures { Gives (λ v. conds_view V.view v.items) result cursor.new (conditionals.branches form V.read high cursor.old) }
+{
+    match form {
+        Form::One => {
+            let inner = cond(cursor, form, high)?;
+            Ok(alone(cursor.alloc(), inner)?)
+        }
+        Form::Many => elements(cursor, high),
+    }
+}
+
+/// The elements of a list, each of at most this height, up to its end.
+#[cycle(cond)]
+#[tactic(auto, unfolding(edd_grammar::specs::ConditionalReading::listed), using(crate::proofs::CondLoops::elements_read))]
+pub fn elements<V: Value>(cursor: &mut Cursor, high: u32) -> Result<Vec<Cond<Path, V>>, ParseFault>
+    requires { high ≤ 100 }
+    ensures { Gives (λ v. conds_view V.view v.items) result cursor.new (reading.listed (cond_at Many V.read high) cursor.old) }
+{
+    let mut all = Vec::new(cursor.alloc());
+    for _ in 0..cursor.places() {
+        if list_ends(cursor) {
+            return Ok(all);
+        }
+        all.push(cond(cursor, Form::Many, high)?)?;
+        skip_comma(cursor);
+    }
+    Err(cursor.syntax())
+}
+
+// Behind SELECT.
+#[cycle(cond)]
+#[tactic(auto, unfolding(edd_grammar::specs::ConditionalReading::select_at), using(edd_syntax::proofs::CondRows::equations))]
+fn select_behind<V: Value>(
+    cursor: &mut Cursor,
+    form: Form,
+    high: u32,
+) -> Result<Cond<Path, V>, ParseFault>
+    requires { high < 100 }
+    ensures { Gives (cond_view V.view) result cursor.new (conditionals.select_behind form V.read high cursor.old) }
+{
+    let on = condition(cursor, Place::Attribute, high)?;
+    cursor.expect(Symbol::OpenBrace)?;
+    let arms = arms(cursor, form, high)?;
+    cursor.expect(Symbol::CloseBrace)?;
+    Ok(Cond::Select { on, arms })
+}
+
+// The arms up to the closing brace.
+#[cycle(cond)]
+#[tactic(auto, using(crate::proofs::CondLoops::arms_read))]
+fn arms<V: Value>(
+    cursor: &mut Cursor,
+    form: Form,
+    high: u32,
+) -> Result<Vec<Arm<Path, V>>, ParseFault>
+    requires { high < 100 }
+    ensures { Gives (λ v. arms_view V.view v.items) result cursor.new (conditionals.arms form V.read high (length cursor.old + 1) cursor.old) }
+{
+    let mut all = Vec::new(cursor.alloc());
+    for _ in 0..cursor.places() {
+        if cursor.is_at(Symbol::CloseBrace) {
+            return Ok(all);
+        }
+        all.push(arm(cursor, form, high)?)?;
+    }
+    Err(cursor.syntax())
+}
+
+// One arm.
+#[cycle(cond)]
+#[tactic(auto, unfolding(crate::specs::Conditionals::arm_at, edd_grammar::specs::ConditionalReading::case_at, edd_grammar::specs::ConditionalReading::default_at), using(edd_syntax::proofs::CondRows::equations))]
+fn arm<V: Value>(cursor: &mut Cursor, form: Form, high: u32) -> Result<Arm<Path, V>, ParseFault>
+    requires { high < 100 }
+    ensures { Gives (arm_view V.view) result cursor.new (conditionals.arm_at form V.read high cursor.old) }
+{
+    let line = cursor.line();
+    if cursor.is_at_word(Keyword::Case) {
+        cursor.skip();
+        let label = label(cursor)?;
+        cursor.expect(Symbol::Colon)?;
+        let body = branch(cursor, form, high)?;
+        return Ok(Arm::Case { label, body });
+    }
+    if !cursor.is_at_word(Keyword::Default) {
+        return Err(cursor.syntax());
+    }
+    cursor.skip();
+    cursor.expect(Symbol::Colon)?;
+    let body = branch(cursor, form, high)?;
+    Ok(Arm::Default { line, body })
+}
+
+/// A single value of at most this height.
+#[tactic(auto, using(crate::proofs::CondLoops::one_is))]
+pub fn one<V: Value>(cursor: &mut Cursor, high: u32) -> Result<Cond<Path, V>, ParseFault>
+    requires { high ≤ 100 }
+    ensures { Gives (cond_view V.view) result cursor.new (reading.one_at V.read high cursor.old) }
+{
+    cond(cursor, Form::One, high)
+}
+
+/// An element of a list, of at most this height.
+#[tactic(auto, using(crate::proofs::CondLoops::many_is))]
+pub fn element<V: Value>(cursor: &mut Cursor, high: u32) -> Result<Cond<Path, V>, ParseFault>
+    requires { high ≤ 100 }
+    ensures { Gives (cond_view V.view) result cursor.new (reading.element_at V.read high cursor.old) }
+{
+    cond(cursor, Form::Many, high)
+}
+
+/// A list in braces, whose elements are of at most this height.
+#[tactic(auto, unfolding(edd_grammar::specs::WordReading::braced), using(crate::proofs::CondLoops::list_is))]
+pub fn braced_list<V: Value>(
+    cursor: &mut Cursor,
+    high: u32,
+) -> Result<Vec<Cond<Path, V>>, ParseFault>
+    requires { high ≤ 100 }
+    ensures { Gives (λ v. conds_view V.view v.items) result cursor.new (braced (reading.list_at V.read high) cursor.old) }
+{
+    cursor.expect(Symbol::OpenBrace)?;
+    let all = elements(cursor, high)?;
+    cursor.expect(Symbol::CloseBrace)?;
+    Ok(all)
+}

@@ -1,0 +1,351 @@
+//! Expressions, by the rows of their operators.
+
+ghost use Rattle.std.specs.Prelude.{◌≡◌, ◌≤◌, ◌<◌, ◌+◌, List, [], ◌∷◌, ◌++◌, length, Some, None, IfOk, max};
+ghost use Rattle.edd_syntax.specs.TreeView.{path_of};
+ghost use Rattle.edd_syntax.specs.Expression as tree;
+ghost use Rattle.edd_syntax.specs.Size.{height, argument_height};
+ghost use Rattle.edd_syntax.specs.declared.symbols.Symbol.TheVariants as sign;
+ghost use Rattle.edd_grammar.specs.Reading.{expect, on_option};
+ghost use Rattle.edd_grammar.specs.ExpressionReading as reading;
+ghost use Rattle.edd_grammar.specs.ExpressionReading.{expr_at, operator_at};
+ghost use Rattle.edd_token_reader.specs.Views.{place_view, infix_view, assignment_view, Gives};
+ghost use Rattle.edd_expression_parser.specs.Expressions.{expr_view, argument_view, argument_levels, listed};
+
+use crate::trees::{
+    Tall, TallArgument, TallArguments, assigned, binary, call, choice_between, into_path, leaf,
+    no_arguments, parentheses, unary_over, with_argument,
+};
+use edd_syntax::expr::{Argument, Expr};
+use edd_syntax::operators::{IncrementOperator, UnaryOperator};
+use edd_syntax::reference::Path;
+use edd_syntax::symbols::Symbol;
+use edd_token_reader::cursor::Cursor;
+use edd_token_reader::fault::ParseFault;
+use edd_token_reader::operators::{
+    Assignment, Infix, Place, before_of, in_method, loosest, row_of, unary_of,
+};
+use edd_token_reader::piece::Piece;
+use edd_token_reader::same::same_sign;
+use edd_token_reader::texts::{is_at_text, path, path_from, text};
+
+// A reference, and a step behind it.
+#[tactic(auto, unfolding(edd_grammar::specs::ExpressionReading::postfix))]
+fn stepped(cursor: &mut Cursor, place: Place, to: Path) -> Result<Tall, ParseFault>
+    ensures read { Gives (λ t. expr_view t.expr) result cursor.new (reading.postfix (place_view place) (path_of to) cursor.old) }
+    ensures low { IfOk result (λ t. t.levels ≤ 1) }
+{
+    let Some(op) = cursor.step() else {
+        return Ok(leaf(Expr::Reference(to)));
+    };
+    if !in_method(place) {
+        return Err(cursor.syntax_taken());
+    }
+    Ok(leaf(Expr::Increment(op, to)))
+}
+
+// A step and the reference behind it.
+#[tactic(auto, unfolding(edd_grammar::specs::ExpressionReading::step_before))]
+fn step_before(cursor: &mut Cursor, place: Place, op: IncrementOperator) -> Result<Tall, ParseFault>
+    ensures read { Gives (λ t. expr_view t.expr) result cursor.new (reading.step_before (place_view place) op cursor.old) }
+    ensures low { IfOk result (λ t. t.levels ≤ 1) }
+{
+    if !in_method(place) {
+        return Err(cursor.syntax_taken());
+    }
+    let to = path(cursor)?;
+    Ok(leaf(Expr::Increment(op, to)))
+}
+
+// These arguments, if their parenthesis closes here.
+#[tactic(auto, unfolding(edd_grammar::specs::ExpressionReading::closing))]
+fn close(cursor: &mut Cursor, all: TallArguments) -> Result<TallArguments, ParseFault>
+    ensures read { Gives (λ a. listed a.arguments.items) result cursor.new (reading.closing (listed all.arguments.items) (expect sign.CloseParenthesis cursor.old)) }
+    ensures same { IfOk result (λ a. a.levels ≡ all.levels) }
+{
+    cursor.expect(Symbol::CloseParenthesis)?;
+    Ok(all)
+}
+
+/// An expression of at most this height, in a place for this row or a tighter one.
+#[cycle(expr)]
+#[tactic(auto, using(crate::proofs::Loops::levels))]
+pub fn expr(cursor: &mut Cursor, place: Place, high: u32, row: u32) -> Result<Tall, ParseFault>
+    requires { high ≤ 100 }
+    ensures read { Gives (λ t. expr_view t.expr) result cursor.new (expr_at (place_view place) high row cursor.old) }
+    ensures low { IfOk result (λ t. t.levels ≤ high) }
+{
+    if high == 0 {
+        return Err(cursor.too_deep());
+    }
+    layer(cursor, place, high - 1, row)
+}
+
+// An expression whose children are of at most this height.
+#[cycle(expr)]
+#[tactic(auto, unfolding(edd_grammar::specs::ExpressionReading::layer))]
+fn layer(cursor: &mut Cursor, place: Place, high: u32, row: u32) -> Result<Tall, ParseFault>
+    requires { high < 100 }
+    ensures read { Gives (λ t. expr_view t.expr) result cursor.new (reading.layer (place_view place) (expr_at (place_view place) high) high row cursor.old) }
+    ensures low { IfOk result (λ t. t.levels ≤ high + 1) }
+{
+    let first = operand(cursor, place, high)?;
+    let left = chain(cursor, place, high, row, first)?;
+    let whole = choice(cursor, place, high, row, left)?;
+    assignment(cursor, place, high, row, whole)
+}
+
+// Rows 13 to 15.
+#[cycle(expr)]
+#[tactic(auto, unfolding(edd_grammar::specs::ExpressionReading::operand_at))]
+fn operand(cursor: &mut Cursor, place: Place, high: u32) -> Result<Tall, ParseFault>
+    requires { high < 100 }
+    ensures read { Gives (λ t. expr_view t.expr) result cursor.new (reading.operand_at (place_view place) (expr_at (place_view place) high) cursor.old) }
+    ensures low { IfOk result (λ t. t.levels ≤ high + 1) }
+{
+    let line = cursor.line();
+    match cursor.next() {
+        None => Err(cursor.syntax()),
+        Some(Piece::Name(name)) => named(cursor, place, high, line, name),
+        Some(Piece::Integer(value)) => Ok(leaf(Expr::Literal(value))),
+        Some(Piece::Decimal) => Ok(leaf(Expr::Decimal { line })),
+        Some(Piece::String(_)) => Err(ParseFault::Syntax { line }),
+        Some(Piece::Keyword(_)) => Err(ParseFault::Syntax { line }),
+        Some(Piece::Symbol(sign)) => signed(cursor, place, high, sign),
+    }
+}
+
+// Behind a name: a call's arguments, or the rest of a reference.
+#[cycle(expr)]
+#[tactic(auto, unfolding(edd_grammar::specs::ExpressionReading::named_at))]
+fn named(
+    cursor: &mut Cursor,
+    place: Place,
+    high: u32,
+    line: u32,
+    name: &str,
+) -> Result<Tall, ParseFault>
+    requires { high < 100 }
+    ensures read { Gives (λ t. expr_view t.expr) result cursor.new (reading.named_at (place_view place) (expr_at (place_view place) high) name.now cursor.old) }
+    ensures low { IfOk result (λ t. t.levels ≤ high + 1) }
+{
+    if !cursor.is_at(Symbol::OpenParenthesis) {
+        let to = path_from(cursor, name)?;
+        return stepped(cursor, place, to);
+    }
+    if !in_method(place) {
+        return Err(cursor.syntax());
+    }
+    cursor.skip();
+    let arguments = arguments(cursor, place, high)?;
+    Ok(call(cursor.alloc(), line, name, arguments)?)
+}
+
+// Behind an operator before its operand.
+#[cycle(expr)]
+#[tactic(auto, unfolding(edd_grammar::specs::ExpressionReading::unary_behind))]
+fn unary(
+    cursor: &mut Cursor,
+    place: Place,
+    high: u32,
+    op: UnaryOperator,
+) -> Result<Tall, ParseFault>
+    requires { high < 100 }
+    ensures read { Gives (λ t. expr_view t.expr) result cursor.new (reading.unary_behind (place_view place) (expr_at (place_view place) high) op cursor.old) }
+    ensures low { IfOk result (λ t. t.levels ≤ high + 1) }
+{
+    let operand = expr(cursor, place, high, 13)?;
+    Ok(unary_over(cursor.alloc(), op, operand)?)
+}
+
+// Behind a sign: an expression in parentheses, or an operand behind its operator.
+#[cycle(expr)]
+#[tactic(auto, unfolding(edd_grammar::specs::ExpressionReading::signed_at, edd_grammar::specs::ExpressionReading::parentheses_behind))]
+fn signed(cursor: &mut Cursor, place: Place, high: u32, sign: Symbol) -> Result<Tall, ParseFault>
+    requires { high < 100 }
+    ensures read { Gives (λ t. expr_view t.expr) result cursor.new (reading.signed_at (place_view place) (expr_at (place_view place) high) sign cursor.old) }
+    ensures low { IfOk result (λ t. t.levels ≤ high + 1) }
+{
+    if same_sign(sign, Symbol::OpenParenthesis) {
+        let inner = expr(cursor, place, high, loosest(place))?;
+        cursor.expect(Symbol::CloseParenthesis)?;
+        return Ok(parentheses(cursor.alloc(), inner)?);
+    }
+    if let Some(op) = unary_of(sign) {
+        return unary(cursor, place, high, op);
+    }
+    let Some(op) = before_of(sign) else {
+        return Err(cursor.syntax_taken());
+    };
+    step_before(cursor, place, op)
+}
+
+#[cycle(expr)]
+#[tactic(auto, unfolding(edd_grammar::specs::ExpressionReading::argument_at))]
+fn argument(cursor: &mut Cursor, place: Place, high: u32) -> Result<TallArgument, ParseFault>
+    requires { high < 100 }
+    ensures read { Gives (λ a. argument_view a.argument) result cursor.new (reading.argument_at (place_view place) (expr_at (place_view place) high) cursor.old) }
+    ensures low { IfOk result (λ a. a.levels ≤ high) }
+{
+    if is_at_text(cursor) {
+        return Ok(TallArgument {
+            argument: Argument::Text(text(cursor)?),
+            levels: 0,
+        });
+    }
+    let value = expr(cursor, place, high, loosest(place))?;
+    Ok(TallArgument {
+        argument: Argument::Value(value.expr),
+        levels: value.levels,
+    })
+}
+
+// The arguments of a call, up to the closing parenthesis.
+#[cycle(expr)]
+#[tactic(auto, unfolding(edd_grammar::specs::ExpressionReading::arguments_at))]
+fn arguments(cursor: &mut Cursor, place: Place, high: u32) -> Result<TallArguments, ParseFault>
+    requires { high < 100 }
+    ensures read { Gives (λ a. listed a.arguments.items) result cursor.new (reading.arguments_at (place_view place) (expr_at (place_view place) high) cursor.old) }
+    ensures low { IfOk result (λ a. a.levels ≤ high) }
+{
+    if cursor.is_at(Symbol::CloseParenthesis) {
+        cursor.skip();
+        return Ok(no_arguments(cursor.alloc()));
+    }
+    some_arguments(cursor, place, high)
+}
+
+// One argument at least. Each takes a token or more.
+#[cycle(expr)]
+#[tactic(auto, using(crate::proofs::Loops::lists))]
+fn some_arguments(cursor: &mut Cursor, place: Place, high: u32) -> Result<TallArguments, ParseFault>
+    requires { high < 100 }
+    ensures read { Gives (λ a. listed a.arguments.items) result cursor.new (reading.some_arguments (place_view place) (expr_at (place_view place) high) (length cursor.old) cursor.old) }
+    ensures low { IfOk result (λ a. a.levels ≤ high) }
+{
+    let mut all = no_arguments(cursor.alloc());
+    for _ in 0..cursor.len() {
+        let next = argument(cursor, place, high)?;
+        all = with_argument(all, next)?;
+        if !cursor.is_at(Symbol::Comma) {
+            return close(cursor, all);
+        }
+        cursor.skip();
+    }
+    Err(cursor.syntax())
+}
+
+// The right side of an operator, joined with its left side.
+#[cycle(expr)]
+#[tactic(auto, unfolding(edd_grammar::specs::ExpressionReading::joined_at))]
+fn joined(
+    cursor: &mut Cursor,
+    place: Place,
+    high: u32,
+    op: Infix,
+    left: Tall,
+) -> Result<Tall, ParseFault>
+    requires { high < 100 }
+    ensures read { Gives (λ t. expr_view t.expr) result cursor.new (reading.joined_at (place_view place) (expr_at (place_view place) high) high (infix_view op) (expr_view left.expr) cursor.old) }
+    ensures low { IfOk result (λ t. t.levels ≤ high + 1) }
+{
+    if left.levels > high {
+        return Err(cursor.too_deep_taken());
+    }
+    let right = expr(cursor, place, high, row_of(op) + 1)?;
+    Ok(binary(cursor.alloc(), op, left, right)?)
+}
+
+// The left side, if no operator of this row or a tighter one follows: with it the tree would be too high.
+fn last(cursor: &mut Cursor, row: u32, left: Tall) -> Result<Tall, ParseFault>
+    ensures read { Gives (λ t. expr_view t.expr) result cursor.new (on_option (operator_at row cursor.old) (Some (expr_view left.expr, cursor.old)) (λ o. None)) }
+    ensures same { IfOk result (λ t. t.levels ≡ left.levels) }
+{
+    let line = cursor.line();
+    match cursor.operator(row) {
+        None => Ok(left),
+        Some(_) => Err(ParseFault::TooDeep { line }),
+    }
+}
+
+// The operators of this row and of tighter ones that follow the first operand.
+#[cycle(expr)]
+#[tactic(auto, using(crate::proofs::Loops::chains))]
+fn chain(
+    cursor: &mut Cursor,
+    place: Place,
+    high: u32,
+    row: u32,
+    first: Tall,
+) -> Result<Tall, ParseFault>
+    requires low { high < 100 }
+    requires first_low { first.levels ≤ high + 1 }
+    ensures read { Gives (λ t. expr_view t.expr) result cursor.new (reading.chain (place_view place) (expr_at (place_view place) high) high row (high + 1) (expr_view first.expr) cursor.old) }
+    ensures low { IfOk result (λ t. t.levels ≤ high + 1) }
+{
+    let mut left = first;
+    for _ in 0..high + 1 {
+        let Some(op) = cursor.operator(row) else {
+            return Ok(left);
+        };
+        left = joined(cursor, place, high, op, left)?;
+    }
+    last(cursor, row, left)
+}
+
+// Row 2, behind its condition.
+#[cycle(expr)]
+#[tactic(auto, unfolding(edd_grammar::specs::ExpressionReading::choice_at))]
+fn choice(
+    cursor: &mut Cursor,
+    place: Place,
+    high: u32,
+    row: u32,
+    test: Tall,
+) -> Result<Tall, ParseFault>
+    requires low { high < 100 }
+    requires test_low { test.levels ≤ high + 1 }
+    ensures read { Gives (λ t. expr_view t.expr) result cursor.new (reading.choice_at (place_view place) (expr_at (place_view place) high) high row (expr_view test.expr) cursor.old) }
+    ensures low { IfOk result (λ t. t.levels ≤ high + 1) }
+{
+    if row > 2 || !cursor.is_at(Symbol::Question) {
+        return Ok(test);
+    }
+    if test.levels > high {
+        return Err(cursor.too_deep());
+    }
+    cursor.skip();
+    let first = expr(cursor, place, high, loosest(place))?;
+    cursor.expect(Symbol::Colon)?;
+    let second = expr(cursor, place, high, 2)?;
+    Ok(choice_between(cursor.alloc(), test, first, second)?)
+}
+
+// Row 1, behind what may be its left side.
+#[cycle(expr)]
+#[tactic(auto, unfolding(edd_grammar::specs::ExpressionReading::assign_at))]
+fn assignment(
+    cursor: &mut Cursor,
+    place: Place,
+    high: u32,
+    row: u32,
+    whole: Tall,
+) -> Result<Tall, ParseFault>
+    requires low { high < 100 }
+    requires whole_low { whole.levels ≤ high + 1 }
+    ensures read { Gives (λ t. expr_view t.expr) result cursor.new (reading.assign_at (place_view place) (expr_at (place_view place) high) row (expr_view whole.expr) cursor.old) }
+    ensures low { IfOk result (λ t. t.levels ≤ high + 1) }
+{
+    if row > 1 || !in_method(place) {
+        return Ok(whole);
+    }
+    let levels = whole.levels;
+    let to = match into_path(whole.expr) {
+        Ok(to) => to,
+        Err(expr) => return Ok(Tall { expr, levels }),
+    };
+    let Some(op) = cursor.assignment() else {
+        return Ok(leaf(Expr::Reference(to)));
+    };
+    let value = expr(cursor, place, high, 1)?;
+    Ok(assigned(cursor.alloc(), op, to, value)?)
+}

@@ -1,0 +1,216 @@
+//! Expressions with their heights.
+
+ghost use Rattle.std.specs.Prelude.{◌≡◌, ◌≤◌, ◌+◌, List, [], ◌∷◌, ◌++◌, None, IfOk, MatchResult, max};
+ghost use Rattle.edd_syntax.specs.TreeView.{path_of};
+ghost use Rattle.edd_syntax.specs.Expression as tree;
+ghost use Rattle.edd_syntax.specs.Size.{height, argument_height};
+ghost use Rattle.edd_grammar.specs.Signs.{infix_tree, assignment_tree};
+ghost use Rattle.edd_grammar.specs.ExpressionReading.{as_path};
+ghost use Rattle.edd_token_reader.specs.Views.{infix_view, assignment_view};
+ghost use Rattle.edd_expression_parser.specs.Expressions.{expr_view, argument_view, argument_levels, listed};
+
+use edd_syntax::expr::{Argument, Expr};
+use edd_syntax::operators::UnaryOperator;
+use edd_syntax::reference::Path;
+use edd_token_reader::operators::{Assignment, Infix};
+use std::alloc::{AllocError, Global};
+
+/// An expression and its height.
+#[derive(Drop)]
+pub struct Tall {
+    pub expr: Expr<Path>,
+    pub levels: u32,
+    ghost counted: { levels ≡ height (expr_view expr) },
+}
+
+/// An argument and its height.
+#[derive(Drop)]
+pub struct TallArgument {
+    pub argument: Argument<Path>,
+    pub levels: u32,
+    ghost counted: { levels ≡ argument_levels argument },
+}
+
+/// Arguments, and the height of the highest.
+#[derive(Drop)]
+pub struct TallArguments {
+    pub arguments: Vec<Argument<Path>>,
+    pub levels: u32,
+    ghost counted: { levels ≡ argument_height (listed arguments.items) },
+}
+
+/// An expression without children.
+pub fn leaf(expr: Expr<Path>) -> Tall
+    requires { height (expr_view expr) ≡ 1 }
+    ensures { result.expr ≡ expr }
+{
+    Tall { expr, levels: 1 }
+}
+
+fn over(alloc: Global, inner: Tall) -> Result<(Box<Expr<Path>>, u32), AllocError>
+    requires { inner.levels ≤ 100 }
+    ensures { IfOk result (λ x. (x.0.value ≡ inner.expr) × (x.1 ≡ inner.levels + 1)) }
+{
+    Ok((Box::new(alloc, inner.expr)?, inner.levels + 1))
+}
+
+/// `( inner )`
+pub fn parentheses(alloc: Global, inner: Tall) -> Result<Tall, AllocError>
+    requires { inner.levels ≤ 100 }
+    ensures { IfOk result (λ t. expr_view t.expr ≡ tree.Parentheses (expr_view inner.expr)) }
+{
+    let (expr, levels) = over(alloc, inner)?;
+    Ok(Tall {
+        expr: Expr::Parentheses(expr),
+        levels,
+    })
+}
+
+/// An operator before its operand.
+pub fn unary_over(alloc: Global, op: UnaryOperator, inner: Tall) -> Result<Tall, AllocError>
+    requires { inner.levels ≤ 100 }
+    ensures { IfOk result (λ t. expr_view t.expr ≡ tree.Unary op (expr_view inner.expr)) }
+{
+    let (expr, levels) = over(alloc, inner)?;
+    Ok(Tall {
+        expr: Expr::Unary(op, expr),
+        levels,
+    })
+}
+
+/// An assignment of a value.
+pub fn assigned(alloc: Global, op: Assignment, to: Path, value: Tall) -> Result<Tall, AllocError>
+    requires { value.levels ≤ 100 }
+    ensures { IfOk result (λ t. expr_view t.expr ≡ assignment_tree (assignment_view op) (path_of to) (expr_view value.expr)) }
+{
+    let (value, levels) = over(alloc, value)?;
+    let expr = match op {
+        Assignment::Simple => Expr::Assign(to, value),
+        Assignment::Compound(op) => Expr::CompoundAssign(op, to, value),
+    };
+    Ok(Tall { expr, levels })
+}
+
+/// An operator between two operands.
+pub fn binary(alloc: Global, op: Infix, left: Tall, right: Tall) -> Result<Tall, AllocError>
+    requires left_low { left.levels ≤ 100 }
+    requires right_low { right.levels ≤ 100 }
+    ensures { IfOk result (λ t. expr_view t.expr ≡ infix_tree (infix_view op) (expr_view left.expr) (expr_view right.expr)) }
+{
+    let levels = left.levels.max(right.levels) + 1;
+    let left = Box::new(alloc, left.expr)?;
+    let right = Box::new(alloc, right.expr)?;
+    let expr = match op {
+        Infix::Plain(op) => Expr::Binary(op, left, right),
+        Infix::Comparing(by) => Expr::Compare(by, left, right),
+        Infix::Both => Expr::LogicalAnd(left, right),
+        Infix::Either => Expr::LogicalOr(left, right),
+    };
+    Ok(Tall { expr, levels })
+}
+
+/// `test ? first : second`
+pub fn choice_between(
+    alloc: Global,
+    test: Tall,
+    first: Tall,
+    second: Tall,
+) -> Result<Tall, AllocError>
+    requires test_low { test.levels ≤ 100 }
+    requires first_low { first.levels ≤ 100 }
+    requires second_low { second.levels ≤ 100 }
+    ensures { IfOk result (λ t. expr_view t.expr ≡ tree.Conditional (expr_view test.expr) (expr_view first.expr) (expr_view second.expr)) }
+{
+    let levels = test.levels.max(first.levels.max(second.levels)) + 1;
+    Ok(Tall {
+        expr: Expr::Conditional(
+            Box::new(alloc, test.expr)?,
+            Box::new(alloc, first.expr)?,
+            Box::new(alloc, second.expr)?,
+        ),
+        levels,
+    })
+}
+
+/// A path without members.
+pub fn plain(alloc: Global, name: &str) -> Result<Path, AllocError>
+    ensures { IfOk result (λ p. path_of p ≡ record { base = name.now; members = [] }) }
+{
+    Ok(Path {
+        base: String::from_str(alloc, name)?,
+        members: Vec::new(alloc),
+    })
+}
+
+/// A call; the line is that of its name.
+pub fn call(
+    alloc: Global,
+    line: u32,
+    name: &str,
+    arguments: TallArguments,
+) -> Result<Tall, AllocError>
+    requires { arguments.levels ≤ 100 }
+    ensures { IfOk result (λ t. expr_view t.expr ≡ tree.Call (record { base = name.now; members = [] }) (listed arguments.arguments.items)) }
+{
+    let function = plain(alloc, name)?;
+    Ok(Tall {
+        expr: Expr::Call {
+            line,
+            function,
+            arguments: arguments.arguments,
+        },
+        levels: arguments.levels + 1,
+    })
+}
+
+/// No arguments.
+pub fn no_arguments(alloc: Global) -> TallArguments
+    ensures items { result.arguments.items ≡ [] }
+    ensures levels { result.levels ≡ 0 }
+{
+    TallArguments {
+        arguments: Vec::new(alloc),
+        levels: 0,
+    }
+}
+
+/// One more argument at the end.
+#[tactic(auto, using(crate::proofs::ArgumentHeights::listed_height))]
+pub fn with_argument(all: TallArguments, next: TallArgument) -> Result<TallArguments, AllocError>
+    ensures { IfOk result (λ a. (a.arguments.items ≡ all.arguments.items ++ next.argument ∷ []) × (a.levels ≡ max all.levels next.levels)) }
+{
+    let levels = all.levels.max(next.levels);
+    let mut arguments = all.arguments;
+    arguments.push(next.argument)?;
+    Ok(TallArguments { arguments, levels })
+}
+
+/// The reference, or the expression as it was.
+pub fn into_path(expr: Expr<Path>) -> Result<Path, Expr<Path>>
+    ensures { MatchResult result (λ r. expr_view expr ≡ tree.Reference (path_of r)) (λ e. (e ≡ expr) × (as_path (expr_view expr) ≡ None)) }
+{
+    match expr {
+        Expr::Reference(to) => Ok(to),
+        Expr::Literal(value) => Err(Expr::Literal(value)),
+        Expr::Decimal { line } => Err(Expr::Decimal { line }),
+        Expr::Parentheses(inner) => Err(Expr::Parentheses(inner)),
+        Expr::Unary(op, operand) => Err(Expr::Unary(op, operand)),
+        Expr::Binary(op, left, right) => Err(Expr::Binary(op, left, right)),
+        Expr::Compare(by, left, right) => Err(Expr::Compare(by, left, right)),
+        Expr::LogicalAnd(left, right) => Err(Expr::LogicalAnd(left, right)),
+        Expr::LogicalOr(left, right) => Err(Expr::LogicalOr(left, right)),
+        Expr::Conditional(test, first, second) => Err(Expr::Conditional(test, first, second)),
+        Expr::Assign(to, value) => Err(Expr::Assign(to, value)),
+        Expr::CompoundAssign(op, to, value) => Err(Expr::CompoundAssign(op, to, value)),
+        Expr::Increment(op, to) => Err(Expr::Increment(op, to)),
+        Expr::Call {
+            line,
+            function,
+            arguments,
+        } => Err(Expr::Call {
+            line,
+            function,
+            arguments,
+        }),
+    }
+}

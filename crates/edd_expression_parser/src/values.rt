@@ -1,0 +1,208 @@
+//! What may be a value of a conditional.
+
+ghost use Rattle.std.specs.Prelude.{◌≡◌, Bool, Some};
+ghost use Rattle.edd_syntax.specs.declared.types.Handling as handling_words;
+ghost use Rattle.edd_syntax.specs.Text as texts;
+ghost use Rattle.edd_syntax.specs.Reference as references;
+ghost use Rattle.edd_syntax.specs.Expression as pure;
+ghost use Rattle.edd_syntax.specs.Item as item;
+ghost use Rattle.edd_syntax.specs.TreeView.{path_of, expr_of};
+ghost use Rattle.edd_syntax.specs.WordsView.{text_of};
+ghost use Rattle.edd_syntax.specs.ItemView.{enumerator_of, data_item_of, entry_of};
+ghost use Rattle.edd_grammar.specs.ConditionalReading.{text_value, expr_value};
+ghost use Rattle.edd_grammar.specs.ValueReading as reading;
+ghost use Rattle.edd_token_reader.specs.Views.{Gives};
+
+use crate::cond::{Value, label};
+use crate::expr::expr;
+use edd_syntax::expr::Expr;
+use edd_syntax::item::{DataItem, Enumerator, MenuEntry};
+use edd_syntax::operators::Comparison;
+use edd_syntax::reference::Path;
+use edd_syntax::symbols::Symbol;
+use edd_syntax::text::Text;
+use edd_syntax::types::Handling;
+use edd_token_reader::cursor::Cursor;
+use edd_token_reader::fault::ParseFault;
+use edd_token_reader::left_out::expect_brace;
+use edd_token_reader::operators::Place;
+use edd_token_reader::qualifiers::{data_qualifiers, menu_qualifiers};
+use edd_token_reader::texts::{is_at_text, path, text};
+use edd_token_reader::words::{handling, integer, optional_text, some_text, truth};
+
+impl Value for Text {
+    ghost Pure = { texts.Text };
+
+    ghost view = { text_of };
+
+    ghost read = { text_value };
+
+    #[tactic(auto, unfolding(edd_grammar::specs::ConditionalReading::text_value))]
+    fn read_value(cursor: &mut Cursor, _high: u32) -> Result<Text, ParseFault> {
+        if !is_at_text(cursor) {
+            return Err(cursor.syntax());
+        }
+        text(cursor)
+    }
+}
+
+impl Value for Expr<Path> {
+    ghost Pure = { pure.Expr references.Path };
+
+    ghost view = { λ e. expr_of path_of e };
+
+    ghost read = { expr_value };
+
+    #[tactic(auto, unfolding(edd_grammar::specs::ConditionalReading::expr_value))]
+    fn read_value(cursor: &mut Cursor, high: u32) -> Result<Expr<Path>, ParseFault> {
+        let value = expr(cursor, Place::Attribute, high, 2)?;
+        Ok(value.expr)
+    }
+}
+
+impl Value for Handling {
+    ghost Pure = { handling_words.Handling };
+
+    ghost view = { λ h. h };
+
+    ghost read = { reading.handling_value };
+
+    #[tactic(auto, unfolding(edd_grammar::specs::ValueReading::handling_value))]
+    fn read_value(cursor: &mut Cursor, _high: u32) -> Result<Handling, ParseFault> {
+        handling(cursor)
+    }
+}
+
+impl Value for bool {
+    ghost Pure = { Bool };
+
+    ghost view = { λ b. b };
+
+    ghost read = { reading.truth_value };
+
+    #[tactic(auto, unfolding(edd_grammar::specs::ValueReading::truth_value))]
+    fn read_value(cursor: &mut Cursor, _high: u32) -> Result<bool, ParseFault> {
+        truth(cursor)
+    }
+}
+
+// `{ value, text, help }`
+#[tactic(auto, unfolding(edd_grammar::specs::ValueReading::enumerator_at))]
+fn enumerator(cursor: &mut Cursor) -> Result<Enumerator, ParseFault>
+    ensures { Gives enumerator_of result cursor.new (reading.enumerator_at cursor.old) }
+{
+    let line = cursor.line();
+    expect_brace(cursor)?;
+    let value = label(cursor)?;
+    cursor.expect(Symbol::Comma)?;
+    let text = some_text(cursor)?;
+    let help = optional_text(cursor)?;
+    cursor.expect(Symbol::CloseBrace)?;
+    Ok(Enumerator {
+        line,
+        value,
+        text,
+        help,
+    })
+}
+
+impl Value for Enumerator {
+    ghost Pure = { item.Enumerator };
+
+    ghost view = { enumerator_of };
+
+    ghost read = { reading.enumerator_value };
+
+    #[tactic(auto, unfolding(edd_grammar::specs::ValueReading::enumerator_value))]
+    fn read_value(cursor: &mut Cursor, _high: u32) -> Result<Enumerator, ParseFault> {
+        enumerator(cursor)
+    }
+}
+
+// `<mask>`, or none.
+#[tactic(auto, unfolding(edd_grammar::specs::ValueReading::mask_at))]
+fn mask(cursor: &mut Cursor) -> Result<Option<u32>, ParseFault>
+    ensures { Gives (λ m. m) result cursor.new (reading.mask_at cursor.old) }
+{
+    if !cursor.is_at(Symbol::Comparison(Comparison::Less)) {
+        return Ok(None);
+    }
+    cursor.skip();
+    let mask = integer(cursor)?;
+    cursor.expect(Symbol::Comparison(Comparison::Greater))?;
+    Ok(Some(mask))
+}
+
+#[tactic(auto, unfolding(edd_grammar::specs::ValueReading::data_variable_at, edd_token_reader::specs::Qualifiers::data_at))]
+fn data_variable(cursor: &mut Cursor) -> Result<DataItem<Path>, ParseFault>
+    ensures { Gives (λ d. data_item_of path_of d) result cursor.new (reading.data_variable_at cursor.old) }
+{
+    let line = cursor.line();
+    let variable = path(cursor)?;
+    let mask = mask(cursor)?;
+    let qualifiers = data_qualifiers(cursor)?;
+    Ok(DataItem::Variable {
+        line,
+        variable,
+        mask,
+        qualifiers,
+    })
+}
+
+// A number, or a reference with a mask and qualifiers that may be missing.
+#[tactic(auto, unfolding(edd_grammar::specs::ValueReading::data_item_at))]
+fn data_item(cursor: &mut Cursor) -> Result<DataItem<Path>, ParseFault>
+    ensures { Gives (λ d. data_item_of path_of d) result cursor.new (reading.data_item_at cursor.old) }
+{
+    let line = cursor.line();
+    if let Some(value) = cursor.integer() {
+        return Ok(DataItem::Constant { line, value });
+    }
+    data_variable(cursor)
+}
+
+impl Value for DataItem<Path> {
+    ghost Pure = { item.DataItem references.Path };
+
+    ghost view = { λ d. data_item_of path_of d };
+
+    ghost read = { reading.data_item_value };
+
+    #[tactic(auto, unfolding(edd_grammar::specs::ValueReading::data_item_value))]
+    fn read_value(cursor: &mut Cursor, _high: u32) -> Result<DataItem<Path>, ParseFault> {
+        data_item(cursor)
+    }
+}
+
+#[tactic(auto, unfolding(edd_grammar::specs::ValueReading::menu_reference_at, edd_token_reader::specs::Qualifiers::menu_at))]
+fn menu_reference(cursor: &mut Cursor) -> Result<MenuEntry<Path>, ParseFault>
+    ensures { Gives (λ e. entry_of path_of e) result cursor.new (reading.menu_reference_at cursor.old) }
+{
+    let to = path(cursor)?;
+    let qualifiers = menu_qualifiers(cursor)?;
+    Ok(MenuEntry::Reference { to, qualifiers })
+}
+
+// A text, or a reference with qualifiers that may be missing.
+#[tactic(auto, unfolding(edd_grammar::specs::ValueReading::menu_entry_at))]
+fn menu_entry(cursor: &mut Cursor) -> Result<MenuEntry<Path>, ParseFault>
+    ensures { Gives (λ e. entry_of path_of e) result cursor.new (reading.menu_entry_at cursor.old) }
+{
+    if is_at_text(cursor) {
+        return Ok(MenuEntry::Text(text(cursor)?));
+    }
+    menu_reference(cursor)
+}
+
+impl Value for MenuEntry<Path> {
+    ghost Pure = { item.MenuEntry references.Path };
+
+    ghost view = { λ e. entry_of path_of e };
+
+    ghost read = { reading.menu_entry_value };
+
+    #[tactic(auto, unfolding(edd_grammar::specs::ValueReading::menu_entry_value))]
+    fn read_value(cursor: &mut Cursor, _high: u32) -> Result<MenuEntry<Path>, ParseFault> {
+        menu_entry(cursor)
+    }
+}

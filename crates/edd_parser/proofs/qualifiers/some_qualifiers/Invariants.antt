@@ -1,9 +1,0 @@
-use Rattle.std.proofs.Common.{◌≡◌, ◌-◌}
-use Rattle.edd_grammar.specs.ValueReading.{some_qualifiers}
-use Rattle.edd_parser.specs.Qualifiers.{allowed_names}
-use Rattle.edd_parser.proofs.WordLoops.{with_things, bytes_of}
-use Rattle.edd_parser.proofs.qualifiers.some_qualifiers.Given as goal
-
-abbrev pub invariant-loop : goal.invariant-loop
-invariant-loop l =
-    with_things bytes_of l.all.items (some_qualifiers (allowed_names l.kind) (l.most - l.counter) l.cursor) ≡ some_qualifiers (allowed_names l.kind) l.most l.fn.cursor

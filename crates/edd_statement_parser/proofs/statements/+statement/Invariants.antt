@@ -1,0 +1,43 @@
+use Rattle.std.proofs.Common.{◌≡◌, ℕ, ◌+◌, ◌-◌, ◌*◌, List, length}
+use Rattle.edd_syntax.specs.Token.{Token}
+use Rattle.edd_grammar.specs.StatementReading.{statement_at, parts_at}
+use Rattle.edd_statement_parser.proofs.BodyLoops.{with_parts}
+use Rattle.edd_statement_parser.proofs.statements.+statement.Given as goal
+
+abbrev pub decreases-statement : goal.decreases-statement
+decreases-statement l = 8 * l.high
+
+abbrev pub decreases-layer : goal.decreases-layer
+decreases-layer l = 8 * l.high + 7
+
+abbrev pub decreases-switch_behind : goal.decreases-switch_behind
+decreases-switch_behind l = 8 * l.high + 6
+
+abbrev pub decreases-body : goal.decreases-body
+decreases-body l = 8 * l.high + 5
+
+abbrev pub decreases-parts : goal.decreases-parts
+decreases-parts l = 8 * l.high + 4
+
+abbrev pub decreases-part : goal.decreases-part
+decreases-part l = 8 * l.high + 3
+
+abbrev pub decreases-if_behind : goal.decreases-if_behind
+decreases-if_behind l = 8 * l.high + 2
+
+abbrev pub decreases-else_behind : goal.decreases-else_behind
+decreases-else_behind l = 8 * l.high + 1
+
+abbrev pub decreases-while_behind : goal.decreases-while_behind
+decreases-while_behind l = 8 * l.high + 1
+
+abbrev pub decreases-do_behind : goal.decreases-do_behind
+decreases-do_behind l = 8 * l.high + 1
+
+abbrev pub decreases-for_behind : goal.decreases-for_behind
+decreases-for_behind l = 8 * l.high + 1
+
+abbrev pub invariant-parts-loop : goal.invariant-parts-loop
+invariant-parts-loop l =
+    let read = λ (n : ℕ) (here : List Token). parts_at l.high (statement_at l.high) l.labels n here in
+    with_parts l.all.items (read (length l.fn.cursor + 1 - l.counter) l.cursor) ≡ read (length l.fn.cursor + 1) l.fn.cursor

@@ -1,0 +1,54 @@
+-- What the code's statements stand for.
+use Rattle.std.specs.Prelude.{ℕ, List, drop, map, Option, Some, option_map, if◌then◌else◌}
+use Rattle.edd_syntax.specs.declared.symbols.Keyword.TheVariants as word
+use Rattle.edd_syntax.specs.declared.symbols.Symbol.TheVariants as sign
+use Rattle.edd_syntax.specs.declared.stmt.Stmt as code
+use Rattle.edd_syntax.specs.declared.stmt.Part as code_part
+use Rattle.edd_syntax.specs.declared.stmt.Declarator as code_declarator
+use Rattle.edd_syntax.specs.declared.reference.Path as path
+use Rattle.edd_syntax.specs.Token.{Token}
+use Rattle.edd_syntax.specs.Reference.{Path}
+use Rattle.edd_syntax.specs.Expression.{Expr}
+use Rattle.edd_syntax.specs.Statement.{Declarator, Stmt, Break, Continue, Return, Part, Body, body_from}
+use Rattle.edd_syntax.specs.TreeView.{path_of, declarator_of, stmt_of, part_of}
+use Rattle.edd_grammar.specs.Reading.{◌>>=◌, Read, at_word, expect}
+use Rattle.edd_grammar.specs.StatementReading.{statement_at, optional_at, evaluate_at}
+use Rattle.edd_statement_parser.specs.declared.statement_trees.ForHead.{ForHead}
+use Rattle.edd_expression_parser.specs.Expressions.{expr_view}
+
+abbrev pub declarator_view : code_declarator.Declarator path.Path → Declarator Path
+declarator_view d = declarator_of path_of d
+
+abbrev pub stmt_view : code.Stmt path.Path → Stmt Path
+stmt_view s = stmt_of path_of s
+
+abbrev pub part_view : code_part.Part path.Path → Part Path
+part_view p = part_of path_of p
+
+abbrev pub body_view : List (code_part.Part path.Path) → Body Path
+body_view parts = body_from (map (part_of path_of) parts)
+
+-- ---- the head of a `for`
+
+abbrev pub Head : Type 0
+Head = Option (Expr Path) × Option (Expr Path) × Option (Expr Path)
+
+abbrev pub head_view : ForHead → Head
+head_view h = (option_map expr_view h.initial, option_map expr_view h.condition, option_map expr_view h.update)
+
+-- the three expressions of a `for` in their parentheses
+unfoldable pub for_head_at : ℕ → List Token → Read Head
+for_head_at high here = do
+  inside ← expect sign.OpenParenthesis here
+  (initial, second) ← optional_at high (statement_at high) sign.Semicolon inside
+  (condition, third) ← optional_at high (statement_at high) sign.Semicolon second
+  (update, behind) ← optional_at high (statement_at high) sign.CloseParenthesis third
+  Some ((initial, condition, update), behind)
+
+-- a statement of a word alone, or an expression
+unfoldable pub simple_at : ℕ → List Token → Read (Stmt Path)
+simple_at high here =
+    if at_word word.Break here then (expect sign.Semicolon (drop 1 here) >>= λ rest. Some (Break, rest))
+    else if at_word word.Continue here then (expect sign.Semicolon (drop 1 here) >>= λ rest. Some (Continue, rest))
+    else if at_word word.Return here then (expect sign.Semicolon (drop 1 here) >>= λ rest. Some (Return, rest))
+    else evaluate_at high (statement_at high) here

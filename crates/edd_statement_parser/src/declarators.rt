@@ -1,0 +1,83 @@
+//! Declarations of locals.
+
+ghost use Rattle.std.specs.Prelude.{◌≡◌, ◌≤◌, map, option_map};
+ghost use Rattle.edd_grammar.specs.DeclarationReading as reading;
+ghost use Rattle.edd_grammar.specs.StatementReading.{at_local_type, declaration_at};
+ghost use Rattle.edd_token_reader.specs.Views.{Gives};
+ghost use Rattle.edd_expression_parser.specs.Expressions.{expr_view};
+ghost use Rattle.edd_statement_parser.specs.Bodies.{declarator_view};
+
+use edd_expression_parser::expr::expr;
+use edd_expression_parser::trees::plain;
+use edd_syntax::expr::Expr;
+use edd_syntax::reference::Path;
+use edd_syntax::stmt::Declarator;
+use edd_syntax::symbols::{Keyword, Symbol};
+use edd_token_reader::cursor::Cursor;
+use edd_token_reader::fault::ParseFault;
+use edd_token_reader::operators::Place;
+
+// A value behind `=`, or none.
+#[tactic(auto, unfolding(edd_grammar::specs::DeclarationReading::value_at))]
+fn initial_value(cursor: &mut Cursor, high: u32) -> Result<Option<Expr<Path>>, ParseFault>
+    requires { high ≤ 100 }
+    ensures { Gives (option_map expr_view) result cursor.new (reading.value_at high cursor.old) }
+{
+    if !cursor.is_at(Symbol::Equals) {
+        return Ok(None);
+    }
+    cursor.skip();
+    let value = expr(cursor, Place::Method, high, 1)?;
+    Ok(Some(value.expr))
+}
+
+#[tactic(auto, unfolding(edd_grammar::specs::DeclarationReading::declarator_at))]
+fn declarator(cursor: &mut Cursor, high: u32) -> Result<Declarator<Path>, ParseFault>
+    requires { high ≤ 100 }
+    ensures { Gives declarator_view result cursor.new (reading.declarator_at high cursor.old) }
+{
+    let Some(name) = cursor.name() else {
+        return Err(cursor.syntax());
+    };
+    let place = plain(cursor.alloc(), name)?;
+    let value = initial_value(cursor, high)?;
+    Ok(Declarator { place, value })
+}
+
+/// One or more declarators, parted by commas, with values of at most this height.
+#[tactic(auto, unfolding(edd_grammar::specs::DeclarationReading::declarators_at), using(crate::proofs::BodyLoops::declarators_read))]
+pub fn declarators(cursor: &mut Cursor, high: u32) -> Result<Vec<Declarator<Path>>, ParseFault>
+    requires { high ≤ 100 }
+    ensures { Gives (λ v. map declarator_view v.items) result cursor.new (reading.declarators_at high cursor.old) }
+{
+    let mut all = Vec::new(cursor.alloc());
+    for _ in 0..cursor.len() {
+        all.push(declarator(cursor, high)?)?;
+        if !cursor.is_at(Symbol::Comma) {
+            return Ok(all);
+        }
+        cursor.skip();
+    }
+    Err(cursor.syntax())
+}
+
+/// Whether `int` or `long` is next.
+pub fn is_at_local_type(cursor: &Cursor) -> bool
+    ensures { result ≡ at_local_type cursor.now }
+{
+    cursor.is_at_word(Keyword::Int) || cursor.is_at_word(Keyword::Long)
+}
+
+/// A declaration of at most this height behind its type.
+#[tactic(auto, using(crate::proofs::BodyLoops::declarations))]
+pub fn declaration(cursor: &mut Cursor, high: u32) -> Result<Vec<Declarator<Path>>, ParseFault>
+    requires { high ≤ 100 }
+    ensures { Gives (λ v. map declarator_view v.items) result cursor.new (declaration_at high cursor.old) }
+{
+    if high < 2 {
+        return Err(cursor.too_deep());
+    }
+    let all = declarators(cursor, high - 2)?;
+    cursor.expect(Symbol::Semicolon)?;
+    Ok(all)
+}

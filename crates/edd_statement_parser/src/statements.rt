@@ -1,0 +1,312 @@
+//! Statements and what stands between braces.
+
+ghost use Rattle.std.specs.Prelude.{◌≡◌, ◌≤◌, ◌<◌, ◌+◌, length, Some, true, false, option_map};
+ghost use Rattle.edd_grammar.specs.StatementReading as reading;
+ghost use Rattle.edd_grammar.specs.StatementReading.{statement_at};
+ghost use Rattle.edd_token_reader.specs.Views.{Gives};
+ghost use Rattle.edd_expression_parser.specs.Expressions.{expr_view};
+ghost use Rattle.edd_statement_parser.specs.Bodies.{stmt_view, part_view, body_view, for_head_at, head_view, simple_at};
+
+use crate::declarators::{declaration, is_at_local_type};
+use crate::statement_trees::{
+    ForHead, block, do_loop, for_loop, if_alone, if_else, switch, while_loop,
+};
+use edd_expression_parser::cond::{condition, label};
+use edd_expression_parser::expr::expr;
+use edd_syntax::expr::Expr;
+use edd_syntax::reference::Path;
+use edd_syntax::stmt::{Part, Stmt};
+use edd_syntax::symbols::{Keyword, Symbol};
+use edd_token_reader::cursor::Cursor;
+use edd_token_reader::fault::ParseFault;
+use edd_token_reader::left_out::{left_out_reserved, unsupported};
+use edd_token_reader::operators::Place;
+use std::alloc::Global;
+
+// A label and the colon behind it.
+#[tactic(auto, unfolding(edd_grammar::specs::StatementReading::case_label_at))]
+fn case_label(cursor: &mut Cursor) -> Result<i64, ParseFault>
+    ensures { Gives (λ z. z) result cursor.new (reading.case_label_at cursor.old) }
+{
+    let label = label(cursor)?;
+    cursor.expect(Symbol::Colon)?;
+    Ok(label)
+}
+
+// An expression or none up to this sign, with the sign.
+#[tactic(auto, unfolding(edd_grammar::specs::StatementReading::optional_at))]
+fn optional(cursor: &mut Cursor, high: u32, sign: Symbol) -> Result<Option<Expr<Path>>, ParseFault>
+    requires { high ≤ 100 }
+    ensures { Gives (option_map expr_view) result cursor.new (reading.optional_at high (statement_at high) sign cursor.old) }
+{
+    if cursor.is_at(sign) {
+        cursor.skip();
+        return Ok(None);
+    }
+    let e = expr(cursor, Place::Method, high, 1)?;
+    cursor.expect(sign)?;
+    Ok(Some(e.expr))
+}
+
+// The three expressions of a `for` in their parentheses.
+#[tactic(auto, unfolding(crate::specs::Bodies::for_head_at))]
+fn for_head(cursor: &mut Cursor, high: u32) -> Result<ForHead, ParseFault>
+    requires { high ≤ 100 }
+    ensures { Gives head_view result cursor.new (for_head_at high cursor.old) }
+{
+    cursor.expect(Symbol::OpenParenthesis)?;
+    let initial = optional(cursor, high, Symbol::Semicolon)?;
+    let condition = optional(cursor, high, Symbol::Semicolon)?;
+    let update = optional(cursor, high, Symbol::CloseParenthesis)?;
+    Ok(ForHead {
+        initial,
+        condition,
+        update,
+    })
+}
+
+// The fault at a line, by the word that is left out if there is one.
+fn wrong_word(alloc: Global, word: Option<&str>, line: u32) -> ParseFault {
+    match word {
+        Some(word) => unsupported(alloc, word),
+        None => ParseFault::Syntax { line },
+    }
+}
+
+// An expression as a statement. A reserved word that no rule has is refused by its name where the statement would begin with it.
+#[tactic(auto, unfolding(edd_grammar::specs::StatementReading::evaluate_at))]
+fn evaluate(cursor: &mut Cursor, high: u32) -> Result<Stmt<Path>, ParseFault>
+    requires { high ≤ 100 }
+    ensures { Gives stmt_view result cursor.new (reading.evaluate_at high (statement_at high) cursor.old) }
+{
+    let word = left_out_reserved(cursor);
+    let e = match expr(cursor, Place::Method, high, 1) {
+        Ok(e) => e.expr,
+        Err(ParseFault::Syntax { line }) => return Err(wrong_word(cursor.alloc(), word, line)),
+        Err(fault) => return Err(fault),
+    };
+    cursor.expect(Symbol::Semicolon)?;
+    Ok(Stmt::Evaluate(e))
+}
+
+// A statement of a word alone, or an expression.
+#[tactic(auto, unfolding(crate::specs::Bodies::simple_at))]
+fn simple(cursor: &mut Cursor, high: u32) -> Result<Stmt<Path>, ParseFault>
+    requires { high ≤ 100 }
+    ensures { Gives stmt_view result cursor.new (simple_at high cursor.old) }
+{
+    let line = cursor.line();
+    if cursor.is_at_word(Keyword::Break) {
+        cursor.skip();
+        cursor.expect(Symbol::Semicolon)?;
+        return Ok(Stmt::Break { line });
+    }
+    if cursor.is_at_word(Keyword::Continue) {
+        cursor.skip();
+        cursor.expect(Symbol::Semicolon)?;
+        return Ok(Stmt::Continue { line });
+    }
+    if cursor.is_at_word(Keyword::Return) {
+        cursor.skip();
+        cursor.expect(Symbol::Semicolon)?;
+        return Ok(Stmt::Return);
+    }
+    evaluate(cursor, high)
+}
+
+/// A statement of at most this height.
+#[cycle(statement)]
+#[tactic(auto, using(crate::proofs::BodyLoops::levels))]
+fn statement(cursor: &mut Cursor, high: u32) -> Result<Stmt<Path>, ParseFault>
+    requires { high ≤ 100 }
+    ensures { Gives stmt_view result cursor.new (statement_at high cursor.old) }
+{
+    if high == 0 {
+        return Err(cursor.too_deep());
+    }
+    layer(cursor, high - 1)
+}
+
+// A statement whose children are of at most this height.
+#[cycle(statement)]
+#[tactic(auto, unfolding(edd_grammar::specs::StatementReading::statement_layer, crate::specs::Bodies::simple_at))]
+fn layer(cursor: &mut Cursor, high: u32) -> Result<Stmt<Path>, ParseFault>
+    requires { high < 100 }
+    ensures { Gives stmt_view result cursor.new (reading.statement_layer high (statement_at high) cursor.old) }
+{
+    if cursor.is_at(Symbol::Semicolon) {
+        cursor.skip();
+        return Ok(Stmt::Empty);
+    }
+    if cursor.is_at(Symbol::OpenBrace) {
+        cursor.skip();
+        return Ok(block(body(cursor, high, false)?));
+    }
+    if cursor.is_at_word(Keyword::MethodIf) {
+        cursor.skip();
+        return if_behind(cursor, high);
+    }
+    if cursor.is_at_word(Keyword::While) {
+        cursor.skip();
+        return while_behind(cursor, high);
+    }
+    if cursor.is_at_word(Keyword::Do) {
+        cursor.skip();
+        return do_behind(cursor, high);
+    }
+    if cursor.is_at_word(Keyword::For) {
+        cursor.skip();
+        return for_behind(cursor, high);
+    }
+    if cursor.is_at_word(Keyword::Switch) {
+        cursor.skip();
+        return switch_behind(cursor, high);
+    }
+    simple(cursor, high)
+}
+
+// A body behind its opening brace, with the closing one.
+#[cycle(statement)]
+#[tactic(auto, unfolding(edd_grammar::specs::StatementReading::body_at))]
+fn body(cursor: &mut Cursor, high: u32, labels: bool) -> Result<Vec<Part<Path>>, ParseFault>
+    requires { high ≤ 100 }
+    ensures { Gives (λ v. body_view v.items) result cursor.new (reading.body_at high (statement_at high) labels cursor.old) }
+{
+    let parts = parts(cursor, high, labels)?;
+    cursor.expect(Symbol::CloseBrace)?;
+    Ok(parts)
+}
+
+// The parts up to the closing brace.
+#[cycle(statement)]
+#[tactic(auto, using(crate::proofs::BodyLoops::parts_read))]
+fn parts(cursor: &mut Cursor, high: u32, labels: bool) -> Result<Vec<Part<Path>>, ParseFault>
+    requires { high ≤ 100 }
+    ensures { Gives (λ v. body_view v.items) result cursor.new (reading.parts_at high (statement_at high) labels (length cursor.old + 1) cursor.old) }
+{
+    let mut all = Vec::new(cursor.alloc());
+    for _ in 0..cursor.places() {
+        if cursor.is_at(Symbol::CloseBrace) {
+            return Ok(all);
+        }
+        all.push(part(cursor, high, labels)?)?;
+    }
+    Err(cursor.syntax())
+}
+
+// A declaration, a label where labels may stand, or a statement.
+#[cycle(statement)]
+#[tactic(auto, unfolding(edd_grammar::specs::StatementReading::part_at))]
+fn part(cursor: &mut Cursor, high: u32, labels: bool) -> Result<Part<Path>, ParseFault>
+    requires { high ≤ 100 }
+    ensures { Gives part_view result cursor.new (reading.part_at high (statement_at high) labels cursor.old) }
+{
+    let line = cursor.line();
+    if is_at_local_type(cursor) {
+        cursor.skip();
+        return Ok(Part::Declare(declaration(cursor, high)?));
+    }
+    if labels && cursor.is_at_word(Keyword::MethodCase) {
+        cursor.skip();
+        let label = case_label(cursor)?;
+        return Ok(Part::CaseLabel { line, label });
+    }
+    if labels && cursor.is_at_word(Keyword::MethodDefault) {
+        cursor.skip();
+        cursor.expect(Symbol::Colon)?;
+        return Ok(Part::DefaultLabel { line });
+    }
+    Ok(Part::Statement(statement(cursor, high)?))
+}
+
+// Behind `if`.
+#[cycle(statement)]
+#[tactic(auto, unfolding(edd_grammar::specs::StatementReading::method_if_at))]
+fn if_behind(cursor: &mut Cursor, high: u32) -> Result<Stmt<Path>, ParseFault>
+    requires { high < 100 }
+    ensures { Gives stmt_view result cursor.new (reading.method_if_at high (statement_at high) cursor.old) }
+{
+    let condition = condition(cursor, Place::Method, high)?;
+    let first = statement(cursor, high)?;
+    else_behind(cursor, high, condition, first)
+}
+
+// An `else` belongs to the nearest `if`.
+#[cycle(statement)]
+#[tactic(auto, unfolding(edd_grammar::specs::StatementReading::method_else_at))]
+fn else_behind(
+    cursor: &mut Cursor,
+    high: u32,
+    condition: Expr<Path>,
+    first: Stmt<Path>,
+) -> Result<Stmt<Path>, ParseFault>
+    requires { high < 100 }
+    ensures { Gives stmt_view result cursor.new (reading.method_else_at high (statement_at high) (expr_view condition) (stmt_view first) cursor.old) }
+{
+    if !cursor.is_at_word(Keyword::MethodElse) {
+        return Ok(if_alone(cursor.alloc(), condition, first)?);
+    }
+    cursor.skip();
+    let otherwise = statement(cursor, high)?;
+    Ok(if_else(cursor.alloc(), condition, first, otherwise)?)
+}
+
+// Behind `while`.
+#[cycle(statement)]
+#[tactic(auto, unfolding(edd_grammar::specs::StatementReading::while_at))]
+fn while_behind(cursor: &mut Cursor, high: u32) -> Result<Stmt<Path>, ParseFault>
+    requires { high < 100 }
+    ensures { Gives stmt_view result cursor.new (reading.while_at high (statement_at high) cursor.old) }
+{
+    let condition = condition(cursor, Place::Method, high)?;
+    let body = statement(cursor, high)?;
+    Ok(while_loop(cursor.alloc(), condition, body)?)
+}
+
+// Behind `do`.
+#[cycle(statement)]
+#[tactic(auto, unfolding(edd_grammar::specs::StatementReading::do_at))]
+fn do_behind(cursor: &mut Cursor, high: u32) -> Result<Stmt<Path>, ParseFault>
+    requires { high < 100 }
+    ensures { Gives stmt_view result cursor.new (reading.do_at high (statement_at high) cursor.old) }
+{
+    let body = statement(cursor, high)?;
+    cursor.expect_word(Keyword::While)?;
+    let condition = condition(cursor, Place::Method, high)?;
+    cursor.expect(Symbol::Semicolon)?;
+    Ok(do_loop(cursor.alloc(), body, condition)?)
+}
+
+// Behind `for`.
+#[cycle(statement)]
+#[tactic(auto, unfolding(edd_grammar::specs::StatementReading::for_at, crate::specs::Bodies::for_head_at))]
+fn for_behind(cursor: &mut Cursor, high: u32) -> Result<Stmt<Path>, ParseFault>
+    requires { high < 100 }
+    ensures { Gives stmt_view result cursor.new (reading.for_at high (statement_at high) cursor.old) }
+{
+    let head = for_head(cursor, high)?;
+    let body = statement(cursor, high)?;
+    Ok(for_loop(cursor.alloc(), head, body)?)
+}
+
+// Behind `switch`.
+#[cycle(statement)]
+#[tactic(auto, unfolding(edd_grammar::specs::StatementReading::switch_at))]
+fn switch_behind(cursor: &mut Cursor, high: u32) -> Result<Stmt<Path>, ParseFault>
+    requires { high < 100 }
+    ensures { Gives stmt_view result cursor.new (reading.switch_at high (statement_at high) cursor.old) }
+{
+    let on = condition(cursor, Place::Method, high)?;
+    cursor.expect(Symbol::OpenBrace)?;
+    let parts = body(cursor, high, true)?;
+    Ok(switch(on, parts))
+}
+
+/// The body of a method of at most this height, behind its opening brace, with the closing one.
+#[tactic(auto, unfolding(edd_grammar::specs::StatementReading::definition_at))]
+pub fn definition(cursor: &mut Cursor, high: u32) -> Result<Vec<Part<Path>>, ParseFault>
+    requires { high ≤ 100 }
+    ensures { Gives (λ v. body_view v.items) result cursor.new (reading.definition_at high cursor.old) }
+{
+    body(cursor, high, false)
+}

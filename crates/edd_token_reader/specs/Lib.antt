@@ -1,0 +1,4 @@
+pub mod Pieces
+pub mod Qualifiers
+pub mod Views
+pub mod TokenTexts

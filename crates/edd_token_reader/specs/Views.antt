@@ -1,0 +1,66 @@
+-- What the code's tokens, operators and answers stand for.
+use Rattle.std.specs.Prelude.{◌≡◌, List, Option, Some, None, Result, Ok, Err}
+use Rattle.edd_syntax.specs.Token as pure
+use Rattle.edd_syntax.specs.Grammar as grammar
+use Rattle.edd_grammar.specs.Reading.{Read}
+use Rattle.edd_grammar.specs.Signs as signs
+use Rattle.edd_token_reader.specs.declared.piece.Piece.{Piece}
+use Rattle.edd_token_reader.specs.declared.piece.Piece.TheVariants as piece
+use Rattle.edd_token_reader.specs.declared.operators.Place.{Place}
+use Rattle.edd_token_reader.specs.declared.operators.Place.TheVariants as place
+use Rattle.edd_token_reader.specs.declared.operators.Infix.{Infix}
+use Rattle.edd_token_reader.specs.declared.operators.Infix.TheVariants as between
+use Rattle.edd_token_reader.specs.declared.operators.Assignment.{Assignment}
+use Rattle.edd_token_reader.specs.declared.operators.Assignment.TheVariants as assignment
+use Rattle.edd_token_reader.specs.declared.fault.ParseFault.{ParseFault}
+use Rattle.edd_token_reader.specs.declared.fault.ParseFault.TheVariants as fault
+
+abbrev pub piece_token : Piece → pure.Token
+piece_token (piece.Keyword k) = pure.Reserved k
+piece_token (piece.Name n) = pure.Identifier n.now
+piece_token (piece.Integer n) = pure.Integer n
+piece_token piece.Decimal = pure.Decimal
+piece_token (piece.String s) = pure.String s.now
+piece_token (piece.Symbol s) = pure.Sign s
+
+abbrev pub place_view : Place → grammar.Place
+place_view place.Attribute = grammar.InAttribute
+place_view place.Method = grammar.InMethod
+
+abbrev pub infix_view : Infix → signs.Infix
+infix_view (between.Plain op) = signs.Plain op
+infix_view (between.Comparing by) = signs.Comparing by
+infix_view between.Both = signs.Both
+infix_view between.Either = signs.Either
+
+abbrev pub assignment_view : Assignment → signs.Assignment
+assignment_view assignment.Simple = signs.Simple
+assignment_view (assignment.Compound op) = signs.Compound op
+
+-- What a refusal says: this, unless memory ran out.
+abbrev pub Says : ParseFault → Type 0 → Type 0
+Says (fault.Syntax line) P = P
+Says (fault.TooDeep line) P = P
+Says (fault.Unsupported word) P = P
+Says fault.Memory P = Unit {0}
+
+-- What a call answered, seen by `view`, with the tokens that it left, is what reading gives, unless memory ran out.
+abbrev pub Gives : {X Y : Type 0} → (X → Y) → Result X ParseFault → List pure.Token → Read Y → Type 0
+Gives view (Ok x) left read = read ≡ Some (view x, left)
+Gives view (Err fault.Memory) left read = Unit {0}
+Gives view (Err (fault.Syntax line)) left read = read ≡ None
+Gives view (Err (fault.TooDeep line)) left read = read ≡ None
+Gives view (Err (fault.Unsupported word)) left read = read ≡ None
+
+-- the same of a call that gives nothing but the tokens left
+abbrev pub Leaves : Result Unit ParseFault → List pure.Token → Option (List pure.Token) → Type 0
+Leaves (Ok u) left read = read ≡ Some left
+Leaves (Err fault.Memory) left read = Unit {0}
+Leaves (Err (fault.Syntax line)) left read = read ≡ None
+Leaves (Err (fault.TooDeep line)) left read = read ≡ None
+Leaves (Err (fault.Unsupported word)) left read = read ≡ None
+
+-- What a call took from the front, seen by `view`, is what reading gives; where it took nothing, the tokens stay.
+abbrev pub Takes : {X Y : Type 0} → (X → Y) → Option X → List pure.Token → List pure.Token → Read Y → Type 0
+Takes view (Some x) here left read = read ≡ Some (view x, left)
+Takes view None here left read = (read ≡ None) × (left ≡ here)

@@ -1,0 +1,162 @@
+//! Words of the language that this profile leaves out.
+
+ghost use Rattle.edd_syntax.specs.declared.symbols.Symbol.TheVariants.{OpenBrace};
+ghost use Rattle.edd_grammar.specs.Reading.{expect};
+ghost use Rattle.edd_token_reader.specs.Views.{Leaves};
+
+use crate::cursor::Cursor;
+use crate::fault::ParseFault;
+use crate::piece::Piece;
+use edd_syntax::symbols::{Keyword, Symbol};
+use std::alloc::Global;
+
+// Words of items, attributes, qualifiers and types.
+const WORDS: [&str; 32] = [
+    "ARRAY",
+    "AXIS",
+    "BLOCK",
+    "CHART",
+    "COLUMNBREAK",
+    "DOMAIN",
+    "DOUBLE",
+    "FILE",
+    "FLOAT",
+    "GRAPH",
+    "GRID",
+    "IMAGE",
+    "IMPORT",
+    "LIKE",
+    "LIST",
+    "POST_EDIT_ACTIONS",
+    "POST_READ_ACTIONS",
+    "POST_WRITE_ACTIONS",
+    "PRE_EDIT_ACTIONS",
+    "PRE_READ_ACTIONS",
+    "PRE_WRITE_ACTIONS",
+    "PROGRAM",
+    "RECORD",
+    "REFRESH",
+    "ROWBREAK",
+    "SCALING_FACTOR",
+    "SOURCE",
+    "STYLE",
+    "UNIT",
+    "VARIABLE_LIST",
+    "WAVEFORM",
+    "WRITE_AS_ONE",
+];
+
+// A word with a number directly behind it, as of one range of several.
+fn is_numbered(word: &str, range: &str) -> bool {
+    match word.as_bytes().strip_prefix(range.as_bytes()) {
+        Some(digits) => !digits.is_empty() && digits.iter().all(|d| d.is_ascii_digit()),
+        None => false,
+    }
+}
+
+fn is_left_out(word: &str) -> bool {
+    WORDS.iter().any(|w| *w == word)
+        || is_numbered(word, "MIN_VALUE")
+        || is_numbered(word, "MAX_VALUE")
+}
+
+// The spelling of a reserved word that no rule has.
+fn left_out_keyword(word: Keyword) -> Option<&'static str> {
+    match word {
+        Keyword::Char => Some("char"),
+        Keyword::Short => Some("short"),
+        Keyword::Unsigned => Some("unsigned"),
+        Keyword::Signed => Some("signed"),
+        Keyword::Float => Some("float"),
+        Keyword::Double => Some("double"),
+        Keyword::Goto => Some("goto"),
+        _ => None,
+    }
+}
+
+/// The reserved word that is next, if no rule has it.
+pub fn left_out_reserved(cursor: &Cursor) -> Option<&'static str> {
+    match cursor.peek() {
+        Some(Piece::Keyword(word)) => left_out_keyword(word),
+        _ => None,
+    }
+}
+
+// The word that is next, if it is left out.
+fn left_out<'a>(cursor: &Cursor<'a>) -> Option<&'a str> {
+    match cursor.peek() {
+        Some(Piece::Name(word)) if is_left_out(word) => Some(word),
+        Some(Piece::Keyword(word)) => left_out_keyword(word),
+        _ => None,
+    }
+}
+
+/// The refusal of a word.
+pub fn unsupported(alloc: Global, word: &str) -> ParseFault {
+    match String::from_str(alloc, word) {
+        Ok(word) => ParseFault::Unsupported { word },
+        Err(_) => ParseFault::Memory,
+    }
+}
+
+/// The fault where an item, an attribute, a qualifier or a statement may begin and the next token fits nothing.
+pub fn misfit(cursor: &Cursor) -> ParseFault {
+    match left_out(cursor) {
+        Some(word) => unsupported(cursor.alloc(), word),
+        None => cursor.syntax(),
+    }
+}
+
+/// The fault of a name that was taken as a qualifier and is none.
+pub fn misfit_name(cursor: &Cursor, name: &str) -> ParseFault {
+    if is_left_out(name) {
+        return unsupported(cursor.alloc(), name);
+    }
+    cursor.syntax_taken()
+}
+
+/// An opening brace, where something else might begin.
+#[tactic(auto, unfolding(edd_grammar::specs::Reading::expect))]
+pub fn expect_brace(cursor: &mut Cursor) -> Result<(), ParseFault>
+    ensures { Leaves result cursor.new (expect OpenBrace cursor.old) }
+{
+    if !cursor.is_at(Symbol::OpenBrace) {
+        return Err(misfit(cursor));
+    }
+    cursor.skip();
+    Ok(())
+}
+
+/// The same where response codes may not stand either: among items and in a transaction.
+pub fn misfit_without_codes(cursor: &Cursor) -> ParseFault {
+    if cursor.is_at_word(Keyword::ResponseCodes) {
+        return unsupported(cursor.alloc(), "RESPONSE_CODES");
+    }
+    misfit(cursor)
+}
+
+/// The same among items, where LIKE may stand behind a name.
+pub fn misfit_item(cursor: &Cursor) -> ParseFault {
+    if let (Some(Piece::Name(_)), Some(Piece::Name("LIKE"))) = (
+        cursor.peek(),
+        cursor.peek_second(),
+    ) {
+        return unsupported(cursor.alloc(), "LIKE");
+    }
+    misfit_without_codes(cursor)
+}
+
+/// The opening brace of an item, where LIKE may stand.
+#[tactic(auto, unfolding(edd_grammar::specs::Reading::expect))]
+pub fn expect_item_brace(cursor: &mut Cursor) -> Result<(), ParseFault>
+    ensures { Leaves result cursor.new (expect OpenBrace cursor.old) }
+{
+    if !cursor.is_at(Symbol::OpenBrace) {
+        if cursor.is_at_name("LIKE") {
+            return Err(unsupported(cursor.alloc(), "LIKE"));
+        }
+        return Err(cursor.syntax());
+    }
+    cursor.skip();
+    Ok(())
+}

@@ -1,0 +1,14 @@
+//! The tokens of a description, taken one after the other: signs, words, names, numbers and texts.
+#![tactic(auto)]
+
+mod belongs;
+pub mod cursor;
+pub mod fault;
+pub mod left_out;
+pub mod operators;
+pub mod piece;
+pub mod pieces;
+pub mod qualifiers;
+pub mod same;
+pub mod texts;
+pub mod words;

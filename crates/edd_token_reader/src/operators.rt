@@ -1,0 +1,149 @@
+//! What signs are in expressions, and where an expression stands.
+
+ghost use Rattle.std.specs.Prelude.{◌≡◌, option_map};
+ghost use Rattle.edd_syntax.specs.Grammar as grammar;
+ghost use Rattle.edd_grammar.specs.Signs as signs;
+ghost use Rattle.edd_grammar.specs.ExpressionReading as reading;
+ghost use Rattle.edd_token_reader.specs.Views.{infix_view, assignment_view, place_view};
+
+use edd_syntax::operators::{Comparison, IncrementOperator, Operator, UnaryOperator};
+use edd_syntax::symbols::Symbol;
+
+/// Where an expression stands: only in a method may it assign, step and call.
+#[derive(Clone, Copy, PartialEq, Eq, Debug)]
+pub enum Place {
+    Attribute,
+    Method,
+}
+
+/// An operator between two operands.
+#[derive(Clone, Copy, PartialEq, Eq, Debug)]
+pub enum Infix {
+    Plain(Operator),
+    Comparing(Comparison),
+    Both,
+    Either,
+}
+
+/// `=`, or an operator and `=` behind it.
+#[derive(Clone, Copy, PartialEq, Eq, Debug)]
+pub enum Assignment {
+    Simple,
+    Compound(Operator),
+}
+
+/// The loosest row that may stand in a place.
+pub fn loosest(place: Place) -> u32
+    ensures { result ≡ grammar.loosest (place_view place) }
+{
+    match place {
+        Place::Attribute => 2,
+        Place::Method => 1,
+    }
+}
+
+/// Whether an expression stands in a method.
+pub fn in_method(place: Place) -> bool
+    ensures { result ≡ reading.is_method (place_view place) }
+{
+    match place {
+        Place::Attribute => false,
+        Place::Method => true,
+    }
+}
+
+/// The operator between two operands that a sign is.
+pub fn infix_of(sign: Symbol) -> Option<Infix>
+    ensures { option_map infix_view result ≡ signs.infix_of sign }
+{
+    match sign {
+        Symbol::Operator(op) => Some(Infix::Plain(op)),
+        Symbol::Comparison(by) => Some(Infix::Comparing(by)),
+        Symbol::LogicalAnd => Some(Infix::Both),
+        Symbol::LogicalOr => Some(Infix::Either),
+        _ => None,
+    }
+}
+
+fn operator_row(op: Operator) -> u32
+    ensures { result ≡ grammar.row_of op }
+{
+    match op {
+        Operator::Or => 5,
+        Operator::Xor => 6,
+        Operator::And => 7,
+        Operator::ShiftLeft | Operator::ShiftRight => 10,
+        Operator::Add | Operator::Subtract => 11,
+        Operator::Multiply | Operator::Divide | Operator::Remainder => 12,
+    }
+}
+
+fn comparison_row(by: Comparison) -> u32
+    ensures { result ≡ grammar.comparison_row by }
+{
+    match by {
+        Comparison::Equal | Comparison::NotEqual => 8,
+        Comparison::Less
+        | Comparison::LessOrEqual
+        | Comparison::Greater
+        | Comparison::GreaterOrEqual => 9,
+    }
+}
+
+/// The row of an operator, 3 to 12: the tighter it binds, the greater.
+pub fn row_of(op: Infix) -> u32
+    ensures { result ≡ signs.infix_row (infix_view op) }
+{
+    match op {
+        Infix::Plain(op) => operator_row(op),
+        Infix::Comparing(by) => comparison_row(by),
+        Infix::Both => 4,
+        Infix::Either => 3,
+    }
+}
+
+/// The operator before an operand that a sign is.
+pub fn unary_of(sign: Symbol) -> Option<UnaryOperator>
+    ensures { result ≡ signs.unary_of sign }
+{
+    match sign {
+        Symbol::Operator(Operator::Add) => Some(UnaryOperator::Plus),
+        Symbol::Operator(Operator::Subtract) => Some(UnaryOperator::Minus),
+        Symbol::Exclamation => Some(UnaryOperator::Not),
+        Symbol::Tilde => Some(UnaryOperator::Complement),
+        _ => None,
+    }
+}
+
+/// The step before a reference that a sign is.
+pub fn before_of(sign: Symbol) -> Option<IncrementOperator>
+    ensures { result ≡ signs.before_of sign }
+{
+    match sign {
+        Symbol::Increment => Some(IncrementOperator::PreIncrement),
+        Symbol::Decrement => Some(IncrementOperator::PreDecrement),
+        _ => None,
+    }
+}
+
+/// The step behind a reference that a sign is.
+pub fn behind_of(sign: Symbol) -> Option<IncrementOperator>
+    ensures { result ≡ signs.behind_of sign }
+{
+    match sign {
+        Symbol::Increment => Some(IncrementOperator::PostIncrement),
+        Symbol::Decrement => Some(IncrementOperator::PostDecrement),
+        _ => None,
+    }
+}
+
+/// The assignment that a sign is.
+pub fn assignment_of(sign: Symbol) -> Option<Assignment>
+    ensures { option_map assignment_view result ≡ signs.assignment_of sign }
+{
+    match sign {
+        Symbol::Equals => Some(Assignment::Simple),
+        Symbol::CompoundAssign(op) => Some(Assignment::Compound(op)),
+        _ => None,
+    }
+}

@@ -1,0 +1,143 @@
+//! Names that mean something in their places.
+
+ghost use Rattle.std.specs.Prelude.{◌≡◌, List, map};
+ghost use Rattle.edd_syntax.specs.declared.types.Handling.{Handling};
+ghost use Rattle.edd_syntax.specs.Refusal.{is_name_in};
+ghost use Rattle.edd_syntax.specs.WordsView.{text_of};
+ghost use Rattle.edd_grammar.specs.ValueReading as reading;
+ghost use Rattle.edd_grammar.specs.WordReading as words;
+ghost use Rattle.edd_grammar.specs.ConditionalReading as conditionals;
+ghost use Rattle.edd_token_reader.specs.Views.{Gives, Leaves};
+ghost use Rattle.std.specs.Prelude.{option_map};
+
+use crate::cursor::Cursor;
+use crate::fault::ParseFault;
+use crate::texts::{is_at_text, text};
+use edd_syntax::operators::Operator;
+use edd_syntax::symbols::{Keyword, Symbol};
+use edd_syntax::text::Text;
+use edd_syntax::types::{Handling, Operation};
+
+// Behind one of READ and WRITE, where the other one may follow `&`.
+#[tactic(auto, unfolding(edd_grammar::specs::ValueReading::handling_behind))]
+fn handling_behind(cursor: &mut Cursor, one: Handling, other: &str) -> Result<Handling, ParseFault>
+    ensures { Gives (λ h. h) result cursor.new (reading.handling_behind one other.now cursor.old) }
+{
+    if !cursor.is_at(Symbol::Operator(Operator::And)) {
+        return Ok(one);
+    }
+    cursor.skip();
+    cursor.expect_name(other)?;
+    Ok(Handling::ReadWrite)
+}
+
+/// READ, WRITE, or both in either order.
+#[tactic(auto, unfolding(edd_grammar::specs::ValueReading::handling_at))]
+pub fn handling(cursor: &mut Cursor) -> Result<Handling, ParseFault>
+    ensures { Gives (λ h. h) result cursor.new (reading.handling_at cursor.old) }
+{
+    if cursor.is_at_name("READ") {
+        cursor.skip();
+        return handling_behind(cursor, Handling::Read, "WRITE");
+    }
+    if cursor.is_at_name("WRITE") {
+        cursor.skip();
+        return handling_behind(cursor, Handling::Write, "READ");
+    }
+    Err(cursor.syntax())
+}
+
+/// TRUE or FALSE.
+#[tactic(auto, unfolding(edd_grammar::specs::ValueReading::truth_at))]
+pub fn truth(cursor: &mut Cursor) -> Result<bool, ParseFault>
+    ensures { Gives (λ b. b) result cursor.new (reading.truth_at cursor.old) }
+{
+    if cursor.is_at_name("TRUE") {
+        cursor.skip();
+        return Ok(true);
+    }
+    if cursor.is_at_name("FALSE") {
+        cursor.skip();
+        return Ok(false);
+    }
+    Err(cursor.syntax())
+}
+
+/// READ, WRITE or COMMAND.
+#[tactic(auto, unfolding(edd_grammar::specs::ValueReading::operation_at))]
+pub fn operation(cursor: &mut Cursor) -> Result<Operation, ParseFault>
+    ensures { Gives (λ o. o) result cursor.new (reading.operation_at cursor.old) }
+{
+    if cursor.is_at_name("READ") {
+        cursor.skip();
+        return Ok(Operation::Read);
+    }
+    if cursor.is_at_name("WRITE") {
+        cursor.skip();
+        return Ok(Operation::Write);
+    }
+    if cursor.is_at_word(Keyword::Command) {
+        cursor.skip();
+        return Ok(Operation::Command);
+    }
+    Err(cursor.syntax())
+}
+
+/// A text, if one is next.
+#[tactic(auto, unfolding(edd_grammar::specs::ValueReading::some_text_at))]
+pub fn some_text(cursor: &mut Cursor) -> Result<Text, ParseFault>
+    ensures { Gives text_of result cursor.new (reading.some_text_at cursor.old) }
+{
+    if !is_at_text(cursor) {
+        return Err(cursor.syntax());
+    }
+    text(cursor)
+}
+
+/// A text behind a comma, or none.
+#[tactic(auto, unfolding(edd_grammar::specs::ValueReading::optional_text_at))]
+pub fn optional_text(cursor: &mut Cursor) -> Result<Option<Text>, ParseFault>
+    ensures { Gives (option_map text_of) result cursor.new (reading.optional_text_at cursor.old) }
+{
+    if !cursor.is_at(Symbol::Comma) {
+        return Ok(None);
+    }
+    cursor.skip();
+    Ok(Some(some_text(cursor)?))
+}
+
+/// A number.
+pub fn integer(cursor: &mut Cursor) -> Result<u32, ParseFault>
+    ensures { Gives (λ n. n) result cursor.new (words.integer_at cursor.old) }
+{
+    match cursor.integer() {
+        Some(n) => Ok(n),
+        None => Err(cursor.syntax()),
+    }
+}
+
+/// A number, or none.
+#[tactic(auto, unfolding(edd_grammar::specs::WordReading::number_at))]
+pub fn number(cursor: &mut Cursor) -> Result<Option<u32>, ParseFault>
+    ensures { Gives (λ n. n) result cursor.new (words.number_at cursor.old) }
+{
+    Ok(cursor.integer())
+}
+
+/// Behind the semicolons that are next.
+pub fn skip_semicolons(cursor: &mut Cursor)
+    ensures { cursor.new ≡ words.skip_semicolons cursor.old }
+{
+    while cursor.is_at(Symbol::Semicolon) {
+        cursor.skip();
+    }
+}
+
+/// Behind a comma, if one is next.
+pub fn skip_comma(cursor: &mut Cursor)
+    ensures { cursor.new ≡ conditionals.skip_comma cursor.old }
+{
+    if cursor.is_at(Symbol::Comma) {
+        cursor.skip();
+    }
+}
