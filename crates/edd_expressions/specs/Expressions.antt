@@ -1,5 +1,4 @@
--- The block of an expression, which leaves its value on top. It is the same in attributes and in methods, which differ in the
--- width of numbers alone.
+-- The block of an expression of an attribute, which leaves its value on top. What stands in methods alone has the block of 0.
 use Rattle.edd_syntax.specs.declared.numbers.ItemNo.{ItemNo}
 use Rattle.edd_syntax.specs.declared.numbers.ItemNo.TheVariants as item_no
 use Rattle.edd_syntax.specs.declared.operators.UnaryOperator.{UnaryOperator}

@@ -328,7 +328,7 @@ fn ask_from(bytes: &[u8]) -> Option<(Instruction, &[u8])>
     Some((Instruction::Ask(request), rest))
 }
 
-// What is not arithmetic: records, requests and the end without a method's end.
+// What is not arithmetic: records, requests and ABORT.
 #[inline(never)]
 fn other_from(code: u8, bytes: &[u8]) -> Option<(Instruction, &[u8])>
     ensures { option_map (λ x. (x.0, x.1.now)) result ≡
