@@ -3,7 +3,7 @@
 ghost use Rattle.std.specs.Prelude.{◌≡◌, ◌<◌, ◌≤◌, length, ◌==◌, IfSome, option_map, nat_lt, if◌then◌else◌, None, Some};
 ghost use Rattle.edd_image.specs.declared.instruction.Instruction.TheVariants as instructions;
 ghost use Rattle.std.specs.Int.{w16, w32, w64};
-ghost use Rattle.edd_image.specs.Decoding.{byte_from, number_from, signed_from, item_from, optional_string, basic_from, operator_of, comparison_of, unary_of, jump_from, entry_from, data_from, enumerator_from, response_from, member_from, record_from, ask_of, ask_from, instruction_from, instruction_at};
+ghost use Rattle.edd_image.specs.Decoding.{byte_from, number_from, signed_from, basic_from, jump_from, item_from, optional_string, entry_from, data_from, enumerator_from, response_from, member_from, record_from, ask_of, ask_from, instruction_from, instruction_at};
 
 use crate::instruction::{Ask, Instruction};
 use crate::numbers::item_of;
@@ -84,111 +84,84 @@ fn item_from(bytes: &[u8]) -> Option<(ItemNo, &[u8])>
 
 #[inline(always)]
 #[tactic(auto, unfolding(crate::specs::Decoding::basic_from))]
-fn basic_from(code: u8, bytes: &[u8]) -> Option<(Instruction, &[u8])>
-    ensures { option_map (λ x. (x.0, x.1.now)) result ≡ basic_from code bytes.now }
+fn push_from(bytes: &[u8]) -> Option<(Instruction, &[u8])>
+    ensures { option_map (λ x. (x.0, x.1.now)) result ≡ basic_from 0x01 bytes.now }
 {
-    match code {
-        0x00 => Some((Instruction::End, bytes)),
-        0x01 => {
-            let (number, rest) = u32_from(bytes)?;
-            Some((Instruction::Push(number), rest))
-        }
-        0x02 => {
-            let (number, rest) = u16_from(bytes)?;
-            Some((Instruction::Variable(VarNo(number)), rest))
-        }
-        0x03 => {
-            let (number, rest) = u16_from(bytes)?;
-            Some((Instruction::Store(VarNo(number)), rest))
-        }
-        0x04 => {
-            let (number, rest) = u16_from(bytes)?;
-            Some((Instruction::GetLocal(number), rest))
-        }
-        0x05 => {
-            let (number, rest) = u16_from(bytes)?;
-            Some((Instruction::SetLocal(number), rest))
-        }
-        0x06 => Some((Instruction::Pop, bytes)),
-        0x07 => Some((Instruction::Duplicate, bytes)),
-        _ => None,
-    }
+    let (number, rest) = u32_from(bytes)?;
+    Some((Instruction::Push(number), rest))
 }
 
 #[inline(always)]
-#[tactic(auto, unfolding(crate::specs::Decoding::operator_of))]
-fn operator_of(code: u8) -> Option<Operator>
-    ensures { result ≡ operator_of code }
+#[tactic(auto, unfolding(crate::specs::Decoding::basic_from))]
+fn variable_from(bytes: &[u8]) -> Option<(Instruction, &[u8])>
+    ensures { option_map (λ x. (x.0, x.1.now)) result ≡ basic_from 0x02 bytes.now }
 {
-    match code {
-        0x10 => Some(Operator::Add),
-        0x11 => Some(Operator::Subtract),
-        0x12 => Some(Operator::Multiply),
-        0x13 => Some(Operator::Divide),
-        0x14 => Some(Operator::Remainder),
-        0x15 => Some(Operator::ShiftLeft),
-        0x16 => Some(Operator::ShiftRight),
-        0x17 => Some(Operator::And),
-        0x18 => Some(Operator::Or),
-        0x19 => Some(Operator::Xor),
-        _ => None,
-    }
+    let (number, rest) = u16_from(bytes)?;
+    Some((Instruction::Variable(VarNo(number)), rest))
 }
 
 #[inline(always)]
-#[tactic(auto, unfolding(crate::specs::Decoding::comparison_of))]
-fn comparison_of(code: u8) -> Option<Comparison>
-    ensures { result ≡ comparison_of code }
+#[tactic(auto, unfolding(crate::specs::Decoding::basic_from))]
+fn store_from(bytes: &[u8]) -> Option<(Instruction, &[u8])>
+    ensures { option_map (λ x. (x.0, x.1.now)) result ≡ basic_from 0x03 bytes.now }
 {
-    match code {
-        0x1a => Some(Comparison::Equal),
-        0x1b => Some(Comparison::NotEqual),
-        0x1c => Some(Comparison::Less),
-        0x1d => Some(Comparison::LessOrEqual),
-        0x1e => Some(Comparison::Greater),
-        0x1f => Some(Comparison::GreaterOrEqual),
-        _ => None,
-    }
+    let (number, rest) = u16_from(bytes)?;
+    Some((Instruction::Store(VarNo(number)), rest))
 }
 
 #[inline(always)]
-#[tactic(auto, unfolding(crate::specs::Decoding::unary_of))]
-fn unary_of(code: u8) -> Option<Instruction>
-    ensures { result ≡ unary_of code }
+#[tactic(auto, unfolding(crate::specs::Decoding::basic_from))]
+fn get_local_from(bytes: &[u8]) -> Option<(Instruction, &[u8])>
+    ensures { option_map (λ x. (x.0, x.1.now)) result ≡ basic_from 0x04 bytes.now }
 {
-    match code {
-        0x20 => Some(Instruction::Negate),
-        0x21 => Some(Instruction::Not),
-        0x22 => Some(Instruction::Complement),
-        _ => None,
-    }
+    let (number, rest) = u16_from(bytes)?;
+    Some((Instruction::GetLocal(number), rest))
+}
+
+#[inline(always)]
+#[tactic(auto, unfolding(crate::specs::Decoding::basic_from))]
+fn set_local_from(bytes: &[u8]) -> Option<(Instruction, &[u8])>
+    ensures { option_map (λ x. (x.0, x.1.now)) result ≡ basic_from 0x05 bytes.now }
+{
+    let (number, rest) = u16_from(bytes)?;
+    Some((Instruction::SetLocal(number), rest))
 }
 
 #[inline(always)]
 #[tactic(auto, unfolding(crate::specs::Decoding::jump_from))]
-fn jump_from(code: u8, bytes: &[u8]) -> Option<(Instruction, &[u8])>
-    ensures { option_map (λ x. (x.0, x.1.now)) result ≡ jump_from code bytes.now }
+fn jump_from(bytes: &[u8]) -> Option<(Instruction, &[u8])>
+    ensures { option_map (λ x. (x.0, x.1.now)) result ≡ jump_from 0x30 bytes.now }
 {
-    match code {
-        0x30 => {
-            let (target, rest) = u32_from(bytes)?;
-            Some((Instruction::Jump(target), rest))
-        }
-        0x31 => {
-            let (target, rest) = u32_from(bytes)?;
-            Some((Instruction::JumpIfZero(target), rest))
-        }
-        0x32 => {
-            let (target, rest) = u32_from(bytes)?;
-            Some((Instruction::JumpIfNotZero(target), rest))
-        }
-        0x33 => {
-            let (label, rest) = i64_from(bytes)?;
-            let (target, rest) = u32_from(rest)?;
-            Some((Instruction::Case { label, target }, rest))
-        }
-        _ => None,
-    }
+    let (target, rest) = u32_from(bytes)?;
+    Some((Instruction::Jump(target), rest))
+}
+
+#[inline(always)]
+#[tactic(auto, unfolding(crate::specs::Decoding::jump_from))]
+fn jump_if_zero_from(bytes: &[u8]) -> Option<(Instruction, &[u8])>
+    ensures { option_map (λ x. (x.0, x.1.now)) result ≡ jump_from 0x31 bytes.now }
+{
+    let (target, rest) = u32_from(bytes)?;
+    Some((Instruction::JumpIfZero(target), rest))
+}
+
+#[inline(always)]
+#[tactic(auto, unfolding(crate::specs::Decoding::jump_from))]
+fn jump_if_not_zero_from(bytes: &[u8]) -> Option<(Instruction, &[u8])>
+    ensures { option_map (λ x. (x.0, x.1.now)) result ≡ jump_from 0x32 bytes.now }
+{
+    let (target, rest) = u32_from(bytes)?;
+    Some((Instruction::JumpIfNotZero(target), rest))
+}
+
+#[inline(always)]
+#[tactic(auto, unfolding(crate::specs::Decoding::jump_from))]
+fn case_from(bytes: &[u8]) -> Option<(Instruction, &[u8])>
+    ensures { option_map (λ x. (x.0, x.1.now)) result ≡ jump_from 0x33 bytes.now }
+{
+    let (label, rest) = i64_from(bytes)?;
+    let (target, rest) = u32_from(rest)?;
+    Some((Instruction::Case { label, target }, rest))
 }
 
 #[tactic(auto, unfolding(crate::specs::Decoding::entry_from))]
@@ -332,11 +305,14 @@ fn ask_from(bytes: &[u8]) -> Option<(Instruction, &[u8])>
 #[inline(never)]
 fn other_from(code: u8, bytes: &[u8]) -> Option<(Instruction, &[u8])>
     ensures { option_map (λ x. (x.0, x.1.now)) result ≡
-        (if nat_lt code 0x50 then record_from code bytes.now else
+        (if nat_lt code 0x40 then None else
+        if nat_lt code 0x50 then record_from code bytes.now else
         if code == 0x50 then ask_from bytes.now else
         if code == 0x51 then Some (instructions.Abort, bytes.now) else None) }
 {
-    if code < 0x50 {
+    if code < 0x40 {
+        None
+    } else if code < 0x50 {
         record_from(code, bytes)
     } else if code == 0x50 {
         ask_from(bytes)
@@ -348,29 +324,50 @@ fn other_from(code: u8, bytes: &[u8]) -> Option<(Instruction, &[u8])>
 }
 
 #[inline(always)]
-#[tactic(auto, unfolding(crate::specs::Decoding::instruction_from))]
+#[tactic(auto, unfolding(crate::specs::Decoding::instruction_from, crate::specs::Decoding::basic_from, crate::specs::Decoding::operator_of, crate::specs::Decoding::comparison_of, crate::specs::Decoding::unary_of, crate::specs::Decoding::jump_from))]
 fn instruction_from(bytes: &[u8]) -> Option<(Instruction, &[u8])>
     ensures { option_map (λ x. (x.0, x.1.now)) result ≡ instruction_from bytes.now }
 {
     let [code, rest @ ..] = bytes else {
         return None;
     };
-    let code = *code;
-    if code < 0x10 {
-        basic_from(code, rest)
-    } else if code < 0x1a {
-        let operator = operator_of(code)?;
-        Some((Instruction::Operate(operator), rest))
-    } else if code < 0x20 {
-        let comparison = comparison_of(code)?;
-        Some((Instruction::Compare(comparison), rest))
-    } else if code < 0x30 {
-        let instruction = unary_of(code)?;
-        Some((instruction, rest))
-    } else if code < 0x40 {
-        jump_from(code, rest)
-    } else {
-        other_from(code, rest)
+    match *code {
+        0x00 => Some((Instruction::End, rest)),
+        0x01 => push_from(rest),
+        0x02 => variable_from(rest),
+        0x03 => store_from(rest),
+        0x04 => get_local_from(rest),
+        0x05 => set_local_from(rest),
+        0x06 => Some((Instruction::Pop, rest)),
+        0x07 => Some((Instruction::Duplicate, rest)),
+        0x10 => Some((Instruction::Operate(Operator::Add), rest)),
+        0x11 => Some((Instruction::Operate(Operator::Subtract), rest)),
+        0x12 => Some((Instruction::Operate(Operator::Multiply), rest)),
+        0x13 => Some((Instruction::Operate(Operator::Divide), rest)),
+        0x14 => Some((Instruction::Operate(Operator::Remainder), rest)),
+        0x15 => Some((Instruction::Operate(Operator::ShiftLeft), rest)),
+        0x16 => Some((Instruction::Operate(Operator::ShiftRight), rest)),
+        0x17 => Some((Instruction::Operate(Operator::And), rest)),
+        0x18 => Some((Instruction::Operate(Operator::Or), rest)),
+        0x19 => Some((Instruction::Operate(Operator::Xor), rest)),
+        0x1a => Some((Instruction::Compare(Comparison::Equal), rest)),
+        0x1b => Some((Instruction::Compare(Comparison::NotEqual), rest)),
+        0x1c => Some((Instruction::Compare(Comparison::Less), rest)),
+        0x1d => Some((Instruction::Compare(Comparison::LessOrEqual), rest)),
+        0x1e => Some((Instruction::Compare(Comparison::Greater), rest)),
+        0x1f => Some((Instruction::Compare(Comparison::GreaterOrEqual), rest)),
+        0x20 => Some((Instruction::Negate, rest)),
+        0x21 => Some((Instruction::Not, rest)),
+        0x22 => Some((Instruction::Complement, rest)),
+        0x30 => jump_from(rest),
+        0x31 => jump_if_zero_from(rest),
+        0x32 => jump_if_not_zero_from(rest),
+        0x33 => case_from(rest),
+        code => {
+            // Taken apart, so that the instructions above need no place in memory.
+            let (instruction, rest) = other_from(code, rest)?;
+            Some((instruction, rest))
+        }
     }
 }
 
