@@ -1,5 +1,5 @@
 -- A unit over which one walk finds nothing wrong is valid.
-use Rattle.std.proofs.Common.{◌≡◌, ℕ, ◌<◌, Bool, true, false, nat_lt, List, [], ◌∷◌, length, get_or, replicate, Option, Some, None, refl, sym, subst, ◌∙◌}
+use Rattle.std.proofs.Common.{◌≡◌, ℕ, ◌<◌, Bool, true, false, ◌&&◌, nat_lt, List, [], ◌∷◌, length, get_or, replicate, Option, Some, None, refl, sym, subst, ◌∙◌}
 use Rattle.std.specs.Prelude.{IfSome}
 use Rattle.std.proofs.lemmas.List.{length-replicate}
 use Rattle.std.specs.List.{AllByRecursion, list_all}
@@ -10,7 +10,7 @@ use Rattle.edd_image.specs.declared.unit.Way.{Way}
 use Rattle.edd_image.specs.References.{names_exist}
 use Rattle.edd_image.specs.Units.{Placed, instructions, end_of, ways, onward, jump, is_allowed, is_start, is_forward, lands, IsValidUnit}
 use Rattle.edd_loader.specs.Depths.{Table, known, visit, visit_all}
-use Rattle.edd_loader.specs.Standing.{may_stand}
+use Rattle.edd_loader.specs.Standing.{may_stand, goes_on_inside}
 use Rattle.edd_loader.proofs.DepthLaws.{Extends, extends_refl, extends_trans, bind_some, each, LiesInside, visit_visits}
 use Rattle.edd_loader.proofs.Listing.{from_place, within}
 use Rattle.edd_loader.proofs.UnitDepths.{passes}
@@ -24,21 +24,32 @@ weaker p q (x ∷ xs) f e =
     let parts = and_parts (p x) (list_all p xs) e in
     rw (f x parts.0) (weaker p q xs f parts.1)
 
--- what the walk asks of an instruction, in parts
-pub record Stands (context : Context) (size : ℕ) (x : Placed) : Type 0 where
-  pub allowed : is_allowed context.version context.sort x.instruction ≡ true
-  pub names : names_exist context x.instruction ≡ true
-  pub forward : is_forward context.sort x ≡ true
-  pub after : option_map_or (λ w. nat_lt w.to size) (onward x.instruction x.next) true ≡ true
-  pub target : option_map_or (λ w. nat_lt w.to size) (jump x.instruction) true ≡ true
+both_pass : {A : Type 0} (p q : A → Bool) (xs : List A) → list_all p xs ≡ true → list_all q xs ≡ true → list_all (λ x. p x && q x) xs ≡ true
+both_pass p q [] e f = refl
+both_pass p q (x ∷ xs) e f =
+    let one = and_parts (p x) (list_all p xs) e in
+    let two = and_parts (q x) (list_all q xs) f in
+    rw (one.0, two.0) (both_pass p q xs one.1 two.1)
 
-pub stands : (context : Context) (size : ℕ) (x : Placed) → may_stand context size x ≡ true → Stands context size x
+-- what the walk asks of an instruction
+abbrev is_passed : Context → ℕ → Placed → Bool
+is_passed context size x = may_stand context size x && goes_on_inside size x
+
+-- the same in parts
+record Stands (context : Context) (size : ℕ) (x : Placed) : Type 0 where
+  allowed : is_allowed context.version context.sort x.instruction ≡ true
+  names : names_exist context x.instruction ≡ true
+  forward : is_forward context.sort x ≡ true
+  after : goes_on_inside size x ≡ true
+  target : option_map_or (λ w. nat_lt w.to size) (jump x.instruction) true ≡ true
+
+stands : (context : Context) (size : ℕ) (x : Placed) → is_passed context size x ≡ true → Stands context size x
 stands context size x e =
-    let one = and_parts (is_allowed context.version context.sort x.instruction) _ e in
+    let both = and_parts (may_stand context size x) (goes_on_inside size x) e in
+    let one = and_parts (is_allowed context.version context.sort x.instruction) _ both.0 in
     let two = and_parts (names_exist context x.instruction) _ one.1 in
     let three = and_parts (is_forward context.sort x) _ two.1 in
-    let four = and_parts (option_map_or (λ w. nat_lt w.to size) (onward x.instruction x.next) true) _ three.1 in
-    record { allowed = one.0; names = two.0; forward = three.0; after = four.0; target = four.1 }
+    record { allowed = one.0; names = two.0; forward = three.0; after = both.1; target = three.1 }
 
 -- ---- places inside
 
@@ -48,15 +59,15 @@ all_inside size (w ∷ ws) e =
     let parts = and_parts (nat_lt w.to size) (list_all (λ v. nat_lt v.to size) ws) e in
     (ltb-true w.to size parts.0, all_inside size ws parts.1)
 
-ways_inside : (context : Context) (size : ℕ) (x : Placed) → may_stand context size x ≡ true → AllByRecursion (λ w. w.to < size) (ways x)
+ways_inside : (context : Context) (size : ℕ) (x : Placed) → is_passed context size x ≡ true → AllByRecursion (λ w. w.to < size) (ways x)
 ways_inside context size x e =
     let s = stands context size x e in
     all_inside size (ways x) (if_any (λ w. nat_lt w.to size) (onward x.instruction x.next) (jump x.instruction) ∙ rw (s.after, s.target) refl)
 
-lie_inside : (context : Context) (size : ℕ) (xs : List Placed) → AllByRecursion (λ x. x.place < size) xs → list_all (may_stand context size) xs ≡ true → AllByRecursion (LiesInside size) xs
+lie_inside : (context : Context) (size : ℕ) (xs : List Placed) → AllByRecursion (λ x. x.place < size) xs → list_all (is_passed context size) xs ≡ true → AllByRecursion (LiesInside size) xs
 lie_inside context size [] h e = tt
 lie_inside context size (x ∷ xs) h e =
-    let parts = and_parts (may_stand context size x) (list_all (may_stand context size) xs) e in
+    let parts = and_parts (is_passed context size x) (list_all (is_passed context size) xs) e in
     ((h.0, ways_inside context size x parts.0), lie_inside context size xs h.1 parts.1)
 
 -- ---- where ways lead, the table has a number
@@ -80,37 +91,33 @@ lead_to_starts : (all : List Placed) (final : Table) (ws : List Way) → ((q d :
 lead_to_starts all final [] covered h = refl
 lead_to_starts all final (w ∷ ws) covered h = rw (covered w.to h.0.0 h.0.1) (lead_to_starts all final ws covered h.1)
 
-all_land : (context : Context) (size : ℕ) (all xs : List Placed) (final : Table) → ((q d : ℕ) → known final q ≡ Some d → is_start all q ≡ true) → AllByRecursion (IsEntered final) xs → list_all (may_stand context size) xs ≡ true
+all_land : (context : Context) (size : ℕ) (all xs : List Placed) (final : Table) → ((q d : ℕ) → known final q ≡ Some d → is_start all q ≡ true) → AllByRecursion (IsEntered final) xs → list_all (is_passed context size) xs ≡ true
     → list_all (lands context.sort all) xs ≡ true
 all_land context size all [] final covered h e = refl
 all_land context size all (x ∷ xs) final covered h e =
-    let parts = and_parts (may_stand context size x) (list_all (may_stand context size) xs) e in
+    let parts = and_parts (is_passed context size x) (list_all (is_passed context size) xs) e in
     let s = stands context size x parts.0 in
     rw (s.forward, lead_to_starts all final (ways x) covered h.0) (all_land context size all xs final covered h.1 parts.1)
 
 -- ---- the whole walk
 
 pub accepted : (context : Context) (code : List ℕ) (place : ℕ) (final : Table) (marks : List Bool) → 0 < length code → end_of 0 (from_place code 0) ≡ place → place ≡ length code
-    → list_all (may_stand context (length code)) (from_place code 0) ≡ true → visit_all (replicate (length code) None) (from_place code 0) ≡ Some final
+    → list_all (may_stand context (length code)) (from_place code 0) ≡ true → list_all (goes_on_inside (length code)) (from_place code 0) ≡ true → visit_all (replicate (length code) None) (from_place code 0) ≡ Some final
     → ((q : ℕ) → get_or marks q false ≡ is_start (instructions code) q) → ((q d : ℕ) → known final q ≡ Some d → get_or marks q false ≡ true)
     → IsValidUnit context code
 unfolding instructions
-accepted context code place final marks some ends filled stand passed marked covered =
+accepted context code place final marks some ends filled alone ahead passed marked covered =
     let xs = instructions code in
+    let stand = both_pass (may_stand context (length code)) (goes_on_inside (length code)) xs alone ahead in
     let empty : Table = replicate (length code) None in
     let inside : AllByRecursion (LiesInside (length code)) xs = lie_inside context (length code) xs (within code) stand in
     let size : length empty ≡ length code = length-replicate {A = Option ℕ} (length code) None in
     let entered = entered_from xs empty final (rw size inside) passed in
     let landing = all_land context (length code) xs xs final (λ q d k. sym (marked q) ∙ covered q d k) entered.1 stand in
-    let allowed = weaker (may_stand context (length code)) (λ x. is_allowed context.version context.sort x.instruction) xs (λ x e. (stands context (length code) x e).allowed) stand in
+    let allowed = weaker (is_passed context (length code)) (λ x. is_allowed context.version context.sort x.instruction) xs (λ x e. (stands context (length code) x e).allowed) stand in
     record {
       chain = sym (chain_ends context code place some ends allowed) ∙ eq-eqb place (length code) filled;
       jumps = landing;
       depths = passes context.sort code final landing passed;
-      references = weaker (may_stand context (length code)) (λ x. names_exist context x.instruction) xs (λ x e. (stands context (length code) x e).names) stand;
+      references = weaker (is_passed context (length code)) (λ x. names_exist context x.instruction) xs (λ x e. (stands context (length code) x e).names) stand;
     }
-
--- the table that the walk begins with
-pub ways_in_table : (n : ℕ) (o : Option Way) → option_map_or (λ w. nat_lt w.to n) o true ≡ true → IfSome o (λ w. w.to < n)
-ways_in_table n None e = tt
-ways_in_table n (Some w) e = ltb-true w.to n e

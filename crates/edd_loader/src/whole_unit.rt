@@ -1,75 +1,69 @@
 //! All rules on one unit at once, in one walk over its instructions.
 
-ghost use Rattle.std.specs.Prelude.{◌≡◌, ℕ, ◌≤◌, IfOk, IsTrue, Some, None, length, true, false, nat_lt, slice_index_or};
-ghost use Rattle.std.specs.Option.{option_map_or};
+ghost use Rattle.std.specs.Prelude.{◌≡◌, ◌+◌, ◌<◌, IfOk, IfSome, IsTrue, Some, None, vec_len, if◌then◌else◌};
+ghost use Rattle.std.specs.Option.{option_to_list, option_map};
 ghost use Rattle.edd_image.specs.Units.{IsValidUnit};
-ghost use Rattle.edd_loader.specs.Standing.{may_stand};
+ghost use Rattle.edd_loader.specs.Depths.{enter_ways};
+ghost use Rattle.edd_loader.specs.Marks.{depths, stood_on};
 
-use crate::depths::visit;
-use crate::unit::is_forward;
-use edd_image::{Context, Instruction, Way, decode};
+use crate::marks::{Mark, are_settled, arrival, note};
+use crate::turns::turn_at;
+use edd_image::Context;
 use std::alloc::{AllocError, Global};
 
-// Whether a way, where there is one, stays inside the unit.
+// Notes how many operands a jump brings to its target, where there is one.
 #[inline(always)]
-fn stays_inside(size: usize, way: Option<Way>) -> bool
-    ensures { result ≡ option_map_or (λ w. nat_lt w.to size) way true }
+fn note_jump(marks: &mut Vec<Mark>, target: Option<usize>, depth: u8) -> bool
+    requires { IfSome target (λ to. to < vec_len marks.old) }
+    ensures depths { (if result then Some (depths marks.new.items) else None)
+        ≡ enter_ways (depths marks.old.items) depth (option_to_list (option_map (λ to. record { to = to; leaves = 0 }) target)) }
+    ensures stood { stood_on marks.new.items ≡ stood_on marks.old.items }
+    ensures len { vec_len marks.new ≡ vec_len marks.old }
 {
-    match way {
+    match target {
         None => true,
-        Some(way) => way.to < size,
+        Some(target) => note(marks, target, depth),
     }
 }
 
-// Whether an instruction by itself may stand here in a unit of this size.
+// How many operands an instruction brings to the next, if it goes on: those that are left and what it leaves.
 #[inline(always)]
-fn may_stand(
-    context: Context,
-    size: usize,
-    place: usize,
-    instruction: Instruction,
-    next: usize,
-) -> bool
-    ensures { result ≡ may_stand context size (record { place = place; instruction = instruction; next = next }) }
+fn brought_by(rest: u8, leaves: Option<u8>) -> Option<u16>
+    ensures { result ≡ option_map (λ n. rest + n) leaves }
 {
-    instruction.is_allowed(context.version, context.sort)
-        && context.has_names(instruction)
-        && is_forward(context.sort, place, instruction)
-        && stays_inside(size, instruction.onward(next))
-        && stays_inside(size, instruction.jump())
-}
-
-// Whether an instruction stands at each place that has a number of operands.
-fn are_starts(table: &[Option<u8>], starts: &[bool]) -> bool
-    requires { length table.now ≡ length starts.now }
-    ensures { IsTrue result → (q d : ℕ) → slice_index_or table.now q None ≡ Some d → slice_index_or starts.now q false ≡ true }
-{
-    let mut are_starts = true;
-    for place in 0..table.len() {
-        are_starts = are_starts & (table[place].is_none() | starts[place]);
+    match leaves {
+        None => None,
+        Some(leaves) => Some(u16::from(rest) + u16::from(leaves)),
     }
-    are_starts
 }
 
 /// Whether one walk over a unit sees that it keeps all rules. Where it doesn't, that says nothing of which one is broken.
 pub fn is_accepted(alloc: Global, context: Context, code: &[u8]) -> Result<bool, AllocError>
     ensures { IfOk result (λ accepted. IsTrue accepted → IsValidUnit context code.now) }
 {
-    let mut table = vec![in alloc; None; code.len()]?;
-    let mut starts = vec![in alloc; false; code.len()]?;
+    let mut marks = vec![in alloc; Mark::Unknown; code.len()]?;
     let mut place = 0;
-    while let Some((instruction, next)) = decode(code, place) {
-        if !may_stand(context, code.len(), place, instruction, next) {
+    let mut brought = None;
+    while place < code.len() {
+        let Some(depth) = arrival(brought, marks[place]) else {
+            return Ok(false);
+        };
+        let Some(turn) = turn_at(context, code, place) else {
+            return Ok(false);
+        };
+        if depth < turn.takes {
             return Ok(false);
         }
-        if !visit(&mut table, place, instruction, next) {
+        let rest = depth - turn.takes;
+        marks[place] = Mark::Stands(depth);
+        if !note_jump(&mut marks, turn.target, rest) {
             return Ok(false);
         }
-        starts[place] = true;
-        place = next;
+        brought = brought_by(rest, turn.leaves);
+        place = turn.next;
     }
-    if code.is_empty() || place != code.len() {
+    if code.is_empty() || brought.is_some() {
         return Ok(false);
     }
-    Ok(are_starts(&table, &starts))
+    Ok(are_settled(&marks))
 }
