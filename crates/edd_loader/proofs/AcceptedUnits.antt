@@ -6,11 +6,13 @@ use Rattle.std.specs.List.{AllByRecursion, list_all}
 use Rattle.std.specs.Option.{option_map_or}
 use Rattle.std.proofs.lemmas.Bool.{and_parts, eq-eqb, ltb-true}
 use Rattle.edd_image.specs.declared.unit.Context.{Context}
+use Rattle.edd_image.specs.declared.unit.Sort.{Sort}
+use Rattle.edd_image.specs.declared.unit.Sort.TheVariants.{Attribute, Method}
 use Rattle.edd_image.specs.declared.unit.Way.{Way}
 use Rattle.edd_image.specs.References.{names_exist}
 use Rattle.edd_image.specs.Units.{Placed, instructions, end_of, ways, onward, jump, is_allowed, is_start, is_forward, lands, IsValidUnit}
 use Rattle.edd_loader.specs.Depths.{Table, known, visit, visit_all}
-use Rattle.edd_loader.specs.Standing.{may_stand, goes_on_inside}
+use Rattle.edd_loader.specs.Standing.{may_lead, may_stand, goes_on_inside}
 use Rattle.edd_loader.proofs.DepthLaws.{Extends, extends_refl, extends_trans, bind_some, each, LiesInside, visit_visits}
 use Rattle.edd_loader.proofs.Listing.{from_place, within}
 use Rattle.edd_loader.proofs.UnitDepths.{passes}
@@ -33,7 +35,7 @@ both_pass p q (x ∷ xs) e f =
 
 -- what the walk asks of an instruction
 abbrev is_passed : Context → ℕ → Placed → Bool
-is_passed context size x = may_stand context size x && goes_on_inside size x
+is_passed context size x = may_stand context size x.place x.instruction && goes_on_inside size x
 
 -- the same in parts
 record Stands (context : Context) (size : ℕ) (x : Placed) : Type 0 where
@@ -43,13 +45,25 @@ record Stands (context : Context) (size : ℕ) (x : Placed) : Type 0 where
   after : goes_on_inside size x ≡ true
   target : option_map_or (λ w. nat_lt w.to size) (jump x.instruction) true ≡ true
 
+led_forward : (sort : Sort) (size : ℕ) (x : Placed) → option_map_or (λ w. may_lead sort size x.place w.to) (jump x.instruction) true ≡ true → is_forward sort x ≡ true
+led_forward Method size x e = refl
+led_forward Attribute size x e = ahead (jump x.instruction) e
+  where
+    ahead : (o : Option Way) → option_map_or (λ w. may_lead Attribute size x.place w.to) o true ≡ true → option_map_or (λ w. nat_lt x.place w.to) o true ≡ true
+    ahead None e = refl
+    ahead (Some w) e = (and_parts (nat_lt x.place w.to) (nat_lt w.to size) e).0
+
+led_inside : (sort : Sort) (size place : ℕ) (o : Option Way) → option_map_or (λ w. may_lead sort size place w.to) o true ≡ true → option_map_or (λ w. nat_lt w.to size) o true ≡ true
+led_inside sort size place None e = refl
+led_inside Attribute size place (Some w) e = (and_parts (nat_lt place w.to) (nat_lt w.to size) e).1
+led_inside Method size place (Some w) e = e
+
 stands : (context : Context) (size : ℕ) (x : Placed) → is_passed context size x ≡ true → Stands context size x
 stands context size x e =
-    let both = and_parts (may_stand context size x) (goes_on_inside size x) e in
+    let both = and_parts (may_stand context size x.place x.instruction) (goes_on_inside size x) e in
     let one = and_parts (is_allowed context.version context.sort x.instruction) _ both.0 in
     let two = and_parts (names_exist context x.instruction) _ one.1 in
-    let three = and_parts (is_forward context.sort x) _ two.1 in
-    record { allowed = one.0; names = two.0; forward = three.0; after = both.1; target = three.1 }
+    record { allowed = one.0; names = two.0; forward = led_forward context.sort size x two.1; after = both.1; target = led_inside context.sort size x.place (jump x.instruction) two.1 }
 
 -- ---- places inside
 
@@ -102,13 +116,13 @@ all_land context size all (x ∷ xs) final covered h e =
 -- ---- the whole walk
 
 pub accepted : (context : Context) (code : List ℕ) (place : ℕ) (final : Table) (marks : List Bool) → 0 < length code → end_of 0 (from_place code 0) ≡ place → place ≡ length code
-    → list_all (may_stand context (length code)) (from_place code 0) ≡ true → list_all (goes_on_inside (length code)) (from_place code 0) ≡ true → visit_all (replicate (length code) None) (from_place code 0) ≡ Some final
+    → list_all (λ x. may_stand context (length code) x.place x.instruction) (from_place code 0) ≡ true → list_all (goes_on_inside (length code)) (from_place code 0) ≡ true → visit_all (replicate (length code) None) (from_place code 0) ≡ Some final
     → ((q : ℕ) → get_or marks q false ≡ is_start (instructions code) q) → ((q d : ℕ) → known final q ≡ Some d → get_or marks q false ≡ true)
     → IsValidUnit context code
 unfolding instructions
 accepted context code place final marks some ends filled alone ahead passed marked covered =
     let xs = instructions code in
-    let stand = both_pass (may_stand context (length code)) (goes_on_inside (length code)) xs alone ahead in
+    let stand = both_pass (λ x. may_stand context (length code) x.place x.instruction) (goes_on_inside (length code)) xs alone ahead in
     let empty : Table = replicate (length code) None in
     let inside : AllByRecursion (LiesInside (length code)) xs = lie_inside context (length code) xs (within code) stand in
     let size : length empty ≡ length code = length-replicate {A = Option ℕ} (length code) None in

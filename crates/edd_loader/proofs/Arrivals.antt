@@ -1,6 +1,6 @@
 -- One turn of a walk over a unit, where what an instruction brings to the next is noted only there.
 use Rattle.std.proofs.Common.{◌≡◌, ◌≢◌, ℕ, suc, ◌+◌, ◌-◌, ◌<◌, ◌≤◌, Bool, true, false, ◌&&◌, cond, List, [], ◌∷◌, ◌++◌, length, set, map, replicate, Option, Some, None, refl, sym, ap, ◌∙◌, arith, inl, inr, get_or-set_same, get_or-set_other, subst}
-use Rattle.std.specs.Prelude.{◌==◌, nat_lt, unwrap_or, option_map}
+use Rattle.std.specs.Prelude.{IfSome, ◌==◌, nat_lt, unwrap_or, option_map}
 use Rattle.std.specs.List.{list_all}
 use Rattle.std.specs.Option.{option_to_list, option_map_or}
 use Rattle.std.proofs.lemmas.Bool.{cases_Bool, cases_eq, eqb-true, eqb-false, ltb-false, le-ltb, lt-ltb, eq-eqb}
@@ -140,22 +140,21 @@ visit_twice : (t : Table) (x : Placed) (n depth : ℕ) → visit_at (set t x.pla
 unfolding visit_at
 visit_twice t x n depth = rw (set-set t x.place (Some n) (Some depth)) refl
 
-arrived_by : (brought known_there : Option ℕ) (t : Table) (x : Placed) (depth : ℕ) → x.place < length t → known t x.place ≡ known_there → arrival brought known_there ≡ Some depth → (carry brought x.place t >>= λ u. visit u x) ≡ visit_at t x depth
-arrived_by None None t x depth inside e a =
+arrived_by : (brought known_there : Option ℕ) (t : Table) (x : Placed) (depth : ℕ) → x.place < length t → IfSome brought (λ d. d ≤ 128) → known t x.place ≡ known_there → arrival brought known_there ≡ Some depth → (carry brought x.place t >>= λ u. visit u x) ≡ visit_at t x depth
+arrived_by None None t x depth inside room e a =
     let is : 0 ≡ depth = cc in
     ap (λ (o : Option ℕ). visit_at t x (unwrap_or o 0)) e ∙ ap (λ (n : ℕ). visit_at t x n) is
-arrived_by None (Some n) t x depth inside e a =
-    let is : n ≡ depth = cc in
-    ap (λ (o : Option ℕ). visit_at t x (unwrap_or o 0)) e ∙ ap (λ (m : ℕ). visit_at t x m) is
-arrived_by (Some n) None t x depth inside e a =
+arrived_by None (Some n) t x depth inside room e a =
     let c = choice_none (nat_lt 128 n) (Some n) depth a in
     let is : n ≡ depth = let s : Some n ≡ Some depth = c.1 in cc in
-    rw (entered t x.place n None c.0 e)
+    ap (λ (o : Option ℕ). visit_at t x (unwrap_or o 0)) e ∙ ap (λ (m : ℕ). visit_at t x m) is
+arrived_by (Some n) None t x depth inside room e a =
+    let is : n ≡ depth = cc in
+    rw (entered t x.place n None (le-ltb 128 n room) e)
     (ap (λ (o : Option ℕ). visit_at (set t x.place (Some n)) x (unwrap_or o 0)) (get_or-set_same t x.place (Some n) None inside) ∙ visit_twice t x n n ∙ ap (λ (m : ℕ). visit_at t x m) is)
-arrived_by (Some n) (Some m) t x depth inside e a =
-    let c = choice_none (nat_lt 128 n) (cond (m == n) (Some m) None) depth a in
-    let d = choice_some (m == n) m depth c.1 in
-    rw (entered t x.place n (Some m) c.0 e) (rw d.0 (ap (λ (o : Option ℕ). visit_at t x (unwrap_or o 0)) e ∙ ap (λ (k : ℕ). visit_at t x k) d.1))
+arrived_by (Some n) (Some m) t x depth inside room e a =
+    let d = choice_some (m == n) n depth a in
+    rw (entered t x.place n (Some m) (le-ltb 128 n room) e) (rw d.0 (ap (λ (o : Option ℕ). visit_at t x (unwrap_or o 0)) e ∙ ap (λ (k : ℕ). visit_at t x k) (eqb-true m n d.0 ∙ d.1)))
 
 -- what is entered for the ways of an instruction, that to its target first
 last_way : (t : Table) (rest next : ℕ) (left target : Option ℕ) → ((to : ℕ) → target ≡ Some to → to < length t)
@@ -171,15 +170,15 @@ last_way t rest next (Some n) (Some to) inside =
     ∙ entries_commute t next (rest + n) to (rest + 0) (inside to refl)
     ∙ sym (ap (λ (o : Option Table). o >>= λ u. enter u next (rest + n)) (then_some (enter t to (rest + 0))))
 
-pub turn_passes : (t u : Table) (brought left target : Option ℕ) (x : Placed) (depth : ℕ) (xs : List Placed) (total : Option Table) → x.place < length t → arrival brought (known t x.place) ≡ Some depth → takes x.instruction ≤ depth
+pub turn_passes : (t u : Table) (brought left target : Option ℕ) (x : Placed) (depth : ℕ) (xs : List Placed) (total : Option Table) → x.place < length t → IfSome brought (λ d. d ≤ 128) → arrival brought (known t x.place) ≡ Some depth → takes x.instruction ≤ depth
     → leaves x.instruction ≡ left → jump x.instruction ≡ option_map (λ to. record { to = to; leaves = 0 }) target → ((to : ℕ) → target ≡ Some to → to < length t)
     → enter_ways (set t x.place (Some depth)) (depth - takes x.instruction) (option_to_list (option_map (λ to. record { to = to; leaves = 0 }) target)) ≡ Some u
     → (carry brought x.place t >>= λ s. visit_all s (x ∷ xs)) ≡ total → (carry (brought_by (depth - takes x.instruction) left) x.next u >>= λ s. visit_all s xs) ≡ total
 unfolding visit_all
-turn_passes t u brought left target x depth xs total inside arrives enough l j within jumps so_far =
+turn_passes t u brought left target x depth xs total inside room arrives enough l j within jumps so_far =
     let rest = depth - takes x.instruction in
     let start = set t x.place (Some depth) in
-    let first = arrived_by brought (known t x.place) t x depth inside refl arrives in
+    let first = arrived_by brought (known t x.place) t x depth inside room refl arrives in
     let ways_is = visit_is t x depth (takes x.instruction) (option_map (λ n. record { to = x.next; leaves = n }) left) (option_map (λ to. record { to = to; leaves = 0 }) target) refl enough
     (ap (λ (o : Option ℕ). option_map (λ n. record { to = x.next; leaves = n }) o) (sym l)) (sym j) in
     let within' : (to : ℕ) → target ≡ Some to → to < length start = λ to e. omega (arith, within to e, length-set t x.place (Some depth)) in

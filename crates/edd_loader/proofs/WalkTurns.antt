@@ -7,16 +7,18 @@ use Rattle.std.proofs.lemmas.Bool.{and_parts, ltb-true}
 use Rattle.std.proofs.lemmas.List.{length-map}
 use Rattle.edd_image.specs.declared.instruction.Instruction.{Instruction}
 use Rattle.edd_image.specs.declared.unit.Context.{Context}
+use Rattle.edd_image.specs.declared.unit.Sort.{Sort}
+use Rattle.edd_image.specs.declared.unit.Sort.TheVariants.{Attribute, Method}
 use Rattle.edd_image.specs.declared.unit.Way.{Way}
 use Rattle.edd_image.specs.Decoding.{◌>>=◌, instruction_at}
 use Rattle.edd_image.specs.References.{names_exist}
-use Rattle.edd_image.specs.Units.{Placed, takes, leaves, jump, is_allowed, is_forward, is_start}
+use Rattle.edd_image.specs.Units.{Placed, takes, leaves, jump, is_allowed, is_start}
 use Rattle.edd_image.proofs.Lengths.{instruction_inside}
 use Rattle.edd_loader.specs.declared.marks.Mark.{Mark}
 use Rattle.edd_loader.specs.declared.marks.Mark.TheVariants.{Unknown, Awaited, Stands}
 use Rattle.edd_loader.specs.Depths.{Table, known, enter_ways, visit_all}
 use Rattle.edd_loader.specs.Marks.{arrival, depth_known, depths, stood_on}
-use Rattle.edd_loader.specs.Standing.{may_stand, goes_on_inside}
+use Rattle.edd_loader.specs.Standing.{may_lead, may_stand, goes_on_inside}
 use Rattle.edd_loader.proofs.Arrivals.{carry, brought_by, brought_inside, turn_passes}
 use Rattle.edd_loader.proofs.Listing.{from_place, walk_stops}
 use Rattle.edd_loader.proofs.MarkLaws.{known_is, mark_there, stands_depths, stands_stood}
@@ -27,13 +29,16 @@ use Rattle.edd_loader.proofs.Walks.{marks_go}
 abbrev to_target : Option ℕ → Option Way
 to_target target = option_map (λ to. record { to = to; leaves = 0 }) target
 
-pub target_inside : (context : Context) (size : ℕ) (x : Placed) (target : Option ℕ) → may_stand context size x ≡ true → jump x.instruction ≡ option_map (λ to. record { to = to; leaves = 0 }) target → IfSome target (λ to. to < size)
-target_inside context size x None e j = tt
-target_inside context size x (Some to) e j =
-    let one = and_parts (is_allowed context.version context.sort x.instruction) _ e in
-    let two = and_parts (names_exist context x.instruction) _ one.1 in
-    let three = and_parts (is_forward context.sort x) _ two.1 in
-    ltb-true to size (sym (ap (λ (o : Option Way). option_map_or (λ w. nat_lt w.to size) o true) j) ∙ three.1)
+led_inside : (sort : Sort) (size place to : ℕ) → may_lead sort size place to ≡ true → to < size
+led_inside Attribute size place to e = ltb-true to size (and_parts (nat_lt place to) (nat_lt to size) e).1
+led_inside Method size place to e = ltb-true to size e
+
+pub target_inside : (context : Context) (size place : ℕ) (i : Instruction) (target : Option ℕ) → may_stand context size place i ≡ true → jump i ≡ option_map (λ to. record { to = to; leaves = 0 }) target → IfSome target (λ to. to < size)
+target_inside context size place i None e j = tt
+target_inside context size place i (Some to) e j =
+    let one = and_parts (is_allowed context.version context.sort i) _ e in
+    let two = and_parts (names_exist context i) _ one.1 in
+    led_inside context.sort size place to (sym (ap (λ (o : Option Way). option_map_or (λ w. may_lead context.sort size place w.to) o true) j) ∙ two.1)
 
 within : (target : Option ℕ) (size : ℕ) → IfSome target (λ to. to < size) → (to : ℕ) → target ≡ Some to → to < size
 within None size h to e = absurd cc
@@ -43,11 +48,11 @@ chosen : (b : Bool) (t : Table) (o : Option Table) → b ≡ true → cond b (So
 chosen b t o e h = sym h ∙ ap (λ (c : Bool). cond c (Some t) None) e
 
 -- what an instruction brings is noted at the next turn
-pub turn_goes : (marks new : List Mark) (brought after left target : Option ℕ) (x : Placed) (m : Mark) (depth taken : ℕ) (xs : List Placed) (total : Option Table) (noted : Bool) → x.place < length marks → m ≡ get_or marks x.place m
+pub turn_goes : (marks new : List Mark) (brought after left target : Option ℕ) (x : Placed) (m : Mark) (depth taken : ℕ) (xs : List Placed) (total : Option Table) (noted : Bool) → x.place < length marks → IfSome brought (λ d. d ≤ 128) → m ≡ get_or marks x.place m
     → arrival brought (depth_known m) ≡ Some depth → takes x.instruction ≡ taken → taken ≤ depth → leaves x.instruction ≡ left → jump x.instruction ≡ option_map (λ to. record { to = to; leaves = 0 }) target → IfSome target (λ to. to < length marks)
     → noted ≡ true → cond noted (Some (depths new)) None ≡ enter_ways (depths (set marks x.place (Stands depth))) (depth - taken) (option_to_list (option_map (λ to. record { to = to; leaves = 0 }) target)) → after ≡ option_map (λ n. depth - taken + n) left
     → (carry brought x.place (depths marks) >>= λ s. visit_all s (x ∷ xs)) ≡ total → (carry after x.next (depths new) >>= λ s. visit_all s xs) ≡ total
-turn_goes marks new brought after left target x m depth taken xs total noted inside read arrives t enough l j goes accepts note b so_far =
+turn_goes marks new brought after left target x m depth taken xs total noted inside room read arrives t enough l j goes accepts note b so_far =
     let size : length (depths marks) ≡ length marks = length-map marks depth_known in
     let known_there : known (depths marks) x.place ≡ depth_known m = known_is marks x.place ∙ ap depth_known (mark_there marks x.place m inside read) in
     let arrives' : arrival brought (known (depths marks) x.place) ≡ Some depth = ap (λ (o : Option ℕ). arrival brought o) known_there ∙ arrives in
@@ -56,7 +61,7 @@ turn_goes marks new brought after left target x m depth taken xs total noted ins
     let entered' : enter_ways (set (depths marks) x.place (Some depth)) (depth - takes x.instruction) (option_to_list (to_target target)) ≡ Some (depths new) =
     ap (λ (n : ℕ). enter_ways (set (depths marks) x.place (Some depth)) (depth - n) (option_to_list (to_target target))) t ∙ entered in
     let goes' : (to : ℕ) → target ≡ Some to → to < length (depths marks) = λ to e. omega (arith, size, within target (length marks) goes to e) in
-    let passed = turn_passes (depths marks) (depths new) brought left target x depth xs total (omega (arith, size, inside)) arrives' (omega (arith, t, enough)) l j goes' entered' so_far in
+    let passed = turn_passes (depths marks) (depths new) brought left target x depth xs total (omega (arith, size, inside)) room arrives' (omega (arith, t, enough)) l j goes' entered' so_far in
     ap (λ (o : Option ℕ). carry o x.next (depths new) >>= λ s. visit_all s xs) (b ∙ ap (λ (n : ℕ). brought_by (depth - n) left) (sym t)) ∙ passed
 
 pub stands_on : (code : List ℕ) (place next : ℕ) (i : Instruction) (marks new : List Mark) (depth q : ℕ) (total : Bool) → instruction_at code place ≡ Some (i, next) → place < length marks → stood_on new ≡ stood_on (set marks place (Stands depth))

@@ -29,9 +29,9 @@ abbrev pub stood_on : List Mark → List Bool
 stood_on marks = map is_stood_on marks
 
 -- How many operands there are where the instruction before brings so many, if it goes on, and so many are known: none where
--- nothing says how many, and no number where more are brought than fit, or others than are known.
+-- nothing says how many, and no number where others are brought than are known, or more are known than fit.
 abbrev pub arrival : (brought known : Option ℕ) → Option ℕ
 arrival None None = Some 0
-arrival None (Some depth) = Some depth
-arrival (Some depth) None = if nat_lt 128 depth then None else Some depth
-arrival (Some depth) (Some before) = if nat_lt 128 depth then None else if before == depth then Some before else None
+arrival None (Some before) = if nat_lt 128 before then None else Some before
+arrival (Some depth) None = Some depth
+arrival (Some depth) (Some before) = if before == depth then Some depth else None

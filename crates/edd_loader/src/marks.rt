@@ -1,6 +1,6 @@
 //! What a walk over a unit knows of its places.
 
-ghost use Rattle.std.specs.Prelude.{◌≡◌, ℕ, ◌<◌, IsTrue, Some, None, length, vec_len, true, false, slice_index_or, if◌then◌else◌};
+ghost use Rattle.std.specs.Prelude.{◌≡◌, ℕ, ◌<◌, ◌≤◌, IfSome, IsTrue, Some, None, length, vec_len, true, false, slice_index_or, if◌then◌else◌};
 ghost use Rattle.edd_loader.specs.Depths.{enter};
 ghost use Rattle.edd_loader.specs.declared.marks.Mark.TheVariants.{Unknown};
 ghost use Rattle.edd_loader.specs.Marks.{arrival, depth_known, depths, is_settled, stood_on};
@@ -18,21 +18,18 @@ pub enum Mark {
 
 /// How many operands there are at a place to which the instruction before brings so many, if it goes on.
 #[inline(always)]
-pub fn arrival(brought: Option<u16>, mark: Mark) -> Option<u8>
-    ensures { result ≡ arrival brought (depth_known mark) }
+pub fn arrival(brought: Option<u8>, mark: Mark) -> Option<u8>
+    requires { IfSome brought (λ depth. depth ≤ 128) }
+    ensures value { result ≡ arrival brought (depth_known mark) }
+    ensures room { IfSome result (λ depth. depth ≤ 128) }
 {
     match (brought, mark) {
         (None, Mark::Unknown) => Some(0),
+        (None, Mark::Awaited(known) | Mark::Stands(known)) if known > 128 => None,
         (None, Mark::Awaited(known) | Mark::Stands(known)) => Some(known),
-        (Some(depth), _) if depth > 128 => None,
-        (Some(depth), Mark::Unknown) => Some(depth as u8),
-        (Some(depth), Mark::Awaited(known) | Mark::Stands(known)) => {
-            if u16::from(known) == depth {
-                Some(known)
-            } else {
-                None
-            }
-        }
+        (Some(depth), Mark::Unknown) => Some(depth),
+        (Some(depth), Mark::Awaited(known) | Mark::Stands(known)) if known == depth => Some(depth),
+        (Some(_), Mark::Awaited(_) | Mark::Stands(_)) => None,
     }
 }
 

@@ -1,109 +1,157 @@
-//! What a walk over a unit has to know of an instruction.
+//! What an instruction does to a walk over its unit.
 
-ghost use Rattle.std.specs.Prelude.{◌≡◌, ◌<◌, ◌≤◌, IfSome, length, nat_lt, true};
-ghost use Rattle.std.specs.Option.{option_map_or};
-ghost use Rattle.edd_loader.specs.Standing.{may_stand};
-ghost use Rattle.edd_loader.specs.Turns.{IsPlain, IsTurn};
+ghost use Rattle.std.specs.Prelude.{◌≡◌, ◌+◌, ◌-◌, ◌<◌, ◌≤◌, IfSome, option_map, true};
+ghost use Rattle.edd_image.specs.Units.{takes, leaves, jump};
+ghost use Rattle.edd_loader.specs.Standing.{may_stand, may_lead};
 
-use crate::unit::is_forward;
-use edd_image::{Context, Instruction, Way, decode};
+use edd_image::{Context, Instruction, Sort};
 
 /// What an instruction does to the number of operands, and where its ways lead.
 #[derive(Clone, Copy, PartialEq, Eq, Debug)]
 pub struct Turn {
-    /// The place after it.
-    pub next: usize,
-    pub takes: u8,
-    /// How many operands it leaves in place of those, where it goes on.
-    pub leaves: Option<u8>,
-    /// The place to which it may jump, leaving nothing.
+    /// How many operands are left when it has taken its own.
+    pub rest: u8,
+    /// How many it brings to the instruction after it, where it goes on.
+    pub brought: Option<u8>,
+    /// The place to which it may jump, with those that are left.
     pub target: Option<usize>,
 }
 
-// How many operands an instruction of one byte takes and leaves, where it is one that may stand anywhere and doesn't jump.
+// An instruction that takes nothing and doesn't go on.
 #[inline(always)]
-fn plain(code: u8) -> Option<(u8, Option<u8>)>
-    ensures { IfSome result (λ x. IsPlain code x.0 x.1) }
+fn stop(fits: bool, depth: u8) -> Option<Turn>
+    ensures fits { IfSome result (λ turn. fits ≡ true) }
+    ensures rest { IfSome result (λ turn. turn.rest ≡ depth) }
+    ensures brought { IfSome result (λ turn. turn.brought ≡ None) }
+    ensures target { IfSome result (λ turn. turn.target ≡ None) }
 {
-    match code {
-        0x00 => Some((0, None)),
-        0x06 => Some((1, Some(0))),
-        0x07 => Some((1, Some(2))),
-        0x10..=0x1f => Some((2, Some(1))),
-        0x20..=0x22 => Some((1, Some(1))),
-        _ => None,
-    }
-}
-
-// Whether a way, where there is one, stays inside the unit.
-#[inline(always)]
-fn stays_inside(size: usize, way: Option<Way>) -> bool
-    ensures { result ≡ option_map_or (λ w. nat_lt w.to size) way true }
-{
-    match way {
-        None => true,
-        Some(way) => way.to < size,
-    }
-}
-
-// Whether an instruction by itself may stand here in a unit of this size.
-#[inline(always)]
-fn may_stand(
-    context: Context,
-    size: usize,
-    place: usize,
-    instruction: Instruction,
-    next: usize,
-) -> bool
-    ensures { result ≡ may_stand context size (record { place = place; instruction = instruction; next = next }) }
-{
-    instruction.is_allowed(context.version, context.sort)
-        && context.has_names(instruction)
-        && is_forward(context.sort, place, instruction)
-        && stays_inside(size, instruction.jump())
-}
-
-// The same of any instruction.
-#[inline(always)]
-fn decoded(context: Context, code: &[u8], place: usize) -> Option<Turn>
-    requires { place < length code.now }
-    ensures turn { IfSome result (IsTurn context code.now place) }
-    ensures inside { IfSome result (λ turn. (place < turn.next) × (turn.next ≤ length code.now)) }
-{
-    let (instruction, next) = decode(code, place)?;
-    if !may_stand(context, code.len(), place, instruction, next) {
+    if !fits {
         return None;
     }
-    let leaves = match instruction.onward(next) {
-        None => None,
-        Some(way) => Some(way.leaves),
-    };
-    let target = match instruction.jump() {
-        None => None,
-        Some(way) => Some(way.to),
-    };
     Some(Turn {
-        next,
-        takes: instruction.takes(),
-        leaves,
-        target,
+        rest: depth,
+        brought: None,
+        target: None,
     })
 }
 
-/// What the instruction at a place does, where a whole one stands there that may stand there.
+// An instruction that goes on, where it has its operands, and room for what it leaves.
 #[inline(always)]
-pub fn turn_at(context: Context, code: &[u8], place: usize) -> Option<Turn>
-    requires { place < length code.now }
-    ensures turn { IfSome result (IsTurn context code.now place) }
-    ensures inside { IfSome result (λ turn. (place < turn.next) × (turn.next ≤ length code.now)) }
+fn go_on(fits: bool, depth: u8, takes: u8, leaves: u8) -> Option<Turn>
+    requires depth { depth ≤ 128 }
+    requires leaves { leaves ≤ 2 }
+    ensures fits { IfSome result (λ turn. fits ≡ true) }
+    ensures enough { IfSome result (λ turn. takes ≤ depth) }
+    ensures rest { IfSome result (λ turn. turn.rest ≡ depth - takes) }
+    ensures brought { IfSome result (λ turn. turn.brought ≡ Some (depth - takes + leaves)) }
+    ensures room { IfSome result (λ turn. depth - takes + leaves ≤ 128) }
+    ensures target { IfSome result (λ turn. turn.target ≡ None) }
 {
-    match plain(code[place]) {
-        Some((takes, leaves)) => Some(Turn {
-            next: place + 1,
-            takes,
-            leaves,
-            target: None,
-        }),
-        None => decoded(context, code, place),
+    if !fits || depth < takes {
+        return None;
+    }
+    let rest = depth - takes;
+    if leaves > takes && rest + leaves > 128 {
+        return None;
+    }
+    Some(Turn {
+        rest,
+        brought: Some(rest + leaves),
+        target: None,
+    })
+}
+
+// Whether a jump from a place leads inside the unit, and in an attribute forward.
+#[inline(always)]
+fn may_lead(sort: Sort, size: usize, place: usize, target: usize) -> bool
+    ensures { result ≡ may_lead sort size place target }
+{
+    let is_forward = match sort {
+        Sort::Method => true,
+        Sort::Attribute => place < target,
+    };
+    is_forward && target < size
+}
+
+// The same instruction with a jump.
+#[inline(always)]
+fn jump_to(fits: bool, turn: Option<Turn>, target: usize) -> Option<Turn>
+    ensures fits { IfSome result (λ jumping. fits ≡ true) }
+    ensures jumps { IfSome result (λ jumping. (before : Turn) × (turn ≡ Some before) × (jumping ≡ record before { target = Some target })) }
+{
+    if !fits {
+        return None;
+    }
+    let turn = turn?;
+    Some(Turn {
+        target: Some(target),
+        ..turn
+    })
+}
+
+/// What an instruction does where so many operands are there, if it may stand there and has its operands.
+#[inline(always)]
+pub fn turn_of(
+    context: Context,
+    size: usize,
+    place: usize,
+    depth: u8,
+    instruction: Instruction,
+) -> Option<Turn>
+    requires { depth ≤ 128 }
+    ensures stands { IfSome result (λ turn. may_stand context size place instruction ≡ true) }
+    ensures enough { IfSome result (λ turn. takes instruction ≤ depth) }
+    ensures rest { IfSome result (λ turn. turn.rest ≡ depth - takes instruction) }
+    ensures brought { IfSome result (λ turn. turn.brought ≡ option_map (λ n. depth - takes instruction + n) (leaves instruction)) }
+    ensures room { IfSome result (λ turn. IfSome turn.brought (λ n. n ≤ 128)) }
+    ensures target { IfSome result (λ turn. jump instruction ≡ option_map (λ to. record { to = to; leaves = 0 }) turn.target) }
+{
+    let is_method = matches!(context.sort, Sort::Method);
+    let counts = context.counts;
+    match instruction {
+        Instruction::End => stop(true, depth),
+        Instruction::Push(_) => go_on(true, depth, 0, 1),
+        Instruction::Variable(v) => go_on(counts.has_variable(v), depth, 0, 1),
+        Instruction::Store(v) => go_on(is_method && counts.has_variable(v), depth, 1, 1),
+        Instruction::GetLocal(slot) => go_on(is_method && slot < context.slots, depth, 0, 1),
+        Instruction::SetLocal(slot) => go_on(is_method && slot < context.slots, depth, 1, 1),
+        Instruction::Pop => go_on(true, depth, 1, 0),
+        Instruction::Duplicate => go_on(true, depth, 1, 2),
+        Instruction::Operate(_) => go_on(true, depth, 2, 1),
+        Instruction::Compare(_) => go_on(true, depth, 2, 1),
+        Instruction::Negate => go_on(true, depth, 1, 1),
+        Instruction::Not => go_on(true, depth, 1, 1),
+        Instruction::Complement => go_on(true, depth, 1, 1),
+        Instruction::Jump(to) => {
+            let fits = may_lead(context.sort, size, place, to as usize);
+            jump_to(fits, stop(true, depth), to as usize)
+        }
+        Instruction::JumpIfZero(to) => {
+            let fits = may_lead(context.sort, size, place, to as usize);
+            jump_to(fits, go_on(true, depth, 1, 0), to as usize)
+        }
+        Instruction::JumpIfNotZero(to) => {
+            let fits = may_lead(context.sort, size, place, to as usize);
+            jump_to(fits, go_on(true, depth, 1, 0), to as usize)
+        }
+        Instruction::Case { target, .. } => {
+            let fits = may_lead(context.sort, size, place, target as usize);
+            jump_to(fits, go_on(true, depth, 1, 1), target as usize)
+        }
+        Instruction::Number => go_on(!is_method, depth, 1, 0),
+        Instruction::Text(_)
+        | Instruction::Item { .. }
+        | Instruction::DataConst(_)
+        | Instruction::DataVar { .. }
+        | Instruction::Enumerator { .. }
+        | Instruction::Response { .. }
+        | Instruction::Member { .. } => {
+            go_on(!is_method && context.has_names(instruction), depth, 0, 0)
+        }
+        Instruction::Ask(_) => {
+            let fits = is_method && context.has_names(instruction);
+            go_on(fits, depth, instruction.takes(), 1)
+        }
+        Instruction::Abort => stop(is_method, depth),
     }
 }

@@ -1,14 +1,14 @@
 //! All rules on one unit at once, in one walk over its instructions.
 
-ghost use Rattle.std.specs.Prelude.{◌≡◌, ◌+◌, ◌<◌, IfOk, IfSome, IsTrue, Some, None, vec_len, if◌then◌else◌};
+ghost use Rattle.std.specs.Prelude.{◌≡◌, ◌<◌, IfOk, IfSome, IsTrue, Some, None, vec_len, if◌then◌else◌};
 ghost use Rattle.std.specs.Option.{option_to_list, option_map};
 ghost use Rattle.edd_image.specs.Units.{IsValidUnit};
 ghost use Rattle.edd_loader.specs.Depths.{enter_ways};
 ghost use Rattle.edd_loader.specs.Marks.{depths, stood_on};
 
 use crate::marks::{Mark, are_settled, arrival, note};
-use crate::turns::turn_at;
-use edd_image::Context;
+use crate::turns::turn_of;
+use edd_image::{Context, decode};
 use std::alloc::{AllocError, Global};
 
 // Notes how many operands a jump brings to its target, where there is one.
@@ -26,17 +26,6 @@ fn note_jump(marks: &mut Vec<Mark>, target: Option<usize>, depth: u8) -> bool
     }
 }
 
-// How many operands an instruction brings to the next, if it goes on: those that are left and what it leaves.
-#[inline(always)]
-fn brought_by(rest: u8, leaves: Option<u8>) -> Option<u16>
-    ensures { result ≡ option_map (λ n. rest + n) leaves }
-{
-    match leaves {
-        None => None,
-        Some(leaves) => Some(u16::from(rest) + u16::from(leaves)),
-    }
-}
-
 /// Whether one walk over a unit sees that it keeps all rules. Where it doesn't, that says nothing of which one is broken.
 pub fn is_accepted(alloc: Global, context: Context, code: &[u8]) -> Result<bool, AllocError>
     ensures { IfOk result (λ accepted. IsTrue accepted → IsValidUnit context code.now) }
@@ -48,19 +37,18 @@ pub fn is_accepted(alloc: Global, context: Context, code: &[u8]) -> Result<bool,
         let Some(depth) = arrival(brought, marks[place]) else {
             return Ok(false);
         };
-        let Some(turn) = turn_at(context, code, place) else {
+        let Some((instruction, next)) = decode(code, place) else {
             return Ok(false);
         };
-        if depth < turn.takes {
+        let Some(turn) = turn_of(context, code.len(), place, depth, instruction) else {
             return Ok(false);
-        }
-        let rest = depth - turn.takes;
+        };
         marks[place] = Mark::Stands(depth);
-        if !note_jump(&mut marks, turn.target, rest) {
+        if !note_jump(&mut marks, turn.target, turn.rest) {
             return Ok(false);
         }
-        brought = brought_by(rest, turn.leaves);
-        place = turn.next;
+        brought = turn.brought;
+        place = next;
     }
     if code.is_empty() || brought.is_some() {
         return Ok(false);

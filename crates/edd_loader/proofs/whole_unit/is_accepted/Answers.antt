@@ -1,5 +1,5 @@
 use Rattle.std.proofs.Common.{rules, ◌≡◌, ℕ, ◌||◌, true, false, arith, sym, ap, refl, ◌∙◌, Some, None, List, ◌∷◌, ◌<◌, length, get_or, replicate}
-use Rattle.edd_image.specs.Units.{Placed, is_start}
+use Rattle.edd_image.specs.Units.{Placed, takes, leaves, is_start}
 use Rattle.edd_image.specs.Decoding.{◌>>=◌}
 use Rattle.edd_loader.specs.declared.marks.Mark.{Mark}
 use Rattle.edd_loader.specs.declared.marks.Mark.TheVariants.{Unknown}
@@ -21,6 +21,7 @@ loop-place-init c =
     let empty : c.in_ok-marks.marks.items ≡ replicate n Unknown = c.in_ok-marks.ensures.items_if_clones_equal (λ y k. search rules) in
     record {
       inside = omega arith;
+      room = tt;
       sized = c.in_ok-marks.ensures.len;
       same_end = refl;
       same_test = refl;
@@ -31,30 +32,33 @@ loop-place-init c =
 
 pub note_jump-requires : goal.note_jump-requires
 note_jump-requires c =
-    let turn = c.in-Some-turn_at.ensures.turn in
-    rw c.loop-place.invariant.sized (target_inside c.args.context (length c.args.code.now) _ c.in-Some-turn_at.turn.target turn.alone turn.jump_is)
+    rw c.loop-place.invariant.sized (target_inside c.args.context (length c.args.code.now) c.loop-place.place c.in-Some-decode.instruction c.in-Some-turn_of.turn.target c.in-Some-turn_of.ensures.stands c.in-Some-turn_of.ensures.target)
 
 pub loop-place-preserved : goal.loop-place-preserved
 loop-place-preserved c =
     let code = c.args.code.now in
     let place = c.loop-place.place in
-    let next = c.in-Some-turn_at.turn.next in
-    let turn = c.in-Some-turn_at.ensures.turn in
+    let i = c.in-Some-decode.instruction in
+    let next = c.in-Some-decode.next in
+    let turn = c.in-Some-turn_of.ensures in
     let before = c.loop-place.invariant in
-    let here = turn.stands in
-    let x : Placed = record { place = place; instruction = turn.instruction; next = next } in
-    let walk : from_place code place ≡ x ∷ from_place code next = walk_goes code place (turn.instruction, next) here in
+    let here = sym c.decode.ensures.value ∙ c.in-Some-decode.is in
+    let x : Placed = record { place = place; instruction = i; next = next } in
+    let walk : from_place code place ≡ x ∷ from_place code next = walk_goes code place (i, next) here in
     let size : length c.loop-place.marks.items ≡ length code = omega (arith, before.sized, c.loop-place.marks.ok) in
-    let room : place < length c.loop-place.marks.items = omega (arith, before.sized, c.loop-place-test.true, c.loop-place.marks.ok) in
+    let inside : place < length c.loop-place.marks.items = omega (arith, size, c.loop-place-test.true) in
+    let leads = target_inside c.args.context (length code) place i c.in-Some-turn_of.turn.target turn.stands turn.target in
     record {
-      inside = c.in-Some-turn_at.ensures.inside.1;
+      inside = c.in-Some-decode.ensures.inside.1;
+      room = turn.room;
       sized = c.if-not-note_jump.ensures.len ∙ before.sized;
-      same_end = end_goes code place (turn.instruction, next) _ here before.same_end;
-      same_test = all_goes (may_stand c.args.context (length code)) code place (turn.instruction, next) _ here turn.alone before.same_test;
-      same_ahead = rw (c.brought_by-brought.ensures) (inside_turn (length code) c.loop-place.brought c.in-Some-turn_at.turn.leaves _ x (from_place code next) _ c.loop-place-test.true turn.leaves_is (rw walk at before.same_ahead));
-      same_pass = turn_goes c.loop-place.marks.items c.note_jump.new.marks.items c.loop-place.brought c.brought_by-brought.result c.in-Some-turn_at.turn.leaves c.in-Some-turn_at.turn.target x c.index.result.now c.in-Some.depth c.in-Some-turn_at.turn.takes (from_place code next) _ c.note_jump.result
-      room c.index.ensures (sym c.arrival.ensures ∙ c.in-Some.is) turn.takes_is c.if-depth-turn.false turn.leaves_is turn.jump_is (rw size (target_inside c.args.context (length code) x c.in-Some-turn_at.turn.target turn.alone turn.jump_is)) c.if-not-note_jump.false c.note_jump.ensures.depths c.brought_by-brought.ensures (rw walk at before.same_pass);
-      marked = λ q. stands_on code place next turn.instruction c.loop-place.marks.items c.note_jump.new.marks.items c.in-Some.depth q _ here room c.if-not-note_jump.ensures.stood (before.marked q);
+      same_end = end_goes code place (i, next) _ here before.same_end;
+      same_test = all_goes (λ x. may_stand c.args.context (length code) x.place x.instruction) code place (i, next) _ here turn.stands before.same_test;
+      same_ahead = rw turn.brought (inside_turn (length code) c.loop-place.brought (leaves i) _ x (from_place code next) _ c.loop-place-test.true refl (rw walk at before.same_ahead));
+      same_pass = turn_goes c.loop-place.marks.items c.note_jump.new.marks.items c.loop-place.brought c.in-Some-turn_of.turn.brought (leaves i) c.in-Some-turn_of.turn.target x c.index.result.now c.in-Some.depth (takes i) (from_place code next) _ c.note_jump.result
+      inside before.room c.index.ensures (sym c.arrival.ensures.value ∙ c.in-Some.is) refl turn.enough refl turn.target (rw size leads) c.if-not-note_jump.false
+      (rw turn.rest at c.note_jump.ensures.depths) turn.brought (rw walk at before.same_pass);
+      marked = λ q. stands_on code place next i c.loop-place.marks.items c.note_jump.new.marks.items c.in-Some.depth q _ here inside c.if-not-note_jump.ensures.stood (before.marked q);
     }
 
 pub returns : goal.returns
