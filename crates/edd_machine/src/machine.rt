@@ -116,9 +116,7 @@ impl Machine {
         ensures unit { self.new.unit ≡ self.old.unit }
         ensures acts { (b : List ℕ) → ActsTo b (instructions.SetLocal slot) next self.old self.new }
     {
-        let operand = self.operands.pop();
-        self.slots[slot as usize] = operand;
-        self.operands.push(operand);
+        self.slots[slot as usize] = self.operands.top();
         self.place = next;
         self.emitted = Emitted::Nothing;
     }
@@ -137,9 +135,9 @@ impl Machine {
         let Some(kind) = image.variable(variable) else {
             unreachable!()
         };
-        let kept = stored(kind, self.operands.pop());
+        let kept = stored(kind, self.operands.top());
         self.values.numbers[variable.0 as usize] = kept;
-        self.operands.push(wrapped(self.unit.sort, kept));
+        self.operands.set_top(wrapped(self.unit.sort, kept));
         self.place = next;
         self.emitted = Emitted::Nothing;
     }

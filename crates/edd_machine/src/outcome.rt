@@ -75,9 +75,7 @@ fn duplicate(operands: &mut Operands, next: usize) -> Outcome
     requires room { length operands.old < 128 }
     ensures { (sort : Sort) (values : List ℤ) → Performs sort values operands.old operands.new instructions.Duplicate next result }
 {
-    let top = operands.pop();
-    operands.push(top);
-    operands.push(top);
+    operands.push(operands.top());
     Outcome::GoesOn(next)
 }
 
@@ -90,13 +88,15 @@ fn operate_two(operands: &mut Operands, sort: Sort, operator: Operator, next: us
     ensures { (values : List ℤ) → Performs sort values operands.old operands.new (instructions.Operate operator) next result }
 {
     let b = operands.pop();
-    let a = operands.pop();
-    match operate(sort, operator, a, b) {
+    match operate(sort, operator, operands.top(), b) {
         Ok(value) => {
-            operands.push(value);
+            operands.set_top(value);
             Outcome::GoesOn(next)
         }
-        Err(why) => Outcome::Traps(why),
+        Err(why) => {
+            let _operand = operands.pop();
+            Outcome::Traps(why)
+        }
     }
 }
 
@@ -108,8 +108,7 @@ fn compare_two(operands: &mut Operands, comparison: Comparison, next: usize) -> 
     ensures { (sort : Sort) (values : List ℤ) → Performs sort values operands.old operands.new (instructions.Compare comparison) next result }
 {
     let b = operands.pop();
-    let a = operands.pop();
-    operands.push(compare(comparison, a, b));
+    operands.set_top(compare(comparison, operands.top(), b));
     Outcome::GoesOn(next)
 }
 
@@ -121,8 +120,7 @@ fn negate_top(operands: &mut Operands, sort: Sort, next: usize) -> Outcome
     requires fit { AllByRecursion (Fits sort) operands.old }
     ensures { (values : List ℤ) → Performs sort values operands.old operands.new instructions.Negate next result }
 {
-    let a = operands.pop();
-    operands.push(negate(sort, a));
+    operands.set_top(negate(sort, operands.top()));
     Outcome::GoesOn(next)
 }
 
@@ -133,8 +131,7 @@ fn not_top(operands: &mut Operands, next: usize) -> Outcome
     requires room { length operands.old ≤ 128 }
     ensures { (sort : Sort) (values : List ℤ) → Performs sort values operands.old operands.new instructions.Not next result }
 {
-    let a = operands.pop();
-    operands.push(logical_not(a));
+    operands.set_top(logical_not(operands.top()));
     Outcome::GoesOn(next)
 }
 
@@ -145,8 +142,7 @@ fn complement_top(operands: &mut Operands, next: usize) -> Outcome
     requires room { length operands.old ≤ 128 }
     ensures { (sort : Sort) (values : List ℤ) → Performs sort values operands.old operands.new instructions.Complement next result }
 {
-    let a = operands.pop();
-    operands.push(complement(a));
+    operands.set_top(complement(operands.top()));
     Outcome::GoesOn(next)
 }
 
@@ -183,11 +179,10 @@ fn case(operands: &mut Operands, label: i64, target: u32, next: usize) -> Outcom
     requires room { length operands.old ≤ 128 }
     ensures { (sort : Sort) (values : List ℤ) → Performs sort values operands.old operands.new (instructions.Case label target) next result }
 {
-    let operand = operands.pop();
-    if operand == label {
+    if operands.top() == label {
+        let _operand = operands.pop();
         Outcome::GoesOn(target as usize)
     } else {
-        operands.push(operand);
         Outcome::GoesOn(next)
     }
 }
