@@ -11,7 +11,9 @@ ghost use Rattle.edd_image.specs.Steps.{Fits};
 ghost use Rattle.edd_image.specs.Units.{takes, leaves, is_allowed};
 ghost use Rattle.edd_machine.specs.Outcomes.{Performs};
 
-use crate::arithmetic::{compare, complement, logical_not, negate, operate, wrapped};
+use crate::arithmetic::{
+    compare, complement, logical_not, negate, operate, wrapped, wrapped_constant,
+};
 use crate::operands::Operands;
 use edd_image::{Instruction, Record, Sort};
 use edd_syntax::answer::Trap;
@@ -37,7 +39,7 @@ fn push(operands: &mut Operands, sort: Sort, number: u32, next: usize) -> Outcom
     requires { length operands.old < 128 }
     ensures { (values : List ℤ) → Performs sort values operands.old operands.new (instructions.Push number) next result }
 {
-    operands.push(wrapped(sort, i64::from(number)));
+    operands.push(wrapped_constant(sort, number));
     Outcome::GoesOn(next)
 }
 
@@ -83,7 +85,6 @@ fn duplicate(operands: &mut Operands, next: usize) -> Outcome
 #[tactic(auto, unfolding(edd_image::specs::Steps::act))]
 fn operate_two(operands: &mut Operands, sort: Sort, operator: Operator, next: usize) -> Outcome
     requires enough { 2 ≤ length operands.old }
-    requires room { length operands.old ≤ 128 }
     requires fit { AllByRecursion (Fits sort) operands.old }
     ensures { (values : List ℤ) → Performs sort values operands.old operands.new (instructions.Operate operator) next result }
 {
@@ -104,7 +105,6 @@ fn operate_two(operands: &mut Operands, sort: Sort, operator: Operator, next: us
 #[tactic(auto, unfolding(edd_image::specs::Steps::act))]
 fn compare_two(operands: &mut Operands, comparison: Comparison, next: usize) -> Outcome
     requires enough { 2 ≤ length operands.old }
-    requires room { length operands.old ≤ 128 }
     ensures { (sort : Sort) (values : List ℤ) → Performs sort values operands.old operands.new (instructions.Compare comparison) next result }
 {
     let b = operands.pop();
@@ -116,7 +116,6 @@ fn compare_two(operands: &mut Operands, comparison: Comparison, next: usize) -> 
 #[tactic(auto, unfolding(edd_image::specs::Steps::act))]
 fn negate_top(operands: &mut Operands, sort: Sort, next: usize) -> Outcome
     requires enough { 1 ≤ length operands.old }
-    requires room { length operands.old ≤ 128 }
     requires fit { AllByRecursion (Fits sort) operands.old }
     ensures { (values : List ℤ) → Performs sort values operands.old operands.new instructions.Negate next result }
 {
@@ -128,7 +127,6 @@ fn negate_top(operands: &mut Operands, sort: Sort, next: usize) -> Outcome
 #[tactic(auto, unfolding(edd_image::specs::Steps::act))]
 fn not_top(operands: &mut Operands, next: usize) -> Outcome
     requires enough { 1 ≤ length operands.old }
-    requires room { length operands.old ≤ 128 }
     ensures { (sort : Sort) (values : List ℤ) → Performs sort values operands.old operands.new instructions.Not next result }
 {
     operands.set_top(logical_not(operands.top()));
@@ -139,7 +137,6 @@ fn not_top(operands: &mut Operands, next: usize) -> Outcome
 #[tactic(auto, unfolding(edd_image::specs::Steps::act))]
 fn complement_top(operands: &mut Operands, next: usize) -> Outcome
     requires enough { 1 ≤ length operands.old }
-    requires room { length operands.old ≤ 128 }
     ensures { (sort : Sort) (values : List ℤ) → Performs sort values operands.old operands.new instructions.Complement next result }
 {
     operands.set_top(complement(operands.top()));
@@ -176,7 +173,6 @@ fn jump_if_not_zero(operands: &mut Operands, target: u32, next: usize) -> Outcom
 #[tactic(auto, unfolding(edd_image::specs::Steps::act))]
 fn case(operands: &mut Operands, label: i64, target: u32, next: usize) -> Outcome
     requires enough { 1 ≤ length operands.old }
-    requires room { length operands.old ≤ 128 }
     ensures { (sort : Sort) (values : List ℤ) → Performs sort values operands.old operands.new (instructions.Case label target) next result }
 {
     if operands.top() == label {

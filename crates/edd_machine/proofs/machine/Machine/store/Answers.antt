@@ -1,9 +1,10 @@
-use Rattle.std.proofs.Common.{arith, rules, refl, ap, ◌∙◌, w64, FitsSigned}
+use Rattle.std.proofs.Common.{arith, rules, refl, sym, ap, ◌∙◌, w64, FitsSigned}
 use Rattle.std.proofs.lemmas.Int.{to_z-of_z}
 use Rattle.edd_syntax.specs.TwosComplement.{store}
 use Rattle.edd_image.specs.Reading.{environment_of}
 use Rattle.edd_image.specs.Contents.{contents_in}
 use Rattle.edd_image.specs.Steps.{width_of}
+use Rattle.edd_machine.specs.declared.machine.Machine.{Machine}
 use Rattle.edd_machine.specs.Running.{state_of}
 use Rattle.edd_machine.proofs.Acting.{store_acts, stored_state, type_there, values_counted}
 use Rattle.edd_machine.proofs.VariableTypes.{kind_sized}
@@ -29,6 +30,6 @@ returns-clause-acts c =
     record {
       effect = _;
       is = store_acts (environment_of (contents_in c.args.image.now)) s c.args.variable c.args.next _ _ _ c.top.ensures (type_there _ _ _ c.requires.valid c.in-Some.ensures.row);
-      state = stored_state s c.args.next c.args.variable.0 (width_of c.args.self.now.unit.sort) _ _ _ _ _ kept read c.set_top.ensures _ refl;
-      emitted = refl;
+      state = stored_state s c.args.next c.args.variable.0 (width_of c.args.self.now.unit.sort) _ _ _ _ _ kept read c.set_top.ensures _ refl ∙ ap (state_of c.args.image.now) (sym c.emit_nothing.ensures);
+      emitted = ap (λ (m : Machine). m.emitted) (sym c.emit_nothing.ensures);
     }
