@@ -6,6 +6,7 @@ pub mod Following
 pub mod ImageUnits
 pub mod RisingRows
 pub mod Stepping
+pub mod Tops
 pub mod UnitFacts
 pub mod VariableTypes
 pub mod Widths

@@ -52,7 +52,7 @@ short_neg a n r fa fr ga gn en er =
 
 -- ---- shifts to the left
 
-power_read : (w : Width) (n : ℕ) → n < 2 ^ bits w → to_z w n ≡ int_wrap w (pos n)
+pub power_read : (w : Width) (n : ℕ) → n < 2 ^ bits w → to_z w n ≡ int_wrap w (pos n)
 unfolding int_wrap
 power_read w n lt = ap (to_z w) (sym (mod-eq_of_lt lt))
 

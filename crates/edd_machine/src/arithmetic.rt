@@ -256,3 +256,14 @@ pub fn wrapped(sort: Sort, number: i64) -> i64
         Sort::Method => short(number),
     }
 }
+
+/// A number of 32 bits, wrapped to the width.
+#[inline(always)]
+pub fn wrapped_constant(sort: Sort, number: u32) -> i64
+    ensures { result ≡ wrap (width_of sort) (pos number) }
+{
+    match sort {
+        Sort::Attribute => i64::from(number),
+        Sort::Method => i64::from(number.cast_signed()),
+    }
+}

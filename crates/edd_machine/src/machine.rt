@@ -73,6 +73,17 @@ impl Machine {
         }
     }
 
+    // Emits nothing. It writes only where the last step has emitted something, since this is done at each step.
+    #[inline(always)]
+    fn emit_nothing(&mut self)
+        ensures { self.new ≡ record self.old { emitted = emitted.Nothing } }
+    {
+        match self.emitted {
+            Emitted::Nothing => {}
+            _ => self.emitted = Emitted::Nothing,
+        }
+    }
+
     // Takes on the outcome of an instruction that has left these operands.
     #[inline(always)]
     fn take_on(&mut self, outcome: Outcome)
@@ -80,15 +91,23 @@ impl Machine {
         ensures value { (b : List ℕ) → comes_to outcome self.old.operands (state_of b self.old)
             ≡ record { state = state_of b self.new; emitted = self.new.emitted; changes = [] } }
     {
-        self.emitted = Emitted::Nothing;
         match outcome {
-            Outcome::GoesOn(place) => self.place = place,
+            Outcome::GoesOn(place) => {
+                self.place = place;
+                self.emit_nothing();
+            }
             Outcome::Gives(place, record) => {
                 self.place = place;
                 self.emitted = Emitted::Record(record);
             }
-            Outcome::Ends => self.status = Status::Ended,
-            Outcome::Traps(why) => self.status = Status::Trapped(why),
+            Outcome::Ends => {
+                self.status = Status::Ended;
+                self.emit_nothing();
+            }
+            Outcome::Traps(why) => {
+                self.status = Status::Trapped(why);
+                self.emit_nothing();
+            }
         }
     }
 
@@ -103,7 +122,7 @@ impl Machine {
     {
         self.operands.push(self.slots.as_slice()[slot as usize]);
         self.place = next;
-        self.emitted = Emitted::Nothing;
+        self.emit_nothing();
     }
 
     // Sets a slot to the topmost operand, which stays.
@@ -111,23 +130,19 @@ impl Machine {
     #[tactic(auto, unfolding(edd_image::specs::Steps::act))]
     fn set_slot(&mut self, slot: u16, next: usize)
         requires enough { 1 ≤ length self.old.operands }
-        requires room { length self.old.operands ≤ 128 }
         requires exists { slot < length self.old.slots.items }
         ensures unit { self.new.unit ≡ self.old.unit }
         ensures acts { (b : List ℕ) → ActsTo b (instructions.SetLocal slot) next self.old self.new }
     {
-        let operand = self.operands.pop();
-        self.slots[slot as usize] = operand;
-        self.operands.push(operand);
+        self.slots[slot as usize] = self.operands.top();
         self.place = next;
-        self.emitted = Emitted::Nothing;
+        self.emit_nothing();
     }
 
     // Stores the topmost operand in a variable, and leaves what is read back.
     #[tactic(auto, unfolding(edd_image::specs::Steps::act))]
     fn store(&mut self, image: &Image, variable: VarNo, next: usize)
         requires enough { 1 ≤ length self.old.operands }
-        requires room { length self.old.operands ≤ 128 }
         requires valid { IsValid image.now }
         requires exists { variable.0 < (counts_in image.now).variables }
         requires values { AreDeviceValues (types_in image.now) self.old.values.numbers.items }
@@ -137,11 +152,11 @@ impl Machine {
         let Some(kind) = image.variable(variable) else {
             unreachable!()
         };
-        let kept = stored(kind, self.operands.pop());
+        let kept = stored(kind, self.operands.top());
         self.values.numbers[variable.0 as usize] = kept;
-        self.operands.push(wrapped(self.unit.sort, kept));
+        self.operands.set_top(wrapped(self.unit.sort, kept));
         self.place = next;
-        self.emitted = Emitted::Nothing;
+        self.emit_nothing();
     }
 
     // Waits for the answer to a request.
@@ -204,7 +219,7 @@ impl Machine {
         ensures acts { (b : List ℕ) (next : ℕ) → ActsTo b instructions.Abort next self.old self.new }
     {
         self.status = Status::Aborted;
-        self.emitted = Emitted::Nothing;
+        self.emit_nothing();
     }
 
     // The effect of an instruction that the rules on its unit let stand here.

@@ -11,7 +11,9 @@ ghost use Rattle.edd_image.specs.Steps.{Fits};
 ghost use Rattle.edd_image.specs.Units.{takes, leaves, is_allowed};
 ghost use Rattle.edd_machine.specs.Outcomes.{Performs};
 
-use crate::arithmetic::{compare, complement, logical_not, negate, operate, wrapped};
+use crate::arithmetic::{
+    compare, complement, logical_not, negate, operate, wrapped, wrapped_constant,
+};
 use crate::operands::Operands;
 use edd_image::{Instruction, Record, Sort};
 use edd_syntax::answer::Trap;
@@ -37,7 +39,7 @@ fn push(operands: &mut Operands, sort: Sort, number: u32, next: usize) -> Outcom
     requires { length operands.old < 128 }
     ensures { (values : List ℤ) → Performs sort values operands.old operands.new (instructions.Push number) next result }
 {
-    operands.push(wrapped(sort, i64::from(number)));
+    operands.push(wrapped_constant(sort, number));
     Outcome::GoesOn(next)
 }
 
@@ -75,9 +77,7 @@ fn duplicate(operands: &mut Operands, next: usize) -> Outcome
     requires room { length operands.old < 128 }
     ensures { (sort : Sort) (values : List ℤ) → Performs sort values operands.old operands.new instructions.Duplicate next result }
 {
-    let top = operands.pop();
-    operands.push(top);
-    operands.push(top);
+    operands.push(operands.top());
     Outcome::GoesOn(next)
 }
 
@@ -85,18 +85,19 @@ fn duplicate(operands: &mut Operands, next: usize) -> Outcome
 #[tactic(auto, unfolding(edd_image::specs::Steps::act))]
 fn operate_two(operands: &mut Operands, sort: Sort, operator: Operator, next: usize) -> Outcome
     requires enough { 2 ≤ length operands.old }
-    requires room { length operands.old ≤ 128 }
     requires fit { AllByRecursion (Fits sort) operands.old }
     ensures { (values : List ℤ) → Performs sort values operands.old operands.new (instructions.Operate operator) next result }
 {
     let b = operands.pop();
-    let a = operands.pop();
-    match operate(sort, operator, a, b) {
+    match operate(sort, operator, operands.top(), b) {
         Ok(value) => {
-            operands.push(value);
+            operands.set_top(value);
             Outcome::GoesOn(next)
         }
-        Err(why) => Outcome::Traps(why),
+        Err(why) => {
+            let _operand = operands.pop();
+            Outcome::Traps(why)
+        }
     }
 }
 
@@ -104,12 +105,10 @@ fn operate_two(operands: &mut Operands, sort: Sort, operator: Operator, next: us
 #[tactic(auto, unfolding(edd_image::specs::Steps::act))]
 fn compare_two(operands: &mut Operands, comparison: Comparison, next: usize) -> Outcome
     requires enough { 2 ≤ length operands.old }
-    requires room { length operands.old ≤ 128 }
     ensures { (sort : Sort) (values : List ℤ) → Performs sort values operands.old operands.new (instructions.Compare comparison) next result }
 {
     let b = operands.pop();
-    let a = operands.pop();
-    operands.push(compare(comparison, a, b));
+    operands.set_top(compare(comparison, operands.top(), b));
     Outcome::GoesOn(next)
 }
 
@@ -117,12 +116,10 @@ fn compare_two(operands: &mut Operands, comparison: Comparison, next: usize) -> 
 #[tactic(auto, unfolding(edd_image::specs::Steps::act))]
 fn negate_top(operands: &mut Operands, sort: Sort, next: usize) -> Outcome
     requires enough { 1 ≤ length operands.old }
-    requires room { length operands.old ≤ 128 }
     requires fit { AllByRecursion (Fits sort) operands.old }
     ensures { (values : List ℤ) → Performs sort values operands.old operands.new instructions.Negate next result }
 {
-    let a = operands.pop();
-    operands.push(negate(sort, a));
+    operands.set_top(negate(sort, operands.top()));
     Outcome::GoesOn(next)
 }
 
@@ -130,11 +127,9 @@ fn negate_top(operands: &mut Operands, sort: Sort, next: usize) -> Outcome
 #[tactic(auto, unfolding(edd_image::specs::Steps::act))]
 fn not_top(operands: &mut Operands, next: usize) -> Outcome
     requires enough { 1 ≤ length operands.old }
-    requires room { length operands.old ≤ 128 }
     ensures { (sort : Sort) (values : List ℤ) → Performs sort values operands.old operands.new instructions.Not next result }
 {
-    let a = operands.pop();
-    operands.push(logical_not(a));
+    operands.set_top(logical_not(operands.top()));
     Outcome::GoesOn(next)
 }
 
@@ -142,11 +137,9 @@ fn not_top(operands: &mut Operands, next: usize) -> Outcome
 #[tactic(auto, unfolding(edd_image::specs::Steps::act))]
 fn complement_top(operands: &mut Operands, next: usize) -> Outcome
     requires enough { 1 ≤ length operands.old }
-    requires room { length operands.old ≤ 128 }
     ensures { (sort : Sort) (values : List ℤ) → Performs sort values operands.old operands.new instructions.Complement next result }
 {
-    let a = operands.pop();
-    operands.push(complement(a));
+    operands.set_top(complement(operands.top()));
     Outcome::GoesOn(next)
 }
 
@@ -180,14 +173,12 @@ fn jump_if_not_zero(operands: &mut Operands, target: u32, next: usize) -> Outcom
 #[tactic(auto, unfolding(edd_image::specs::Steps::act))]
 fn case(operands: &mut Operands, label: i64, target: u32, next: usize) -> Outcome
     requires enough { 1 ≤ length operands.old }
-    requires room { length operands.old ≤ 128 }
     ensures { (sort : Sort) (values : List ℤ) → Performs sort values operands.old operands.new (instructions.Case label target) next result }
 {
-    let operand = operands.pop();
-    if operand == label {
+    if operands.top() == label {
+        let _operand = operands.pop();
         Outcome::GoesOn(target as usize)
     } else {
-        operands.push(operand);
         Outcome::GoesOn(next)
     }
 }
