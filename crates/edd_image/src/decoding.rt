@@ -248,27 +248,22 @@ fn member_from(bytes: &[u8]) -> Option<(Instruction, &[u8])>
     ))
 }
 
+#[inline(always)]
 #[tactic(auto, unfolding(crate::specs::Decoding::record_from))]
-fn record_from(code: u8, bytes: &[u8]) -> Option<(Instruction, &[u8])>
-    ensures { option_map (λ x. (x.0, x.1.now)) result ≡ record_from code bytes.now }
+fn text_from(bytes: &[u8]) -> Option<(Instruction, &[u8])>
+    ensures { option_map (λ x. (x.0, x.1.now)) result ≡ record_from 0x40 bytes.now }
 {
-    match code {
-        0x40 => {
-            let (text, rest) = u16_from(bytes)?;
-            Some((Instruction::Text(StrNo(text)), rest))
-        }
-        0x41 => Some((Instruction::Number, bytes)),
-        0x42 => entry_from(bytes),
-        0x43 => {
-            let (constant, rest) = byte_from(bytes)?;
-            Some((Instruction::DataConst(constant), rest))
-        }
-        0x44 => data_from(bytes),
-        0x45 => enumerator_from(bytes),
-        0x46 => response_from(bytes),
-        0x47 => member_from(bytes),
-        _ => None,
-    }
+    let (text, rest) = u16_from(bytes)?;
+    Some((Instruction::Text(StrNo(text)), rest))
+}
+
+#[inline(always)]
+#[tactic(auto, unfolding(crate::specs::Decoding::record_from))]
+fn data_const_from(bytes: &[u8]) -> Option<(Instruction, &[u8])>
+    ensures { option_map (λ x. (x.0, x.1.now)) result ≡ record_from 0x43 bytes.now }
+{
+    let (constant, rest) = byte_from(bytes)?;
+    Some((Instruction::DataConst(constant), rest))
 }
 
 #[tactic(auto, unfolding(crate::specs::Decoding::ask_of))]
@@ -301,30 +296,32 @@ fn ask_from(bytes: &[u8]) -> Option<(Instruction, &[u8])>
     Some((Instruction::Ask(request), rest))
 }
 
-// What is not arithmetic: records, requests and ABORT.
+// The long instructions. They stand apart, since otherwise no instruction would be decoded inline.
 #[inline(never)]
-fn other_from(code: u8, bytes: &[u8]) -> Option<(Instruction, &[u8])>
+fn long_from(code: u8, bytes: &[u8]) -> Option<(Instruction, &[u8])>
     ensures { option_map (λ x. (x.0, x.1.now)) result ≡
         (if nat_lt code 0x40 then None else
-        if nat_lt code 0x50 then record_from code bytes.now else
-        if code == 0x50 then ask_from bytes.now else
-        if code == 0x51 then Some (instructions.Abort, bytes.now) else None) }
+        if nat_lt code 0x50 then
+            (if code == 0x42 then entry_from bytes.now else
+            if code == 0x44 then data_from bytes.now else
+            if code == 0x45 then enumerator_from bytes.now else
+            if code == 0x46 then response_from bytes.now else
+            if code == 0x47 then member_from bytes.now else None) else
+        if code == 0x50 then ask_from bytes.now else None) }
 {
-    if code < 0x40 {
-        None
-    } else if code < 0x50 {
-        record_from(code, bytes)
-    } else if code == 0x50 {
-        ask_from(bytes)
-    } else if code == 0x51 {
-        Some((Instruction::Abort, bytes))
-    } else {
-        None
+    match code {
+        0x42 => entry_from(bytes),
+        0x44 => data_from(bytes),
+        0x45 => enumerator_from(bytes),
+        0x46 => response_from(bytes),
+        0x47 => member_from(bytes),
+        0x50 => ask_from(bytes),
+        _ => None,
     }
 }
 
 #[inline(always)]
-#[tactic(auto, unfolding(crate::specs::Decoding::instruction_from, crate::specs::Decoding::basic_from, crate::specs::Decoding::operator_of, crate::specs::Decoding::comparison_of, crate::specs::Decoding::unary_of, crate::specs::Decoding::jump_from))]
+#[tactic(auto, unfolding(crate::specs::Decoding::instruction_from, crate::specs::Decoding::basic_from, crate::specs::Decoding::operator_of, crate::specs::Decoding::comparison_of, crate::specs::Decoding::unary_of, crate::specs::Decoding::jump_from, crate::specs::Decoding::record_from))]
 fn instruction_from(bytes: &[u8]) -> Option<(Instruction, &[u8])>
     ensures { option_map (λ x. (x.0, x.1.now)) result ≡ instruction_from bytes.now }
 {
@@ -363,9 +360,13 @@ fn instruction_from(bytes: &[u8]) -> Option<(Instruction, &[u8])>
         0x31 => jump_if_zero_from(rest),
         0x32 => jump_if_not_zero_from(rest),
         0x33 => case_from(rest),
+        0x40 => text_from(rest),
+        0x41 => Some((Instruction::Number, rest)),
+        0x43 => data_const_from(rest),
+        0x51 => Some((Instruction::Abort, rest)),
         code => {
             // Taken apart, so that the instructions above need no place in memory.
-            let (instruction, rest) = other_from(code, rest)?;
+            let (instruction, rest) = long_from(code, rest)?;
             Some((instruction, rest))
         }
     }

@@ -138,10 +138,10 @@ pub fn turn_of(
             let fits = may_lead(context.sort, size, place, target as usize);
             jump_to(fits, go_on(true, depth, 1, 1), target as usize)
         }
+        Instruction::Text(s) => go_on(!is_method && counts.has_string(s), depth, 0, 0),
         Instruction::Number => go_on(!is_method, depth, 1, 0),
-        Instruction::Text(_)
-        | Instruction::Item { .. }
-        | Instruction::DataConst(_)
+        Instruction::DataConst(_) => go_on(!is_method, depth, 0, 0),
+        Instruction::Item { .. }
         | Instruction::DataVar { .. }
         | Instruction::Enumerator { .. }
         | Instruction::Response { .. }
