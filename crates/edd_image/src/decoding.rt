@@ -62,6 +62,7 @@ fn i64_from(bytes: &[u8]) -> Option<(i64, &[u8])>
     Some((number, rest))
 }
 
+#[inline(always)]
 fn optional_string(number: u16) -> Option<StrNo>
     ensures { result ≡ optional_string number }
 {
@@ -72,6 +73,7 @@ fn optional_string(number: u16) -> Option<StrNo>
     }
 }
 
+#[inline(always)]
 #[tactic(auto, unfolding(crate::specs::Decoding::item_from))]
 fn item_from(bytes: &[u8]) -> Option<(ItemNo, &[u8])>
     ensures { option_map (λ x. (x.0, x.1.now)) result ≡ item_from bytes.now }
@@ -164,6 +166,7 @@ fn case_from(bytes: &[u8]) -> Option<(Instruction, &[u8])>
     Some((Instruction::Case { label, target }, rest))
 }
 
+#[inline(always)]
 #[tactic(auto, unfolding(crate::specs::Decoding::entry_from))]
 fn entry_from(bytes: &[u8]) -> Option<(Instruction, &[u8])>
     ensures { option_map (λ x. (x.0, x.1.now)) result ≡ entry_from bytes.now }
@@ -177,6 +180,7 @@ fn entry_from(bytes: &[u8]) -> Option<(Instruction, &[u8])>
     }
 }
 
+#[inline(always)]
 #[tactic(auto, unfolding(crate::specs::Decoding::data_from))]
 fn data_from(bytes: &[u8]) -> Option<(Instruction, &[u8])>
     ensures { option_map (λ x. (x.0, x.1.now)) result ≡ data_from bytes.now }
@@ -192,6 +196,7 @@ fn data_from(bytes: &[u8]) -> Option<(Instruction, &[u8])>
     }
 }
 
+#[inline(always)]
 #[tactic(auto, unfolding(crate::specs::Decoding::enumerator_from))]
 fn enumerator_from(bytes: &[u8]) -> Option<(Instruction, &[u8])>
     ensures { option_map (λ x. (x.0, x.1.now)) result ≡ enumerator_from bytes.now }
@@ -204,6 +209,7 @@ fn enumerator_from(bytes: &[u8]) -> Option<(Instruction, &[u8])>
     Some((Instruction::Enumerator { value, text, help }, rest))
 }
 
+#[inline(always)]
 #[tactic(auto, unfolding(crate::specs::Decoding::response_from))]
 fn response_from(bytes: &[u8]) -> Option<(Instruction, &[u8])>
     ensures { option_map (λ x. (x.0, x.1.now)) result ≡ response_from bytes.now }
@@ -226,6 +232,7 @@ fn response_from(bytes: &[u8]) -> Option<(Instruction, &[u8])>
     }
 }
 
+#[inline(always)]
 #[tactic(auto, unfolding(crate::specs::Decoding::member_from))]
 fn member_from(bytes: &[u8]) -> Option<(Instruction, &[u8])>
     ensures { option_map (λ x. (x.0, x.1.now)) result ≡ member_from bytes.now }
@@ -266,6 +273,7 @@ fn data_const_from(bytes: &[u8]) -> Option<(Instruction, &[u8])>
     Some((Instruction::DataConst(constant), rest))
 }
 
+#[inline(always)]
 #[tactic(auto, unfolding(crate::specs::Decoding::ask_of))]
 fn ask_of(number: u8, s: u16, t: u16) -> Option<Ask>
     ensures { result ≡ ask_of number s t }
@@ -285,6 +293,7 @@ fn ask_of(number: u8, s: u16, t: u16) -> Option<Ask>
     }
 }
 
+#[inline(always)]
 #[tactic(auto, unfolding(crate::specs::Decoding::ask_from))]
 fn ask_from(bytes: &[u8]) -> Option<(Instruction, &[u8])>
     ensures { option_map (λ x. (x.0, x.1.now)) result ≡ ask_from bytes.now }

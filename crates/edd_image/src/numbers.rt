@@ -8,6 +8,7 @@ use edd_syntax::numbers::{Attr, CmdNo, CollNo, ItemNo, MenuNo, MethNo, VarNo};
 use edd_syntax::types::VarType;
 
 /// The item of a kind and a number, where there is such a kind.
+#[inline(always)]
 pub fn item_of(kind: u8, number: u16) -> Option<ItemNo>
     ensures { result ≡ item_of kind number }
 {

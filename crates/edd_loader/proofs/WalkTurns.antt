@@ -18,6 +18,7 @@ use Rattle.edd_loader.specs.declared.marks.Mark.{Mark}
 use Rattle.edd_loader.specs.declared.marks.Mark.TheVariants.{Unknown, Awaited, Stands}
 use Rattle.edd_loader.specs.Depths.{Table, known, enter_ways, visit_all}
 use Rattle.edd_loader.specs.Marks.{arrival, depth_known, depths, stood_on}
+use Rattle.edd_loader.specs.Turns.{IsPlain}
 use Rattle.edd_loader.specs.Standing.{may_lead, may_stand, goes_on_inside}
 use Rattle.edd_loader.proofs.Arrivals.{carry, brought_by, brought_inside, turn_passes}
 use Rattle.edd_loader.proofs.Listing.{from_place, walk_stops}
@@ -63,6 +64,16 @@ turn_goes marks new brought after left target x m depth taken xs total noted ins
     let goes' : (to : ℕ) → target ≡ Some to → to < length (depths marks) = λ to e. omega (arith, size, within target (length marks) goes to e) in
     let passed = turn_passes (depths marks) (depths new) brought left target x depth xs total (omega (arith, size, inside)) room arrives' (omega (arith, t, enough)) l j goes' entered' so_far in
     ap (λ (o : Option ℕ). carry o x.next (depths new) >>= λ s. visit_all s xs) (b ∙ ap (λ (n : ℕ). brought_by (depth - n) left) (sym t)) ∙ passed
+
+-- the same of an instruction that the walk tells by its code
+pub plain_goes : (sort : Sort) (marks : List Mark) (brought : Option ℕ) (x : Placed) (byte depth after : ℕ) (m : Mark) → (p : IsPlain sort byte depth after) → x.instruction ≡ p.instruction → x.place < length marks → IfSome brought (λ d. d ≤ 128) → m ≡ get_or marks x.place m → m ≡ Unknown → brought ≡ Some depth
+    → (xs : List Placed) (total : Option Table) → (carry brought x.place (depths marks) >>= λ s. visit_all s (x ∷ xs)) ≡ total → (carry (Some after) x.next (depths (set marks x.place (Stands depth))) >>= λ s. visit_all s xs) ≡ total
+unfolding enter_ways
+plain_goes sort marks brought x byte depth after m p is inside room read unknown b xs total so_far =
+    let arrives : arrival brought (depth_known m) ≡ Some depth = ap (λ (o : Option ℕ). arrival o (depth_known m)) b ∙ ap (λ (k : Mark). arrival (Some depth) (depth_known k)) unknown in
+    let straight : jump x.instruction ≡ None = ap jump is ∙ p.straight in
+    let taken : takes x.instruction ≡ takes p.instruction = ap takes is in
+    turn_goes marks (set marks x.place (Stands depth)) brought (Some after) (leaves p.instruction) None x m depth (takes p.instruction) xs total true inside room read arrives taken p.enough (ap leaves is) straight tt refl refl p.goes_on so_far
 
 pub stands_on : (code : List ℕ) (place next : ℕ) (i : Instruction) (marks new : List Mark) (depth q : ℕ) (total : Bool) → instruction_at code place ≡ Some (i, next) → place < length marks → stood_on new ≡ stood_on (set marks place (Stands depth))
     → (get_or (stood_on marks) q false || is_start (from_place code place) q) ≡ total → (get_or (stood_on new) q false || is_start (from_place code next) q) ≡ total

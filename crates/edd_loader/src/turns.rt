@@ -1,9 +1,12 @@
 //! What an instruction does to a walk over its unit.
 
-ghost use Rattle.std.specs.Prelude.{◌≡◌, ◌+◌, ◌-◌, ◌<◌, ◌≤◌, IfSome, option_map, true};
+ghost use Rattle.std.specs.Prelude.{◌≡◌, ◌+◌, ◌-◌, ◌<◌, ◌≤◌, IfSome, Some, None, option_map, true};
+ghost use Rattle.edd_loader.specs.declared.marks.Mark.TheVariants.{Unknown};
+ghost use Rattle.edd_loader.specs.Turns.{IsPlain};
 ghost use Rattle.edd_image.specs.Units.{takes, leaves, jump};
 ghost use Rattle.edd_loader.specs.Standing.{may_stand, may_lead};
 
+use crate::marks::Mark;
 use edd_image::{Context, Instruction, Sort};
 
 /// What an instruction does to the number of operands, and where its ways lead.
@@ -15,6 +18,40 @@ pub struct Turn {
     pub brought: Option<u8>,
     /// The place to which it may jump, with those that are left.
     pub target: Option<usize>,
+}
+
+// How many operands there are behind an instruction of one byte that any unit of this sort may have and that goes on, where it
+// has its operands, and room for what it leaves.
+#[inline(always)]
+fn plain(sort: Sort, code: u8, depth: u8) -> Option<u8>
+    requires { depth ≤ 128 }
+    ensures { IfSome result (IsPlain sort code depth) }
+{
+    match code {
+        0x10..=0x1f if depth >= 2 => Some(depth - 1),
+        0x07 if depth >= 1 && depth < 128 => Some(depth + 1),
+        0x20..=0x22 if depth >= 1 => Some(depth),
+        0x06 if depth >= 1 => Some(depth - 1),
+        0x41 if depth >= 1 && matches!(sort, Sort::Attribute) => Some(depth - 1),
+        _ => None,
+    }
+}
+
+/// How many operands there are behind a plain instruction, where nothing but the instruction before leads to it.
+#[inline(always)]
+pub fn plain_turn(sort: Sort, code: u8, brought: Option<u8>, mark: Mark) -> Option<(u8, u8)>
+    requires { IfSome brought (λ depth. depth ≤ 128) }
+    ensures mark { IfSome result (λ turn. mark ≡ Unknown) }
+    ensures brought { IfSome result (λ turn. brought ≡ Some turn.0) }
+    ensures plain { IfSome result (λ turn. IsPlain sort code turn.0 turn.1) }
+{
+    match (brought, mark) {
+        (Some(depth), Mark::Unknown) => match plain(sort, code, depth) {
+            Some(after) => Some((depth, after)),
+            None => None,
+        },
+        _ => None,
+    }
 }
 
 // An instruction that takes nothing and doesn't go on.
@@ -141,8 +178,10 @@ pub fn turn_of(
         Instruction::Text(s) => go_on(!is_method && counts.has_string(s), depth, 0, 0),
         Instruction::Number => go_on(!is_method, depth, 1, 0),
         Instruction::DataConst(_) => go_on(!is_method, depth, 0, 0),
-        Instruction::Item { .. }
-        | Instruction::DataVar { .. }
+        Instruction::Item { item, .. } => {
+            go_on(!is_method && counts.has_item(item), depth, 0, 0)
+        }
+        Instruction::DataVar { .. }
         | Instruction::Enumerator { .. }
         | Instruction::Response { .. }
         | Instruction::Member { .. } => {

@@ -7,7 +7,7 @@ ghost use Rattle.edd_loader.specs.Depths.{enter_ways};
 ghost use Rattle.edd_loader.specs.Marks.{depths, stood_on};
 
 use crate::marks::{Mark, are_settled, arrival, note};
-use crate::turns::turn_of;
+use crate::turns::{plain_turn, turn_of};
 use edd_image::{Context, decode};
 use std::alloc::{AllocError, Global};
 
@@ -34,6 +34,12 @@ pub fn is_accepted(alloc: Global, context: Context, code: &[u8]) -> Result<bool,
     let mut place = 0;
     let mut brought = None;
     while place < code.len() {
+        if let Some((depth, after)) = plain_turn(context.sort, code[place], brought, marks[place]) {
+            marks[place] = Mark::Stands(depth);
+            brought = Some(after);
+            place += 1;
+            continue;
+        }
         let Some(depth) = arrival(brought, marks[place]) else {
             return Ok(false);
         };
