@@ -186,12 +186,6 @@ turn_passes t u brought left target x depth xs total inside room arrives enough 
     let third : visit_at t x depth ≡ carry (brought_by rest left) x.next u = ways_is ∙ second ∙ ap (λ (o : Option Table). o >>= λ v. carry (brought_by rest left) x.next v) jumps in
     sym (ap (λ (o : Option Table). o >>= λ v. visit_all v xs) (first ∙ third)) ∙ sym (then_then (carry brought x.place t) (λ s. visit s x) (λ v. visit_all v xs)) ∙ so_far
 
-pub one_jump : (t : Table) (rest to : ℕ) (o : Option ℕ) (found : Option Table) → o ≡ Some to → found ≡ enter t to rest → found ≡ enter_ways t rest (option_to_list (option_map (λ k. record { to = k; leaves = 0 }) o))
-unfolding enter_ways
-one_jump t rest to o found e h =
-    let plus : rest ≡ rest + 0 = omega arith in
-    rw e (h ∙ ap (λ (n : ℕ). enter t to n) plus ∙ sym (then_some (enter t to (rest + 0))))
-
 -- ---- the way onward stays inside
 
 -- what the instruction before brings, it brings to a place inside

@@ -18,62 +18,51 @@ use Rattle.edd_loader.specs.declared.marks.Mark.{Mark}
 use Rattle.edd_loader.specs.declared.marks.Mark.TheVariants.{Unknown, Awaited, Stands}
 use Rattle.edd_loader.specs.Depths.{Table, known, enter_ways, visit_all}
 use Rattle.edd_loader.specs.Marks.{arrival, depth_known, depths, stood_on}
-use Rattle.edd_loader.specs.Turns.{IsPlain}
 use Rattle.edd_loader.specs.Standing.{may_lead, may_stand, goes_on_inside}
 use Rattle.edd_loader.proofs.Arrivals.{carry, brought_by, brought_inside, turn_passes}
+use Rattle.edd_loader.proofs.JumpLaws.{jump_is_to}
 use Rattle.edd_loader.proofs.Listing.{from_place, walk_stops}
 use Rattle.edd_loader.proofs.MarkLaws.{known_is, mark_there, stands_depths, stands_stood}
 use Rattle.edd_loader.proofs.Walks.{marks_go}
 
 -- ---- a turn
 
-abbrev to_target : Option ℕ → Option Way
-to_target target = option_map (λ to. record { to = to; leaves = 0 }) target
-
 led_inside : (sort : Sort) (size place to : ℕ) → may_lead sort size place to ≡ true → to < size
 led_inside Attribute size place to e = ltb-true to size (and_parts (nat_lt place to) (nat_lt to size) e).1
 led_inside Method size place to e = ltb-true to size e
 
-pub target_inside : (context : Context) (size place : ℕ) (i : Instruction) (target : Option ℕ) → may_stand context size place i ≡ true → jump i ≡ option_map (λ to. record { to = to; leaves = 0 }) target → IfSome target (λ to. to < size)
-target_inside context size place i None e j = tt
-target_inside context size place i (Some to) e j =
+pub target_inside : (context : Context) (size place : ℕ) (i : Instruction) → may_stand context size place i ≡ true → IfSome (jump i) (λ w. w.to < size)
+target_inside context size place i e =
     let one = and_parts (is_allowed context.version context.sort i) _ e in
     let two = and_parts (names_exist context i) _ one.1 in
-    led_inside context.sort size place to (sym (ap (λ (o : Option Way). option_map_or (λ w. may_lead context.sort size place w.to) o true) j) ∙ two.1)
+    led (jump i) two.1
+  where
+    led : (o : Option Way) → option_map_or (λ w. may_lead context.sort size place w.to) o true ≡ true → IfSome o (λ w. w.to < size)
+    led None e = tt
+    led (Some w) e = led_inside context.sort size place w.to e
 
-within : (target : Option ℕ) (size : ℕ) → IfSome target (λ to. to < size) → (to : ℕ) → target ≡ Some to → to < size
+within : (o : Option Way) (size : ℕ) → IfSome o (λ w. w.to < size) → (to : ℕ) → option_map (λ w. w.to) o ≡ Some to → to < size
 within None size h to e = absurd cc
-within (Some n) size h to e = let same : n ≡ to = cc in omega (arith, h, same)
-
-chosen : (b : Bool) (t : Table) (o : Option Table) → b ≡ true → cond b (Some t) None ≡ o → o ≡ Some t
-chosen b t o e h = sym h ∙ ap (λ (c : Bool). cond c (Some t) None) e
+within (Some w) size h to e = let same : w.to ≡ to = cc in omega (arith, h, same)
 
 -- what an instruction brings is noted at the next turn
-pub turn_goes : (marks new : List Mark) (brought after left target : Option ℕ) (x : Placed) (m : Mark) (depth taken : ℕ) (xs : List Placed) (total : Option Table) (noted : Bool) → x.place < length marks → IfSome brought (λ d. d ≤ 128) → m ≡ get_or marks x.place m
-    → arrival brought (depth_known m) ≡ Some depth → takes x.instruction ≡ taken → taken ≤ depth → leaves x.instruction ≡ left → jump x.instruction ≡ option_map (λ to. record { to = to; leaves = 0 }) target → IfSome target (λ to. to < length marks)
-    → noted ≡ true → cond noted (Some (depths new)) None ≡ enter_ways (depths (set marks x.place (Stands depth))) (depth - taken) (option_to_list (option_map (λ to. record { to = to; leaves = 0 }) target)) → after ≡ option_map (λ n. depth - taken + n) left
+pub turn_goes : (marks new : List Mark) (brought after : Option ℕ) (x : Placed) (m : Mark) (depth : ℕ) (xs : List Placed) (total : Option Table) → x.place < length marks → IfSome brought (λ d. d ≤ 128) → m ≡ get_or marks x.place m
+    → arrival brought (depth_known m) ≡ Some depth → takes x.instruction ≤ depth → IfSome (jump x.instruction) (λ w. w.to < length marks)
+    → Some (depths new) ≡ enter_ways (depths (set marks x.place (Stands depth))) (depth - takes x.instruction) (option_to_list (jump x.instruction)) → after ≡ option_map (λ n. depth - takes x.instruction + n) (leaves x.instruction)
     → (carry brought x.place (depths marks) >>= λ s. visit_all s (x ∷ xs)) ≡ total → (carry after x.next (depths new) >>= λ s. visit_all s xs) ≡ total
-turn_goes marks new brought after left target x m depth taken xs total noted inside room read arrives t enough l j goes accepts note b so_far =
+turn_goes marks new brought after x m depth xs total inside room read arrives enough leads note b so_far =
+    let rest = depth - takes x.instruction in
+    let target = option_map (λ w. w.to) (jump x.instruction) in
+    let to_target = jump_is_to x.instruction in
     let size : length (depths marks) ≡ length marks = length-map marks depth_known in
     let known_there : known (depths marks) x.place ≡ depth_known m = known_is marks x.place ∙ ap depth_known (mark_there marks x.place m inside read) in
     let arrives' : arrival brought (known (depths marks) x.place) ≡ Some depth = ap (λ (o : Option ℕ). arrival brought o) known_there ∙ arrives in
-    let entered : enter_ways (set (depths marks) x.place (Some depth)) (depth - taken) (option_to_list (to_target target)) ≡ Some (depths new) =
-    ap (λ (u : Table). enter_ways u (depth - taken) (option_to_list (to_target target))) (sym (stands_depths marks x.place depth)) ∙ chosen noted (depths new) _ accepts note in
-    let entered' : enter_ways (set (depths marks) x.place (Some depth)) (depth - takes x.instruction) (option_to_list (to_target target)) ≡ Some (depths new) =
-    ap (λ (n : ℕ). enter_ways (set (depths marks) x.place (Some depth)) (depth - n) (option_to_list (to_target target))) t ∙ entered in
-    let goes' : (to : ℕ) → target ≡ Some to → to < length (depths marks) = λ to e. omega (arith, size, within target (length marks) goes to e) in
-    let passed = turn_passes (depths marks) (depths new) brought left target x depth xs total (omega (arith, size, inside)) room arrives' (omega (arith, t, enough)) l j goes' entered' so_far in
-    ap (λ (o : Option ℕ). carry o x.next (depths new) >>= λ s. visit_all s xs) (b ∙ ap (λ (n : ℕ). brought_by (depth - n) left) (sym t)) ∙ passed
-
--- the same of an instruction that the walk tells by its code
-pub plain_goes : (sort : Sort) (marks : List Mark) (brought : Option ℕ) (x : Placed) (byte depth after : ℕ) (m : Mark) → (p : IsPlain sort byte depth after) → x.instruction ≡ p.instruction → x.place < length marks → IfSome brought (λ d. d ≤ 128) → m ≡ get_or marks x.place m → m ≡ Unknown → brought ≡ Some depth
-    → (xs : List Placed) (total : Option Table) → (carry brought x.place (depths marks) >>= λ s. visit_all s (x ∷ xs)) ≡ total → (carry (Some after) x.next (depths (set marks x.place (Stands depth))) >>= λ s. visit_all s xs) ≡ total
-unfolding enter_ways
-plain_goes sort marks brought x byte depth after m p is inside room read unknown b xs total so_far =
-    let arrives : arrival brought (depth_known m) ≡ Some depth = ap (λ (o : Option ℕ). arrival o (depth_known m)) b ∙ ap (λ (k : Mark). arrival (Some depth) (depth_known k)) unknown in
-    let straight : jump x.instruction ≡ None = ap jump is ∙ p.straight in
-    let taken : takes x.instruction ≡ takes p.instruction = ap takes is in
-    turn_goes marks (set marks x.place (Stands depth)) brought (Some after) (leaves p.instruction) None x m depth (takes p.instruction) xs total true inside room read arrives taken p.enough (ap leaves is) straight tt refl refl p.goes_on so_far
+    let entered : enter_ways (set (depths marks) x.place (Some depth)) rest (option_to_list (option_map (λ to. record { to = to; leaves = 0 }) target)) ≡ Some (depths new) =
+    ap (λ (o : Option Way). enter_ways (set (depths marks) x.place (Some depth)) rest (option_to_list o)) (sym to_target)
+    ∙ ap (λ (u : Table). enter_ways u rest (option_to_list (jump x.instruction))) (sym (stands_depths marks x.place depth)) ∙ sym note in
+    let leads' : (to : ℕ) → target ≡ Some to → to < length (depths marks) = λ to e. omega (arith, size, within (jump x.instruction) (length marks) leads to e) in
+    ap (λ (o : Option ℕ). carry o x.next (depths new) >>= λ s. visit_all s xs) b
+    ∙ turn_passes (depths marks) (depths new) brought (leaves x.instruction) target x depth xs total (omega (arith, size, inside)) room arrives' enough refl to_target leads' entered so_far
 
 pub stands_on : (code : List ℕ) (place next : ℕ) (i : Instruction) (marks new : List Mark) (depth q : ℕ) (total : Bool) → instruction_at code place ≡ Some (i, next) → place < length marks → stood_on new ≡ stood_on (set marks place (Stands depth))
     → (get_or (stood_on marks) q false || is_start (from_place code place) q) ≡ total → (get_or (stood_on new) q false || is_start (from_place code next) q) ≡ total

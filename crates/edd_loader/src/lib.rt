@@ -15,9 +15,9 @@ mod rows;
 mod sections;
 mod spans;
 mod texts;
-mod turns;
 mod unit;
 mod units;
+mod walk;
 mod whole_unit;
 mod words;
 

@@ -13,13 +13,13 @@ use Rattle.edd_loader.proofs.whole_unit.is_accepted.Given as goal
 abbrev pub invariant-loop-place : goal.invariant-loop-place
 invariant-loop-place l = record {
   inside : l.place ≤ length l.code;
-  room : IfSome l.brought (λ depth. depth ≤ 128);
-  sized : vec_len l.marks ≡ length l.code;
+  room : IfSome l.walk.brought (λ depth. depth ≤ 128);
+  sized : vec_len l.walk.marks ≡ length l.code;
   same_end : end_of l.place (from_place l.code l.place) ≡ end_of 0 (from_place l.code 0);
   same_test : list_all (λ x. may_stand l.context (length l.code) x.place x.instruction) (from_place l.code l.place) ≡ list_all (λ x. may_stand l.context (length l.code) x.place x.instruction) (from_place l.code 0);
-  same_ahead : (brought_inside (length l.code) l.place l.brought && list_all (goes_on_inside (length l.code)) (from_place l.code l.place)) ≡ list_all (goes_on_inside (length l.code)) (from_place l.code 0);
-  same_pass : (carry l.brought l.place (depths l.marks.items) >>= λ t. visit_all t (from_place l.code l.place)) ≡ visit_all (replicate (length l.code) None) (from_place l.code 0);
-  marked : (q : ℕ) → (get_or (stood_on l.marks.items) q false || is_start (from_place l.code l.place) q) ≡ is_start (from_place l.code 0) q;
+  same_ahead : (brought_inside (length l.code) l.place l.walk.brought && list_all (goes_on_inside (length l.code)) (from_place l.code l.place)) ≡ list_all (goes_on_inside (length l.code)) (from_place l.code 0);
+  same_pass : (carry l.walk.brought l.place (depths l.walk.marks.items) >>= λ t. visit_all t (from_place l.code l.place)) ≡ visit_all (replicate (length l.code) None) (from_place l.code 0);
+  marked : (q : ℕ) → (get_or (stood_on l.walk.marks.items) q false || is_start (from_place l.code l.place) q) ≡ is_start (from_place l.code 0) q;
 }
 
 abbrev pub decreases-loop-place : goal.decreases-loop-place

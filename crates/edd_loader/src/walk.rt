@@ -1,0 +1,174 @@
+//! A walk over the instructions of a unit.
+
+ghost use Rattle.std.specs.Prelude.{◌≡◌, ◌+◌, ◌-◌, ◌<◌, ◌≤◌, IfSome, IsTrue, Some, None, option_map, slice_set, true, vec_len};
+ghost use Rattle.std.specs.Option.{option_to_list};
+ghost use Rattle.edd_image.specs.Units.{takes, leaves, jump};
+ghost use Rattle.edd_loader.specs.declared.marks.Mark.TheVariants.{Stands};
+ghost use Rattle.edd_loader.specs.Depths.{enter, enter_ways};
+ghost use Rattle.edd_loader.specs.Marks.{depths, stood_on};
+ghost use Rattle.edd_loader.specs.Standing.{may_stand, may_lead};
+
+use crate::marks::{Mark, note};
+use edd_image::{Context, Instruction, Sort};
+
+/// What a walk has found out of a unit.
+#[derive(Drop)]
+pub struct Walk {
+    /// What is known of each place.
+    pub marks: Vec<Mark>,
+    /// How many operands the last instruction brings to the one after it, where it goes on.
+    pub brought: Option<u8>,
+}
+
+// Whether a jump from a place leads inside the unit, and in an attribute forward.
+#[inline(always)]
+fn may_lead(sort: Sort, size: usize, place: usize, target: usize) -> bool
+    ensures { result ≡ may_lead sort size place target }
+{
+    let is_forward = match sort {
+        Sort::Method => true,
+        Sort::Attribute => place < target,
+    };
+    is_forward && target < size
+}
+
+impl Walk {
+    // Takes on an instruction that takes nothing and doesn't go on.
+    #[inline(always)]
+    fn stop(&mut self, place: usize, depth: u8, fits: bool) -> bool
+        requires { place < vec_len self.old.marks }
+        ensures fits { IsTrue result → fits ≡ true }
+        ensures marks { IsTrue result → self.new.marks.items ≡ slice_set self.old.marks.items place (Stands depth) }
+        ensures brought { IsTrue result → self.new.brought ≡ None }
+        ensures len { vec_len self.new.marks ≡ vec_len self.old.marks }
+    {
+        if !fits {
+            return false;
+        }
+        self.marks[place] = Mark::Stands(depth);
+        self.brought = None;
+        true
+    }
+
+    // Takes on an instruction that goes on, where it has its operands, and room for what it leaves.
+    #[inline(always)]
+    fn go_on(&mut self, place: usize, depth: u8, fits: bool, takes: u8, leaves: u8) -> bool
+        requires place { place < vec_len self.old.marks }
+        requires depth { depth ≤ 128 }
+        requires leaves { leaves ≤ 2 }
+        ensures fits { IsTrue result → fits ≡ true }
+        ensures enough { IsTrue result → takes ≤ depth }
+        ensures room { IsTrue result → depth - takes + leaves ≤ 128 }
+        ensures marks { IsTrue result → self.new.marks.items ≡ slice_set self.old.marks.items place (Stands depth) }
+        ensures brought { IsTrue result → self.new.brought ≡ Some (depth - takes + leaves) }
+        ensures len { vec_len self.new.marks ≡ vec_len self.old.marks }
+    {
+        if !fits || depth < takes {
+            return false;
+        }
+        let brought = depth - takes + leaves;
+        if leaves > takes && brought > 128 {
+            return false;
+        }
+        self.marks[place] = Mark::Stands(depth);
+        self.brought = Some(brought);
+        true
+    }
+
+    // Takes on a jump to a target, with so many operands.
+    #[inline(always)]
+    fn jump(&mut self, sort: Sort, size: usize, place: usize, rest: u8, target: u32) -> bool
+        requires { vec_len self.old.marks ≡ size }
+        ensures leads { IsTrue result → may_lead sort size place target ≡ true }
+        ensures depths { IsTrue result → Some (depths self.new.marks.items) ≡ enter (depths self.old.marks.items) target rest }
+        ensures stood { stood_on self.new.marks.items ≡ stood_on self.old.marks.items }
+        ensures brought { self.new.brought ≡ self.old.brought }
+        ensures len { vec_len self.new.marks ≡ vec_len self.old.marks }
+    {
+        let target = target as usize;
+        may_lead(sort, size, place, target) && note(&mut self.marks, target, rest)
+    }
+
+    /// Takes on the instruction at a place where so many operands are, if it may stand there, has its operands, and leads nowhere
+    /// with another number of them.
+    #[inline(always)]
+    #[tactic(auto, unfolding(crate::specs::Depths::enter_ways))]
+    pub fn take_on(
+        &mut self,
+        context: Context,
+        size: usize,
+        place: usize,
+        depth: u8,
+        instruction: Instruction,
+    ) -> bool
+        requires size { vec_len self.old.marks ≡ size }
+        requires place { place < size }
+        requires depth { depth ≤ 128 }
+        ensures stands { IsTrue result → may_stand context size place instruction ≡ true }
+        ensures enough { IsTrue result → takes instruction ≤ depth }
+        ensures brought { IsTrue result → self.new.brought ≡ option_map (λ n. depth - takes instruction + n) (leaves instruction) }
+        ensures room { IsTrue result → IfSome self.new.brought (λ n. n ≤ 128) }
+        ensures depths { IsTrue result → Some (depths self.new.marks.items)
+            ≡ enter_ways (depths (slice_set self.old.marks.items place (Stands depth))) (depth - takes instruction) (option_to_list (jump instruction)) }
+        ensures stood { IsTrue result → stood_on self.new.marks.items ≡ stood_on (slice_set self.old.marks.items place (Stands depth)) }
+        ensures len { vec_len self.new.marks ≡ vec_len self.old.marks }
+    {
+        let sort = context.sort;
+        let is_method = matches!(sort, Sort::Method);
+        let counts = context.counts;
+        match instruction {
+            Instruction::End => self.stop(place, depth, true),
+            Instruction::Push(_) => self.go_on(place, depth, true, 0, 1),
+            Instruction::Variable(v) => self.go_on(place, depth, counts.has_variable(v), 0, 1),
+            Instruction::Store(v) => {
+                self.go_on(place, depth, is_method && counts.has_variable(v), 1, 1)
+            }
+            Instruction::GetLocal(slot) => {
+                self.go_on(place, depth, is_method && slot < context.slots, 0, 1)
+            }
+            Instruction::SetLocal(slot) => {
+                self.go_on(place, depth, is_method && slot < context.slots, 1, 1)
+            }
+            Instruction::Pop => self.go_on(place, depth, true, 1, 0),
+            Instruction::Duplicate => self.go_on(place, depth, true, 1, 2),
+            Instruction::Operate(_) => self.go_on(place, depth, true, 2, 1),
+            Instruction::Compare(_) => self.go_on(place, depth, true, 2, 1),
+            Instruction::Negate => self.go_on(place, depth, true, 1, 1),
+            Instruction::Not => self.go_on(place, depth, true, 1, 1),
+            Instruction::Complement => self.go_on(place, depth, true, 1, 1),
+            Instruction::Jump(to) => {
+                self.stop(place, depth, true) && self.jump(sort, size, place, depth, to)
+            }
+            Instruction::JumpIfZero(to) => {
+                self.go_on(place, depth, true, 1, 0) && self.jump(sort, size, place, depth - 1, to)
+            }
+            Instruction::JumpIfNotZero(to) => {
+                self.go_on(place, depth, true, 1, 0) && self.jump(sort, size, place, depth - 1, to)
+            }
+            Instruction::Case { target, .. } => {
+                self.go_on(place, depth, true, 1, 1)
+                    && self.jump(sort, size, place, depth - 1, target)
+            }
+            Instruction::Text(s) => {
+                self.go_on(place, depth, !is_method && counts.has_string(s), 0, 0)
+            }
+            Instruction::Number => self.go_on(place, depth, !is_method, 1, 0),
+            Instruction::DataConst(_) => self.go_on(place, depth, !is_method, 0, 0),
+            Instruction::Item { item, .. } => {
+                self.go_on(place, depth, !is_method && counts.has_item(item), 0, 0)
+            }
+            Instruction::DataVar { .. }
+            | Instruction::Enumerator { .. }
+            | Instruction::Response { .. }
+            | Instruction::Member { .. } => {
+                let fits = !is_method && context.has_names(instruction);
+                self.go_on(place, depth, fits, 0, 0)
+            }
+            Instruction::Ask(_) => {
+                let fits = is_method && context.has_names(instruction);
+                self.go_on(place, depth, fits, instruction.takes(), 1)
+            }
+            Instruction::Abort => self.stop(place, depth, is_method),
+        }
+    }
+}
