@@ -1,23 +1,18 @@
 -- One turn of a walk over a unit, where what an instruction brings to the next is noted only there.
-use Rattle.std.proofs.Common.{◌≡◌, ◌≢◌, ℕ, suc, ◌+◌, ◌-◌, ◌<◌, ◌≤◌, Bool, true, false, ◌&&◌, cond, List, [], ◌∷◌, ◌++◌, length, set, map, replicate, Option, Some, None, refl, sym, ap, ◌∙◌, arith, inl, inr, get_or-set_same, get_or-set_other, subst}
+use Rattle.std.proofs.Common.{◌≡◌, ◌≢◌, ℕ, ◌+◌, ◌-◌, ◌<◌, ◌≤◌, Bool, true, false, ◌&&◌, cond, List, ◌∷◌, length, set, Option, Some, None, refl, sym, ap, ◌∙◌, arith, inl, inr, get_or-set_same, get_or-set_other, subst}
 use Rattle.std.specs.Prelude.{IfSome, ◌==◌, nat_lt, unwrap_or, option_map}
 use Rattle.std.specs.List.{list_all}
 use Rattle.std.specs.Option.{option_to_list, option_map_or}
-use Rattle.std.proofs.lemmas.Bool.{cases_Bool, cases_eq, eqb-true, eqb-false, ltb-false, le-ltb, lt-ltb, eq-eqb}
+use Rattle.std.proofs.lemmas.Bool.{cases_Bool, cases_eq, eqb-true, le-ltb, lt-ltb}
 use Rattle.std.proofs.lemmas.List.{set-set, set_comm, length-set}
-use Rattle.edd_image.specs.declared.instruction.Instruction.{Instruction}
 use Rattle.edd_image.specs.declared.unit.Way.{Way}
 use Rattle.edd_image.specs.Decoding.{◌>>=◌}
-use Rattle.edd_image.specs.Units.{Placed, takes, leaves, onward, jump, ways}
+use Rattle.edd_image.specs.Units.{Placed, takes, leaves, jump}
 use Rattle.edd_loader.specs.Depths.{Table, known, settle, enter, enter_ways, visit_at, visit, visit_all}
 use Rattle.edd_loader.specs.Marks.{arrival}
 use Rattle.edd_loader.specs.Standing.{goes_on_inside}
+use Rattle.edd_loader.specs.Walks.{carry, brought_inside}
 use Rattle.edd_loader.proofs.DepthLaws.{visit_is}
-
--- what the instruction before brings, if it goes on, noted at the place
-abbrev pub carry : Option ℕ → ℕ → Table → Option Table
-carry None place t = Some t
-carry (Some depth) place t = enter t place depth
 
 abbrev pub brought_by : ℕ → Option ℕ → Option ℕ
 brought_by rest left = option_map (λ n. rest + n) left
@@ -187,11 +182,6 @@ turn_passes t u brought left target x depth xs total inside room arrives enough 
     sym (ap (λ (o : Option Table). o >>= λ v. visit_all v xs) (first ∙ third)) ∙ sym (then_then (carry brought x.place t) (λ s. visit s x) (λ v. visit_all v xs)) ∙ so_far
 
 -- ---- the way onward stays inside
-
--- what the instruction before brings, it brings to a place inside
-abbrev pub brought_inside : ℕ → ℕ → Option ℕ → Bool
-brought_inside size place None = true
-brought_inside size place (Some depth) = nat_lt place size
 
 pub inside_turn : (size : ℕ) (brought left : Option ℕ) (rest : ℕ) (x : Placed) (xs : List Placed) (total : Bool) → x.place < size → leaves x.instruction ≡ left
     → (brought_inside size x.place brought && list_all (goes_on_inside size) (x ∷ xs)) ≡ total → (brought_inside size x.next (brought_by rest left) && list_all (goes_on_inside size) xs) ≡ total

@@ -1,13 +1,12 @@
 -- Marks as the numbers of operands that they tell, and as the places where instructions stand.
-use Rattle.std.proofs.Common.{◌≡◌, ℕ, ◌+◌, ◌<◌, ◌≤◌, Bool, true, false, cond, List, [], ◌∷◌, length, get_or, set, map, replicate, zero, suc, Option, Some, None, refl, sym, ap, ◌∙◌, arith}
-use Rattle.std.specs.Prelude.{nat_lt}
+use Rattle.std.proofs.Common.{◌≡◌, ℕ, ◌<◌, ◌≤◌, true, false, List, [], ◌∷◌, length, get_or, set, replicate, zero, suc, Some, None, refl, sym, ap, ◌∙◌, arith}
 use Rattle.std.proofs.lemmas.Bool.{le-ltb}
 use Rattle.std.proofs.lemmas.List.{map-set}
 use Rattle.std.proofs.Math.ListN.{get_or-map}
 use Rattle.std.proofs.Math.Seq.{map-set_same}
 use Rattle.edd_loader.specs.declared.marks.Mark.{Mark}
 use Rattle.edd_loader.specs.declared.marks.Mark.TheVariants.{Unknown, Awaited, Stands}
-use Rattle.edd_loader.specs.Depths.{Table, known, settle, enter}
+use Rattle.edd_loader.specs.Depths.{Table, known, enter}
 use Rattle.edd_loader.specs.Marks.{depth_known, is_stood_on, is_settled, depths, stood_on}
 
 pub known_is : (marks : List Mark) (q : ℕ) → known (depths marks) q ≡ depth_known (get_or marks q Unknown)

@@ -1,10 +1,10 @@
 -- One turn of the walk over a unit, by its marks, and its end.
-use Rattle.std.proofs.Common.{◌≡◌, ℕ, ◌+◌, ◌-◌, ◌<◌, ◌≤◌, Bool, true, false, ◌&&◌, ◌||◌, cond, List, [], ◌∷◌, length, get_or, set, replicate, Option, Some, None, refl, sym, ap, subst, ◌∙◌, arith}
+use Rattle.std.proofs.Common.{◌≡◌, ℕ, ◌+◌, ◌-◌, ◌<◌, ◌≤◌, Bool, true, false, ◌&&◌, ◌||◌, List, ◌∷◌, length, get_or, set, Option, Some, None, refl, sym, ap, ◌∙◌, arith}
 use Rattle.std.specs.Prelude.{IfSome, option_map, nat_lt, is_some}
 use Rattle.std.specs.List.{list_all}
 use Rattle.std.specs.Option.{option_to_list, option_map_or}
 use Rattle.std.proofs.lemmas.Bool.{and_parts, ltb-true}
-use Rattle.std.proofs.lemmas.List.{length-map}
+use Rattle.std.proofs.lemmas.List.{length-map, length-set}
 use Rattle.edd_image.specs.declared.instruction.Instruction.{Instruction}
 use Rattle.edd_image.specs.declared.unit.Context.{Context}
 use Rattle.edd_image.specs.declared.unit.Sort.{Sort}
@@ -15,15 +15,18 @@ use Rattle.edd_image.specs.References.{names_exist}
 use Rattle.edd_image.specs.Units.{Placed, takes, leaves, jump, is_allowed, is_start}
 use Rattle.edd_image.proofs.Lengths.{instruction_inside}
 use Rattle.edd_loader.specs.declared.marks.Mark.{Mark}
-use Rattle.edd_loader.specs.declared.marks.Mark.TheVariants.{Unknown, Awaited, Stands}
+use Rattle.edd_loader.specs.declared.marks.Mark.TheVariants.{Unknown, Stands}
 use Rattle.edd_loader.specs.Depths.{Table, known, enter_ways, visit_all}
 use Rattle.edd_loader.specs.Marks.{arrival, depth_known, depths, stood_on}
+use Rattle.edd_loader.specs.Turns.{IsPlain}
+use Rattle.edd_loader.specs.Walks.{from_place, carry, brought_inside, IsWalk}
 use Rattle.edd_loader.specs.Standing.{may_lead, may_stand, goes_on_inside}
-use Rattle.edd_loader.proofs.Arrivals.{carry, brought_by, brought_inside, turn_passes}
+use Rattle.edd_loader.proofs.Arrivals.{turn_passes, inside_turn}
 use Rattle.edd_loader.proofs.JumpLaws.{jump_is_to}
-use Rattle.edd_loader.proofs.Listing.{from_place, walk_stops}
+use Rattle.edd_loader.proofs.Listing.{walk_goes, walk_stops}
 use Rattle.edd_loader.proofs.MarkLaws.{known_is, mark_there, stands_depths, stands_stood}
-use Rattle.edd_loader.proofs.Walks.{marks_go}
+use Rattle.edd_loader.proofs.TurnLaws.{stands_plainly, stands_alone}
+use Rattle.edd_loader.proofs.Walks.{all_goes, end_goes, marks_go}
 
 -- ---- a turn
 
@@ -70,6 +73,36 @@ stands_on code place next i marks new depth q total here inside same so_far =
     let size : length (stood_on marks) ≡ length marks = length-map marks _ in
     ap (λ (b : List Bool). get_or b q false || is_start (from_place code next) q) (same ∙ stands_stood marks place depth)
     ∙ marks_go code place (i, next) (stood_on marks) q total here (omega (arith, size, inside)) so_far
+
+pub taken_keeps : (context : Context) (code : List ℕ) (marks new : List Mark) (brought after : Option ℕ) (place next depth : ℕ) (i : Instruction) (m : Mark) → IsWalk context code marks brought place → place < length code → instruction_at code place ≡ Some (i, next) → next ≤ length code
+    → m ≡ get_or marks place m → arrival brought (depth_known m) ≡ Some depth → may_stand context (length code) place i ≡ true → takes i ≤ depth
+    → Some (depths new) ≡ enter_ways (depths (set marks place (Stands depth))) (depth - takes i) (option_to_list (jump i)) → stood_on new ≡ stood_on (set marks place (Stands depth))
+    → after ≡ option_map (λ n. depth - takes i + n) (leaves i) → IfSome after (λ d. d ≤ 128) → length new ≡ length marks → IsWalk context code new after next
+taken_keeps context code marks new brought after place next depth i m before lt here inside read arrives stands enough note stood b room size =
+    let x : Placed = record { place = place; instruction = i; next = next } in
+    let walk : from_place code place ≡ x ∷ from_place code next = walk_goes code place (i, next) here in
+    let there : place < length marks = omega (arith, before.sized, lt) in
+    record {
+      inside = inside;
+      sized = size ∙ before.sized;
+      room = room;
+      same_end = end_goes code place (i, next) _ here before.same_end;
+      same_test = all_goes (λ y. may_stand context (length code) y.place y.instruction) code place (i, next) _ here stands before.same_test;
+      same_ahead = ap (λ (o : Option ℕ). brought_inside (length code) next o && list_all (goes_on_inside (length code)) (from_place code next)) b
+      ∙ inside_turn (length code) brought (leaves i) _ x (from_place code next) _ lt refl (rw walk at before.same_ahead);
+      same_pass = turn_goes marks new brought after x m depth (from_place code next) _ there before.room read arrives enough (rw before.sized (target_inside context (length code) place i stands)) note b (rw walk at before.same_pass);
+      marked = λ q. stands_on code place next i marks new depth q _ here there stood (before.marked q);
+    }
+
+-- the same of an instruction that the walk tells by its code
+pub plain_keeps : (context : Context) (code : List ℕ) (marks : List Mark) (place depth after : ℕ) → IsWalk context code marks (Some depth) place → place < length code → get_or marks place Unknown ≡ Unknown → IsPlain context.sort (get_or code place 0) depth after
+    → IsWalk context code (set marks place (Stands depth)) (Some after) (place + 1)
+unfolding enter_ways
+plain_keeps context code marks place depth after before lt unknown p =
+    let nothing : Some (depths (set marks place (Stands depth))) ≡ enter_ways (depths (set marks place (Stands depth))) (depth - takes p.instruction) (option_to_list (jump p.instruction)) =
+    sym (ap (λ (o : Option Way). enter_ways (depths (set marks place (Stands depth))) (depth - takes p.instruction) (option_to_list o)) p.straight) in
+    taken_keeps context code marks (set marks place (Stands depth)) (Some depth) (Some after) place (place + 1) depth p.instruction Unknown before lt (stands_plainly code place depth after context.sort lt p) (omega (arith, lt))
+    (sym unknown) refl (stands_alone context (length code) place (get_or code place 0) depth after p) p.enough nothing refl p.goes_on p.room (length-set marks place (Stands depth))
 
 -- ---- the end
 

@@ -1,12 +1,14 @@
 //! A walk over the instructions of a unit.
 
-ghost use Rattle.std.specs.Prelude.{◌≡◌, ◌+◌, ◌-◌, ◌<◌, ◌≤◌, IfSome, IsTrue, Some, None, option_map, slice_set, true, vec_len};
+ghost use Rattle.std.specs.Prelude.{◌≡◌, ◌+◌, ◌-◌, ◌<◌, ◌≤◌, IfSome, IsTrue, Some, None, option_map, length, slice_index_or, slice_set, true, vec_len};
 ghost use Rattle.std.specs.Option.{option_to_list};
 ghost use Rattle.edd_image.specs.Units.{takes, leaves, jump};
-ghost use Rattle.edd_loader.specs.declared.marks.Mark.TheVariants.{Stands};
+ghost use Rattle.edd_loader.specs.declared.marks.Mark.TheVariants.{Stands, Unknown};
 ghost use Rattle.edd_loader.specs.Depths.{enter, enter_ways};
 ghost use Rattle.edd_loader.specs.Marks.{depths, stood_on};
 ghost use Rattle.edd_loader.specs.Standing.{may_stand, may_lead};
+ghost use Rattle.edd_loader.specs.Turns.{IsPlain};
+ghost use Rattle.edd_loader.specs.Walks.{IsWalk};
 
 use crate::marks::{Mark, note};
 use edd_image::{Context, Instruction, Sort};
@@ -30,6 +32,23 @@ fn may_lead(sort: Sort, size: usize, place: usize, target: usize) -> bool
         Sort::Attribute => place < target,
     };
     is_forward && target < size
+}
+
+// How many operands there are behind an instruction of one byte that any unit of this sort may have and that goes on, where it
+// has its operands, and room for what it leaves.
+#[inline(always)]
+fn plain(sort: Sort, code: u8, depth: u8) -> Option<u8>
+    requires { depth ≤ 128 }
+    ensures { IfSome result (IsPlain sort code depth) }
+{
+    match code {
+        0x10..=0x1f if depth >= 2 => Some(depth - 1),
+        0x07 if depth >= 1 && depth < 128 => Some(depth + 1),
+        0x20..=0x22 if depth >= 1 => Some(depth),
+        0x06 if depth >= 1 => Some(depth - 1),
+        0x41 if depth >= 1 && matches!(sort, Sort::Attribute) => Some(depth - 1),
+        _ => None,
+    }
 }
 
 impl Walk {
@@ -87,6 +106,45 @@ impl Walk {
     {
         let target = target as usize;
         may_lead(sort, size, place, target) && note(&mut self.marks, target, rest)
+    }
+
+    // How many operands there are behind a plain instruction, where one stands at the place, and no jump is known to lead there.
+    #[inline(always)]
+    fn plain_at(&self, sort: Sort, code: &[u8], place: usize, depth: u8) -> Option<u8>
+        requires marks { vec_len self.now.marks ≡ length code.now }
+        requires depth { depth ≤ 128 }
+        ensures inside { IfSome result (λ after. place < length code.now) }
+        ensures unknown { IfSome result (λ after. slice_index_or self.now.marks.items place Unknown ≡ Unknown) }
+        ensures plain { IfSome result (IsPlain sort (slice_index_or code.now place 0) depth) }
+    {
+        if place >= code.len() {
+            return None;
+        }
+        match self.marks[place] {
+            Mark::Unknown => plain(sort, code[place], depth),
+            _ => None,
+        }
+    }
+
+    /// Goes on over plain instructions, and gives the place behind them. A walk over nothing but such instructions is cheap.
+    #[inline(always)]
+    pub fn pass_plain(&mut self, context: Context, code: &[u8], place: usize) -> usize
+        requires { IsWalk context code.now self.old.marks.items self.old.brought place }
+        ensures walk { IsWalk context code.now self.new.marks.items self.new.brought result }
+        ensures onward { place ≤ result }
+    {
+        let Some(brought) = self.brought else {
+            return place;
+        };
+        let mut depth = brought;
+        let mut place = place;
+        while let Some(after) = self.plain_at(context.sort, code, place, depth) {
+            self.marks[place] = Mark::Stands(depth);
+            depth = after;
+            place += 1;
+        }
+        self.brought = Some(depth);
+        place
     }
 
     /// Takes on the instruction at a place where so many operands are, if it may stand there, has its operands, and leads nowhere
@@ -171,4 +229,20 @@ impl Walk {
             Instruction::Abort => self.stop(place, depth, is_method),
         }
     }
+}
+
+/// Whether an instruction is one of a single byte that takes and leaves operands.
+#[inline(always)]
+pub fn is_plain(instruction: Instruction) -> bool {
+    matches!(
+        instruction,
+        Instruction::Operate(_)
+            | Instruction::Compare(_)
+            | Instruction::Negate
+            | Instruction::Not
+            | Instruction::Complement
+            | Instruction::Duplicate
+            | Instruction::Pop
+            | Instruction::Number
+    )
 }

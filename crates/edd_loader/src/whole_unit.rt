@@ -4,7 +4,7 @@ ghost use Rattle.std.specs.Prelude.{IfOk, IsTrue};
 ghost use Rattle.edd_image.specs.Units.{IsValidUnit};
 
 use crate::marks::{Mark, are_settled, arrival};
-use crate::walk::Walk;
+use crate::walk::{Walk, is_plain};
 use edd_image::{Context, decode};
 use std::alloc::{AllocError, Global};
 
@@ -28,7 +28,11 @@ pub fn is_accepted(alloc: Global, context: Context, code: &[u8]) -> Result<bool,
         if !walk.take_on(context, code.len(), place, depth, instruction) {
             return Ok(false);
         }
-        place = next;
+        place = if is_plain(instruction) {
+            walk.pass_plain(context, code, next)
+        } else {
+            next
+        };
     }
     if code.is_empty() || walk.brought.is_some() {
         return Ok(false);

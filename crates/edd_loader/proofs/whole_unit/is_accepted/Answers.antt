@@ -1,18 +1,14 @@
-use Rattle.std.proofs.Common.{rules, ◌≡◌, ℕ, ◌||◌, ◌&&◌, true, false, subst, Option, arith, sym, ap, refl, ◌∙◌, Some, None, List, ◌∷◌, ◌<◌, ◌+◌, length, get_or, set, replicate}
-use Rattle.std.specs.List.{list_all}
-use Rattle.edd_image.specs.Units.{Placed, takes, leaves, is_start}
-use Rattle.edd_image.specs.Decoding.{◌>>=◌}
+use Rattle.std.proofs.Common.{rules, ◌≡◌, ℕ, ◌||◌, true, false, arith, sym, ap, refl, ◌∙◌, List, length, get_or, replicate}
+use Rattle.edd_image.specs.Units.{is_start}
 use Rattle.edd_loader.specs.declared.marks.Mark.{Mark}
-use Rattle.edd_loader.specs.declared.marks.Mark.TheVariants.{Unknown, Stands}
-use Rattle.edd_loader.specs.Depths.{Table, known, visit_all}
+use Rattle.edd_loader.specs.declared.marks.Mark.TheVariants.{Unknown}
+use Rattle.edd_loader.specs.Depths.{Table, visit_all}
 use Rattle.edd_loader.specs.Marks.{depths, is_settled, stood_on}
-use Rattle.edd_loader.specs.Standing.{may_stand, goes_on_inside}
 use Rattle.edd_loader.proofs.AcceptedUnits.{accepted}
-use Rattle.edd_loader.proofs.Arrivals.{brought_inside, inside_turn}
-use Rattle.edd_loader.proofs.Listing.{from_place, walk_goes}
+use Rattle.edd_loader.proofs.Listing.{from_place}
 use Rattle.edd_loader.proofs.MarkLaws.{nothing_known, nothing_stands, settled}
-use Rattle.edd_loader.proofs.WalkTurns.{target_inside, turn_goes, stands_on, nothing_at, none_is, ahead_done, passes_done}
-use Rattle.edd_loader.proofs.Walks.{all_goes, all_done, end_goes, end_done, marks_done, some_bytes}
+use Rattle.edd_loader.proofs.WalkTurns.{taken_keeps, nothing_at, none_is, ahead_done, passes_done}
+use Rattle.edd_loader.proofs.Walks.{all_done, end_done, marks_done, some_bytes}
 use Rattle.edd_loader.proofs.whole_unit.is_accepted.Goals as goal
 
 pub loop-place-init : goal.loop-place-init
@@ -22,8 +18,8 @@ loop-place-init c =
     let empty : c.in_ok-marks.marks.items ≡ replicate n Unknown = c.in_ok-marks.ensures.items_if_clones_equal (λ y k. search rules) in
     record {
       inside = omega arith;
+      sized = omega (arith, c.in_ok-marks.ensures.len, c.in_ok-marks.marks.ok);
       room = tt;
-      sized = c.in_ok-marks.ensures.len;
       same_end = refl;
       same_test = refl;
       same_ahead = refl;
@@ -31,33 +27,22 @@ loop-place-init c =
       marked = λ q. ap (λ b. b || is_start all q) (ap (λ (m : List Mark). get_or (stood_on m) q false) empty ∙ nothing_stands n q);
     }
 
+pub pass_plain-place-requires : goal.pass_plain-place-requires
+pass_plain-place-requires c =
+    let taken = c.if-not-take_on.ensures in
+    taken_keeps c.args.context c.args.code.now c.loop-place.walk.marks.items c.take_on.new.self.marks.items c.loop-place.walk.brought c.take_on.new.self.brought c.loop-place.place c.in-Some-decode.next c.in-Some.depth c.in-Some-decode.instruction c.index.result.now
+    c.loop-place.invariant c.loop-place-test.true (sym c.decode.ensures.value ∙ c.in-Some-decode.is) c.in-Some-decode.ensures.inside.1 c.index.ensures (sym c.arrival.ensures.value ∙ c.in-Some.is)
+    (taken.stands refl) (taken.enough refl) (taken.depths refl) (taken.stood refl) (taken.brought refl) (taken.room refl) (omega (arith, taken.len, c.loop-place.walk.marks.ok, c.take_on.new.self.marks.ok))
+
+pub loop-place-smaller-then-is_plain : goal.loop-place-smaller-then-is_plain
+loop-place-smaller-then-is_plain c = omega (arith, c.loop-place-test.true, c.pass_plain-place.ensures.onward, c.in-Some-decode.ensures.inside)
+
 pub loop-place-preserved : goal.loop-place-preserved
 loop-place-preserved c =
-    let code = c.args.code.now in
-    let place = c.loop-place.place in
-    let marks = c.loop-place.walk.marks.items in
-    let i = c.in-Some-decode.instruction in
-    let next = c.in-Some-decode.next in
     let taken = c.if-not-take_on.ensures in
-    let before = c.loop-place.invariant in
-    let here = sym c.decode.ensures.value ∙ c.in-Some-decode.is in
-    let x : Placed = record { place = place; instruction = i; next = next } in
-    let walk : from_place code place ≡ x ∷ from_place code next = walk_goes code place (i, next) here in
-    let size : length marks ≡ length code = omega (arith, before.sized, c.loop-place.walk.marks.ok) in
-    let inside : place < length marks = omega (arith, size, c.loop-place-test.true) in
-    let stands = taken.stands refl in
-    let brings = taken.brought refl in
-    record {
-      inside = c.in-Some-decode.ensures.inside.1;
-      room = taken.room refl;
-      sized = taken.len ∙ before.sized;
-      same_end = end_goes code place (i, next) _ here before.same_end;
-      same_test = all_goes (λ x. may_stand c.args.context (length code) x.place x.instruction) code place (i, next) _ here stands before.same_test;
-      same_ahead = rw brings (inside_turn (length code) c.loop-place.walk.brought (leaves i) _ x (from_place code next) _ c.loop-place-test.true refl (rw walk at before.same_ahead));
-      same_pass = turn_goes marks c.take_on.new.self.marks.items c.loop-place.walk.brought c.take_on.new.self.brought x c.index.result.now c.in-Some.depth (from_place code next) _
-      inside before.room c.index.ensures (sym c.arrival.ensures.value ∙ c.in-Some.is) (taken.enough refl) (rw size (target_inside c.args.context (length code) place i stands)) (taken.depths refl) brings (rw walk at before.same_pass);
-      marked = λ q. stands_on code place next i marks c.take_on.new.self.marks.items c.in-Some.depth q _ here inside (taken.stood refl) (before.marked q);
-    }
+    taken_keeps c.args.context c.args.code.now c.loop-place.walk.marks.items c.take_on.new.self.marks.items c.loop-place.walk.brought c.take_on.new.self.brought c.loop-place.place c.in-Some-decode.next c.in-Some.depth c.in-Some-decode.instruction c.index.result.now
+    c.loop-place.invariant c.loop-place-test.true (sym c.decode.ensures.value ∙ c.in-Some-decode.is) c.in-Some-decode.ensures.inside.1 c.index.ensures (sym c.arrival.ensures.value ∙ c.in-Some.is)
+    (taken.stands refl) (taken.enough refl) (taken.depths refl) (taken.stood refl) (taken.brought refl) (taken.room refl) (omega (arith, taken.len, c.loop-place.walk.marks.ok, c.take_on.new.self.marks.ok))
 
 pub returns : goal.returns
 returns c =
