@@ -311,11 +311,11 @@ fn long_from(code: u8, bytes: &[u8]) -> Option<(Instruction, &[u8])>
     ensures { option_map (λ x. (x.0, x.1.now)) result ≡
         (if nat_lt code 0x40 then None else
         if nat_lt code 0x50 then
-            (if code == 0x42 then entry_from bytes.now else
-            if code == 0x44 then data_from bytes.now else
-            if code == 0x45 then enumerator_from bytes.now else
-            if code == 0x46 then response_from bytes.now else
-            if code == 0x47 then member_from bytes.now else None) else
+        (if code == 0x42 then entry_from bytes.now else
+        if code == 0x44 then data_from bytes.now else
+        if code == 0x45 then enumerator_from bytes.now else
+        if code == 0x46 then response_from bytes.now else
+        if code == 0x47 then member_from bytes.now else None) else
         if code == 0x50 then ask_from bytes.now else None) }
 {
     match code {
@@ -334,48 +334,52 @@ fn long_from(code: u8, bytes: &[u8]) -> Option<(Instruction, &[u8])>
 fn instruction_from(bytes: &[u8]) -> Option<(Instruction, &[u8])>
     ensures { option_map (λ x. (x.0, x.1.now)) result ≡ instruction_from bytes.now }
 {
-    let [code, rest @ ..] = bytes else {
+    // Each arm takes the bytes behind the code by itself, so that short instructions don't.
+    if bytes.is_empty() {
         return None;
-    };
-    match *code {
-        0x00 => Some((Instruction::End, rest)),
-        0x01 => push_from(rest),
-        0x02 => variable_from(rest),
-        0x03 => store_from(rest),
-        0x04 => get_local_from(rest),
-        0x05 => set_local_from(rest),
-        0x06 => Some((Instruction::Pop, rest)),
-        0x07 => Some((Instruction::Duplicate, rest)),
-        0x10 => Some((Instruction::Operate(Operator::Add), rest)),
-        0x11 => Some((Instruction::Operate(Operator::Subtract), rest)),
-        0x12 => Some((Instruction::Operate(Operator::Multiply), rest)),
-        0x13 => Some((Instruction::Operate(Operator::Divide), rest)),
-        0x14 => Some((Instruction::Operate(Operator::Remainder), rest)),
-        0x15 => Some((Instruction::Operate(Operator::ShiftLeft), rest)),
-        0x16 => Some((Instruction::Operate(Operator::ShiftRight), rest)),
-        0x17 => Some((Instruction::Operate(Operator::And), rest)),
-        0x18 => Some((Instruction::Operate(Operator::Or), rest)),
-        0x19 => Some((Instruction::Operate(Operator::Xor), rest)),
-        0x1a => Some((Instruction::Compare(Comparison::Equal), rest)),
-        0x1b => Some((Instruction::Compare(Comparison::NotEqual), rest)),
-        0x1c => Some((Instruction::Compare(Comparison::Less), rest)),
-        0x1d => Some((Instruction::Compare(Comparison::LessOrEqual), rest)),
-        0x1e => Some((Instruction::Compare(Comparison::Greater), rest)),
-        0x1f => Some((Instruction::Compare(Comparison::GreaterOrEqual), rest)),
-        0x20 => Some((Instruction::Negate, rest)),
-        0x21 => Some((Instruction::Not, rest)),
-        0x22 => Some((Instruction::Complement, rest)),
-        0x30 => jump_from(rest),
-        0x31 => jump_if_zero_from(rest),
-        0x32 => jump_if_not_zero_from(rest),
-        0x33 => case_from(rest),
-        0x40 => text_from(rest),
-        0x41 => Some((Instruction::Number, rest)),
-        0x43 => data_const_from(rest),
-        0x51 => Some((Instruction::Abort, rest)),
+    }
+    match bytes[0] {
+        0x00 => Some((Instruction::End, &bytes[1..])),
+        0x01 => push_from(&bytes[1..]),
+        0x02 => variable_from(&bytes[1..]),
+        0x03 => store_from(&bytes[1..]),
+        0x04 => get_local_from(&bytes[1..]),
+        0x05 => set_local_from(&bytes[1..]),
+        0x06 => Some((Instruction::Pop, &bytes[1..])),
+        0x07 => Some((Instruction::Duplicate, &bytes[1..])),
+        0x10 => Some((Instruction::Operate(Operator::Add), &bytes[1..])),
+        0x11 => Some((Instruction::Operate(Operator::Subtract), &bytes[1..])),
+        0x12 => Some((Instruction::Operate(Operator::Multiply), &bytes[1..])),
+        0x13 => Some((Instruction::Operate(Operator::Divide), &bytes[1..])),
+        0x14 => Some((Instruction::Operate(Operator::Remainder), &bytes[1..])),
+        0x15 => Some((Instruction::Operate(Operator::ShiftLeft), &bytes[1..])),
+        0x16 => Some((Instruction::Operate(Operator::ShiftRight), &bytes[1..])),
+        0x17 => Some((Instruction::Operate(Operator::And), &bytes[1..])),
+        0x18 => Some((Instruction::Operate(Operator::Or), &bytes[1..])),
+        0x19 => Some((Instruction::Operate(Operator::Xor), &bytes[1..])),
+        0x1a => Some((Instruction::Compare(Comparison::Equal), &bytes[1..])),
+        0x1b => Some((Instruction::Compare(Comparison::NotEqual), &bytes[1..])),
+        0x1c => Some((Instruction::Compare(Comparison::Less), &bytes[1..])),
+        0x1d => Some((Instruction::Compare(Comparison::LessOrEqual), &bytes[1..])),
+        0x1e => Some((Instruction::Compare(Comparison::Greater), &bytes[1..])),
+        0x1f => Some((
+            Instruction::Compare(Comparison::GreaterOrEqual),
+            &bytes[1..],
+        )),
+        0x20 => Some((Instruction::Negate, &bytes[1..])),
+        0x21 => Some((Instruction::Not, &bytes[1..])),
+        0x22 => Some((Instruction::Complement, &bytes[1..])),
+        0x30 => jump_from(&bytes[1..]),
+        0x31 => jump_if_zero_from(&bytes[1..]),
+        0x32 => jump_if_not_zero_from(&bytes[1..]),
+        0x33 => case_from(&bytes[1..]),
+        0x40 => text_from(&bytes[1..]),
+        0x41 => Some((Instruction::Number, &bytes[1..])),
+        0x43 => data_const_from(&bytes[1..]),
+        0x51 => Some((Instruction::Abort, &bytes[1..])),
         code => {
             // Taken apart, so that the instructions above need no place in memory.
-            let (instruction, rest) = long_from(code, rest)?;
+            let (instruction, rest) = long_from(code, &bytes[1..])?;
             Some((instruction, rest))
         }
     }

@@ -113,12 +113,12 @@ pub entries_commute : (t : Table) (a x b y : ℕ) → b < length t → (enter t 
 entries_commute t a x b y inside = elim (cases_Bool (nat_lt 128 x)) [
   | inl big ↦ rw (no_entry t a x big) (sym (then_none (enter t b y) (λ u. enter u a x) (λ u. no_entry u a x big)))
   | inr small_x ↦ elim (cases_Bool (nat_lt 128 y)) [
-      | inl big ↦ then_none (enter t a x) (λ u. enter u b y) (λ u. no_entry u b y big) ∙ sym (rw (no_entry t b y big) refl)
-      | inr small_y ↦ elim (cases_eq a b) [
-          | inl same ↦ subst (λ (c : ℕ). (enter t c x >>= λ u. enter u b y) ≡ (enter t b y >>= λ u. enter u c x)) (sym same) (at_one t x y small_x small_y b (known t b) inside refl)
-          | inr other ↦ at_two t x y small_x small_y a b (known t a) (known t b) other refl refl
-        ]
+    | inl big ↦ then_none (enter t a x) (λ u. enter u b y) (λ u. no_entry u b y big) ∙ sym (rw (no_entry t b y big) refl)
+    | inr small_y ↦ elim (cases_eq a b) [
+      | inl same ↦ subst (λ (c : ℕ). (enter t c x >>= λ u. enter u b y) ≡ (enter t b y >>= λ u. enter u c x)) (sym same) (at_one t x y small_x small_y b (known t b) inside refl)
+      | inr other ↦ at_two t x y small_x small_y a b (known t a) (known t b) other refl refl
     ]
+  ]
 ]
 
 -- ---- an instruction, once it is known how many operands are there

@@ -29,16 +29,43 @@ same_operator code n e = ap operator_of e
 operator_there : (code : ℕ) → 0x10 ≤ code → code < 0x1a → (op : Operator) × (operator_of code ≡ Some op)
 unfolding operator_of
 operator_there code low high =
-    elim (cases_lt code 0x11) [ inl a ↦ (operators.Add, same_operator code 0x10 (omega (arith, low, a))) | inr a ↦
-    elim (cases_lt code 0x12) [ inl b ↦ (operators.Subtract, same_operator code 0x11 (omega (arith, a, b))) | inr b ↦
-    elim (cases_lt code 0x13) [ inl c ↦ (operators.Multiply, same_operator code 0x12 (omega (arith, b, c))) | inr c ↦
-    elim (cases_lt code 0x14) [ inl d ↦ (operators.Divide, same_operator code 0x13 (omega (arith, c, d))) | inr d ↦
-    elim (cases_lt code 0x15) [ inl e ↦ (operators.Remainder, same_operator code 0x14 (omega (arith, d, e))) | inr e ↦
-    elim (cases_lt code 0x16) [ inl f ↦ (operators.ShiftLeft, same_operator code 0x15 (omega (arith, e, f))) | inr f ↦
-    elim (cases_lt code 0x17) [ inl g ↦ (operators.ShiftRight, same_operator code 0x16 (omega (arith, f, g))) | inr g ↦
-    elim (cases_lt code 0x18) [ inl h ↦ (operators.And, same_operator code 0x17 (omega (arith, g, h))) | inr h ↦
-    elim (cases_lt code 0x19) [ inl i ↦ (operators.Or, same_operator code 0x18 (omega (arith, h, i))) | inr i ↦
-    (operators.Xor, same_operator code 0x19 (omega (arith, i, high))) ] ] ] ] ] ] ] ] ]
+    elim (cases_lt code 0x11) [
+      | inl a ↦ (operators.Add, same_operator code 0x10 (omega (arith, low, a)))
+      | inr a ↦
+          elim (cases_lt code 0x12) [
+            | inl b ↦ (operators.Subtract, same_operator code 0x11 (omega (arith, a, b)))
+            | inr b ↦
+                elim (cases_lt code 0x13) [
+                  | inl c ↦ (operators.Multiply, same_operator code 0x12 (omega (arith, b, c)))
+                  | inr c ↦
+                      elim (cases_lt code 0x14) [
+                        | inl d ↦ (operators.Divide, same_operator code 0x13 (omega (arith, c, d)))
+                        | inr d ↦
+                            elim (cases_lt code 0x15) [
+                              | inl e ↦ (operators.Remainder, same_operator code 0x14 (omega (arith, d, e)))
+                              | inr e ↦
+                                  elim (cases_lt code 0x16) [
+                                    | inl f ↦ (operators.ShiftLeft, same_operator code 0x15 (omega (arith, e, f)))
+                                    | inr f ↦
+                                        elim (cases_lt code 0x17) [
+                                          | inl g ↦ (operators.ShiftRight, same_operator code 0x16 (omega (arith, f, g)))
+                                          | inr g ↦
+                                              elim (cases_lt code 0x18) [
+                                                | inl h ↦ (operators.And, same_operator code 0x17 (omega (arith, g, h)))
+                                                | inr h ↦
+                                                    elim (cases_lt code 0x19) [
+                                                      | inl i ↦ (operators.Or, same_operator code 0x18 (omega (arith, h, i)))
+                                                      | inr i ↦
+                                                          (operators.Xor, same_operator code 0x19 (omega (arith, i, high)))
+                                                    ]
+                                              ]
+                                        ]
+                                  ]
+                            ]
+                      ]
+                ]
+          ]
+    ]
 
 same_comparison : (code n : ℕ) → code ≡ n → comparison_of code ≡ comparison_of n
 same_comparison code n e = ap comparison_of e
@@ -46,12 +73,27 @@ same_comparison code n e = ap comparison_of e
 comparison_there : (code : ℕ) → 0x1a ≤ code → code < 0x20 → (op : Comparison) × (comparison_of code ≡ Some op)
 unfolding comparison_of
 comparison_there code low high =
-    elim (cases_lt code 0x1b) [ inl a ↦ (comparisons.Equal, same_comparison code 0x1a (omega (arith, low, a))) | inr a ↦
-    elim (cases_lt code 0x1c) [ inl b ↦ (comparisons.NotEqual, same_comparison code 0x1b (omega (arith, a, b))) | inr b ↦
-    elim (cases_lt code 0x1d) [ inl c ↦ (comparisons.Less, same_comparison code 0x1c (omega (arith, b, c))) | inr c ↦
-    elim (cases_lt code 0x1e) [ inl d ↦ (comparisons.LessOrEqual, same_comparison code 0x1d (omega (arith, c, d))) | inr d ↦
-    elim (cases_lt code 0x1f) [ inl e ↦ (comparisons.Greater, same_comparison code 0x1e (omega (arith, d, e))) | inr e ↦
-    (comparisons.GreaterOrEqual, same_comparison code 0x1f (omega (arith, e, high))) ] ] ] ] ]
+    elim (cases_lt code 0x1b) [
+      | inl a ↦ (comparisons.Equal, same_comparison code 0x1a (omega (arith, low, a)))
+      | inr a ↦
+          elim (cases_lt code 0x1c) [
+            | inl b ↦ (comparisons.NotEqual, same_comparison code 0x1b (omega (arith, a, b)))
+            | inr b ↦
+                elim (cases_lt code 0x1d) [
+                  | inl c ↦ (comparisons.Less, same_comparison code 0x1c (omega (arith, b, c)))
+                  | inr c ↦
+                      elim (cases_lt code 0x1e) [
+                        | inl d ↦ (comparisons.LessOrEqual, same_comparison code 0x1d (omega (arith, c, d)))
+                        | inr d ↦
+                            elim (cases_lt code 0x1f) [
+                              | inl e ↦ (comparisons.Greater, same_comparison code 0x1e (omega (arith, d, e)))
+                              | inr e ↦
+                                  (comparisons.GreaterOrEqual, same_comparison code 0x1f (omega (arith, e, high)))
+                            ]
+                      ]
+                ]
+          ]
+    ]
 
 -- ---- the instructions by their codes
 
@@ -89,9 +131,15 @@ unfolding instruction_from unary_of
 one_operand sort code depth after low high enough small is =
     let stays : ◌≡◌ {A = Option ℕ} (Some after) (Some (depth - 1 + 1)) = ap (λ (n : ℕ). Some n) (omega (arith, is, enough)) in
     let fits : after ≤ 128 = omega (arith, is, small) in
-    elim (cases_lt code 0x21) [ inl a ↦ everywhere_plain sort code 0x20 depth after instructions.Negate (omega (arith, low, a)) (λ rest. refl) refl (λ context. refl) refl enough stays fits | inr a ↦
-    elim (cases_lt code 0x22) [ inl b ↦ everywhere_plain sort code 0x21 depth after instructions.Not (omega (arith, a, b)) (λ rest. refl) refl (λ context. refl) refl enough stays fits | inr b ↦
-    everywhere_plain sort code 0x22 depth after instructions.Complement (omega (arith, b, high)) (λ rest. refl) refl (λ context. refl) refl enough stays fits ] ]
+    elim (cases_lt code 0x21) [
+      | inl a ↦ everywhere_plain sort code 0x20 depth after instructions.Negate (omega (arith, low, a)) (λ rest. refl) refl (λ context. refl) refl enough stays fits
+      | inr a ↦
+          elim (cases_lt code 0x22) [
+            | inl b ↦ everywhere_plain sort code 0x21 depth after instructions.Not (omega (arith, a, b)) (λ rest. refl) refl (λ context. refl) refl enough stays fits
+            | inr b ↦
+                everywhere_plain sort code 0x22 depth after instructions.Complement (omega (arith, b, high)) (λ rest. refl) refl (λ context. refl) refl enough stays fits
+          ]
+    ]
 
 pub pop_is : (sort : Sort) (code depth after : ℕ) → code ≡ 0x06 → 1 ≤ depth → depth ≤ 128 → after ≡ depth - 1 → IsPlain sort code depth after
 unfolding instruction_from basic_from

@@ -89,7 +89,7 @@ taken_keeps context code marks new brought after place next depth i m before lt 
       same_end = end_goes code place (i, next) _ here before.same_end;
       same_test = all_goes (λ y. may_stand context (length code) y.place y.instruction) code place (i, next) _ here stands before.same_test;
       same_ahead = ap (λ (o : Option ℕ). brought_inside (length code) next o && list_all (goes_on_inside (length code)) (from_place code next)) b
-      ∙ inside_turn (length code) brought (leaves i) _ x (from_place code next) _ lt refl (rw walk at before.same_ahead);
+          ∙ inside_turn (length code) brought (leaves i) _ x (from_place code next) _ lt refl (rw walk at before.same_ahead);
       same_pass = turn_goes marks new brought after x m depth (from_place code next) _ there before.room read arrives enough (rw before.sized (target_inside context (length code) place i stands)) note b (rw walk at before.same_pass);
       marked = λ q. stands_on code place next i marks new depth q _ here there stood (before.marked q);
     }

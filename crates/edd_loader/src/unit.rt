@@ -46,7 +46,7 @@ fn leads_to_start(starts: &[bool], way: Option<Way>) -> bool
 
 /// Whether a jump leads forward, where it has to.
 #[inline(always)]
-pub fn is_forward(sort: Sort, place: usize, instruction: Instruction) -> bool
+fn is_forward(sort: Sort, place: usize, instruction: Instruction) -> bool
     ensures { (next : ℕ) → result ≡ is_forward sort (record { place = place; instruction = instruction; next = next }) }
 {
     match sort {
