@@ -42,6 +42,7 @@ fn plain(sort: Sort, code: u8, depth: u8) -> Option<u8>
     ensures { IfSome result (IsPlain sort code depth) }
 {
     match code {
+        // Operators and comparisons, DUP, operators on one operand, POP, NUMBER.
         0x10..=0x1f if depth >= 2 => Some(depth - 1),
         0x07 if depth >= 1 && depth < 128 => Some(depth + 1),
         0x20..=0x22 if depth >= 1 => Some(depth),
@@ -189,18 +190,16 @@ impl Walk {
             }
             Instruction::Pop => self.go_on(place, depth, true, 1, 0),
             Instruction::Duplicate => self.go_on(place, depth, true, 1, 2),
-            Instruction::Operate(_) => self.go_on(place, depth, true, 2, 1),
-            Instruction::Compare(_) => self.go_on(place, depth, true, 2, 1),
-            Instruction::Negate => self.go_on(place, depth, true, 1, 1),
-            Instruction::Not => self.go_on(place, depth, true, 1, 1),
-            Instruction::Complement => self.go_on(place, depth, true, 1, 1),
+            Instruction::Operate(_) | Instruction::Compare(_) => {
+                self.go_on(place, depth, true, 2, 1)
+            }
+            Instruction::Negate | Instruction::Not | Instruction::Complement => {
+                self.go_on(place, depth, true, 1, 1)
+            }
             Instruction::Jump(to) => {
                 self.stop(place, depth, true) && self.jump(sort, size, place, depth, to)
             }
-            Instruction::JumpIfZero(to) => {
-                self.go_on(place, depth, true, 1, 0) && self.jump(sort, size, place, depth - 1, to)
-            }
-            Instruction::JumpIfNotZero(to) => {
+            Instruction::JumpIfZero(to) | Instruction::JumpIfNotZero(to) => {
                 self.go_on(place, depth, true, 1, 0) && self.jump(sort, size, place, depth - 1, to)
             }
             Instruction::Case { target, .. } => {

@@ -28,6 +28,7 @@ pub fn is_accepted(alloc: Global, context: Context, code: &[u8]) -> Result<bool,
         if !walk.take_on(context, code.len(), place, depth, instruction) {
             return Ok(false);
         }
+        // Plain instructions often stand in runs.
         place = if is_plain(instruction) {
             walk.pass_plain(context, code, next)
         } else {
