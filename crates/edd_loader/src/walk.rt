@@ -230,7 +230,7 @@ impl Walk {
     }
 }
 
-/// Whether an instruction is one of a single byte that takes and leaves operands.
+/// Whether an instruction is one of a single byte that takes and leaves operands. Only the speed of a walk hangs on it.
 #[inline(always)]
 pub fn is_plain(instruction: Instruction) -> bool {
     matches!(
