@@ -1,6 +1,6 @@
 -- What is left after an instruction is shorter than what it was read from.
-use Rattle.std.proofs.Common.{◌≡◌, ℕ, ◌-◌, ◌<◌, ◌≤◌, Bool, true, false, cond, List, [], ◌∷◌, length, drop, Option, Some, None, refl, subst, arith, length-drop}
-use Rattle.std.specs.Prelude.{option_map, ◌==◌, nat_lt}
+use Rattle.std.proofs.Common.{◌≡◌, ℕ, ◌-◌, ◌<◌, ◌≤◌, Bool, true, false, cond, List, [], ◌∷◌, length, drop, Option, Some, None, refl, sym, subst, arith, length-drop}
+use Rattle.std.specs.Prelude.{IfSome, option_map, ◌==◌, nat_lt}
 use Rattle.std.specs.Int.{Width, w16, w32, w64, byte_len}
 use Rattle.edd_image.specs.declared.instruction.Instruction.{Instruction}
 use Rattle.edd_image.specs.Decoding.{◌>>=◌, byte_from, number_from, signed_from, item_of, item_from, basic_from, operator_of, comparison_of, unary_of, jump_from, entry_from, data_from, enumerator_from, response_from, member_from, record_from, ask_of, ask_from, instruction_from, instruction_at}
@@ -162,3 +162,15 @@ inside size place (Some x) found h e =
 pub instruction_inside : (code : List ℕ) (place : ℕ) (found : Instruction × ℕ) → instruction_at code place ≡ Some found → (place < found.1) × (found.1 ≤ length code)
 unfolding instruction_at
 instruction_inside code place found e = inside (length code) place (instruction_from (drop place code)) found (λ x r. omega (arith, instruction_leaves (drop place code) x r, length-drop place code)) e
+
+pub found_inside : (code : List ℕ) (place : ℕ) (found : Option (Instruction × ℕ)) → found ≡ instruction_at code place → IfSome found (λ x. (place < x.1) × (x.1 ≤ length code))
+found_inside code place None e = tt
+found_inside code place (Some x) e = instruction_inside code place x (sym e)
+
+-- no instruction stands past the end
+pub nothing_past : (code : List ℕ) (place : ℕ) → length code ≤ place → instruction_at code place ≡ None
+nothing_past code place past = none_by (instruction_at code place) refl
+  where
+    none_by : (found : Option (Instruction × ℕ)) → instruction_at code place ≡ found → found ≡ None
+    none_by None e = refl
+    none_by (Some x) e = absurd (omega (arith, past, instruction_inside code place x e))

@@ -1,6 +1,6 @@
 //! Reading an instruction from the bytes of a unit.
 
-ghost use Rattle.std.specs.Prelude.{◌≡◌, ◌<◌, ◌≤◌, length, ◌==◌, IfSome, option_map, nat_lt, if◌then◌else◌, None, Some};
+ghost use Rattle.std.specs.Prelude.{◌≡◌, ◌-◌, ◌<◌, ◌≤◌, ◌∷◌, drop, length, ◌==◌, IfSome, option_map, nat_lt, if◌then◌else◌, None, Some};
 ghost use Rattle.edd_image.specs.declared.instruction.Instruction.TheVariants as instructions;
 ghost use Rattle.std.specs.Int.{w16, w32, w64};
 ghost use Rattle.edd_image.specs.Decoding.{byte_from, number_from, signed_from, basic_from, jump_from, item_from, optional_string, entry_from, data_from, enumerator_from, response_from, member_from, record_from, ask_of, ask_from, instruction_from, instruction_at};
@@ -13,7 +13,8 @@ use edd_syntax::operators::{Comparison, Operator};
 #[inline(always)]
 #[tactic(auto, unfolding(crate::specs::Decoding::byte_from))]
 fn byte_from(bytes: &[u8]) -> Option<(u8, &[u8])>
-    ensures { option_map (λ x. (x.0, x.1.now)) result ≡ byte_from bytes.now }
+    ensures value { option_map (λ x. (x.0, x.1.now)) result ≡ byte_from bytes.now }
+    ensures left { IfSome result (λ x. length x.1.now ≤ length bytes.now) }
 {
     match bytes {
         [] => None,
@@ -24,7 +25,8 @@ fn byte_from(bytes: &[u8]) -> Option<(u8, &[u8])>
 #[inline(always)]
 #[tactic(auto, unfolding(crate::specs::Decoding::number_from))]
 fn u16_from(bytes: &[u8]) -> Option<(u16, &[u8])>
-    ensures { option_map (λ x. (x.0, x.1.now)) result ≡ number_from w16 bytes.now }
+    ensures value { option_map (λ x. (x.0, x.1.now)) result ≡ number_from w16 bytes.now }
+    ensures left { IfSome result (λ x. length x.1.now ≤ length bytes.now) }
 {
     if bytes.len() < 2 {
         return None;
@@ -37,7 +39,8 @@ fn u16_from(bytes: &[u8]) -> Option<(u16, &[u8])>
 #[inline(always)]
 #[tactic(auto, unfolding(crate::specs::Decoding::number_from))]
 fn u32_from(bytes: &[u8]) -> Option<(u32, &[u8])>
-    ensures { option_map (λ x. (x.0, x.1.now)) result ≡ number_from w32 bytes.now }
+    ensures value { option_map (λ x. (x.0, x.1.now)) result ≡ number_from w32 bytes.now }
+    ensures left { IfSome result (λ x. length x.1.now ≤ length bytes.now) }
 {
     if bytes.len() < 4 {
         return None;
@@ -50,7 +53,8 @@ fn u32_from(bytes: &[u8]) -> Option<(u32, &[u8])>
 #[inline(always)]
 #[tactic(auto, unfolding(crate::specs::Decoding::signed_from))]
 fn i64_from(bytes: &[u8]) -> Option<(i64, &[u8])>
-    ensures { option_map (λ x. (x.0, x.1.now)) result ≡ signed_from w64 bytes.now }
+    ensures value { option_map (λ x. (x.0, x.1.now)) result ≡ signed_from w64 bytes.now }
+    ensures left { IfSome result (λ x. length x.1.now ≤ length bytes.now) }
 {
     if bytes.len() < 8 {
         return None;
@@ -76,7 +80,8 @@ fn optional_string(number: u16) -> Option<StrNo>
 #[inline(always)]
 #[tactic(auto, unfolding(crate::specs::Decoding::item_from))]
 fn item_from(bytes: &[u8]) -> Option<(ItemNo, &[u8])>
-    ensures { option_map (λ x. (x.0, x.1.now)) result ≡ item_from bytes.now }
+    ensures value { option_map (λ x. (x.0, x.1.now)) result ≡ item_from bytes.now }
+    ensures left { IfSome result (λ x. length x.1.now ≤ length bytes.now) }
 {
     let (kind, rest) = byte_from(bytes)?;
     let (number, rest) = u16_from(rest)?;
@@ -87,7 +92,8 @@ fn item_from(bytes: &[u8]) -> Option<(ItemNo, &[u8])>
 #[inline(always)]
 #[tactic(auto, unfolding(crate::specs::Decoding::basic_from))]
 fn push_from(bytes: &[u8]) -> Option<(Instruction, &[u8])>
-    ensures { option_map (λ x. (x.0, x.1.now)) result ≡ basic_from 0x01 bytes.now }
+    ensures value { option_map (λ x. (x.0, x.1.now)) result ≡ basic_from 0x01 bytes.now }
+    ensures left { IfSome result (λ x. length x.1.now ≤ length bytes.now) }
 {
     let (number, rest) = u32_from(bytes)?;
     Some((Instruction::Push(number), rest))
@@ -96,7 +102,8 @@ fn push_from(bytes: &[u8]) -> Option<(Instruction, &[u8])>
 #[inline(always)]
 #[tactic(auto, unfolding(crate::specs::Decoding::basic_from))]
 fn variable_from(bytes: &[u8]) -> Option<(Instruction, &[u8])>
-    ensures { option_map (λ x. (x.0, x.1.now)) result ≡ basic_from 0x02 bytes.now }
+    ensures value { option_map (λ x. (x.0, x.1.now)) result ≡ basic_from 0x02 bytes.now }
+    ensures left { IfSome result (λ x. length x.1.now ≤ length bytes.now) }
 {
     let (number, rest) = u16_from(bytes)?;
     Some((Instruction::Variable(VarNo(number)), rest))
@@ -105,7 +112,8 @@ fn variable_from(bytes: &[u8]) -> Option<(Instruction, &[u8])>
 #[inline(always)]
 #[tactic(auto, unfolding(crate::specs::Decoding::basic_from))]
 fn store_from(bytes: &[u8]) -> Option<(Instruction, &[u8])>
-    ensures { option_map (λ x. (x.0, x.1.now)) result ≡ basic_from 0x03 bytes.now }
+    ensures value { option_map (λ x. (x.0, x.1.now)) result ≡ basic_from 0x03 bytes.now }
+    ensures left { IfSome result (λ x. length x.1.now ≤ length bytes.now) }
 {
     let (number, rest) = u16_from(bytes)?;
     Some((Instruction::Store(VarNo(number)), rest))
@@ -114,7 +122,8 @@ fn store_from(bytes: &[u8]) -> Option<(Instruction, &[u8])>
 #[inline(always)]
 #[tactic(auto, unfolding(crate::specs::Decoding::basic_from))]
 fn get_local_from(bytes: &[u8]) -> Option<(Instruction, &[u8])>
-    ensures { option_map (λ x. (x.0, x.1.now)) result ≡ basic_from 0x04 bytes.now }
+    ensures value { option_map (λ x. (x.0, x.1.now)) result ≡ basic_from 0x04 bytes.now }
+    ensures left { IfSome result (λ x. length x.1.now ≤ length bytes.now) }
 {
     let (number, rest) = u16_from(bytes)?;
     Some((Instruction::GetLocal(number), rest))
@@ -123,7 +132,8 @@ fn get_local_from(bytes: &[u8]) -> Option<(Instruction, &[u8])>
 #[inline(always)]
 #[tactic(auto, unfolding(crate::specs::Decoding::basic_from))]
 fn set_local_from(bytes: &[u8]) -> Option<(Instruction, &[u8])>
-    ensures { option_map (λ x. (x.0, x.1.now)) result ≡ basic_from 0x05 bytes.now }
+    ensures value { option_map (λ x. (x.0, x.1.now)) result ≡ basic_from 0x05 bytes.now }
+    ensures left { IfSome result (λ x. length x.1.now ≤ length bytes.now) }
 {
     let (number, rest) = u16_from(bytes)?;
     Some((Instruction::SetLocal(number), rest))
@@ -132,7 +142,8 @@ fn set_local_from(bytes: &[u8]) -> Option<(Instruction, &[u8])>
 #[inline(always)]
 #[tactic(auto, unfolding(crate::specs::Decoding::jump_from))]
 fn jump_from(bytes: &[u8]) -> Option<(Instruction, &[u8])>
-    ensures { option_map (λ x. (x.0, x.1.now)) result ≡ jump_from 0x30 bytes.now }
+    ensures value { option_map (λ x. (x.0, x.1.now)) result ≡ jump_from 0x30 bytes.now }
+    ensures left { IfSome result (λ x. length x.1.now ≤ length bytes.now) }
 {
     let (target, rest) = u32_from(bytes)?;
     Some((Instruction::Jump(target), rest))
@@ -141,7 +152,8 @@ fn jump_from(bytes: &[u8]) -> Option<(Instruction, &[u8])>
 #[inline(always)]
 #[tactic(auto, unfolding(crate::specs::Decoding::jump_from))]
 fn jump_if_zero_from(bytes: &[u8]) -> Option<(Instruction, &[u8])>
-    ensures { option_map (λ x. (x.0, x.1.now)) result ≡ jump_from 0x31 bytes.now }
+    ensures value { option_map (λ x. (x.0, x.1.now)) result ≡ jump_from 0x31 bytes.now }
+    ensures left { IfSome result (λ x. length x.1.now ≤ length bytes.now) }
 {
     let (target, rest) = u32_from(bytes)?;
     Some((Instruction::JumpIfZero(target), rest))
@@ -150,7 +162,8 @@ fn jump_if_zero_from(bytes: &[u8]) -> Option<(Instruction, &[u8])>
 #[inline(always)]
 #[tactic(auto, unfolding(crate::specs::Decoding::jump_from))]
 fn jump_if_not_zero_from(bytes: &[u8]) -> Option<(Instruction, &[u8])>
-    ensures { option_map (λ x. (x.0, x.1.now)) result ≡ jump_from 0x32 bytes.now }
+    ensures value { option_map (λ x. (x.0, x.1.now)) result ≡ jump_from 0x32 bytes.now }
+    ensures left { IfSome result (λ x. length x.1.now ≤ length bytes.now) }
 {
     let (target, rest) = u32_from(bytes)?;
     Some((Instruction::JumpIfNotZero(target), rest))
@@ -159,7 +172,8 @@ fn jump_if_not_zero_from(bytes: &[u8]) -> Option<(Instruction, &[u8])>
 #[inline(always)]
 #[tactic(auto, unfolding(crate::specs::Decoding::jump_from))]
 fn case_from(bytes: &[u8]) -> Option<(Instruction, &[u8])>
-    ensures { option_map (λ x. (x.0, x.1.now)) result ≡ jump_from 0x33 bytes.now }
+    ensures value { option_map (λ x. (x.0, x.1.now)) result ≡ jump_from 0x33 bytes.now }
+    ensures left { IfSome result (λ x. length x.1.now ≤ length bytes.now) }
 {
     let (label, rest) = i64_from(bytes)?;
     let (target, rest) = u32_from(rest)?;
@@ -169,7 +183,8 @@ fn case_from(bytes: &[u8]) -> Option<(Instruction, &[u8])>
 #[inline(always)]
 #[tactic(auto, unfolding(crate::specs::Decoding::entry_from))]
 fn entry_from(bytes: &[u8]) -> Option<(Instruction, &[u8])>
-    ensures { option_map (λ x. (x.0, x.1.now)) result ≡ entry_from bytes.now }
+    ensures value { option_map (λ x. (x.0, x.1.now)) result ≡ entry_from bytes.now }
+    ensures left { IfSome result (λ x. length x.1.now ≤ length bytes.now) }
 {
     let (item, rest) = item_from(bytes)?;
     let (quals, rest) = u16_from(rest)?;
@@ -183,7 +198,8 @@ fn entry_from(bytes: &[u8]) -> Option<(Instruction, &[u8])>
 #[inline(always)]
 #[tactic(auto, unfolding(crate::specs::Decoding::data_from))]
 fn data_from(bytes: &[u8]) -> Option<(Instruction, &[u8])>
-    ensures { option_map (λ x. (x.0, x.1.now)) result ≡ data_from bytes.now }
+    ensures value { option_map (λ x. (x.0, x.1.now)) result ≡ data_from bytes.now }
+    ensures left { IfSome result (λ x. length x.1.now ≤ length bytes.now) }
 {
     let (number, rest) = u16_from(bytes)?;
     let (mask, rest) = u32_from(rest)?;
@@ -199,7 +215,8 @@ fn data_from(bytes: &[u8]) -> Option<(Instruction, &[u8])>
 #[inline(always)]
 #[tactic(auto, unfolding(crate::specs::Decoding::enumerator_from))]
 fn enumerator_from(bytes: &[u8]) -> Option<(Instruction, &[u8])>
-    ensures { option_map (λ x. (x.0, x.1.now)) result ≡ enumerator_from bytes.now }
+    ensures value { option_map (λ x. (x.0, x.1.now)) result ≡ enumerator_from bytes.now }
+    ensures left { IfSome result (λ x. length x.1.now ≤ length bytes.now) }
 {
     let (value, rest) = i64_from(bytes)?;
     let (text, rest) = u16_from(rest)?;
@@ -212,7 +229,8 @@ fn enumerator_from(bytes: &[u8]) -> Option<(Instruction, &[u8])>
 #[inline(always)]
 #[tactic(auto, unfolding(crate::specs::Decoding::response_from))]
 fn response_from(bytes: &[u8]) -> Option<(Instruction, &[u8])>
-    ensures { option_map (λ x. (x.0, x.1.now)) result ≡ response_from bytes.now }
+    ensures value { option_map (λ x. (x.0, x.1.now)) result ≡ response_from bytes.now }
+    ensures left { IfSome result (λ x. length x.1.now ≤ length bytes.now) }
 {
     let (number, rest) = u32_from(bytes)?;
     let (class, rest) = byte_from(rest)?;
@@ -235,7 +253,8 @@ fn response_from(bytes: &[u8]) -> Option<(Instruction, &[u8])>
 #[inline(always)]
 #[tactic(auto, unfolding(crate::specs::Decoding::member_from))]
 fn member_from(bytes: &[u8]) -> Option<(Instruction, &[u8])>
-    ensures { option_map (λ x. (x.0, x.1.now)) result ≡ member_from bytes.now }
+    ensures value { option_map (λ x. (x.0, x.1.now)) result ≡ member_from bytes.now }
+    ensures left { IfSome result (λ x. length x.1.now ≤ length bytes.now) }
 {
     let (name, rest) = u16_from(bytes)?;
     let (item, rest) = item_from(rest)?;
@@ -258,7 +277,8 @@ fn member_from(bytes: &[u8]) -> Option<(Instruction, &[u8])>
 #[inline(always)]
 #[tactic(auto, unfolding(crate::specs::Decoding::record_from))]
 fn text_from(bytes: &[u8]) -> Option<(Instruction, &[u8])>
-    ensures { option_map (λ x. (x.0, x.1.now)) result ≡ record_from 0x40 bytes.now }
+    ensures value { option_map (λ x. (x.0, x.1.now)) result ≡ record_from 0x40 bytes.now }
+    ensures left { IfSome result (λ x. length x.1.now ≤ length bytes.now) }
 {
     let (text, rest) = u16_from(bytes)?;
     Some((Instruction::Text(StrNo(text)), rest))
@@ -267,7 +287,8 @@ fn text_from(bytes: &[u8]) -> Option<(Instruction, &[u8])>
 #[inline(always)]
 #[tactic(auto, unfolding(crate::specs::Decoding::record_from))]
 fn data_const_from(bytes: &[u8]) -> Option<(Instruction, &[u8])>
-    ensures { option_map (λ x. (x.0, x.1.now)) result ≡ record_from 0x43 bytes.now }
+    ensures value { option_map (λ x. (x.0, x.1.now)) result ≡ record_from 0x43 bytes.now }
+    ensures left { IfSome result (λ x. length x.1.now ≤ length bytes.now) }
 {
     let (constant, rest) = byte_from(bytes)?;
     Some((Instruction::DataConst(constant), rest))
@@ -296,7 +317,8 @@ fn ask_of(number: u8, s: u16, t: u16) -> Option<Ask>
 #[inline(always)]
 #[tactic(auto, unfolding(crate::specs::Decoding::ask_from))]
 fn ask_from(bytes: &[u8]) -> Option<(Instruction, &[u8])>
-    ensures { option_map (λ x. (x.0, x.1.now)) result ≡ ask_from bytes.now }
+    ensures value { option_map (λ x. (x.0, x.1.now)) result ≡ ask_from bytes.now }
+    ensures left { IfSome result (λ x. length x.1.now ≤ length bytes.now) }
 {
     let (number, rest) = byte_from(bytes)?;
     let (s, rest) = u16_from(rest)?;
@@ -305,83 +327,85 @@ fn ask_from(bytes: &[u8]) -> Option<(Instruction, &[u8])>
     Some((Instruction::Ask(request), rest))
 }
 
-// The long instructions. They stand apart, since otherwise no instruction would be decoded inline.
+// The longest instructions. They stand apart, since otherwise no instruction would be decoded inline.
 #[inline(never)]
-fn long_from(code: u8, bytes: &[u8]) -> Option<(Instruction, &[u8])>
-    ensures { option_map (λ x. (x.0, x.1.now)) result ≡
-        (if nat_lt code 0x40 then None else
-        if nat_lt code 0x50 then
-        (if code == 0x42 then entry_from bytes.now else
-        if code == 0x44 then data_from bytes.now else
-        if code == 0x45 then enumerator_from bytes.now else
-        if code == 0x46 then response_from bytes.now else
-        if code == 0x47 then member_from bytes.now else None) else
-        if code == 0x50 then ask_from bytes.now else None) }
+fn long_from(number: u8, bytes: &[u8]) -> Option<(Instruction, &[u8])>
+    ensures value { option_map (λ x. (x.0, x.1.now)) result ≡
+        (if nat_lt number 0x40 then None else
+        if nat_lt number 0x50 then
+        (if number == 0x44 then data_from bytes.now else
+        if number == 0x45 then enumerator_from bytes.now else
+        if number == 0x46 then response_from bytes.now else
+        if number == 0x47 then member_from bytes.now else None) else None) }
+    ensures left { IfSome result (λ x. length x.1.now ≤ length bytes.now) }
 {
-    match code {
-        0x42 => entry_from(bytes),
+    match number {
         0x44 => data_from(bytes),
         0x45 => enumerator_from(bytes),
         0x46 => response_from(bytes),
         0x47 => member_from(bytes),
-        0x50 => ask_from(bytes),
         _ => None,
     }
 }
 
+// An instruction that was read and the place behind it, which the bytes that are left say.
+#[inline(always)]
+fn placed(code: &[u8], found: Option<(Instruction, &[u8])>) -> Option<(Instruction, usize)>
+    requires { IfSome found (λ x. length x.1.now ≤ length code.now) }
+    ensures { result ≡ option_map (λ x. (x.0, length code.now - length x.1.now)) found.entry }
+{
+    let (instruction, rest) = found?;
+    Some((instruction, code.len() - rest.len()))
+}
+
+// The instruction of a number whose operands stand from a place on, and the place behind them.
+//
+// Each arm takes the bytes of its operands by itself, so that an instruction of one byte costs no slice.
 #[inline(always)]
 #[tactic(auto, unfolding(crate::specs::Decoding::instruction_from, crate::specs::Decoding::basic_from, crate::specs::Decoding::operator_of, crate::specs::Decoding::comparison_of, crate::specs::Decoding::unary_of, crate::specs::Decoding::jump_from, crate::specs::Decoding::record_from))]
-fn instruction_from(bytes: &[u8]) -> Option<(Instruction, &[u8])>
-    ensures { option_map (λ x. (x.0, x.1.now)) result ≡ instruction_from bytes.now }
+fn numbered(number: u8, code: &[u8], next: usize) -> Option<(Instruction, usize)>
+    requires { next ≤ length code.now }
+    ensures { result ≡ option_map (λ x. (x.0, length code.now - length x.1)) (instruction_from (number ∷ drop next code.now)) }
 {
-    // Each arm takes the bytes behind the code by itself, so that short instructions don't.
-    if bytes.is_empty() {
-        return None;
-    }
-    match bytes[0] {
-        0x00 => Some((Instruction::End, &bytes[1..])),
-        0x01 => push_from(&bytes[1..]),
-        0x02 => variable_from(&bytes[1..]),
-        0x03 => store_from(&bytes[1..]),
-        0x04 => get_local_from(&bytes[1..]),
-        0x05 => set_local_from(&bytes[1..]),
-        0x06 => Some((Instruction::Pop, &bytes[1..])),
-        0x07 => Some((Instruction::Duplicate, &bytes[1..])),
-        0x10 => Some((Instruction::Operate(Operator::Add), &bytes[1..])),
-        0x11 => Some((Instruction::Operate(Operator::Subtract), &bytes[1..])),
-        0x12 => Some((Instruction::Operate(Operator::Multiply), &bytes[1..])),
-        0x13 => Some((Instruction::Operate(Operator::Divide), &bytes[1..])),
-        0x14 => Some((Instruction::Operate(Operator::Remainder), &bytes[1..])),
-        0x15 => Some((Instruction::Operate(Operator::ShiftLeft), &bytes[1..])),
-        0x16 => Some((Instruction::Operate(Operator::ShiftRight), &bytes[1..])),
-        0x17 => Some((Instruction::Operate(Operator::And), &bytes[1..])),
-        0x18 => Some((Instruction::Operate(Operator::Or), &bytes[1..])),
-        0x19 => Some((Instruction::Operate(Operator::Xor), &bytes[1..])),
-        0x1a => Some((Instruction::Compare(Comparison::Equal), &bytes[1..])),
-        0x1b => Some((Instruction::Compare(Comparison::NotEqual), &bytes[1..])),
-        0x1c => Some((Instruction::Compare(Comparison::Less), &bytes[1..])),
-        0x1d => Some((Instruction::Compare(Comparison::LessOrEqual), &bytes[1..])),
-        0x1e => Some((Instruction::Compare(Comparison::Greater), &bytes[1..])),
-        0x1f => Some((
-            Instruction::Compare(Comparison::GreaterOrEqual),
-            &bytes[1..],
-        )),
-        0x20 => Some((Instruction::Negate, &bytes[1..])),
-        0x21 => Some((Instruction::Not, &bytes[1..])),
-        0x22 => Some((Instruction::Complement, &bytes[1..])),
-        0x30 => jump_from(&bytes[1..]),
-        0x31 => jump_if_zero_from(&bytes[1..]),
-        0x32 => jump_if_not_zero_from(&bytes[1..]),
-        0x33 => case_from(&bytes[1..]),
-        0x40 => text_from(&bytes[1..]),
-        0x41 => Some((Instruction::Number, &bytes[1..])),
-        0x43 => data_const_from(&bytes[1..]),
-        0x51 => Some((Instruction::Abort, &bytes[1..])),
-        code => {
-            // Taken apart, so that the instructions above need no place in memory.
-            let (instruction, rest) = long_from(code, &bytes[1..])?;
-            Some((instruction, rest))
-        }
+    match number {
+        0x00 => Some((Instruction::End, next)),
+        0x01 => placed(code, push_from(&code[next..])),
+        0x02 => placed(code, variable_from(&code[next..])),
+        0x03 => placed(code, store_from(&code[next..])),
+        0x04 => placed(code, get_local_from(&code[next..])),
+        0x05 => placed(code, set_local_from(&code[next..])),
+        0x06 => Some((Instruction::Pop, next)),
+        0x07 => Some((Instruction::Duplicate, next)),
+        0x10 => Some((Instruction::Operate(Operator::Add), next)),
+        0x11 => Some((Instruction::Operate(Operator::Subtract), next)),
+        0x12 => Some((Instruction::Operate(Operator::Multiply), next)),
+        0x13 => Some((Instruction::Operate(Operator::Divide), next)),
+        0x14 => Some((Instruction::Operate(Operator::Remainder), next)),
+        0x15 => Some((Instruction::Operate(Operator::ShiftLeft), next)),
+        0x16 => Some((Instruction::Operate(Operator::ShiftRight), next)),
+        0x17 => Some((Instruction::Operate(Operator::And), next)),
+        0x18 => Some((Instruction::Operate(Operator::Or), next)),
+        0x19 => Some((Instruction::Operate(Operator::Xor), next)),
+        0x1a => Some((Instruction::Compare(Comparison::Equal), next)),
+        0x1b => Some((Instruction::Compare(Comparison::NotEqual), next)),
+        0x1c => Some((Instruction::Compare(Comparison::Less), next)),
+        0x1d => Some((Instruction::Compare(Comparison::LessOrEqual), next)),
+        0x1e => Some((Instruction::Compare(Comparison::Greater), next)),
+        0x1f => Some((Instruction::Compare(Comparison::GreaterOrEqual), next)),
+        0x20 => Some((Instruction::Negate, next)),
+        0x21 => Some((Instruction::Not, next)),
+        0x22 => Some((Instruction::Complement, next)),
+        0x30 => placed(code, jump_from(&code[next..])),
+        0x31 => placed(code, jump_if_zero_from(&code[next..])),
+        0x32 => placed(code, jump_if_not_zero_from(&code[next..])),
+        0x33 => placed(code, case_from(&code[next..])),
+        0x40 => placed(code, text_from(&code[next..])),
+        0x41 => Some((Instruction::Number, next)),
+        0x42 => placed(code, entry_from(&code[next..])),
+        0x43 => placed(code, data_const_from(&code[next..])),
+        0x50 => placed(code, ask_from(&code[next..])),
+        0x51 => Some((Instruction::Abort, next)),
+        _ => placed(code, long_from(number, &code[next..])),
     }
 }
 
@@ -393,6 +417,8 @@ pub fn decode(code: &[u8], place: usize) -> Option<(Instruction, usize)>
     ensures value { result ≡ instruction_at code.now place }
     ensures inside { IfSome result (λ found. (place < found.1) × (found.1 ≤ length code.now)) }
 {
-    let (instruction, rest) = instruction_from(&code[place..])?;
-    Some((instruction, code.len() - rest.len()))
+    if place >= code.len() {
+        return None;
+    }
+    numbered(code[place], code, place + 1)
 }

@@ -1,10 +1,10 @@
 -- One turn of the walk over a unit, by its marks, and its end.
 use Rattle.std.proofs.Common.{◌≡◌, ℕ, ◌+◌, ◌-◌, ◌<◌, ◌≤◌, Bool, true, false, ◌&&◌, ◌||◌, List, ◌∷◌, length, get_or, set, Option, Some, None, refl, sym, ap, ◌∙◌, arith}
-use Rattle.std.specs.Prelude.{IfSome, option_map, nat_lt, is_some}
+use Rattle.std.specs.Prelude.{IfSome, option_map, nat_lt}
 use Rattle.std.specs.List.{list_all}
 use Rattle.std.specs.Option.{option_to_list, option_map_or}
 use Rattle.std.proofs.lemmas.Bool.{and_parts, ltb-true}
-use Rattle.std.proofs.lemmas.List.{length-map, length-set}
+use Rattle.std.proofs.lemmas.List.{length-map}
 use Rattle.edd_image.specs.declared.instruction.Instruction.{Instruction}
 use Rattle.edd_image.specs.declared.unit.Context.{Context}
 use Rattle.edd_image.specs.declared.unit.Sort.{Sort}
@@ -15,17 +15,15 @@ use Rattle.edd_image.specs.References.{names_exist}
 use Rattle.edd_image.specs.Units.{Placed, takes, leaves, jump, is_allowed, is_start}
 use Rattle.edd_image.proofs.Lengths.{instruction_inside}
 use Rattle.edd_loader.specs.declared.marks.Mark.{Mark}
-use Rattle.edd_loader.specs.declared.marks.Mark.TheVariants.{Unknown, Stands}
+use Rattle.edd_loader.specs.declared.marks.Mark.TheVariants.{Stands}
 use Rattle.edd_loader.specs.Depths.{Table, known, enter_ways, visit_all}
-use Rattle.edd_loader.specs.Marks.{arrival, depth_known, depths, stood_on}
-use Rattle.edd_loader.specs.Turns.{IsPlain}
+use Rattle.edd_loader.specs.Marks.{arrival, brought, depth_known, depths, stood_on}
 use Rattle.edd_loader.specs.Walks.{from_place, carry, brought_inside, IsWalk}
 use Rattle.edd_loader.specs.Standing.{may_lead, may_stand, goes_on_inside}
 use Rattle.edd_loader.proofs.Arrivals.{turn_passes, inside_turn}
 use Rattle.edd_loader.proofs.JumpLaws.{jump_is_to}
 use Rattle.edd_loader.proofs.Listing.{walk_goes, walk_stops}
 use Rattle.edd_loader.proofs.MarkLaws.{known_is, mark_there, stands_depths, stands_stood}
-use Rattle.edd_loader.proofs.TurnLaws.{stands_plainly, stands_alone}
 use Rattle.edd_loader.proofs.Walks.{all_goes, end_goes, marks_go}
 
 -- ---- a turn
@@ -94,16 +92,6 @@ taken_keeps context code marks new brought after place next depth i m before lt 
       marked = λ q. stands_on code place next i marks new depth q _ here there stood (before.marked q);
     }
 
--- the same of an instruction that the walk tells by its code
-pub plain_keeps : (context : Context) (code : List ℕ) (marks : List Mark) (place depth after : ℕ) → IsWalk context code marks (Some depth) place → place < length code → get_or marks place Unknown ≡ Unknown → IsPlain context.sort (get_or code place 0) depth after
-    → IsWalk context code (set marks place (Stands depth)) (Some after) (place + 1)
-unfolding enter_ways
-plain_keeps context code marks place depth after before lt unknown p =
-    let nothing : Some (depths (set marks place (Stands depth))) ≡ enter_ways (depths (set marks place (Stands depth))) (depth - takes p.instruction) (option_to_list (jump p.instruction)) =
-    sym (ap (λ (o : Option Way). enter_ways (depths (set marks place (Stands depth))) (depth - takes p.instruction) (option_to_list o)) p.straight) in
-    taken_keeps context code marks (set marks place (Stands depth)) (Some depth) (Some after) place (place + 1) depth p.instruction Unknown before lt (stands_plainly code place depth after context.sort lt p) (omega (arith, lt))
-    (sym unknown) refl (stands_alone context (length code) place (get_or code place 0) depth after p) p.enough nothing refl p.goes_on p.room (length-set marks place (Stands depth))
-
 -- ---- the end
 
 nothing_by : (code : List ℕ) (place : ℕ) (o : Option (Instruction × ℕ)) → length code ≤ place → instruction_at code place ≡ o → o ≡ None
@@ -113,9 +101,12 @@ nothing_by code place (Some found) past e = absurd (omega (arith, past, instruct
 pub nothing_at : (code : List ℕ) (place : ℕ) → length code ≤ place → instruction_at code place ≡ None
 nothing_at code place past = nothing_by code place (instruction_at code place) past refl
 
-pub none_is : (o : Option ℕ) → is_some o ≡ false → o ≡ None
-none_is None e = refl
-none_is (Some n) e = absurd cc
+pub brings_room : (goes_on : Bool) (depth : ℕ) → depth ≤ 128 → IfSome (brought goes_on depth) (λ d. d ≤ 128)
+brings_room true depth room = room
+brings_room false depth room = tt
+
+pub brings_nothing : (goes_on : Bool) (depth : ℕ) → goes_on ≡ false → brought goes_on depth ≡ None
+brings_nothing goes_on depth e = ap (λ (b : Bool). brought b depth) e
 
 pub ahead_done : (code : List ℕ) (place size : ℕ) (brought : Option ℕ) (total : Bool) → instruction_at code place ≡ None → brought ≡ None → (brought_inside size place brought && list_all (goes_on_inside size) (from_place code place)) ≡ total → total ≡ true
 ahead_done code place size brought total nothing none so_far =

@@ -28,6 +28,10 @@ depths marks = map depth_known marks
 abbrev pub stood_on : List Mark → List Bool
 stood_on marks = map is_stood_on marks
 
+-- how many operands the instruction before brings, if it goes on
+abbrev pub brought : Bool → ℕ → Option ℕ
+brought goes_on depth = if goes_on then Some depth else None
+
 -- How many operands there are where the instruction before brings so many, if it goes on, and so many are known: none where
 -- nothing says how many, and no number where others are brought than are known, or more are known than fit.
 abbrev pub arrival : (brought known : Option ℕ) → Option ℕ

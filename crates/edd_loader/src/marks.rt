@@ -3,7 +3,7 @@
 ghost use Rattle.std.specs.Prelude.{◌≡◌, ℕ, ◌<◌, ◌≤◌, IfSome, IsTrue, Some, None, length, vec_len, true, false, slice_index_or, if◌then◌else◌};
 ghost use Rattle.edd_loader.specs.Depths.{enter};
 ghost use Rattle.edd_loader.specs.declared.marks.Mark.TheVariants.{Unknown};
-ghost use Rattle.edd_loader.specs.Marks.{arrival, depth_known, depths, is_settled, stood_on};
+ghost use Rattle.edd_loader.specs.Marks.{arrival, brought, depth_known, depths, is_settled, stood_on};
 
 /// What is known of a place.
 #[derive(Clone, Copy, PartialEq, Eq, Debug)]
@@ -16,20 +16,24 @@ pub enum Mark {
     Stands(u8),
 }
 
-/// How many operands there are at a place to which the instruction before brings so many, if it goes on.
+/// How many operands there are at a place to which the instruction before brings `depth`, if it goes on. Where it doesn't, `depth` is 0.
 #[inline(always)]
-pub fn arrival(brought: Option<u8>, mark: Mark) -> Option<u8>
-    requires { IfSome brought (λ depth. depth ≤ 128) }
-    ensures value { result ≡ arrival brought (depth_known mark) }
+pub fn arrival(goes_on: bool, depth: u8, mark: Mark) -> Option<u8>
+    requires room { depth ≤ 128 }
+    requires nothing { goes_on ≡ false → depth ≡ 0 }
+    ensures value { result ≡ arrival (brought goes_on depth) (depth_known mark) }
     ensures room { IfSome result (λ depth. depth ≤ 128) }
 {
-    match (brought, mark) {
-        (None, Mark::Unknown) => Some(0),
-        (None, Mark::Awaited(known) | Mark::Stands(known)) if known > 128 => None,
-        (None, Mark::Awaited(known) | Mark::Stands(known)) => Some(known),
-        (Some(depth), Mark::Unknown) => Some(depth),
-        (Some(depth), Mark::Awaited(known) | Mark::Stands(known)) if known == depth => Some(depth),
-        (Some(_), Mark::Awaited(_) | Mark::Stands(_)) => None,
+    match mark {
+        Mark::Unknown => Some(depth),
+        Mark::Awaited(known) | Mark::Stands(known) => {
+            let agrees = if goes_on {
+                known == depth
+            } else {
+                known <= 128
+            };
+            if agrees { Some(known) } else { None }
+        }
     }
 }
 

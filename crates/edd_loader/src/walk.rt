@@ -1,14 +1,12 @@
 //! A walk over the instructions of a unit.
 
-ghost use Rattle.std.specs.Prelude.{◌≡◌, ◌+◌, ◌-◌, ◌<◌, ◌≤◌, IfSome, IsTrue, Some, None, option_map, length, slice_index_or, slice_set, true, vec_len};
+ghost use Rattle.std.specs.Prelude.{◌≡◌, ◌+◌, ◌-◌, ◌<◌, ◌≤◌, IsTrue, Some, option_map, slice_set, true, false, vec_len};
 ghost use Rattle.std.specs.Option.{option_to_list};
 ghost use Rattle.edd_image.specs.Units.{takes, leaves, jump};
-ghost use Rattle.edd_loader.specs.declared.marks.Mark.TheVariants.{Stands, Unknown};
+ghost use Rattle.edd_loader.specs.declared.marks.Mark.TheVariants.{Stands};
 ghost use Rattle.edd_loader.specs.Depths.{enter, enter_ways};
-ghost use Rattle.edd_loader.specs.Marks.{depths, stood_on};
+ghost use Rattle.edd_loader.specs.Marks.{brought, depths, stood_on};
 ghost use Rattle.edd_loader.specs.Standing.{may_stand, may_lead};
-ghost use Rattle.edd_loader.specs.Turns.{IsPlain};
-ghost use Rattle.edd_loader.specs.Walks.{IsWalk};
 
 use crate::marks::{Mark, note};
 use edd_image::{Context, Instruction, Sort};
@@ -18,8 +16,10 @@ use edd_image::{Context, Instruction, Sort};
 pub struct Walk {
     /// What is known of each place.
     pub marks: Vec<Mark>,
-    /// How many operands the last instruction brings to the one after it, where it goes on.
-    pub brought: Option<u8>,
+    /// Whether the last instruction goes on to the one after it.
+    pub goes_on: bool,
+    /// How many operands it brings there, and 0 where it doesn't go on.
+    pub depth: u8,
 }
 
 // Whether a jump from a place leads inside the unit, and in an attribute forward.
@@ -34,24 +34,6 @@ fn may_lead(sort: Sort, size: usize, place: usize, target: usize) -> bool
     is_forward && target < size
 }
 
-// How many operands there are behind an instruction of one byte that any unit of this sort may have and that goes on, where it
-// has its operands, and room for what it leaves.
-#[inline(always)]
-fn plain(sort: Sort, code: u8, depth: u8) -> Option<u8>
-    requires { depth ≤ 128 }
-    ensures { IfSome result (IsPlain sort code depth) }
-{
-    match code {
-        // Operators and comparisons, DUP, operators on one operand, POP, NUMBER.
-        0x10..=0x1f if depth >= 2 => Some(depth - 1),
-        0x07 if depth >= 1 && depth < 128 => Some(depth + 1),
-        0x20..=0x22 if depth >= 1 => Some(depth),
-        0x06 if depth >= 1 => Some(depth - 1),
-        0x41 if depth >= 1 && matches!(sort, Sort::Attribute) => Some(depth - 1),
-        _ => None,
-    }
-}
-
 impl Walk {
     // Takes on an instruction that takes nothing and doesn't go on.
     #[inline(always)]
@@ -59,14 +41,16 @@ impl Walk {
         requires { place < vec_len self.old.marks }
         ensures fits { IsTrue result → fits ≡ true }
         ensures marks { IsTrue result → self.new.marks.items ≡ slice_set self.old.marks.items place (Stands depth) }
-        ensures brought { IsTrue result → self.new.brought ≡ None }
+        ensures goes_on { IsTrue result → self.new.goes_on ≡ false }
+        ensures depth { IsTrue result → self.new.depth ≡ 0 }
         ensures len { vec_len self.new.marks ≡ vec_len self.old.marks }
     {
         if !fits {
             return false;
         }
         self.marks[place] = Mark::Stands(depth);
-        self.brought = None;
+        self.goes_on = false;
+        self.depth = 0;
         true
     }
 
@@ -80,7 +64,8 @@ impl Walk {
         ensures enough { IsTrue result → takes ≤ depth }
         ensures room { IsTrue result → depth - takes + leaves ≤ 128 }
         ensures marks { IsTrue result → self.new.marks.items ≡ slice_set self.old.marks.items place (Stands depth) }
-        ensures brought { IsTrue result → self.new.brought ≡ Some (depth - takes + leaves) }
+        ensures goes_on { IsTrue result → self.new.goes_on ≡ true }
+        ensures depth { IsTrue result → self.new.depth ≡ depth - takes + leaves }
         ensures len { vec_len self.new.marks ≡ vec_len self.old.marks }
     {
         if !fits || depth < takes {
@@ -91,7 +76,8 @@ impl Walk {
             return false;
         }
         self.marks[place] = Mark::Stands(depth);
-        self.brought = Some(brought);
+        self.goes_on = true;
+        self.depth = brought;
         true
     }
 
@@ -102,50 +88,12 @@ impl Walk {
         ensures leads { IsTrue result → may_lead sort size place target ≡ true }
         ensures depths { IsTrue result → Some (depths self.new.marks.items) ≡ enter (depths self.old.marks.items) target rest }
         ensures stood { stood_on self.new.marks.items ≡ stood_on self.old.marks.items }
-        ensures brought { self.new.brought ≡ self.old.brought }
+        ensures goes_on { self.new.goes_on ≡ self.old.goes_on }
+        ensures depth { self.new.depth ≡ self.old.depth }
         ensures len { vec_len self.new.marks ≡ vec_len self.old.marks }
     {
         let target = target as usize;
         may_lead(sort, size, place, target) && note(&mut self.marks, target, rest)
-    }
-
-    // How many operands there are behind a plain instruction, where one stands at the place, and no jump is known to lead there.
-    #[inline(always)]
-    fn plain_at(&self, sort: Sort, code: &[u8], place: usize, depth: u8) -> Option<u8>
-        requires marks { vec_len self.now.marks ≡ length code.now }
-        requires depth { depth ≤ 128 }
-        ensures inside { IfSome result (λ after. place < length code.now) }
-        ensures unknown { IfSome result (λ after. slice_index_or self.now.marks.items place Unknown ≡ Unknown) }
-        ensures plain { IfSome result (IsPlain sort (slice_index_or code.now place 0) depth) }
-    {
-        if place >= code.len() {
-            return None;
-        }
-        match self.marks[place] {
-            Mark::Unknown => plain(sort, code[place], depth),
-            _ => None,
-        }
-    }
-
-    /// Goes on over plain instructions, and gives the place behind them. A walk over nothing but such instructions is cheap.
-    #[inline(always)]
-    pub fn pass_plain(&mut self, context: Context, code: &[u8], place: usize) -> usize
-        requires { IsWalk context code.now self.old.marks.items self.old.brought place }
-        ensures walk { IsWalk context code.now self.new.marks.items self.new.brought result }
-        ensures onward { place ≤ result }
-    {
-        let Some(brought) = self.brought else {
-            return place;
-        };
-        let mut depth = brought;
-        let mut place = place;
-        while let Some(after) = self.plain_at(context.sort, code, place, depth) {
-            self.marks[place] = Mark::Stands(depth);
-            depth = after;
-            place += 1;
-        }
-        self.brought = Some(depth);
-        place
     }
 
     /// Takes on the instruction at a place where so many operands are, if it may stand there, has its operands, and leads nowhere
@@ -165,8 +113,9 @@ impl Walk {
         requires depth { depth ≤ 128 }
         ensures stands { IsTrue result → may_stand context size place instruction ≡ true }
         ensures enough { IsTrue result → takes instruction ≤ depth }
-        ensures brought { IsTrue result → self.new.brought ≡ option_map (λ n. depth - takes instruction + n) (leaves instruction) }
-        ensures room { IsTrue result → IfSome self.new.brought (λ n. n ≤ 128) }
+        ensures brought { IsTrue result → brought self.new.goes_on self.new.depth ≡ option_map (λ n. depth - takes instruction + n) (leaves instruction) }
+        ensures room { IsTrue result → self.new.depth ≤ 128 }
+        ensures nothing { IsTrue result → self.new.goes_on ≡ false → self.new.depth ≡ 0 }
         ensures depths { IsTrue result → Some (depths self.new.marks.items)
             ≡ enter_ways (depths (slice_set self.old.marks.items place (Stands depth))) (depth - takes instruction) (option_to_list (jump instruction)) }
         ensures stood { IsTrue result → stood_on self.new.marks.items ≡ stood_on (slice_set self.old.marks.items place (Stands depth)) }
@@ -228,20 +177,4 @@ impl Walk {
             Instruction::Abort => self.stop(place, depth, is_method),
         }
     }
-}
-
-/// Whether an instruction is one of a single byte that takes and leaves operands. Only the speed of a walk hangs on it.
-#[inline(always)]
-pub fn is_plain(instruction: Instruction) -> bool {
-    matches!(
-        instruction,
-        Instruction::Operate(_)
-            | Instruction::Compare(_)
-            | Instruction::Negate
-            | Instruction::Not
-            | Instruction::Complement
-            | Instruction::Duplicate
-            | Instruction::Pop
-            | Instruction::Number
-    )
 }

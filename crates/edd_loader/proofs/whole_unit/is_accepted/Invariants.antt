@@ -1,9 +1,14 @@
-use Rattle.std.proofs.Common.{◌-◌, length}
+use Rattle.std.proofs.Common.{◌≡◌, ◌-◌, ◌≤◌, false, length}
+use Rattle.edd_loader.specs.Marks.{brought}
 use Rattle.edd_loader.specs.Walks.{IsWalk}
 use Rattle.edd_loader.proofs.whole_unit.is_accepted.Given as goal
 
 abbrev pub invariant-loop-place : goal.invariant-loop-place
-invariant-loop-place l = IsWalk l.context l.code l.walk.marks.items l.walk.brought l.place
+invariant-loop-place l = record {
+  walk : IsWalk l.context l.code l.walk.marks.items (brought l.walk.goes_on l.walk.depth) l.place;
+  room : l.walk.depth ≤ 128;
+  nothing : l.walk.goes_on ≡ false → l.walk.depth ≡ 0;
+}
 
 abbrev pub decreases-loop-place : goal.decreases-loop-place
 decreases-loop-place l = length l.code - l.place
