@@ -314,7 +314,8 @@ fn ask_of(number: u8, s: u16, t: u16) -> Option<Ask>
     }
 }
 
-#[inline(always)]
+// It stands apart, since otherwise no instruction would be decoded inline.
+#[inline(never)]
 #[tactic(auto, unfolding(crate::specs::Decoding::ask_from))]
 fn ask_from(bytes: &[u8]) -> Option<(Instruction, &[u8])>
     ensures value { option_map (λ x. (x.0, x.1.now)) result ≡ ask_from bytes.now }
@@ -327,7 +328,7 @@ fn ask_from(bytes: &[u8]) -> Option<(Instruction, &[u8])>
     Some((Instruction::Ask(request), rest))
 }
 
-// The longest instructions. They stand apart, since otherwise no instruction would be decoded inline.
+// The longest instructions. They stand apart, as requests do.
 #[inline(never)]
 fn long_from(number: u8, bytes: &[u8]) -> Option<(Instruction, &[u8])>
     ensures value { option_map (λ x. (x.0, x.1.now)) result ≡

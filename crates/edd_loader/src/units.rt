@@ -106,7 +106,9 @@ pub fn units_keep(alloc: Global, rule: UnitRule, bytes: &[u8]) -> Result<bool, A
     rows_keep(alloc, rule, bytes, code, counts(bytes), start, count)
 }
 
-// Whether the units of `count` attribute rows, the first of which stands at `start`, are accepted.
+// Whether the units of `count` attribute rows, the first of which stands at `start`, are accepted. It stands apart from its
+// caller, so that what the walk needs stays in registers.
+#[inline(never)]
 fn rows_accepted(
     alloc: Global,
     bytes: &[u8],

@@ -9,8 +9,6 @@ use edd_image::{Context, decode};
 use std::alloc::{AllocError, Global};
 
 /// Whether one walk over a unit sees that it keeps all rules. Where it doesn't, that says nothing of which one is broken.
-// Apart from its caller, so that what the loop needs stays in registers.
-#[inline(never)]
 pub fn is_accepted(alloc: Global, context: Context, code: &[u8]) -> Result<bool, AllocError>
     ensures { IfOk result (λ accepted. IsTrue accepted → IsValidUnit context code.now) }
 {
