@@ -1,18 +1,17 @@
 -- The rules in the order in which they are tried.
 use Rattle.std.proofs.Common.{◌≡◌, ℕ, suc, ◌<◌, ◌≤◌, true, nat_eq, List, length, refl, sym, ap, subst, ◌∙◌, arith, inl, inr}
-use Rattle.std.specs.Prelude.{◌==◌, if◌then◌else◌}
+use Rattle.std.specs.Prelude.{◌==◌, Option, Some, None, IfSome, MatchOption, option_map, if◌then◌else◌}
 use Rattle.std.proofs.lemmas.Bool.{cases_eq, and_parts, eqb-true, leb-true}
+use Rattle.edd_image.specs.declared.rules.UnitRule.{UnitRule}
 use Rattle.edd_image.specs.declared.rules.UnitRule.TheVariants as unit_rule
 use Rattle.edd_image.specs.declared.rules.Rule.{Rule}
 use Rattle.edd_image.specs.declared.rules.Rule.TheVariants as rule
 use Rattle.edd_image.specs.Fields.{total_length, sections_end}
 use Rattle.edd_image.specs.Contents.{contents_in}
-use Rattle.edd_image.specs.Units.{IsValidUnit}
-use Rattle.edd_image.specs.Validity.{Keeps, IsValid, fault_number, lengths_agree, units}
-use Rattle.std.specs.List.{AllByRecursion}
-use Rattle.edd_loader.proofs.DepthLaws.{each}
+use Rattle.edd_image.specs.Validity.{Keeps, UnitsKeep, BreaksFirst, IsValid, fault_number, lengths_agree}
 use Rattle.edd_loader.specs.Rules.{KeepsBelow}
 use Rattle.edd_loader.specs.Sections.{AreSectionsOf}
+use Rattle.edd_loader.specs.UnitRows.{fault_bound}
 
 abbrev rule_numbered : ℕ → Rule
 rule_numbered n =
@@ -99,16 +98,19 @@ valid_sections b valid = sections_fill b 112 (omega arith) (λ r h. valid r)
 pub has_header : (b c : List ℕ) → c ≡ b → IsValid b → 56 ≤ length c
 has_header b c e valid = rw e (valid_sections b valid).header
 
--- where all units are valid, so is an image that keeps the rules before those on units
-pub valid_by_units : (b : List ℕ) → KeepsBelow b 108 → AllByRecursion (λ u. IsValidUnit u.context u.code) (units (contents_in b)) → IsValid b
-valid_by_units b below all rule.Short = below rule.Short (omega arith)
-valid_by_units b below all rule.Magic = below rule.Magic (omega arith)
-valid_by_units b below all rule.Version = below rule.Version (omega arith)
-valid_by_units b below all rule.Length = below rule.Length (omega arith)
-valid_by_units b below all rule.Row = below rule.Row (omega arith)
-valid_by_units b below all rule.Name = below rule.Name (omega arith)
-valid_by_units b below all rule.Text = below rule.Text (omega arith)
-valid_by_units b below all (rule.Unit unit_rule.Chain) = each (units (contents_in b)) (λ u valid. valid.chain) all
-valid_by_units b below all (rule.Unit unit_rule.Jump) = each (units (contents_in b)) (λ u valid. valid.jumps) all
-valid_by_units b below all (rule.Unit unit_rule.Depth) = each (units (contents_in b)) (λ u valid. valid.depths) all
-valid_by_units b below all (rule.Unit unit_rule.Reference) = each (units (contents_in b)) (λ u valid. valid.references) all
+-- what is known of the rules on units is known of those that come before a rule
+pub below_units : (b : List ℕ) (n : ℕ) → KeepsBelow b 108 → ((earlier : UnitRule) → fault_number (rule.Unit earlier) < n → UnitsKeep (contents_in b) earlier) → KeepsBelow b n
+below_units b n below kept rule.Short lt = below rule.Short (omega arith)
+below_units b n below kept rule.Magic lt = below rule.Magic (omega arith)
+below_units b n below kept rule.Version lt = below rule.Version (omega arith)
+below_units b n below kept rule.Length lt = below rule.Length (omega arith)
+below_units b n below kept rule.Row lt = below rule.Row (omega arith)
+below_units b n below kept rule.Name lt = below rule.Name (omega arith)
+below_units b n below kept rule.Text lt = below rule.Text (omega arith)
+below_units b n below kept (rule.Unit which) lt = kept which lt
+
+-- so the first that units break is the first that the image breaks
+pub first_by_units : (b : List ℕ) (broken : Option UnitRule) → KeepsBelow b 108 → ((earlier : UnitRule) → fault_number (rule.Unit earlier) < fault_bound broken → UnitsKeep (contents_in b) earlier) → IfSome broken (λ which. ¬ UnitsKeep (contents_in b) which)
+    → MatchOption (option_map (λ which. rule.Unit which) broken) (IsValid b) (BreaksFirst b)
+first_by_units b None below kept breaks = all_kept b (below_units b 112 below kept)
+first_by_units b (Some which) below kept breaks = (below_units b (fault_number (rule.Unit which)) below kept, breaks)

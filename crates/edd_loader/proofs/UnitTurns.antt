@@ -6,12 +6,11 @@ use Rattle.edd_image.specs.declared.unit.Version.{Version}
 use Rattle.edd_image.specs.declared.unit.Version.TheVariants.{One}
 use Rattle.edd_image.specs.declared.unit.Context.{Context}
 use Rattle.edd_image.specs.declared.rules.UnitRule.{UnitRule}
-use Rattle.edd_image.specs.declared.rules.UnitRule.TheVariants.{Chain, Jump, Depth, Reference}
 use Rattle.edd_image.specs.Fields.{counts_in, attribute_count, attribute_rows_start, code_start, code_length}
 use Rattle.edd_image.specs.Contents.{AttributeFields, part, rows_from, attribute_fields, contents_in}
 use Rattle.edd_image.specs.Units.{UnitKeeps}
 use Rattle.edd_image.specs.Validity.{PlacedUnit, sort_of, slots_of, unit_of, units}
-use Rattle.edd_loader.specs.UnitRows.{Needs, UnitsNeed, RowKeeps, RowNeeds, context_of}
+use Rattle.edd_loader.specs.UnitRows.{RowKeeps, context_of}
 
 pub first_holds : {A : Type 0} (P : A → Type 0) (rows rest : List A) (r : A) → rows ≡ r ∷ rest → AllByRecursion P rows → P r
 first_holds P rows rest r e h = (subst (AllByRecursion P) e h).0
@@ -35,29 +34,18 @@ map_of_all f P (x ∷ xs) h = (h.0, map_of_all f P xs h.1)
 
 -- ---- the unit of a row
 
-pub needs_here : (counts : Counts) (code unit : List ℕ) (rule : UnitRule) (r : AttributeFields) (context : Context) (place size : ℕ) → context ≡ context_of counts r → unit ≡ part (record { start = place; size = size }) code → place ≡ r.span.start → size ≡ r.span.size
-    → RowNeeds counts code rule r → Needs context unit rule
-needs_here counts code unit rule r context place size e u p s h =
-    let same : unit ≡ part r.span code = u ∙ rw (p, s) refl in
-    subst (λ (c : Context). Needs c unit rule) (sym e) (subst (λ (x : List ℕ). Needs (context_of counts r) x rule) (sym same) h)
-
-pub keeps_here : (counts : Counts) (code unit : List ℕ) (rule : UnitRule) (r : AttributeFields) (context : Context) (place size : ℕ) → context ≡ context_of counts r → unit ≡ part (record { start = place; size = size }) code → place ≡ r.span.start → size ≡ r.span.size
-    → UnitKeeps context unit rule → RowKeeps counts code rule r
-keeps_here counts code unit rule r context place size e u p s h =
-    let same : unit ≡ part r.span code = u ∙ rw (p, s) refl in
-    subst (λ (c : Context). UnitKeeps c (part r.span code) rule) e (subst (λ (x : List ℕ). UnitKeeps context x rule) same h)
-
-pub kept_here : (counts : Counts) (code unit : List ℕ) (rule : UnitRule) (r : AttributeFields) (context : Context) (place size : ℕ) → context ≡ context_of counts r → unit ≡ part (record { start = place; size = size }) code → place ≡ r.span.start → size ≡ r.span.size
-    → RowKeeps counts code rule r → UnitKeeps context unit rule
-kept_here counts code unit rule r context place size e u p s h =
-    let same : unit ≡ part r.span code = u ∙ rw (p, s) refl in
-    subst (λ (c : Context). UnitKeeps c unit rule) (sym e) (subst (λ (x : List ℕ). UnitKeeps (context_of counts r) x rule) (sym same) h)
-
 pub holds_here : (P : Context → List ℕ → Type 0) (counts : Counts) (code unit : List ℕ) (r : AttributeFields) (context : Context) (place size : ℕ) → context ≡ context_of counts r → unit ≡ part (record { start = place; size = size }) code → place ≡ r.span.start → size ≡ r.span.size
     → P context unit → P (context_of counts r) (part r.span code)
 holds_here P counts code unit r context place size e u p s h =
     let same : unit ≡ part r.span code = u ∙ rw (p, s) refl in
     subst (λ (c : Context). P c (part r.span code)) e (subst (λ (x : List ℕ). P context x) same h)
+
+-- the rule that is said of the unit at hand is said of the row's
+pub kept_here : (counts : Counts) (code unit : List ℕ) (r : AttributeFields) (context : Context) (place size : ℕ) (which : UnitRule) → context ≡ context_of counts r → unit ≡ part (record { start = place; size = size }) code → place ≡ r.span.start → size ≡ r.span.size
+    → RowKeeps counts code which r → UnitKeeps context unit which
+kept_here counts code unit r context place size which e u p s h =
+    let same : unit ≡ part r.span code = u ∙ rw (p, s) refl in
+    subst (λ (c : Context). UnitKeeps c unit which) (sym e) (subst (λ (x : List ℕ). UnitKeeps (context_of counts r) x which) (sym same) h)
 
 -- ---- the units of an image, and those of its rows
 
@@ -102,13 +90,3 @@ from_units P b code counts rows same h =
     let two = subst (λ (x : List AttributeFields). rows_hold P One c.counts c.code x) (sym same.rows_are) three in
     let one = subst (λ (x : Counts). rows_hold P One x c.code rows) (sym same.counts_are) two in
     subst (λ (x : List ℕ). rows_hold P One counts x rows) (sym same.code_is) one
-
-nothing_needed : (rows : List AttributeFields) → AllByRecursion (λ r. Unit {0}) rows
-nothing_needed [] = tt
-nothing_needed (r ∷ rest) = (tt, nothing_needed rest)
-
-pub rows_need : (b code : List ℕ) (counts : Counts) (rows : List AttributeFields) (rule : UnitRule) → AreUnitsOf b code counts rows → UnitsNeed (contents_in b) rule → AllByRecursion (RowNeeds counts code rule) rows
-rows_need b code counts rows Chain same h = nothing_needed rows
-rows_need b code counts rows Jump same h = nothing_needed rows
-rows_need b code counts rows Depth same h = from_units (λ context unit. UnitKeeps context unit Jump) b code counts rows same h
-rows_need b code counts rows Reference same h = nothing_needed rows

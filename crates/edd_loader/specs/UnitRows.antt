@@ -1,37 +1,31 @@
--- The rules on the unit of an attribute row.
-use Rattle.std.specs.Prelude.{ℕ, List}
+-- The rules on the units of attribute rows.
+use Rattle.std.specs.Prelude.{ℕ, ◌<◌, List, Option, Some, None, nat_le, if◌then◌else◌}
+use Rattle.std.specs.List.{AllByRecursion}
 use Rattle.edd_image.specs.declared.parts.Counts.{Counts}
 use Rattle.edd_image.specs.declared.unit.Version.TheVariants.{One}
 use Rattle.edd_image.specs.declared.unit.Context.{Context}
 use Rattle.edd_image.specs.declared.rules.UnitRule.{UnitRule}
-use Rattle.edd_image.specs.declared.rules.UnitRule.TheVariants.{Chain, Jump, Depth, Reference}
-use Rattle.edd_image.specs.Contents.{AttributeFields, Contents, part}
-use Rattle.edd_image.specs.Units.{UnitKeeps, IsValidUnit}
-use Rattle.edd_image.specs.Validity.{sort_of, slots_of, UnitsKeep}
-
--- what is known of a unit before it is looked at for a rule
-abbrev pub Needs : Context → List ℕ → UnitRule → Type 0
-Needs context code Chain = Unit {0}
-Needs context code Jump = Unit {0}
-Needs context code Depth = UnitKeeps context code Jump
-Needs context code Reference = Unit {0}
-
--- the same of all units
-abbrev pub UnitsNeed : Contents → UnitRule → Type 0
-UnitsNeed c Chain = Unit {0}
-UnitsNeed c Jump = Unit {0}
-UnitsNeed c Depth = UnitsKeep c Jump
-UnitsNeed c Reference = Unit {0}
+use Rattle.edd_image.specs.declared.rules.Rule.TheVariants as rule
+use Rattle.edd_image.specs.Contents.{AttributeFields, part}
+use Rattle.edd_image.specs.Units.{UnitKeeps}
+use Rattle.edd_image.specs.Validity.{fault_number, sort_of, slots_of}
 
 abbrev pub context_of : Counts → AttributeFields → Context
 context_of counts r = record { version = One; counts = counts; sort = sort_of r; slots = slots_of r }
 
+-- the unit of the row keeps the rule
 abbrev pub RowKeeps : Counts → List ℕ → UnitRule → AttributeFields → Type 0
-RowKeeps counts code rule r = UnitKeeps (context_of counts r) (part r.span code) rule
+RowKeeps counts code which r = UnitKeeps (context_of counts r) (part r.span code) which
 
-abbrev pub RowNeeds : Counts → List ℕ → UnitRule → AttributeFields → Type 0
-RowNeeds counts code rule r = Needs (context_of counts r) (part r.span code) rule
+-- the units of the rows keep each rule whose fault has a number below n
+abbrev pub RowsKeepBelow : Counts → List ℕ → List AttributeFields → ℕ → Type 0
+RowsKeepBelow counts code rows n = (earlier : UnitRule) → fault_number (rule.Unit earlier) < n → AllByRecursion (RowKeeps counts code earlier) rows
 
--- the unit of the row keeps all rules
-abbrev pub RowIsValid : Counts → List ℕ → AttributeFields → Type 0
-RowIsValid counts code r = IsValidUnit (context_of counts r) (part r.span code)
+-- the number below which no fault is found in units: past the last one, where there is none
+abbrev pub fault_bound : Option UnitRule → ℕ
+fault_bound None = 112
+fault_bound (Some which) = fault_number (rule.Unit which)
+
+-- of two rules that may be broken the one that is tried first
+abbrev pub first_of : (one other : Option UnitRule) → Option UnitRule
+first_of one other = if nat_le (fault_bound one) (fault_bound other) then one else other

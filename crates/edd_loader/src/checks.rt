@@ -6,8 +6,8 @@ ghost use Rattle.edd_loader.specs.Rules.{KeepsBelow};
 
 use crate::header::broken_in_header;
 use crate::sections::{are_names, are_rows, are_strings};
-use crate::units::{units_accepted, units_keep};
-use edd_image::{Rule, UnitRule};
+use crate::units::broken_in_units;
+use edd_image::Rule;
 use std::alloc::{AllocError, Global};
 
 // The first of the rules on rows, names and strings that is broken, if one is.
@@ -27,28 +27,15 @@ fn broken_in_sections(bytes: &[u8]) -> Option<Rule>
     None
 }
 
-// The first of the rules on units that is broken, if one is. All units are looked at for a rule before any is for the next, but
-// only where one walk that looks for all rules doesn't accept them.
-fn broken_in_units(alloc: Global, bytes: &[u8]) -> Result<Option<Rule>, AllocError>
+// The first of the rules on units that is broken, if one is.
+fn broken_in_code(alloc: Global, bytes: &[u8]) -> Result<Option<Rule>, AllocError>
     requires { KeepsBelow bytes.now 108 }
     ensures { IfOk result (λ broken. MatchOption broken (IsValid bytes.now) (BreaksFirst bytes.now)) }
 {
-    if units_accepted(alloc, bytes)? {
-        return Ok(None);
+    match broken_in_units(alloc, bytes)? {
+        Some(rule) => Ok(Some(Rule::Unit(rule))),
+        None => Ok(None),
     }
-    if !units_keep(alloc, UnitRule::Chain, bytes)? {
-        return Ok(Some(Rule::Unit(UnitRule::Chain)));
-    }
-    if !units_keep(alloc, UnitRule::Jump, bytes)? {
-        return Ok(Some(Rule::Unit(UnitRule::Jump)));
-    }
-    if !units_keep(alloc, UnitRule::Depth, bytes)? {
-        return Ok(Some(Rule::Unit(UnitRule::Depth)));
-    }
-    if !units_keep(alloc, UnitRule::Reference, bytes)? {
-        return Ok(Some(Rule::Unit(UnitRule::Reference)));
-    }
-    Ok(None)
 }
 
 /// The first rule that is broken, if one is.
@@ -61,5 +48,5 @@ pub fn first_broken(alloc: Global, bytes: &[u8]) -> Result<Option<Rule>, AllocEr
     if let Some(rule) = broken_in_sections(bytes) {
         return Ok(Some(rule));
     }
-    broken_in_units(alloc, bytes)
+    broken_in_code(alloc, bytes)
 }
