@@ -58,6 +58,26 @@ fn with_code(alloc: Global, slots: u8, code: &[u8]) -> Result<Vec<u8>, AllocErro
     Ok(bytes)
 }
 
+// Two methods `m` and `n` with these codes, of at most 16 bytes each.
+fn with_units(alloc: Global, first: &[u8], second: &[u8]) -> Result<Vec<u8>, AllocError> {
+    let one = first.len().min(16) as u8;
+    let two = second.len().min(16) as u8;
+    let mut bytes = Vec::new(alloc);
+    bytes.extend_from_slice(&LOOP[..8])?;
+    bytes.extend_from_slice(&[0, 0, 0, 106 + one + two])?;
+    bytes.extend_from_slice(&LOOP[12..36])?;
+    bytes.extend_from_slice(&[0, 2, 0, 0, 0, 0, 0, 2, 0, 0, 0, 2])?;
+    bytes.extend_from_slice(&[0, 0, 0, one + two, 0, 0, 0, 0])?;
+    bytes.extend_from_slice(&[0, 0, 0, 0, 0, 1, 0, 0])?;
+    bytes.extend_from_slice(&[0, 0, 0, 1, 0, 1, 0, 0])?;
+    bytes.extend_from_slice(&[5, 0x15, 0, 0, 0, 0, 0, 0, 0, 0, 0, 0, 0, 0, 0, one])?;
+    bytes.extend_from_slice(&[5, 0x15, 0, 1, 0, 0, 0, 0, 0, 0, 0, one, 0, 0, 0, two])?;
+    bytes.extend_from_slice(first)?;
+    bytes.extend_from_slice(second)?;
+    bytes.extend_from_slice(b"mn")?;
+    Ok(bytes)
+}
+
 #[test]
 fn each_edit_is_refused(rt: HostRuntime) -> Result<(), Fail> {
     let alloc = rt.alloc();
@@ -210,6 +230,30 @@ fn codes_of_a_method(rt: HostRuntime) -> Result<(), Fail> {
     for (slots, code, want) in cases {
         let image = with_code(alloc, slots, code)?;
         assert_eq!(rt; refusal(alloc, &image), want, "{code:?}");
+    }
+    Ok(())
+}
+
+#[test]
+fn the_first_rule_of_two_units(rt: HostRuntime) -> Result<(), Fail> {
+    let alloc = rt.alloc();
+    let end: &[u8] = &[0x00];
+    let no_operand: &[u8] = &[0x06, 0];
+    let no_variable: &[u8] = &[0x02, 0, 0, 0x06, 0];
+    let into_itself: &[u8] = &[0x30, 0, 0, 0, 1];
+    let cases = [
+        (end, end, None),
+        (end, no_variable, Some(LoadFault::Reference)),
+        (no_variable, end, Some(LoadFault::Reference)),
+        (no_variable, no_operand, Some(LoadFault::Depth)),
+        (no_operand, no_variable, Some(LoadFault::Depth)),
+        (no_operand, into_itself, Some(LoadFault::Jump)),
+        (into_itself, no_operand, Some(LoadFault::Jump)),
+        (into_itself, &[0xff], Some(LoadFault::Instruction)),
+    ];
+    for (first, second, want) in cases {
+        let image = with_units(alloc, first, second)?;
+        assert_eq!(rt; refusal(alloc, &image), want, "{first:?} {second:?}");
     }
     Ok(())
 }
