@@ -32,12 +32,6 @@ rows_behind read size count start i =
     let fewer : (count - i) - 1 ≡ count - (i + 1) = omega arith in
     rw (further, fewer) refl
 
-pub all_rows : {A : Type 0} (read : ℕ → A) (size count start : ℕ) → rows_on read size count start 0 ≡ rows_from read size count start
-all_rows read size count start =
-    let none : count - 0 ≡ count = omega arith in
-    let first : start + size * 0 ≡ start = omega arith in
-    rw (none, first) refl
-
 -- ---- a test of each row
 
 pub each_goes : {A : Type 0} (p : A → Bool) (rows rest : List A) (r : A) (total : Bool) → rows ≡ r ∷ rest → p r ≡ true → list_all p rows ≡ total → list_all p rest ≡ total

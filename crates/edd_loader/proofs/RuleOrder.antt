@@ -1,17 +1,14 @@
 -- The rules in the order in which they are tried.
-use Rattle.std.proofs.Common.{◌≡◌, ℕ, suc, ◌<◌, ◌≤◌, true, nat_eq, List, length, refl, sym, ap, subst, ◌∙◌, arith, inl, inr}
-use Rattle.std.specs.Prelude.{◌==◌, Option, Some, None, IfSome, MatchOption, option_map, if◌then◌else◌}
-use Rattle.std.proofs.lemmas.Bool.{cases_eq, and_parts, eqb-true, leb-true}
-use Rattle.edd_image.specs.declared.rules.UnitRule.{UnitRule}
+use Rattle.std.proofs.Common.{◌≡◌, ℕ, ◌<◌, ◌≤◌, true, nat_eq, List, length, refl, sym, ap, ◌∙◌, arith}
+use Rattle.std.specs.Prelude.{◌==◌, if◌then◌else◌}
+use Rattle.std.proofs.lemmas.Bool.{and_parts, eqb-true, leb-true}
 use Rattle.edd_image.specs.declared.rules.UnitRule.TheVariants as unit_rule
 use Rattle.edd_image.specs.declared.rules.Rule.{Rule}
 use Rattle.edd_image.specs.declared.rules.Rule.TheVariants as rule
 use Rattle.edd_image.specs.Fields.{total_length, sections_end}
-use Rattle.edd_image.specs.Contents.{contents_in}
-use Rattle.edd_image.specs.Validity.{Keeps, UnitsKeep, BreaksFirst, IsValid, fault_number, lengths_agree}
+use Rattle.edd_image.specs.Validity.{IsValid, fault_number, lengths_agree}
 use Rattle.edd_loader.specs.Rules.{KeepsBelow}
 use Rattle.edd_loader.specs.Sections.{AreSectionsOf}
-use Rattle.edd_loader.specs.UnitRows.{fault_bound}
 
 abbrev rule_numbered : ℕ → Rule
 rule_numbered n =
@@ -72,12 +69,6 @@ highest (rule.Unit unit_rule.Reference) = omega arith
 pub none_before : (b : List ℕ) → KeepsBelow b 101
 none_before b earlier h = absurd (omega (arith, lowest earlier, h))
 
-pub one_more : (b : List ℕ) (r : Rule) (n : ℕ) → n ≡ suc (fault_number r) → KeepsBelow b (fault_number r) → Keeps b r → KeepsBelow b n
-one_more b r n e below kept earlier h = elim (cases_eq (fault_number earlier) (fault_number r)) [
-  | inl same ↦ subst (Keeps b) (sym (one_rule earlier r same)) kept
-  | inr other ↦ below earlier (omega (arith, h, e, other))
-]
-
 pub all_kept : (b : List ℕ) → KeepsBelow b 112 → IsValid b
 all_kept b below which = below which (highest which)
 
@@ -97,20 +88,3 @@ valid_sections b valid = sections_fill b 112 (omega arith) (λ r h. valid r)
 -- the same of other words for the bytes
 pub has_header : (b c : List ℕ) → c ≡ b → IsValid b → 56 ≤ length c
 has_header b c e valid = rw e (valid_sections b valid).header
-
--- what is known of the rules on units is known of those that come before a rule
-pub below_units : (b : List ℕ) (n : ℕ) → KeepsBelow b 108 → ((earlier : UnitRule) → fault_number (rule.Unit earlier) < n → UnitsKeep (contents_in b) earlier) → KeepsBelow b n
-below_units b n below kept rule.Short lt = below rule.Short (omega arith)
-below_units b n below kept rule.Magic lt = below rule.Magic (omega arith)
-below_units b n below kept rule.Version lt = below rule.Version (omega arith)
-below_units b n below kept rule.Length lt = below rule.Length (omega arith)
-below_units b n below kept rule.Row lt = below rule.Row (omega arith)
-below_units b n below kept rule.Name lt = below rule.Name (omega arith)
-below_units b n below kept rule.Text lt = below rule.Text (omega arith)
-below_units b n below kept (rule.Unit which) lt = kept which lt
-
--- so the first that units break is the first that the image breaks
-pub first_by_units : (b : List ℕ) (broken : Option UnitRule) → KeepsBelow b 108 → ((earlier : UnitRule) → fault_number (rule.Unit earlier) < fault_bound broken → UnitsKeep (contents_in b) earlier) → IfSome broken (λ which. ¬ UnitsKeep (contents_in b) which)
-    → MatchOption (option_map (λ which. rule.Unit which) broken) (IsValid b) (BreaksFirst b)
-first_by_units b None below kept breaks = all_kept b (below_units b 112 below kept)
-first_by_units b (Some which) below kept breaks = (below_units b (fault_number (rule.Unit which)) below kept, breaks)

@@ -2,13 +2,12 @@
 use Rattle.std.proofs.Common.{◌≡◌, ℕ, zero, suc, ◌++◌, ◌<◌, Bool, true, false, ◌&&◌, ◌||◌, nat_eq, nat_lt, List, length, get_or, set, Option, Some, None, refl, sym, ap, ◌∙◌, arith, inl, inr, get_or-set_same, get_or-set_other, subst}
 use Rattle.std.specs.List.{list_all}
 use Rattle.std.specs.Option.{option_to_list, option_map_or}
-use Rattle.edd_image.specs.declared.unit.Sort.{Sort}
 use Rattle.edd_image.specs.declared.unit.Way.{Way}
-use Rattle.std.proofs.lemmas.Bool.{cases_Bool, and_parts, and_left, and_right, or_left, or_right, cases_eq, eq-eqb, ne_eqb, lt-ltb}
+use Rattle.std.proofs.lemmas.Bool.{cases_Bool, and_left, and_right, or_left, or_right, cases_eq, eq-eqb, ne_eqb, lt-ltb}
 use Rattle.edd_image.specs.declared.instruction.Instruction.{Instruction}
 use Rattle.edd_image.specs.declared.unit.Context.{Context}
 use Rattle.edd_image.specs.Decoding.{instruction_at}
-use Rattle.edd_image.specs.Units.{Placed, instructions, end_of, is_allowed, is_chain, is_start, is_forward, lands, onward, jump}
+use Rattle.edd_image.specs.Units.{Placed, instructions, end_of, is_allowed, is_chain, is_start}
 use Rattle.edd_loader.proofs.Listing.{placed, from_place, walk_goes, walk_stops}
 
 -- ---- a test of each instruction
@@ -27,10 +26,6 @@ all_fails p code place found total e fails so_far =
 
 pub all_done : (p : Placed → Bool) (code : List ℕ) (place : ℕ) (total : Bool) → instruction_at code place ≡ None → list_all p (from_place code place) ≡ total → total ≡ true
 all_done p code place total e so_far = sym so_far ∙ ap (list_all p) (walk_stops code place e)
-
--- where all pass, those behind the first pass
-pub tail_passes : (p : Placed → Bool) (code : List ℕ) (place : ℕ) (found : Instruction × ℕ) → instruction_at code place ≡ Some found → list_all p (from_place code place) ≡ true → list_all p (from_place code found.1) ≡ true
-tail_passes p code place found e all = (and_parts (p (placed place found)) _ (ap (list_all p) (sym (walk_goes code place found e)) ∙ all)).1
 
 -- ---- the end of the last instruction
 
@@ -71,17 +66,6 @@ marks_go code place found marks q total e inside so_far =
           rw (kept, same) so_far
     ]
 
-pub marks_done : (code : List ℕ) (place : ℕ) (marks : List Bool) (q : ℕ) → instruction_at code place ≡ None
-    → (get_or marks q false || is_start (from_place code place) q) ≡ is_start (from_place code 0) q → get_or marks q false ≡ is_start (instructions code) q
-unfolding instructions
-marks_done code place marks q e so_far =
-    let none : is_start (from_place code place) q ≡ false = ap (λ (xs : List Placed). is_start xs q) (walk_stops code place e) in
-    sym (or_false (get_or marks q false)) ∙ ap (λ (b : Bool). get_or marks q false || b) (sym none) ∙ so_far
-  where
-    or_false : (b : Bool) → (b || false) ≡ b
-    or_false true = refl
-    or_false false = refl
-
 pub some_bytes : (n : ℕ) → nat_eq n 0 ≡ false → 0 < n
 some_bytes zero e = absurd cc
 some_bytes (suc n) e = omega arith
@@ -93,13 +77,3 @@ if_any p None None = refl
 if_any p None (Some w) = elim (cases_Bool (p w)) [ inl e ↦ rw e refl | inr e ↦ rw e refl ]
 if_any p (Some v) None = refl
 if_any p (Some v) (Some w) = elim (cases_Bool (p w)) [ inl e ↦ rw e refl | inr e ↦ rw e refl ]
-
-same_lead : (marks : List Bool) (xs : List Placed) (way : Option Way) → ((q : ℕ) → get_or marks q false ≡ is_start xs q) → option_map_or (λ w. get_or marks w.to false) way true ≡ option_map_or (λ w. is_start xs w.to) way true
-same_lead marks xs None h = refl
-same_lead marks xs (Some w) h = h w.to
-
--- the tests of the ways from an instruction, by marks
-pub lands_by_marks : (sort : Sort) (marks : List Bool) (xs : List Placed) (x : Placed) → ((q : ℕ) → get_or marks q false ≡ is_start xs q)
-    → (is_forward sort x && (option_map_or (λ w. get_or marks w.to false) (onward x.instruction x.next) true && option_map_or (λ w. get_or marks w.to false) (jump x.instruction) true)) ≡ lands sort xs x
-lands_by_marks sort marks xs x h =
-    ap (λ (b : Bool). is_forward sort x && b) (rw (same_lead marks xs (onward x.instruction x.next) h, same_lead marks xs (jump x.instruction) h) (sym (if_any (λ w. is_start xs w.to) (onward x.instruction x.next) (jump x.instruction))))

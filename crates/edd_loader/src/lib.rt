@@ -4,7 +4,6 @@
 mod attributes;
 mod checks;
 mod codes;
-mod depths;
 mod fault;
 mod header;
 mod image;
@@ -14,8 +13,8 @@ mod names;
 mod rows;
 mod sections;
 mod spans;
+mod survey;
 mod texts;
-mod unit;
 mod units;
 mod walk;
 mod whole_unit;

@@ -1,9 +1,7 @@
 //! What a walk over a unit knows of its places.
 
-ghost use Rattle.std.specs.Prelude.{◌≡◌, ℕ, ◌<◌, ◌≤◌, IfSome, IsTrue, Some, None, length, vec_len, true, false, slice_index_or, if◌then◌else◌};
-ghost use Rattle.edd_loader.specs.Depths.{enter};
-ghost use Rattle.edd_loader.specs.declared.marks.Mark.TheVariants.{Unknown};
-ghost use Rattle.edd_loader.specs.Marks.{arrival, brought, depth_known, depths, is_settled, stood_on};
+ghost use Rattle.std.specs.Prelude.{◌≡◌, ◌↔◌, ℕ, ◌<◌, ◌≤◌, IfSome, IsTrue, vec_len, true, false};
+ghost use Rattle.edd_loader.specs.Marks.{agrees_with, arrival, brought, depth_known, is_settled, mark_at, note_at};
 
 /// What is known of a place.
 #[derive(Clone, Copy, PartialEq, Eq, Debug)]
@@ -21,34 +19,32 @@ pub enum Mark {
 pub fn arrival(goes_on: bool, depth: u8, mark: Mark) -> Option<u8>
     requires room { depth ≤ 128 }
     requires nothing { goes_on ≡ false → depth ≡ 0 }
+    requires fit { IfSome (depth_known mark) (λ known. known ≤ 128) }
     ensures value { result ≡ arrival (brought goes_on depth) (depth_known mark) }
     ensures room { IfSome result (λ depth. depth ≤ 128) }
 {
     match mark {
         Mark::Unknown => Some(depth),
         Mark::Awaited(known) | Mark::Stands(known) => {
-            let agrees = if goes_on {
-                known == depth
+            if !goes_on {
+                Some(known)
+            } else if known == depth {
+                Some(depth)
             } else {
-                known <= 128
-            };
-            if agrees { Some(known) } else { None }
+                None
+            }
         }
     }
 }
 
-/// Notes that a jump brings so many operands to a place, unless they are more than fit, or others are known there.
+/// Notes that a jump brings so many operands to a place. False where others are known there.
 #[inline(always)]
-#[tactic(auto, unfolding(crate::specs::Depths::enter))]
 pub fn note(marks: &mut Vec<Mark>, place: usize, depth: u8) -> bool
     requires { place < vec_len marks.old }
-    ensures depths { (if result then Some (depths marks.new.items) else None) ≡ enter (depths marks.old.items) place depth }
-    ensures stood { stood_on marks.new.items ≡ stood_on marks.old.items }
+    ensures agrees { result ≡ agrees_with (mark_at marks.old.items place) depth }
+    ensures marks { marks.new.items ≡ note_at marks.old.items place depth }
     ensures len { vec_len marks.new ≡ vec_len marks.old }
 {
-    if depth > 128 {
-        return false;
-    }
     match marks[place] {
         Mark::Unknown => {
             marks[place] = Mark::Awaited(depth);
@@ -70,7 +66,7 @@ impl Mark {
 
 /// Whether an instruction stands at each place to which a jump leads.
 pub fn are_settled(marks: &[Mark]) -> bool
-    ensures { IsTrue result → (q : ℕ) → is_settled (slice_index_or marks.now q Unknown) ≡ true }
+    ensures { IsTrue result ↔ ((q : ℕ) → is_settled (mark_at marks.now q) ≡ true) }
 {
     let mut are_settled = true;
     for place in 0..marks.len() {

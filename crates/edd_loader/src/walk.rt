@@ -1,12 +1,12 @@
 //! A walk over the instructions of a unit.
 
-ghost use Rattle.std.specs.Prelude.{◌≡◌, ◌+◌, ◌-◌, ◌<◌, ◌≤◌, IsTrue, Some, option_map, slice_set, true, false, vec_len};
-ghost use Rattle.std.specs.Option.{option_to_list};
-ghost use Rattle.edd_image.specs.Units.{takes, leaves, jump};
+ghost use Rattle.std.specs.Prelude.{◌≡◌, ◌+◌, ◌-◌, ◌<◌, ◌≤◌, IsTrue, option_map, slice_set, true, false, vec_len};
+ghost use Rattle.edd_image.specs.References.{names_exist};
+ghost use Rattle.edd_image.specs.Units.{is_allowed, takes, leaves};
 ghost use Rattle.edd_loader.specs.declared.marks.Mark.TheVariants.{Stands};
-ghost use Rattle.edd_loader.specs.Depths.{enter, enter_ways};
-ghost use Rattle.edd_loader.specs.Marks.{brought, depths, stood_on};
-ghost use Rattle.edd_loader.specs.Standing.{may_stand, may_lead};
+ghost use Rattle.edd_loader.specs.Marks.{agrees_with, brought, mark_at, note_at};
+ghost use Rattle.edd_loader.specs.Standing.{fits, jumps_inside, may_lead};
+ghost use Rattle.edd_loader.specs.Walks.{jump_agrees, jump_noted};
 
 use crate::marks::{Mark, note};
 use edd_image::{Context, Instruction, Sort};
@@ -22,9 +22,9 @@ pub struct Walk {
     pub depth: u8,
 }
 
-// Whether a jump from a place leads inside the unit, and in an attribute forward.
+/// Whether a jump from a place leads inside the unit, and in an attribute forward.
 #[inline(always)]
-fn may_lead(sort: Sort, size: usize, place: usize, target: usize) -> bool
+pub fn may_lead(sort: Sort, size: usize, place: usize, target: usize) -> bool
     ensures { result ≡ may_lead sort size place target }
 {
     let is_forward = match sort {
@@ -86,8 +86,8 @@ impl Walk {
     fn jump(&mut self, sort: Sort, size: usize, place: usize, rest: u8, target: u32) -> bool
         requires { vec_len self.old.marks ≡ size }
         ensures leads { IsTrue result → may_lead sort size place target ≡ true }
-        ensures depths { IsTrue result → Some (depths self.new.marks.items) ≡ enter (depths self.old.marks.items) target rest }
-        ensures stood { stood_on self.new.marks.items ≡ stood_on self.old.marks.items }
+        ensures agrees { IsTrue result → agrees_with (mark_at self.old.marks.items target) rest ≡ true }
+        ensures marks { IsTrue result → self.new.marks.items ≡ note_at self.old.marks.items target rest }
         ensures goes_on { self.new.goes_on ≡ self.old.goes_on }
         ensures depth { self.new.depth ≡ self.old.depth }
         ensures len { vec_len self.new.marks ≡ vec_len self.old.marks }
@@ -99,7 +99,6 @@ impl Walk {
     /// Takes on the instruction at a place where so many operands are, if it may stand there, has its operands, and leads nowhere
     /// with another number of them.
     #[inline(always)]
-    #[tactic(auto, unfolding(crate::specs::Depths::enter_ways))]
     pub fn take_on(
         &mut self,
         context: Context,
@@ -111,14 +110,16 @@ impl Walk {
         requires size { vec_len self.old.marks ≡ size }
         requires place { place < size }
         requires depth { depth ≤ 128 }
-        ensures stands { IsTrue result → may_stand context size place instruction ≡ true }
-        ensures enough { IsTrue result → takes instruction ≤ depth }
+        ensures allowed { IsTrue result → is_allowed context.version context.sort instruction ≡ true }
+        ensures names { IsTrue result → names_exist context instruction ≡ true }
+        ensures leads { IsTrue result → jumps_inside context.sort size place instruction ≡ true }
+        ensures fits { IsTrue result → fits depth instruction ≡ true }
+        ensures agrees { IsTrue result → jump_agrees instruction (slice_set self.old.marks.items place (Stands depth)) (depth - takes instruction) ≡ true }
         ensures brought { IsTrue result → brought self.new.goes_on self.new.depth ≡ option_map (λ n. depth - takes instruction + n) (leaves instruction) }
         ensures room { IsTrue result → self.new.depth ≤ 128 }
         ensures nothing { IsTrue result → self.new.goes_on ≡ false → self.new.depth ≡ 0 }
-        ensures depths { IsTrue result → Some (depths self.new.marks.items)
-            ≡ enter_ways (depths (slice_set self.old.marks.items place (Stands depth))) (depth - takes instruction) (option_to_list (jump instruction)) }
-        ensures stood { IsTrue result → stood_on self.new.marks.items ≡ stood_on (slice_set self.old.marks.items place (Stands depth)) }
+        ensures marks { IsTrue result → self.new.marks.items
+            ≡ jump_noted context.sort size place instruction (slice_set self.old.marks.items place (Stands depth)) (depth - takes instruction) }
         ensures len { vec_len self.new.marks ≡ vec_len self.old.marks }
     {
         let sort = context.sort;

@@ -1,11 +1,12 @@
 //! All rules on one unit.
 
-ghost use Rattle.std.specs.Prelude.{◌↔◌, IfOk, IsTrue, MatchOption};
-ghost use Rattle.edd_image.specs.Units.{IsValidUnit, UnitBreaksFirst, all_land, instructions};
+ghost use Rattle.std.specs.Prelude.{IfOk, IsTrue, MatchOption};
+ghost use Rattle.edd_image.specs.declared.rules.UnitRule.TheVariants.{Chain};
+ghost use Rattle.edd_image.specs.Units.{IsValidUnit, UnitBreaksFirst, UnitKeeps};
+ghost use Rattle.edd_loader.specs.Walks.{IsSurveyOf};
 
-use crate::depths::has_depths;
 use crate::marks::{Mark, are_settled, arrival};
-use crate::unit::{all_exist, all_land, is_chain, starts};
+use crate::survey::Survey;
 use crate::walk::Walk;
 use edd_image::{Context, UnitRule, decode};
 use std::alloc::{AllocError, Global};
@@ -39,33 +40,44 @@ fn is_accepted(alloc: Global, context: Context, code: &[u8]) -> Result<bool, All
     Ok(are_settled(&walk.marks))
 }
 
-// Whether each way leads to an instruction, and in an attribute each jump forward.
-fn is_linked(alloc: Global, context: Context, code: &[u8]) -> Result<bool, AllocError>
-    ensures { IfOk result (λ linked. IsTrue linked ↔ IsTrue (all_land context (instructions code.now))) }
+// What a walk that goes on behind breaches has seen at the end of a unit, if the unit is a chain.
+fn surveyed(alloc: Global, context: Context, code: &[u8]) -> Result<Option<Survey>, AllocError>
+    ensures { IfOk result (λ survey. MatchOption survey (¬ UnitKeeps context code.now Chain) (IsSurveyOf context code.now)) }
 {
-    let starts = starts(alloc, code)?;
-    Ok(all_land(context, code, &starts))
+    if code.is_empty() {
+        return Ok(None);
+    }
+    let marks = vec![in alloc; Mark::Unknown; code.len()]?;
+    let mut survey = Survey::start(marks);
+    let mut place = 0;
+    while place < code.len() {
+        let Some((instruction, next)) = decode(code, place) else {
+            return Ok(None);
+        };
+        let depth = survey.arrive(place);
+        if !survey.take_on(context, place, next, depth, instruction) {
+            return Ok(None);
+        }
+        place = next;
+    }
+    Ok(Some(survey))
 }
 
-// The first rule that a unit breaks, found by trying one after the other.
+// The first rule that a unit breaks, if it breaks one, seen by a walk to its end.
 #[inline(never)]
-fn tried_in_order(
-    alloc: Global,
-    context: Context,
-    code: &[u8],
-) -> Result<Option<UnitRule>, AllocError>
+fn seen_broken(alloc: Global, context: Context, code: &[u8]) -> Result<Option<UnitRule>, AllocError>
     ensures { IfOk result (λ broken. MatchOption broken (IsValidUnit context code.now) (UnitBreaksFirst context code.now)) }
 {
-    if !is_chain(context, code) {
+    let Some(survey) = surveyed(alloc, context, code)? else {
         return Ok(Some(UnitRule::Chain));
-    }
-    if !is_linked(alloc, context, code)? {
+    };
+    if !survey.leads || survey.goes_on || !are_settled(&survey.marks) {
         return Ok(Some(UnitRule::Jump));
     }
-    if !has_depths(alloc, context, code)? {
+    if !survey.agrees {
         return Ok(Some(UnitRule::Depth));
     }
-    if !all_exist(context, code) {
+    if !survey.names {
         return Ok(Some(UnitRule::Reference));
     }
     Ok(None)
@@ -82,5 +94,5 @@ pub fn broken_in_unit(
     if is_accepted(alloc, context, code)? {
         return Ok(None);
     }
-    tried_in_order(alloc, context, code)
+    seen_broken(alloc, context, code)
 }

@@ -1,65 +1,53 @@
-use Rattle.std.proofs.Common.{rules, ◌≡◌, ℕ, ◌||◌, true, false, arith, sym, ap, refl, ◌∙◌, List, length, get_or, replicate}
-use Rattle.edd_image.specs.Units.{is_start}
-use Rattle.edd_loader.specs.declared.marks.Mark.{Mark}
-use Rattle.edd_loader.specs.declared.marks.Mark.TheVariants.{Unknown}
-use Rattle.edd_loader.specs.Depths.{Table, visit_all}
-use Rattle.edd_loader.specs.Marks.{brought, depths, is_settled, stood_on}
-use Rattle.edd_loader.proofs.AcceptedUnits.{accepted}
-use Rattle.edd_loader.proofs.Listing.{from_place}
-use Rattle.edd_loader.proofs.MarkLaws.{nothing_known, nothing_stands, settled}
-use Rattle.edd_loader.proofs.WalkTurns.{taken_keeps, nothing_at, brings_room, brings_nothing, ahead_done, passes_done}
-use Rattle.edd_loader.proofs.Walks.{all_done, end_done, marks_done, some_bytes}
+use Rattle.std.proofs.Common.{rules, ◌≡◌, ℕ, true, arith, sym, refl, ◌∙◌}
+use Rattle.edd_image.specs.Units.{leaves}
+use Rattle.edd_loader.specs.Marks.{brought, is_settled, mark_at}
+use Rattle.edd_loader.proofs.MarkLaws.{mark_there}
+use Rattle.edd_loader.proofs.WalkEnds.{chain_kept, ways_land, depths_seen, names_seen}
+use Rattle.edd_loader.proofs.WalkGoes.{walk_goes_on}
+use Rattle.edd_loader.proofs.WalkStarts.{walk_starts, brings_room, brings_nothing, as_many}
+use Rattle.edd_loader.proofs.Walks.{some_bytes}
 use Rattle.edd_loader.proofs.whole_unit.is_accepted.Goals as goal
 
 pub loop-place-init : goal.loop-place-init
-loop-place-init c =
-    let n = length c.args.code.now in
-    let all = from_place c.args.code.now 0 in
-    let empty : c.in_ok-marks.marks.items ≡ replicate n Unknown = c.in_ok-marks.ensures.items_if_clones_equal (λ y k. search rules) in
-    record {
-      walk = record {
-        inside = omega arith;
-        sized = omega (arith, c.in_ok-marks.ensures.len, c.in_ok-marks.marks.ok);
-        room = tt;
-        same_end = refl;
-        same_test = refl;
-        same_ahead = refl;
-        same_pass = ap (λ (t : Table). visit_all t all) (ap depths empty ∙ nothing_known n);
-        marked = λ q. ap (λ b. b || is_start all q) (ap (λ (m : List Mark). get_or (stood_on m) q false) empty ∙ nothing_stands n q);
-      };
-      room = omega arith;
-      nothing = λ e. refl;
-    }
+loop-place-init c = record {
+  walk = walk_starts c.args.context c.args.code.now c.in_ok-marks.marks.items (c.in_ok-marks.ensures.items_if_clones_equal (λ y k. search rules));
+  room = omega arith;
+  nothing = λ e. refl;
+}
 
 pub loop-place-preserved : goal.loop-place-preserved
 loop-place-preserved c =
     let taken = c.if-not-take_on.ensures in
     let before = c.loop-place.walk in
     let after = c.take_on.new.self in
+    let place = c.loop-place.place in
+    let i = c.in-Some-decode.instruction in
+    let brings = taken.brought refl in
+    let there : mark_at before.marks.items place ≡ c.index.result.now = mark_there before.marks.items place c.index.result.now (omega (arith, c.loop-place.invariant.walk.sized, c.loop-place-test.true)) c.index.ensures in
     record {
-      walk = taken_keeps c.args.context c.args.code.now before.marks.items after.marks.items (brought before.goes_on before.depth) (brought after.goes_on after.depth) c.loop-place.place c.in-Some-decode.next c.in-Some.depth c.in-Some-decode.instruction c.index.result.now
-          c.loop-place.invariant.walk c.loop-place-test.true (sym c.decode.ensures.value ∙ c.in-Some-decode.is) c.in-Some-decode.ensures.inside.1 c.index.ensures (sym c.arrival.ensures.value ∙ c.in-Some.is)
-          (taken.stands refl) (taken.enough refl) (taken.depths refl) (taken.stood refl) (taken.brought refl) (brings_room after.goes_on after.depth (taken.room refl)) (omega (arith, taken.len, before.marks.ok, after.marks.ok));
+      walk = walk_goes_on c.args.context c.args.code.now before.marks.items after.marks.items (brought before.goes_on before.depth) (brought after.goes_on after.depth) place c.in-Some-decode.next c.in-Some.depth i true true true true true true true
+          c.loop-place.invariant.walk c.loop-place-test.true (sym c.decode.ensures.value ∙ c.in-Some-decode.is) (taken.allowed refl) c.in-Some.ensures.room
+          (rw there (sym c.in-Some.is ∙ c.arrival.ensures.value)) (rw (taken.names refl) refl) (rw (taken.leads refl) refl) (as_many (leaves i) _ _ brings)
+          (λ _. rw (taken.agrees refl, taken.fits refl) refl) (λ _. brings) (brings_room after.goes_on after.depth (taken.room refl)) (taken.marks refl);
       room = taken.room refl;
       nothing = taken.nothing refl;
     }
 
 pub returns : goal.returns
 returns c =
+    let context = c.args.context in
     let code = c.args.code.now in
     let place = c.loop-place.place in
     let marks = c.loop-place.walk.marks.items in
-    let before = c.loop-place.invariant.walk in
-    let nothing = nothing_at code place c.loop-place-test.false in
+    let walk = c.loop-place.invariant.walk in
+    let past = c.loop-place-test.false in
     let none = brings_nothing c.loop-place.walk.goes_on c.loop-place.walk.depth c.if-walk.false in
     λ yes.
-    let all : (q : ℕ) → is_settled (get_or marks q Unknown) ≡ true = rw c.deref.ensures.value at (c.are_settled.ensures yes) in
-    accepted c.args.context code place (depths marks) (stood_on marks)
-    (some_bytes _ (sym c.is_empty.ensures ∙ c.if-is_empty.false))
-    (end_done _ _ _ nothing before.same_end)
-    (omega (arith, c.loop-place-test.false, before.inside))
-    (all_done _ _ _ _ nothing before.same_test)
-    (ahead_done _ _ _ _ _ nothing none before.same_ahead)
-    (passes_done _ _ _ _ _ nothing none before.same_pass)
-    (λ q. marks_done _ _ _ q nothing (before.marked q))
-    (settled marks all)
+    let all : (q : ℕ) → is_settled (mark_at marks q) ≡ true = rw c.deref.ensures.value at (c.are_settled.ensures.0 yes) in
+    let land = ways_land context code marks _ place true true true walk past refl none all in
+    record {
+      chain = chain_kept context code marks _ place true true true walk (some_bytes _ (sym c.is_empty.ensures ∙ c.if-is_empty.false)) past;
+      jumps = land;
+      depths = (depths_seen context code marks _ place true true true walk past land).0 refl;
+      references = sym (names_seen context code marks _ place true true true walk past);
+    }

@@ -1,0 +1,11 @@
+use Rattle.std.proofs.Common.{◌-◌, ◌∙◌, ap}
+use Rattle.edd_image.specs.Units.{leaves, takes}
+use Rattle.edd_loader.specs.declared.survey.Survey.{Survey}
+use Rattle.edd_loader.specs.Marks.{brought}
+use Rattle.edd_loader.proofs.JumpLaws.{brought_onward}
+use Rattle.edd_loader.proofs.survey.Survey.take_on.Goals as goal
+
+pub returns-clause-brought : goal.returns-clause-brought
+returns-clause-brought c = λ _ agrees.
+    ap (λ (s : Survey). brought s.goes_on s.depth) c.jump-2.ensures.others ∙ c.bring.ensures.brought (c.jump-2.ensures.kept agrees)
+    ∙ rw (c.onward.ensures, c.saturating_sub-rest.ensures, c.takes-takes.ensures) (brought_onward (c.args.depth - takes c.args.instruction) c.args.next (leaves c.args.instruction))

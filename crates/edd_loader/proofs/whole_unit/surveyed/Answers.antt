@@ -1,0 +1,49 @@
+use Rattle.std.proofs.Common.{rules, ◌≡◌, length, vec_len, ap, arith, sym, refl, ◌∙◌}
+use Rattle.edd_loader.specs.declared.survey.Survey.{Survey}
+use Rattle.edd_loader.specs.Marks.{brought}
+use Rattle.edd_loader.proofs.WalkGoes.{walk_goes_on}
+use Rattle.edd_loader.proofs.WalkStarts.{walk_starts, brings_room, brings_some, stops_short, not_allowed}
+use Rattle.edd_loader.proofs.Walks.{some_bytes}
+use Rattle.edd_loader.proofs.whole_unit.surveyed.Goals as goal
+
+pub loop-place-init : goal.loop-place-init
+loop-place-init c = rw c.start-survey.ensures (record {
+  walk = walk_starts c.args.context c.args.code.now c.in_ok-marks.marks.items (c.in_ok-marks.ensures.items_if_clones_equal (λ y k. search rules));
+  room = omega arith;
+  nothing = λ e. refl;
+})
+
+pub returns-in_default : goal.returns-in_default
+returns-in_default c = stops_short _ _ _ _ _ _ _ _ c.loop-place.invariant.walk c.loop-place-test.true (sym c.decode.ensures.value ∙ c.in_default.is)
+
+pub returns-then-not-take_on : goal.returns-then-not-take_on
+returns-then-not-take_on c = not_allowed _ _ _ _ _ (c.in-Some.instruction, c.in-Some.next) _ _ _ c.loop-place.invariant.walk (sym c.decode.ensures.value ∙ c.in-Some.is) (sym c.take_on.ensures.allowed ∙ c.if-not-take_on.true)
+
+pub loop-place-preserved : goal.loop-place-preserved
+loop-place-preserved c =
+    let taken = c.if-not-take_on.ensures in
+    let before = c.loop-place.survey in
+    let there = c.arrive-depth.new.self in
+    let after = c.take_on.new.self in
+    let i = c.in-Some.instruction in
+    let same_marks : there.marks ≡ before.marks = ap (λ (s : Survey). s.marks) c.arrive-depth.ensures.others in
+    let same_items : there.marks.items ≡ before.marks.items = ap (λ (s : Survey). s.marks.items) c.arrive-depth.ensures.others in
+    let same_leads : there.leads ≡ before.leads = ap (λ (s : Survey). s.leads) c.arrive-depth.ensures.others in
+    let same_names : there.names ≡ before.names = ap (λ (s : Survey). s.names) c.arrive-depth.ensures.others in
+    let size : vec_len there.marks ≡ length c.args.code.now = rw same_marks (omega (arith, before.marks.ok, c.loop-place.invariant.walk.sized)) in
+    record {
+      walk = walk_goes_on c.args.context c.args.code.now before.marks.items after.marks.items (brought before.goes_on before.depth) (brought after.goes_on after.depth) c.loop-place.place c.in-Some.next c.arrive-depth.result i before.leads before.agrees before.names after.leads after.agrees after.names there.agrees
+          c.loop-place.invariant.walk c.loop-place-test.true (sym c.decode.ensures.value ∙ c.in-Some.is) (sym c.take_on.ensures.allowed ∙ c.if-not-take_on.false) c.arrive-depth.ensures.depth c.arrive-depth.ensures.arrival
+          (rw same_names at (taken.names refl)) (rw (size, same_leads) at (taken.leads refl)) (brings_some after.goes_on after.depth ∙ taken.goes_on refl) (λ leads. rw same_items at (taken.agrees refl leads)) (taken.brought refl) (brings_room after.goes_on after.depth (taken.room refl))
+          (rw (size, same_items) at (taken.marks refl));
+      room = taken.room refl;
+      nothing = taken.nothing refl;
+    }
+
+pub returns : goal.returns
+returns c = record {
+  some = some_bytes _ (sym c.is_empty.ensures ∙ c.if-is_empty.false);
+  place = c.loop-place.place;
+  past = c.loop-place-test.false;
+  walk = c.loop-place.invariant.walk;
+}
