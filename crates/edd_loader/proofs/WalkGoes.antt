@@ -439,3 +439,49 @@ walk_goes_on context code marks new brought after place next depth i leads agree
             ]
           ];
     }
+
+-- ---- a walk that starts anew at an instruction
+
+arrives_again : (brought there : Option ℕ) (depth : ℕ) → arrival brought there ≡ Some depth → arrival (Some depth) there ≡ Some depth
+arrives_again brought None depth a = refl
+arrives_again None (Some n) depth a = rw (eq-eqb n depth (some_same n depth a)) refl
+arrives_again (Some d) (Some n) depth a =
+    let both = if_some (n == d) d depth a in
+    rw (eq-eqb n depth (eqb-true n d both.0 ∙ both.1)) refl
+
+-- What arrives at an instruction may be taken for what is brought there.
+pub walk_again : (context : Context) (code : List ℕ) (marks : List Mark) (brought : Option ℕ) (place next depth : ℕ) (i : Instruction) (leads agrees names : Bool)
+    → IsWalk context code marks brought place leads agrees names → place < length code → instruction_at code place ≡ Some (i, next) → depth ≤ 128
+    → arrival brought (depth_known (mark_at marks place)) ≡ Some depth → IsWalk context code marks (Some depth) place leads agrees names
+unfolding visit_all
+walk_again context code marks brought place next depth i leads agrees names before lt here small arrives_at =
+    let x : Placed = record { place = place; instruction = i; next = next } in
+    let xs = from_place code next in
+    let size = length code in
+    let t = depths marks in
+    let there = depth_known (mark_at marks place) in
+    let walk : from_place code place ≡ x ∷ xs = walk_goes code place (i, next) here in
+    let inside : place < length t = omega (arith, before.sized, lt, length-map marks depth_known) in
+    let known_there : known t place ≡ there = known_is marks place in
+    let rest : Table → Option Table = λ s. visit_all s xs in
+    let all : (b : Option ℕ) → (carry b place t >>= λ s. visit_all s (from_place code place)) ≡ ((carry b place t >>= λ s. visit s x) >>= rest) =
+    λ b. ap (λ (ys : List Placed). carry b place t >>= λ s. visit_all s ys) walk ∙ then_then (carry b place t) (λ s. visit s x) rest in
+    let same : (carry (Some depth) place t >>= λ s. visit s x) ≡ (carry brought place t >>= λ s. visit s x) =
+    arrived (Some depth) there t x depth inside small known_there (arrives_again brought there depth arrives_at) ∙ sym (arrived brought there t x depth inside before.room known_there arrives_at) in
+    let pass : (carry (Some depth) place t >>= λ s. visit_all s (from_place code place)) ≡ (carry brought place t >>= λ s. visit_all s (from_place code place)) =
+    all (Some depth) ∙ ap (λ (o : Option Table). o >>= rest) same ∙ sym (all brought) in
+    record {
+      inside = before.inside;
+      sized = before.sized;
+      room = small;
+      fit = before.fit;
+      same_end = before.same_end;
+      same_allowed = before.same_allowed;
+      same_names = before.same_names;
+      same_leads = ap (λ (b : Bool). leads && (b && list_all (leads_inside context.sort size) (from_place code place))) (brought_here size place (Some depth) lt ∙ sym (brought_here size place brought lt)) ∙ before.same_leads;
+      same_pass = λ led. ap (λ (o : Option Table). cond agrees o None) pass ∙ before.same_pass led;
+      marked = before.marked;
+      ahead = before.ahead;
+      awaited = before.awaited;
+      targets = before.targets;
+    }

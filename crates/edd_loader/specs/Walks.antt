@@ -10,6 +10,7 @@ use Rattle.edd_image.specs.References.{names_exist}
 use Rattle.edd_image.specs.Units.{Placed, instructions_from, end_of, is_allowed, is_start, jump}
 use Rattle.edd_loader.specs.declared.marks.Mark.{Mark}
 use Rattle.edd_loader.specs.declared.survey.Survey.{Survey}
+use Rattle.edd_loader.specs.declared.walk.Walk.{Walk}
 use Rattle.edd_loader.specs.Depths.{Table, enter, visit_all}
 use Rattle.edd_loader.specs.Marks.{agrees_with, brought, depth_known, depths, is_known, is_settled, mark_at, note_at, stood_on}
 use Rattle.edd_loader.specs.Standing.{may_lead, leads_inside, jumps_to}
@@ -57,6 +58,12 @@ pub record IsWalk (context : Context) (code : List ℕ) (marks : List Mark) (bro
   pub awaited : (q : ℕ) → is_settled (mark_at marks q) ≡ false → list_any (jumps_to q) (from_place code 0) ≡ true
   -- each target is known or ahead
   pub targets : leads ≡ true → (q : ℕ) → list_any (jumps_to q) (from_place code 0) ≡ true → (is_known (mark_at marks q) || list_any (jumps_to q) (from_place code place)) ≡ true
+
+-- a walk that has come to the place and has seen nothing wrong
+pub record IsWalkAt (context : Context) (code : List ℕ) (w : Walk) (place : ℕ) : Type 0 where
+  pub walk : IsWalk context code w.marks.items (brought w.goes_on w.depth) place true true true
+  pub room : w.depth ≤ 128
+  pub nothing : w.goes_on ≡ false → w.depth ≡ 0
 
 -- a walk that has gone over a whole unit, which is not empty
 pub record IsSurveyOf (context : Context) (code : List ℕ) (s : Survey) : Type 0 where

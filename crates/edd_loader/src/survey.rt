@@ -10,7 +10,7 @@ ghost use Rattle.edd_loader.specs.Standing.{fits, jumps_inside, may_lead};
 ghost use Rattle.edd_loader.specs.Walks.{jump_agrees, jump_noted};
 
 use crate::marks::{Mark, arrival, note};
-use crate::walk::may_lead;
+use crate::walk::{Walk, may_lead};
 use edd_image::{Context, Instruction, Sort, Way};
 
 /// How far a walk has come, and what it has seen of the instructions before.
@@ -31,14 +31,14 @@ pub struct Survey {
 }
 
 impl Survey {
-    /// A walk at the start of a unit.
-    pub fn start(marks: Vec<Mark>) -> Survey
-        ensures { result ≡ record { marks = marks; goes_on = false; depth = 0; leads = true; agrees = true; names = true } }
+    /// A walk that has seen nothing wrong so far.
+    pub fn of(walk: Walk) -> Survey
+        ensures { result ≡ record { marks = walk.marks; goes_on = walk.goes_on; depth = walk.depth; leads = true; agrees = true; names = true } }
     {
         Survey {
-            marks,
-            goes_on: false,
-            depth: 0,
+            marks: walk.marks,
+            goes_on: walk.goes_on,
+            depth: walk.depth,
             leads: true,
             agrees: true,
             names: true,

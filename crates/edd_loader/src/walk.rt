@@ -1,6 +1,6 @@
 //! A walk over the instructions of a unit.
 
-ghost use Rattle.std.specs.Prelude.{◌≡◌, ◌+◌, ◌-◌, ◌<◌, ◌≤◌, IsTrue, option_map, slice_set, true, false, vec_len};
+ghost use Rattle.std.specs.Prelude.{◌≡◌, ◌+◌, ◌-◌, ◌<◌, ◌≤◌, IsTrue, length, option_map, slice_set, true, false, vec_len};
 ghost use Rattle.edd_image.specs.References.{names_exist};
 ghost use Rattle.edd_image.specs.Units.{is_allowed, takes, leaves};
 ghost use Rattle.edd_loader.specs.declared.marks.Mark.TheVariants.{Stands};
@@ -34,11 +34,32 @@ pub fn may_lead(sort: Sort, size: usize, place: usize, target: usize) -> bool
     is_forward && target < size
 }
 
+// Whether an instruction at a place where `depth` operands are may jump to a target with `rest` of them.
+#[inline(never)]
+fn may_jump(marks: &[Mark], sort: Sort, place: usize, depth: u8, rest: u8, target: u32) -> bool
+    requires { place < length marks.now }
+    ensures leads { IsTrue result → may_lead sort (length marks.now) place target ≡ true }
+    ensures agrees { IsTrue result → agrees_with (mark_at (slice_set marks.now place (Stands depth)) target) rest ≡ true }
+{
+    let target = target as usize;
+    if !may_lead(sort, marks.len(), place, target) {
+        return false;
+    }
+    if target == place {
+        return depth == rest;
+    }
+    match marks[target] {
+        Mark::Unknown => true,
+        Mark::Awaited(known) | Mark::Stands(known) => known == rest,
+    }
+}
+
 impl Walk {
     // Takes on an instruction that takes nothing and doesn't go on.
     #[inline(always)]
     fn stop(&mut self, place: usize, depth: u8, fits: bool) -> bool
         requires { place < vec_len self.old.marks }
+        ensures unchanged { result ≡ false → self.new.marks.items ≡ self.old.marks.items }
         ensures fits { IsTrue result → fits ≡ true }
         ensures marks { IsTrue result → self.new.marks.items ≡ slice_set self.old.marks.items place (Stands depth) }
         ensures goes_on { IsTrue result → self.new.goes_on ≡ false }
@@ -60,6 +81,7 @@ impl Walk {
         requires place { place < vec_len self.old.marks }
         requires depth { depth ≤ 128 }
         requires leaves { leaves ≤ 2 }
+        ensures unchanged { result ≡ false → self.new.marks.items ≡ self.old.marks.items }
         ensures fits { IsTrue result → fits ≡ true }
         ensures enough { IsTrue result → takes ≤ depth }
         ensures room { IsTrue result → depth - takes + leaves ≤ 128 }
@@ -81,19 +103,18 @@ impl Walk {
         true
     }
 
-    // Takes on a jump to a target, with so many operands.
+    // Notes a jump to a target inside, with so many operands.
     #[inline(always)]
-    fn jump(&mut self, sort: Sort, size: usize, place: usize, rest: u8, target: u32) -> bool
-        requires { vec_len self.old.marks ≡ size }
-        ensures leads { IsTrue result → may_lead sort size place target ≡ true }
-        ensures agrees { IsTrue result → agrees_with (mark_at self.old.marks.items target) rest ≡ true }
-        ensures marks { IsTrue result → self.new.marks.items ≡ note_at self.old.marks.items target rest }
+    fn jump(&mut self, rest: u8, target: u32) -> bool
+        requires { target < vec_len self.old.marks }
+        ensures jumps { result ≡ true }
+        ensures marks { self.new.marks.items ≡ note_at self.old.marks.items target rest }
         ensures goes_on { self.new.goes_on ≡ self.old.goes_on }
         ensures depth { self.new.depth ≡ self.old.depth }
         ensures len { vec_len self.new.marks ≡ vec_len self.old.marks }
     {
-        let target = target as usize;
-        may_lead(sort, size, place, target) && note(&mut self.marks, target, rest)
+        let _ = note(&mut self.marks, target as usize, rest);
+        true
     }
 
     /// Takes on the instruction at a place where so many operands are, if it may stand there, has its operands, and leads nowhere
@@ -110,6 +131,7 @@ impl Walk {
         requires size { vec_len self.old.marks ≡ size }
         requires place { place < size }
         requires depth { depth ≤ 128 }
+        ensures unchanged { result ≡ false → self.new.marks.items ≡ self.old.marks.items }
         ensures allowed { IsTrue result → is_allowed context.version context.sort instruction ≡ true }
         ensures names { IsTrue result → names_exist context instruction ≡ true }
         ensures leads { IsTrue result → jumps_inside context.sort size place instruction ≡ true }
@@ -147,14 +169,21 @@ impl Walk {
                 self.go_on(place, depth, true, 1, 1)
             }
             Instruction::Jump(to) => {
-                self.stop(place, depth, true) && self.jump(sort, size, place, depth, to)
+                may_jump(&self.marks, sort, place, depth, depth, to)
+                    && self.stop(place, depth, true)
+                    && self.jump(depth, to)
             }
             Instruction::JumpIfZero(to) | Instruction::JumpIfNotZero(to) => {
-                self.go_on(place, depth, true, 1, 0) && self.jump(sort, size, place, depth - 1, to)
+                let rest = depth.saturating_sub(1);
+                may_jump(&self.marks, sort, place, depth, rest, to)
+                    && self.go_on(place, depth, true, 1, 0)
+                    && self.jump(rest, to)
             }
             Instruction::Case { target, .. } => {
-                self.go_on(place, depth, true, 1, 1)
-                    && self.jump(sort, size, place, depth - 1, target)
+                let rest = depth.saturating_sub(1);
+                may_jump(&self.marks, sort, place, depth, rest, target)
+                    && self.go_on(place, depth, true, 1, 1)
+                    && self.jump(rest, target)
             }
             Instruction::Text(s) => {
                 self.go_on(place, depth, !is_method && counts.has_string(s), 0, 0)

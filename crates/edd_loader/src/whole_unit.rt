@@ -1,9 +1,9 @@
 //! All rules on one unit.
 
-ghost use Rattle.std.specs.Prelude.{IfOk, IsTrue, MatchOption};
+ghost use Rattle.std.specs.Prelude.{IfOk, MatchOption};
 ghost use Rattle.edd_image.specs.declared.rules.UnitRule.TheVariants.{Chain};
 ghost use Rattle.edd_image.specs.Units.{IsValidUnit, UnitBreaksFirst, UnitKeeps};
-ghost use Rattle.edd_loader.specs.Walks.{IsSurveyOf};
+ghost use Rattle.edd_loader.specs.Walks.{IsSurveyOf, IsWalkAt};
 
 use crate::marks::{Mark, are_settled, arrival};
 use crate::survey::Survey;
@@ -11,9 +11,10 @@ use crate::walk::Walk;
 use edd_image::{Context, UnitRule, decode};
 use std::alloc::{AllocError, Global};
 
-// Whether one walk over a unit sees that it keeps all rules. Where it doesn't, that says nothing of which one is broken.
-fn is_accepted(alloc: Global, context: Context, code: &[u8]) -> Result<bool, AllocError>
-    ensures { IfOk result (λ accepted. IsTrue accepted → IsValidUnit context code.now) }
+// Walks over a unit as long as nothing is wrong, and gives the place that it has come to. None where the unit is no chain.
+#[inline(always)]
+fn walked(alloc: Global, context: Context, code: &[u8]) -> Result<Option<(Walk, usize)>, AllocError>
+    ensures { IfOk result (λ come. MatchOption come (¬ UnitKeeps context code.now Chain) (λ at. IsWalkAt context code.now at.0 at.1)) }
 {
     let marks = vec![in alloc; Mark::Unknown; code.len()]?;
     let mut walk = Walk {
@@ -24,51 +25,58 @@ fn is_accepted(alloc: Global, context: Context, code: &[u8]) -> Result<bool, All
     let mut place = 0;
     while place < code.len() {
         let Some(depth) = arrival(walk.goes_on, walk.depth, walk.marks[place]) else {
-            return Ok(false);
+            return Ok(Some((walk, place)));
         };
         let Some((instruction, next)) = decode(code, place) else {
-            return Ok(false);
+            return Ok(None);
         };
         if !walk.take_on(context, code.len(), place, depth, instruction) {
-            return Ok(false);
+            // As if what is there had been brought: what was is lost.
+            walk.goes_on = true;
+            walk.depth = depth;
+            return Ok(Some((walk, place)));
         }
         place = next;
     }
-    if code.is_empty() || walk.goes_on {
-        return Ok(false);
-    }
-    Ok(are_settled(&walk.marks))
+    Ok(Some((walk, place)))
 }
 
-// What a walk that goes on behind breaches has seen at the end of a unit, if the unit is a chain.
-fn surveyed(alloc: Global, context: Context, code: &[u8]) -> Result<Option<Survey>, AllocError>
-    ensures { IfOk result (λ survey. MatchOption survey (¬ UnitKeeps context code.now Chain) (IsSurveyOf context code.now)) }
+// Goes on from there to the end of the unit, unless that is no chain.
+#[inline(never)]
+fn surveyed(context: Context, code: &[u8], walk: Walk, place: usize) -> Option<Survey>
+    requires { IsWalkAt context code.now walk place }
+    ensures { MatchOption result (¬ UnitKeeps context code.now Chain) (IsSurveyOf context code.now) }
 {
     if code.is_empty() {
-        return Ok(None);
+        return None;
     }
-    let marks = vec![in alloc; Mark::Unknown; code.len()]?;
-    let mut survey = Survey::start(marks);
-    let mut place = 0;
+    let mut survey = Survey::of(walk);
+    let mut place = place;
     while place < code.len() {
         let Some((instruction, next)) = decode(code, place) else {
-            return Ok(None);
+            return None;
         };
         let depth = survey.arrive(place);
         if !survey.take_on(context, place, next, depth, instruction) {
-            return Ok(None);
+            return None;
         }
         place = next;
     }
-    Ok(Some(survey))
+    Some(survey)
 }
 
-// The first rule that a unit breaks, if it breaks one, seen by a walk to its end.
-#[inline(never)]
-fn seen_broken(alloc: Global, context: Context, code: &[u8]) -> Result<Option<UnitRule>, AllocError>
+/// The first rule that a unit breaks, if it breaks one.
+pub fn broken_in_unit(
+    alloc: Global,
+    context: Context,
+    code: &[u8],
+) -> Result<Option<UnitRule>, AllocError>
     ensures { IfOk result (λ broken. MatchOption broken (IsValidUnit context code.now) (UnitBreaksFirst context code.now)) }
 {
-    let Some(survey) = surveyed(alloc, context, code)? else {
+    let Some((walk, place)) = walked(alloc, context, code)? else {
+        return Ok(Some(UnitRule::Chain));
+    };
+    let Some(survey) = surveyed(context, code, walk, place) else {
         return Ok(Some(UnitRule::Chain));
     };
     if !survey.leads || survey.goes_on || !are_settled(&survey.marks) {
@@ -81,18 +89,4 @@ fn seen_broken(alloc: Global, context: Context, code: &[u8]) -> Result<Option<Un
         return Ok(Some(UnitRule::Reference));
     }
     Ok(None)
-}
-
-/// The first rule that a unit breaks, if it breaks one.
-pub fn broken_in_unit(
-    alloc: Global,
-    context: Context,
-    code: &[u8],
-) -> Result<Option<UnitRule>, AllocError>
-    ensures { IfOk result (λ broken. MatchOption broken (IsValidUnit context code.now) (UnitBreaksFirst context code.now)) }
-{
-    if is_accepted(alloc, context, code)? {
-        return Ok(None);
-    }
-    seen_broken(alloc, context, code)
 }

@@ -1,17 +1,13 @@
-use Rattle.std.proofs.Common.{rules, ◌≡◌, length, vec_len, ap, arith, sym, refl, ◌∙◌}
+use Rattle.std.proofs.Common.{◌≡◌, length, vec_len, ap, arith, sym, refl, ◌∙◌}
 use Rattle.edd_loader.specs.declared.survey.Survey.{Survey}
 use Rattle.edd_loader.specs.Marks.{brought}
 use Rattle.edd_loader.proofs.WalkGoes.{walk_goes_on}
-use Rattle.edd_loader.proofs.WalkStarts.{walk_starts, brings_room, brings_some, stops_short, not_allowed}
+use Rattle.edd_loader.proofs.WalkStarts.{brings_room, brings_some, stops_short, not_allowed}
 use Rattle.edd_loader.proofs.Walks.{some_bytes}
 use Rattle.edd_loader.proofs.whole_unit.surveyed.Goals as goal
 
 pub loop-place-init : goal.loop-place-init
-loop-place-init c = rw c.start-survey.ensures (record {
-  walk = walk_starts c.args.context c.args.code.now c.in_ok-marks.marks.items (c.in_ok-marks.ensures.items_if_clones_equal (λ y k. search rules));
-  room = omega arith;
-  nothing = λ e. refl;
-})
+loop-place-init c = rw c.of-survey.ensures (record { walk = c.requires.walk; room = c.requires.room; nothing = c.requires.nothing })
 
 pub returns-in_default : goal.returns-in_default
 returns-in_default c = stops_short _ _ _ _ _ _ _ _ c.loop-place.invariant.walk c.loop-place-test.true (sym c.decode.ensures.value ∙ c.in_default.is)

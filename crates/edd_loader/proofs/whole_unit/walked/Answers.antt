@@ -1,12 +1,10 @@
-use Rattle.std.proofs.Common.{rules, ◌≡◌, ℕ, true, arith, sym, refl, ◌∙◌}
+use Rattle.std.proofs.Common.{rules, ◌≡◌, true, arith, sym, refl, ◌∙◌}
 use Rattle.edd_image.specs.Units.{leaves}
-use Rattle.edd_loader.specs.Marks.{brought, is_settled, mark_at}
+use Rattle.edd_loader.specs.Marks.{brought, mark_at}
 use Rattle.edd_loader.proofs.MarkLaws.{mark_there}
-use Rattle.edd_loader.proofs.WalkEnds.{chain_kept, ways_land, depths_seen, names_seen}
-use Rattle.edd_loader.proofs.WalkGoes.{walk_goes_on}
-use Rattle.edd_loader.proofs.WalkStarts.{walk_starts, brings_room, brings_nothing, as_many}
-use Rattle.edd_loader.proofs.Walks.{some_bytes}
-use Rattle.edd_loader.proofs.whole_unit.is_accepted.Goals as goal
+use Rattle.edd_loader.proofs.WalkGoes.{walk_goes_on, walk_again}
+use Rattle.edd_loader.proofs.WalkStarts.{stops_short, walk_starts, brings_room, as_many}
+use Rattle.edd_loader.proofs.whole_unit.walked.Goals as goal
 
 pub loop-place-init : goal.loop-place-init
 loop-place-init c = record {
@@ -33,21 +31,18 @@ loop-place-preserved c =
       nothing = taken.nothing refl;
     }
 
-pub returns : goal.returns
-returns c =
-    let context = c.args.context in
-    let code = c.args.code.now in
+pub returns-in_default-decode : goal.returns-in_default-decode
+returns-in_default-decode c = stops_short _ _ _ _ _ _ _ _ c.loop-place.invariant.walk c.loop-place-test.true (sym c.decode.ensures.value ∙ c.in_default-decode.is)
+
+pub returns-then-not-take_on : goal.returns-then-not-take_on
+returns-then-not-take_on c =
+    let before = c.loop-place.walk in
     let place = c.loop-place.place in
-    let marks = c.loop-place.walk.marks.items in
-    let walk = c.loop-place.invariant.walk in
-    let past = c.loop-place-test.false in
-    let none = brings_nothing c.loop-place.walk.goes_on c.loop-place.walk.depth c.if-walk.false in
-    λ yes.
-    let all : (q : ℕ) → is_settled (mark_at marks q) ≡ true = rw c.deref.ensures.value at (c.are_settled.ensures.0 yes) in
-    let land = ways_land context code marks _ place true true true walk past refl none all in
+    let there : mark_at before.marks.items place ≡ c.index.result.now = mark_there before.marks.items place c.index.result.now (omega (arith, c.loop-place.invariant.walk.sized, c.loop-place-test.true)) c.index.ensures in
+    let unchanged : c.take_on.new.self.marks.items ≡ before.marks.items = c.take_on.ensures.unchanged c.if-not-take_on.true in
     record {
-      chain = chain_kept context code marks _ place true true true walk (some_bytes _ (sym c.is_empty.ensures ∙ c.if-is_empty.false)) past;
-      jumps = land;
-      depths = (depths_seen context code marks _ place true true true walk past land).0 refl;
-      references = sym (names_seen context code marks _ place true true true walk past);
+      walk = rw unchanged (walk_again c.args.context c.args.code.now before.marks.items (brought before.goes_on before.depth) place c.in-Some-decode.next c.in-Some.depth c.in-Some-decode.instruction true true true
+          c.loop-place.invariant.walk c.loop-place-test.true (sym c.decode.ensures.value ∙ c.in-Some-decode.is) c.in-Some.ensures.room (rw there (sym c.arrival.ensures.value ∙ c.in-Some.is)));
+      room = c.in-Some.ensures.room;
+      nothing = λ e. absurd cc;
     }

@@ -2,15 +2,15 @@ use Rattle.std.proofs.Common.{◌≡◌, ℕ, true, false, sym, ◌∙◌}
 use Rattle.edd_loader.specs.Marks.{is_settled, mark_at}
 use Rattle.edd_loader.specs.Walks.{IsSurveyOf}
 use Rattle.edd_loader.proofs.SurveyEnds.{survey_chains, survey_lands, survey_leads, survey_agrees, survey_names}
-use Rattle.edd_loader.proofs.whole_unit.seen_broken.Goals.{then-not-survey-via-then-not-survey, then-not-survey-via-else-not-survey+then-survey, then-not-survey-via-else-not-survey+else-survey+then-not-are_settled}
-use Rattle.edd_loader.proofs.whole_unit.seen_broken.Goals as goal
+use Rattle.edd_loader.proofs.whole_unit.broken_in_unit.Goals.{then-not-survey-via-then-not-survey, then-not-survey-via-else-not-survey+then-survey, then-not-survey-via-else-not-survey+else-survey+then-not-are_settled}
+use Rattle.edd_loader.proofs.whole_unit.broken_in_unit.Goals as goal
 
 pub returns-then-not-survey : goal.returns-then-not-survey
 returns-then-not-survey c =
     let context = c.args.context in
     let code = c.args.code.now in
-    let s = c.in-Some.survey in
-    let seen : IsSurveyOf context code s = rw c.in-Some.is at c.in_ok-survey.ensures in (
+    let s = c.in-Some-surveyed.survey in
+    let seen : IsSurveyOf context code s = rw c.in-Some-surveyed.is at c.surveyed.ensures in (
       survey_chains context code s seen,
       λ land.
           let leads = survey_leads context code s seen land in
@@ -28,8 +28,8 @@ pub returns-then-not-survey-2 : goal.returns-then-not-survey-2
 returns-then-not-survey-2 c =
     let context = c.args.context in
     let code = c.args.code.now in
-    let s = c.in-Some.survey in
-    let seen : IsSurveyOf context code s = rw c.in-Some.is at c.in_ok-survey.ensures in
+    let s = c.in-Some-surveyed.survey in
+    let seen : IsSurveyOf context code s = rw c.in-Some-surveyed.is at c.surveyed.ensures in
     let settled : (q : ℕ) → is_settled (mark_at s.marks.items q) ≡ true = rw c.deref.ensures.value at (c.are_settled.ensures.0 c.if-not-are_settled.false) in
     let land = survey_lands context code s seen c.if-not-survey.false c.if-survey.false settled in
     (survey_chains context code s seen, land, λ has. let never : false ≡ true = sym c.if-not-survey-2.true ∙ (survey_agrees context code s seen land).1 has in absurd cc)
@@ -38,8 +38,8 @@ pub returns-then-not-survey-3 : goal.returns-then-not-survey-3
 returns-then-not-survey-3 c =
     let context = c.args.context in
     let code = c.args.code.now in
-    let s = c.in-Some.survey in
-    let seen : IsSurveyOf context code s = rw c.in-Some.is at c.in_ok-survey.ensures in
+    let s = c.in-Some-surveyed.survey in
+    let seen : IsSurveyOf context code s = rw c.in-Some-surveyed.is at c.surveyed.ensures in
     let settled : (q : ℕ) → is_settled (mark_at s.marks.items q) ≡ true = rw c.deref.ensures.value at (c.are_settled.ensures.0 c.if-not-are_settled.false) in
     let land = survey_lands context code s seen c.if-not-survey.false c.if-survey.false settled in
     (survey_chains context code s seen, land, (survey_agrees context code s seen land).0 c.if-not-survey-2.false, λ exist. let never : false ≡ true = sym c.if-not-survey-3.true ∙ survey_names context code s seen ∙ exist in absurd cc)
@@ -48,8 +48,8 @@ pub returns : goal.returns
 returns c =
     let context = c.args.context in
     let code = c.args.code.now in
-    let s = c.in-Some.survey in
-    let seen : IsSurveyOf context code s = rw c.in-Some.is at c.in_ok-survey.ensures in
+    let s = c.in-Some-surveyed.survey in
+    let seen : IsSurveyOf context code s = rw c.in-Some-surveyed.is at c.surveyed.ensures in
     let settled : (q : ℕ) → is_settled (mark_at s.marks.items q) ≡ true = rw c.deref.ensures.value at (c.are_settled.ensures.0 c.if-not-are_settled.false) in
     let land = survey_lands context code s seen c.if-not-survey.false c.if-survey.false settled in
     record {
