@@ -8,11 +8,10 @@ use Rattle.edd_image.specs.declared.unit.Context.{Context}
 use Rattle.edd_image.specs.declared.unit.Sort.{Sort}
 use Rattle.edd_image.specs.declared.unit.Sort.TheVariants.{Attribute, Method}
 use Rattle.edd_image.specs.declared.unit.Way.{Way}
-use Rattle.edd_image.specs.declared.instruction.Instruction.{Instruction}
-use Rattle.edd_image.specs.Decoding.{◌>>=◌, instruction_at}
+use Rattle.edd_image.specs.Decoding.{◌>>=◌}
 use Rattle.edd_image.specs.References.{names_exist}
 use Rattle.edd_image.specs.Units.{Placed, instructions, end_of, leaves, onward, jump, ways, is_allowed, is_chain, is_start, is_forward, lands, all_land, all_exist, HasDepths}
-use Rattle.edd_image.proofs.Lengths.{instruction_inside}
+use Rattle.edd_image.proofs.Lengths.{nothing_past}
 use Rattle.edd_loader.specs.declared.marks.Mark.{Mark}
 use Rattle.edd_loader.specs.declared.marks.Mark.TheVariants.{Unknown, Awaited, Stands}
 use Rattle.edd_loader.specs.Depths.{visit_all}
@@ -22,28 +21,19 @@ use Rattle.edd_loader.specs.Walks.{from_place, carry, brought_inside, IsWalk}
 use Rattle.edd_loader.proofs.DepthLaws.{Rising}
 use Rattle.edd_loader.proofs.Listing.{walk_stops, rising, within}
 use Rattle.edd_loader.proofs.MarkLaws.{stood_is}
-use Rattle.edd_loader.proofs.UnitDepths.{passes, refuses}
+use Rattle.edd_loader.proofs.UnitDepths.{at_start, passes, refuses}
 use Rattle.edd_loader.proofs.Walks.{end_done, all_done, chain_ends, if_any}
 
 -- ---- past the last byte
 
--- where an instruction is read, it lies inside
-nothing_by : (code : List ℕ) (place : ℕ) (o : Option (Instruction × ℕ)) → length code ≤ place → instruction_at code place ≡ o → o ≡ None
-nothing_by code place None past e = refl
-nothing_by code place (Some found) past e = absurd (omega (arith, past, instruction_inside code place found e))
-
--- no instruction stands there
-nothing_at : (code : List ℕ) (place : ℕ) → length code ≤ place → instruction_at code place ≡ None
-nothing_at code place past = nothing_by code place (instruction_at code place) past refl
-
 -- none is left
 none_left : (code : List ℕ) (place : ℕ) → length code ≤ place → from_place code place ≡ []
-none_left code place past = walk_stops code place (nothing_at code place past)
+none_left code place past = walk_stops code place (nothing_past code place past)
 
 -- the first rule is kept
 pub chain_kept : (context : Context) (code : List ℕ) (marks : List Mark) (brought : Option ℕ) (place : ℕ) (leads agrees names : Bool) → IsWalk context code marks brought place leads agrees names → 0 < length code → length code ≤ place → IsTrue (is_chain context code)
 chain_kept context code marks brought place leads agrees names walk some past =
-    let nothing = nothing_at code place past in
+    let nothing = nothing_past code place past in
     let ends : end_of 0 (from_place code 0) ≡ place = end_done code place _ nothing walk.same_end in
     let allowed = all_done (λ x. is_allowed context.version context.sort x.instruction) code place _ nothing walk.same_allowed in
     sym (chain_ends context code place some ends allowed) ∙ eq-eqb place (length code) (omega (arith, walk.inside, past))
@@ -134,7 +124,7 @@ pub ways_land : (context : Context) (code : List ℕ) (marks : List Mark) (broug
     → leads ≡ true → brought ≡ None → ((q : ℕ) → is_settled (mark_at marks q) ≡ true) → all_land context (instructions code) ≡ true
 unfolding instructions
 ways_land context code marks brought place leads agrees names walk past led none settled =
-    let nothing = nothing_at code place past in
+    let nothing = nothing_past code place past in
     let ends : end_of 0 (from_place code 0) ≡ place = end_done code place _ nothing walk.same_end in
     let filled : end_of 0 (from_place code 0) ≡ length code = omega (arith, ends, walk.inside, past) in
     let all_led : list_all (leads_inside context.sort (length code)) (from_place code 0) ≡ true = sym (leads_at_end context code marks brought place leads agrees names walk past) ∙ rw (led, none) refl in
@@ -143,14 +133,6 @@ ways_land context code marks brought place leads agrees names walk past led none
     (λ q e. e)
 
 -- ---- ways that lead to instructions lead inside
-
--- what holds of each instruction's place holds of each start
-at_start : (P : ℕ → Type 0) (xs : List Placed) (q : ℕ) → AllByRecursion (λ x. P x.place) xs → is_start xs q ≡ true → P q
-at_start P [] q h e = absurd cc
-at_start P (x ∷ xs) q h e = elim (or_cases (nat_eq x.place q) (is_start xs q) e) [
-  | inl here ↦ subst P (eqb-true x.place q here) h.0
-  | inr there ↦ at_start P xs q h.1 there
-]
 
 -- a way to a start leads inside
 way_inside : (size : ℕ) (all : List Placed) (o : Option Way) → AllByRecursion (λ x. x.place < size) all → option_map_or (λ w. is_start all w.to) o true ≡ true → option_map_or (λ w. nat_lt w.to size) o true ≡ true
