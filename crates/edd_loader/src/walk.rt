@@ -1,4 +1,4 @@
-//! A walk over the instructions of a unit.
+//! A walk over the instructions of a unit, as long as nothing is wrong.
 
 ghost use Rattle.std.specs.Prelude.{◌≡◌, ◌+◌, ◌-◌, ◌<◌, ◌≤◌, IsTrue, length, option_map, slice_set, true, false, vec_len};
 ghost use Rattle.edd_image.specs.References.{names_exist};
@@ -11,7 +11,7 @@ ghost use Rattle.edd_loader.specs.Walks.{jump_agrees, jump_noted};
 use crate::marks::{Mark, note};
 use edd_image::{Context, Instruction, Sort};
 
-/// What a walk has found out of a unit.
+/// How far a walk has come that has seen nothing wrong.
 #[derive(Drop)]
 pub struct Walk {
     /// What is known of each place.
@@ -34,7 +34,8 @@ pub fn may_lead(sort: Sort, size: usize, place: usize, target: usize) -> bool
     is_forward && target < size
 }
 
-// Whether an instruction at a place where `depth` operands are may jump to a target with `rest` of them.
+// Whether an instruction at a place where `depth` operands are may jump to a target with `rest` of them. It stands apart, so that
+// fewer values live in the walk.
 #[inline(never)]
 fn may_jump(marks: &[Mark], sort: Sort, place: usize, depth: u8, rest: u8, target: u32) -> bool
     requires { place < length marks.now }
@@ -103,7 +104,7 @@ impl Walk {
         true
     }
 
-    // Notes a jump to a target inside, with so many operands.
+    // Notes a jump to a target inside, with so many operands. That is always done.
     #[inline(always)]
     fn jump(&mut self, rest: u8, target: u32) -> bool
         requires { target < vec_len self.old.marks }
@@ -118,7 +119,7 @@ impl Walk {
     }
 
     /// Takes on the instruction at a place where so many operands are, if it may stand there, has its operands, and leads nowhere
-    /// with another number of them.
+    /// with another number of them. Else it leaves the marks as they were.
     #[inline(always)]
     pub fn take_on(
         &mut self,
