@@ -56,6 +56,7 @@ agrees_with Unknown depth = true
 agrees_with (Awaited known) depth = known == depth
 agrees_with (Stands known) depth = known == depth
 
+-- the marks where so many operands are noted at a place that has this mark
 abbrev pub note_by : Mark → List Mark → ℕ → ℕ → List Mark
 note_by Unknown marks place depth = slice_set marks place (Awaited depth)
 note_by (Awaited known) marks place depth = marks

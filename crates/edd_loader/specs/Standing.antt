@@ -1,4 +1,4 @@
--- What one walk over a unit asks of each instruction by itself.
+-- What a walk over a unit asks of each instruction by itself.
 use Rattle.std.specs.Prelude.{ℕ, ◌+◌, ◌-◌, ◌==◌, Bool, true, false, ◌&&◌, nat_lt, nat_le}
 use Rattle.std.specs.Option.{option_map_or}
 use Rattle.edd_image.specs.declared.instruction.Instruction.{Instruction}
