@@ -12,6 +12,7 @@ mod requests;
 mod source;
 
 pub use compiling::compile;
+use edd_display::ShowFault;
 pub use fault::Fault;
 pub use files::{FileFault, Files};
 use requests::Stop;
@@ -35,16 +36,19 @@ const MEMORY: u8 = 4;
 pub fn run<F: Files, W: Write>(alloc: Global, words: &[String], files: &mut F, out: &mut W) -> u8
     ensures { result ≤ 4 }
 {
-    let stop = match edd_command_line::parse(alloc, words) {
-        Ok(request) => match requests::answer(alloc, request, files, out) {
-            Ok(()) => return DONE,
-            Err(stop) => stop,
-        },
-        Err(none) => Stop::from(none),
-    };
-    match requests::report(alloc, &stop, out) {
-        Ok(status) => status,
-        Err(Stop::Memory) => no_memory(out),
+    match requests::answer(alloc, words, files, out) {
+        Ok(()) => DONE,
+        Err(stop) => stopped(alloc, &stop, out),
+    }
+}
+
+// Says why the program stops, as far as that can be said.
+fn stopped<W: Write>(alloc: Global, stop: &Stop<'_>, out: &mut W) -> u8
+    ensures { result ≤ 4 }
+{
+    match requests::report(alloc, stop, out) {
+        Ok(()) => requests::status(stop),
+        Err(ShowFault::Memory) => no_memory(out),
         Err(_) => FILE,
     }
 }

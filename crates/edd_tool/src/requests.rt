@@ -1,6 +1,6 @@
 //! What the program does on each command.
 
-ghost use Rattle.std.specs.Prelude.{◌≤◌, IfOk};
+ghost use Rattle.std.specs.Prelude.{◌≤◌};
 
 use crate::compiling::compile;
 use crate::fault::Fault;
@@ -137,74 +137,89 @@ fn show_under<'a, W: Write>(
     Ok(())
 }
 
-/// Does what `request` asks for. All files are read before anything else is done.
-pub fn answer<'a, F: Files, W: Write>(
+fn show_bytes<'a, W: Write>(
     alloc: Global,
-    request: Request<'a>,
+    bytes: &[u8],
+    script: &[u8],
+    language: &str,
+    out: &mut W,
+) -> Result<(), Stop<'a>> {
+    let image = load(alloc, bytes)?;
+    show_under(alloc, &image, script, language, out)
+}
+
+fn view<'a, F: Files, W: Write>(
+    alloc: Global,
+    source: &'a str,
+    script: Option<&'a str>,
+    language: &str,
     files: &mut F,
     out: &mut W,
 ) -> Result<(), Stop<'a>> {
-    match request {
+    let text = read(alloc, files, source)?;
+    let script = read_script(alloc, files, script)?;
+    let bytes = compile(alloc, &text)?;
+    show_bytes(alloc, &bytes, &script, language, out)
+}
+
+fn show_file<'a, F: Files, W: Write>(
+    alloc: Global,
+    image: &'a str,
+    script: Option<&'a str>,
+    language: &str,
+    files: &mut F,
+    out: &mut W,
+) -> Result<(), Stop<'a>> {
+    let bytes = read(alloc, files, image)?;
+    let script = read_script(alloc, files, script)?;
+    show_bytes(alloc, &bytes, &script, language, out)
+}
+
+/// Does what the words of the command line ask for. All files are read before anything else is done.
+pub fn answer<'a, F: Files, W: Write>(
+    alloc: Global,
+    words: &'a [String],
+    files: &mut F,
+    out: &mut W,
+) -> Result<(), Stop<'a>> {
+    match edd_command_line::parse(alloc, words)? {
         Request::Compile { source, image } => write_image(alloc, source, image, files, out),
         Request::View {
             source,
             script,
             language,
-        } => {
-            let text = read(alloc, files, source)?;
-            let script = read_script(alloc, files, script)?;
-            let bytes = compile(alloc, &text)?;
-            let image = load(alloc, &bytes)?;
-            show_under(alloc, &image, &script, language, out)
-        }
+        } => view(alloc, source, script, language, files, out),
         Request::Show {
             image,
             script,
             language,
-        } => {
-            let bytes = read(alloc, files, image)?;
-            let script = read_script(alloc, files, script)?;
-            let image = load(alloc, &bytes)?;
-            show_under(alloc, &image, &script, language, out)
-        }
+        } => show_file(alloc, image, script, language, files, out),
     }
 }
 
-/// Prints why the program stops, and answers its exit status.
-pub fn report<'a, W: Write>(alloc: Global, stop: &Stop<'_>, out: &mut W) -> Result<u8, Stop<'a>>
-    ensures { IfOk result (λ status. status ≤ 4) }
+/// Prints why the program stops.
+pub fn report<W: Write>(alloc: Global, stop: &Stop<'_>, out: &mut W) -> Result<(), ShowFault> {
+    match stop {
+        Stop::Help(text) | Stop::CommandLine(text) => print_text(out, text),
+        Stop::File(name) => print(alloc, out, format_args!("file {name}")),
+        Stop::NotCompiled(fault) => print(alloc, out, format_args!("refused {fault}")),
+        Stop::NotLoaded(fault) => print(alloc, out, format_args!("refused {fault}")),
+        Stop::Script(fault) => print(alloc, out, format_args!("refused {fault}")),
+        Stop::Values(fault) => print(alloc, out, format_args!("refused {fault}")),
+        Stop::Output => Err(ShowFault::Output),
+        Stop::Memory => Err(ShowFault::Memory),
+    }
+}
+
+/// The exit status of the program that stops so, where that could be printed.
+pub fn status(stop: &Stop<'_>) -> u8
+    ensures { result ≤ 4 }
 {
-    let status = match stop {
-        Stop::Help(text) => {
-            print_text(out, text)?;
-            DONE
-        }
-        Stop::CommandLine(text) => {
-            print_text(out, text)?;
-            COMMAND_LINE
-        }
-        Stop::File(name) => {
-            print(alloc, out, format_args!("file {name}"))?;
-            FILE
-        }
-        Stop::NotCompiled(fault) => {
-            print(alloc, out, format_args!("refused {fault}"))?;
-            REFUSED
-        }
-        Stop::NotLoaded(fault) => {
-            print(alloc, out, format_args!("refused {fault}"))?;
-            REFUSED
-        }
-        Stop::Script(fault) => {
-            print(alloc, out, format_args!("refused {fault}"))?;
-            REFUSED
-        }
-        Stop::Values(fault) => {
-            print(alloc, out, format_args!("refused {fault}"))?;
-            REFUSED
-        }
-        Stop::Output => return Err(Stop::Output),
-        Stop::Memory => return Err(Stop::Memory),
-    };
-    Ok(status)
+    match stop {
+        Stop::Help(_) => DONE,
+        Stop::CommandLine(_) => COMMAND_LINE,
+        Stop::NotCompiled(_) | Stop::NotLoaded(_) | Stop::Script(_) | Stop::Values(_) => REFUSED,
+        Stop::File(_) | Stop::Output => FILE,
+        Stop::Memory => MEMORY,
+    }
 }
