@@ -18,6 +18,3 @@ pub use attribute::{lower_attribute, lower_indexed};
 pub use fault::LowerFault;
 pub use index::ItemIndex;
 pub use laws::strings_are_the_descriptions;
-
-#[cfg(test)]
-mod tests;

@@ -47,6 +47,3 @@ pub use starts::{
 pub use unit::{Context, Sort, Version, Way};
 pub use worked::{edits_break_their_rules, label_is_read, worked_images_are_valid, worked_layouts};
 pub use writing::{CODE_LIMIT, WriteFault, write};
-
-#[cfg(test)]
-mod tests;

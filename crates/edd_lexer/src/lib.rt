@@ -10,8 +10,6 @@ mod lexer;
 mod numbers;
 mod strings;
 mod symbols;
-#[cfg(test)]
-mod tests;
 pub mod token;
 
 pub use lexer::lex;

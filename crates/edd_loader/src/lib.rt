@@ -23,6 +23,3 @@ mod words;
 pub use fault::LoadFault;
 pub use image::{Image, load};
 pub use texts::Text;
-
-#[cfg(test)]
-mod tests;

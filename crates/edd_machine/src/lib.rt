@@ -21,6 +21,3 @@ pub use operands::Operands;
 pub use reading::{attribute, attribute_of_device};
 pub use rows::find_body;
 pub use values::Values;
-
-#[cfg(test)]
-mod tests;

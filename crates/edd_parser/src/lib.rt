@@ -5,8 +5,6 @@ mod attributes;
 mod items;
 mod parser;
 mod rows;
-#[cfg(test)]
-mod tests;
 mod types;
 
 pub use edd_token_reader::fault;

@@ -17,6 +17,3 @@ pub use choice::choose;
 pub use fault::StringFault;
 pub use source::{key, split};
 pub use table::Table;
-
-#[cfg(test)]
-mod tests;

@@ -62,6 +62,3 @@ fn no_memory<W: Write>(out: &mut W) -> u8
         Err(_) => FILE,
     }
 }
-
-#[cfg(test)]
-mod tests;

@@ -1,4 +1,6 @@
-use super::*;
+//! Texts in several languages: their variants, their numbers and the text for a language.
+
+use edd_strings::{StringFault, Table, choose, key, split};
 use edd_syntax::numbers::StrNo;
 use edd_syntax::words::{Variant, Words};
 use std::alloc::{AllocError, Global};
@@ -30,35 +32,39 @@ fn write_variant(text: &mut String, variant: &Variant) -> Result<(), AllocError>
     text.push_str(variant.text.as_str())
 }
 
+// A text, and its variants.
+const SPLITS: [(&str, &str); 15] = [
+    ("a |de|b", "en=a ;de=b"),
+    ("|de|b", "de=b"),
+    ("|en|A|de|B", "en=A;de=B"),
+    ("|de|b|de|c", "de=b;de=c"),
+    ("|en us|a|001|b", "en us=a;001=b"),
+    // The empty text is one string.
+    ("", "en="),
+    ("|en|", "en="),
+    // The bar that closes a code opens none.
+    ("|de|en|x", "de=en|x"),
+    ("||de|x", "en=|;de=x"),
+    // Bars that open no code.
+    ("a |b", "en=a |b"),
+    ("|EN|a|e|b|12|c|eng|d|de", "en=|EN|a|e|b|12|c|eng|d|de"),
+    // A backslash and the character behind it are passed together.
+    ("x\\|de|y", "en=x|de|y"),
+    ("\\\\|de|x", "en=\\;de=x"),
+    ("\\\"\\n\\t|de|\\|", "en=\"\n\t;de=|"),
+    ("ä|de|ö\\nü", "en=ä;de=ö\nü"),
+];
+
+const BAD_ESCAPES: [&str; 5] = ["\\", "a\\q", "\\\n", "|de|\\ä", "\\\\\\"];
+
 #[test]
 fn splits_texts(rt: HostRuntime) -> Result<(), Fail> {
-    let cases = [
-        ("a |de|b", "en=a ;de=b"),
-        ("|de|b", "de=b"),
-        ("|en|A|de|B", "en=A;de=B"),
-        ("|de|b|de|c", "de=b;de=c"),
-        ("|en us|a|001|b", "en us=a;001=b"),
-        // The empty text is one string.
-        ("", "en="),
-        ("|en|", "en="),
-        // The bar that closes a code opens none.
-        ("|de|en|x", "de=en|x"),
-        ("||de|x", "en=|;de=x"),
-        // Bars that open no code.
-        ("a |b", "en=a |b"),
-        ("|EN|a|e|b|12|c|eng|d|de", "en=|EN|a|e|b|12|c|eng|d|de"),
-        // A backslash and the character behind it are passed together.
-        ("x\\|de|y", "en=x|de|y"),
-        ("\\\\|de|x", "en=\\;de=x"),
-        ("\\\"\\n\\t|de|\\|", "en=\"\n\t;de=|"),
-        ("ä|de|ö\\nü", "en=ä;de=ö\nü"),
-    ];
-    for (raw, want) in cases {
+    for (raw, want) in SPLITS {
         let words = split(rt.alloc(), raw)?;
         let text = written(rt.alloc(), &words)?;
         assert_eq!(rt; text.as_str(), want, "{raw}");
     }
-    for raw in ["\\", "a\\q", "\\\n", "|de|\\ä", "\\\\\\"] {
+    for raw in BAD_ESCAPES {
         assert!(rt;
             matches!(split(rt.alloc(), raw), Err(StringFault::BadEscape)),
             "{raw}"
@@ -67,20 +73,22 @@ fn splits_texts(rt: HostRuntime) -> Result<(), Fail> {
     Ok(())
 }
 
+// Texts that are added one after the other, each with its number.
+const NUMBERS: [(&str, u16); 7] = [
+    ("a |de|b", 0),
+    ("a |de|b", 0),
+    ("", 1),
+    ("|en|", 1),
+    ("|en|A|de|B", 2),
+    ("|en|A|de|C", 3),
+    ("a |de|b", 0),
+];
+
 #[test]
 fn numbers_strings(rt: HostRuntime) -> Result<(), Fail> {
     let alloc = rt.alloc();
     let mut table = Table::new(alloc);
-    let cases = [
-        ("a |de|b", 0),
-        ("a |de|b", 0),
-        ("", 1),
-        ("|en|", 1),
-        ("|en|A|de|B", 2),
-        ("|en|A|de|C", 3),
-        ("a |de|b", 0),
-    ];
-    for (raw, want) in cases {
+    for (raw, want) in NUMBERS {
         let number = table.add(split(alloc, raw)?)?;
         assert_eq!(rt; number, StrNo(want), "{raw}");
     }

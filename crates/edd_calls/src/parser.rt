@@ -1,7 +1,7 @@
 //! Texts whose trees and faults were worked out by hand.
 
-use crate::parse;
 use edd_lexer::lex;
+use edd_parser::parse;
 use edd_syntax::cond::Cond;
 use edd_syntax::expr::Expr;
 use edd_syntax::item::{Attribute, Item, MenuEntry};
@@ -44,108 +44,115 @@ fn answer(alloc: Global, text: &str) -> Result<String, Fail> {
     }
 }
 
+// The head of an item, and its attributes, each alone.
+const ALTERNATIVES: [(&str, &[&str]); 5] = [
+    (
+        "VARIABLE v",
+        &[
+            "LABEL \"a\" \"b\";",
+            "HELP [key];",
+            "CLASS CONTAINED & DYNAMIC & INPUT;",
+            "HANDLING READ;",
+            "HANDLING WRITE;",
+            "HANDLING READ & WRITE;",
+            "HANDLING WRITE & READ;;;",
+            "CONSTANT_UNIT IF (x) { \"a\"; } ELSE { \"b\"; }",
+            "CONSTANT_UNIT IF (x) { \"a\"; } ELSE IF (y) { \"b\"; }",
+            "VALIDITY SELECT (x) { CASE 1: TRUE; CASE -1: FALSE; DEFAULT: TRUE; }",
+            "TYPE INTEGER;",
+            "TYPE UNSIGNED_INTEGER (2);",
+            "TYPE ENUMERATED { { 1, \"a\" }, { -2, \"b\", [c] } }",
+            "TYPE BIT_ENUMERATED (1) { IF (x) { { 1, \"a\" } { 2, \"b\" } } ELSE { } }",
+            "TYPE INTEGER { DEFAULT_VALUE 1; MIN_VALUE -1; MAX_VALUE a ? b : c; }",
+            "TYPE INTEGER { DISPLAY_FORMAT \"d\"; EDIT_FORMAT \"d\"; }",
+            "TYPE FLOAT;",
+            "TYPE ASCII (8) { a { b; } }",
+        ],
+    ),
+    (
+        "COMMAND c",
+        &[
+            "NUMBER 1;",
+            "OPERATION READ;",
+            "OPERATION WRITE;",
+            "OPERATION COMMAND;",
+            "TRANSACTION { }",
+            "TRANSACTION 1 { REQUEST { 1, a, b <0xF0> (INFO, INDEX) } ; REPLY { a.b.c (INDEX INFO) } }",
+            "RESPONSE_CODES { 0, SUCCESS, \"a\"; 1, MISC_WARNING, \"b\", 2, DATA_ENTRY_WARNING, \"c\" }",
+            "RESPONSE_CODES { 3, DATA_ENTRY_ERROR, [a] 4, MODE_ERROR, [b] 5, PROCESS_ERROR, [c] }",
+            "RESPONSE_CODES { 6, MISC_ERROR, \"\" }",
+        ],
+    ),
+    (
+        "MENU m",
+        &[
+            "LABEL \"a\";",
+            "HELP \"a\";",
+            "VALIDITY FALSE;",
+            "ITEMS { a, b (READ_ONLY, HIDDEN), c.d (DISPLAY_VALUE REVIEW) \"text\" }",
+            "ITEMS { SELECT (x) { CASE 1: a, b CASE 2: DEFAULT: c }, d }",
+        ],
+    ),
+    (
+        "COLLECTION OF VARIABLE l",
+        &[
+            "LABEL \"a\";",
+            "HELP \"a\";",
+            "MEMBERS { a, b; c, d, \"label\"; e, f, \"label\", [help]; }",
+        ],
+    ),
+    (
+        "METHOD d",
+        &[
+            "LABEL \"a\";",
+            "HELP \"a\";",
+            "CLASS INPUT;",
+            "VALIDITY TRUE;",
+            "DEFINITION { int a, b = 1; long c = a = 2; f(); g(\"t\", [k], a, b + 1); }",
+            "DEFINITION { a += ++b; a <<= -b--; c.d = 1.5; x = a ? b = 1 : !~c; }",
+        ],
+    ),
+];
+
+const KINDS: [&str; 5] = ["VARIABLE", "COMMAND", "MENU", "COLLECTION", "METHOD"];
+
 #[test]
 fn each_alternative_is_read(rt: HostRuntime) -> Result<(), Fail> {
     let alloc = rt.alloc();
-    let attributes: [(&str, &[&str]); 5] = [
-        (
-            "VARIABLE v",
-            &[
-                "LABEL \"a\" \"b\";",
-                "HELP [key];",
-                "CLASS CONTAINED & DYNAMIC & INPUT;",
-                "HANDLING READ;",
-                "HANDLING WRITE;",
-                "HANDLING READ & WRITE;",
-                "HANDLING WRITE & READ;;;",
-                "CONSTANT_UNIT IF (x) { \"a\"; } ELSE { \"b\"; }",
-                "CONSTANT_UNIT IF (x) { \"a\"; } ELSE IF (y) { \"b\"; }",
-                "VALIDITY SELECT (x) { CASE 1: TRUE; CASE -1: FALSE; DEFAULT: TRUE; }",
-                "TYPE INTEGER;",
-                "TYPE UNSIGNED_INTEGER (2);",
-                "TYPE ENUMERATED { { 1, \"a\" }, { -2, \"b\", [c] } }",
-                "TYPE BIT_ENUMERATED (1) { IF (x) { { 1, \"a\" } { 2, \"b\" } } ELSE { } }",
-                "TYPE INTEGER { DEFAULT_VALUE 1; MIN_VALUE -1; MAX_VALUE a ? b : c; }",
-                "TYPE INTEGER { DISPLAY_FORMAT \"d\"; EDIT_FORMAT \"d\"; }",
-                "TYPE FLOAT;",
-                "TYPE ASCII (8) { a { b; } }",
-            ],
-        ),
-        (
-            "COMMAND c",
-            &[
-                "NUMBER 1;",
-                "OPERATION READ;",
-                "OPERATION WRITE;",
-                "OPERATION COMMAND;",
-                "TRANSACTION { }",
-                "TRANSACTION 1 { REQUEST { 1, a, b <0xF0> (INFO, INDEX) } ; REPLY { a.b.c (INDEX INFO) } }",
-                "RESPONSE_CODES { 0, SUCCESS, \"a\"; 1, MISC_WARNING, \"b\", 2, DATA_ENTRY_WARNING, \"c\" }",
-                "RESPONSE_CODES { 3, DATA_ENTRY_ERROR, [a] 4, MODE_ERROR, [b] 5, PROCESS_ERROR, [c] }",
-                "RESPONSE_CODES { 6, MISC_ERROR, \"\" }",
-            ],
-        ),
-        (
-            "MENU m",
-            &[
-                "LABEL \"a\";",
-                "HELP \"a\";",
-                "VALIDITY FALSE;",
-                "ITEMS { a, b (READ_ONLY, HIDDEN), c.d (DISPLAY_VALUE REVIEW) \"text\" }",
-                "ITEMS { SELECT (x) { CASE 1: a, b CASE 2: DEFAULT: c }, d }",
-            ],
-        ),
-        (
-            "COLLECTION OF VARIABLE l",
-            &[
-                "LABEL \"a\";",
-                "HELP \"a\";",
-                "MEMBERS { a, b; c, d, \"label\"; e, f, \"label\", [help]; }",
-            ],
-        ),
-        (
-            "METHOD d",
-            &[
-                "LABEL \"a\";",
-                "HELP \"a\";",
-                "CLASS INPUT;",
-                "VALIDITY TRUE;",
-                "DEFINITION { int a, b = 1; long c = a = 2; f(); g(\"t\", [k], a, b + 1); }",
-                "DEFINITION { a += ++b; a <<= -b--; c.d = 1.5; x = a ? b = 1 : !~c; }",
-            ],
-        ),
-    ];
-    for (item, alternatives) in attributes {
+    for (item, alternatives) in ALTERNATIVES {
         for attribute in alternatives {
             let text = description(alloc, &[item, " { ", attribute, " }"])?;
-            assert_eq!(rt; answer(alloc, text.as_str())?.as_str(), "1");
+            assert_eq!(rt; answer(alloc, text.as_str())?.as_str(), "1", "{text}");
         }
     }
-    for kind in ["VARIABLE", "COMMAND", "MENU", "COLLECTION", "METHOD"] {
+    for kind in KINDS {
         let text = description(alloc, &["COLLECTION OF ", kind, " l { };; MENU m { }"])?;
-        assert_eq!(rt; answer(alloc, text.as_str())?.as_str(), "2");
+        assert_eq!(rt; answer(alloc, text.as_str())?.as_str(), "2", "{text}");
     }
     Ok(())
 }
 
+// What stands before a statement and behind it.
+const AROUND: [(&str, &str); 9] = [
+    ("", ""),
+    ("{ ", " }"),
+    ("if (x) ", ""),
+    ("if (x) ; else ", ""),
+    ("while (x) ", ""),
+    ("do ", " while (x);"),
+    ("for (;;) ", ""),
+    ("for (x = 1; x < 2; x++) ", ""),
+    ("switch (x) { case 1: case -2: ", " default: }"),
+];
+
+const ALONE: [&str; 6] = [";", "x = 1;", "{ }", "break;", "continue;", "return;"];
+
 #[test]
 fn statements_stand_in_statements(rt: HostRuntime) -> Result<(), Fail> {
     let alloc = rt.alloc();
-    let around = [
-        ("", ""),
-        ("{ ", " }"),
-        ("if (x) ", ""),
-        ("if (x) ; else ", ""),
-        ("while (x) ", ""),
-        ("do ", " while (x);"),
-        ("for (;;) ", ""),
-        ("for (x = 1; x < 2; x++) ", ""),
-        ("switch (x) { case 1: case -2: ", " default: }"),
-    ];
-    let alone = [";", "x = 1;", "{ }", "break;", "continue;", "return;"];
-    for (before, after) in around {
-        for (inner, behind) in around {
-            for statement in alone {
+    for (before, after) in AROUND {
+        for (inner, behind) in AROUND {
+            for statement in ALONE {
                 let text = description(
                     alloc,
                     &[
@@ -158,7 +165,7 @@ fn statements_stand_in_statements(rt: HostRuntime) -> Result<(), Fail> {
                         " } } }",
                     ],
                 )?;
-                assert_eq!(rt; answer(alloc, text.as_str())?.as_str(), "1");
+                assert_eq!(rt; answer(alloc, text.as_str())?.as_str(), "1", "{text}");
             }
         }
     }
@@ -212,31 +219,33 @@ fn groups_left(unit: &Unit) -> Option<bool> {
     }
 }
 
+// Each operator with the number of its row.
+const OPERATORS: [(&str, u8); 18] = [
+    ("||", 3),
+    ("&&", 4),
+    ("|", 5),
+    ("^", 6),
+    ("&", 7),
+    ("==", 8),
+    ("!=", 8),
+    ("<", 9),
+    ("<=", 9),
+    (">", 9),
+    (">=", 9),
+    ("<<", 10),
+    (">>", 10),
+    ("+", 11),
+    ("-", 11),
+    ("*", 12),
+    ("/", 12),
+    ("%", 12),
+];
+
 #[test]
 fn operators_group_by_their_rows(rt: HostRuntime) -> Result<(), Fail> {
     let alloc = rt.alloc();
-    let operators = [
-        ("||", 3),
-        ("&&", 4),
-        ("|", 5),
-        ("^", 6),
-        ("&", 7),
-        ("==", 8),
-        ("!=", 8),
-        ("<", 9),
-        ("<=", 9),
-        (">", 9),
-        (">=", 9),
-        ("<<", 10),
-        (">>", 10),
-        ("+", 11),
-        ("-", 11),
-        ("*", 12),
-        ("/", 12),
-        ("%", 12),
-    ];
-    for (first, row) in operators {
-        for (second, next_row) in operators {
+    for (first, row) in OPERATORS {
+        for (second, next_row) in OPERATORS {
             let text = description(
                 alloc,
                 &[
@@ -252,7 +261,7 @@ fn operators_group_by_their_rows(rt: HostRuntime) -> Result<(), Fail> {
                 Some(unit) => groups_left(unit),
                 None => None,
             };
-            assert_eq!(rt; left, Some(row >= next_row));
+            assert_eq!(rt; left, Some(row >= next_row), "{first} before {second}");
         }
     }
     Ok(())
@@ -273,7 +282,7 @@ fn else_belongs_to_the_nearest_if(rt: HostRuntime) -> Result<(), Fail> {
         },
         None => false,
     };
-    assert!(rt; nearest);
+    assert!(rt; nearest, "the else is of the inner if");
     Ok(())
 }
 
@@ -300,89 +309,93 @@ fn is_last(unit: &Unit, name: &str) -> bool {
     }
 }
 
+// The list of a menu that ends with c, how many entries it has, and how many stand behind its first ELSE.
+const LISTS: [(&str, usize, usize); 6] = [
+    ("c", 1, 0),
+    ("a, b c", 3, 0),
+    ("a, b, c,", 3, 0),
+    ("IF (x) { a } ELSE IF (y) { b }, c", 2, 1),
+    ("IF (x) { a } ELSE { b, b b } c", 2, 3),
+    ("IF (x) { a }, IF (y) { b } c", 3, 0),
+];
+
 #[test]
 fn lists_have_each_entry(rt: HostRuntime) -> Result<(), Fail> {
     let alloc = rt.alloc();
-    let lists = [
-        ("c", 1, 0),
-        ("a, b c", 3, 0),
-        ("a, b, c,", 3, 0),
-        ("IF (x) { a } ELSE IF (y) { b }, c", 2, 1),
-        ("IF (x) { a } ELSE { b, b b } c", 2, 3),
-        ("IF (x) { a }, IF (y) { b } c", 3, 0),
-    ];
-    for (list, count, behind) in lists {
+    for (list, count, behind) in LISTS {
         let text = description(alloc, &["MENU m { ITEMS { ", list, " } }"])?;
         let read = unit(alloc, text.as_str())?;
         let (found, last) = match &read {
             Some(unit) => (entries(unit), is_last(unit, "c")),
             None => (None, false),
         };
-        assert_eq!(rt; found, Some((count, behind)));
-        assert!(rt; last);
+        assert_eq!(rt; found, Some((count, behind)), "{list}");
+        assert!(rt; last, "c is the last of {list}");
     }
     Ok(())
 }
 
+// An item on the second line, and its fault.
+const FAULTS: [(&str, &str); 24] = [
+    ("FILE f { }", "12 UNSUPPORTED FILE"),
+    ("ARRAY OF VARIABLE a { }", "12 UNSUPPORTED ARRAY"),
+    ("RESPONSE_CODES r { }", "12 UNSUPPORTED RESPONSE_CODES"),
+    (
+        "COMMAND c { TRANSACTION { RESPONSE_CODES { } } }",
+        "12 UNSUPPORTED RESPONSE_CODES",
+    ),
+    ("w LIKE VARIABLE v { }", "12 UNSUPPORTED LIKE"),
+    ("VARIABLE v LIKE w { }", "12 UNSUPPORTED LIKE"),
+    (
+        "VARIABLE v { TYPE INTEGER { MIN_VALUE1 1; } }",
+        "12 UNSUPPORTED MIN_VALUE1",
+    ),
+    (
+        "VARIABLE v { TYPE INTEGER { MIN_VALUEX 1; } }",
+        "10 SYNTAX line 2",
+    ),
+    (
+        "VARIABLE v { TYPE INTEGER { SCALING_FACTOR 1; } }",
+        "12 UNSUPPORTED SCALING_FACTOR",
+    ),
+    (
+        "VARIABLE v { PRE_EDIT_ACTIONS { } }",
+        "12 UNSUPPORTED PRE_EDIT_ACTIONS",
+    ),
+    ("MENU m { STYLE WINDOW; }", "12 UNSUPPORTED STYLE"),
+    (
+        "MENU m { ITEMS { a (COLUMNBREAK) } }",
+        "12 UNSUPPORTED COLUMNBREAK",
+    ),
+    (
+        "METHOD m { DEFINITION { float x; } }",
+        "12 UNSUPPORTED float",
+    ),
+    (
+        "METHOD m { DEFINITION { if (x) goto y; } }",
+        "12 UNSUPPORTED goto",
+    ),
+    ("METHOD m { DEFINITION { x = char; } }", "10 SYNTAX line 2"),
+    ("SOMETHING s { }", "10 SYNTAX line 2"),
+    ("VARIABLE v { NUMBER 1; }", "10 SYNTAX line 2"),
+    ("VARIABLE v {\nLABEL\n2; }", "10 SYNTAX line 4"),
+    ("VARIABLE v {\n\n", "10 SYNTAX line 4"),
+    ("VARIABLE v { VALIDITY a; }", "10 SYNTAX line 2"),
+    ("MENU m { ITEMS { a,, b } }", "10 SYNTAX line 2"),
+    ("METHOD m { DEFINITION { a + b = c; } }", "10 SYNTAX line 2"),
+    ("METHOD m { DEFINITION { return 1; } }", "10 SYNTAX line 2"),
+    (
+        "VARIABLE v { TYPE INTEGER { MIN_VALUE a = 1; } }",
+        "10 SYNTAX line 2",
+    ),
+];
+
 #[test]
 fn faults_have_their_place(rt: HostRuntime) -> Result<(), Fail> {
     let alloc = rt.alloc();
-    let faults = [
-        ("FILE f { }", "12 UNSUPPORTED FILE"),
-        ("ARRAY OF VARIABLE a { }", "12 UNSUPPORTED ARRAY"),
-        ("RESPONSE_CODES r { }", "12 UNSUPPORTED RESPONSE_CODES"),
-        (
-            "COMMAND c { TRANSACTION { RESPONSE_CODES { } } }",
-            "12 UNSUPPORTED RESPONSE_CODES",
-        ),
-        ("w LIKE VARIABLE v { }", "12 UNSUPPORTED LIKE"),
-        ("VARIABLE v LIKE w { }", "12 UNSUPPORTED LIKE"),
-        (
-            "VARIABLE v { TYPE INTEGER { MIN_VALUE1 1; } }",
-            "12 UNSUPPORTED MIN_VALUE1",
-        ),
-        (
-            "VARIABLE v { TYPE INTEGER { MIN_VALUEX 1; } }",
-            "10 SYNTAX line 2",
-        ),
-        (
-            "VARIABLE v { TYPE INTEGER { SCALING_FACTOR 1; } }",
-            "12 UNSUPPORTED SCALING_FACTOR",
-        ),
-        (
-            "VARIABLE v { PRE_EDIT_ACTIONS { } }",
-            "12 UNSUPPORTED PRE_EDIT_ACTIONS",
-        ),
-        ("MENU m { STYLE WINDOW; }", "12 UNSUPPORTED STYLE"),
-        (
-            "MENU m { ITEMS { a (COLUMNBREAK) } }",
-            "12 UNSUPPORTED COLUMNBREAK",
-        ),
-        (
-            "METHOD m { DEFINITION { float x; } }",
-            "12 UNSUPPORTED float",
-        ),
-        (
-            "METHOD m { DEFINITION { if (x) goto y; } }",
-            "12 UNSUPPORTED goto",
-        ),
-        ("METHOD m { DEFINITION { x = char; } }", "10 SYNTAX line 2"),
-        ("SOMETHING s { }", "10 SYNTAX line 2"),
-        ("VARIABLE v { NUMBER 1; }", "10 SYNTAX line 2"),
-        ("VARIABLE v {\nLABEL\n2; }", "10 SYNTAX line 4"),
-        ("VARIABLE v {\n\n", "10 SYNTAX line 4"),
-        ("VARIABLE v { VALIDITY a; }", "10 SYNTAX line 2"),
-        ("MENU m { ITEMS { a,, b } }", "10 SYNTAX line 2"),
-        ("METHOD m { DEFINITION { a + b = c; } }", "10 SYNTAX line 2"),
-        ("METHOD m { DEFINITION { return 1; } }", "10 SYNTAX line 2"),
-        (
-            "VARIABLE v { TYPE INTEGER { MIN_VALUE a = 1; } }",
-            "10 SYNTAX line 2",
-        ),
-    ];
-    for (item, fault) in faults {
+    for (item, fault) in FAULTS {
         let text = description(alloc, &[item])?;
-        assert_eq!(rt; answer(alloc, text.as_str())?.as_str(), fault);
+        assert_eq!(rt; answer(alloc, text.as_str())?.as_str(), fault, "{item}");
     }
     assert_eq!(rt; answer(alloc, "")?.as_str(), "10 SYNTAX line 1");
     assert_eq!(rt; answer(alloc, HEAD)?.as_str(), "0");

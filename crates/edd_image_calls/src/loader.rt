@@ -1,31 +1,12 @@
-use super::*;
+//! Images that are loaded, or refused with their fault.
+
+use crate::worked::{LABEL, LOOP};
 use edd_image::VarKind;
+use edd_loader::{LoadFault, Text, load};
 use edd_syntax::numbers::{ItemNo, MethNo, StrNo, VarNo};
 use edd_syntax::types::VarType;
 use std::alloc::{AllocError, Global};
 use std::test::Fail;
-
-// One method `m` that is an endless loop.
-const LOOP: [u8; 86] = [
-    0x45, 0x44, 0x49, 0x31, 0x00, 0x01, 0x00, 0x00, 0x00, 0x00, 0x00, 0x56, 0x00, 0x00, 0x00, 0x01,
-    0x00, 0x00, 0x00, 0x02, 0x00, 0x00, 0x00, 0x03, 0x00, 0x00, 0x00, 0x04, 0x00, 0x00, 0x00, 0x00,
-    0x00, 0x00, 0x00, 0x00, 0x00, 0x01, 0x00, 0x00, 0x00, 0x00, 0x00, 0x01, 0x00, 0x00, 0x00, 0x01,
-    0x00, 0x00, 0x00, 0x05, 0x00, 0x00, 0x00, 0x00, 0x00, 0x00, 0x00, 0x00, 0x00, 0x01, 0x00, 0x00,
-    0x05, 0x15, 0x00, 0x00, 0x00, 0x00, 0x00, 0x00, 0x00, 0x00, 0x00, 0x00, 0x00, 0x00, 0x00, 0x05,
-    0x30, 0x00, 0x00, 0x00, 0x00, 0x6d,
-];
-
-// A variable `p` of type INTEGER (2) with the label "Pressure", in German "Druck".
-const LABEL: [u8; 125] = [
-    0x45, 0x44, 0x49, 0x31, 0x00, 0x01, 0x00, 0x00, 0x00, 0x00, 0x00, 0x7d, 0x00, 0x00, 0x00, 0x01,
-    0x00, 0x00, 0x00, 0x02, 0x00, 0x00, 0x00, 0x03, 0x00, 0x00, 0x00, 0x04, 0x00, 0x01, 0x00, 0x00,
-    0x00, 0x00, 0x00, 0x00, 0x00, 0x00, 0x00, 0x01, 0x00, 0x00, 0x00, 0x01, 0x00, 0x00, 0x00, 0x01,
-    0x00, 0x00, 0x00, 0x04, 0x00, 0x00, 0x00, 0x1c, 0x01, 0x02, 0x00, 0x00, 0x00, 0x00, 0x00, 0x00,
-    0x00, 0x01, 0x00, 0x00, 0x01, 0x01, 0x00, 0x00, 0x00, 0x00, 0x00, 0x00, 0x00, 0x00, 0x00, 0x00,
-    0x00, 0x00, 0x00, 0x04, 0x40, 0x00, 0x00, 0x00, 0x00, 0x00, 0x00, 0x00, 0x00, 0x00, 0x00, 0x1c,
-    0x70, 0x00, 0x02, 0x65, 0x6e, 0x00, 0x00, 0x00, 0x08, 0x50, 0x72, 0x65, 0x73, 0x73, 0x75, 0x72,
-    0x65, 0x02, 0x64, 0x65, 0x00, 0x00, 0x00, 0x05, 0x44, 0x72, 0x75, 0x63, 0x6b,
-];
 
 fn refusal(alloc: Global, bytes: &[u8]) -> Option<LoadFault> {
     load(alloc, bytes).err()
@@ -78,23 +59,25 @@ fn with_units(alloc: Global, first: &[u8], second: &[u8]) -> Result<Vec<u8>, All
     Ok(bytes)
 }
 
+// Of the endless loop a place, another byte there, and the fault.
+const EDITS: [(usize, u8, LoadFault); 8] = [
+    (0, 0x00, LoadFault::Magic),
+    (5, 0x03, LoadFault::Version),
+    (11, 0x57, LoadFault::Length),
+    (64, 0x09, LoadFault::Row),
+    (85, 0x20, LoadFault::Name),
+    (80, 0xff, LoadFault::Instruction),
+    (84, 0x01, LoadFault::Jump),
+    // The loop as code of an attribute.
+    (65, 0x06, LoadFault::Jump),
+];
+
 #[test]
 fn each_edit_is_refused(rt: HostRuntime) -> Result<(), Fail> {
     let alloc = rt.alloc();
-    let cases = [
-        (0, 0x00, LoadFault::Magic),
-        (5, 0x03, LoadFault::Version),
-        (11, 0x57, LoadFault::Length),
-        (64, 0x09, LoadFault::Row),
-        (85, 0x20, LoadFault::Name),
-        (80, 0xff, LoadFault::Instruction),
-        (84, 0x01, LoadFault::Jump),
-        // The loop as code of an attribute.
-        (65, 0x06, LoadFault::Jump),
-    ];
-    for (place, byte, want) in cases {
+    for (place, byte, want) in EDITS {
         let image = edited(alloc, &LOOP, place, byte)?;
-        assert_eq!(rt; refusal(alloc, &image), Some(want), "{place}");
+        assert_eq!(rt; refusal(alloc, &image), Some(want), "{byte} at {place}");
     }
     let image = edited(alloc, &LABEL, 97, 2)?;
     assert_eq!(rt; refusal(alloc, &image), Some(LoadFault::Text));
@@ -194,64 +177,76 @@ fn prefixes_are_short(rt: HostRuntime) -> Result<(), Fail> {
             } else {
                 LoadFault::Length
             };
-            assert_eq!(rt; refusal(alloc, &image[..length]), Some(want), "{length}");
+            assert_eq!(rt;
+                refusal(alloc, &image[..length]),
+                Some(want),
+                "the first {length} bytes"
+            );
         }
         assert_eq!(rt; refusal(alloc, image), None);
     }
     Ok(())
 }
 
+// How many slots a method has, its code, and the fault.
+const CODES: [(u8, &[u8], Option<LoadFault>); 9] = [
+    (0, &[0x06, 0, 0, 0, 0], Some(LoadFault::Depth)),
+    (0, &[0x07, 0, 0, 0, 0], Some(LoadFault::Depth)),
+    (0, &[0x02, 0, 0, 0x06, 0], Some(LoadFault::Reference)),
+    // Two numbers of operands at place 15.
+    (
+        0,
+        &[0x01, 0, 0, 0, 0, 0x31, 0, 0, 0, 0x0f, 0x01, 0, 0, 0, 1, 0],
+        Some(LoadFault::Depth),
+    ),
+    // A stack that grows.
+    (
+        0,
+        &[0x01, 0, 0, 0, 1, 0x30, 0, 0, 0, 0],
+        Some(LoadFault::Depth),
+    ),
+    // What no instruction leads to begins without operands.
+    (0, &[0x00, 0x01, 0, 0, 0, 1, 0x06, 0x00], None),
+    // A slot.
+    (0, &[0x04, 0, 0, 0x06, 0], Some(LoadFault::Reference)),
+    (1, &[0x04, 0, 0, 0x06, 0], None),
+    (0, &[], Some(LoadFault::Instruction)),
+];
+
 #[test]
 fn codes_of_a_method(rt: HostRuntime) -> Result<(), Fail> {
     let alloc = rt.alloc();
-    let cases: [(u8, &[u8], Option<LoadFault>); 9] = [
-        (0, &[0x06, 0, 0, 0, 0], Some(LoadFault::Depth)),
-        (0, &[0x07, 0, 0, 0, 0], Some(LoadFault::Depth)),
-        (0, &[0x02, 0, 0, 0x06, 0], Some(LoadFault::Reference)),
-        // Two numbers of operands at place 15.
-        (
-            0,
-            &[0x01, 0, 0, 0, 0, 0x31, 0, 0, 0, 0x0f, 0x01, 0, 0, 0, 1, 0],
-            Some(LoadFault::Depth),
-        ),
-        // A stack that grows.
-        (
-            0,
-            &[0x01, 0, 0, 0, 1, 0x30, 0, 0, 0, 0],
-            Some(LoadFault::Depth),
-        ),
-        // What no instruction leads to begins without operands.
-        (0, &[0x00, 0x01, 0, 0, 0, 1, 0x06, 0x00], None),
-        // A slot.
-        (0, &[0x04, 0, 0, 0x06, 0], Some(LoadFault::Reference)),
-        (1, &[0x04, 0, 0, 0x06, 0], None),
-        (0, &[], Some(LoadFault::Instruction)),
-    ];
-    for (slots, code, want) in cases {
+    for (slots, code, want) in CODES {
         let image = with_code(alloc, slots, code)?;
         assert_eq!(rt; refusal(alloc, &image), want, "{code:?}");
     }
     Ok(())
 }
 
+const END: &[u8] = &[0x00];
+
+const NO_OPERAND: &[u8] = &[0x06, 0];
+
+const NO_VARIABLE: &[u8] = &[0x02, 0, 0, 0x06, 0];
+
+const INTO_ITSELF: &[u8] = &[0x30, 0, 0, 0, 1];
+
+// The codes of two methods, and the fault.
+const TWO_UNITS: [(&[u8], &[u8], Option<LoadFault>); 8] = [
+    (END, END, None),
+    (END, NO_VARIABLE, Some(LoadFault::Reference)),
+    (NO_VARIABLE, END, Some(LoadFault::Reference)),
+    (NO_VARIABLE, NO_OPERAND, Some(LoadFault::Depth)),
+    (NO_OPERAND, NO_VARIABLE, Some(LoadFault::Depth)),
+    (NO_OPERAND, INTO_ITSELF, Some(LoadFault::Jump)),
+    (INTO_ITSELF, NO_OPERAND, Some(LoadFault::Jump)),
+    (INTO_ITSELF, &[0xff], Some(LoadFault::Instruction)),
+];
+
 #[test]
 fn the_first_rule_of_two_units(rt: HostRuntime) -> Result<(), Fail> {
     let alloc = rt.alloc();
-    let end: &[u8] = &[0x00];
-    let no_operand: &[u8] = &[0x06, 0];
-    let no_variable: &[u8] = &[0x02, 0, 0, 0x06, 0];
-    let into_itself: &[u8] = &[0x30, 0, 0, 0, 1];
-    let cases = [
-        (end, end, None),
-        (end, no_variable, Some(LoadFault::Reference)),
-        (no_variable, end, Some(LoadFault::Reference)),
-        (no_variable, no_operand, Some(LoadFault::Depth)),
-        (no_operand, no_variable, Some(LoadFault::Depth)),
-        (no_operand, into_itself, Some(LoadFault::Jump)),
-        (into_itself, no_operand, Some(LoadFault::Jump)),
-        (into_itself, &[0xff], Some(LoadFault::Instruction)),
-    ];
-    for (first, second, want) in cases {
+    for (first, second, want) in TWO_UNITS {
         let image = with_units(alloc, first, second)?;
         assert_eq!(rt; refusal(alloc, &image), want, "{first:?} {second:?}");
     }
@@ -275,6 +270,8 @@ fn the_stack_holds_128(rt: HostRuntime) -> Result<(), Fail> {
     Ok(())
 }
 
+const LANGUAGES: [(&str, &str); 3] = [("de", "Druck"), ("en", "Pressure"), ("fr", "Pressure")];
+
 #[test]
 fn looks_up(rt: HostRuntime) -> Result<(), Fail> {
     let alloc = rt.alloc();
@@ -294,7 +291,7 @@ fn looks_up(rt: HostRuntime) -> Result<(), Fail> {
     };
     assert_eq!(rt; image.variable(VarNo(0)), Some(kind));
     assert_eq!(rt; image.variable(VarNo(1)), None);
-    for (code, want) in [("de", "Druck"), ("en", "Pressure"), ("fr", "Pressure")] {
+    for (code, want) in LANGUAGES {
         assert_eq!(rt;
             image.text(StrNo(0), code),
             Some(Text::Words(want)),
@@ -317,26 +314,28 @@ fn a_key_gives_its_name(rt: HostRuntime) -> Result<(), Fail> {
     Ok(())
 }
 
+// Each fault as it prints.
+const PRINTED: [(LoadFault, &str); 12] = [
+    (LoadFault::Short, "101 SHORT"),
+    (LoadFault::Magic, "102 MAGIC"),
+    (LoadFault::Version, "103 VERSION"),
+    (LoadFault::Length, "104 LENGTH"),
+    (LoadFault::Row, "105 ROW"),
+    (LoadFault::Name, "106 NAME"),
+    (LoadFault::Text, "107 TEXT"),
+    (LoadFault::Instruction, "108 INSTRUCTION"),
+    (LoadFault::Jump, "109 JUMP"),
+    (LoadFault::Depth, "110 DEPTH"),
+    (LoadFault::Reference, "111 REFERENCE"),
+    (LoadFault::Memory, "no memory"),
+];
+
 #[test]
 fn faults_print(rt: HostRuntime) -> Result<(), Fail> {
     let alloc = rt.alloc();
-    let cases = [
-        (LoadFault::Short, "101 SHORT"),
-        (LoadFault::Magic, "102 MAGIC"),
-        (LoadFault::Version, "103 VERSION"),
-        (LoadFault::Length, "104 LENGTH"),
-        (LoadFault::Row, "105 ROW"),
-        (LoadFault::Name, "106 NAME"),
-        (LoadFault::Text, "107 TEXT"),
-        (LoadFault::Instruction, "108 INSTRUCTION"),
-        (LoadFault::Jump, "109 JUMP"),
-        (LoadFault::Depth, "110 DEPTH"),
-        (LoadFault::Reference, "111 REFERENCE"),
-        (LoadFault::Memory, "no memory"),
-    ];
-    for (fault, want) in cases {
+    for (fault, want) in PRINTED {
         let text = format!(in alloc; "{fault}")?;
-        assert_eq!(rt; text.as_str(), want);
+        assert_eq!(rt; text.as_str(), want, "{fault:?}");
     }
     Ok(())
 }

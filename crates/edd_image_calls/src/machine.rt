@@ -1,9 +1,12 @@
+//! Values, what is read of attributes, and the steps of methods.
+
 ghost use Rattle.std.specs.Prelude.{◌≤◌};
 ghost use Rattle.edd_machine.specs.Running.{IsMachine};
 
-use super::*;
+use crate::worked::LABEL;
 use edd_image::{Emitted, Record, Request, Status};
 use edd_loader::{Image, load};
+use edd_machine::{Machine, ReadFault, Values, ValuesFault, attribute, find_body};
 use edd_syntax::answer::Trap;
 use edd_syntax::numbers::{Attr, AttrRef, ItemNo, MethNo, StrNo, VarNo};
 use std::alloc::{AllocError, Global};
@@ -138,11 +141,19 @@ fn validity_by_values(rt: HostRuntime) -> Result<(), Fail> {
     let image = load(alloc, &image_of(alloc, small)?)?;
     for (u, want) in [(4_294_967_295, 1), (0, 0)] {
         let records = read(alloc, &image, validity_of(0), &[u, 1])??;
-        assert_eq!(rt; records.as_slice(), [Record::Number(want)].as_slice());
+        assert_eq!(rt;
+            records.as_slice(),
+            [Record::Number(want)].as_slice(),
+            "u is {u}"
+        );
     }
     for (mode, want) in [(1, 0), (2, 1)] {
         let records = read(alloc, &image, validity_of(1), &[0, mode])??;
-        assert_eq!(rt; records.as_slice(), [Record::Number(want)].as_slice());
+        assert_eq!(rt;
+            records.as_slice(),
+            [Record::Number(want)].as_slice(),
+            "mode is {mode}"
+        );
     }
     let trapped = read(alloc, &image, validity_of(1), &[0, 0])?;
     assert_eq!(rt; trapped.err(), Some(ReadFault::DivZero));
@@ -151,34 +162,24 @@ fn validity_by_values(rt: HostRuntime) -> Result<(), Fail> {
     Ok(())
 }
 
-// A variable `p` of type INTEGER (2) with the label "Pressure", in German "Druck".
-const LABEL: [u8; 125] = [
-    0x45, 0x44, 0x49, 0x31, 0x00, 0x01, 0x00, 0x00, 0x00, 0x00, 0x00, 0x7d, 0x00, 0x00, 0x00, 0x01,
-    0x00, 0x00, 0x00, 0x02, 0x00, 0x00, 0x00, 0x03, 0x00, 0x00, 0x00, 0x04, 0x00, 0x01, 0x00, 0x00,
-    0x00, 0x00, 0x00, 0x00, 0x00, 0x00, 0x00, 0x01, 0x00, 0x00, 0x00, 0x01, 0x00, 0x00, 0x00, 0x01,
-    0x00, 0x00, 0x00, 0x04, 0x00, 0x00, 0x00, 0x1c, 0x01, 0x02, 0x00, 0x00, 0x00, 0x00, 0x00, 0x00,
-    0x00, 0x01, 0x00, 0x00, 0x01, 0x01, 0x00, 0x00, 0x00, 0x00, 0x00, 0x00, 0x00, 0x00, 0x00, 0x00,
-    0x00, 0x00, 0x00, 0x04, 0x40, 0x00, 0x00, 0x00, 0x00, 0x00, 0x00, 0x00, 0x00, 0x00, 0x00, 0x1c,
-    0x70, 0x00, 0x02, 0x65, 0x6e, 0x00, 0x00, 0x00, 0x08, 0x50, 0x72, 0x65, 0x73, 0x73, 0x75, 0x72,
-    0x65, 0x02, 0x64, 0x65, 0x00, 0x00, 0x00, 0x05, 0x44, 0x72, 0x75, 0x63, 0x6b,
+// What is read of attributes of the labelled variable.
+const DEFAULTS: [(Attr, &[Record]); 4] = [
+    (Attr::Label, &[Record::Words(StrNo(0))]),
+    (Attr::Help, &[]),
+    (Attr::Handling, &[Record::Number(3)]),
+    (Attr::Validity, &[Record::Number(1)]),
 ];
 
 #[test]
 fn label_and_defaults(rt: HostRuntime) -> Result<(), Fail> {
     let alloc = rt.alloc();
     let image = load(alloc, &LABEL)?;
-    let cases: [(Attr, &[Record]); 4] = [
-        (Attr::Label, &[Record::Words(StrNo(0))]),
-        (Attr::Help, &[]),
-        (Attr::Handling, &[Record::Number(3)]),
-        (Attr::Validity, &[Record::Number(1)]),
-    ];
-    for (attr, want) in cases {
+    for (attr, want) in DEFAULTS {
         let item = ItemNo::Variable(VarNo(0));
         let records = read(alloc, &image, AttrRef { item, attr, sub: 0 }, &[0])??;
-        assert_eq!(rt; records.as_slice(), want);
+        assert_eq!(rt; records.as_slice(), want, "{attr:?}");
         let shifted = read(alloc, &image, AttrRef { item, attr, sub: 1 }, &[0])?;
-        assert_eq!(rt; shifted.err(), Some(ReadFault::NoItem));
+        assert_eq!(rt; shifted.err(), Some(ReadFault::NoItem), "{attr:?} at 1");
     }
     // The item is looked for before the values are.
     let mut wrong = Values::new(alloc, &image, &[0])?;
@@ -218,35 +219,37 @@ fn after(alloc: Global, image: &Image, numbers: &[i64], steps: u8) -> Result<Mac
     Ok(machine)
 }
 
+// A code, and after three steps the place, the variable, the status and what was emitted last: an endless loop; x = 300;
+// send_command(7); 5 % 0.
+const STEPS: [(&[u8], usize, i64, Status, Emitted); 4] = [
+    (&[0x30, 0, 0, 0, 0], 0, 9, Status::Running, Emitted::Nothing),
+    (
+        &[0x01, 0, 0, 1, 0x2c, 0x03, 0, 0, 0x06, 0x00],
+        9,
+        44,
+        Status::Running,
+        Emitted::Nothing,
+    ),
+    (
+        &[0x01, 0, 0, 0, 7, 0x50, 6, 0, 0, 0, 0, 0x06, 0x00],
+        11,
+        9,
+        Status::Asking(Request::SendCommand(7)),
+        Emitted::Request(Request::SendCommand(7)),
+    ),
+    (
+        &[0x01, 0, 0, 0, 5, 0x01, 0, 0, 0, 0, 0x14, 0x06, 0x00],
+        10,
+        9,
+        Status::Trapped(Trap::DivZero),
+        Emitted::Nothing,
+    ),
+];
+
 #[test]
 fn steps_of_methods(rt: HostRuntime) -> Result<(), Fail> {
     let alloc = rt.alloc();
-    // An endless loop; x = 300; send_command(7); 5 % 0.
-    let cases: [(&[u8], usize, i64, Status, Emitted); 4] = [
-        (&[0x30, 0, 0, 0, 0], 0, 9, Status::Running, Emitted::Nothing),
-        (
-            &[0x01, 0, 0, 1, 0x2c, 0x03, 0, 0, 0x06, 0x00],
-            9,
-            44,
-            Status::Running,
-            Emitted::Nothing,
-        ),
-        (
-            &[0x01, 0, 0, 0, 7, 0x50, 6, 0, 0, 0, 0, 0x06, 0x00],
-            11,
-            9,
-            Status::Asking(Request::SendCommand(7)),
-            Emitted::Request(Request::SendCommand(7)),
-        ),
-        (
-            &[0x01, 0, 0, 0, 5, 0x01, 0, 0, 0, 0, 0x14, 0x06, 0x00],
-            10,
-            9,
-            Status::Trapped(Trap::DivZero),
-            Emitted::Nothing,
-        ),
-    ];
-    for (code, place, x, status, emitted) in cases {
+    for (code, place, x, status, emitted) in STEPS {
         let small = Small {
             variables: &[[UNSIGNED, 1, 0, 0]],
             methods: 1,
@@ -254,37 +257,40 @@ fn steps_of_methods(rt: HostRuntime) -> Result<(), Fail> {
         };
         let image = load(alloc, &image_of(alloc, small)?)?;
         let machine = after(alloc, &image, &[9], 3)?;
-        assert_eq!(rt; machine.place, place);
-        assert_eq!(rt; machine.values.get(VarNo(0)), Some(x));
-        assert_eq!(rt; machine.status, status);
-        assert_eq!(rt; machine.emitted, emitted);
+        assert_eq!(rt; machine.place, place, "{code:?}");
+        assert_eq!(rt; machine.values.get(VarNo(0)), Some(x), "{code:?}");
+        assert_eq!(rt; machine.status, status, "{code:?}");
+        assert_eq!(rt; machine.emitted, emitted, "{code:?}");
     }
     Ok(())
 }
 
+// Each fault as it prints.
+const PRINTED_VALUES_FAULTS: [(ValuesFault, &str); 3] = [
+    (ValuesFault::Count, "201 COUNT"),
+    (ValuesFault::Range, "202 RANGE"),
+    (ValuesFault::Memory, "no memory"),
+];
+
+const PRINTED_READ_FAULTS: [(ReadFault, &str); 6] = [
+    (ReadFault::NoItem, "203 NO_ITEM"),
+    (ReadFault::WrongValues, "204 WRONG_VALUES"),
+    (ReadFault::DivZero, "210 DIV_ZERO"),
+    (ReadFault::DivOverflow, "211 DIV_OVERFLOW"),
+    (ReadFault::BadShift, "212 BAD_SHIFT"),
+    (ReadFault::Memory, "no memory"),
+];
+
 #[test]
 fn faults_print(rt: HostRuntime) -> Result<(), Fail> {
     let alloc = rt.alloc();
-    let cases = [
-        (ValuesFault::Count, "201 COUNT"),
-        (ValuesFault::Range, "202 RANGE"),
-        (ValuesFault::Memory, "no memory"),
-    ];
-    for (fault, want) in cases {
+    for (fault, want) in PRINTED_VALUES_FAULTS {
         let text = format!(in alloc; "{fault}")?;
-        assert_eq!(rt; text.as_str(), want);
+        assert_eq!(rt; text.as_str(), want, "{fault:?}");
     }
-    let cases = [
-        (ReadFault::NoItem, "203 NO_ITEM"),
-        (ReadFault::WrongValues, "204 WRONG_VALUES"),
-        (ReadFault::DivZero, "210 DIV_ZERO"),
-        (ReadFault::DivOverflow, "211 DIV_OVERFLOW"),
-        (ReadFault::BadShift, "212 BAD_SHIFT"),
-        (ReadFault::Memory, "no memory"),
-    ];
-    for (fault, want) in cases {
+    for (fault, want) in PRINTED_READ_FAULTS {
         let text = format!(in alloc; "{fault}")?;
-        assert_eq!(rt; text.as_str(), want);
+        assert_eq!(rt; text.as_str(), want, "{fault:?}");
     }
     Ok(())
 }

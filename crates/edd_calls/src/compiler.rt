@@ -1,17 +1,14 @@
-//! Texts and readers whose outcome was worked out by hand.
+//! The compiler's calls, and the program over files and an output of its caller.
 
-use crate::compiling::compile;
-use crate::files::read_all;
-use crate::source::{checked_of, unit_of};
+use crate::descriptions::{IDENTIFICATION, described, row, text_of};
 use edd_image::Record;
 use edd_loader::load;
 use edd_machine::{Values, attribute};
-use edd_syntax::numbers::{Attr, AttrRef, CmdNo, ItemNo, MenuNo, VarNo};
+use edd_syntax::numbers::{Attr, CmdNo, ItemNo, MenuNo, VarNo};
+use edd_tool::{FileFault, Files, compile, run, unit_of};
 use std::alloc::Global;
 use std::io::{Error, ErrorKind, Read};
 use std::test::Fail;
-
-const IDENTIFICATION: &str = "MANUFACTURER 1, DEVICE_TYPE 2, DEVICE_REVISION 3, DD_REVISION 4\n";
 
 // The identification and the number of items of the unit, or the fault as it prints.
 fn outcome(alloc: Global, text: &str) -> Result<String, Fail> {
@@ -31,21 +28,25 @@ fn outcome(alloc: Global, text: &str) -> Result<String, Fail> {
     }
 }
 
+// What stands behind the identification, and the outcome.
+const OUTCOMES: [(&str, &str); 5] = [
+    ("", "1 2 3 4, items 0"),
+    (
+        "VARIABLE a { TYPE INTEGER; } MENU b { ITEMS { a } }",
+        "1 2 3 4, items 2",
+    ),
+    ("VARIABLE a { TYPE INTEGER }", "10 SYNTAX line 2"),
+    ("\n\"open", "5 OPEN_STRING line 3"),
+    ("IMPORT a", "12 UNSUPPORTED IMPORT"),
+];
+
 #[test]
 fn a_text_comes_to_its_unit_or_its_fault(rt: HostRuntime) -> Result<(), Fail> {
     let alloc = rt.alloc();
-    let items = "VARIABLE a { TYPE INTEGER; } MENU b { ITEMS { a } }";
-    let rows: [(&str, &str); 5] = [
-        ("", "1 2 3 4, items 0"),
-        (items, "1 2 3 4, items 2"),
-        ("VARIABLE a { TYPE INTEGER }", "10 SYNTAX line 2"),
-        ("\n\"open", "5 OPEN_STRING line 3"),
-        ("IMPORT a", "12 UNSUPPORTED IMPORT"),
-    ];
-    for (rest, expected) in rows {
-        let text = format!(in alloc; "{IDENTIFICATION}{rest}")?;
+    for (items, expected) in OUTCOMES {
+        let text = text_of(alloc, items)?;
         let printed = outcome(alloc, text.as_str())?;
-        assert_eq!(rt; printed.as_str(), expected);
+        assert_eq!(rt; printed.as_str(), expected, "{items}");
     }
     Ok(())
 }
@@ -67,35 +68,54 @@ impl Read for Dripping<'_> {
     }
 }
 
+// Every name is that of one file, which is the identification. Nothing is kept of what is saved.
+#[derive(Drop)]
+struct OneFile {
+    is_broken: bool,
+}
+
+impl Files for OneFile {
+    type Reader = Dripping<'static>;
+
+    fn open(&mut self, _name: &str) -> Result<Dripping<'static>, FileFault> {
+        Ok(Dripping {
+            rest: IDENTIFICATION.as_bytes(),
+            is_broken: self.is_broken,
+        })
+    }
+
+    fn save(&mut self, _name: &str, _bytes: &[u8]) -> Result<(), FileFault> {
+        Ok(())
+    }
+}
+
+// Whether the file's reading fails, the exit status, and what is printed.
+const READINGS: [(bool, u8, &str); 2] = [(false, 0, "image 56\n"), (true, 3, "file s\n")];
+
 #[test]
 fn a_file_is_read_to_its_end(rt: HostRuntime) -> Result<(), Fail> {
     let alloc = rt.alloc();
-    let mut whole = Dripping {
-        rest: b"eight by",
-        is_broken: false,
-    };
-    let bytes = read_all(alloc, &mut whole);
-    assert!(rt; bytes.is_ok_and(|bytes| bytes.as_slice() == b"eight by".as_slice()));
-    let mut broken = Dripping {
-        rest: b"eight by",
-        is_broken: true,
-    };
-    assert!(rt; read_all(alloc, &mut broken).is_err());
+    let mut words = Vec::new(alloc);
+    for word in ["edd", "compile", "s", "i"] {
+        words.push(String::from_str(alloc, word)?)?;
+    }
+    for (is_broken, status, printed) in READINGS {
+        let mut out: Vec<u8> = Vec::new(alloc);
+        let answer = run(alloc, &words, &mut OneFile { is_broken }, &mut out);
+        assert_eq!(rt; answer, status, "broken: {is_broken}");
+        assert_eq!(rt; out.as_slice(), printed.as_bytes(), "broken: {is_broken}");
+    }
     Ok(())
 }
 
-fn row(item: ItemNo, attr: Attr, sub: u16) -> AttrRef {
-    AttrRef { item, attr, sub }
-}
+const ITEMS_OF_FOUR_KINDS: &str = "MENU m { ITEMS { b } LABEL \"M\"; }
+        VARIABLE a { TYPE INTEGER { MIN_VALUE 1; } LABEL \"A\"; }
+        COMMAND c { NUMBER 1; OPERATION READ; TRANSACTION 0 { REPLY { a } } TRANSACTION 1 { } }
+        VARIABLE b { LABEL \"B\"; TYPE INTEGER; }";
 
 #[test]
 fn rows_stand_by_kind_attribute_item_and_position(rt: HostRuntime) -> Result<(), Fail> {
     let alloc = rt.alloc();
-    let items = "MENU m { ITEMS { b } LABEL \"M\"; }
-        VARIABLE a { TYPE INTEGER { MIN_VALUE 1; } LABEL \"A\"; }
-        COMMAND c { NUMBER 1; OPERATION READ; TRANSACTION 0 { REPLY { a } } TRANSACTION 1 { } }
-        VARIABLE b { LABEL \"B\"; TYPE INTEGER; }";
-    let text = format!(in alloc; "{IDENTIFICATION}{items}")?;
     let (a, b) = (ItemNo::Variable(VarNo(0)), ItemNo::Variable(VarNo(1)));
     let (command, menu) = (ItemNo::Command(CmdNo(0)), ItemNo::Menu(MenuNo(0)));
     let expected = [
@@ -113,9 +133,7 @@ fn rows_stand_by_kind_attribute_item_and_position(rt: HostRuntime) -> Result<(),
         row(menu, Attr::Label, 0),
         row(menu, Attr::Items, 0),
     ];
-    let Ok(checked) = checked_of(alloc, text.as_bytes()) else {
-        panic!(rt; "it breaks no rule")
-    };
+    let checked = described(alloc, ITEMS_OF_FOUR_KINDS)?;
     let rows = checked.rows(alloc)?;
     assert_eq!(rt; rows.as_slice(), expected.as_slice());
     Ok(())
@@ -125,10 +143,7 @@ fn rows_stand_by_kind_attribute_item_and_position(rt: HostRuntime) -> Result<(),
 fn a_type_without_braces_has_no_row(rt: HostRuntime) -> Result<(), Fail> {
     let alloc = rt.alloc();
     let items = "VARIABLE p { LABEL \"|en|Pressure|de|Druck\"; TYPE INTEGER (2); }";
-    let text = format!(in alloc; "{IDENTIFICATION}{items}")?;
-    let Ok(checked) = checked_of(alloc, text.as_bytes()) else {
-        panic!(rt; "it breaks no rule")
-    };
+    let checked = described(alloc, items)?;
     let rows = checked.rows(alloc)?;
     let expected = [row(ItemNo::Variable(VarNo(0)), Attr::Label, 0)];
     assert_eq!(rt; rows.as_slice(), expected.as_slice());
@@ -147,41 +162,37 @@ const EVERY_ATTRIBUTE: &str =
     MENU m { ITEMS { a, \"text\" } }
     COLLECTION OF VARIABLE k { MEMBERS { x, a; } }";
 
+// How many records each row gives.
+const COUNTS: [usize; 20] = [1, 1, 2, 1, 1, 1, 1, 1, 1, 1, 1, 2, 1, 1, 1, 2, 1, 1, 2, 1];
+
+// Attributes of `a` that are computed, and their values where each variable is 0.
+const COMPUTED: [(Attr, i64); 3] = [
+    (Attr::Validity, 0),
+    (Attr::MinValue, -1),
+    (Attr::MaxValue, 7),
+];
+
 #[test]
 fn every_attribute_is_compiled_and_read(rt: HostRuntime) -> Result<(), Fail> {
     let alloc = rt.alloc();
-    let text = format!(in alloc; "{IDENTIFICATION}{EVERY_ATTRIBUTE}")?;
-    let Ok(checked) = checked_of(alloc, text.as_bytes()) else {
-        panic!(rt; "it breaks no rule")
-    };
-    let Ok(bytes) = compile(alloc, text.as_bytes()) else {
-        panic!(rt; "it has no method")
-    };
-    let Ok(image) = load(alloc, &bytes) else {
-        panic!(rt; "the image is valid")
-    };
-    let Ok(values) = Values::new(alloc, &image, &[0, 0]) else {
-        panic!(rt; "these are values of the two variables")
-    };
-    let counts = [1, 1, 2, 1, 1, 1, 1, 1, 1, 1, 1, 2, 1, 1, 1, 2, 1, 1, 2, 1];
-    let rows = checked.rows(alloc)?;
-    assert_eq!(rt; rows.len(), counts.len());
-    for (row, count) in rows.iter().zip(counts) {
-        let Ok(records) = attribute(alloc, &image, *row, &values) else {
-            panic!(rt; "each row is read")
-        };
-        assert_eq!(rt; records.len(), count);
+    let text = text_of(alloc, EVERY_ATTRIBUTE)?;
+    let bytes = compile(alloc, text.as_bytes())?;
+    let image = load(alloc, &bytes)?;
+    let values = Values::new(alloc, &image, &[0, 0])?;
+    let rows = described(alloc, EVERY_ATTRIBUTE)?.rows(alloc)?;
+    assert_eq!(rt; rows.len(), COUNTS.len(), "rows");
+    for (row, count) in rows.iter().zip(COUNTS) {
+        let records = attribute(alloc, &image, *row, &values)?;
+        assert_eq!(rt; records.len(), count, "{row:?}");
     }
     let a = ItemNo::Variable(VarNo(0));
-    for (attr, number) in [
-        (Attr::Validity, 0),
-        (Attr::MinValue, -1),
-        (Attr::MaxValue, 7),
-    ] {
-        let Ok(records) = attribute(alloc, &image, row(a, attr, 0), &values) else {
-            panic!(rt; "no expression traps")
-        };
-        assert_eq!(rt; records.as_slice(), [Record::Number(number)].as_slice());
+    for (attr, number) in COMPUTED {
+        let records = attribute(alloc, &image, row(a, attr, 0), &values)?;
+        assert_eq!(rt;
+            records.as_slice(),
+            [Record::Number(number)].as_slice(),
+            "{attr:?}"
+        );
     }
     Ok(())
 }
