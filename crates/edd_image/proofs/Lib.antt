@@ -1,14 +1,17 @@
 pub mod AnsweredStates
+pub mod BoundedRuns
 pub mod Cutting
 pub mod LayoutFields
 pub mod LayoutRows
 pub mod LayoutValid
 pub mod Lengths
+pub mod Meetings
 pub mod NextStates
 pub mod Progress
 pub mod ReadIsSpelled
 pub mod Readings
 pub mod Spelled
+pub mod StaysOver
 pub mod StringsRead
 pub mod UniqueReadings
 pub mod Widths

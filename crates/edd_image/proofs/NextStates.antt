@@ -117,8 +117,10 @@ step_is env s found o running at acted =
     ∙ ap (λ (x : Option (Instruction × ℕ)). x >>= (λ f. act env f.0 f.1 s)) at
     ∙ acted
 
-pub next_state : (context : Context) (env : Environment) (s : State) → IsValidUnit context s.unit.code → IsState context env s → s.status ≡ Running → (e : Effect) × (step env s ≡ Some e) × IsState context env e.state
-next_state context env s valid is running =
+-- the next state, on the same unit
+pub next_in_unit : (context : Context) (env : Environment) (s : State) → IsValidUnit context s.unit.code → IsState context env s → s.status ≡ Running
+    → (e : Effect) × (step env s ≡ Some e) × (IsState context env e.state × (e.state.unit ≡ s.unit))
+next_in_unit context env s valid is running =
     let code = s.unit.code in
     let here : StandsWith code s.place (length s.operands) = subst (λ (st : Status). Stands s st) running is.stands in
     let depth = here.depth in
@@ -135,16 +137,22 @@ next_state context env s valid is running =
     let found : instruction_at code s.place ≡ Some (x.instruction, x.next) = subst (λ (q : ℕ). instruction_at code q ≡ Some (x.instruction, x.next)) at.1 k.stands in (
       e,
       step_is env s (x.instruction, x.next) (Some e) running found acts.1,
-      record {
-        sort = ap (λ (u : RunningUnit). u.sort) goes.kept.unit ∙ is.sort;
-        stands = stands_by code depth here.depths x k s e.state e.state.status count (ap (λ (u : RunningUnit). u.code) goes.kept.unit) goes.arrived;
-        operands = subst (λ (so : Sort). AllFit so e.state.operands) is.sort goes.operands;
-        slot_count = goes.kept.slot_count ∙ is.slot_count;
-        slots = subst (λ (so : Sort). AllFit so e.state.slots) is.sort goes.kept.slots;
-        variable_count = is.variable_count;
-        values = goes.kept.values;
-      },
+      (
+        record {
+          sort = ap (λ (u : RunningUnit). u.sort) goes.kept.unit ∙ is.sort;
+          stands = stands_by code depth here.depths x k s e.state e.state.status count (ap (λ (u : RunningUnit). u.code) goes.kept.unit) goes.arrived;
+          operands = subst (λ (so : Sort). AllFit so e.state.operands) is.sort goes.operands;
+          slot_count = goes.kept.slot_count ∙ is.slot_count;
+          slots = subst (λ (so : Sort). AllFit so e.state.slots) is.sort goes.kept.slots;
+          variable_count = is.variable_count;
+          values = goes.kept.values;
+        },
+        goes.kept.unit,
+      ),
     )
+
+pub next_state : (context : Context) (env : Environment) (s : State) → IsValidUnit context s.unit.code → IsState context env s → s.status ≡ Running → (e : Effect) × (step env s ≡ Some e) × IsState context env e.state
+next_state context env s valid is running = let next = next_in_unit context env s valid is running in (next.0, next.1, next.2.0)
 
 -- ---- the opening of a unit
 

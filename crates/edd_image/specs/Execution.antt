@@ -1,5 +1,5 @@
 -- The event of an answer, and the run of at most so many steps under answers.
-use Rattle.std.specs.Prelude.{ℕ, zero, suc, List, [], ◌∷◌, ◌++◌, Option, Some, None, unwrap_or}
+use Rattle.std.specs.Prelude.{ℕ, zero, suc, List, [], ◌∷◌, ◌++◌, Option, Some, None, unwrap_or, ⊤}
 use Rattle.edd_syntax.specs.declared.answer.Trap.{Trap}
 use Rattle.edd_syntax.specs.Answers.{Change, Answer, Go, Abort, SetFault, answer_fault, values_set}
 use Rattle.edd_image.specs.declared.records.Request.{Request}
@@ -103,3 +103,13 @@ execute env (suc n) s answers = let m = meet env s answers in go_on m m.ending (
 -- an outcome that is out of steps, and at most n steps more from where it stopped
 abbrev pub resumed : Environment → (n : ℕ) → Outcome → Outcome
 resumed env n o = preceded o.requests o.changes (execute env n o.state o.answers)
+
+-- the image had a step for each running state, and no answer was bad
+abbrev pub IsGoodEnding : Ending → Type 0
+IsGoodEnding Ended = ⊤
+IsGoodEnding Aborted = ⊤
+IsGoodEnding (Trapped why) = ⊤
+IsGoodEnding Waiting = ⊤
+IsGoodEnding OutOfSteps = ⊤
+IsGoodEnding (Bad fault) = ⊥
+IsGoodEnding Stuck = ⊥

@@ -1,13 +1,14 @@
 //! Laws of the definitions, for the crates above.
 
-ghost use Rattle.std.specs.Prelude.{◌≡◌, ℕ, ℤ, ◌+◌, ◌≤◌, List, ◌++◌, length, drop, Some};
+ghost use Rattle.std.specs.Prelude.{◌≡◌, ◌≢◌, ℕ, ℤ, ◌+◌, ◌≤◌, List, [], ◌∷◌, ◌++◌, length, drop, None, Some};
+ghost use Rattle.std.specs.List.{AllByRecursion};
 ghost use Rattle.edd_image.specs.declared.instruction.Instruction.{Instruction};
 ghost use Rattle.edd_image.specs.Decoding.{instruction_at};
 ghost use Rattle.edd_image.specs.Layout.{Sections, AreSections, layout};
 ghost use Rattle.edd_image.specs.Contents.{contents_in, contents_of};
 ghost use Rattle.edd_image.specs.Units.{IsValidUnit};
 ghost use Rattle.edd_image.specs.Validity.{code_limit, IsSound, IsValid};
-ghost use Rattle.edd_syntax.specs.Answers.{Answer, IsValidAnswer};
+ghost use Rattle.edd_syntax.specs.Answers.{Answer, Go, Abort, Change, IsValidAnswer, answer_fault};
 ghost use Rattle.edd_syntax.specs.declared.numbers.AttrRef.{AttrRef};
 ghost use Rattle.edd_syntax.specs.DeviceValues.{AreDeviceValues};
 ghost use Rattle.edd_image.specs.Reading.{Reading, IsReading};
@@ -17,7 +18,7 @@ ghost use Rattle.edd_image.specs.declared.records.Status.TheVariants.{Running, A
 ghost use Rattle.edd_image.specs.declared.unit.Context.{Context};
 ghost use Rattle.edd_image.specs.Strings.{WordsFit, string_bytes, string_in};
 ghost use Rattle.edd_image.specs.Steps.{State, Environment, Effect, IsState, opening, step};
-ghost use Rattle.edd_image.specs.Execution.{OutOfSteps, answered, execute, resumed};
+ghost use Rattle.edd_image.specs.Execution.{Aborted, Waiting, OutOfSteps, IsGoodEnding, answered, closed, execute, nothing_met, preceded, resumed};
 ghost use Rattle.edd_image.specs.Spelling.{AreBytes, spelling, IsSpelled};
 
 /// An instruction that was spelled is read again, whatever stands around it.
@@ -79,6 +80,33 @@ pub fn runs_may_be_cut()
     ensures { (env : Environment) (j k : ℕ) (s : State) (answers : List Answer)
         → (execute env j s answers).ending ≡ OutOfSteps
         → execute env (j + k) s answers ≡ resumed env k (execute env j s answers) }
+{}
+
+/// A request that stands is met by the next answer, whatever answers follow. The answer's sets are changes, and the run goes on
+/// from the state after them; an abort ends the run; without an answer the run waits.
+pub fn requests_are_met()
+    ensures goes_on { (env : Environment) (k : ℕ) (s : State) (r : Request) (code : ℤ) (sets : List Change) (rest : List Answer)
+        → s.status ≡ Asking r → answer_fault env.types (Go code sets) ≡ None
+        → execute env k s (Go code sets ∷ rest) ≡ preceded [] sets (execute env k (answered s (Go code sets)).state rest) }
+    ensures aborts { (env : Environment) (k : ℕ) (s : State) (r : Request) (rest : List Answer) → s.status ≡ Asking r
+        → execute env k s (Abort ∷ rest) ≡ closed (nothing_met (answered s Abort).state rest None) Aborted }
+    ensures waits { (env : Environment) (k : ℕ) (s : State) (r : Request) → s.status ≡ Asking r
+        → execute env k s [] ≡ closed (nothing_met s [] None) Waiting }
+{}
+
+/// A run that is over comes to the same within more steps.
+pub fn what_is_over_stays()
+    ensures { (env : Environment) (m n : ℕ) → m ≤ n → (s : State) (answers : List Answer)
+        → (execute env m s answers).ending ≢ OutOfSteps → execute env n s answers ≡ execute env m s answers }
+{}
+
+/// From a state of a valid unit, under valid answers, a run comes to a state of the same unit. It is never stuck, and no answer is
+/// bad.
+pub fn runs_keep_the_state()
+    ensures { (context : Context) (env : Environment) (n : ℕ) (s : State) (answers : List Answer)
+        → IsValidUnit context s.unit.code → IsState context env s → AllByRecursion (IsValidAnswer env.types) answers
+        → IsState context env (execute env n s answers).state × ((execute env n s answers).state.unit ≡ s.unit)
+        × IsGoodEnding (execute env n s answers).ending }
 {}
 
 /// One thing is read of an attribute under the same values.

@@ -6,6 +6,7 @@ pub mod NumberedLoops
 pub mod RowLaws
 pub mod TransactionRows
 pub mod TreeRows
+pub mod RunsStay
 pub mod TurnLaws
 pub mod WorkedAttributes
 pub mod WorkedChecked

@@ -1,10 +1,14 @@
 -- The law of more turns: an outcome that isn't for want of turns is the same where loops have more turns.
-use Rattle.std.specs.Prelude.{◌≡◌, ℕ, ◌≤◌}
+use Rattle.std.specs.Prelude.{◌≡◌, ◌≢◌, ℕ, ◌≤◌, ℤ, List}
+use Rattle.edd_syntax.specs.declared.numbers.MethNo.{MethNo}
+use Rattle.edd_syntax.specs.Answers.{Answer}
+use Rattle.edd_syntax.specs.Item.{Description}
 use Rattle.edd_syntax.specs.Reference.{Target}
-use Rattle.edd_syntax.specs.Statement.{Stmt}
+use Rattle.edd_syntax.specs.Statement.{Stmt, Body}
 use Rattle.edd_syntax.specs.Device.{Environment}
 use Rattle.edd_syntax.specs.MethodState.{State, Outcome, Done, Stopped, Trapped, Aborted, Waiting, OutOfTurns, Action}
-use Rattle.edd_syntax.specs.Execution.{execute}
+use Rattle.edd_syntax.specs.Execution as ending
+use Rattle.edd_syntax.specs.Execution.{execute, run_body, run}
 
 -- the outcome isn't for want of turns
 abbrev pub IsOver : {A : Type 0} → Outcome A → Type 0
@@ -21,3 +25,13 @@ Extends first second = (s : State) → IsOver (first s) → second s ≡ first s
 -- what a statement comes to, other than for want of turns, stays where each loop has more turns
 abbrev pub StatementsStay : Type 0
 StatementsStay = (env : Environment) (statement : Stmt Target) (n m : ℕ) → n ≤ m → Extends (execute env statement n) (execute env statement m)
+
+-- so does what the run of a body comes to, from any state
+abbrev pub BodiesStay : Type 0
+BodiesStay = (env : Environment) (body : Body Target) (n m : ℕ) → n ≤ m → (s : State)
+    → (run_body n env body s).ending ≢ ending.OutOfTurns → run_body m env body s ≡ run_body n env body s
+
+-- so does what the run of a method comes to, under the same values and answers
+abbrev pub RunsStay : Type 0
+RunsStay = (unit : Description Target) (method : MethNo) (n m : ℕ) → n ≤ m → (values : List ℤ) (answers : List Answer)
+    → (run n unit method values answers).ending ≢ ending.OutOfTurns → run m unit method values answers ≡ run n unit method values answers

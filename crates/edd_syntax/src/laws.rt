@@ -1,8 +1,15 @@
 //! Laws of the meaning of the source.
 
-ghost use Rattle.edd_syntax.specs.MoreTurns.{StatementsStay};
+ghost use Rattle.edd_syntax.specs.MoreTurns.{StatementsStay, BodiesStay, RunsStay};
 
 /// What a statement comes to, other than for want of turns, stays where each loop has more turns.
 pub fn statements_stay()
     ensures { StatementsStay }
+{}
+
+/// What a whole run comes to, other than for want of turns, stays where each loop has more turns: the requests, the changes, the
+/// values, the answers that are left, and the ending.
+pub fn runs_stay()
+    ensures bodies { BodiesStay }
+    ensures methods { RunsStay }
 {}
