@@ -9,7 +9,7 @@ ghost use Rattle.edd_statement_parser.specs.Bodies.{stmt_view, part_view, body_v
 
 use crate::declarators::{declaration, is_at_local_type};
 use crate::statement_trees::{
-    ForHead, block, do_loop, for_loop, if_alone, if_else, switch, while_loop,
+    ForHead, block, boxed, do_loop, for_loop, if_alone, if_else, switch, while_loop,
 };
 use edd_expression_parser::cond::{condition, label};
 use edd_expression_parser::expr::expr;
@@ -127,6 +127,16 @@ fn statement(cursor: &mut Cursor, high: u32) -> Result<Stmt<Path>, ParseFault>
     layer(cursor, high - 1)
 }
 
+// A statement of at most this height, in a box.
+#[cycle(statement)]
+fn child(cursor: &mut Cursor, high: u32) -> Result<Box<Stmt<Path>>, ParseFault>
+    requires { high ≤ 100 }
+    ensures { Gives (λ b. stmt_view b.value) result cursor.new (statement_at high cursor.old) }
+{
+    let inner = statement(cursor, high)?;
+    Ok(boxed(cursor.alloc(), inner)?)
+}
+
 // A statement whose children are of at most this height.
 #[cycle(statement)]
 #[tactic(auto, unfolding(edd_grammar::specs::StatementReading::statement_layer, crate::specs::Bodies::simple_at))]
@@ -227,7 +237,7 @@ fn if_behind(cursor: &mut Cursor, high: u32) -> Result<Stmt<Path>, ParseFault>
     ensures { Gives stmt_view result cursor.new (reading.method_if_at high (statement_at high) cursor.old) }
 {
     let condition = condition(cursor, Place::Method, high)?;
-    let first = statement(cursor, high)?;
+    let first = child(cursor, high)?;
     else_behind(cursor, high, condition, first)
 }
 
@@ -238,17 +248,17 @@ fn else_behind(
     cursor: &mut Cursor,
     high: u32,
     condition: Expr<Path>,
-    first: Stmt<Path>,
+    first: Box<Stmt<Path>>,
 ) -> Result<Stmt<Path>, ParseFault>
     requires { high < 100 }
-    ensures { Gives stmt_view result cursor.new (reading.method_else_at high (statement_at high) (expr_view condition) (stmt_view first) cursor.old) }
+    ensures { Gives stmt_view result cursor.new (reading.method_else_at high (statement_at high) (expr_view condition) (stmt_view first.value) cursor.old) }
 {
     if !cursor.is_at_word(Keyword::MethodElse) {
-        return Ok(if_alone(cursor.alloc(), condition, first)?);
+        return Ok(if_alone(condition, first));
     }
     cursor.skip();
-    let otherwise = statement(cursor, high)?;
-    Ok(if_else(cursor.alloc(), condition, first, otherwise)?)
+    let otherwise = child(cursor, high)?;
+    Ok(if_else(condition, first, otherwise))
 }
 
 // Behind `while`.
@@ -259,8 +269,8 @@ fn while_behind(cursor: &mut Cursor, high: u32) -> Result<Stmt<Path>, ParseFault
     ensures { Gives stmt_view result cursor.new (reading.while_at high (statement_at high) cursor.old) }
 {
     let condition = condition(cursor, Place::Method, high)?;
-    let body = statement(cursor, high)?;
-    Ok(while_loop(cursor.alloc(), condition, body)?)
+    let body = child(cursor, high)?;
+    Ok(while_loop(condition, body))
 }
 
 // Behind `do`.
@@ -270,11 +280,11 @@ fn do_behind(cursor: &mut Cursor, high: u32) -> Result<Stmt<Path>, ParseFault>
     requires { high < 100 }
     ensures { Gives stmt_view result cursor.new (reading.do_at high (statement_at high) cursor.old) }
 {
-    let body = statement(cursor, high)?;
+    let body = child(cursor, high)?;
     cursor.expect_word(Keyword::While)?;
     let condition = condition(cursor, Place::Method, high)?;
     cursor.expect(Symbol::Semicolon)?;
-    Ok(do_loop(cursor.alloc(), body, condition)?)
+    Ok(do_loop(body, condition))
 }
 
 // Behind `for`.
@@ -285,8 +295,8 @@ fn for_behind(cursor: &mut Cursor, high: u32) -> Result<Stmt<Path>, ParseFault>
     ensures { Gives stmt_view result cursor.new (reading.for_at high (statement_at high) cursor.old) }
 {
     let head = for_head(cursor, high)?;
-    let body = statement(cursor, high)?;
-    Ok(for_loop(cursor.alloc(), head, body)?)
+    let body = child(cursor, high)?;
+    Ok(for_loop(head, body))
 }
 
 // Behind `switch`.
