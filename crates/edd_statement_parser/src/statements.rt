@@ -5,7 +5,7 @@ ghost use Rattle.edd_grammar.specs.StatementReading as reading;
 ghost use Rattle.edd_grammar.specs.StatementReading.{statement_at};
 ghost use Rattle.edd_token_reader.specs.Views.{Gives};
 ghost use Rattle.edd_expression_parser.specs.Expressions.{expr_view};
-ghost use Rattle.edd_statement_parser.specs.Bodies.{stmt_view, part_view, body_view, for_head_at, head_view, simple_at};
+ghost use Rattle.edd_statement_parser.specs.Bodies.{stmt_view, part_view, body_view, for_head_at, head_view, for_end_at, end_view, do_end_at, switch_head_at, simple_at};
 
 use crate::declarators::{declaration, is_at_local_type};
 use crate::statement_trees::{
@@ -48,21 +48,57 @@ fn optional(cursor: &mut Cursor, high: u32, sign: Symbol) -> Result<Option<Expr<
     Ok(Some(e.expr))
 }
 
+// The condition and the update of a `for`, with the closing parenthesis.
+#[tactic(auto, unfolding(crate::specs::Bodies::for_end_at))]
+fn for_end(
+    cursor: &mut Cursor,
+    high: u32,
+) -> Result<(Option<Expr<Path>>, Option<Expr<Path>>), ParseFault>
+    requires { high ≤ 100 }
+    ensures { Gives end_view result cursor.new (for_end_at high cursor.old) }
+{
+    let condition = optional(cursor, high, Symbol::Semicolon)?;
+    let update = optional(cursor, high, Symbol::CloseParenthesis)?;
+    Ok((condition, update))
+}
+
 // The three expressions of a `for` in their parentheses.
-#[tactic(auto, unfolding(crate::specs::Bodies::for_head_at))]
+#[tactic(auto, unfolding(crate::specs::Bodies::for_head_at, crate::specs::Bodies::for_end_at))]
 fn for_head(cursor: &mut Cursor, high: u32) -> Result<ForHead, ParseFault>
     requires { high ≤ 100 }
     ensures { Gives head_view result cursor.new (for_head_at high cursor.old) }
 {
     cursor.expect(Symbol::OpenParenthesis)?;
     let initial = optional(cursor, high, Symbol::Semicolon)?;
-    let condition = optional(cursor, high, Symbol::Semicolon)?;
-    let update = optional(cursor, high, Symbol::CloseParenthesis)?;
+    let (condition, update) = for_end(cursor, high)?;
     Ok(ForHead {
         initial,
         condition,
         update,
     })
+}
+
+// The condition behind the body of a `do`.
+#[tactic(auto, unfolding(crate::specs::Bodies::do_end_at))]
+fn do_end(cursor: &mut Cursor, high: u32) -> Result<Expr<Path>, ParseFault>
+    requires { high ≤ 100 }
+    ensures { Gives expr_view result cursor.new (do_end_at high cursor.old) }
+{
+    cursor.expect_word(Keyword::While)?;
+    let condition = condition(cursor, Place::Method, high)?;
+    cursor.expect(Symbol::Semicolon)?;
+    Ok(condition)
+}
+
+// What a `switch` is on, and the brace behind it.
+#[tactic(auto, unfolding(crate::specs::Bodies::switch_head_at))]
+fn switch_head(cursor: &mut Cursor, high: u32) -> Result<Expr<Path>, ParseFault>
+    requires { high ≤ 100 }
+    ensures { Gives expr_view result cursor.new (switch_head_at high cursor.old) }
+{
+    let on = condition(cursor, Place::Method, high)?;
+    cursor.expect(Symbol::OpenBrace)?;
+    Ok(on)
 }
 
 // The fault at a line, by the word that is left out if there is one.
@@ -275,15 +311,13 @@ fn while_behind(cursor: &mut Cursor, high: u32) -> Result<Stmt<Path>, ParseFault
 
 // Behind `do`.
 #[cycle(statement)]
-#[tactic(auto, unfolding(edd_grammar::specs::StatementReading::do_at))]
+#[tactic(auto, unfolding(edd_grammar::specs::StatementReading::do_at, crate::specs::Bodies::do_end_at))]
 fn do_behind(cursor: &mut Cursor, high: u32) -> Result<Stmt<Path>, ParseFault>
     requires { high < 100 }
     ensures { Gives stmt_view result cursor.new (reading.do_at high (statement_at high) cursor.old) }
 {
     let body = child(cursor, high)?;
-    cursor.expect_word(Keyword::While)?;
-    let condition = condition(cursor, Place::Method, high)?;
-    cursor.expect(Symbol::Semicolon)?;
+    let condition = do_end(cursor, high)?;
     Ok(do_loop(body, condition))
 }
 
@@ -301,13 +335,12 @@ fn for_behind(cursor: &mut Cursor, high: u32) -> Result<Stmt<Path>, ParseFault>
 
 // Behind `switch`.
 #[cycle(statement)]
-#[tactic(auto, unfolding(edd_grammar::specs::StatementReading::switch_at))]
+#[tactic(auto, unfolding(edd_grammar::specs::StatementReading::switch_at, crate::specs::Bodies::switch_head_at))]
 fn switch_behind(cursor: &mut Cursor, high: u32) -> Result<Stmt<Path>, ParseFault>
     requires { high < 100 }
     ensures { Gives stmt_view result cursor.new (reading.switch_at high (statement_at high) cursor.old) }
 {
-    let on = condition(cursor, Place::Method, high)?;
-    cursor.expect(Symbol::OpenBrace)?;
+    let on = switch_head(cursor, high)?;
     let parts = body(cursor, high, true)?;
     Ok(switch(on, parts))
 }
