@@ -12,8 +12,8 @@ ghost use Rattle.edd_token_reader.specs.Views.{place_view, infix_view, assignmen
 ghost use Rattle.edd_expression_parser.specs.Expressions.{expr_view, argument_view, argument_levels, listed, up_to_at};
 
 use crate::trees::{
-    Child, Tall, TallArgument, TallArguments, assigned, binary, boxed, call, choice_between, into_path, leaf,
-    no_arguments, parentheses, unary_over, with_argument,
+    Child, Tall, TallArgument, TallArguments, assigned, binary, boxed, call, choice_between,
+    into_path, leaf, no_arguments, parentheses, unary_over, with_argument,
 };
 use edd_syntax::expr::{Argument, Expr};
 use edd_syntax::operators::{IncrementOperator, UnaryOperator};
