@@ -1,17 +1,20 @@
 -- Conditionals of single values and in lists, read by one function.
 use Rattle.std.specs.Prelude.{ℕ, zero, suc, List, drop, map, Some, None, if◌then◌else◌}
 use Rattle.edd_syntax.specs.declared.symbols.Keyword.TheVariants as word
+use Rattle.edd_syntax.specs.declared.symbols.Symbol.TheVariants as sign
 use Rattle.edd_syntax.specs.declared.cond.Cond as code
 use Rattle.edd_syntax.specs.declared.cond.Arm as code_arm
 use Rattle.edd_syntax.specs.declared.reference.Path as path
 use Rattle.edd_syntax.specs.Token.{Token}
 use Rattle.edd_syntax.specs.Reference.{Path}
+use Rattle.edd_syntax.specs.Expression.{Expr}
+use Rattle.edd_syntax.specs.Grammar.{InAttribute}
 use Rattle.edd_syntax.specs.Conditional as cond
 use Rattle.edd_syntax.specs.Conditional.{Cond, Conds, Arm, Arms, Case, Default}
 use Rattle.edd_syntax.specs.TreeView.{path_of}
 use Rattle.edd_syntax.specs.ItemView.{cond_of, arm_of}
-use Rattle.edd_grammar.specs.Reading.{◌>>=◌, Read, at_word}
-use Rattle.edd_grammar.specs.ConditionalReading.{ended, only, listed, cond_layer, if_at, select_at, braces_at, else_at, case_at, default_at, arms_at}
+use Rattle.edd_grammar.specs.Reading.{◌>>=◌, Read, at_word, expect}
+use Rattle.edd_grammar.specs.ConditionalReading.{condition_at, ended, only, listed, cond_layer, if_at, select_at, braces_at, else_at, case_at, default_at, arms_at}
 use Rattle.edd_expression_parser.specs.declared.cond.Form.{Form}
 use Rattle.edd_expression_parser.specs.declared.cond.Form.TheVariants.{One, Many}
 
@@ -35,6 +38,13 @@ arms_view view all = cond.arms_from (map (arm_of path_of view) all)
 unfoldable pub value_in : {V : Type 0} → Form → (List Token → Read V) → List Token → Read V
 value_in One value here = ended value here
 value_in Many value here = value here
+
+-- what a SELECT is on, and the brace behind it
+unfoldable pub select_head : ℕ → List Token → Read (Expr Path)
+select_head high here = do
+  (on, brace) ← condition_at InAttribute high here
+  inside ← expect sign.OpenBrace brace
+  Some (on, inside)
 
 -- what stands in a branch
 unfoldable pub branch_in : {V : Type 0} → Form → (List Token → Read (Cond Path V)) → List Token → Read (Conds Path V)

@@ -81,6 +81,17 @@ pub fn condition(cursor: &mut Cursor, place: Place, high: u32) -> Result<Expr<Pa
     Ok(inside.expr)
 }
 
+// What a SELECT is on, and the brace behind it.
+#[tactic(auto, unfolding(crate::specs::Conditionals::select_head))]
+fn select_head(cursor: &mut Cursor, high: u32) -> Result<Expr<Path>, ParseFault>
+    requires { high ≤ 100 }
+    ensures { Gives expr_view result cursor.new (conditionals.select_head high cursor.old) }
+{
+    let on = condition(cursor, Place::Attribute, high)?;
+    cursor.expect(Symbol::OpenBrace)?;
+    Ok(on)
+}
+
 fn list_ends(cursor: &Cursor) -> bool
     ensures { result ≡ reading.list_ends cursor.now }
 {
@@ -246,7 +257,7 @@ pub fn elements<V: Value>(cursor: &mut Cursor, high: u32) -> Result<Vec<Cond<Pat
 
 // Behind SELECT.
 #[cycle(cond)]
-#[tactic(auto, unfolding(edd_grammar::specs::ConditionalReading::select_at), using(edd_syntax::proofs::CondRows::equations))]
+#[tactic(auto, unfolding(edd_grammar::specs::ConditionalReading::select_at, crate::specs::Conditionals::select_head), using(edd_syntax::proofs::CondRows::equations))]
 fn select_behind<V: Value>(
     cursor: &mut Cursor,
     form: Form,
@@ -255,8 +266,7 @@ fn select_behind<V: Value>(
     requires { high < 100 }
     ensures { Gives (cond_view V.view) result cursor.new (conditionals.select_behind form V.read high cursor.old) }
 {
-    let on = condition(cursor, Place::Attribute, high)?;
-    cursor.expect(Symbol::OpenBrace)?;
+    let on = select_head(cursor, high)?;
     let arms = arms(cursor, form, high)?;
     cursor.expect(Symbol::CloseBrace)?;
     Ok(Cond::Select { on, arms })

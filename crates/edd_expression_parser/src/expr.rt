@@ -1,6 +1,6 @@
 //! Expressions, by the rows of their operators.
 
-ghost use Rattle.std.specs.Prelude.{◌≡◌, ◌≤◌, ◌<◌, ◌+◌, List, [], ◌∷◌, ◌++◌, length, Some, None, IfOk, max};
+ghost use Rattle.std.specs.Prelude.{◌≡◌, ◌≤◌, ◌<◌, ◌+◌, List, [], ◌∷◌, ◌++◌, length, drop, Some, None, IfOk, nat_le, if◌then◌else◌};
 ghost use Rattle.edd_syntax.specs.TreeView.{path_of};
 ghost use Rattle.edd_syntax.specs.Expression as tree;
 ghost use Rattle.edd_syntax.specs.Size.{height, argument_height};
@@ -9,11 +9,11 @@ ghost use Rattle.edd_grammar.specs.Reading.{expect, on_option};
 ghost use Rattle.edd_grammar.specs.ExpressionReading as reading;
 ghost use Rattle.edd_grammar.specs.ExpressionReading.{expr_at, operator_at};
 ghost use Rattle.edd_token_reader.specs.Views.{place_view, infix_view, assignment_view, Gives};
-ghost use Rattle.edd_expression_parser.specs.Expressions.{expr_view, argument_view, argument_levels, listed};
+ghost use Rattle.edd_expression_parser.specs.Expressions.{expr_view, argument_view, argument_levels, listed, up_to_at};
 
 use crate::trees::{
-    Tall, TallArgument, TallArguments, assigned, binary, call, choice_between, into_path, leaf,
-    no_arguments, parentheses, unary_over, with_argument,
+    Child, Tall, TallArgument, TallArguments, assigned, binary, boxed, call, choice_between,
+    into_path, leaf, no_arguments, parentheses, unary_over, with_argument,
 };
 use edd_syntax::expr::{Argument, Expr};
 use edd_syntax::operators::{IncrementOperator, UnaryOperator};
@@ -66,6 +66,29 @@ fn close(cursor: &mut Cursor, all: TallArguments) -> Result<TallArguments, Parse
     Ok(all)
 }
 
+// The left side of an operator that was just taken, if its height leaves room for the operator.
+fn left_side(cursor: &mut Cursor, high: u32, left: Tall) -> Result<Child, ParseFault>
+    ensures read { Gives (λ c. expr_view c.expr.value) result cursor.new (if nat_le (height (expr_view left.expr)) high then Some (expr_view left.expr, cursor.old) else None) }
+    ensures low { IfOk result (λ c. c.levels ≤ high) }
+{
+    if left.levels > high {
+        return Err(cursor.too_deep_taken());
+    }
+    Ok(boxed(cursor.alloc(), left)?)
+}
+
+// What is tested by the question mark that is next and is taken, if its height leaves room for the choice.
+fn tested(cursor: &mut Cursor, high: u32, test: Tall) -> Result<Child, ParseFault>
+    ensures read { Gives (λ c. expr_view c.expr.value) result cursor.new (if nat_le (height (expr_view test.expr)) high then Some (expr_view test.expr, drop 1 cursor.old) else None) }
+    ensures low { IfOk result (λ c. c.levels ≤ high) }
+{
+    if test.levels > high {
+        return Err(cursor.too_deep());
+    }
+    cursor.skip();
+    Ok(boxed(cursor.alloc(), test)?)
+}
+
 /// An expression of at most this height, in a place for this row or a tighter one.
 #[cycle(expr)]
 #[tactic(auto, using(crate::proofs::Loops::levels))]
@@ -92,6 +115,30 @@ fn layer(cursor: &mut Cursor, place: Place, high: u32, row: u32) -> Result<Tall,
     let left = chain(cursor, place, high, row, first)?;
     let whole = choice(cursor, place, high, row, left)?;
     assignment(cursor, place, high, row, whole)
+}
+
+// An expression inside another one.
+#[cycle(expr)]
+fn child(cursor: &mut Cursor, place: Place, high: u32, row: u32) -> Result<Child, ParseFault>
+    requires { high ≤ 100 }
+    ensures read { Gives (λ c. expr_view c.expr.value) result cursor.new (expr_at (place_view place) high row cursor.old) }
+    ensures low { IfOk result (λ c. c.levels ≤ high) }
+{
+    let inner = expr(cursor, place, high, row)?;
+    Ok(boxed(cursor.alloc(), inner)?)
+}
+
+// An expression inside another one, up to this sign, with the sign.
+#[cycle(expr)]
+#[tactic(auto, unfolding(crate::specs::Expressions::up_to_at))]
+fn up_to(cursor: &mut Cursor, place: Place, high: u32, sign: Symbol) -> Result<Child, ParseFault>
+    requires { high ≤ 100 }
+    ensures read { Gives (λ c. expr_view c.expr.value) result cursor.new (up_to_at (place_view place) high sign cursor.old) }
+    ensures low { IfOk result (λ c. c.levels ≤ high) }
+{
+    let inner = child(cursor, place, high, loosest(place))?;
+    cursor.expect(sign)?;
+    Ok(inner)
 }
 
 // Rows 13 to 15.
@@ -153,22 +200,21 @@ fn unary(
     ensures read { Gives (λ t. expr_view t.expr) result cursor.new (reading.unary_behind (place_view place) (expr_at (place_view place) high) op cursor.old) }
     ensures low { IfOk result (λ t. t.levels ≤ high + 1) }
 {
-    let operand = expr(cursor, place, high, 13)?;
-    Ok(unary_over(cursor.alloc(), op, operand)?)
+    let operand = child(cursor, place, high, 13)?;
+    Ok(unary_over(op, operand))
 }
 
 // Behind a sign: an expression in parentheses, or an operand behind its operator.
 #[cycle(expr)]
-#[tactic(auto, unfolding(edd_grammar::specs::ExpressionReading::signed_at, edd_grammar::specs::ExpressionReading::parentheses_behind))]
+#[tactic(auto, unfolding(edd_grammar::specs::ExpressionReading::signed_at, edd_grammar::specs::ExpressionReading::parentheses_behind, crate::specs::Expressions::up_to_at))]
 fn signed(cursor: &mut Cursor, place: Place, high: u32, sign: Symbol) -> Result<Tall, ParseFault>
     requires { high < 100 }
     ensures read { Gives (λ t. expr_view t.expr) result cursor.new (reading.signed_at (place_view place) (expr_at (place_view place) high) sign cursor.old) }
     ensures low { IfOk result (λ t. t.levels ≤ high + 1) }
 {
     if same_sign(sign, Symbol::OpenParenthesis) {
-        let inner = expr(cursor, place, high, loosest(place))?;
-        cursor.expect(Symbol::CloseParenthesis)?;
-        return Ok(parentheses(cursor.alloc(), inner)?);
+        let inner = up_to(cursor, place, high, Symbol::CloseParenthesis)?;
+        return Ok(parentheses(inner));
     }
     if let Some(op) = unary_of(sign) {
         return unary(cursor, place, high, op);
@@ -248,11 +294,9 @@ fn joined(
     ensures read { Gives (λ t. expr_view t.expr) result cursor.new (reading.joined_at (place_view place) (expr_at (place_view place) high) high (infix_view op) (expr_view left.expr) cursor.old) }
     ensures low { IfOk result (λ t. t.levels ≤ high + 1) }
 {
-    if left.levels > high {
-        return Err(cursor.too_deep_taken());
-    }
-    let right = expr(cursor, place, high, row_of(op) + 1)?;
-    Ok(binary(cursor.alloc(), op, left, right)?)
+    let left = left_side(cursor, high, left)?;
+    let right = child(cursor, place, high, row_of(op) + 1)?;
+    Ok(binary(op, left, right))
 }
 
 // The left side, if no operator of this row or a tighter one follows: with it the tree would be too high.
@@ -294,7 +338,7 @@ fn chain(
 
 // Row 2, behind its condition.
 #[cycle(expr)]
-#[tactic(auto, unfolding(edd_grammar::specs::ExpressionReading::choice_at))]
+#[tactic(auto, unfolding(edd_grammar::specs::ExpressionReading::choice_at, crate::specs::Expressions::up_to_at))]
 fn choice(
     cursor: &mut Cursor,
     place: Place,
@@ -310,14 +354,10 @@ fn choice(
     if row > 2 || !cursor.is_at(Symbol::Question) {
         return Ok(test);
     }
-    if test.levels > high {
-        return Err(cursor.too_deep());
-    }
-    cursor.skip();
-    let first = expr(cursor, place, high, loosest(place))?;
-    cursor.expect(Symbol::Colon)?;
-    let second = expr(cursor, place, high, 2)?;
-    Ok(choice_between(cursor.alloc(), test, first, second)?)
+    let test = tested(cursor, high, test)?;
+    let first = up_to(cursor, place, high, Symbol::Colon)?;
+    let second = child(cursor, place, high, 2)?;
+    Ok(choice_between(test, first, second))
 }
 
 // Row 1, behind what may be its left side.
@@ -346,6 +386,6 @@ fn assignment(
     let Some(op) = cursor.assignment() else {
         return Ok(leaf(Expr::Reference(to)));
     };
-    let value = expr(cursor, place, high, 1)?;
-    Ok(assigned(cursor.alloc(), op, to, value)?)
+    let value = child(cursor, place, high, 1)?;
+    Ok(assigned(op, to, value))
 }

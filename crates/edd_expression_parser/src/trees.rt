@@ -23,6 +23,15 @@ pub struct Tall {
     ghost counted: { levels ≡ height (expr_view expr) },
 }
 
+/// An expression in a box, as another one has it, and its height. What is to be a child is boxed as soon as it is read: the proof of
+/// a function that holds a whole expression where a fault can stop it is far longer.
+#[derive(Drop)]
+pub struct Child {
+    pub expr: Box<Expr<Path>>,
+    pub levels: u32,
+    ghost counted: { levels ≡ height (expr_view expr.value) },
+}
+
 /// An argument and its height.
 #[derive(Drop)]
 pub struct TallArgument {
@@ -47,89 +56,78 @@ pub fn leaf(expr: Expr<Path>) -> Tall
     Tall { expr, levels: 1 }
 }
 
-fn over(alloc: Global, inner: Tall) -> Result<(Box<Expr<Path>>, u32), AllocError>
-    requires { inner.levels ≤ 100 }
-    ensures { IfOk result (λ x. (x.0.value ≡ inner.expr) × (x.1 ≡ inner.levels + 1)) }
+/// The expression in a box.
+pub fn boxed(alloc: Global, inner: Tall) -> Result<Child, AllocError>
+    ensures { IfOk result (λ c. (c.expr.value ≡ inner.expr) × (c.levels ≡ inner.levels)) }
 {
-    Ok((Box::new(alloc, inner.expr)?, inner.levels + 1))
+    Ok(Child {
+        expr: Box::new(alloc, inner.expr)?,
+        levels: inner.levels,
+    })
 }
 
 /// `( inner )`
-pub fn parentheses(alloc: Global, inner: Tall) -> Result<Tall, AllocError>
+pub fn parentheses(inner: Child) -> Tall
     requires { inner.levels ≤ 100 }
-    ensures { IfOk result (λ t. expr_view t.expr ≡ tree.Parentheses (expr_view inner.expr)) }
+    ensures { expr_view result.expr ≡ tree.Parentheses (expr_view inner.expr.value) }
 {
-    let (expr, levels) = over(alloc, inner)?;
-    Ok(Tall {
-        expr: Expr::Parentheses(expr),
-        levels,
-    })
+    Tall {
+        expr: Expr::Parentheses(inner.expr),
+        levels: inner.levels + 1,
+    }
 }
 
 /// An operator before its operand.
-pub fn unary_over(alloc: Global, op: UnaryOperator, inner: Tall) -> Result<Tall, AllocError>
+pub fn unary_over(op: UnaryOperator, inner: Child) -> Tall
     requires { inner.levels ≤ 100 }
-    ensures { IfOk result (λ t. expr_view t.expr ≡ tree.Unary op (expr_view inner.expr)) }
+    ensures { expr_view result.expr ≡ tree.Unary op (expr_view inner.expr.value) }
 {
-    let (expr, levels) = over(alloc, inner)?;
-    Ok(Tall {
-        expr: Expr::Unary(op, expr),
-        levels,
-    })
+    Tall {
+        expr: Expr::Unary(op, inner.expr),
+        levels: inner.levels + 1,
+    }
 }
 
 /// An assignment of a value.
-pub fn assigned(alloc: Global, op: Assignment, to: Path, value: Tall) -> Result<Tall, AllocError>
+pub fn assigned(op: Assignment, to: Path, value: Child) -> Tall
     requires { value.levels ≤ 100 }
-    ensures { IfOk result (λ t. expr_view t.expr ≡ assignment_tree (assignment_view op) (path_of to) (expr_view value.expr)) }
+    ensures { expr_view result.expr ≡ assignment_tree (assignment_view op) (path_of to) (expr_view value.expr.value) }
 {
-    let (value, levels) = over(alloc, value)?;
+    let levels = value.levels + 1;
     let expr = match op {
-        Assignment::Simple => Expr::Assign(to, value),
-        Assignment::Compound(op) => Expr::CompoundAssign(op, to, value),
+        Assignment::Simple => Expr::Assign(to, value.expr),
+        Assignment::Compound(op) => Expr::CompoundAssign(op, to, value.expr),
     };
-    Ok(Tall { expr, levels })
+    Tall { expr, levels }
 }
 
 /// An operator between two operands.
-pub fn binary(alloc: Global, op: Infix, left: Tall, right: Tall) -> Result<Tall, AllocError>
+pub fn binary(op: Infix, left: Child, right: Child) -> Tall
     requires left_low { left.levels ≤ 100 }
     requires right_low { right.levels ≤ 100 }
-    ensures { IfOk result (λ t. expr_view t.expr ≡ infix_tree (infix_view op) (expr_view left.expr) (expr_view right.expr)) }
+    ensures { expr_view result.expr ≡ infix_tree (infix_view op) (expr_view left.expr.value) (expr_view right.expr.value) }
 {
     let levels = left.levels.max(right.levels) + 1;
-    let left = Box::new(alloc, left.expr)?;
-    let right = Box::new(alloc, right.expr)?;
     let expr = match op {
-        Infix::Plain(op) => Expr::Binary(op, left, right),
-        Infix::Comparing(by) => Expr::Compare(by, left, right),
-        Infix::Both => Expr::LogicalAnd(left, right),
-        Infix::Either => Expr::LogicalOr(left, right),
+        Infix::Plain(op) => Expr::Binary(op, left.expr, right.expr),
+        Infix::Comparing(by) => Expr::Compare(by, left.expr, right.expr),
+        Infix::Both => Expr::LogicalAnd(left.expr, right.expr),
+        Infix::Either => Expr::LogicalOr(left.expr, right.expr),
     };
-    Ok(Tall { expr, levels })
+    Tall { expr, levels }
 }
 
 /// `test ? first : second`
-pub fn choice_between(
-    alloc: Global,
-    test: Tall,
-    first: Tall,
-    second: Tall,
-) -> Result<Tall, AllocError>
+pub fn choice_between(test: Child, first: Child, second: Child) -> Tall
     requires test_low { test.levels ≤ 100 }
     requires first_low { first.levels ≤ 100 }
     requires second_low { second.levels ≤ 100 }
-    ensures { IfOk result (λ t. expr_view t.expr ≡ tree.Conditional (expr_view test.expr) (expr_view first.expr) (expr_view second.expr)) }
+    ensures { expr_view result.expr ≡ tree.Conditional (expr_view test.expr.value) (expr_view first.expr.value) (expr_view second.expr.value) }
 {
-    let levels = test.levels.max(first.levels.max(second.levels)) + 1;
-    Ok(Tall {
-        expr: Expr::Conditional(
-            Box::new(alloc, test.expr)?,
-            Box::new(alloc, first.expr)?,
-            Box::new(alloc, second.expr)?,
-        ),
-        levels,
-    })
+    Tall {
+        levels: test.levels.max(first.levels.max(second.levels)) + 1,
+        expr: Expr::Conditional(test.expr, first.expr, second.expr),
+    }
 }
 
 /// A path without members.

@@ -2,6 +2,7 @@
 use Rattle.std.specs.Prelude.{ℕ, List, drop, map, Option, Some, option_map, if◌then◌else◌}
 use Rattle.edd_syntax.specs.declared.symbols.Keyword.TheVariants as word
 use Rattle.edd_syntax.specs.declared.symbols.Symbol.TheVariants as sign
+use Rattle.edd_syntax.specs.declared.expr.Expr as code_expr
 use Rattle.edd_syntax.specs.declared.stmt.Stmt as code
 use Rattle.edd_syntax.specs.declared.stmt.Part as code_part
 use Rattle.edd_syntax.specs.declared.stmt.Declarator as code_declarator
@@ -11,7 +12,9 @@ use Rattle.edd_syntax.specs.Reference.{Path}
 use Rattle.edd_syntax.specs.Expression.{Expr}
 use Rattle.edd_syntax.specs.Statement.{Declarator, Stmt, Break, Continue, Return, Part, Body, body_from}
 use Rattle.edd_syntax.specs.TreeView.{path_of, declarator_of, stmt_of, part_of}
-use Rattle.edd_grammar.specs.Reading.{◌>>=◌, Read, at_word, expect}
+use Rattle.edd_grammar.specs.Reading.{◌>>=◌, Read, at_word, expect, expect_word}
+use Rattle.edd_grammar.specs.ConditionalReading.{condition_at}
+use Rattle.edd_syntax.specs.Grammar.{InMethod}
 use Rattle.edd_grammar.specs.StatementReading.{statement_at, optional_at, evaluate_at}
 use Rattle.edd_statement_parser.specs.declared.statement_trees.ForHead.{ForHead}
 use Rattle.edd_expression_parser.specs.Expressions.{expr_view}
@@ -36,6 +39,16 @@ Head = Option (Expr Path) × Option (Expr Path) × Option (Expr Path)
 abbrev pub head_view : ForHead → Head
 head_view h = (option_map expr_view h.initial, option_map expr_view h.condition, option_map expr_view h.update)
 
+abbrev pub end_view : (Option (code_expr.Expr path.Path) × Option (code_expr.Expr path.Path)) → Option (Expr Path) × Option (Expr Path)
+end_view e = (option_map expr_view e.0, option_map expr_view e.1)
+
+-- the condition and the update of a `for`, with the closing parenthesis
+unfoldable pub for_end_at : ℕ → List Token → Read (Option (Expr Path) × Option (Expr Path))
+for_end_at high here = do
+  (condition, third) ← optional_at high (statement_at high) sign.Semicolon here
+  (update, behind) ← optional_at high (statement_at high) sign.CloseParenthesis third
+  Some ((condition, update), behind)
+
 -- the three expressions of a `for` in their parentheses
 unfoldable pub for_head_at : ℕ → List Token → Read Head
 for_head_at high here = do
@@ -44,6 +57,23 @@ for_head_at high here = do
   (condition, third) ← optional_at high (statement_at high) sign.Semicolon second
   (update, behind) ← optional_at high (statement_at high) sign.CloseParenthesis third
   Some ((initial, condition, update), behind)
+
+-- ---- conditions with what stands around them
+
+-- the condition behind the body of a `do`
+unfoldable pub do_end_at : ℕ → List Token → Read (Expr Path)
+do_end_at high here = do
+  test ← expect_word word.While here
+  (condition, from) ← condition_at InMethod high test
+  rest ← expect sign.Semicolon from
+  Some (condition, rest)
+
+-- what a `switch` is on, and the brace behind it
+unfoldable pub switch_head_at : ℕ → List Token → Read (Expr Path)
+switch_head_at high here = do
+  (on, brace) ← condition_at InMethod high here
+  inside ← expect sign.OpenBrace brace
+  Some (on, inside)
 
 -- a statement of a word alone, or an expression
 unfoldable pub simple_at : ℕ → List Token → Read (Stmt Path)

@@ -24,52 +24,42 @@ pub fn switch(on: Expr<Path>, parts: Vec<Part<Path>>) -> Stmt<Path>
     Stmt::Switch(on, parts)
 }
 
-/// An `if` without `else`.
-pub fn if_alone(
-    alloc: Global,
-    condition: Expr<Path>,
-    first: Stmt<Path>,
-) -> Result<Stmt<Path>, AllocError>
-    ensures { IfOk result (λ s. stmt_view s ≡ tree.If (expr_view condition) (stmt_view first)) }
+/// The statement in a box. A child is boxed as soon as it is read: the proof of a function that holds a whole statement
+/// where a fault can stop it is far longer.
+pub fn boxed(alloc: Global, statement: Stmt<Path>) -> Result<Box<Stmt<Path>>, AllocError>
+    ensures { IfOk result (λ b. b.value ≡ statement) }
 {
-    let first = Box::new(alloc, first)?;
-    Ok(Stmt::If(condition, first))
+    Ok(Box::new(alloc, statement)?)
+}
+
+/// An `if` without `else`.
+pub fn if_alone(condition: Expr<Path>, first: Box<Stmt<Path>>) -> Stmt<Path>
+    ensures { stmt_view result ≡ tree.If (expr_view condition) (stmt_view first.value) }
+{
+    Stmt::If(condition, first)
 }
 
 /// An `if` with its `else`.
 pub fn if_else(
-    alloc: Global,
     condition: Expr<Path>,
-    first: Stmt<Path>,
-    otherwise: Stmt<Path>,
-) -> Result<Stmt<Path>, AllocError>
-    ensures { IfOk result (λ s. stmt_view s ≡ tree.IfElse (expr_view condition) (stmt_view first) (stmt_view otherwise)) }
+    first: Box<Stmt<Path>>,
+    otherwise: Box<Stmt<Path>>,
+) -> Stmt<Path>
+    ensures { stmt_view result ≡ tree.IfElse (expr_view condition) (stmt_view first.value) (stmt_view otherwise.value) }
 {
-    let first = Box::new(alloc, first)?;
-    let otherwise = Box::new(alloc, otherwise)?;
-    Ok(Stmt::IfElse(condition, first, otherwise))
+    Stmt::IfElse(condition, first, otherwise)
 }
 
-pub fn while_loop(
-    alloc: Global,
-    condition: Expr<Path>,
-    body: Stmt<Path>,
-) -> Result<Stmt<Path>, AllocError>
-    ensures { IfOk result (λ s. stmt_view s ≡ tree.While (expr_view condition) (stmt_view body)) }
+pub fn while_loop(condition: Expr<Path>, body: Box<Stmt<Path>>) -> Stmt<Path>
+    ensures { stmt_view result ≡ tree.While (expr_view condition) (stmt_view body.value) }
 {
-    let body = Box::new(alloc, body)?;
-    Ok(Stmt::While(condition, body))
+    Stmt::While(condition, body)
 }
 
-pub fn do_loop(
-    alloc: Global,
-    body: Stmt<Path>,
-    condition: Expr<Path>,
-) -> Result<Stmt<Path>, AllocError>
-    ensures { IfOk result (λ s. stmt_view s ≡ tree.Do (stmt_view body) (expr_view condition)) }
+pub fn do_loop(body: Box<Stmt<Path>>, condition: Expr<Path>) -> Stmt<Path>
+    ensures { stmt_view result ≡ tree.Do (stmt_view body.value) (expr_view condition) }
 {
-    let body = Box::new(alloc, body)?;
-    Ok(Stmt::Do(body, condition))
+    Stmt::Do(body, condition)
 }
 
 /// The three expressions of a `for`.
@@ -80,14 +70,13 @@ pub struct ForHead {
     pub update: Option<Expr<Path>>,
 }
 
-pub fn for_loop(alloc: Global, head: ForHead, body: Stmt<Path>) -> Result<Stmt<Path>, AllocError>
-    ensures { IfOk result (λ s. stmt_view s ≡ tree.For (option_map expr_view head.initial) (option_map expr_view head.condition) (option_map expr_view head.update) (stmt_view body)) }
+pub fn for_loop(head: ForHead, body: Box<Stmt<Path>>) -> Stmt<Path>
+    ensures { stmt_view result ≡ tree.For (option_map expr_view head.initial) (option_map expr_view head.condition) (option_map expr_view head.update) (stmt_view body.value) }
 {
-    let body = Box::new(alloc, body)?;
-    Ok(Stmt::For {
+    Stmt::For {
         initial: head.initial,
         condition: head.condition,
         update: head.update,
         body,
-    })
+    }
 }

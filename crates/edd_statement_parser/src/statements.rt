@@ -5,11 +5,11 @@ ghost use Rattle.edd_grammar.specs.StatementReading as reading;
 ghost use Rattle.edd_grammar.specs.StatementReading.{statement_at};
 ghost use Rattle.edd_token_reader.specs.Views.{Gives};
 ghost use Rattle.edd_expression_parser.specs.Expressions.{expr_view};
-ghost use Rattle.edd_statement_parser.specs.Bodies.{stmt_view, part_view, body_view, for_head_at, head_view, simple_at};
+ghost use Rattle.edd_statement_parser.specs.Bodies.{stmt_view, part_view, body_view, for_head_at, head_view, for_end_at, end_view, do_end_at, switch_head_at, simple_at};
 
 use crate::declarators::{declaration, is_at_local_type};
 use crate::statement_trees::{
-    ForHead, block, do_loop, for_loop, if_alone, if_else, switch, while_loop,
+    ForHead, block, boxed, do_loop, for_loop, if_alone, if_else, switch, while_loop,
 };
 use edd_expression_parser::cond::{condition, label};
 use edd_expression_parser::expr::expr;
@@ -48,21 +48,57 @@ fn optional(cursor: &mut Cursor, high: u32, sign: Symbol) -> Result<Option<Expr<
     Ok(Some(e.expr))
 }
 
+// The condition and the update of a `for`, with the closing parenthesis.
+#[tactic(auto, unfolding(crate::specs::Bodies::for_end_at))]
+fn for_end(
+    cursor: &mut Cursor,
+    high: u32,
+) -> Result<(Option<Expr<Path>>, Option<Expr<Path>>), ParseFault>
+    requires { high ≤ 100 }
+    ensures { Gives end_view result cursor.new (for_end_at high cursor.old) }
+{
+    let condition = optional(cursor, high, Symbol::Semicolon)?;
+    let update = optional(cursor, high, Symbol::CloseParenthesis)?;
+    Ok((condition, update))
+}
+
 // The three expressions of a `for` in their parentheses.
-#[tactic(auto, unfolding(crate::specs::Bodies::for_head_at))]
+#[tactic(auto, unfolding(crate::specs::Bodies::for_head_at, crate::specs::Bodies::for_end_at))]
 fn for_head(cursor: &mut Cursor, high: u32) -> Result<ForHead, ParseFault>
     requires { high ≤ 100 }
     ensures { Gives head_view result cursor.new (for_head_at high cursor.old) }
 {
     cursor.expect(Symbol::OpenParenthesis)?;
     let initial = optional(cursor, high, Symbol::Semicolon)?;
-    let condition = optional(cursor, high, Symbol::Semicolon)?;
-    let update = optional(cursor, high, Symbol::CloseParenthesis)?;
+    let (condition, update) = for_end(cursor, high)?;
     Ok(ForHead {
         initial,
         condition,
         update,
     })
+}
+
+// The condition behind the body of a `do`.
+#[tactic(auto, unfolding(crate::specs::Bodies::do_end_at))]
+fn do_end(cursor: &mut Cursor, high: u32) -> Result<Expr<Path>, ParseFault>
+    requires { high ≤ 100 }
+    ensures { Gives expr_view result cursor.new (do_end_at high cursor.old) }
+{
+    cursor.expect_word(Keyword::While)?;
+    let condition = condition(cursor, Place::Method, high)?;
+    cursor.expect(Symbol::Semicolon)?;
+    Ok(condition)
+}
+
+// What a `switch` is on, and the brace behind it.
+#[tactic(auto, unfolding(crate::specs::Bodies::switch_head_at))]
+fn switch_head(cursor: &mut Cursor, high: u32) -> Result<Expr<Path>, ParseFault>
+    requires { high ≤ 100 }
+    ensures { Gives expr_view result cursor.new (switch_head_at high cursor.old) }
+{
+    let on = condition(cursor, Place::Method, high)?;
+    cursor.expect(Symbol::OpenBrace)?;
+    Ok(on)
 }
 
 // The fault at a line, by the word that is left out if there is one.
@@ -125,6 +161,16 @@ fn statement(cursor: &mut Cursor, high: u32) -> Result<Stmt<Path>, ParseFault>
         return Err(cursor.too_deep());
     }
     layer(cursor, high - 1)
+}
+
+// A statement of at most this height, in a box.
+#[cycle(statement)]
+fn child(cursor: &mut Cursor, high: u32) -> Result<Box<Stmt<Path>>, ParseFault>
+    requires { high ≤ 100 }
+    ensures { Gives (λ b. stmt_view b.value) result cursor.new (statement_at high cursor.old) }
+{
+    let inner = statement(cursor, high)?;
+    Ok(boxed(cursor.alloc(), inner)?)
 }
 
 // A statement whose children are of at most this height.
@@ -227,7 +273,7 @@ fn if_behind(cursor: &mut Cursor, high: u32) -> Result<Stmt<Path>, ParseFault>
     ensures { Gives stmt_view result cursor.new (reading.method_if_at high (statement_at high) cursor.old) }
 {
     let condition = condition(cursor, Place::Method, high)?;
-    let first = statement(cursor, high)?;
+    let first = child(cursor, high)?;
     else_behind(cursor, high, condition, first)
 }
 
@@ -238,17 +284,17 @@ fn else_behind(
     cursor: &mut Cursor,
     high: u32,
     condition: Expr<Path>,
-    first: Stmt<Path>,
+    first: Box<Stmt<Path>>,
 ) -> Result<Stmt<Path>, ParseFault>
     requires { high < 100 }
-    ensures { Gives stmt_view result cursor.new (reading.method_else_at high (statement_at high) (expr_view condition) (stmt_view first) cursor.old) }
+    ensures { Gives stmt_view result cursor.new (reading.method_else_at high (statement_at high) (expr_view condition) (stmt_view first.value) cursor.old) }
 {
     if !cursor.is_at_word(Keyword::MethodElse) {
-        return Ok(if_alone(cursor.alloc(), condition, first)?);
+        return Ok(if_alone(condition, first));
     }
     cursor.skip();
-    let otherwise = statement(cursor, high)?;
-    Ok(if_else(cursor.alloc(), condition, first, otherwise)?)
+    let otherwise = child(cursor, high)?;
+    Ok(if_else(condition, first, otherwise))
 }
 
 // Behind `while`.
@@ -259,22 +305,20 @@ fn while_behind(cursor: &mut Cursor, high: u32) -> Result<Stmt<Path>, ParseFault
     ensures { Gives stmt_view result cursor.new (reading.while_at high (statement_at high) cursor.old) }
 {
     let condition = condition(cursor, Place::Method, high)?;
-    let body = statement(cursor, high)?;
-    Ok(while_loop(cursor.alloc(), condition, body)?)
+    let body = child(cursor, high)?;
+    Ok(while_loop(condition, body))
 }
 
 // Behind `do`.
 #[cycle(statement)]
-#[tactic(auto, unfolding(edd_grammar::specs::StatementReading::do_at))]
+#[tactic(auto, unfolding(edd_grammar::specs::StatementReading::do_at, crate::specs::Bodies::do_end_at))]
 fn do_behind(cursor: &mut Cursor, high: u32) -> Result<Stmt<Path>, ParseFault>
     requires { high < 100 }
     ensures { Gives stmt_view result cursor.new (reading.do_at high (statement_at high) cursor.old) }
 {
-    let body = statement(cursor, high)?;
-    cursor.expect_word(Keyword::While)?;
-    let condition = condition(cursor, Place::Method, high)?;
-    cursor.expect(Symbol::Semicolon)?;
-    Ok(do_loop(cursor.alloc(), body, condition)?)
+    let body = child(cursor, high)?;
+    let condition = do_end(cursor, high)?;
+    Ok(do_loop(body, condition))
 }
 
 // Behind `for`.
@@ -285,19 +329,18 @@ fn for_behind(cursor: &mut Cursor, high: u32) -> Result<Stmt<Path>, ParseFault>
     ensures { Gives stmt_view result cursor.new (reading.for_at high (statement_at high) cursor.old) }
 {
     let head = for_head(cursor, high)?;
-    let body = statement(cursor, high)?;
-    Ok(for_loop(cursor.alloc(), head, body)?)
+    let body = child(cursor, high)?;
+    Ok(for_loop(head, body))
 }
 
 // Behind `switch`.
 #[cycle(statement)]
-#[tactic(auto, unfolding(edd_grammar::specs::StatementReading::switch_at))]
+#[tactic(auto, unfolding(edd_grammar::specs::StatementReading::switch_at, crate::specs::Bodies::switch_head_at))]
 fn switch_behind(cursor: &mut Cursor, high: u32) -> Result<Stmt<Path>, ParseFault>
     requires { high < 100 }
     ensures { Gives stmt_view result cursor.new (reading.switch_at high (statement_at high) cursor.old) }
 {
-    let on = condition(cursor, Place::Method, high)?;
-    cursor.expect(Symbol::OpenBrace)?;
+    let on = switch_head(cursor, high)?;
     let parts = body(cursor, high, true)?;
     Ok(switch(on, parts))
 }

@@ -11,6 +11,12 @@ use Rattle.edd_expression_parser.proofs.expr.+expr.Given as goal
 abbrev pub decreases-expr : goal.decreases-expr
 decreases-expr l = 8 * l.high
 
+abbrev pub decreases-child : goal.decreases-child
+decreases-child l = 8 * l.high + 1
+
+abbrev pub decreases-up_to : goal.decreases-up_to
+decreases-up_to l = 8 * l.high + 2
+
 abbrev pub decreases-layer : goal.decreases-layer
 decreases-layer l = 8 * l.high + 7
 
@@ -18,13 +24,13 @@ abbrev pub decreases-operand : goal.decreases-operand
 decreases-operand l = 8 * l.high + 6
 
 abbrev pub decreases-chain : goal.decreases-chain
-decreases-chain l = 8 * l.high + 2
+decreases-chain l = 8 * l.high + 3
 
 abbrev pub decreases-choice : goal.decreases-choice
-decreases-choice l = 8 * l.high + 1
+decreases-choice l = 8 * l.high + 3
 
 abbrev pub decreases-assignment : goal.decreases-assignment
-decreases-assignment l = 8 * l.high + 1
+decreases-assignment l = 8 * l.high + 2
 
 abbrev pub decreases-named : goal.decreases-named
 decreases-named l = 8 * l.high + 5
@@ -33,7 +39,7 @@ abbrev pub decreases-signed : goal.decreases-signed
 decreases-signed l = 8 * l.high + 5
 
 abbrev pub decreases-unary : goal.decreases-unary
-decreases-unary l = 8 * l.high + 1
+decreases-unary l = 8 * l.high + 2
 
 abbrev pub decreases-arguments : goal.decreases-arguments
 decreases-arguments l = 8 * l.high + 4
@@ -45,7 +51,7 @@ abbrev pub decreases-argument : goal.decreases-argument
 decreases-argument l = 8 * l.high + 2
 
 abbrev pub decreases-joined : goal.decreases-joined
-decreases-joined l = 8 * l.high + 1
+decreases-joined l = 8 * l.high + 2
 
 abbrev pub invariant-chain-loop : goal.invariant-chain-loop
 invariant-chain-loop l =

@@ -7,6 +7,9 @@ use Rattle.edd_statement_parser.proofs.statements.+statement.Given as goal
 abbrev pub decreases-statement : goal.decreases-statement
 decreases-statement l = 8 * l.high
 
+abbrev pub decreases-child : goal.decreases-child
+decreases-child l = 8 * l.high + 1
+
 abbrev pub decreases-layer : goal.decreases-layer
 decreases-layer l = 8 * l.high + 7
 
@@ -23,19 +26,19 @@ abbrev pub decreases-part : goal.decreases-part
 decreases-part l = 8 * l.high + 3
 
 abbrev pub decreases-if_behind : goal.decreases-if_behind
-decreases-if_behind l = 8 * l.high + 2
+decreases-if_behind l = 8 * l.high + 3
 
 abbrev pub decreases-else_behind : goal.decreases-else_behind
-decreases-else_behind l = 8 * l.high + 1
+decreases-else_behind l = 8 * l.high + 2
 
 abbrev pub decreases-while_behind : goal.decreases-while_behind
-decreases-while_behind l = 8 * l.high + 1
+decreases-while_behind l = 8 * l.high + 2
 
 abbrev pub decreases-do_behind : goal.decreases-do_behind
-decreases-do_behind l = 8 * l.high + 1
+decreases-do_behind l = 8 * l.high + 2
 
 abbrev pub decreases-for_behind : goal.decreases-for_behind
-decreases-for_behind l = 8 * l.high + 1
+decreases-for_behind l = 8 * l.high + 2
 
 abbrev pub invariant-parts-loop : goal.invariant-parts-loop
 invariant-parts-loop l =
