@@ -8,6 +8,7 @@ pub mod ExprSteps
 pub mod FirstLaws
 pub mod Gathering
 pub mod ItemSteps
+pub mod LookingUp
 pub mod MapLaws
 pub mod MemberLaws
 pub mod Missing

@@ -11,13 +11,20 @@ use edd_syntax::expr::{Argument, Expr};
 use edd_syntax::reference::Path;
 use edd_syntax::stmt::{Declarator, Part, Stmt};
 
+// What is left after one node.
+fn spend_one(budget: u32) -> Option<u32>
+    ensures { result ≡ spent budget 1 }
+{
+    budget.checked_sub(1)
+}
+
 /// What is left of a number of nodes after those of an expression, if they are enough.
 #[cycle(spend)]
 #[tactic(auto, using(crate::proofs::Spends::spends))]
 pub fn spend(e: &Expr<Path>, budget: u32) -> Option<u32>
     ensures { result ≡ spent budget (nodes (expr_of path_of e.now)) }
 {
-    let left = budget.checked_sub(1)?;
+    let left = spend_one(budget)?;
     match e {
         Expr::Literal(_) | Expr::Decimal { .. } | Expr::Reference(_) | Expr::Increment(_, _) =>
             Some(left),
@@ -80,7 +87,7 @@ pub fn spend_declarators(declarators: &[Declarator<Path>], budget: u32) -> Optio
 fn spend_declarator(d: &Declarator<Path>, budget: u32) -> Option<u32>
     ensures { result ≡ spent budget (declarator_nodes (declarator_of path_of d.now ∷ [])) }
 {
-    spend_optional(&d.value, budget.checked_sub(1)?)
+    spend_optional(&d.value, spend_one(budget)?)
 }
 
 /// What is left after the nodes of a statement.
@@ -89,7 +96,7 @@ fn spend_declarator(d: &Declarator<Path>, budget: u32) -> Option<u32>
 pub fn spend_statement(s: &Stmt<Path>, budget: u32) -> Option<u32>
     ensures { result ≡ spent budget (statement_nodes (stmt_of path_of s.now)) }
 {
-    let left = budget.checked_sub(1)?;
+    let left = spend_one(budget)?;
     match s {
         Stmt::Empty | Stmt::Break { .. } | Stmt::Continue { .. } | Stmt::Return => Some(left),
         Stmt::Evaluate(e) => spend(e, left),
@@ -133,8 +140,8 @@ fn spend_part(part: &Part<Path>, left: u32) -> Option<u32>
     ensures { result ≡ spent left (body_nodes (body_from (part_of path_of part.now ∷ []))) }
 {
     match part {
-        Part::Declare(declarators) => spend_declarators(declarators, left.checked_sub(1)?),
+        Part::Declare(declarators) => spend_declarators(declarators, spend_one(left)?),
         Part::Statement(s) => spend_statement(s, left),
-        Part::CaseLabel { .. } | Part::DefaultLabel { .. } => left.checked_sub(1),
+        Part::CaseLabel { .. } | Part::DefaultLabel { .. } => spend_one(left),
     }
 }

@@ -1,6 +1,4 @@
 use Rattle.std.proofs.Common.{◌∙◌, arith}
-use Rattle.std.proofs.lemmas.Grind.{common_steps}
-use Rattle.std.proofs.lemmas.Bool.Decides.{nat_tests}
 use Rattle.edd_syntax.specs.Expression.{arguments_from}
 use Rattle.edd_syntax.specs.TreeView.{path_of, argument_of}
 use Rattle.edd_syntax.specs.Size.{argument_nodes}
@@ -16,4 +14,4 @@ spend_arguments-returns-in_err-left t c =
     c.from_residual.ensures ∙ stops_at (λ xs. argument_nodes (arguments_from xs)) (argument_of path_of) argument_nodes_split _ c.loop-a.a-index c.args.arguments.now c.a-item.result _ (omega arith) c.a-item.is c.in_err-left.ensures c.loop-a.invariant
 
 pub spend-returns-in-Call : goal.spend-returns-in-Call
-spend-returns-in-Call t c = spent_call _ _ _ _ _ _ _ _ _ c.in-Call.is c.deref-in-Call.ensures.value (grind (arith, common_steps, nat_tests)) c.spend_arguments.ensures
+spend-returns-in-Call t c = spent_call _ _ _ _ _ _ _ _ _ c.in-Call.is c.deref-in-Call.ensures.value c.in_ok-left.ensures c.spend_arguments.ensures
