@@ -11,7 +11,7 @@ use Rattle.edd_names.specs.ResolvedParts.{resolved_argument}
 use Rattle.edd_names.proofs.Copying.{at_start, one_more, stops, none_at_end, meant_at_end}
 use Rattle.edd_names.proofs.ExprSteps.{argument_uses_split, arguments_joined, no_arguments, call_none, call_fault, call_means}
 use Rattle.edd_names.proofs.UseLaws.{no_use}
-use Rattle.edd_names.proofs.Passing.{passed}
+use Rattle.edd_name_rules.proofs.Passing.{passed}
 use Rattle.edd_names.proofs.exprs.+exprs.Goals as goal
 
 pub add_arguments-loop-argument-init : goal.add_arguments-loop-argument-init
