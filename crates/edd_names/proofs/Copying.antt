@@ -3,7 +3,7 @@ use Rattle.std.proofs.Common.{◌≡◌, sym, ap, ◌∙◌, ℕ, ◌+◌, ◌<�
 use Rattle.std.proofs.lemmas.List.{at_drop_more, append-nil}
 use Rattle.edd_names.specs.declared.fault.NameFault.{NameFault}
 use Rattle.edd_names.specs.Meanings.{Means, NoFault, FirstFault}
-use Rattle.edd_names.proofs.Repeating.{map_append}
+use Rattle.edd_name_rules.proofs.Repeating.{map_append}
 use Rattle.edd_names.proofs.UseLaws.{none_append, fault_left, fault_right}
 use Rattle.edd_syntax.specs.Reference.{Path}
 use Rattle.edd_syntax.specs.Item.{Description}

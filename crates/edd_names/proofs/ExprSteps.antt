@@ -6,7 +6,6 @@ use Rattle.std.proofs.lemmas.List.{append-nil}
 use Rattle.edd_names.specs.declared.fault.NameFault.{NameFault}
 use Rattle.edd_names.specs.Meanings.{Means, NoFault, FirstFault}
 use Rattle.edd_names.specs.ResolvedParts.{resolved_argument}
-use Rattle.edd_names.proofs.UseLaws.{none_cons, fault_later}
 use Rattle.edd_syntax.specs.declared.expr.Expr as code
 use Rattle.edd_syntax.specs.declared.expr.Expr.TheVariants as e
 use Rattle.edd_syntax.specs.declared.expr.Argument as code_argument
@@ -52,11 +51,11 @@ module _ (unit : Description Path) (x : code.Expr code_path.Path) (line : ℕ) (
   call : expr_of path_of x ≡ Call (path_of p) (arguments_from (map (argument_of path_of) items))
   call = call_is path_of x line p v is ∙ ap (λ xs. Call (path_of p) (arguments_from (map (argument_of path_of) xs))) (sym same)
 
-  pub call_none : (scope : Scope) → NoFault unit (OfFunction (path_of p) ∷ []) → NoFault unit (argument_uses scope (arguments_from (map (argument_of path_of) items))) → NoFault unit (expr_uses scope (expr_of path_of x))
-  call_none scope h k = subst (λ t. NoFault unit (expr_uses scope t)) (sym call) (none_cons unit (OfFunction (path_of p)) _ h k)
+  pub call_none : (scope : Scope) → NoFault unit (OfFunction (path_of p) ∷ argument_uses scope (arguments_from (map (argument_of path_of) items))) → NoFault unit (expr_uses scope (expr_of path_of x))
+  call_none scope h = subst (λ t. NoFault unit (expr_uses scope t)) (sym call) h
 
-  pub call_fault : (scope : Scope) (f : NameFault) → NoFault unit (OfFunction (path_of p) ∷ []) → FirstFault f unit (argument_uses scope (arguments_from (map (argument_of path_of) items))) → FirstFault f unit (expr_uses scope (expr_of path_of x))
-  call_fault scope f h k = subst (λ t. FirstFault f unit (expr_uses scope t)) (sym call) (fault_later unit f (OfFunction (path_of p)) _ h k)
+  pub call_fault : (scope : Scope) (f : NameFault) → FirstFault f unit (OfFunction (path_of p) ∷ argument_uses scope (arguments_from (map (argument_of path_of) items))) → FirstFault f unit (expr_uses scope (expr_of path_of x))
+  call_fault scope f h = subst (λ t. FirstFault f unit (expr_uses scope t)) (sym call) h
 
   pub call_means : (at : Path → Option Target) (t : Target) (w : Vec (code_argument.Argument Target) alloc.Global) → Means unit (function_meant (path_of p)) t → Means unit (resolved_arguments at (arguments_from (map (argument_of path_of) items))) (arguments_from (map (argument_of (λ r. r)) w.items)) → Means unit (resolved_expr at (expr_of path_of x)) (expr_of (λ r. r) (e.Call line t w))
   unfolding Means resolved_expr

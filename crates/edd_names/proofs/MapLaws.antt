@@ -22,8 +22,8 @@ use Rattle.edd_syntax.specs.NameRules.{item_limit, kinds}
 use Rattle.edd_syntax.specs.Numbers.{item_number, same_kind}
 use Rattle.edd_syntax.specs.Resolution.{count_of, look_up, numbered_names}
 use Rattle.edd_names.specs.Numbering.{at, if_named}
-use Rattle.edd_names.proofs.Counting.{one_item, items_split}
-use Rattle.edd_names.proofs.Repeating.{map_append}
+use Rattle.edd_name_rules.proofs.Counting.{one_item, items_split}
+use Rattle.edd_name_rules.proofs.Repeating.{map_append}
 
 -- ---- a value that is put at a name unless one stands there
 

@@ -5,11 +5,14 @@ use Rattle.std.specs.List.{list_any}
 use Rattle.edd_names.specs.declared.directory.Names.{Names}
 use Rattle.edd_names.specs.declared.fault.NameFault.{NameFault}
 use Rattle.edd_names.specs.Directory.{unit_of}
-use Rattle.edd_names.specs.Faults.{IsFirst}
+use Rattle.edd_name_rules.specs.declared.fault.RuleFault.{RuleFault}
+use Rattle.edd_name_rules.specs.declared.fault.RuleFault.TheVariants as rule
+use Rattle.edd_name_rules.specs.Faults as rules
+use Rattle.edd_names.specs.Faults.{IsFound, IsFirst, of_rule}
 use Rattle.edd_names.specs.Meanings.{Means, NoFault, FirstFault, faults_in}
 use Rattle.edd_names.specs.Units.{unit_view}
-use Rattle.edd_names.specs.Walks.{described}
-use Rattle.edd_names.proofs.FirstLaws.{first_of-append_none}
+use Rattle.edd_name_rules.specs.Walks.{described}
+use Rattle.edd_name_rules.proofs.FirstLaws.{first_of-append_none}
 use Rattle.edd_names.proofs.MemberLaws.{all_named}
 use Rattle.edd_names.proofs.UseLaws.{first_left_of, first_right_of}
 use Rattle.edd_syntax.specs.declared.limits.Limit.TheVariants as limit
@@ -47,6 +50,14 @@ few_locals items h =
     (not_refused _ (TooMany limit.Transactions) _ (not_refused (list_any (λ k. nat_lt item_limit (count_of k items)) kinds) (TooMany limit.Items) _ h).1).1).0
 
 -- ---- the rules one behind the other
+
+pub rule_first : (f : RuleFault) (all : List Refusal) → rules.IsFirst f all → IsFirst (of_rule f) all
+unfolding IsFound rules.IsFound
+rule_first (rule.TooMany limit) all h = h
+rule_first (rule.DuplicateName name) all h = h
+rule_first (rule.DuplicateAttribute word) all h = h
+rule_first (rule.MissingAttribute item word) all h = h
+rule_first rule.NoMemory all h = h
 
 module _ (unit : Description Path) where
   abbrev pub rules_before : List Refusal

@@ -8,8 +8,8 @@ use Rattle.edd_names.specs.Meanings.{Means, NoFault, FirstFault}
 use Rattle.edd_names.specs.ResolvedParts.{part_uses, resolved_part, scope_behind, next_behind}
 use Rattle.edd_names.proofs.DeclaratorSteps.{State}
 use Rattle.edd_names.proofs.ExprSteps.{bound, regroup}
-use Rattle.edd_names.proofs.SlotLaws.{slots_split}
-use Rattle.edd_names.proofs.Spends.{body_nodes_split}
+use Rattle.edd_name_rules.proofs.SlotLaws.{slots_split}
+use Rattle.edd_name_rules.proofs.Spends.{body_nodes_split}
 use Rattle.edd_names.proofs.UseLaws.{none_append, fault_right}
 use Rattle.edd_syntax.specs.declared.expr.Expr as code_expr
 use Rattle.edd_syntax.specs.declared.stmt.Stmt as code

@@ -1,12 +1,12 @@
 -- Faults in uses that stand one behind the other, and what trees of references mean.
-use Rattle.std.proofs.Common.{◌≡◌, refl, sym, ap, ◌∙◌, List, [], ◌∷◌, ◌++◌, None, subst}
+use Rattle.std.proofs.Common.{◌≡◌, refl, sym, ap, ◌∙◌, List, [], ◌∷◌, ◌++◌, None, Option, subst}
 use Rattle.std.proofs.lemmas.Grind.{flat_map-append}
 use Rattle.edd_names.specs.declared.fault.NameFault.{NameFault}
 use Rattle.edd_names.specs.declared.fault.NameFault.TheVariants.{NoMemory}
 use Rattle.edd_names.specs.Faults.{refusal_of, IsFound, IsFirst}
 use Rattle.edd_names.specs.Meanings.{faults_in, NoFault, FirstFault}
-use Rattle.edd_names.proofs.FirstLaws.{first_of-append_none}
-use Rattle.edd_names.proofs.Noting.{found_any, memory_refused}
+use Rattle.edd_name_rules.proofs.FirstLaws.{first_of-append_none}
+use Rattle.edd_name_rules.proofs.Noting.{told_left, told_right}
 use Rattle.edd_syntax.specs.Reference.{Path}
 use Rattle.edd_syntax.specs.Item.{Description}
 use Rattle.edd_syntax.specs.NameRules.{faults_of_use}
@@ -15,11 +15,16 @@ use Rattle.edd_syntax.specs.Refusal.{Refusal, first_of}
 
 pub first_left_of : (f : NameFault) (xs ys : List Refusal) → IsFirst f xs → IsFirst f (xs ++ ys)
 unfolding IsFound
-first_left_of f [] ys h = found_any (refusal_of f) (first_of ys) h
-first_left_of f (x ∷ xs) ys h = h
+first_left_of f xs ys h = told_left (refusal_of f) xs ys h
 
 pub first_right_of : (f : NameFault) (xs ys : List Refusal) → None ≡ first_of xs → IsFirst f ys → IsFirst f (xs ++ ys)
-first_right_of f xs ys none h = subst (IsFound f) (sym (first_of-append_none xs ys none)) h
+unfolding IsFound
+first_right_of f xs ys none h = told_right (refusal_of f) xs ys none h
+
+-- memory that was refused is no breach
+pub memory_refused : (o : Option Refusal) → IsFound NoMemory o
+unfolding IsFound
+memory_refused o = tt
 
 module _ (unit : Description Path) where
   faults_append : (us vs : List Use) → faults_in unit (us ++ vs) ≡ faults_in unit us ++ faults_in unit vs

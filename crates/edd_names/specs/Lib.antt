@@ -6,8 +6,4 @@ pub mod Members
 pub mod Numbering
 pub mod Paths
 pub mod ResolvedParts
-pub mod Scopes
-pub mod Seen
-pub mod Spending
 pub mod Units
-pub mod Walks

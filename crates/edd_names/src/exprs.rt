@@ -4,8 +4,8 @@ ghost use Rattle.std.specs.Prelude.{◌≡◌, [], ◌∷◌, ◌++◌, IfErr, I
 ghost use Rattle.edd_syntax.specs.declared.expr.Argument.{Argument};
 ghost use Rattle.edd_syntax.specs.declared.reference.Target.{Target};
 ghost use Rattle.edd_syntax.specs.Expression.{arguments_from};
-ghost use Rattle.edd_syntax.specs.NameUses.{OfItem, expr_uses, argument_uses};
-ghost use Rattle.edd_syntax.specs.Resolution.{meaning, variable_kinds};
+ghost use Rattle.edd_syntax.specs.NameUses.{OfFunction, OfItem, expr_uses, argument_uses};
+ghost use Rattle.edd_syntax.specs.Resolution.{function_meant, meaning, variable_kinds};
 ghost use Rattle.edd_syntax.specs.ResolvedTrees.{resolved_expr, resolved_arguments};
 ghost use Rattle.edd_syntax.specs.TreeView.{path_of, expr_of, argument_of};
 ghost use Rattle.edd_names.specs.Directory.{unit_of};
@@ -38,58 +38,40 @@ pub fn copy_expr(e: &Expr<Path>, names: &Names, scope: &[Local]) -> Result<Expr<
         (resolved_expr (meaning (unit_of names.now) (scope_of scope.now) variable_kinds) (expr_of path_of e.now)) (expr_of (λ r. r) t)) }
     ensures err { IfErr result (λ f. FirstFault f (unit_of names.now) (expr_uses (scope_of scope.now) (expr_of path_of e.now))) }
 {
-    let alloc = names.alloc;
     match e {
         Expr::Literal(value) => Ok(Expr::Literal(*value)),
         Expr::Decimal { line } => Ok(Expr::Decimal { line: *line }),
         Expr::Reference(from) => Ok(Expr::Reference(refer_variable(names, scope, from)?)),
-        Expr::Parentheses(inner) => {
-            let inner = copy_expr(inner, names, scope)?;
-            Ok(Expr::Parentheses(Box::new(alloc, inner)?))
-        }
-        Expr::Unary(op, operand) => {
-            let operand = copy_expr(operand, names, scope)?;
-            Ok(Expr::Unary(*op, Box::new(alloc, operand)?))
-        }
+        Expr::Parentheses(inner) => Ok(Expr::Parentheses(copy_boxed(inner, names, scope)?)),
+        Expr::Unary(op, operand) => Ok(Expr::Unary(*op, copy_boxed(operand, names, scope)?)),
         Expr::Binary(op, left, right) => {
-            let left = copy_expr(left, names, scope)?;
-            let right = copy_expr(right, names, scope)?;
-            Ok(Expr::Binary(*op, Box::new(alloc, left)?, Box::new(alloc, right)?))
+            let left = copy_boxed(left, names, scope)?;
+            Ok(Expr::Binary(*op, left, copy_boxed(right, names, scope)?))
         }
         Expr::Compare(by, left, right) => {
-            let left = copy_expr(left, names, scope)?;
-            let right = copy_expr(right, names, scope)?;
-            Ok(Expr::Compare(*by, Box::new(alloc, left)?, Box::new(alloc, right)?))
+            let left = copy_boxed(left, names, scope)?;
+            Ok(Expr::Compare(*by, left, copy_boxed(right, names, scope)?))
         }
         Expr::LogicalAnd(left, right) => {
-            let left = copy_expr(left, names, scope)?;
-            let right = copy_expr(right, names, scope)?;
-            Ok(Expr::LogicalAnd(Box::new(alloc, left)?, Box::new(alloc, right)?))
+            let left = copy_boxed(left, names, scope)?;
+            Ok(Expr::LogicalAnd(left, copy_boxed(right, names, scope)?))
         }
         Expr::LogicalOr(left, right) => {
-            let left = copy_expr(left, names, scope)?;
-            let right = copy_expr(right, names, scope)?;
-            Ok(Expr::LogicalOr(Box::new(alloc, left)?, Box::new(alloc, right)?))
+            let left = copy_boxed(left, names, scope)?;
+            Ok(Expr::LogicalOr(left, copy_boxed(right, names, scope)?))
         }
         Expr::Conditional(test, first, second) => {
-            let test = copy_expr(test, names, scope)?;
-            let first = copy_expr(first, names, scope)?;
-            let second = copy_expr(second, names, scope)?;
-            Ok(Expr::Conditional(
-                Box::new(alloc, test)?,
-                Box::new(alloc, first)?,
-                Box::new(alloc, second)?,
-            ))
+            let test = copy_boxed(test, names, scope)?;
+            let first = copy_boxed(first, names, scope)?;
+            Ok(Expr::Conditional(test, first, copy_boxed(second, names, scope)?))
         }
         Expr::Assign(to, value) => {
-            let to = refer_variable(names, scope, to)?;
-            let value = copy_expr(value, names, scope)?;
-            Ok(Expr::Assign(to, Box::new(alloc, value)?))
+            let (to, value) = copy_assigned(value, to, names, scope)?;
+            Ok(Expr::Assign(to, value))
         }
         Expr::CompoundAssign(op, to, value) => {
-            let to = refer_variable(names, scope, to)?;
-            let value = copy_expr(value, names, scope)?;
-            Ok(Expr::CompoundAssign(*op, to, Box::new(alloc, value)?))
+            let (to, value) = copy_assigned(value, to, names, scope)?;
+            Ok(Expr::CompoundAssign(*op, to, value))
         }
         Expr::Increment(by, to) => Ok(Expr::Increment(*by, refer_variable(names, scope, to)?)),
         Expr::Call {
@@ -97,8 +79,7 @@ pub fn copy_expr(e: &Expr<Path>, names: &Names, scope: &[Local]) -> Result<Expr<
             function,
             arguments,
         } => {
-            let function = refer_function(names, function)?;
-            let arguments = copy_arguments(arguments, names, scope)?;
+            let (function, arguments) = copy_call(arguments, function, names, scope)?;
             Ok(Expr::Call {
                 line: *line,
                 function,
@@ -106,6 +87,62 @@ pub fn copy_expr(e: &Expr<Path>, names: &Names, scope: &[Local]) -> Result<Expr<
             })
         }
     }
+}
+
+// A part of an expression, in the box that it stands in.
+#[cycle(exprs)]
+#[tactic(auto, using(crate::proofs::UseLaws::faults))]
+fn copy_boxed(
+    e: &Expr<Path>,
+    names: &Names,
+    scope: &[Local],
+) -> Result<Box<Expr<Target>>, NameFault>
+    ensures none { IfOk result (λ t. NoFault (unit_of names.now) (expr_uses (scope_of scope.now) (expr_of path_of e.now))) }
+    ensures ok { IfOk result (λ t. Means (unit_of names.now)
+        (resolved_expr (meaning (unit_of names.now) (scope_of scope.now) variable_kinds) (expr_of path_of e.now)) (expr_of (λ r. r) t.value)) }
+    ensures err { IfErr result (λ f. FirstFault f (unit_of names.now) (expr_uses (scope_of scope.now) (expr_of path_of e.now))) }
+{
+    let copy = copy_expr(e, names, scope)?;
+    Ok(Box::new(names.alloc, copy)?)
+}
+
+// What is assigned to, and the value.
+#[cycle(exprs)]
+#[tactic(auto, using(crate::proofs::UseLaws::faults))]
+fn copy_assigned(
+    value: &Expr<Path>,
+    to: &Path,
+    names: &Names,
+    scope: &[Local],
+) -> Result<(Target, Box<Expr<Target>>), NameFault>
+    ensures none { IfOk result (λ t. NoFault (unit_of names.now) (OfItem (scope_of scope.now) variable_kinds (path_of to.now) ∷ expr_uses (scope_of scope.now) (expr_of path_of value.now))) }
+    ensures to { IfOk result (λ t. Means (unit_of names.now) (meaning (unit_of names.now) (scope_of scope.now) variable_kinds (path_of to.now)) t.0) }
+    ensures value { IfOk result (λ t. Means (unit_of names.now)
+        (resolved_expr (meaning (unit_of names.now) (scope_of scope.now) variable_kinds) (expr_of path_of value.now)) (expr_of (λ r. r) t.1.value)) }
+    ensures err { IfErr result (λ f. FirstFault f (unit_of names.now) (OfItem (scope_of scope.now) variable_kinds (path_of to.now) ∷ expr_uses (scope_of scope.now) (expr_of path_of value.now))) }
+{
+    let to = refer_variable(names, scope, to)?;
+    Ok((to, copy_boxed(value, names, scope)?))
+}
+
+// The function that is called, and its arguments.
+#[cycle(exprs)]
+#[tactic(auto, using(crate::proofs::UseLaws::faults))]
+fn copy_call(
+    arguments: &[Argument<Path>],
+    function: &Path,
+    names: &Names,
+    scope: &[Local],
+) -> Result<(Target, Vec<Argument<Target>>), NameFault>
+    ensures none { IfOk result (λ t. NoFault (unit_of names.now) (OfFunction (path_of function.now) ∷ argument_uses (scope_of scope.now) (arguments_from (map (argument_of path_of) arguments.now)))) }
+    ensures function { IfOk result (λ t. Means (unit_of names.now) (function_meant (path_of function.now)) t.0) }
+    ensures arguments { IfOk result (λ t. Means (unit_of names.now)
+        (resolved_arguments (meaning (unit_of names.now) (scope_of scope.now) variable_kinds) (arguments_from (map (argument_of path_of) arguments.now)))
+        (arguments_from (map (argument_of (λ r. r)) t.1.items))) }
+    ensures err { IfErr result (λ f. FirstFault f (unit_of names.now) (OfFunction (path_of function.now) ∷ argument_uses (scope_of scope.now) (arguments_from (map (argument_of path_of) arguments.now)))) }
+{
+    let function = refer_function(names, function)?;
+    Ok((function, copy_arguments(arguments, names, scope)?))
 }
 
 #[cycle(exprs)]

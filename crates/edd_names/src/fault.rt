@@ -3,6 +3,7 @@
 ghost use Rattle.std.specs.Prelude.{◌≡◌};
 ghost use Rattle.edd_names.specs.Limits.{limit_word};
 
+use edd_name_rules::fault::RuleFault;
 use edd_syntax::limits::Limit;
 use std::alloc::{AllocError, AllocFailed};
 use thiserror::Error;
@@ -65,5 +66,24 @@ impl<T: Drop> From<AllocFailed<T>> for NameFault {
 
     fn from(_error: AllocFailed<T>) -> NameFault {
         NameFault::NoMemory
+    }
+}
+
+impl From<RuleFault> for NameFault {
+    ghost use Rattle.edd_names.specs.Faults.{of_rule};
+
+    ghost from_gives = { λ rule fault. fault ≡ of_rule rule };
+
+    fn from(fault: RuleFault) -> NameFault {
+        match fault {
+            RuleFault::TooMany(limit) => NameFault::TooMany(limit),
+            RuleFault::DuplicateName(name) => NameFault::DuplicateName(name),
+            RuleFault::DuplicateAttribute(word) => NameFault::DuplicateAttribute(word),
+            RuleFault::MissingAttribute { item, word } => NameFault::MissingAttribute {
+                item,
+                word,
+            },
+            RuleFault::NoMemory => NameFault::NoMemory,
+        }
     }
 }

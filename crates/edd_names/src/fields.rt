@@ -12,7 +12,7 @@ ghost use Rattle.edd_names.specs.declared.fault.NameFault.TheVariants.{NoMemory}
 ghost use Rattle.edd_names.specs.Directory.{unit_of};
 ghost use Rattle.edd_names.specs.Meanings.{Means, NoFault, FirstFault};
 ghost use Rattle.edd_names.specs.ResolvedParts.{member_uses};
-ghost use Rattle.edd_names.specs.Spending.{locals_in};
+ghost use Rattle.edd_name_rules.specs.Spending.{locals_in};
 
 use crate::branches::{copy_cond, copy_conds};
 use crate::directory::Names;

@@ -14,9 +14,8 @@ ghost use Rattle.edd_syntax.specs.TreeView.{path_of};
 ghost use Rattle.edd_names.specs.declared.fault.NameFault.TheVariants.{NoMemory};
 ghost use Rattle.edd_names.specs.Numbering.{at, if_named, count_in};
 
-use crate::counts::kind_of;
 use crate::fault::NameFault;
-use crate::items::name_of;
+use edd_name_rules::items::{kind_of, name_of};
 use edd_syntax::item::Item;
 use edd_syntax::numbers::{CmdNo, CollNo, ItemNo, Kind, MenuNo, MethNo, VarNo};
 use edd_syntax::reference::Path;

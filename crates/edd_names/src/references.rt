@@ -1,6 +1,7 @@
 //! What references and the names of functions mean.
 
-ghost use Rattle.std.specs.Prelude.{◌≡◌, [], ◌∷◌, None, Some, IfErr, IfOk, map};
+ghost use Rattle.std.specs.Prelude.{◌≡◌, [], ◌∷◌, None, Some, IfErr, IfOk, map, if◌then◌else◌};
+ghost use Rattle.std.specs.Str.{bytes_eq};
 ghost use Rattle.edd_syntax.specs.NameRules.{faults_of_local, faults_of_item};
 ghost use Rattle.edd_syntax.specs.NameUses.{OfItem, OfFunction};
 ghost use Rattle.edd_syntax.specs.Resolution.{look_up, builtins, meaning, local_meant, item_meant, function_meant};
@@ -78,53 +79,40 @@ pub fn refer(
     }
 }
 
+// The function, where the name is this word: else what was found.
+fn if_named(
+    name: &str,
+    word: &str,
+    function: Builtin,
+    otherwise: Option<Builtin>,
+) -> Option<Builtin>
+    ensures { result ≡ (if bytes_eq word.now name.now then Some function else otherwise) }
+{
+    if word == name {
+        Some(function)
+    } else {
+        otherwise
+    }
+}
+
 /// The function of a name.
 pub fn builtin(name: &str) -> Option<Builtin>
     ensures { result ≡ look_up name.now builtins }
 {
-    if "PUT_MESSAGE" == name {
-        return Some(Builtin::PutMessage);
-    }
-    if "ACKNOWLEDGE" == name {
-        return Some(Builtin::Acknowledge);
-    }
-    if "DELAY" == name {
-        return Some(Builtin::Delay);
-    }
-    if "GET_DEV_VAR_VALUE" == name {
-        return Some(Builtin::GetDevVarValue);
-    }
-    if "SELECT_FROM_LIST" == name {
-        return Some(Builtin::SelectFromList);
-    }
-    if "send_command" == name {
-        return Some(Builtin::SendCommand);
-    }
-    if "send_command_trans" == name {
-        return Some(Builtin::SendCommandTrans);
-    }
-    if "save_values" == name {
-        return Some(Builtin::SaveValues);
-    }
-    if "ivar_value" == name {
-        return Some(Builtin::IvarValue);
-    }
-    if "lvar_value" == name {
-        return Some(Builtin::LvarValue);
-    }
-    if "iassign" == name {
-        return Some(Builtin::Iassign);
-    }
-    if "lassign" == name {
-        return Some(Builtin::Lassign);
-    }
-    if "abort" == name {
-        return Some(Builtin::Abort);
-    }
-    if "process_abort" == name {
-        return Some(Builtin::ProcessAbort);
-    }
-    None
+    let found = if_named(name, "process_abort", Builtin::ProcessAbort, None);
+    let found = if_named(name, "abort", Builtin::Abort, found);
+    let found = if_named(name, "lassign", Builtin::Lassign, found);
+    let found = if_named(name, "iassign", Builtin::Iassign, found);
+    let found = if_named(name, "lvar_value", Builtin::LvarValue, found);
+    let found = if_named(name, "ivar_value", Builtin::IvarValue, found);
+    let found = if_named(name, "save_values", Builtin::SaveValues, found);
+    let found = if_named(name, "send_command_trans", Builtin::SendCommandTrans, found);
+    let found = if_named(name, "send_command", Builtin::SendCommand, found);
+    let found = if_named(name, "SELECT_FROM_LIST", Builtin::SelectFromList, found);
+    let found = if_named(name, "GET_DEV_VAR_VALUE", Builtin::GetDevVarValue, found);
+    let found = if_named(name, "DELAY", Builtin::Delay, found);
+    let found = if_named(name, "ACKNOWLEDGE", Builtin::Acknowledge, found);
+    if_named(name, "PUT_MESSAGE", Builtin::PutMessage, found)
 }
 
 /// What the name of a call means.

@@ -14,14 +14,14 @@ ghost use Rattle.edd_names.specs.Units.{unit_view};
 
 use crate::directory::Names;
 use crate::fault::NameFault;
-use crate::rules::check_rules;
 use crate::unit_items::copy_items;
+use edd_name_rules::check_rules;
 use edd_syntax::resolved::Resolved;
 use edd_syntax::unit::Unit;
 use std::alloc::Global;
 
 // The unit of these names with their meaning, where the rules before those on uses of names are kept.
-#[tactic(auto, using(crate::proofs::Noting::memory_refused))]
+#[tactic(auto, using(crate::proofs::UseLaws::memory_refused))]
 fn resolve_uses(alloc: Global, names: &Names) -> Result<Resolved, NameFault>
     requires counted { None ≡ first_of (too_many (unit_of names.now)) }
     requires kept { None ≡ first_of (too_many (unit_of names.now) ++ (duplicate_names (unit_of names.now)

@@ -3,10 +3,10 @@
 ghost use Rattle.std.specs.Prelude.{◌≡◌, ◌+◌, ◌≤◌, ◌++◌, [], ◌∷◌, IfErr, IfOk, OnErr, OnOk, map};
 ghost use Rattle.edd_syntax.specs.declared.reference.Target.{Target};
 ghost use Rattle.edd_syntax.specs.declared.stmt.Part.{Part};
-ghost use Rattle.edd_syntax.specs.NameUses.{stmt_uses, body_uses};
-ghost use Rattle.edd_syntax.specs.ResolvedTrees.{resolved_stmt, resolved_body};
+ghost use Rattle.edd_syntax.specs.NameUses.{expr_uses, stmt_uses, body_uses};
+ghost use Rattle.edd_syntax.specs.ResolvedTrees.{at_scope, resolved_expr, resolved_stmt, resolved_body};
 ghost use Rattle.edd_syntax.specs.Statement.{body_from, slots_of, slots_in};
-ghost use Rattle.edd_syntax.specs.TreeView.{path_of, stmt_of, part_of};
+ghost use Rattle.edd_syntax.specs.TreeView.{path_of, expr_of, stmt_of, part_of};
 ghost use Rattle.edd_names.specs.declared.fault.NameFault.TheVariants.{NoMemory};
 ghost use Rattle.edd_names.specs.Directory.{unit_of};
 ghost use Rattle.edd_names.specs.Meanings.{Means, NoFault, FirstFault, scope_of};
@@ -17,6 +17,7 @@ use crate::directory::Names;
 use crate::exprs::copy_expr;
 use crate::fault::NameFault;
 use crate::references::Local;
+use edd_syntax::expr::Expr;
 use edd_syntax::reference::{Path, Target};
 use edd_syntax::stmt::{Part, Stmt};
 use std::alloc::Global;
@@ -45,35 +46,26 @@ fn copy_stmt<'a>(
     ensures next { IfOk result (λ t. next.new ≡ next.old + slots_of (stmt_of path_of s.now)) }
     ensures err { IfErr result (λ f. FirstFault f (unit_of names.now) (stmt_uses (stmt_of path_of s.now) (scope_of scope.now) next.old)) }
 {
-    let alloc = names.alloc;
     match s {
         Stmt::Empty => Ok(Stmt::Empty),
         Stmt::Evaluate(e) => Ok(Stmt::Evaluate(copy_expr(e, names, scope)?)),
         Stmt::Block(parts) => Ok(Stmt::Block(copy_body(parts, names, scope, next)?)),
         Stmt::If(condition, first) => {
-            let condition = copy_expr(condition, names, scope)?;
-            let first = copy_stmt(first, names, scope, next)?;
-            Ok(Stmt::If(condition, Box::new(alloc, first)?))
+            let (condition, first) = copy_guarded(condition, first, names, scope, next)?;
+            Ok(Stmt::If(condition, first))
         }
         Stmt::IfElse(condition, first, otherwise) => {
             let condition = copy_expr(condition, names, scope)?;
-            let first = copy_stmt(first, names, scope, next)?;
-            let otherwise = copy_stmt(otherwise, names, scope, next)?;
-            Ok(Stmt::IfElse(
-                condition,
-                Box::new(alloc, first)?,
-                Box::new(alloc, otherwise)?,
-            ))
+            let first = copy_boxed(first, names, scope, next)?;
+            Ok(Stmt::IfElse(condition, first, copy_boxed(otherwise, names, scope, next)?))
         }
         Stmt::While(condition, body) => {
-            let condition = copy_expr(condition, names, scope)?;
-            let body = copy_stmt(body, names, scope, next)?;
-            Ok(Stmt::While(condition, Box::new(alloc, body)?))
+            let (condition, body) = copy_guarded(condition, body, names, scope, next)?;
+            Ok(Stmt::While(condition, body))
         }
         Stmt::Do(body, condition) => {
-            let body = copy_stmt(body, names, scope, next)?;
-            let condition = copy_expr(condition, names, scope)?;
-            Ok(Stmt::Do(Box::new(alloc, body)?, condition))
+            let body = copy_boxed(body, names, scope, next)?;
+            Ok(Stmt::Do(body, copy_expr(condition, names, scope)?))
         }
         Stmt::For {
             initial,
@@ -84,12 +76,11 @@ fn copy_stmt<'a>(
             let initial = copy_optional(initial, names, scope)?;
             let condition = copy_optional(condition, names, scope)?;
             let update = copy_optional(update, names, scope)?;
-            let body = copy_stmt(body, names, scope, next)?;
             Ok(Stmt::For {
                 initial,
                 condition,
                 update,
-                body: Box::new(alloc, body)?,
+                body: copy_boxed(body, names, scope, next)?,
             })
         }
         Stmt::Switch(on, parts) => {
@@ -100,6 +91,51 @@ fn copy_stmt<'a>(
         Stmt::Continue { line } => Ok(Stmt::Continue { line: *line }),
         Stmt::Return => Ok(Stmt::Return),
     }
+}
+
+// A part of a statement, in the box that it stands in.
+#[cycle(statements)]
+#[tactic(auto, using(crate::proofs::UseLaws::faults))]
+fn copy_boxed<'a>(
+    s: &'a Stmt<Path>,
+    names: &Names,
+    scope: &[Local<'a>],
+    next: &mut u8,
+) -> Result<Box<Stmt<Target>>, NameFault>
+    requires { next.old + slots_of (stmt_of path_of s.now) ≤ 64 }
+    ensures none { IfOk result (λ t. NoFault (unit_of names.now) (stmt_uses (stmt_of path_of s.now) (scope_of scope.now) next.old)) }
+    ensures ok { IfOk result (λ t. Means (unit_of names.now)
+        (resolved_stmt (unit_of names.now) (stmt_of path_of s.now) (scope_of scope.now) next.old) (stmt_of (λ r. r) t.value)) }
+    ensures next { IfOk result (λ t. next.new ≡ next.old + slots_of (stmt_of path_of s.now)) }
+    ensures err { IfErr result (λ f. FirstFault f (unit_of names.now) (stmt_uses (stmt_of path_of s.now) (scope_of scope.now) next.old)) }
+{
+    let copy = copy_stmt(s, names, scope, next)?;
+    Ok(Box::new(names.alloc, copy)?)
+}
+
+// A condition, and the statement that stands under it.
+#[cycle(statements)]
+#[tactic(auto, using(crate::proofs::UseLaws::faults))]
+fn copy_guarded<'a>(
+    condition: &'a Expr<Path>,
+    body: &'a Stmt<Path>,
+    names: &Names,
+    scope: &[Local<'a>],
+    next: &mut u8,
+) -> Result<(Expr<Target>, Box<Stmt<Target>>), NameFault>
+    requires { next.old + slots_of (stmt_of path_of body.now) ≤ 64 }
+    ensures none { IfOk result (λ t. NoFault (unit_of names.now)
+        (expr_uses (scope_of scope.now) (expr_of path_of condition.now) ++ stmt_uses (stmt_of path_of body.now) (scope_of scope.now) next.old)) }
+    ensures condition { IfOk result (λ t. Means (unit_of names.now)
+        (resolved_expr (at_scope (unit_of names.now) (scope_of scope.now)) (expr_of path_of condition.now)) (expr_of (λ r. r) t.0)) }
+    ensures body { IfOk result (λ t. Means (unit_of names.now)
+        (resolved_stmt (unit_of names.now) (stmt_of path_of body.now) (scope_of scope.now) next.old) (stmt_of (λ r. r) t.1.value)) }
+    ensures next { IfOk result (λ t. next.new ≡ next.old + slots_of (stmt_of path_of body.now)) }
+    ensures err { IfErr result (λ f. FirstFault f (unit_of names.now)
+        (expr_uses (scope_of scope.now) (expr_of path_of condition.now) ++ stmt_uses (stmt_of path_of body.now) (scope_of scope.now) next.old)) }
+{
+    let condition = copy_expr(condition, names, scope)?;
+    Ok((condition, copy_boxed(body, names, scope, next)?))
 }
 
 /// What stands between braces, with the meaning of its names. Its locals can be used up to the closing brace.

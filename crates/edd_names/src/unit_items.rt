@@ -13,7 +13,7 @@ ghost use Rattle.edd_names.specs.Meanings.{Means, NoFault, FirstFault};
 use crate::directory::Names;
 use crate::fault::NameFault;
 use crate::fields::copy_attributes;
-use crate::items::{attributes_of, name_of};
+use edd_name_rules::items::{attributes_of, name_of};
 use edd_syntax::item::{
     Attribute, CollectionDef, CommandDef, Item, MenuDef, MethodDef, VariableDef,
 };

@@ -13,9 +13,9 @@ use Rattle.edd_names.specs.Directory.{unit_of}
 use Rattle.edd_names.specs.Meanings.{Means, NoFault, FirstFault}
 use Rattle.edd_names.specs.ResolvedParts.{resolved_arm}
 use Rattle.edd_names.proofs.BranchSteps.{conds_split, arms_split, conds_joined, arms_joined, no_conds, no_arms, one_cond, value_none, value_fault, value_means, if_none, if_fault, if_fault_first, if_fault_otherwise, if_means, select_none, select_fault, select_fault_arms, select_means, case_none, case_fault, case_means, default_none, default_fault, default_means}
-use Rattle.edd_names.proofs.CondSpends.{cond_depth, arm_depth, conds_depth, arms_depth, first_falls, otherwise_falls, arms_fall, case_falls, default_falls, element_falls, arm_falls}
+use Rattle.edd_name_rules.proofs.CondSpends.{cond_depth, arm_depth, conds_depth, arms_depth, first_falls, otherwise_falls, arms_fall, case_falls, default_falls, element_falls, arm_falls}
 use Rattle.edd_names.proofs.Copying.{at_start, one_more, stops, none_at_end, meant_at_end}
-use Rattle.edd_names.proofs.Passing.{passed}
+use Rattle.edd_name_rules.proofs.Passing.{passed}
 use Rattle.edd_names.proofs.UseLaws.{no_use}
 use Rattle.edd_names.proofs.branches.+branches.Goals as goal
 

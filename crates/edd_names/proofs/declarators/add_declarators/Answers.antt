@@ -7,7 +7,7 @@ use Rattle.edd_names.specs.Directory.{unit_of}
 use Rattle.edd_names.specs.Meanings.{scope_of}
 use Rattle.edd_names.proofs.CopyingIn.{at_start, one_more, stops, none_at_end, meant_at_end}
 use Rattle.edd_names.proofs.DeclaratorSteps.{behind, uses_here, uses_from, uses_split, meant_here, meant_from, declarators_joined, declared_more}
-use Rattle.edd_names.proofs.Passing.{passed}
+use Rattle.edd_name_rules.proofs.Passing.{passed}
 use Rattle.edd_names.proofs.UseLaws.{no_use}
 use Rattle.edd_names.proofs.declarators.add_declarators.Goals as goal
 

@@ -11,7 +11,7 @@ use Rattle.edd_names.specs.ResolvedParts.{resolved_argument}
 use Rattle.edd_names.proofs.Copying.{at_start, one_more, stops, none_at_end, meant_at_end}
 use Rattle.edd_names.proofs.ExprSteps.{argument_uses_split, arguments_joined, no_arguments, call_none, call_fault, call_means}
 use Rattle.edd_names.proofs.UseLaws.{no_use}
-use Rattle.edd_names.proofs.Passing.{passed}
+use Rattle.edd_name_rules.proofs.Passing.{passed}
 use Rattle.edd_names.proofs.exprs.+exprs.Goals as goal
 
 pub add_arguments-loop-argument-init : goal.add_arguments-loop-argument-init
@@ -35,15 +35,15 @@ pub add_arguments-returns-clause-ok : goal.add_arguments-returns-clause-ok
 add_arguments-returns-clause-ok t c =
     meant_at_end (unit_of c.args.names.now) (argument_of path_of) (argument_of (λ r. r)) (λ xs. argument_uses (scope_of c.args.scope.now) (arguments_from xs)) (argument_uses_split (scope_of c.args.scope.now)) (resolved_argument (meaning (unit_of c.args.names.now) (scope_of c.args.scope.now) variable_kinds)) (λ xs. resolved_arguments (meaning (unit_of c.args.names.now) (scope_of c.args.scope.now) variable_kinds) (arguments_from xs)) arguments_from (arguments_joined (meaning (unit_of c.args.names.now) (scope_of c.args.scope.now) variable_kinds)) (no_arguments (meaning (unit_of c.args.names.now) (scope_of c.args.scope.now) variable_kinds)) c.loop-argument.argument-index c.args.arguments.now c.loop-argument.all.items (drop_of_length-le c.args.arguments.now (omega arith)) c.loop-argument.invariant
 
-pub copy_expr-returns-in_err-arguments-in-Call-clause-err : goal.copy_expr-returns-in_err-arguments-in-Call-clause-err
-copy_expr-returns-in_err-arguments-in-Call-clause-err t c =
-    passed c.from_residual-in_err-arguments-in-Call.result c.in_err-arguments-in-Call.field-0.0 _ c.from_residual-in_err-arguments-in-Call.ensures.1
-    (call_fault (unit_of c.args.names.now) c.args.e.now _ _ _ c.deref-in-Call.result.now c.in-Call.is c.deref-in-Call.ensures.value (scope_of c.args.scope.now) c.in_err-arguments-in-Call.field-0.0 c.in_ok-function-in-Call.ensures.none c.in_err-arguments-in-Call.ensures.err)
+pub copy_expr-returns-in_err-function-in-Call-clause-err : goal.copy_expr-returns-in_err-function-in-Call-clause-err
+copy_expr-returns-in_err-function-in-Call-clause-err t c =
+    passed c.from_residual-in_err-function-in-Call.result c.in_err-function-in-Call.field-0.0 _ c.from_residual-in_err-function-in-Call.ensures.1
+    (call_fault (unit_of c.args.names.now) c.args.e.now _ _ _ c.deref-in-Call.result.now c.in-Call.is c.deref-in-Call.ensures.value (scope_of c.args.scope.now) c.in_err-function-in-Call.field-0.0 c.in_err-function-in-Call.ensures.err)
 
-pub copy_expr-returns-in_ok-arguments-in-Call-clause-none : goal.copy_expr-returns-in_ok-arguments-in-Call-clause-none
-copy_expr-returns-in_ok-arguments-in-Call-clause-none t c =
-    call_none (unit_of c.args.names.now) c.args.e.now _ _ _ c.deref-in-Call.result.now c.in-Call.is c.deref-in-Call.ensures.value (scope_of c.args.scope.now) c.in_ok-function-in-Call.ensures.none c.in_ok-arguments-in-Call.ensures.none
+pub copy_expr-returns-in_ok-function-in-Call-clause-none : goal.copy_expr-returns-in_ok-function-in-Call-clause-none
+copy_expr-returns-in_ok-function-in-Call-clause-none t c =
+    call_none (unit_of c.args.names.now) c.args.e.now _ _ _ c.deref-in-Call.result.now c.in-Call.is c.deref-in-Call.ensures.value (scope_of c.args.scope.now) c.in_ok-function-in-Call.ensures.none
 
-pub copy_expr-returns-in_ok-arguments-in-Call-clause-ok : goal.copy_expr-returns-in_ok-arguments-in-Call-clause-ok
-copy_expr-returns-in_ok-arguments-in-Call-clause-ok t c =
-    call_means (unit_of c.args.names.now) c.args.e.now _ _ _ c.deref-in-Call.result.now c.in-Call.is c.deref-in-Call.ensures.value (meaning (unit_of c.args.names.now) (scope_of c.args.scope.now) variable_kinds) c.in_ok-function-in-Call.function c.in_ok-arguments-in-Call.arguments c.in_ok-function-in-Call.ensures.ok c.in_ok-arguments-in-Call.ensures.ok
+pub copy_expr-returns-in_ok-function-in-Call-clause-ok : goal.copy_expr-returns-in_ok-function-in-Call-clause-ok
+copy_expr-returns-in_ok-function-in-Call-clause-ok t c =
+    call_means (unit_of c.args.names.now) c.args.e.now _ _ _ c.deref-in-Call.result.now c.in-Call.is c.deref-in-Call.ensures.value (meaning (unit_of c.args.names.now) (scope_of c.args.scope.now) variable_kinds) c.in_ok-function-in-Call.function c.in_ok-function-in-Call.arguments c.in_ok-function-in-Call.ensures.function c.in_ok-function-in-Call.ensures.arguments

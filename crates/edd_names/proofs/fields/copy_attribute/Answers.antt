@@ -7,7 +7,7 @@ use Rattle.edd_syntax.specs.ResolvedTrees.{◌>>=◌, resolved_attribute}
 use Rattle.edd_syntax.specs.TreeView.{path_of}
 use Rattle.edd_names.specs.Directory.{unit_of}
 use Rattle.edd_names.specs.Meanings.{Means, FirstFault}
-use Rattle.edd_names.proofs.Passing.{passed}
+use Rattle.edd_name_rules.proofs.Passing.{passed}
 use Rattle.edd_names.proofs.fields.copy_attribute.Goals as goal
 
 pub returns-in_err-copy_members_of-in-Members-clause-err : goal.returns-in_err-copy_members_of-in-Members-clause-err

@@ -6,7 +6,7 @@ use Rattle.edd_syntax.specs.Numbers.{kind_of}
 use Rattle.edd_syntax.specs.Resolution.{along}
 use Rattle.edd_names.specs.Directory.{unit_of}
 use Rattle.edd_names.specs.Paths.{Reaches}
-use Rattle.edd_names.proofs.Passing.{passed, weaker_err}
+use Rattle.edd_name_rules.proofs.Passing.{passed, weaker_err}
 use Rattle.edd_names.proofs.PathLaws.{never_known, at_member, at_none, at_some}
 use Rattle.edd_names.proofs.follow.follow.Goals as goal
 

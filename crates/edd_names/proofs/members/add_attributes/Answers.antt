@@ -8,7 +8,7 @@ use Rattle.edd_syntax.specs.Resolution.{members_in}
 use Rattle.edd_syntax.specs.TreeView.{path_of}
 use Rattle.edd_names.specs.Members.{member_named}
 use Rattle.edd_names.proofs.Gathering.{gathered_more, or_none}
-use Rattle.edd_names.proofs.Noting.{take_all}
+use Rattle.edd_name_rules.proofs.Noting.{take_all}
 use Rattle.edd_names.proofs.members.add_attributes.Goals as goal
 
 pub loop-attribute-init : goal.loop-attribute-init

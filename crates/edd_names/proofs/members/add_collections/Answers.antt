@@ -7,7 +7,7 @@ use Rattle.edd_syntax.specs.Numbers.{same_kind}
 use Rattle.edd_syntax.specs.TreeView.{path_of}
 use Rattle.edd_names.specs.Members.{AreCollections}
 use Rattle.edd_names.proofs.Gathering.{filtered_more}
-use Rattle.edd_names.proofs.Noting.{take_all}
+use Rattle.edd_name_rules.proofs.Noting.{take_all}
 use Rattle.edd_names.proofs.members.add_collections.Goals as goal
 
 pub loop-item-init : goal.loop-item-init

@@ -10,7 +10,7 @@ use Rattle.edd_names.specs.Members.{member_named}
 use Rattle.edd_names.specs.Numbering.{at}
 use Rattle.edd_names.proofs.Gathering.{gathered_more, mapped_if, or_none}
 use Rattle.edd_names.proofs.MapLaws.{mapped_or}
-use Rattle.edd_names.proofs.Noting.{take_all}
+use Rattle.edd_name_rules.proofs.Noting.{take_all}
 use Rattle.edd_names.proofs.members.add_members.Goals as goal
 
 map_same : {X : Type 0} (xs : List X) → map (λ m. m) xs ≡ xs

@@ -9,8 +9,8 @@ use Rattle.edd_names.specs.ResolvedParts.{member_uses}
 use Rattle.edd_names.specs.Meanings.{NoFault, FirstFault}
 use Rattle.edd_names.proofs.Copying.{at_start, one_more, stops, none_at_end, meant_at_end}
 use Rattle.edd_names.proofs.ExprSteps.{each_joined}
-use Rattle.edd_names.proofs.FirstLaws.{flat_split, flat_one}
-use Rattle.edd_names.proofs.Passing.{passed}
+use Rattle.edd_name_rules.proofs.FirstLaws.{flat_split, flat_one}
+use Rattle.edd_name_rules.proofs.Passing.{passed}
 use Rattle.edd_names.proofs.UseLaws.{no_use}
 use Rattle.edd_names.proofs.parts.add_members.Goals as goal
 

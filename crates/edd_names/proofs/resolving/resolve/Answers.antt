@@ -5,19 +5,19 @@ use Rattle.edd_syntax.specs.ItemView.{identification_of, named_items, numbered_i
 use Rattle.edd_syntax.specs.Refusal.{first_of}
 use Rattle.edd_syntax.specs.Resolved.{description}
 use Rattle.edd_syntax.specs.ResolvedTrees.{resolved_unit}
-use Rattle.edd_names.specs.Faults.{IsFirst}
+use Rattle.edd_names.specs.Faults.{IsFirst, of_rule}
 use Rattle.edd_names.specs.Units.{unit_view}
-use Rattle.edd_names.specs.Walks.{described}
-use Rattle.edd_names.proofs.Noting.{memory_refused}
-use Rattle.edd_names.proofs.Passing.{passed}
-use Rattle.edd_names.proofs.ResolvingLaws.{fault_before, rules_before, same_unit}
+use Rattle.edd_name_rules.specs.Walks.{described}
+use Rattle.edd_names.proofs.UseLaws.{memory_refused}
+use Rattle.edd_name_rules.proofs.Passing.{passed}
+use Rattle.edd_names.proofs.ResolvingLaws.{fault_before, rule_first, rules_before, same_unit}
 use Rattle.edd_names.proofs.resolving.resolve.Goals as goal
 
 pub returns-in_err-check_rules-clause-err : goal.returns-in_err-check_rules-clause-err
 returns-in_err-check_rules-clause-err c =
-    passed c.from_residual.result c.in_err-check_rules.field-0.0 _ c.from_residual.ensures.1
-    (fault_before (unit_view c.args.unit.now) c.in_err-check_rules.field-0.0
-    (subst (λ xs. IsFirst c.in_err-check_rules.field-0.0 (rules_before (described (named_items xs)))) c.deref.ensures.value c.in_err-check_rules.ensures.err))
+    passed c.from_residual.result (of_rule c.in_err-check_rules.field-0.0) _ c.from_residual.ensures.1
+    (fault_before (unit_view c.args.unit.now) (of_rule c.in_err-check_rules.field-0.0)
+    (subst (λ xs. IsFirst (of_rule c.in_err-check_rules.field-0.0) (rules_before (described (named_items xs)))) c.deref.ensures.value (rule_first _ _ c.in_err-check_rules.ensures.err)))
 
 pub returns-in_err-names-clause-err : goal.returns-in_err-names-clause-err
 returns-in_err-names-clause-err c =

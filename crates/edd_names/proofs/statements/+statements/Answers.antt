@@ -6,7 +6,7 @@ use Rattle.edd_names.specs.Directory.{unit_of}
 use Rattle.edd_names.specs.Meanings.{scope_of}
 use Rattle.edd_names.specs.ResolvedParts.{scope_behind}
 use Rattle.edd_names.proofs.CopyingIn.{one_more, stops, none_at_end, meant_at_end}
-use Rattle.edd_names.proofs.Passing.{passed}
+use Rattle.edd_name_rules.proofs.Passing.{passed}
 use Rattle.edd_names.proofs.StatementSteps.{behind, uses_here, uses_from, uses_split, meant_here, meant_from, parts_joined, no_parts, no_slots, slots_next, slots_more, block_slots, block_none, block_fault, block_means, switch_slots, switch_none, switch_fault, switch_means, block_falls, switch_falls, part_falls}
 use Rattle.edd_names.proofs.UseLaws.{no_use}
 use Rattle.edd_names.proofs.statements.+statements.Goals as goal

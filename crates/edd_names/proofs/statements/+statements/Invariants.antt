@@ -24,3 +24,9 @@ decreases-add_parts l = parts_depth l.parts.now + 2
 
 abbrev pub decreases-copy_part : goal.decreases-copy_part
 decreases-copy_part l = part_depth l.part.now + 1
+
+abbrev pub decreases-copy_boxed : goal.decreases-copy_boxed
+decreases-copy_boxed l = stmt_depth l.s.now + 1
+
+abbrev pub decreases-copy_guarded : goal.decreases-copy_guarded
+decreases-copy_guarded l = stmt_depth l.body.now + 2

@@ -9,12 +9,12 @@ use Rattle.edd_names.specs.Directory.{unit_of}
 use Rattle.edd_names.specs.Meanings.{NoFault, FirstFault}
 use Rattle.edd_names.proofs.Copying.{at_start, one_more, stops, none_at_end, meant_at_end}
 use Rattle.edd_names.proofs.ExprSteps.{each_joined}
-use Rattle.edd_names.proofs.FirstLaws.{flat_split, flat_one}
-use Rattle.edd_names.proofs.Passing.{passed}
+use Rattle.edd_name_rules.proofs.FirstLaws.{flat_split, flat_one}
+use Rattle.edd_name_rules.proofs.Passing.{passed}
 use Rattle.edd_names.proofs.UseLaws.{no_use}
 use Rattle.std.specs.Prelude.{nat_lt}
 use Rattle.edd_syntax.specs.NameRules.{local_limit, locals_of}
-use Rattle.edd_names.proofs.SlotLaws.{none_of_any}
+use Rattle.edd_name_rules.proofs.SlotLaws.{none_of_any}
 use Rattle.edd_names.proofs.unit_items.add_items.Goals as goal
 
 pub loop-item-init : goal.loop-item-init

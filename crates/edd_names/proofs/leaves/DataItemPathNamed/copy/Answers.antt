@@ -4,7 +4,7 @@ use Rattle.edd_syntax.specs.NameUses.{data_uses}
 use Rattle.edd_syntax.specs.TreeView.{path_of}
 use Rattle.edd_names.specs.Directory.{unit_of}
 use Rattle.edd_names.specs.Meanings.{FirstFault}
-use Rattle.edd_names.proofs.Passing.{passed}
+use Rattle.edd_name_rules.proofs.Passing.{passed}
 use Rattle.edd_names.proofs.leaves.DataItemPathNamed.copy.Goals as goal
 
 pub returns-in_err-refer_variable-in-Variable-clause-err : goal.returns-in_err-refer_variable-in-Variable-clause-err

@@ -1,0 +1,14 @@
+pub mod CondSpends
+pub mod Counting
+pub mod FirstLaws
+pub mod Missing
+pub mod Noting
+pub mod Passing
+pub mod RepeatedWords
+pub mod Repeating
+pub mod RuleLaws
+pub mod ScopeSteps
+pub mod SeenBefore
+pub mod SlotLaws
+pub mod Spends
+pub mod ValueNodes

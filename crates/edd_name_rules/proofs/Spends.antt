@@ -1,0 +1,114 @@
+-- Laws of spending nodes.
+use Rattle.std.proofs.Common.{◌≡◌, sym, ap, ◌∙◌, ℕ, ◌+◌, ◌<◌, ◌≤◌, List, [], ◌∷◌, length, get_or, drop, map, arith}
+use Rattle.std.proofs.lemmas.List.{at_drop_more}
+use Rattle.std.proofs.lemmas.Bool.Decides.{nat_tests}
+use Rattle.std.specs.Prelude.{Option, Some, None, Vec, is_none, nat_lt}
+use Rattle.std.specs.declared.alloc.Global.{Global}
+use Rattle.edd_syntax.specs.declared.expr.Expr.{Expr}
+use Rattle.edd_syntax.specs.declared.expr.Expr.TheVariants as e
+use Rattle.edd_syntax.specs.declared.expr.Argument.{Argument}
+use Rattle.edd_syntax.specs.declared.stmt.Stmt.{Stmt}
+use Rattle.edd_syntax.specs.declared.stmt.Stmt.TheVariants as s
+use Rattle.edd_syntax.specs.declared.stmt.Part.{Part}
+use Rattle.edd_syntax.specs.TreeView.{expr_of, argument_of, stmt_of, part_of}
+use Rattle.edd_syntax.proofs.TreeRows.{call_is, block_is, switch_is}
+use Rattle.edd_syntax.specs.Expression as pure
+use Rattle.edd_syntax.specs.Expression.{arguments_from}
+use Rattle.edd_syntax.specs.Statement as statement
+use Rattle.edd_syntax.specs.Statement.{body_from}
+use Rattle.edd_syntax.specs.Size.{nodes, argument_nodes, declarator_nodes, statement_nodes, body_nodes}
+use Rattle.edd_name_rules.specs.Spending.{spent}
+
+pub nodes_pos : {R : Type 0} (x : pure.Expr R) → 1 ≤ nodes x
+nodes_pos (pure.Literal value) = omega arith
+nodes_pos pure.Decimal = omega arith
+nodes_pos (pure.Reference from) = omega arith
+nodes_pos (pure.Parentheses inner) = omega arith
+nodes_pos (pure.Unary op operand) = omega arith
+nodes_pos (pure.Binary op left right) = omega arith
+nodes_pos (pure.Compare by left right) = omega arith
+nodes_pos (pure.LogicalAnd left right) = omega arith
+nodes_pos (pure.LogicalOr left right) = omega arith
+nodes_pos (pure.Conditional test first second) = omega arith
+nodes_pos (pure.Assign to value) = omega arith
+nodes_pos (pure.CompoundAssign op to value) = omega arith
+nodes_pos (pure.Increment by to) = omega arith
+nodes_pos (pure.Call function arguments) = omega arith
+
+pub statement_nodes_pos : {R : Type 0} (x : statement.Stmt R) → 1 ≤ statement_nodes x
+statement_nodes_pos statement.Empty = omega arith
+statement_nodes_pos (statement.Evaluate e) = omega arith
+statement_nodes_pos (statement.Block body) = omega arith
+statement_nodes_pos (statement.If condition first) = omega arith
+statement_nodes_pos (statement.IfElse condition first otherwise) = omega arith
+statement_nodes_pos (statement.While condition body) = omega arith
+statement_nodes_pos (statement.Do body condition) = omega arith
+statement_nodes_pos (statement.For initial condition update body) = omega arith
+statement_nodes_pos (statement.Switch on body) = omega arith
+statement_nodes_pos statement.Break = omega arith
+statement_nodes_pos statement.Continue = omega arith
+statement_nodes_pos statement.Return = omega arith
+
+-- ---- spending
+
+pub spent_none : (left n : ℕ) → left < n → None ≡ spent left n
+spent_none left n h = grind (arith, nat_tests)
+
+-- spending twice is spending the sum
+pub spent_then : (left rest a b : ℕ) → Some rest ≡ spent left a → spent rest b ≡ spent left (a + b)
+spent_then left rest a b h = grind (arith, nat_tests)
+
+pub spent_then_none : (left a b : ℕ) → None ≡ spent left a → None ≡ spent left (a + b)
+spent_then_none left a b h = grind (arith, nat_tests)
+
+pub ruleset spends = (spent_then, spent_then_none)
+
+-- ---- a loop over a slice, where the nodes of a list are those of its first element and those of the others
+
+module _ {X Y : Type 0} (size : List Y → ℕ) (view : X → Y) (splits : (y : Y) (ys : List Y) → size (y ∷ ys) ≡ size (y ∷ []) + size ys) where
+  -- what is left after the elements from the i-th on
+  abbrev pub spent_from : (left : ℕ) → ℕ → List X → Option ℕ
+  spent_from left i xs = spent left (size (map view (drop i xs)))
+
+  next_size : (left i : ℕ) (xs : List X) (x : X) → i < length xs → x ≡ get_or xs i x → spent_from left i xs ≡ spent left (size (view x ∷ []) + size (map view (drop (i + 1) xs)))
+  next_size left i xs x h is =
+      at_drop_more (λ ys. spent left (size (map view ys))) xs i x h ∙ ap (spent left) (splits _ _) ∙ ap (λ y. spent left (size (view y ∷ []) + size (map view (drop (i + 1) xs)))) (sym is)
+
+  -- behind an element for which the nodes were enough
+  pub goes_on : (left rest i : ℕ) (xs : List X) (x : X) (all : Option ℕ) → i < length xs → x ≡ get_or xs i x → Some rest ≡ spent left (size (view x ∷ [])) → spent_from left i xs ≡ all → spent_from rest (i + 1) xs ≡ all
+  goes_on left rest i xs x all h is enough invariant = spent_then left rest _ _ enough ∙ sym (next_size left i xs x h is) ∙ invariant
+
+  -- at an element for which they were not
+  pub stops_at : (left i : ℕ) (xs : List X) (x : X) (all : Option ℕ) → i < length xs → x ≡ get_or xs i x → None ≡ spent left (size (view x ∷ [])) → spent_from left i xs ≡ all → None ≡ all
+  stops_at left i xs x all h is none invariant = spent_then_none left _ _ none ∙ sym (next_size left i xs x h is) ∙ invariant
+
+pub argument_nodes_split : {R : Type 0} (x : pure.Argument R) (xs : List (pure.Argument R)) → argument_nodes (arguments_from (x ∷ xs)) ≡ argument_nodes (arguments_from (x ∷ [])) + argument_nodes (arguments_from xs)
+argument_nodes_split (pure.Text text) xs = omega arith
+argument_nodes_split (pure.Value e) xs = omega arith
+
+pub body_nodes_split : {R : Type 0} (x : statement.Part R) (xs : List (statement.Part R)) → body_nodes (body_from (x ∷ xs)) ≡ body_nodes (body_from (x ∷ [])) + body_nodes (body_from xs)
+body_nodes_split (statement.Declare declarators) xs = omega arith
+body_nodes_split (statement.Statement s) xs = omega arith
+body_nodes_split (statement.CaseLabel label) xs = omega arith
+body_nodes_split statement.DefaultLabel xs = omega arith
+
+pub declarator_nodes_split : {R : Type 0} (d : statement.Declarator R) (ds : List (statement.Declarator R)) → declarator_nodes (d ∷ ds) ≡ declarator_nodes (d ∷ []) + declarator_nodes ds
+declarator_nodes_split d ds = omega arith
+
+-- ---- trees whose children a vector holds
+
+pub spent_call : {R S : Type 0} (f : R → S) (x : Expr R) (line : ℕ) (function : R) (v : Vec (Argument R) Global) (items : List (Argument R)) (budget left : ℕ) (r : Option ℕ) → x ≡ e.Call line function v → items ≡ v.items → Some left ≡ spent budget 1 → r ≡ spent left (argument_nodes (arguments_from (map (argument_of f) items))) → r ≡ spent budget (nodes (expr_of f x))
+spent_call f x line function v items budget left r is same first last =
+    last ∙ ap (λ xs. spent left (argument_nodes (arguments_from (map (argument_of f) xs)))) same ∙ spent_then budget left 1 _ first ∙ ap (λ y. spent budget (nodes y)) (sym (call_is f x line function v is))
+
+pub spent_block : {R S : Type 0} (f : R → S) (x : Stmt R) (v : Vec (Part R) Global) (items : List (Part R)) (budget left : ℕ) (r : Option ℕ) → x ≡ s.Block v → items ≡ v.items → Some left ≡ spent budget 1 → r ≡ spent left (body_nodes (body_from (map (part_of f) items))) → r ≡ spent budget (statement_nodes (stmt_of f x))
+spent_block f x v items budget left r is same first last =
+    last ∙ ap (λ xs. spent left (body_nodes (body_from (map (part_of f) xs)))) same ∙ spent_then budget left 1 _ first ∙ ap (λ y. spent budget (statement_nodes y)) (sym (block_is f x v is))
+
+pub spent_switch : {R S : Type 0} (f : R → S) (x : Stmt R) (on : Expr R) (v : Vec (Part R) Global) (items : List (Part R)) (budget left rest : ℕ) (r : Option ℕ) → x ≡ s.Switch on v → items ≡ v.items → Some left ≡ spent budget 1 → Some rest ≡ spent left (nodes (expr_of f on)) → r ≡ spent rest (body_nodes (body_from (map (part_of f) items))) → r ≡ spent budget (statement_nodes (stmt_of f x))
+spent_switch f x on v items budget left rest r is same first second last =
+    last ∙ ap (λ xs. spent rest (body_nodes (body_from (map (part_of f) xs)))) same ∙ spent_then left rest _ _ second ∙ spent_then budget left 1 _ first ∙ ap (λ y. spent budget (statement_nodes y)) (sym (switch_is f x on v is))
+
+-- the things are too many exactly if the limit is not enough for them
+pub over_limit : (r : Option ℕ) (limit n : ℕ) → r ≡ spent limit n → is_none r ≡ nat_lt limit n
+over_limit r limit n h = rw h (grind (arith, nat_tests))

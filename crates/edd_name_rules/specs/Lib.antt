@@ -1,0 +1,5 @@
+pub mod Faults
+pub mod Scopes
+pub mod Seen
+pub mod Spending
+pub mod Walks

@@ -1,0 +1,107 @@
+//! Missing attributes.
+
+ghost use Rattle.std.specs.Prelude.{◌≡◌, [], ◌∷◌, map, option_map};
+ghost use Rattle.edd_syntax.specs.declared.numbers.Kind.TheVariants.{Command};
+ghost use Rattle.edd_syntax.specs.ItemView.{item_of, attribute_of};
+ghost use Rattle.edd_syntax.specs.NameRules.{attribute_word, required_words};
+ghost use Rattle.edd_syntax.specs.Refusal.{first_of, is_name_in};
+ghost use Rattle.edd_syntax.specs.TreeView.{path_of};
+ghost use Rattle.edd_name_rules.specs.Walks.{missing_in, missing_among, refusal_of_missing};
+
+use edd_syntax::item::{Attribute, Item};
+use edd_syntax::reference::Path;
+
+/// An item without an attribute that its kind needs.
+#[derive(Clone, Copy)]
+pub struct Missing<'a> {
+    pub item: &'a str,
+    pub word: &'static str,
+}
+
+/// The word of an attribute.
+pub fn word_of(attribute: &Attribute<Path>) -> &'static str
+    ensures { result.now ≡ attribute_word (attribute_of path_of attribute.now) }
+{
+    match attribute {
+        Attribute::Label(_) => "LABEL",
+        Attribute::Help(_) => "HELP",
+        Attribute::Class(_) => "CLASS",
+        Attribute::Handling(_) => "HANDLING",
+        Attribute::ConstantUnit(_) => "CONSTANT_UNIT",
+        Attribute::Validity(_) => "VALIDITY",
+        Attribute::TypeOf { .. } => "TYPE",
+        Attribute::Number(_) => "NUMBER",
+        Attribute::Operation(_) => "OPERATION",
+        Attribute::Transaction { .. } => "TRANSACTION",
+        Attribute::ResponseCodes(_) => "RESPONSE_CODES",
+        Attribute::Items(_) => "ITEMS",
+        Attribute::Members(_) => "MEMBERS",
+        Attribute::Definition(_) => "DEFINITION",
+    }
+}
+
+/// Whether an attribute of this word stands there.
+pub fn has_word(attributes: &[Attribute<Path>], word: &str) -> bool
+    ensures { result ≡ is_name_in (map attribute_word (map (attribute_of path_of) attributes.now)) word.now }
+{
+    for attribute in attributes {
+        if word_of(attribute) == word {
+            return true;
+        }
+    }
+    false
+}
+
+#[tactic(auto, using(crate::proofs::Missing::missing))]
+fn missing_in_item(item: &Item<Path>) -> Option<Missing>
+    ensures { option_map refusal_of_missing result ≡ first_of (missing_in (item_of path_of item.now ∷ [])) }
+{
+    match item {
+        Item::Variable(d) => missing_word(&d.name, &d.attributes, "TYPE"),
+        Item::Command(d) => missing_of_command(&d.name, &d.attributes),
+        Item::Menu(d) => missing_word(&d.name, &d.attributes, "ITEMS"),
+        Item::Collection(d) => missing_word(&d.name, &d.attributes, "MEMBERS"),
+        Item::Method(d) => missing_word(&d.name, &d.attributes, "DEFINITION"),
+    }
+}
+
+#[tactic(auto, using(crate::proofs::Missing::missing))]
+fn missing_of_command<'a>(name: &'a str, attributes: &[Attribute<Path>]) -> Option<Missing<'a>>
+    ensures { option_map refusal_of_missing result
+        ≡ first_of (missing_among name.now (map (attribute_of path_of) attributes.now) (required_words Command)) }
+{
+    if let Some(missing) = missing_word(name, attributes, "NUMBER") {
+        return Some(missing);
+    }
+    if let Some(missing) = missing_word(name, attributes, "OPERATION") {
+        return Some(missing);
+    }
+    missing_word(name, attributes, "TRANSACTION")
+}
+
+fn missing_word<'a>(
+    item: &'a str,
+    attributes: &[Attribute<Path>],
+    word: &'static str,
+) -> Option<Missing<'a>>
+    ensures { option_map refusal_of_missing result
+        ≡ first_of (missing_among item.now (map (attribute_of path_of) attributes.now) (word.now ∷ [])) }
+{
+    if has_word(attributes, word) {
+        None
+    } else {
+        Some(Missing { item, word })
+    }
+}
+
+/// The first item without an attribute that its kind needs.
+pub fn missing_attribute(items: &[Item<Path>]) -> Option<Missing>
+    ensures { option_map refusal_of_missing result ≡ first_of (missing_in (map (item_of path_of) items.now)) }
+{
+    for item in items {
+        if let Some(missing) = missing_in_item(item) {
+            return Some(missing);
+        }
+    }
+    None
+}

@@ -1,0 +1,81 @@
+//! How many items of a kind, and how many transactions, may still come.
+
+ghost use Rattle.std.specs.Prelude.{◌≡◌, [], ◌∷◌, map, nat_lt};
+ghost use Rattle.std.specs.List.{list_any};
+ghost use Rattle.edd_syntax.specs.ItemView.{item_of, attribute_of};
+ghost use Rattle.edd_syntax.specs.NameRules.{item_limit, kinds};
+ghost use Rattle.edd_syntax.specs.Numbers.{same_kind};
+ghost use Rattle.edd_syntax.specs.Resolution.{count_of};
+ghost use Rattle.edd_syntax.specs.TreeView.{path_of};
+ghost use Rattle.edd_name_rules.specs.Spending.{spent, transactions_in};
+
+use crate::items::kind_of;
+use edd_syntax::item::{Attribute, Item};
+use edd_syntax::numbers::Kind;
+use edd_syntax::reference::Path;
+
+/// What is left of a number of items of a kind after these, if they are enough.
+pub fn spend_items(items: &[Item<Path>], kind: Kind, budget: u32) -> Option<u32>
+    ensures { result ≡ spent budget (count_of kind (map (item_of path_of) items.now)) }
+{
+    let mut left = budget;
+    for item in items {
+        left = spend_item(item, kind, left)?;
+    }
+    Some(left)
+}
+
+#[tactic(auto, using(crate::proofs::Counting::one_item))]
+fn spend_item(item: &Item<Path>, kind: Kind, budget: u32) -> Option<u32>
+    ensures { result ≡ spent budget (count_of kind (item_of path_of item.now ∷ [])) }
+{
+    if is_same(kind_of(item), kind) {
+        budget.checked_sub(1)
+    } else {
+        Some(budget)
+    }
+}
+
+fn is_same(a: Kind, b: Kind) -> bool
+    ensures { result ≡ same_kind a b }
+{
+    a as u8 == b as u8
+}
+
+/// What is left of a number of transactions after these attributes, if they are enough.
+pub fn spend_transactions(attributes: &[Attribute<Path>], budget: u32) -> Option<u32>
+    ensures { result ≡ spent budget (transactions_in (map (attribute_of path_of) attributes.now)) }
+{
+    let mut left = budget;
+    for attribute in attributes {
+        left = spend_transaction(attribute, left)?;
+    }
+    Some(left)
+}
+
+fn spend_transaction(attribute: &Attribute<Path>, budget: u32) -> Option<u32>
+    ensures { result ≡ spent budget (transactions_in (attribute_of path_of attribute.now ∷ [])) }
+{
+    match attribute {
+        Attribute::Transaction { .. } => budget.checked_sub(1),
+        _ => Some(budget),
+    }
+}
+
+/// Whether there are more than 4,096 items of one kind.
+pub fn has_too_many_items(items: &[Item<Path>]) -> bool
+    ensures { result ≡ list_any (λ k. nat_lt item_limit (count_of k (map (item_of path_of) items.now))) kinds }
+{
+    is_over(items, Kind::Variable)
+        || is_over(items, Kind::Command)
+        || is_over(items, Kind::Menu)
+        || is_over(items, Kind::Collection)
+        || is_over(items, Kind::Method)
+}
+
+#[tactic(auto, using(crate::proofs::Spends::over_limit))]
+fn is_over(items: &[Item<Path>], kind: Kind) -> bool
+    ensures { result ≡ nat_lt item_limit (count_of kind (map (item_of path_of) items.now)) }
+{
+    spend_items(items, kind, 4096).is_none()
+}

@@ -1,0 +1,19 @@
+//! What the items of a description must keep before their names are looked up: there are not too many of anything, no name and no
+//! attribute stands twice, and no attribute is missing.
+#![tactic(auto)]
+
+mod attributes;
+mod conds;
+mod counts;
+pub mod fault;
+pub mod items;
+mod names;
+mod nodes;
+mod repeats;
+mod rules;
+mod seen;
+mod sizes;
+mod slots;
+mod values;
+
+pub use rules::check_rules;

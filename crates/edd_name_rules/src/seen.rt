@@ -1,0 +1,80 @@
+//! Names that must differ.
+
+ghost use Rattle.std.specs.Prelude.{◌≡◌, [], ◌∷◌, ◌++◌, List, None, IfErr, OnOk, map};
+ghost use Rattle.edd_syntax.specs.ItemView.{member_of};
+ghost use Rattle.edd_syntax.specs.NameRules.{names_declared};
+ghost use Rattle.edd_syntax.specs.Refusal.{first_of, repeated};
+ghost use Rattle.edd_syntax.specs.Text.{Name};
+ghost use Rattle.edd_syntax.specs.TreeView.{path_of, declarator_of};
+ghost use Rattle.edd_name_rules.specs.Faults.{IsDuplicate};
+ghost use Rattle.edd_name_rules.specs.Seen.{HasSeen};
+
+use crate::fault::RuleFault;
+use edd_syntax::item::Member;
+use edd_syntax::reference::Path;
+use edd_syntax::stmt::Declarator;
+use std::alloc::Global;
+use std::collections::HashMap;
+
+/// Names of one scope, which must differ.
+pub type Seen<'a> = HashMap<&'a str, ()>;
+
+/// That a name stands twice, with a copy of it.
+#[tactic(auto, unfolding(crate::specs::Faults::IsFound))]
+pub fn duplicate(alloc: Global, name: &str) -> RuleFault
+    ensures { IsDuplicate result (name.now ∷ []) }
+{
+    match String::from_str(alloc, name) {
+        Ok(name) => RuleFault::DuplicateName(name),
+        Err(_) => RuleFault::NoMemory,
+    }
+}
+
+/// One more name of a scope, which must not stand there yet.
+#[tactic(auto, unfolding(crate::specs::Faults::IsFound))]
+pub fn note<'a>(seen: &mut Seen<'a>, name: &'a str, alloc: Global) -> Result<(), RuleFault>
+    ensures ok { OnOk result ((before : List Name) → HasSeen before seen.old
+        → (None ≡ first_of (repeated before (name.now ∷ []))) × HasSeen (name.now ∷ before) seen.new) }
+    ensures err { IfErr result (λ f. (before : List Name) → HasSeen before seen.old → IsDuplicate f (repeated before (name.now ∷ []))) }
+{
+    match seen.insert(name, ())? {
+        None => Ok(()),
+        Some(_) => Err(duplicate(alloc, name)),
+    }
+}
+
+/// The names of declarators.
+pub fn note_declarators<'a>(
+    seen: &mut Seen<'a>,
+    declarators: &'a [Declarator<Path>],
+    alloc: Global,
+) -> Result<(), RuleFault>
+    ensures ok { OnOk result ((before : List Name) → HasSeen before seen.old
+        → (None ≡ first_of (repeated before (names_declared (map (declarator_of path_of) declarators.now))))
+        × HasSeen (names_declared (map (declarator_of path_of) declarators.now) ++ before) seen.new) }
+    ensures err { IfErr result (λ f. (before : List Name) → HasSeen before seen.old
+        → IsDuplicate f (repeated before (names_declared (map (declarator_of path_of) declarators.now)))) }
+{
+    for declarator in declarators {
+        note(seen, &declarator.place.base, alloc)?;
+    }
+    Ok(())
+}
+
+/// The names of members.
+pub fn note_members<'a>(
+    seen: &mut Seen<'a>,
+    members: &'a [Member<Path>],
+    alloc: Global,
+) -> Result<(), RuleFault>
+    ensures ok { OnOk result ((before : List Name) → HasSeen before seen.old
+        → (None ≡ first_of (repeated before (map (λ m. m.name) (map (member_of path_of) members.now))))
+        × HasSeen (map (λ m. m.name) (map (member_of path_of) members.now) ++ before) seen.new) }
+    ensures err { IfErr result (λ f. (before : List Name) → HasSeen before seen.old
+        → IsDuplicate f (repeated before (map (λ m. m.name) (map (member_of path_of) members.now)))) }
+{
+    for member in members {
+        note(seen, &member.name, alloc)?;
+    }
+    Ok(())
+}

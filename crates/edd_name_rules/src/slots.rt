@@ -1,0 +1,131 @@
+//! The locals of a method, taken from a number of locals that it may have.
+
+ghost use Rattle.std.specs.Prelude.{◌≡◌, [], ◌∷◌, map, nat_lt};
+ghost use Rattle.std.specs.List.{list_any};
+ghost use Rattle.edd_syntax.specs.ItemView.{item_of, attribute_of};
+ghost use Rattle.edd_syntax.specs.NameRules.{local_limit, transaction_limit, transaction_count, locals_of};
+ghost use Rattle.edd_syntax.specs.Statement.{slots_of, slots_in, body_from};
+ghost use Rattle.edd_syntax.specs.TreeView.{path_of, stmt_of, part_of};
+ghost use Rattle.edd_name_rules.specs.Spending.{spent, locals_in};
+
+use crate::counts::spend_transactions;
+use crate::items::attributes_of;
+use edd_syntax::item::{Attribute, Item};
+use edd_syntax::reference::Path;
+use edd_syntax::stmt::{Part, Stmt};
+
+/// What is left of a number of locals after those of a statement, if they are enough.
+#[cycle(slots)]
+#[tactic(auto, using(crate::proofs::Spends::spends), unfolding(edd_syntax::specs::Statement::slots_of))]
+pub fn spend_slots(s: &Stmt<Path>, left: u32) -> Option<u32>
+    ensures { result ≡ spent left (slots_of (stmt_of path_of s.now)) }
+{
+    match s {
+        Stmt::Empty
+        | Stmt::Evaluate(_)
+        | Stmt::Break { .. }
+        | Stmt::Continue { .. }
+        | Stmt::Return => Some(left),
+        Stmt::Block(parts) => spend_slots_in(parts, left),
+        Stmt::If(_, first) => spend_slots(first, left),
+        Stmt::IfElse(_, first, otherwise) => spend_slots(otherwise, spend_slots(first, left)?),
+        Stmt::While(_, body) => spend_slots(body, left),
+        Stmt::Do(body, _) => spend_slots(body, left),
+        Stmt::For { body, .. } => spend_slots(body, left),
+        Stmt::Switch(_, parts) => spend_slots_in(parts, left),
+    }
+}
+
+/// What is left after the locals between braces.
+#[cycle(slots)]
+#[tactic(auto, unfolding(edd_syntax::specs::Statement::slots_of))]
+pub fn spend_slots_in(parts: &[Part<Path>], budget: u32) -> Option<u32>
+    ensures { result ≡ spent budget (slots_in (body_from (map (part_of path_of) parts.now))) }
+{
+    let mut left = budget;
+    for part in parts {
+        left = spend_slots_of_part(part, left)?;
+    }
+    Some(left)
+}
+
+#[cycle(slots)]
+#[tactic(auto, using(crate::proofs::Spends::spends), unfolding(edd_syntax::specs::Statement::slots_of))]
+fn spend_slots_of_part(part: &Part<Path>, left: u32) -> Option<u32>
+    ensures { result ≡ spent left (slots_in (body_from (part_of path_of part.now ∷ []))) }
+{
+    match part {
+        Part::Declare(declarators) => spend_count(declarators.len(), left),
+        Part::Statement(s) => spend_slots(s, left),
+        Part::CaseLabel { .. } | Part::DefaultLabel { .. } => Some(left),
+    }
+}
+
+/// What is left after a number of things, if they are enough.
+pub fn spend_count(count: usize, budget: u32) -> Option<u32>
+    ensures { result ≡ spent budget count }
+{
+    if count <= budget as usize {
+        Some(budget - count as u32)
+    } else {
+        None
+    }
+}
+
+/// What is left after the locals of all definitions among these attributes.
+pub fn spend_locals(attributes: &[Attribute<Path>], budget: u32) -> Option<u32>
+    ensures { result ≡ spent budget (locals_in (map (attribute_of path_of) attributes.now)) }
+{
+    let mut left = budget;
+    for attribute in attributes {
+        left = spend_locals_of(attribute, left)?;
+    }
+    Some(left)
+}
+
+fn spend_locals_of(attribute: &Attribute<Path>, budget: u32) -> Option<u32>
+    ensures { result ≡ spent budget (locals_in (attribute_of path_of attribute.now ∷ [])) }
+{
+    match attribute {
+        Attribute::Definition(parts) => spend_slots_in(parts, budget),
+        _ => Some(budget),
+    }
+}
+
+/// Whether an item has more than 64 locals.
+pub fn has_too_many_locals(items: &[Item<Path>]) -> bool
+    ensures { result ≡ list_any (λ i. nat_lt local_limit (locals_of i)) (map (item_of path_of) items.now) }
+{
+    for item in items {
+        if are_locals_over(item) {
+            return true;
+        }
+    }
+    false
+}
+
+#[tactic(auto, using(crate::proofs::Spends::over_limit))]
+fn are_locals_over(item: &Item<Path>) -> bool
+    ensures { result ≡ nat_lt local_limit (locals_of (item_of path_of item.now)) }
+{
+    spend_locals(attributes_of(item), 64).is_none()
+}
+
+/// Whether an item has more than 4,096 transactions.
+pub fn has_too_many_transactions(items: &[Item<Path>]) -> bool
+    ensures { result ≡ list_any (λ i. nat_lt transaction_limit (transaction_count i)) (map (item_of path_of) items.now) }
+{
+    for item in items {
+        if are_transactions_over(item) {
+            return true;
+        }
+    }
+    false
+}
+
+#[tactic(auto, using(crate::proofs::Spends::over_limit))]
+fn are_transactions_over(item: &Item<Path>) -> bool
+    ensures { result ≡ nat_lt transaction_limit (transaction_count (item_of path_of item.now)) }
+{
+    spend_transactions(attributes_of(item), 4096).is_none()
+}
