@@ -14,7 +14,7 @@ use Rattle.edd_syntax.specs.declared.answer.Trap.TheVariants as trap
 use Rattle.edd_syntax.specs.Text as texts
 use Rattle.edd_syntax.specs.Text.{Quoted}
 use Rattle.edd_syntax.specs.Reference.{Target, Local, Item, Function}
-use Rattle.edd_syntax.specs.Expression.{Expr, Literal, Reference, Unary, Binary, Compare, LogicalAnd, Assign, CompoundAssign, Increment, Call, Argument, Text, Value, arguments_from}
+use Rattle.edd_syntax.specs.Expression.{Expr, Literal, Reference, Unary, Binary, Compare, LogicalAnd, LogicalOr, Conditional, Assign, CompoundAssign, Increment, Call, Argument, Text, Value, arguments_from}
 use Rattle.edd_syntax.specs.Statement.{Stmt, Empty, Evaluate, Block, If, While, Do, For, Switch, Break, Continue, Return, Part, Body, body_from, Declare, Statement, CaseLabel, DefaultLabel, slots_of, slots_in}
 use Rattle.edd_syntax.specs.TwosComplement.{wrap, store, operate, compare, apply}
 use Rattle.edd_syntax.specs.Words as strings
@@ -269,3 +269,80 @@ continue_leaves_switch : runs 4 no_variables
     ≡ quiet (sent 1 ∷ sent 3 ∷ []) [] Ended
 unfolding run_body execute turns evaluate call wrap operate compare slots_of
 continue_leaves_switch = refl
+
+-- ---- operators and functions
+
+abbrev minus : ℕ → E
+minus n = Unary unary_operator.Minus (Literal n)
+
+abbrev sends : E → Body Target
+sends e = body_from (do_ (send e) ∷ [])
+
+-- `send_command(1 || (x = 5));` leaves x as it is
+or_is_short : runs 1 int4 (sends (LogicalOr (Literal 1) (Assign (var 0) (Literal 5)))) (pos 7 ∷ []) (ok ∷ []) ≡ quiet (sent 1 ∷ []) (pos 7 ∷ []) Ended
+unfolding run_body execute evaluate call wrap slots_of
+or_is_short = refl
+
+-- `send_command(0 || 7);` sends a truth value
+or_is_a_truth : runs 1 no_variables (sends (LogicalOr (Literal 0) (Literal 7))) [] (ok ∷ []) ≡ quiet (sent 1 ∷ []) [] Ended
+unfolding run_body execute evaluate call wrap slots_of
+or_is_a_truth = refl
+
+-- `send_command(0 ? (x = 1) : 9);` evaluates one side
+one_side : runs 1 int4 (sends (Conditional (Literal 0) (Assign (var 0) (Literal 1)) (Literal 9))) (pos 7 ∷ []) (ok ∷ []) ≡ quiet (sent 9 ∷ []) (pos 7 ∷ []) Ended
+unfolding run_body execute evaluate call wrap slots_of
+one_side = refl
+
+-- `abort(); PUT_MESSAGE("n");`
+aborts_by_itself : runs 1 no_variables (body_from (eval (calls builtin.Abort []) ∷ do_ (print (codes "n")) ∷ [])) [] (ok ∷ []) ≡
+    record { requests = []; changes = []; values = []; answers = ok ∷ []; ending = Aborted }
+unfolding run_body execute evaluate call slots_of
+aborts_by_itself = refl
+
+-- `send_command(lassign(x, 300));` over an UNSIGNED_INTEGER (1): x is 44, and the value of the call 0
+assigns : runs 1 unsigned1 (sends (calls builtin.Lassign (Value (Reference (var 0)) ∷ Value (Literal 300) ∷ []))) (pos 7 ∷ []) (ok ∷ [])
+    ≡ record { requests = sent 0 ∷ []; changes = changed 0 (pos 44) ∷ []; values = pos 44 ∷ []; answers = []; ending = Ended }
+unfolding run_body execute evaluate call wrap store operate slots_of
+assigns = refl
+
+-- `send_command(ivar_value(x)); save_values();` where x is -3
+saves : runs 1 int4 (body_from (do_ (send (calls builtin.IvarValue (Value (Reference (var 0)) ∷ []))) ∷ eval (calls builtin.SaveValues []) ∷ [])) (negsuc 2 ∷ []) (ok ∷ ok ∷ [])
+    ≡ quiet (asks.SendCommand (negsuc 2) ∷ asks.SaveValues ∷ []) (negsuc 2 ∷ []) Ended
+unfolding run_body execute evaluate call wrap slots_of
+saves = refl
+
+-- `send_command(SELECT_FROM_LIST("a", "b;c"));` sends the number that was chosen
+selects : runs 1 no_variables (sends (calls builtin.SelectFromList (Text (text (codes "a")) ∷ Text (text (codes "b;c")) ∷ []))) [] (Go (pos 1) [] ∷ ok ∷ [])
+    ≡ quiet (asks.SelectFromList (says (codes "a")) (says (codes "b;c")) ∷ sent 1 ∷ []) [] Ended
+unfolding run_body execute evaluate call wrap words_of pieces unescape slots_of
+selects = refl
+
+-- x is an UNSIGNED_INTEGER (1) that holds 255, y an INTEGER (4)
+abbrev byte_and_number : Environment
+byte_and_number = record { variables = record { type = var_type.UnsignedInteger; size = 1 } ∷ record { type = var_type.Integer; size = 4 } ∷ [] }
+
+-- `y = x++;` gives what x was
+after_it : runs 1 byte_and_number (body_from (eval (Assign (var 1) (Increment increment.PostIncrement (var 0))) ∷ [])) (pos 255 ∷ pos 7 ∷ []) []
+    ≡ record { requests = []; changes = changed 0 (pos 0) ∷ changed 1 (pos 255) ∷ []; values = pos 0 ∷ pos 255 ∷ []; answers = []; ending = Ended }
+unfolding run_body execute evaluate wrap store operate slots_of
+after_it = refl
+
+-- `y = ++x;` gives what is read back of x
+before_it : runs 1 byte_and_number (body_from (eval (Assign (var 1) (Increment increment.PreIncrement (var 0))) ∷ [])) (pos 255 ∷ pos 7 ∷ []) []
+    ≡ record { requests = []; changes = changed 0 (pos 0) ∷ changed 1 (pos 0) ∷ []; values = pos 0 ∷ pos 0 ∷ []; answers = []; ending = Ended }
+unfolding run_body execute evaluate wrap store operate slots_of
+before_it = refl
+
+-- `send_command(-7 % 3); send_command(-7 >> 1);`: a remainder has the sign of what is divided, and a shift keeps the sign
+negative_operands : runs 1 no_variables
+    (body_from (do_ (send (Binary operator.Remainder (minus 7) (Literal 3))) ∷ do_ (send (Binary operator.ShiftRight (minus 7) (Literal 1))) ∷ [])) [] (ok ∷ ok ∷ [])
+    ≡ quiet (asks.SendCommand (negsuc 0) ∷ asks.SendCommand (negsuc 3) ∷ []) [] Ended
+unfolding run_body execute evaluate call wrap operate apply slots_of
+negative_operands = refl
+
+-- `switch (2) { case 1: int i = 5; case 2: send_command(i); }`: a declaration that is jumped over leaves its local at 0
+jumped_over : runs 1 no_variables
+    (body_from (do_ (Switch (Literal 2) (body_from (CaseLabel (pos 1) ∷ Declare (record { place = Local 0; value = Some (Literal 5) } ∷ []) ∷ CaseLabel (pos 2) ∷ do_ (send local) ∷ []))) ∷ [])) [] (ok ∷ [])
+    ≡ quiet (sent 0 ∷ []) [] Ended
+unfolding run_body execute evaluate call wrap slots_of
+jumped_over = refl
