@@ -17,3 +17,4 @@ pub mod UniqueReadings
 pub mod Widths
 pub mod WorkedEdits
 pub mod WorkedImages
+pub mod WorkedMethods

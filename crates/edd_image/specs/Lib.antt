@@ -13,3 +13,4 @@ pub mod Strings
 pub mod Units
 pub mod Validity
 pub mod Worked
+pub mod WorkedMethods

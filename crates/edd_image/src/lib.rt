@@ -46,5 +46,8 @@ pub use starts::{
     string_bytes_start, string_rows_start,
 };
 pub use unit::{Context, Sort, Version, Way};
-pub use worked::{edits_break_their_rules, label_is_read, worked_images_are_valid, worked_layouts};
+pub use worked::{
+    edits_break_their_rules, endless_loops_agree, label_is_read, worked_images_are_valid,
+    worked_layouts,
+};
 pub use writing::{CODE_LIMIT, WriteFault, write};

@@ -9,6 +9,9 @@ ghost use Rattle.edd_image.specs.declared.rules.UnitRule.TheVariants as unit_rul
 ghost use Rattle.edd_image.specs.Layout.{layout};
 ghost use Rattle.edd_image.specs.Validity.{IsValid, BreaksFirst};
 ghost use Rattle.edd_image.specs.Reading.{IsReading, Records, NoItem};
+ghost use Rattle.edd_image.specs.Contents.{contents_in};
+ghost use Rattle.edd_image.specs.MethodAgreement.{AgreesOnMethods};
+ghost use Rattle.edd_image.specs.WorkedMethods.{loop_unit, end_image};
 ghost use Rattle.edd_image.specs.Worked.{empty_parts, empty_image, loop_parts, loop_image, with_code, label_parts, label_image, label_of, handling_of};
 
 /// The bytes of the three images are the layouts of their parts.
@@ -49,4 +52,11 @@ pub fn label_is_read()
     ensures default { IsReading label_image (handling_of 0) (pos 0 ∷ [])
         (Records (records.Number (pos 3) ∷ [])) }
     ensures missing { IsReading label_image (label_of 1) (pos 0 ∷ []) NoItem }
+{}
+
+/// The image with a loop does what the method `while (1) { }` does: it goes on, and asks and changes nothing. With an end in place
+/// of the loop it doesn't.
+pub fn endless_loops_agree()
+    ensures a_loop { AgreesOnMethods loop_unit (contents_in loop_image) }
+    ensures an_end { AgreesOnMethods loop_unit (contents_in end_image) → ⊥ }
 {}
