@@ -57,63 +57,119 @@ const SPLITS: [(&str, &str); 15] = [
 
 const BAD_ESCAPES: [&str; 5] = ["\\", "a\\q", "\\\n", "|de|\\ä", "\\\\\\"];
 
+// Whether a text has the variants that are written so.
+fn is_split(alloc: Global, raw: &str, want: &str) -> Result<bool, Fail> {
+    let words = split(alloc, raw)?;
+    let text = written(alloc, &words)?;
+    Ok(text.as_str() == want)
+}
+
+fn has_bad_escape(alloc: Global, raw: &str) -> bool {
+    matches!(split(alloc, raw), Err(StringFault::BadEscape))
+}
+
 #[test]
 fn splits_texts(rt: HostRuntime) -> Result<(), Fail> {
+    let alloc = rt.alloc();
     for (raw, want) in SPLITS {
-        let words = split(rt.alloc(), raw)?;
-        let text = written(rt.alloc(), &words)?;
-        assert_eq!(rt; text.as_str(), want, "{raw}");
+        assert!(rt; is_split(alloc, raw, want)?, "{raw}");
     }
     for raw in BAD_ESCAPES {
-        assert!(rt;
-            matches!(split(rt.alloc(), raw), Err(StringFault::BadEscape)),
-            "{raw}"
-        );
+        assert!(rt; has_bad_escape(alloc, raw), "{raw}");
     }
     Ok(())
 }
 
-// Texts that are added one after the other, each with its number.
-const NUMBERS: [(&str, u16); 7] = [
-    ("a |de|b", 0),
-    ("a |de|b", 0),
-    ("", 1),
-    ("|en|", 1),
-    ("|en|A|de|B", 2),
-    ("|en|A|de|C", 3),
-    ("a |de|b", 0),
+#[derive(Clone, Copy)]
+enum Added {
+    Text(&'static str),
+    // The key of this name.
+    A,
+}
+
+// What is added one after the other, each with its number.
+const NUMBERS: [(Added, u16); 9] = [
+    (Added::Text("a |de|b"), 0),
+    (Added::Text("a |de|b"), 0),
+    (Added::Text(""), 1),
+    (Added::Text("|en|"), 1),
+    (Added::Text("|en|A|de|B"), 2),
+    (Added::Text("|en|A|de|C"), 3),
+    (Added::Text("a |de|b"), 0),
+    // A key is no text.
+    (Added::A, 4),
+    (Added::Text("A"), 5),
 ];
+
+// The same where the table was cut to three strings.
+const NUMBERS_BEHIND_CUT: [(Added, u16); 2] = [(Added::A, 3), (Added::Text("|en|A|de|B"), 2)];
+
+fn words_of(alloc: Global, added: Added) -> Result<Words, StringFault> {
+    match added {
+        Added::Text(raw) => split(alloc, raw),
+        Added::A => Ok(key(alloc, "A")?),
+    }
+}
+
+// The first row whose number is another.
+fn first_other(
+    alloc: Global,
+    table: &mut Table,
+    rows: &[(Added, u16)],
+) -> Result<Option<usize>, StringFault> {
+    for (at, (added, want)) in rows.iter().enumerate() {
+        let number = table.add(words_of(alloc, *added)?)?;
+        if number != StrNo(*want) {
+            return Ok(Some(at));
+        }
+    }
+    Ok(None)
+}
+
+// Whether the last string of the table is written so.
+fn ends_with(alloc: Global, table: &Table, want: &str) -> Result<bool, AllocError> {
+    let Some(last) = table.words().last() else {
+        return Ok(false);
+    };
+    let text = written(alloc, last)?;
+    Ok(text.as_str() == want)
+}
 
 #[test]
 fn numbers_strings(rt: HostRuntime) -> Result<(), Fail> {
     let alloc = rt.alloc();
     let mut table = Table::new(alloc);
-    for (raw, want) in NUMBERS {
-        let number = table.add(split(alloc, raw)?)?;
-        assert_eq!(rt; number, StrNo(want), "{raw}");
-    }
-    // A key is no text.
-    assert_eq!(rt; table.add(key(alloc, "A")?)?, StrNo(4));
-    assert_eq!(rt; table.add(split(alloc, "A")?)?, StrNo(5));
+    let other = first_other(alloc, &mut table, &NUMBERS)?;
+    assert_eq!(rt; other, None);
     assert_eq!(rt; table.words().len(), 6);
     table.cut(3);
     assert_eq!(rt; table.words().len(), 3);
-    assert_eq!(rt; table.add(key(alloc, "A")?)?, StrNo(3));
-    assert_eq!(rt; table.add(split(alloc, "|en|A|de|B")?)?, StrNo(2));
-    let last = table.words().last().ok_or("no string")?;
-    let text = written(alloc, last)?;
-    assert_eq!(rt; text.as_str(), "[A]");
+    let other = first_other(alloc, &mut table, &NUMBERS_BEHIND_CUT)?;
+    assert_eq!(rt; other, None);
+    assert!(rt; ends_with(alloc, &table, "[A]")?, "the key is the last");
     Ok(())
+}
+
+// A text, a language, and the text for it.
+const CHOICES: [(&str, &str, &str); 3] = [
+    ("a|de|b|de|c", "de", "b"),
+    ("a|de|b|de|c", "fr", "a"),
+    ("|de|b|fr|c", "en", "b"),
+];
+
+// Whether this is the text for a language.
+fn is_chosen(alloc: Global, raw: &str, language: &str, want: &str) -> Result<bool, StringFault> {
+    let words = split(alloc, raw)?;
+    Ok(choose(&words, language) == want)
 }
 
 #[test]
 fn chooses_texts(rt: HostRuntime) -> Result<(), Fail> {
-    let words = split(rt.alloc(), "a|de|b|de|c")?;
-    assert_eq!(rt; choose(&words, "de"), "b");
-    assert_eq!(rt; choose(&words, "fr"), "a");
-    let german = split(rt.alloc(), "|de|b|fr|c")?;
-    assert_eq!(rt; choose(&german, "en"), "b");
-    let name = key(rt.alloc(), "pressure_unit")?;
+    let alloc = rt.alloc();
+    for (raw, language, want) in CHOICES {
+        assert!(rt; is_chosen(alloc, raw, language, want)?, "{want}");
+    }
+    let name = key(alloc, "pressure_unit")?;
     assert_eq!(rt; choose(&name, "de"), "pressure_unit");
     Ok(())
 }
