@@ -1,4 +1,4 @@
-//! The calls of the crates from a text to its image, tried on worked examples.
+//! The compiler's calls, and those on attributes, tried on worked examples.
 #![tactic(auto)]
 
 #[cfg(test)]
@@ -7,11 +7,3 @@ mod attributes;
 mod compiler;
 #[cfg(test)]
 mod descriptions;
-#[cfg(test)]
-mod lexer;
-#[cfg(test)]
-mod parser;
-#[cfg(test)]
-mod strings;
-#[cfg(test)]
-mod wrapping;

@@ -8,13 +8,13 @@ use edd_syntax::item::{Attribute, Item, MenuEntry};
 use edd_syntax::reference::Path;
 use edd_syntax::stmt::{Part, Stmt};
 use edd_syntax::unit::Unit;
-use std::alloc::Global;
+use std::alloc::{AllocError, Global};
 use std::test::Fail;
 
 const HEAD: &str = "MANUFACTURER 1 DEVICE_TYPE 2, DEVICE_REVISION 3 DD_REVISION 4\n";
 
 // The head and an item on the second line.
-fn description(alloc: Global, parts: &[&str]) -> Result<String, Fail> {
+fn description(alloc: Global, parts: &[&str]) -> Result<String, AllocError> {
     let mut text = String::from_str(alloc, HEAD)?;
     for part in parts {
         text.push_str(part)?;
@@ -23,25 +23,34 @@ fn description(alloc: Global, parts: &[&str]) -> Result<String, Fail> {
 }
 
 // The unit that a text spells, or nothing where it is refused.
-fn unit(alloc: Global, text: &str) -> Result<Option<Unit>, Fail> {
-    match lex(alloc, text.as_bytes()) {
-        Ok(tokens) => Ok(parse(alloc, text.as_bytes(), &tokens).ok()),
-        Err(_) => Ok(None),
-    }
+fn unit(alloc: Global, text: &str) -> Option<Unit> {
+    let tokens = lex(alloc, text.as_bytes()).ok()?;
+    parse(alloc, text.as_bytes(), &tokens).ok()
 }
 
 // How many items the unit of a text has, or the fault as it prints.
-fn answer(alloc: Global, text: &str) -> Result<String, Fail> {
-    match lex(alloc, text.as_bytes()) {
-        Ok(tokens) => match parse(alloc, text.as_bytes(), &tokens) {
-            Ok(unit) => {
-                let count = unit.items.len();
-                Ok(format!(in alloc; "{count}")?)
-            }
-            Err(fault) => Ok(format!(in alloc; "{fault}")?),
-        },
-        Err(fault) => Ok(format!(in alloc; "{fault}")?),
-    }
+fn answer(alloc: Global, text: &str) -> Result<String, AllocError> {
+    let tokens = match lex(alloc, text.as_bytes()) {
+        Ok(tokens) => tokens,
+        Err(fault) => return format!(in alloc; "{fault}"),
+    };
+    let count = match parse(alloc, text.as_bytes(), &tokens) {
+        Ok(unit) => unit.items.len(),
+        Err(fault) => return format!(in alloc; "{fault}"),
+    };
+    format!(in alloc; "{count}")
+}
+
+// Whether a text has this answer.
+fn answers(alloc: Global, text: &str, expected: &str) -> Result<bool, AllocError> {
+    let printed = answer(alloc, text)?;
+    Ok(printed.as_str() == expected)
+}
+
+// Whether the text of the head and these parts has this answer.
+fn item_answers(alloc: Global, parts: &[&str], expected: &str) -> Result<bool, AllocError> {
+    let text = description(alloc, parts)?;
+    answers(alloc, text.as_str(), expected)
 }
 
 // The head of an item, and its attributes, each alone.
@@ -121,13 +130,16 @@ fn each_alternative_is_read(rt: HostRuntime) -> Result<(), Fail> {
     let alloc = rt.alloc();
     for (item, alternatives) in ALTERNATIVES {
         for attribute in alternatives {
-            let text = description(alloc, &[item, " { ", attribute, " }"])?;
-            assert_eq!(rt; answer(alloc, text.as_str())?.as_str(), "1", "{text}");
+            let parts = [item, " { ", attribute, " }"];
+            assert!(rt;
+                item_answers(alloc, &parts, "1")?,
+                "{item} with {attribute}"
+            );
         }
     }
     for kind in KINDS {
-        let text = description(alloc, &["COLLECTION OF ", kind, " l { };; MENU m { }"])?;
-        assert_eq!(rt; answer(alloc, text.as_str())?.as_str(), "2", "{text}");
+        let parts = ["COLLECTION OF ", kind, " l { };; MENU m { }"];
+        assert!(rt; item_answers(alloc, &parts, "2")?, "{kind}");
     }
     Ok(())
 }
@@ -153,19 +165,19 @@ fn statements_stand_in_statements(rt: HostRuntime) -> Result<(), Fail> {
     for (before, after) in AROUND {
         for (inner, behind) in AROUND {
             for statement in ALONE {
-                let text = description(
-                    alloc,
-                    &[
-                        "METHOD m { DEFINITION { while (x) { ",
-                        before,
-                        inner,
-                        statement,
-                        behind,
-                        after,
-                        " } } }",
-                    ],
-                )?;
-                assert_eq!(rt; answer(alloc, text.as_str())?.as_str(), "1", "{text}");
+                let parts = [
+                    "METHOD m { DEFINITION { while (x) { ",
+                    before,
+                    inner,
+                    statement,
+                    behind,
+                    after,
+                    " } } }",
+                ];
+                assert!(rt;
+                    item_answers(alloc, &parts, "1")?,
+                    "{before}{inner}{statement}"
+                );
             }
         }
     }
@@ -241,30 +253,51 @@ const OPERATORS: [(&str, u8); 18] = [
     ("%", 12),
 ];
 
+// The same of an assignment with these two operators.
+fn grouping(alloc: Global, first: &str, second: &str) -> Result<Option<bool>, AllocError> {
+    let text = description(
+        alloc,
+        &[
+            "METHOD m { DEFINITION { x = a ",
+            first,
+            " b ",
+            second,
+            " c; } }",
+        ],
+    )?;
+    Ok(grouping_in(alloc, text.as_str()))
+}
+
+fn grouping_in(alloc: Global, text: &str) -> Option<bool> {
+    let read = unit(alloc, text)?;
+    groups_left(&read)
+}
+
 #[test]
 fn operators_group_by_their_rows(rt: HostRuntime) -> Result<(), Fail> {
     let alloc = rt.alloc();
     for (first, row) in OPERATORS {
         for (second, next_row) in OPERATORS {
-            let text = description(
-                alloc,
-                &[
-                    "METHOD m { DEFINITION { x = a ",
-                    first,
-                    " b ",
-                    second,
-                    " c; } }",
-                ],
-            )?;
-            let read = unit(alloc, text.as_str())?;
-            let left = match &read {
-                Some(unit) => groups_left(unit),
-                None => None,
-            };
+            let left = grouping(alloc, first, second)?;
             assert_eq!(rt; left, Some(row >= next_row), "{first} before {second}");
         }
     }
     Ok(())
+}
+
+// Whether a unit's first statement is an `if` without `else` around one with it.
+fn is_inner_else(unit: &Unit) -> bool {
+    match first_statement(unit) {
+        Some(Stmt::If(_, inner)) => matches!(**inner, Stmt::IfElse(_, _, _)),
+        _ => false,
+    }
+}
+
+fn has_inner_else(alloc: Global, text: &str) -> bool {
+    match unit(alloc, text) {
+        Some(unit) => is_inner_else(&unit),
+        None => false,
+    }
 }
 
 #[test]
@@ -274,15 +307,10 @@ fn else_belongs_to_the_nearest_if(rt: HostRuntime) -> Result<(), Fail> {
         alloc,
         &["METHOD m { DEFINITION { if (a) if (b) x; else y; } }"],
     )?;
-    let read = unit(alloc, text.as_str())?;
-    let nearest = match &read {
-        Some(unit) => match first_statement(unit) {
-            Some(Stmt::If(_, inner)) => matches!(**inner, Stmt::IfElse(_, _, _)),
-            _ => false,
-        },
-        None => false,
-    };
-    assert!(rt; nearest, "the else is of the inner if");
+    assert!(rt;
+        has_inner_else(alloc, text.as_str()),
+        "the else is of the inner if"
+    );
     Ok(())
 }
 
@@ -319,18 +347,24 @@ const LISTS: [(&str, usize, usize); 6] = [
     ("IF (x) { a }, IF (y) { b } c", 3, 0),
 ];
 
+// The entries of a menu with this list, and whether c is the last.
+fn list_of(alloc: Global, list: &str) -> Result<Option<(usize, usize, bool)>, AllocError> {
+    let text = description(alloc, &["MENU m { ITEMS { ", list, " } }"])?;
+    Ok(list_in(alloc, text.as_str()))
+}
+
+fn list_in(alloc: Global, text: &str) -> Option<(usize, usize, bool)> {
+    let read = unit(alloc, text)?;
+    let (count, behind) = entries(&read)?;
+    Some((count, behind, is_last(&read, "c")))
+}
+
 #[test]
 fn lists_have_each_entry(rt: HostRuntime) -> Result<(), Fail> {
     let alloc = rt.alloc();
     for (list, count, behind) in LISTS {
-        let text = description(alloc, &["MENU m { ITEMS { ", list, " } }"])?;
-        let read = unit(alloc, text.as_str())?;
-        let (found, last) = match &read {
-            Some(unit) => (entries(unit), is_last(unit, "c")),
-            None => (None, false),
-        };
-        assert_eq!(rt; found, Some((count, behind)), "{list}");
-        assert!(rt; last, "c is the last of {list}");
+        let found = list_of(alloc, list)?;
+        assert_eq!(rt; found, Some((count, behind, true)), "{list}");
     }
     Ok(())
 }
@@ -394,16 +428,15 @@ const FAULTS: [(&str, &str); 24] = [
 fn faults_have_their_place(rt: HostRuntime) -> Result<(), Fail> {
     let alloc = rt.alloc();
     for (item, fault) in FAULTS {
-        let text = description(alloc, &[item])?;
-        assert_eq!(rt; answer(alloc, text.as_str())?.as_str(), fault, "{item}");
+        assert!(rt; item_answers(alloc, &[item], fault)?, "{item}");
     }
-    assert_eq!(rt; answer(alloc, "")?.as_str(), "10 SYNTAX line 1");
-    assert_eq!(rt; answer(alloc, HEAD)?.as_str(), "0");
+    assert!(rt; answers(alloc, "", "10 SYNTAX line 1")?, "nothing");
+    assert!(rt; answers(alloc, HEAD, "0")?, "the head");
     Ok(())
 }
 
 // A number in so many pairs of parentheses as the least value of a variable.
-fn deep(alloc: Global, pairs: usize) -> Result<String, Fail> {
+fn deep(alloc: Global, pairs: usize) -> Result<String, AllocError> {
     let mut text = description(alloc, &["VARIABLE v { TYPE INTEGER { MIN_VALUE "])?;
     for _ in 0..pairs {
         text.push_str("(")?;
@@ -417,7 +450,7 @@ fn deep(alloc: Global, pairs: usize) -> Result<String, Fail> {
 }
 
 // A sum of so many numbers as a statement.
-fn long_sum(alloc: Global, count: usize) -> Result<String, Fail> {
+fn long_sum(alloc: Global, count: usize) -> Result<String, AllocError> {
     let mut text = description(alloc, &["METHOD m { DEFINITION { 1"])?;
     for _ in 1..count {
         text.push_str("\n+1")?;
@@ -426,24 +459,33 @@ fn long_sum(alloc: Global, count: usize) -> Result<String, Fail> {
     Ok(text)
 }
 
+fn deep_answers(alloc: Global, pairs: usize, expected: &str) -> Result<bool, AllocError> {
+    let text = deep(alloc, pairs)?;
+    answers(alloc, text.as_str(), expected)
+}
+
+fn sum_answers(alloc: Global, count: usize, expected: &str) -> Result<bool, AllocError> {
+    let text = long_sum(alloc, count)?;
+    answers(alloc, text.as_str(), expected)
+}
+
+const DEPTHS: [(usize, &str); 3] = [
+    (98, "1"),
+    (99, "11 TOO_DEEP line 2"),
+    (10_000, "11 TOO_DEEP line 2"),
+];
+
+// A sum of 99 numbers is 99 levels high, and its statement one more.
+const SUMS: [(usize, &str); 2] = [(99, "1"), (100, "11 TOO_DEEP line 101")];
+
 #[test]
 fn trees_have_a_height(rt: HostRuntime) -> Result<(), Fail> {
     let alloc = rt.alloc();
-    assert_eq!(rt; answer(alloc, deep(alloc, 98)?.as_str())?.as_str(), "1");
-    let too_deep = "11 TOO_DEEP line 2";
-    assert_eq!(rt;
-        answer(alloc, deep(alloc, 99)?.as_str())?.as_str(),
-        too_deep
-    );
-    assert_eq!(rt;
-        answer(alloc, deep(alloc, 10_000)?.as_str())?.as_str(),
-        too_deep
-    );
-    // a sum of 99 numbers is 99 levels high, and its statement one more
-    assert_eq!(rt; answer(alloc, long_sum(alloc, 99)?.as_str())?.as_str(), "1");
-    assert_eq!(rt;
-        answer(alloc, long_sum(alloc, 100)?.as_str())?.as_str(),
-        "11 TOO_DEEP line 101"
-    );
+    for (pairs, expected) in DEPTHS {
+        assert!(rt; deep_answers(alloc, pairs, expected)?, "{pairs} pairs");
+    }
+    for (count, expected) in SUMS {
+        assert!(rt; sum_answers(alloc, count, expected)?, "{count} numbers");
+    }
     Ok(())
 }
