@@ -5,46 +5,89 @@ use edd_attrs::lower_attribute;
 use edd_strings::{Table, split};
 use edd_syntax::checked::Checked;
 use edd_syntax::numbers::{Attr, CmdNo, CollNo, ItemNo, MenuNo, VarNo};
-use std::alloc::Global;
+use std::alloc::{AllocError, Global};
 use std::test::Fail;
 
 const VARIABLE: ItemNo = ItemNo::Variable(VarNo(0));
 
 const COMMAND: ItemNo = ItemNo::Command(CmdNo(0));
 
-// The code of an attribute at position 0.
-fn code_of(
+// How many strings the table holds before, an attribute, its code at position 0, and how many strings the table holds then.
+type Row = (usize, ItemNo, Attr, &'static [u8], usize);
+
+// Adds texts until the table holds so many strings.
+fn fill(alloc: Global, table: &mut Table, count: usize) -> Result<(), Fail> {
+    for number in table.words().len()..count {
+        let text = format!(in alloc; "{number}")?;
+        table.add(split(alloc, text.as_str())?)?;
+    }
+    Ok(())
+}
+
+// Whether the code of an attribute is as its row says.
+fn is_lowered(
     alloc: Global,
     checked: &Checked,
-    item: ItemNo,
-    attr: Attr,
     table: &mut Table,
-) -> Result<Vec<u8>, Fail> {
-    Ok(lower_attribute(alloc, checked, row(item, attr, 0), table)?)
+    expected: &Row,
+) -> Result<bool, Fail> {
+    let (held, item, attr, bytes, holds) = *expected;
+    fill(alloc, table, held)?;
+    let code = lower_attribute(alloc, checked, row(item, attr, 0), table)?;
+    Ok(code.as_slice() == bytes && table.words().len() == holds)
+}
+
+fn first_other_of(alloc: Global, checked: &Checked, rows: &[Row]) -> Result<Option<usize>, Fail> {
+    let mut table = Table::new(alloc);
+    for (at, expected) in rows.iter().enumerate() {
+        if !is_lowered(alloc, checked, &mut table, expected)? {
+            return Ok(Some(at));
+        }
+    }
+    Ok(None)
+}
+
+// The first row that is not as a description of these items has it, over one table of strings.
+fn first_other(alloc: Global, items: &str, rows: &[Row]) -> Result<Option<usize>, Fail> {
+    let checked = described(alloc, items)?;
+    first_other_of(alloc, &checked, rows)
 }
 
 const NUMBERED: &str = "VARIABLE v { TYPE INTEGER; HANDLING WRITE; VALIDITY FALSE; }
     COMMAND c { NUMBER 258; OPERATION COMMAND; TRANSACTION { } }";
 
-// An attribute, and its code. The HELP is not written.
-const NUMBERS: [(ItemNo, Attr, &[u8]); 6] = [
-    (VARIABLE, Attr::Help, &[0x00]),
-    (COMMAND, Attr::Number, &[0x01, 0, 0, 1, 2, 0x41, 0x00]),
-    (COMMAND, Attr::Transaction, &[0x00]),
-    (COMMAND, Attr::Operation, &[0x01, 0, 0, 0, 3, 0x41, 0x00]),
-    (VARIABLE, Attr::Handling, &[0x01, 0, 0, 0, 2, 0x41, 0x00]),
-    (VARIABLE, Attr::Validity, &[0x01, 0, 0, 0, 0, 0x41, 0x00]),
+// The HELP is not written.
+const NUMBERS: [Row; 6] = [
+    (0, VARIABLE, Attr::Help, &[0x00], 0),
+    (0, COMMAND, Attr::Number, &[0x01, 0, 0, 1, 2, 0x41, 0x00], 0),
+    (0, COMMAND, Attr::Transaction, &[0x00], 0),
+    (
+        0,
+        COMMAND,
+        Attr::Operation,
+        &[0x01, 0, 0, 0, 3, 0x41, 0x00],
+        0,
+    ),
+    (
+        0,
+        VARIABLE,
+        Attr::Handling,
+        &[0x01, 0, 0, 0, 2, 0x41, 0x00],
+        0,
+    ),
+    (
+        0,
+        VARIABLE,
+        Attr::Validity,
+        &[0x01, 0, 0, 0, 0, 0x41, 0x00],
+        0,
+    ),
 ];
 
 #[test]
 fn numbers_are_lowered(rt: HostRuntime) -> Result<(), Fail> {
-    let alloc = rt.alloc();
-    let checked = described(alloc, NUMBERED)?;
-    let mut table = Table::new(alloc);
-    for (item, attr, expected) in NUMBERS {
-        let code = code_of(alloc, &checked, item, attr, &mut table)?;
-        assert_eq!(rt; code.as_slice(), expected, "{attr:?}");
-    }
+    let other = first_other(rt.alloc(), NUMBERED, &NUMBERS)?;
+    assert_eq!(rt; other, None);
     Ok(())
 }
 
@@ -54,51 +97,49 @@ const CONDITIONAL: &str = "VARIABLE v {
         HANDLING SELECT (2) { CASE -1: READ; DEFAULT: WRITE; CASE 2: READ & WRITE; }
     }";
 
-const CONDITIONS: [(Attr, &[u8]); 2] = [
+const CONDITIONS: [Row; 2] = [
     (
+        0,
+        VARIABLE,
         Attr::Validity,
         &[
             0x01, 0, 0, 0, 7, 0x31, 0, 0, 0, 21, 0x01, 0, 0, 0, 1, 0x41, 0x30, 0, 0, 0, 27, 0x01,
             0, 0, 0, 0, 0x41, 0x00,
         ],
+        0,
     ),
     (
+        0,
+        VARIABLE,
         Attr::Handling,
         &[
             0x01, 0, 0, 0, 2, 0x33, 255, 255, 255, 255, 255, 255, 255, 255, 0, 0, 0, 54, 0x33, 0,
             0, 0, 0, 0, 0, 0, 2, 0, 0, 0, 43, 0x06, 0x01, 0, 0, 0, 2, 0x41, 0x30, 0, 0, 0, 49,
             0x01, 0, 0, 0, 3, 0x41, 0x30, 0, 0, 0, 60, 0x01, 0, 0, 0, 1, 0x41, 0x00,
         ],
+        0,
     ),
 ];
 
 #[test]
 fn conditions_and_selections_are_lowered(rt: HostRuntime) -> Result<(), Fail> {
-    let alloc = rt.alloc();
-    let checked = described(alloc, CONDITIONAL)?;
-    let mut table = Table::new(alloc);
-    for (attr, expected) in CONDITIONS {
-        let code = code_of(alloc, &checked, VARIABLE, attr, &mut table)?;
-        assert_eq!(rt; code.as_slice(), expected, "{attr:?}");
-    }
+    let other = first_other(rt.alloc(), CONDITIONAL, &CONDITIONS)?;
+    assert_eq!(rt; other, None);
     Ok(())
 }
 
+const OF_CLASS: &str = "VARIABLE v { TYPE INTEGER; CLASS DYNAMIC & INPUT; }";
+
+// A string that the table holds keeps its number.
+const CLASSES: [Row; 2] = [
+    (0, VARIABLE, Attr::Class, &[0x40, 0, 0, 0x40, 0, 1, 0x00], 2),
+    (2, VARIABLE, Attr::Class, &[0x40, 0, 0, 0x40, 0, 1, 0x00], 2),
+];
+
 #[test]
 fn class_words_are_lowered(rt: HostRuntime) -> Result<(), Fail> {
-    let alloc = rt.alloc();
-    let checked = described(alloc, "VARIABLE v { TYPE INTEGER; CLASS DYNAMIC & INPUT; }")?;
-    let mut table = Table::new(alloc);
-    // A string that the table holds keeps its number.
-    for time in 1..=2 {
-        let code = code_of(alloc, &checked, VARIABLE, Attr::Class, &mut table)?;
-        assert_eq!(rt;
-            code.as_slice(),
-            [0x40, 0, 0, 0x40, 0, 1, 0x00].as_slice(),
-            "time {time}"
-        );
-        assert_eq!(rt; table.words().len(), 2, "strings at time {time}");
-    }
+    let other = first_other(rt.alloc(), OF_CLASS, &CLASSES)?;
+    assert_eq!(rt; other, None);
     Ok(())
 }
 
@@ -118,19 +159,20 @@ const OF_EACH_RECORD: &str = "VARIABLE v0 { TYPE INTEGER; } VARIABLE v1 { TYPE I
     COMMAND c8 { NUMBER 8; OPERATION READ; TRANSACTION { } }
     COLLECTION OF COMMAND k { MEMBERS { last, c8, \"the last\"; } }";
 
-// How many strings the table holds before, an attribute, and its code.
-const RECORDS: [(usize, ItemNo, Attr, &[u8]); 5] = [
+const RECORDS: [Row; 5] = [
     (
         0,
         ItemNo::Menu(MenuNo(0)),
         Attr::Items,
         &[0x42, 3, 1, 2, 0, 9, 0x00],
+        0,
     ),
     (
         0,
         COMMAND,
         Attr::Request,
         &[0x43, 255, 0x44, 0, 3, 0, 0, 0x80, 0, 2, 0x00],
+        0,
     ),
     (
         4,
@@ -139,32 +181,26 @@ const RECORDS: [(usize, ItemNo, Attr, &[u8]); 5] = [
         &[
             0x45, 255, 255, 255, 255, 255, 255, 255, 254, 0, 4, 255, 255, 0x00,
         ],
+        5,
     ),
     (
         7,
         COMMAND,
         Attr::ResponseCodes,
         &[0x46, 0, 0, 0, 5, 6, 0, 7, 0x00],
+        8,
     ),
     (
         9,
         ItemNo::Collection(CollNo(0)),
         Attr::Members,
         &[0x47, 0, 9, 2, 0, 8, 0, 10, 255, 255, 0x00],
+        11,
     ),
 ];
 
-// Adds texts until the table holds so many strings.
-fn fill(alloc: Global, table: &mut Table, count: usize) -> Result<(), Fail> {
-    for number in table.words().len()..count {
-        let text = format!(in alloc; "{number}")?;
-        table.add(split(alloc, text.as_str())?)?;
-    }
-    Ok(())
-}
-
 // The items above behind 259 menus, of which the first shows the last.
-fn items_of_each_record(alloc: Global) -> Result<String, Fail> {
+fn items_of_each_record(alloc: Global) -> Result<String, AllocError> {
     let mut items = String::from_str(
         alloc,
         "MENU m0 { ITEMS { m258 (DISPLAY_VALUE, REVIEW) } }\n",
@@ -179,14 +215,8 @@ fn items_of_each_record(alloc: Global) -> Result<String, Fail> {
 
 #[test]
 fn records_are_lowered(rt: HostRuntime) -> Result<(), Fail> {
-    let alloc = rt.alloc();
-    let items = items_of_each_record(alloc)?;
-    let checked = described(alloc, items.as_str())?;
-    let mut table = Table::new(alloc);
-    for (held, item, attr, expected) in RECORDS {
-        fill(alloc, &mut table, held)?;
-        let code = code_of(alloc, &checked, item, attr, &mut table)?;
-        assert_eq!(rt; code.as_slice(), expected, "{attr:?}");
-    }
+    let items = items_of_each_record(rt.alloc())?;
+    let other = first_other(rt.alloc(), items.as_str(), &RECORDS)?;
+    assert_eq!(rt; other, None);
     Ok(())
 }

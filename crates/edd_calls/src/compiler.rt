@@ -2,30 +2,40 @@
 
 use crate::descriptions::{IDENTIFICATION, described, row, text_of};
 use edd_image::Record;
-use edd_loader::load;
+use edd_loader::{Image, load};
 use edd_machine::{Values, attribute};
-use edd_syntax::numbers::{Attr, CmdNo, ItemNo, MenuNo, VarNo};
+use edd_syntax::item::Identification;
+use edd_syntax::numbers::{Attr, AttrRef, CmdNo, ItemNo, MenuNo, VarNo};
 use edd_tool::{FileFault, Files, compile, run, unit_of};
-use std::alloc::Global;
+use std::alloc::{AllocError, Global};
 use std::io::{Error, ErrorKind, Read};
 use std::test::Fail;
 
-// The identification and the number of items of the unit, or the fault as it prints.
-fn outcome(alloc: Global, text: &str) -> Result<String, Fail> {
-    match unit_of(alloc, text.as_bytes()) {
-        Ok(unit) => {
-            let i = unit.identification;
-            let (maker, device, revision, dd) = (
-                i.manufacturer,
-                i.device_type,
-                i.device_revision,
-                i.dd_revision,
-            );
-            let count = unit.items.len();
-            Ok(format!(in alloc; "{maker} {device} {revision} {dd}, items {count}")?)
-        }
-        Err(fault) => Ok(format!(in alloc; "{fault}")?),
-    }
+// The identification and the number of items of the unit.
+fn summary(alloc: Global, i: Identification, count: usize) -> Result<String, AllocError> {
+    let (maker, device, revision, dd) = (
+        i.manufacturer,
+        i.device_type,
+        i.device_revision,
+        i.dd_revision,
+    );
+    format!(in alloc; "{maker} {device} {revision} {dd}, items {count}")
+}
+
+// The summary of the unit, or the fault as it prints.
+fn outcome(alloc: Global, text: &str) -> Result<String, AllocError> {
+    let (identification, count) = match unit_of(alloc, text.as_bytes()) {
+        Ok(unit) => (unit.identification, unit.items.len()),
+        Err(fault) => return format!(in alloc; "{fault}"),
+    };
+    summary(alloc, identification, count)
+}
+
+// Whether the text with these items has this outcome.
+fn comes_to(alloc: Global, items: &str, expected: &str) -> Result<bool, AllocError> {
+    let text = text_of(alloc, items)?;
+    let printed = outcome(alloc, text.as_str())?;
+    Ok(printed.as_str() == expected)
 }
 
 // What stands behind the identification, and the outcome.
@@ -44,9 +54,7 @@ const OUTCOMES: [(&str, &str); 5] = [
 fn a_text_comes_to_its_unit_or_its_fault(rt: HostRuntime) -> Result<(), Fail> {
     let alloc = rt.alloc();
     for (items, expected) in OUTCOMES {
-        let text = text_of(alloc, items)?;
-        let printed = outcome(alloc, text.as_str())?;
-        assert_eq!(rt; printed.as_str(), expected, "{items}");
+        assert!(rt; comes_to(alloc, items, expected)?, "{items}");
     }
     Ok(())
 }
@@ -113,6 +121,12 @@ const ITEMS_OF_FOUR_KINDS: &str = "MENU m { ITEMS { b } LABEL \"M\"; }
         COMMAND c { NUMBER 1; OPERATION READ; TRANSACTION 0 { REPLY { a } } TRANSACTION 1 { } }
         VARIABLE b { LABEL \"B\"; TYPE INTEGER; }";
 
+// The rows of a description of these items.
+fn rows_of(alloc: Global, items: &str) -> Result<Vec<AttrRef>, Fail> {
+    let checked = described(alloc, items)?;
+    Ok(checked.rows(alloc)?)
+}
+
 #[test]
 fn rows_stand_by_kind_attribute_item_and_position(rt: HostRuntime) -> Result<(), Fail> {
     let alloc = rt.alloc();
@@ -133,8 +147,7 @@ fn rows_stand_by_kind_attribute_item_and_position(rt: HostRuntime) -> Result<(),
         row(menu, Attr::Label, 0),
         row(menu, Attr::Items, 0),
     ];
-    let checked = described(alloc, ITEMS_OF_FOUR_KINDS)?;
-    let rows = checked.rows(alloc)?;
+    let rows = rows_of(alloc, ITEMS_OF_FOUR_KINDS)?;
     assert_eq!(rt; rows.as_slice(), expected.as_slice());
     Ok(())
 }
@@ -143,8 +156,7 @@ fn rows_stand_by_kind_attribute_item_and_position(rt: HostRuntime) -> Result<(),
 fn a_type_without_braces_has_no_row(rt: HostRuntime) -> Result<(), Fail> {
     let alloc = rt.alloc();
     let items = "VARIABLE p { LABEL \"|en|Pressure|de|Druck\"; TYPE INTEGER (2); }";
-    let checked = described(alloc, items)?;
-    let rows = checked.rows(alloc)?;
+    let rows = rows_of(alloc, items)?;
     let expected = [row(ItemNo::Variable(VarNo(0)), Attr::Label, 0)];
     assert_eq!(rt; rows.as_slice(), expected.as_slice());
     Ok(())
@@ -172,27 +184,72 @@ const COMPUTED: [(Attr, i64); 3] = [
     (Attr::MaxValue, 7),
 ];
 
+// Whether an attribute has so many records.
+fn has_records(
+    alloc: Global,
+    image: &Image,
+    values: &Values,
+    of: AttrRef,
+    count: usize,
+) -> Result<bool, Fail> {
+    let records = attribute(alloc, image, of, values)?;
+    Ok(records.len() == count)
+}
+
+// Whether an attribute of `a` is this number.
+fn is_computed(
+    alloc: Global,
+    image: &Image,
+    values: &Values,
+    attr: Attr,
+    number: i64,
+) -> Result<bool, Fail> {
+    let of = row(ItemNo::Variable(VarNo(0)), attr, 0);
+    let records = attribute(alloc, image, of, values)?;
+    Ok(records.as_slice() == [Record::Number(number)].as_slice())
+}
+
+// The first row with another number of records.
+fn first_other_row(
+    alloc: Global,
+    image: &Image,
+    values: &Values,
+    rows: &[AttrRef],
+) -> Result<Option<usize>, Fail> {
+    for (at, (row, count)) in rows.iter().zip(COUNTS).enumerate() {
+        if !has_records(alloc, image, values, *row, count)? {
+            return Ok(Some(at));
+        }
+    }
+    Ok(None)
+}
+
+// The first computed attribute with another value.
+fn first_other_value(alloc: Global, image: &Image, values: &Values) -> Result<Option<usize>, Fail> {
+    for (at, (attr, number)) in COMPUTED.into_iter().enumerate() {
+        if !is_computed(alloc, image, values, attr, number)? {
+            return Ok(Some(at));
+        }
+    }
+    Ok(None)
+}
+
+fn loaded(alloc: Global, items: &str) -> Result<Image, Fail> {
+    let text = text_of(alloc, items)?;
+    let bytes = compile(alloc, text.as_bytes())?;
+    Ok(load(alloc, &bytes)?)
+}
+
 #[test]
 fn every_attribute_is_compiled_and_read(rt: HostRuntime) -> Result<(), Fail> {
     let alloc = rt.alloc();
-    let text = text_of(alloc, EVERY_ATTRIBUTE)?;
-    let bytes = compile(alloc, text.as_bytes())?;
-    let image = load(alloc, &bytes)?;
-    let values = Values::new(alloc, &image, &[0, 0])?;
-    let rows = described(alloc, EVERY_ATTRIBUTE)?.rows(alloc)?;
+    let rows = rows_of(alloc, EVERY_ATTRIBUTE)?;
     assert_eq!(rt; rows.len(), COUNTS.len(), "rows");
-    for (row, count) in rows.iter().zip(COUNTS) {
-        let records = attribute(alloc, &image, *row, &values)?;
-        assert_eq!(rt; records.len(), count, "{row:?}");
-    }
-    let a = ItemNo::Variable(VarNo(0));
-    for (attr, number) in COMPUTED {
-        let records = attribute(alloc, &image, row(a, attr, 0), &values)?;
-        assert_eq!(rt;
-            records.as_slice(),
-            [Record::Number(number)].as_slice(),
-            "{attr:?}"
-        );
-    }
+    let image = loaded(alloc, EVERY_ATTRIBUTE)?;
+    let values = Values::new(alloc, &image, &[0, 0])?;
+    let other = first_other_row(alloc, &image, &values, &rows)?;
+    assert_eq!(rt; other, None, "records");
+    let other = first_other_value(alloc, &image, &values)?;
+    assert_eq!(rt; other, None, "values");
     Ok(())
 }

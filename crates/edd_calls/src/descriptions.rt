@@ -3,15 +3,15 @@
 use edd_syntax::checked::Checked;
 use edd_syntax::numbers::{Attr, AttrRef, ItemNo};
 use edd_tool::checked_of;
-use std::alloc::Global;
+use std::alloc::{AllocError, Global};
 use std::test::Fail;
 
 pub const IDENTIFICATION: &str =
     "MANUFACTURER 1, DEVICE_TYPE 2, DEVICE_REVISION 3, DD_REVISION 4\n";
 
 /// The text of a description of these items.
-pub fn text_of(alloc: Global, items: &str) -> Result<String, Fail> {
-    Ok(format!(in alloc; "{IDENTIFICATION}{items}")?)
+pub fn text_of(alloc: Global, items: &str) -> Result<String, AllocError> {
+    format!(in alloc; "{IDENTIFICATION}{items}")
 }
 
 /// The description of these items, which breaks no rule.
