@@ -1,12 +1,13 @@
 //! The compiler's calls, and the program over files and an output of its caller.
 
 use crate::descriptions::{IDENTIFICATION, described, row, text_of};
+use edd_compiler::{compile, unit_of};
 use edd_image::Record;
 use edd_loader::{Image, load};
 use edd_machine::{Values, attribute};
 use edd_syntax::item::Identification;
 use edd_syntax::numbers::{Attr, AttrRef, CmdNo, ItemNo, MenuNo, VarNo};
-use edd_tool::{FileFault, Files, compile, run, unit_of};
+use edd_tool::{FileFault, Files, run};
 use std::alloc::{AllocError, Global};
 use std::io::{Error, ErrorKind, Read};
 use std::test::Fail;

@@ -1,8 +1,8 @@
 //! Small descriptions, and the rows of their attributes.
 
+use edd_compiler::checked_of;
 use edd_syntax::checked::Checked;
 use edd_syntax::numbers::{Attr, AttrRef, ItemNo};
-use edd_tool::checked_of;
 use std::alloc::{AllocError, Global};
 use std::test::Fail;
 

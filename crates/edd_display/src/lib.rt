@@ -6,10 +6,8 @@ mod items;
 mod lines;
 mod page;
 mod records;
-mod script;
 mod words;
 
 pub use fault::ShowFault;
 pub use items::show;
 pub use lines::{print, print_text};
-pub use script::{ScriptFault, set_values};

@@ -1,22 +1,16 @@
-//! The compiler as one call, and the program `edd` over given words, files and output.
+//! The program `edd` over given words, files and output, and the call of the compiler that it makes.
 #![tactic(auto)]
 
 ghost use Rattle.std.specs.Prelude.{◌≤◌};
 
-mod compiling;
-mod fault;
 mod files;
-mod lowering;
-mod methods;
 mod requests;
-mod source;
+mod script;
 
-pub use compiling::compile;
+pub use edd_compiler::{Fault, compile};
 use edd_display::ShowFault;
-pub use fault::Fault;
 pub use files::{FileFault, Files};
 use requests::Stop;
-pub use source::{checked_of, unit_of};
 use std::alloc::Global;
 use std::io::Write;
 

@@ -2,12 +2,12 @@
 
 ghost use Rattle.std.specs.Prelude.{◌≤◌};
 
-use crate::compiling::compile;
-use crate::fault::Fault;
 use crate::files::{FileFault, Files, read_all};
+use crate::script::{ScriptFault, set_values};
 use crate::{COMMAND_LINE, DONE, FILE, MEMORY, REFUSED};
 use edd_command_line::{NoRequest, Request};
-use edd_display::{ScriptFault, ShowFault, print, print_text, set_values, show};
+use edd_compiler::{Fault, compile};
+use edd_display::{ShowFault, print, print_text, show};
 use edd_loader::{Image, LoadFault, load};
 use edd_machine::{Values, ValuesFault};
 use std::alloc::Global;

@@ -1,0 +1,40 @@
+-- What a broken rule of a unit says of the text that spells it.
+use Rattle.std.proofs.Common.{◌≡◌, ap, ◌∙◌, ℕ, List, [], ◌∷◌, ◌++◌, Some, arith}
+use Rattle.std.proofs.lemmas.Grind.{common_steps}
+use Rattle.edd_syntax.specs.Reference.{Path}
+use Rattle.edd_syntax.specs.declared.reference.Target.{Target}
+use Rattle.edd_syntax.specs.Item.{Description}
+use Rattle.edd_syntax.specs.Accepted.{name_breaches, profile_breaches, refusal}
+use Rattle.edd_syntax.specs.Refusal.{Refusal, first_of}
+use Rattle.edd_syntax.specs.ResolvedTrees.{resolved_unit}
+use Rattle.edd_syntax.specs.Strings.{too_many_strings}
+use Rattle.edd_syntax.specs.SubsetRules.{subset_breaches}
+use Rattle.edd_names.specs.declared.fault.NameFault.{NameFault}
+use Rattle.edd_names.specs.declared.fault.NameFault.TheVariants as name
+use Rattle.edd_names.specs.Faults.{IsFound, IsFirst}
+use Rattle.edd_compiler.specs.Faults.{of_name, Explains}
+use Rattle.edd_compiler.specs.Sources.{IsUnitOf}
+
+first_stays : {A : Type 0} (xs ys : List A) (x : A) → first_of xs ≡ Some x → first_of (xs ++ ys) ≡ Some x
+first_stays [] ys x is = grind (arith, common_steps)
+first_stays (y ∷ xs) ys x is = is
+
+module _ (text : List ℕ) (unit : Description Path) (spelled : IsUnitOf text unit) where
+  -- a rule on counts, names and attributes comes before all others
+  broken_name_rule : (why : Refusal) → first_of (name_breaches unit) ≡ Some why → refusal unit ≡ Some why
+  broken_name_rule why is = first_stays (name_breaches unit) (profile_breaches (resolved_unit unit)) why is
+
+  pub name_refused : (e : NameFault) → IsFirst e (name_breaches unit) → Explains text (of_name e)
+  unfolding IsFound
+  name_refused (name.TooMany limit) is = (unit, spelled, broken_name_rule _ is)
+  name_refused (name.DuplicateName n) is = (unit, spelled, broken_name_rule _ is)
+  name_refused (name.DuplicateAttribute word) is = (unit, spelled, broken_name_rule _ is)
+  name_refused (name.MissingAttribute item word) is = (unit, spelled, broken_name_rule _ is)
+  name_refused (name.UnknownName n) is = (unit, spelled, broken_name_rule _ is)
+  name_refused (name.WrongKind n) is = (unit, spelled, broken_name_rule _ is)
+  name_refused name.NoMemory is = tt
+
+  module _ (d : Description Target) (meanings : resolved_unit unit ≡ Some d) (no_breach : name_breaches unit ≡ []) where
+    -- where no rule on names is broken, the rules of the profile decide
+    pub profile_decides : refusal unit ≡ first_of (subset_breaches d ++ too_many_strings d)
+    profile_decides = ap (λ xs. first_of (xs ++ profile_breaches (resolved_unit unit))) no_breach ∙ ap (λ m. first_of (profile_breaches m)) meanings

@@ -1,0 +1,54 @@
+-- What is written of the units of a description's rows.
+use Rattle.std.proofs.Common.{◌≡◌, sym, ap, subst, ◌∙◌, ◌<◌, ◌≤◌, List, length, map, arith}
+use Rattle.std.specs.Prelude.{sum}
+use Rattle.std.specs.List.{flat_map}
+use Rattle.edd_syntax.specs.declared.reference.Target.{Target}
+use Rattle.edd_syntax.specs.declared.words.Words as in_code
+use Rattle.edd_syntax.specs.Resolved.{IsChecked}
+use Rattle.edd_syntax.specs.Rows.{rows}
+use Rattle.edd_syntax.specs.WordsView.{string_of}
+use Rattle.edd_syntax.specs.Item.{Description}
+use Rattle.edd_image.specs.Agreement.{AgreesOnData}
+use Rattle.edd_image.specs.Contents.{contents_in, contents_of}
+use Rattle.edd_image.specs.Layout.{Sections, AreSections, layout}
+use Rattle.edd_image.specs.Validity.{code_limit, IsSound, IsValid}
+use Rattle.edd_assembly.specs.Assembly.{Lowered, assembled}
+use Rattle.edd_assembly.specs.LoweredUnits.{AreUnitsOf}
+use Rattle.edd_bounds.specs.RowContents.{limit_of_row}
+use Rattle.edd_compiler.specs.Lowering.{HasLowered}
+use Rattle.edd_compiler.proofs.ImageParts.{are_units, code_within}
+
+module _ (d : Description Target) (words : List in_code.Words) (units : List Lowered)
+    (has : HasLowered d (rows d.items) (map string_of words) units) (s : Sections) (made : s ≡ assembled d units (map string_of words)) where
+  their_units : AreUnitsOf d (map string_of words) units
+  their_units = are_units d (map string_of words) units has
+
+  module _ (short : ∥ IsChecked d ∥₁ → sum (map (limit_of_row d) (rows d.items)) ≤ 16777216) (checked : ∥ IsChecked d ∥₁) where
+    code_of_units : length s.code ≡ length (flat_map (λ l. l.code) units)
+    unfolding assembled
+    code_of_units = ap (λ x. length x.code) made
+
+    pub is_short : length s.code ≤ 16777216
+    is_short =
+        let same = code_of_units in
+        let within = code_within d (map string_of words) units has in
+        let limit = short checked in
+        omega arith
+
+    pub never_longer : 16777216 < length s.code → ⊥
+    never_longer longer = let within = is_short in omega arith
+
+    pub is_valid : AreSections s
+        → ((lowered : List Lowered) (ws : List in_code.Words) → ∥ IsChecked d ∥₁ → AreUnitsOf d (map string_of ws) lowered
+        → AreSections (assembled d lowered (map string_of ws)) → IsSound (contents_of (assembled d lowered (map string_of ws))))
+        → ((x : Sections) → AreSections x → length x.code ≤ code_limit → IsSound (contents_of x) → IsValid (layout x))
+        → IsValid (layout s)
+    is_valid fit sound valid = valid s fit is_short
+        (subst (λ x. IsSound (contents_of x)) (sym made) (sound units words checked their_units (subst AreSections made fit)))
+
+  pub agrees : AreSections s
+      → ((lowered : List Lowered) (ws : List in_code.Words) → AreUnitsOf d (map string_of ws) lowered
+      → AreSections (assembled d lowered (map string_of ws)) → AgreesOnData d (contents_of (assembled d lowered (map string_of ws))))
+      → ((x : Sections) → AreSections x → contents_in (layout x) ≡ contents_of x)
+      → AgreesOnData d (contents_in (layout s))
+  agrees fit agree read = subst (AgreesOnData d) (ap contents_of (sym made) ∙ sym (read s fit)) (agree units words their_units (subst AreSections made fit))

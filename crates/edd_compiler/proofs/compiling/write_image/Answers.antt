@@ -1,0 +1,32 @@
+use Rattle.std.proofs.Common.{ap, subst, sym, ◌∙◌, Err, map, ◌<◌}
+use Rattle.edd_image.specs.Agreement.{AgreesOnData}
+use Rattle.edd_image.specs.Contents.{contents_in}
+use Rattle.edd_image.specs.Layout.{sections_of}
+use Rattle.edd_image.specs.Validity.{IsValid}
+use Rattle.edd_assembly.specs.Views.{lowered_of}
+use Rattle.edd_attrs.specs.Views.{unit_of}
+use Rattle.edd_compiler.proofs.WrittenImages.{never_longer, is_valid, agrees}
+use Rattle.edd_compiler.proofs.compiling.write_image.Goals as goal
+
+pub returns-in-Ok-clause-valid : goal.returns-in-Ok-clause-valid
+returns-in-Ok-clause-valid c =
+    let d = unit_of c.args.checked.now in
+    subst IsValid (sym c.in-Ok.ensures.layout)
+    (is_valid d c.args.strings.now (map lowered_of c.args.units.now) c.requires.lowered
+    (sections_of c.in_ok-parts.parts) c.in_ok-parts.ensures
+    (c.code_is_short.ensures d) c.args.checked.now.checked c.in-Ok.ensures.fit (c.sections_are_sound.ensures d) c.sound_parts_are_valid.ensures)
+
+pub returns-in-Ok-clause-agrees : goal.returns-in-Ok-clause-agrees
+returns-in-Ok-clause-agrees c =
+    let d = unit_of c.args.checked.now in
+    subst (λ b. AgreesOnData d (contents_in b)) (sym c.in-Ok.ensures.layout)
+    (agrees d c.args.strings.now (map lowered_of c.args.units.now) c.requires.lowered
+    (sections_of c.in_ok-parts.parts) c.in_ok-parts.ensures
+    c.in-Ok.ensures.fit (c.sections_agree.ensures d) c.fields_are_parts.ensures)
+
+pub unreachable-requires : goal.unreachable-requires
+unreachable-requires c =
+    let d = unit_of c.args.checked.now in
+    never_longer d c.args.strings.now (map lowered_of c.args.units.now) c.requires.lowered
+    (sections_of c.in_ok-parts.parts) c.in_ok-parts.ensures
+    (c.code_is_short.ensures d) c.args.checked.now.checked (subst (λ n. 16777216 < n) c.in_ok-parts.parts.code.ok.0 (c.write.ensures.too_long.0 (c.in-Err-CodeTooLong.is ∙ ap Err c.in-Err-CodeTooLong.field-0-is)))

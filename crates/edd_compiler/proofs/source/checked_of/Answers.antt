@@ -1,0 +1,29 @@
+use Rattle.std.proofs.Common.{sym, ap, ◌∙◌, Some}
+use Rattle.std.proofs.lemmas.Result.{err_from_is_err_and}
+use Rattle.edd_syntax.specs.ItemView.{identification_of, numbered_items}
+use Rattle.edd_syntax.specs.Resolved.{description}
+use Rattle.edd_syntax.specs.SubsetRules.{subset_breaches}
+use Rattle.edd_parser.specs.Units.{unit_view}
+use Rattle.edd_compiler.proofs.Refused.{name_refused}
+use Rattle.edd_compiler.proofs.source.checked_of.Goals as goal
+
+pub returns-in_err-resolved-clause-refused : goal.returns-in_err-resolved-clause-refused
+returns-in_err-resolved-clause-refused c =
+    let p = err_from_is_err_and c.from_residual-in_err-resolved.result c.from_residual-in_err-resolved.ensures.1 in rw (p.1, p.2)
+    (name_refused c.args.text.now (unit_view c.in_ok-unit.unit) c.in_ok-unit.ensures.unit c.in_err-resolved.field-0.0 c.in_err-resolved.ensures.err)
+
+pub returns-clause-description : goal.returns-clause-description
+returns-clause-description c =
+    let same = ap (λ i. description (identification_of i) (numbered_items c.in_ok-check.field-0.items.value.items)) c.in_ok-check.ensures.identification
+    ∙ ap (λ items. description (identification_of c.in_ok-resolved.resolved.identification) (numbered_items items.items)) c.in_ok-check.ensures.items in (
+      record {
+        is_resolved = record {
+          unit = unit_view c.in_ok-unit.unit;
+          well_formed = c.in_ok-unit.unit.kept;
+          meanings = c.in_ok-resolved.ensures.ok ∙ ap Some (sym same);
+          no_breach = c.in_ok-resolved.ensures.none;
+        };
+        no_breach = ap subset_breaches same ∙ c.in_ok-check.ensures.accepted;
+      },
+      c.in_ok-unit.ensures.unit,
+    )

@@ -1,0 +1,87 @@
+-- What the refusals of a text say of it.
+use Rattle.std.specs.Prelude.{List, ℕ, IfSome, ⊤}
+use Rattle.edd_syntax.specs.Reference.{Path}
+use Rattle.edd_syntax.specs.Item.{Description}
+use Rattle.edd_syntax.specs.Refusal.{TooMany}
+use Rattle.edd_syntax.specs.declared.limits.Limit.TheVariants as limit
+use Rattle.edd_lexer.specs.declared.fault.LexFault.{LexFault}
+use Rattle.edd_lexer.specs.declared.fault.LexFault.TheVariants as lex
+use Rattle.edd_lexer.specs.Faults.{LexicalFault}
+use Rattle.edd_lexer.specs.Views.{fault_of}
+use Rattle.edd_token_reader.specs.declared.fault.ParseFault.{ParseFault}
+use Rattle.edd_token_reader.specs.declared.fault.ParseFault.TheVariants as parse
+use Rattle.edd_parser.specs.Views.{Says}
+use Rattle.edd_names.specs.declared.fault.NameFault.{NameFault}
+use Rattle.edd_names.specs.declared.fault.NameFault.TheVariants as name
+use Rattle.edd_names.specs.Faults.{refusal_of}
+use Rattle.edd_types.specs.declared.fault.TypeFault.{TypeFault}
+use Rattle.edd_types.specs.declared.fault.TypeFault.TheVariants as type
+use Rattle.edd_types.specs.Faults.{refusal_of_fault}
+use Rattle.edd_attrs.specs.declared.fault.LowerFault.{LowerFault}
+use Rattle.edd_attrs.specs.declared.fault.LowerFault.TheVariants as lower
+use Rattle.edd_compiler.specs.declared.fault.Fault.{Fault}
+use Rattle.edd_compiler.specs.declared.fault.Fault.TheVariants as fault
+use Rattle.edd_compiler.specs.Sources.{IsUnitOf, HasMethod, IsRefused}
+
+-- want of memory is one fault, whoever met it
+abbrev pub of_lex : LexFault → Fault
+of_lex lex.TooLong = fault.Lex lex.TooLong
+of_lex (lex.NotUtf8 line) = fault.Lex (lex.NotUtf8 line)
+of_lex (lex.BadCharacter line) = fault.Lex (lex.BadCharacter line)
+of_lex (lex.OpenComment line) = fault.Lex (lex.OpenComment line)
+of_lex (lex.OpenString line) = fault.Lex (lex.OpenString line)
+of_lex (lex.BadEscape line) = fault.Lex (lex.BadEscape line)
+of_lex (lex.BadNumber line) = fault.Lex (lex.BadNumber line)
+of_lex (lex.Directive line) = fault.Lex (lex.Directive line)
+of_lex lex.Memory = fault.Memory
+
+abbrev pub of_parse : ParseFault → Fault
+of_parse (parse.Syntax line) = fault.Parse (parse.Syntax line)
+of_parse (parse.TooDeep line) = fault.Parse (parse.TooDeep line)
+of_parse (parse.Unsupported word) = fault.Parse (parse.Unsupported word)
+of_parse parse.Memory = fault.Memory
+
+abbrev pub of_name : NameFault → Fault
+of_name (name.TooMany limit) = fault.Name (name.TooMany limit)
+of_name (name.DuplicateName n) = fault.Name (name.DuplicateName n)
+of_name (name.DuplicateAttribute word) = fault.Name (name.DuplicateAttribute word)
+of_name (name.MissingAttribute item word) = fault.Name (name.MissingAttribute item word)
+of_name (name.UnknownName n) = fault.Name (name.UnknownName n)
+of_name (name.WrongKind n) = fault.Name (name.WrongKind n)
+of_name name.NoMemory = fault.Memory
+
+abbrev pub of_type : TypeFault → Fault
+of_type (type.FloatVariable variable) = fault.Type (type.FloatVariable variable)
+of_type (type.OtherType variable word) = fault.Type (type.OtherType variable word)
+of_type (type.BadSize variable) = fault.Type (type.BadSize variable)
+of_type (type.Mismatch line) = fault.Type (type.Mismatch line)
+of_type (type.FloatValue line) = fault.Type (type.FloatValue line)
+of_type (type.BreakOutside line) = fault.Type (type.BreakOutside line)
+of_type (type.ConstRange line) = fault.Type (type.ConstRange line)
+of_type (type.DuplicateCase line) = fault.Type (type.DuplicateCase line)
+of_type type.Memory = fault.Memory
+
+abbrev pub of_lower : LowerFault → Fault
+of_lower lower.TooMany = fault.TooManyStrings
+of_lower lower.Memory = fault.Memory
+
+-- what can be met where code is written; of too many strings it says this
+abbrev pub IsOfLowering : Type 0 → Fault → Type 0
+IsOfLowering over (fault.Lex e) = ⊥
+IsOfLowering over (fault.Parse e) = ⊥
+IsOfLowering over (fault.Name e) = ⊥
+IsOfLowering over (fault.Type e) = ⊥
+IsOfLowering over fault.Method = ⊥
+IsOfLowering over fault.TooManyStrings = over
+IsOfLowering over fault.Memory = ⊤
+
+-- A lexical fault is the text's. A syntax fault comes only where its tokens spell no unit. A broken rule is the first of a unit
+-- that it spells. A method is one of a unit that it spells and that breaks no rule. Nothing is said of memory.
+abbrev pub Explains : List ℕ → Fault → Type 0
+Explains text (fault.Lex e) = IfSome (fault_of e) (LexicalFault text)
+Explains text (fault.Parse e) = Says e ((unit : Description Path) → ¬ IsUnitOf text unit)
+Explains text (fault.Name e) = IfSome (refusal_of e) (IsRefused text)
+Explains text (fault.Type e) = IfSome (refusal_of_fault e) (IsRefused text)
+Explains text fault.Method = HasMethod text
+Explains text fault.TooManyStrings = IsRefused text (TooMany limit.Strings)
+Explains text fault.Memory = ⊤

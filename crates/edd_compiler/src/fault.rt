@@ -1,0 +1,108 @@
+//! Why a text is not compiled.
+
+ghost use Rattle.std.specs.Prelude.{◌≡◌};
+ghost use Rattle.edd_compiler.specs.Faults.{of_lex, of_parse, of_name, of_type, of_lower};
+
+use edd_attrs::LowerFault;
+use edd_lexer::fault::LexFault;
+use edd_names::fault::NameFault;
+use edd_parser::fault::ParseFault;
+use edd_types::fault::TypeFault;
+use std::alloc::{AllocError, AllocFailed};
+use thiserror::Error;
+
+/// Why a text is not compiled. It prints its number, its kind and what is at fault.
+#[derive(Debug, Drop, Error)]
+pub enum Fault {
+    #[error("{0}")]
+    Lex(LexFault),
+    #[error("{0}")]
+    Parse(ParseFault),
+    #[error("{0}")]
+    Name(NameFault),
+    #[error("{0}")]
+    Type(TypeFault),
+    /// The description has a method, which no image can say yet.
+    #[error("12 UNSUPPORTED METHOD")]
+    Method,
+    /// More than 65,535 different strings.
+    #[error("40 TOO_MANY strings")]
+    TooManyStrings,
+    #[error("no memory")]
+    Memory,
+}
+
+impl From<LexFault> for Fault {
+    ghost from_gives = { λ given made. made ≡ of_lex given };
+
+    fn from(fault: LexFault) -> Fault {
+        match fault {
+            LexFault::Memory => Fault::Memory,
+            other => Fault::Lex(other),
+        }
+    }
+}
+
+impl From<ParseFault> for Fault {
+    ghost from_gives = { λ given made. made ≡ of_parse given };
+
+    fn from(fault: ParseFault) -> Fault {
+        match fault {
+            ParseFault::Memory => Fault::Memory,
+            other => Fault::Parse(other),
+        }
+    }
+}
+
+impl From<NameFault> for Fault {
+    ghost from_gives = { λ given made. made ≡ of_name given };
+
+    fn from(fault: NameFault) -> Fault {
+        match fault {
+            NameFault::NoMemory => Fault::Memory,
+            other => Fault::Name(other),
+        }
+    }
+}
+
+impl From<TypeFault> for Fault {
+    ghost from_gives = { λ given made. made ≡ of_type given };
+
+    fn from(fault: TypeFault) -> Fault {
+        match fault {
+            TypeFault::Memory => Fault::Memory,
+            other => Fault::Type(other),
+        }
+    }
+}
+
+impl From<LowerFault> for Fault {
+    ghost from_gives = { λ given made. made ≡ of_lower given };
+
+    fn from(fault: LowerFault) -> Fault {
+        match fault {
+            LowerFault::TooMany => Fault::TooManyStrings,
+            LowerFault::Memory => Fault::Memory,
+        }
+    }
+}
+
+impl From<AllocError> for Fault {
+    ghost use Rattle.edd_compiler.specs.declared.fault.Fault.TheVariants.{Memory};
+
+    ghost from_gives = { λ _ made. made ≡ Memory };
+
+    fn from(_error: AllocError) -> Fault {
+        Fault::Memory
+    }
+}
+
+impl<T: Drop> From<AllocFailed<T>> for Fault {
+    ghost use Rattle.edd_compiler.specs.declared.fault.Fault.TheVariants.{Memory};
+
+    ghost from_gives = { λ _ made. made ≡ Memory };
+
+    fn from(_error: AllocFailed<T>) -> Fault {
+        Fault::Memory
+    }
+}

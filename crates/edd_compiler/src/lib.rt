@@ -1,0 +1,12 @@
+//! The compiler: the bytes of an image from a text, and the theorem on them.
+#![tactic(auto)]
+
+mod compiling;
+mod fault;
+mod lowering;
+mod methods;
+mod source;
+
+pub use compiling::compile;
+pub use fault::Fault;
+pub use source::{checked_of, unit_of};

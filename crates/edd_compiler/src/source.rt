@@ -1,0 +1,41 @@
+//! The description of a text.
+
+ghost use Rattle.std.specs.Prelude.{◌≡◌, IfOk, IfErr, MatchResult};
+ghost use Rattle.edd_syntax.specs.ItemView.{identification_of, numbered_items};
+ghost use Rattle.edd_syntax.specs.Reference.{Path};
+ghost use Rattle.edd_syntax.specs.Resolved.{description};
+ghost use Rattle.edd_syntax.specs.Item.{Description};
+ghost use Rattle.edd_parser.specs.Units.{unit_view};
+ghost use Rattle.edd_compiler.specs.declared.fault.Fault.TheVariants.{Memory};
+ghost use Rattle.edd_compiler.specs.Faults.{Explains};
+ghost use Rattle.edd_compiler.specs.Sources.{IsUnitOf, IsDescriptionOf};
+
+use crate::fault::Fault;
+use edd_lexer::lex;
+use edd_names::resolve;
+use edd_parser::parse;
+use edd_syntax::checked::Checked;
+use edd_syntax::unit::Unit;
+use edd_types::check;
+use std::alloc::Global;
+
+/// The unit that the tokens of a text spell. There is at most one.
+pub fn unit_of(alloc: Global, text: &[u8]) -> Result<Unit, Fault>
+    ensures unit { IfOk result (λ u. IsUnitOf text.now (unit_view u)) }
+    ensures refused { IfErr result (Explains text.now) }
+    ensures only_unit { (unit : Description Path) → IsUnitOf text.now unit
+        → MatchResult result (λ u. unit_view u ≡ unit) (λ e. e ≡ Memory) }
+{
+    let tokens = lex(alloc, text)?;
+    Ok(parse(alloc, text, &tokens)?)
+}
+
+/// The description that a text stands for, if no rule is broken. Strings are counted where they are written.
+pub fn checked_of(alloc: Global, text: &[u8]) -> Result<Checked, Fault>
+    ensures description { IfOk result (λ c. IsDescriptionOf text.now (description (identification_of c.identification) (numbered_items c.items.value.items))) }
+    ensures refused { IfErr result (Explains text.now) }
+{
+    let unit = unit_of(alloc, text)?;
+    let resolved = resolve(alloc, &unit)?;
+    Ok(check(alloc, &resolved)?)
+}
