@@ -6,17 +6,28 @@ use Rattle.edd_syntax.specs.declared.reference.Target.{Target}
 use Rattle.edd_syntax.specs.declared.words.Words as in_code
 use Rattle.edd_syntax.specs.Resolved.{IsChecked}
 use Rattle.edd_syntax.specs.Rows.{rows}
+use Rattle.edd_syntax.specs.Words.{Words}
 use Rattle.edd_syntax.specs.WordsView.{string_of}
 use Rattle.edd_syntax.specs.Item.{Description}
 use Rattle.edd_image.specs.Agreement.{AgreesOnData}
 use Rattle.edd_image.specs.Contents.{contents_in, contents_of}
 use Rattle.edd_image.specs.Layout.{Sections, AreSections, layout}
 use Rattle.edd_image.specs.Validity.{code_limit, IsSound, IsValid}
+use Rattle.edd_assembly.specs.declared.units.Lowered as in_code_units
 use Rattle.edd_assembly.specs.Assembly.{Lowered, assembled}
+use Rattle.edd_assembly.specs.Views.{lowered_of}
 use Rattle.edd_assembly.specs.LoweredUnits.{AreUnitsOf}
 use Rattle.edd_bounds.specs.RowContents.{limit_of_row}
 use Rattle.edd_compiler.specs.Lowering.{HasLowered}
 use Rattle.edd_compiler.proofs.ImageParts.{are_units, code_within}
+
+-- what is said of a table and its units is said of the words and the units that are handed on
+pub handed_on : (d : Description Target) {table : List Words} (words : List in_code.Words) (units given : List in_code_units.Lowered)
+    → HasLowered d (rows d.items) table (map lowered_of units) → map string_of words ≡ table → given ≡ units
+    → HasLowered d (rows d.items) (map string_of words) (map lowered_of given)
+handed_on d words units given has table same =
+    subst (λ us. HasLowered d (rows d.items) (map string_of words) (map lowered_of us)) (sym same)
+    (subst (λ t. HasLowered d (rows d.items) t (map lowered_of units)) (sym table) has)
 
 module _ (d : Description Target) (words : List in_code.Words) (units : List Lowered)
     (has : HasLowered d (rows d.items) (map string_of words) units) (s : Sections) (made : s ≡ assembled d units (map string_of words)) where

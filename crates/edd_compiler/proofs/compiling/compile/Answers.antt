@@ -1,11 +1,13 @@
+use Rattle.std.proofs.lemmas.Result.{err_from_is_err_and}
 use Rattle.edd_attrs.specs.Views.{unit_of}
-use Rattle.edd_compiler.proofs.CompiledTexts.{is_image, explained, of_good, of_bad}
+use Rattle.edd_compiler.proofs.CompiledTexts.{is_image, explained, of_good}
 use Rattle.edd_compiler.proofs.compiling.compile.Goals as goal
 
 pub returns-clause-image : goal.returns-clause-image
-returns-clause-image c = of_good c.image_of.result c.image_of.ensures.valid c.image_of.ensures.agrees c.image_of.ensures.few_strings
+returns-clause-image c = of_good c.write_image.result c.write_image.ensures.valid c.write_image.ensures.agrees c.write_image.ensures.few_strings
     (λ bytes valid agrees few. is_image c.args.text.now (unit_of c.in_ok-checked.checked) c.in_ok-checked.ensures.description bytes.items valid agrees few)
 
-pub returns-clause-refused : goal.returns-clause-refused
-returns-clause-refused c = of_bad c.image_of.result c.image_of.ensures.refused
-    (λ e is. explained c.args.text.now (unit_of c.in_ok-checked.checked) c.in_ok-checked.ensures.description e is)
+pub returns-in_err-lowering-clause-refused : goal.returns-in_err-lowering-clause-refused
+returns-in_err-lowering-clause-refused c =
+    let p = err_from_is_err_and c.from_residual-in_err-lowering.result c.from_residual-in_err-lowering.ensures.1 in rw (p.1, p.2)
+    (explained c.args.text.now (unit_of c.in_ok-checked.checked) c.in_ok-checked.ensures.description c.in_err-lowering.field-0.0 c.in_err-lowering.ensures.refused)

@@ -5,14 +5,22 @@ use Rattle.edd_image.specs.Layout.{sections_of}
 use Rattle.edd_image.specs.Validity.{IsValid}
 use Rattle.edd_assembly.specs.Views.{lowered_of}
 use Rattle.edd_attrs.specs.Views.{unit_of}
-use Rattle.edd_compiler.proofs.WrittenImages.{never_longer, is_valid, agrees}
+use Rattle.edd_compiler.proofs.ImageParts.{few_strings}
+use Rattle.edd_compiler.proofs.WrittenImages.{handed_on, never_longer, is_valid, agrees}
 use Rattle.edd_compiler.proofs.compiling.write_image.Goals as goal
+
+pub returns-in-Ok-clause-few_strings : goal.returns-in-Ok-clause-few_strings
+returns-in-Ok-clause-few_strings c =
+    let d = unit_of c.args.checked.now in
+    few_strings d c.different_strings_count.ensures.within c.different_strings_count.ensures.itself
+    (c.strings_stand_in_rows.ensures.in_rows d c.args.checked.now.checked)
+    c.args.lowering.now.table (map lowered_of c.args.lowering.now.units.items) c.words-strings.ensures.different c.words-strings.ensures.few c.requires.lowered
 
 pub returns-in-Ok-clause-valid : goal.returns-in-Ok-clause-valid
 returns-in-Ok-clause-valid c =
     let d = unit_of c.args.checked.now in
     subst IsValid (sym c.in-Ok.ensures.layout)
-    (is_valid d c.args.strings.now (map lowered_of c.args.units.now) c.requires.lowered
+    (is_valid d c.words-strings.result.now (map lowered_of c.deref.result.now) (handed_on d c.words-strings.result.now c.args.lowering.now.units.items c.deref.result.now c.requires.lowered c.words-strings.ensures.value c.deref.ensures.value)
     (sections_of c.in_ok-parts.parts) c.in_ok-parts.ensures
     (c.code_is_short.ensures d) c.args.checked.now.checked c.in-Ok.ensures.fit (c.sections_are_sound.ensures d) c.sound_parts_are_valid.ensures)
 
@@ -20,13 +28,13 @@ pub returns-in-Ok-clause-agrees : goal.returns-in-Ok-clause-agrees
 returns-in-Ok-clause-agrees c =
     let d = unit_of c.args.checked.now in
     subst (λ b. AgreesOnData d (contents_in b)) (sym c.in-Ok.ensures.layout)
-    (agrees d c.args.strings.now (map lowered_of c.args.units.now) c.requires.lowered
+    (agrees d c.words-strings.result.now (map lowered_of c.deref.result.now) (handed_on d c.words-strings.result.now c.args.lowering.now.units.items c.deref.result.now c.requires.lowered c.words-strings.ensures.value c.deref.ensures.value)
     (sections_of c.in_ok-parts.parts) c.in_ok-parts.ensures
     c.in-Ok.ensures.fit (c.sections_agree.ensures d) c.fields_are_parts.ensures)
 
 pub unreachable-requires : goal.unreachable-requires
 unreachable-requires c =
     let d = unit_of c.args.checked.now in
-    never_longer d c.args.strings.now (map lowered_of c.args.units.now) c.requires.lowered
+    never_longer d c.words-strings.result.now (map lowered_of c.deref.result.now) (handed_on d c.words-strings.result.now c.args.lowering.now.units.items c.deref.result.now c.requires.lowered c.words-strings.ensures.value c.deref.ensures.value)
     (sections_of c.in_ok-parts.parts) c.in_ok-parts.ensures
     (c.code_is_short.ensures d) c.args.checked.now.checked (subst (λ n. 16777216 < n) c.in_ok-parts.parts.code.ok.0 (c.write.ensures.too_long.0 (c.in-Err-CodeTooLong.is ∙ ap Err c.in-Err-CodeTooLong.field-0-is)))
