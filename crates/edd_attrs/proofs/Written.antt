@@ -110,10 +110,9 @@ response_written old new before after n c w s table keeps is =
 
 pub enumerator_written : (old mid new : List Words) (before after : List ℕ) (z : ℤ) (w : Words) (o : Option Words) (s : StrNo) (h : Option StrNo)
     → GrowsBy old (w ∷ []) mid → Keeps mid w s → GrowsBy mid (option_to_list o) new → KeepsOptional new o h
-    → (value : List ℕ) → value ≡ i64 z → after ≡ before ++ 0x45 ∷ (value ++ (u16 s.0 ++ optional_bytes h)) → WritesRecord old before (source.Enumerator z w o) new after
-enumerator_written old mid new before after z w o s h first keeps second helps value same is =
-    record_written old new before after (source.Enumerator z w o) (records.Enumerator z s h) (instruction.Enumerator z s h) refl (both_added first second)
-    (is ∙ ap (λ (bs : List ℕ). before ++ 0x45 ∷ (bs ++ (u16 s.0 ++ optional_bytes h))) same)
+    → after ≡ before ++ spelling (instruction.Enumerator z s h) → WritesRecord old before (source.Enumerator z w o) new after
+enumerator_written old mid new before after z w o s h first keeps second helps is =
+    record_written old new before after (source.Enumerator z w o) (records.Enumerator z s h) (instruction.Enumerator z s h) refl (both_added first second) is
     (λ later. (s, h, refl, keeps_on mid new w s keeps (growth second) later, helps later))
 
 pub member_written : (old named labelled new : List Words) (before after : List ℕ) (i : ItemNo) (w : Words) (o p : Option Words) (s : StrNo) (l h : Option StrNo)

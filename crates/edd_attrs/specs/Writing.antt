@@ -11,8 +11,8 @@ use Rattle.edd_syntax.specs.Attributes.{enumerator}
 use Rattle.edd_syntax.specs.Item as item
 use Rattle.edd_syntax.specs.Item.{Enumerator, TypePart}
 use Rattle.edd_image.specs.Agreement.{string_of_table}
-use Rattle.edd_image.specs.Layout.{u32}
-use Rattle.edd_image.specs.Spelling.{i64}
+use Rattle.edd_image.specs.declared.instruction.Instruction.TheVariants as instruction
+use Rattle.edd_image.specs.Spelling.{spelling}
 use Rattle.edd_expressions.specs.Blocks.{Block, bytes_at}
 use Rattle.edd_expressions.specs.Closing.{closed}
 use Rattle.edd_attrs.specs.Code.{GrowsBy}
@@ -47,7 +47,7 @@ default_of (ConsArm (Default body) rest) = Some body
 
 -- a CASE whose target is still open; DEFAULT has no code of its own
 abbrev pub header : {V : Type 0} → Arm Target V → List ℕ
-header (Case label body) = 0x33 ∷ (i64 label ++ u32 0)
+header (Case label body) = spelling (instruction.Case label 0)
 header (Default body) = []
 
 abbrev pub headers : {V : Type 0} → List (Arm Target V) → List ℕ
@@ -56,7 +56,7 @@ headers arms = flat_map header arms
 -- behind the code a jump over the body, which is the target of the CASE
 abbrev pub with_body : (code : List ℕ) (hole : ℕ) → Block → List ℕ
 with_body code hole body =
-    let opened = closed (code ++ (0x30 ∷ u32 0)) hole in closed (opened ++ bytes_at (length opened) body) (length code + 1)
+    let opened = closed (code ++ spelling (instruction.Jump 0)) hole in closed (opened ++ bytes_at (length opened) body) (length code + 1)
 
 pub record WritesBody (old : List Words) (before : List ℕ) (hole : ℕ) (strings : List Words) (of : (StrNo → Option Words) → Block → Type 0) (new : List Words) (after : List ℕ) : Type 0 where
   pub table : GrowsBy old strings new

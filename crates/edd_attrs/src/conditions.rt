@@ -13,7 +13,8 @@ ghost use Rattle.edd_attrs.specs.Writing.{WritesArm, WritesArms, WritesBody, arm
 
 use crate::elements::Element;
 use crate::fault::LowerFault;
-use edd_expressions::{close, open_case, open_if_zero, open_jump, put_pop, write_expression};
+use edd_expressions::{close, open_case, open_if_zero, open_jump, put, write_expression};
+use edd_image::Instruction;
 use edd_strings::Table;
 use edd_syntax::cond::{Arm, Cond};
 use edd_syntax::expr::Expr;
@@ -114,7 +115,7 @@ fn write_select<V: Element>(
     write_expression(code, on)?;
     open_cases(code, arms)?;
     let behind = code.len();
-    put_pop(code)?;
+    put(code, Instruction::Pop)?;
     write_default(alloc, code, table, arms)?;
     write_bodies(alloc, code, table, behind, arms)
 }

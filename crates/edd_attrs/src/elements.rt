@@ -14,7 +14,6 @@ ghost use Rattle.edd_syntax.specs.WellFormed.{is_text};
 ghost use Rattle.edd_syntax.specs.Words.{Words};
 ghost use Rattle.edd_syntax.specs.WordsView.{text_of};
 ghost use Rattle.edd_image.specs.Agreement as agreement;
-ghost use Rattle.edd_image.specs.Spelling.{i64};
 ghost use Rattle.edd_expressions.specs.Blocks.{Block};
 ghost use Rattle.edd_attrs.specs.Code.{Grows, Overflows};
 ghost use Rattle.edd_attrs.specs.Lowered.{WritesBlock};
@@ -24,16 +23,14 @@ ghost use Rattle.edd_attrs.specs.Writing.{WritesRecord};
 
 use crate::fault::LowerFault;
 use crate::strings::{add_name, add_optional, add_text};
-use crate::writing::{
-    put_data_const, put_data_var, put_entry, put_enumerator, put_member, put_response, put_text,
-};
-use edd_expressions::{put_number, put_push, write_expression};
+use edd_expressions::{put, write_expression};
+use edd_image::Instruction;
 use edd_strings::Table;
 use edd_syntax::expr::Expr;
 use edd_syntax::item::{
     DataItem, DataQualifiers, Enumerator, Member, MenuEntry, MenuQualifiers, ResponseCode,
 };
-use edd_syntax::numbers::{ItemNo, VarNo};
+use edd_syntax::numbers::{ItemNo, StrNo, VarNo};
 use edd_syntax::reference::Target;
 use edd_syntax::text::Text;
 use edd_syntax::types::{Handling, ResponseClass};
@@ -70,8 +67,8 @@ pub fn write_number(code: &mut Vec<u8>, number: u32) -> Result<(), AllocError>
     ensures { OnOk result
         ((table : List Words) → WritesRecord table code.old.items (source.Number (pos number)) table code.new.items) }
 {
-    put_push(code, number)?;
-    put_number(code)
+    put(code, Instruction::Push(number))?;
+    put(code, Instruction::Number)
 }
 
 fn handling_number(handling: Handling) -> u32
@@ -151,7 +148,7 @@ impl Element for Expr<Target> {
         _table: &mut Table,
     ) -> Result<(), LowerFault> {
         write_expression(code, self)?;
-        put_number(code)?;
+        put(code, Instruction::Number)?;
         Ok(())
     }
 }
@@ -177,7 +174,7 @@ impl Element for Text {
         table: &mut Table,
     ) -> Result<(), LowerFault> {
         let number = add_text(alloc, table, self)?;
-        put_text(code, number)?;
+        put(code, Instruction::Text(number))?;
         Ok(())
     }
 }
@@ -202,7 +199,7 @@ impl Element for String {
         table: &mut Table,
     ) -> Result<(), LowerFault> {
         let number = add_name(alloc, table, self)?;
-        put_text(code, number)?;
+        put(code, Instruction::Text(number))?;
         Ok(())
     }
 }
@@ -234,7 +231,8 @@ fn write_item(code: &mut Vec<u8>, to: Target, qualifiers: MenuQualifiers) -> Res
     ensures { OnOk result
         ((table : List Words) → WritesRecord table code.old.items (source.Entry (source.item_of to) qualifiers) table code.new.items) }
 {
-    put_entry(code, item_of(to), menu_bits(qualifiers))
+    let (item, quals) = (item_of(to), menu_bits(qualifiers));
+    put(code, Instruction::Item { item, quals })
 }
 
 impl Element for MenuEntry<Target> {
@@ -300,11 +298,13 @@ fn write_variable(
     ensures { OnOk result
         ((table : List Words) → WritesRecord table code.old.items (source.DataVar (source.variable_of variable) mask qualifiers) table code.new.items) }
 {
-    put_data_var(
+    put(
         code,
-        variable_of(variable),
-        mask_number(mask),
-        data_bits(qualifiers),
+        Instruction::DataVar {
+            var: variable_of(variable),
+            mask: mask_number(mask),
+            quals: data_bits(qualifiers),
+        },
     )
 }
 
@@ -314,7 +314,7 @@ fn write_constant(code: &mut Vec<u8>, value: u32) -> Result<(), AllocError>
     ensures { OnOk result
         ((table : List Words) → WritesRecord table code.old.items (source.DataConst value) table code.new.items) }
 {
-    put_data_const(code, value as u8)
+    put(code, Instruction::DataConst(value as u8))
 }
 
 impl Element for DataItem<Target> {
@@ -349,10 +349,14 @@ impl Element for DataItem<Target> {
 
 // ---- enumerators, response codes and members
 
-fn value_bytes(e: &Enumerator) -> [u8; 8]
-    ensures { result ≡ i64 (enumerator_of e.now).value }
+fn enumerated(e: &Enumerator, text: StrNo, help: Option<StrNo>) -> Instruction
+    ensures { result ≡ Instruction.Enumerator (enumerator_of e.now).value text help }
 {
-    e.value.to_be_bytes()
+    Instruction::Enumerator {
+        value: e.value,
+        text,
+        help,
+    }
 }
 
 impl Element for Enumerator {
@@ -374,8 +378,7 @@ impl Element for Enumerator {
     ) -> Result<(), LowerFault> {
         let text = add_text(alloc, table, &self.text)?;
         let help = add_optional(alloc, table, &self.help)?;
-        let value = value_bytes(self);
-        put_enumerator(code, &value, text, help)?;
+        put(code, enumerated(self, text, help))?;
         Ok(())
     }
 }
@@ -413,7 +416,14 @@ impl Element for ResponseCode {
         table: &mut Table,
     ) -> Result<(), LowerFault> {
         let text = add_text(alloc, table, &self.text)?;
-        put_response(code, self.number, class_number(self.class), text)?;
+        put(
+            code,
+            Instruction::Response {
+                number: self.number,
+                class: class_number(self.class),
+                text,
+            },
+        )?;
         Ok(())
     }
 }
@@ -438,7 +448,15 @@ impl Element for Member<Target> {
         let name = add_name(alloc, table, &self.name)?;
         let label = add_optional(alloc, table, &self.label)?;
         let help = add_optional(alloc, table, &self.help)?;
-        put_member(code, name, item_of(self.item), label, help)?;
+        put(
+            code,
+            Instruction::Member {
+                name,
+                item: item_of(self.item),
+                label,
+                help,
+            },
+        )?;
         Ok(())
     }
 }

@@ -12,7 +12,6 @@ mod lists;
 mod lowering;
 mod strings;
 mod trees;
-mod writing;
 
 pub use attribute::{lower_attribute, lower_indexed};
 pub use fault::LowerFault;

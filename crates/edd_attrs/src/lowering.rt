@@ -21,7 +21,8 @@ use crate::elements::write_number;
 use crate::fault::LowerFault;
 use crate::lists::write_all;
 use crate::trees::Tree;
-use edd_expressions::put_end;
+use edd_expressions::put;
+use edd_image::Instruction;
 use edd_strings::Table;
 use edd_syntax::item::TypePart;
 use edd_syntax::reference::Target;
@@ -135,6 +136,6 @@ pub fn lower_tree(
     if let Some(tree) = tree {
         write_tree(alloc, &mut code, table, tree)?;
     }
-    put_end(&mut code)?;
+    put(&mut code, Instruction::End)?;
     Ok(code)
 }

@@ -2,91 +2,25 @@
 
 ghost use Rattle.std.specs.Prelude.{◌≡◌, ◌++◌, length, OnOk};
 ghost use Rattle.edd_syntax.specs.TreeView.{expr_of};
-ghost use Rattle.edd_image.specs.Spelling.{spelling, operator_code, comparison_code};
 ghost use Rattle.edd_expressions.specs.Blocks.{WhenNotZero, WhenZero, Either, Straight, Then, bytes_at};
 ghost use Rattle.edd_expressions.specs.Expressions.{item_block, read_block, unary_block, truth_block, then_test, instead, no_value, expression_block};
 
-use crate::emit::{close, open_if_not_zero, open_if_zero, open_jump, put_pop, put_push};
+use crate::emit::{close, open_if_not_zero, open_if_zero, open_jump, put};
 use edd_image::Instruction;
 use edd_syntax::expr::Expr;
-use edd_syntax::numbers::{ItemNo, VarNo};
-use edd_syntax::operators::{Comparison, Operator, UnaryOperator};
+use edd_syntax::numbers::ItemNo;
+use edd_syntax::operators::UnaryOperator;
 use edd_syntax::reference::Target;
 use std::alloc::AllocError;
-
-fn operator_code(op: Operator) -> u8
-    ensures { result ≡ operator_code op }
-{
-    match op {
-        Operator::Add => 0x10,
-        Operator::Subtract => 0x11,
-        Operator::Multiply => 0x12,
-        Operator::Divide => 0x13,
-        Operator::Remainder => 0x14,
-        Operator::ShiftLeft => 0x15,
-        Operator::ShiftRight => 0x16,
-        Operator::And => 0x17,
-        Operator::Or => 0x18,
-        Operator::Xor => 0x19,
-    }
-}
-
-fn comparison_code(by: Comparison) -> u8
-    ensures { result ≡ comparison_code by }
-{
-    match by {
-        Comparison::Equal => 0x1a,
-        Comparison::NotEqual => 0x1b,
-        Comparison::Less => 0x1c,
-        Comparison::LessOrEqual => 0x1d,
-        Comparison::Greater => 0x1e,
-        Comparison::GreaterOrEqual => 0x1f,
-    }
-}
-
-fn put_operate(code: &mut Vec<u8>, op: Operator) -> Result<(), AllocError>
-    ensures { OnOk result (code.new.items ≡ code.old.items ++ spelling (Instruction.Operate op)) }
-{
-    code.push(operator_code(op))?;
-    Ok(())
-}
-
-fn put_compare(code: &mut Vec<u8>, by: Comparison) -> Result<(), AllocError>
-    ensures { OnOk result (code.new.items ≡ code.old.items ++ spelling (Instruction.Compare by)) }
-{
-    code.push(comparison_code(by))?;
-    Ok(())
-}
-
-fn put_duplicate(code: &mut Vec<u8>) -> Result<(), AllocError>
-    ensures { OnOk result (code.new.items ≡ code.old.items ++ spelling Instruction.Duplicate) }
-{
-    code.push(0x07)?;
-    Ok(())
-}
-
-fn put_not(code: &mut Vec<u8>) -> Result<(), AllocError>
-    ensures { OnOk result (code.new.items ≡ code.old.items ++ spelling Instruction.Not) }
-{
-    code.push(0x21)?;
-    Ok(())
-}
-
-fn put_variable(code: &mut Vec<u8>, variable: VarNo) -> Result<(), AllocError>
-    ensures { OnOk result (code.new.items ≡ code.old.items ++ spelling (Instruction.Variable variable)) }
-{
-    code.push(0x02)?;
-    code.extend_from_slice(&variable.0.to_be_bytes())
-}
 
 #[tactic(auto, unfolding(crate::specs::Blocks::emitted, crate::specs::Blocks::bytes_of))]
 fn write_item(code: &mut Vec<u8>, item: ItemNo) -> Result<(), AllocError>
     ensures { OnOk result (code.new.items ≡ code.old.items ++ bytes_at (length code.old.items) (item_block item)) }
 {
     match item {
-        ItemNo::Variable(variable) => put_variable(code, variable),
+        ItemNo::Variable(variable) => put(code, Instruction::Variable(variable)),
         ItemNo::Command(_) | ItemNo::Menu(_) | ItemNo::Collection(_) | ItemNo::Method(_) => {
-            put_push(code, 0)
+            put(code, Instruction::Push(0))
         }
     }
 }
@@ -97,7 +31,7 @@ fn write_read(code: &mut Vec<u8>, from: Target) -> Result<(), AllocError>
 {
     match from {
         Target::Item(item) => write_item(code, item),
-        Target::Local(_) | Target::Function(_) => put_push(code, 0),
+        Target::Local(_) | Target::Function(_) => put(code, Instruction::Push(0)),
     }
 }
 
@@ -107,15 +41,9 @@ fn write_unary(code: &mut Vec<u8>, op: UnaryOperator) -> Result<(), AllocError>
 {
     match op {
         UnaryOperator::Plus => Ok(()),
-        UnaryOperator::Minus => {
-            code.push(0x20)?;
-            Ok(())
-        }
-        UnaryOperator::Not => put_not(code),
-        UnaryOperator::Complement => {
-            code.push(0x22)?;
-            Ok(())
-        }
+        UnaryOperator::Minus => put(code, Instruction::Negate),
+        UnaryOperator::Not => put(code, Instruction::Not),
+        UnaryOperator::Complement => put(code, Instruction::Complement),
     }
 }
 
@@ -123,8 +51,8 @@ fn write_unary(code: &mut Vec<u8>, op: UnaryOperator) -> Result<(), AllocError>
 fn write_truth(code: &mut Vec<u8>) -> Result<(), AllocError>
     ensures { OnOk result (code.new.items ≡ code.old.items ++ bytes_at (length code.old.items) truth_block) }
 {
-    put_not(code)?;
-    put_not(code)
+    put(code, Instruction::Not)?;
+    put(code, Instruction::Not)
 }
 
 /// The code of an expression, which leaves its value on top of the operands.
@@ -135,7 +63,7 @@ pub fn write_expression(code: &mut Vec<u8>, e: &Expr<Target>) -> Result<(), Allo
         ≡ code.old.items ++ bytes_at (length code.old.items) (expression_block (expr_of (λ r. r) e.now))) }
 {
     match e {
-        Expr::Literal(value) => put_push(code, *value),
+        Expr::Literal(value) => put(code, Instruction::Push(*value)),
         Expr::Reference(from) => write_read(code, *from),
         Expr::Parentheses(inner) => write_expression(code, inner),
         Expr::Unary(op, operand) => {
@@ -144,11 +72,11 @@ pub fn write_expression(code: &mut Vec<u8>, e: &Expr<Target>) -> Result<(), Allo
         }
         Expr::Binary(op, left, right) => {
             write_two(code, left, right)?;
-            put_operate(code, *op)
+            put(code, Instruction::Operate(*op))
         }
         Expr::Compare(by, left, right) => {
             write_two(code, left, right)?;
-            put_compare(code, *by)
+            put(code, Instruction::Compare(*by))
         }
         Expr::LogicalAnd(left, right) => {
             write_expression(code, left)?;
@@ -166,7 +94,7 @@ pub fn write_expression(code: &mut Vec<u8>, e: &Expr<Target>) -> Result<(), Allo
         | Expr::Assign(_, _)
         | Expr::CompoundAssign(_, _, _)
         | Expr::Increment(_, _)
-        | Expr::Call { .. } => put_push(code, 0),
+        | Expr::Call { .. } => put(code, Instruction::Push(0)),
     }
 }
 
@@ -190,7 +118,7 @@ fn write_and(code: &mut Vec<u8>, right: &Expr<Target>) -> Result<(), AllocError>
     ensures { OnOk result (code.new.items ≡ code.old.items ++ bytes_at (length code.old.items)
         (then_test (WhenNotZero (instead (expression_block (expr_of (λ r. r) right.now)))))) }
 {
-    put_duplicate(code)?;
+    put(code, Instruction::Duplicate)?;
     let hole = open_if_zero(code)?;
     write_instead(code, right)?;
     close(code, hole);
@@ -204,7 +132,7 @@ fn write_or(code: &mut Vec<u8>, right: &Expr<Target>) -> Result<(), AllocError>
         (Then truth_block (then_test (WhenZero (instead (expression_block (expr_of (λ r. r) right.now))))))) }
 {
     write_truth(code)?;
-    put_duplicate(code)?;
+    put(code, Instruction::Duplicate)?;
     let hole = open_if_not_zero(code)?;
     write_instead(code, right)?;
     close(code, hole);
@@ -217,7 +145,7 @@ fn write_instead(code: &mut Vec<u8>, right: &Expr<Target>) -> Result<(), AllocEr
     ensures { OnOk result (code.new.items ≡ code.old.items ++ bytes_at (length code.old.items)
         (instead (expression_block (expr_of (λ r. r) right.now)))) }
 {
-    put_pop(code)?;
+    put(code, Instruction::Pop)?;
     write_expression(code, right)?;
     write_truth(code)
 }

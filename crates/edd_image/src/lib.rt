@@ -2,6 +2,7 @@
 #![tactic(auto)]
 
 mod decoding;
+mod encoding;
 mod fields;
 mod header;
 mod instruction;
@@ -17,6 +18,7 @@ mod worked;
 mod writing;
 
 pub use decoding::decode;
+pub use encoding::{Encoding, encode};
 pub use fields::{u8_at, u16_at, u32_at};
 pub use header::{
     HEADER_LENGTH, attribute_count, code_length, collection_count, command_count, counts,

@@ -152,13 +152,13 @@ write_conds-returns-clause-ok g t c =
 pub write_select-returns-clause-ok : goal.write_select-returns-clause-ok
 write_select-returns-clause-ok g t c =
     carried c.write_bodies.result
-    (select_written g.V.Element.strings g.V.Element.is_block c.args.table.now c.write_default.new.table c.write_bodies.new.table c.args.code.now.items c.write_expression.new.code.items c.open_cases.new.code.items c.put_pop.new.code.items c.write_default.new.code.items
+    (select_written g.V.Element.strings g.V.Element.is_block c.args.table.now c.write_default.new.table c.write_bodies.new.table c.args.code.now.items c.write_expression.new.code.items c.open_cases.new.code.items c.put.new.code.items c.write_default.new.code.items
     c.write_bodies.new.code.items (expr_of (λ r. r) c.args.on.now) (map (arm_viewed g.V.Element.view) c.args.arms.now) c.len-behind.result
-    c.in_ok-write_expression.ensures c.in_ok-open_cases.ensures (omega arith) c.in_ok-put_pop.ensures c.in_ok-write_default.ensures.ok) c.write_bodies.ensures.ok
+    c.in_ok-write_expression.ensures c.in_ok-open_cases.ensures (omega arith) c.in_ok-put.ensures c.in_ok-write_default.ensures.ok) c.write_bodies.ensures.ok
 
 pub write_select-returns-clause-too_many : goal.write_select-returns-clause-too_many
 write_select-returns-clause-too_many g t c h =
-    select_overflows g.V.Element.strings g.V.Element.is_block c.args.table.now c.write_default.new.table c.put_pop.new.code.items c.write_default.new.code.items (arms_viewed g.V.Element.view c.args.arms.now) c.in_ok-write_default.ensures.ok
+    select_overflows g.V.Element.strings g.V.Element.is_block c.args.table.now c.write_default.new.table c.put.new.code.items c.write_default.new.code.items (arms_viewed g.V.Element.view c.args.arms.now) c.in_ok-write_default.ensures.ok
     (c.write_bodies.ensures.too_many h)
 
 -- ---- write_default

@@ -1,9 +1,11 @@
-use Rattle.std.proofs.Common.{arith, List, [], ◌∷◌}
+use Rattle.std.proofs.Common.{arith, ap, ◌∙◌, List, [], ◌∷◌, ◌++◌}
 use Rattle.std.specs.Prelude.{option_map}
 use Rattle.std.specs.Option.{option_to_list}
 use Rattle.std.proofs.lemmas.Grind.{common_steps}
 use Rattle.edd_syntax.specs.Words.{Words, words_of}
 use Rattle.edd_syntax.specs.WordsView.{text_of}
+use Rattle.edd_image.specs.declared.instruction.Instruction.{Instruction}
+use Rattle.edd_image.specs.Spelling.{spelling}
 use Rattle.edd_attrs.specs.Code.{Overflows}
 use Rattle.edd_attrs.proofs.Growing.{grows_on, overflows_head, overflows_tail}
 use Rattle.edd_attrs.proofs.Written.{enumerator_written}
@@ -23,14 +25,15 @@ returns-in_err-help-clause-too_many c h =
 pub returns-in_err-help-clause-grows : goal.returns-in_err-help-clause-grows
 returns-in_err-help-clause-grows c = grows_on c.args.table.now c.add_text.new.table c.add_optional.new.table c.in_ok-text.ensures.grows c.in_err-help.ensures.grows
 
-pub returns-in_err-put_enumerator-clause-grows : goal.returns-in_err-put_enumerator-clause-grows
-returns-in_err-put_enumerator-clause-grows c = grows_on c.args.table.now c.add_text.new.table c.add_optional.new.table c.in_ok-text.ensures.grows c.in_ok-help.ensures.grows
+pub returns-in_err-put-clause-grows : goal.returns-in_err-put-clause-grows
+returns-in_err-put-clause-grows c = grows_on c.args.table.now c.add_text.new.table c.add_optional.new.table c.in_ok-text.ensures.grows c.in_ok-help.ensures.grows
 
 pub returns-clause-grows : goal.returns-clause-grows
 returns-clause-grows c = grows_on c.args.table.now c.add_text.new.table c.add_optional.new.table c.in_ok-text.ensures.grows c.in_ok-help.ensures.grows
 
 pub returns-clause-ok : goal.returns-clause-ok
 returns-clause-ok c =
-    enumerator_written c.args.table.now c.add_text.new.table c.add_optional.new.table c.args.code.now.items c.put_enumerator.new.code.items c.args.self.now.value
+    enumerator_written c.args.table.now c.add_text.new.table c.add_optional.new.table c.args.code.now.items c.put.new.code.items c.args.self.now.value
     (words_of (text_of c.args.self.now.text)) (option_map words_of (option_map text_of c.args.self.now.help)) c.in_ok-text.text c.in_ok-help.help
-    c.in_ok-text.ensures.table c.in_ok-text.ensures.number c.in_ok-help.ensures.table c.in_ok-help.ensures.number c.value_bytes-value.result c.value_bytes-value.ensures c.in_ok-put_enumerator.ensures
+    c.in_ok-text.ensures.table c.in_ok-text.ensures.number c.in_ok-help.ensures.table c.in_ok-help.ensures.number
+    (c.in_ok-put.ensures ∙ ap (λ (i : Instruction). c.args.code.now.items ++ spelling i) c.enumerated.ensures)
