@@ -4,23 +4,23 @@ use Rattle.std.specs.Prelude.{option_map, is_some, slice_index}
 use Rattle.std.specs.List.{list_all, slice_get}
 use Rattle.std.specs.Str.{is_utf8, IsAscii}
 use Rattle.std.proofs.lemmas.Bool.{and_parts, or_cases, cases_lt, leb-true, le-leb, lt-leb, eqb-true, ne_eqb, ltb-true}
-use Rattle.std.proofs.lemmas.Option.{slice_get-map}
 use Rattle.std.proofs.lemmas.Str.{IsUtf8-from_ascii, is_utf8-from_IsUtf8}
 use Rattle.edd_syntax.specs.declared.numbers.ItemNo.{ItemNo}
 use Rattle.edd_syntax.specs.declared.numbers.ItemNo.TheVariants as items
 use Rattle.edd_syntax.specs.declared.types.VarType.{VarType}
 use Rattle.edd_syntax.specs.declared.types.VarType.TheVariants.{Integer, UnsignedInteger, Enumerated, BitEnumerated}
+use Rattle.edd_syntax.specs.Text.{Name}
 use Rattle.edd_syntax.specs.Names.{begins_name, goes_on_name, is_name, is_within}
 use Rattle.edd_image.specs.declared.parts.Counts.{Counts}
 use Rattle.edd_image.specs.declared.rules.Rule.TheVariants as rule
 use Rattle.edd_image.specs.Layout.{item_count, type_code}
 use Rattle.edd_image.specs.Fields.{counts_in, names_length, name_rows_start, name_bytes_start, name_start, name_length, variable_type, variable_size, strings_length, string_rows_start, string_bytes_start, string_start, string_length}
 use Rattle.edd_image.specs.Contents.{Span, part, NameFields, VariableFields, rows_from, variable_fields, name_fields, string_fields, contents_in, fields_of_variable}
+use Rattle.edd_image.specs.Agreement.{name_numbered, place_of_item}
 use Rattle.edd_image.specs.References.{item_exists}
 use Rattle.edd_image.specs.Validity.{IsValid, type_of, is_variable_row, are_variable_rows, are_name_rows, are_attribute_rows, are_string_rows}
 use Rattle.edd_image.specs.Strings.{is_string}
-use Rattle.edd_loader.specs.Texts.{strings_in}
-use Rattle.edd_loader.specs.Lookups.{names_in, name_place}
+use Rattle.edd_loader.specs.Lookups.{name_in_row, string_in_row, IsFirstNamed}
 use Rattle.edd_loader.specs.Sections.{lies_within}
 use Rattle.edd_loader.proofs.RowTurns.{span_inside}
 use Rattle.edd_loader.proofs.RuleOrder.{valid_sections}
@@ -111,10 +111,9 @@ found_in b names found place i =
     let names_same : names ≡ (contents_in b).name_bytes = i.names_are ∙ rw (i.start_is, i.size_is) refl in
     i.found_is ∙ rw (i.from_is, i.long_is, names_same, row_is) refl
 
-pub name_value : (b names found : List ℕ) (place : ℕ) → place < item_count (counts_in b) → IsNameAt b names found place → slice_get (names_in b) place ≡ Some found
+pub name_value : (b names found : List ℕ) (place : ℕ) → place < item_count (counts_in b) → IsNameAt b names found place → name_in_row (contents_in b) place ≡ Some found
 name_value b names found place h i =
-    slice_get-map (λ (r : NameFields). part r.span (contents_in b).name_bytes) (contents_in b).names place
-    ∙ ap (option_map (λ (r : NameFields). part r.span (contents_in b).name_bytes)) (name_row_at b place h)
+    ap (option_map (λ (r : NameFields). part r.span (contents_in b).name_bytes)) (name_row_at b place h)
     ∙ ap Some (sym (found_in b names found place i))
 
 pub name_valid : (b names found : List ℕ) (place : ℕ) → IsValid b → place < item_count (counts_in b) → IsNameAt b names found place → is_utf8 found ≡ true
@@ -130,18 +129,43 @@ name_inside b names place row start size from long valid h r s z n f l =
     let lies = all_at (λ (r : NameFields). lies_within (names_length b) r.span) _ place _ (spans b sections (valid rule.Row)).names (row_get (name_fields b) 8 (item_count (counts_in b)) (name_rows_start b) place h) in
     rw lengths (span_inside from long (names_length b) (name_fields b (name_rows_start b + 8 * place)).span (f ∙ ap (name_start b) r) (l ∙ ap (name_length b) r) lies)
 
-pub names_past : (b : List ℕ) (k : ℕ) → item_count (counts_in b) ≤ k → slice_get (names_in b) k ≡ None
-unfolding contents_in
-names_past b k h =
-    slice_get-map (λ (r : NameFields). part r.span (contents_in b).name_bytes) (contents_in b).names k
-    ∙ ap (option_map (λ (r : NameFields). part r.span (contents_in b).name_bytes)) (row_past (name_fields b) 8 (item_count (counts_in b)) (name_rows_start b) k h)
-
-pub place_inside : (c : Counts) (item : ItemNo) → item_exists c item ≡ true → name_place c item < item_count c
+pub place_inside : (c : Counts) (item : ItemNo) → item_exists c item ≡ true → place_of_item c item < item_count c
 place_inside c (items.Variable n) h = omega (arith, ltb-true n.0 c.variables h)
 place_inside c (items.Command n) h = omega (arith, ltb-true n.0 c.commands h)
 place_inside c (items.Menu n) h = omega (arith, ltb-true n.0 c.menus h)
 place_inside c (items.Collection n) h = omega (arith, ltb-true n.0 c.collections h)
 place_inside c (items.Method n) h = omega (arith, ltb-true n.0 c.methods h)
+
+-- the name of an item stands in the row of its place, among the rows that there are
+pub name_in_place : (b : List ℕ) (item : ItemNo) (name : Name) → name_numbered (contents_in b) item ≡ Some name
+    → (place_of_item (counts_in b) item < item_count (counts_in b)) × (name_in_row (contents_in b) (place_of_item (counts_in b) item) ≡ Some name)
+unfolding contents_in
+name_in_place b item name named = here (item_exists (counts_in b) item) refl named
+  where
+    here : (there : Bool) → item_exists (counts_in b) item ≡ there → cond there (name_in_row (contents_in b) (place_of_item (counts_in b) item)) None ≡ Some name
+        → (place_of_item (counts_in b) item < item_count (counts_in b)) × (name_in_row (contents_in b) (place_of_item (counts_in b) item) ≡ Some name)
+    here true is h = (place_inside (counts_in b) item is, h)
+    here false is h = absurd cc
+
+-- an item that there is has the name in the row of its place
+pub named_in_place : (b : List ℕ) (item : ItemNo) → item_exists (counts_in b) item ≡ true → name_numbered (contents_in b) item ≡ name_in_row (contents_in b) (place_of_item (counts_in b) item)
+unfolding contents_in
+named_in_place b item there = rw there refl
+
+pub no_name : (b : List ℕ) (item : ItemNo) → item_exists (counts_in b) item ≡ false → None ≡ name_numbered (contents_in b) item
+unfolding contents_in
+no_name b item there = rw there refl
+
+-- the item of a place before which the name doesn't stand
+pub first_named : (b : List ℕ) (item : ItemNo) (name : Name) (place : ℕ) → place_of_item (counts_in b) item ≡ place
+    → ((k : ℕ) → k < place → name_in_row (contents_in b) k ≡ Some name → ⊥) → IsFirstNamed (contents_in b) name item
+unfolding contents_in
+first_named b item name place at before other named =
+    let found = name_in_place b other name named in
+    elim (cases_lt (place_of_item (counts_in b) other) place) [
+      | inl below ↦ absurd (before _ below found.1)
+      | inr behind ↦ omega (arith, at, behind)
+    ]
 
 -- ---- variables by number
 
@@ -223,10 +247,9 @@ string_found b strings found place i =
     let same : strings ≡ (contents_in b).string_bytes = i.strings_are ∙ rw (i.start_is, i.size_is) refl in
     i.found_is ∙ rw (i.from_is, i.long_is, same, row_is) refl
 
-pub string_value : (b strings found : List ℕ) (place : ℕ) → place < (counts_in b).strings → IsStringAt b strings found place → slice_get (strings_in b) place ≡ Some found
+pub string_value : (b strings found : List ℕ) (place : ℕ) → place < (counts_in b).strings → IsStringAt b strings found place → string_in_row (contents_in b) place ≡ Some found
 string_value b strings found place h i =
-    slice_get-map (λ (span : Span). part span (contents_in b).string_bytes) (contents_in b).strings place
-    ∙ ap (option_map (λ (span : Span). part span (contents_in b).string_bytes)) (string_row_at b place h)
+    ap (option_map (λ (span : Span). part span (contents_in b).string_bytes)) (string_row_at b place h)
     ∙ ap Some (sym (string_found b strings found place i))
 
 pub string_valid : (b strings found : List ℕ) (place : ℕ) → IsValid b → place < (counts_in b).strings → IsStringAt b strings found place → is_string found ≡ true
@@ -241,8 +264,6 @@ string_inside b strings place row start size from long valid h r s z n f l =
     let lies = all_at (lies_within (strings_length b)) _ place _ (spans b sections (valid rule.Row)).strings (row_get (string_fields b) 8 (counts_in b).strings (string_rows_start b) place h) in
     rw lengths (span_inside from long (strings_length b) (string_fields b (string_rows_start b + 8 * place)) (f ∙ ap (string_start b) r) (l ∙ ap (string_length b) r) lies)
 
-pub strings_past : (b : List ℕ) (k : ℕ) → (counts_in b).strings ≤ k → slice_get (strings_in b) k ≡ None
+pub strings_past : (b : List ℕ) (k : ℕ) → (counts_in b).strings ≤ k → slice_get (contents_in b).strings k ≡ None
 unfolding contents_in
-strings_past b k h =
-    slice_get-map (λ (span : Span). part span (contents_in b).string_bytes) (contents_in b).strings k
-    ∙ ap (option_map (λ (span : Span). part span (contents_in b).string_bytes)) (row_past (string_fields b) 8 (counts_in b).strings (string_rows_start b) k h)
+strings_past b k h = row_past (string_fields b) 8 (counts_in b).strings (string_rows_start b) k h

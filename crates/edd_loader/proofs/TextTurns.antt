@@ -5,13 +5,17 @@ use Rattle.std.specs.List.{list_all, slice_get}
 use Rattle.std.specs.Option.{option_map_or}
 use Rattle.std.specs.Str.{bytes_eq, is_utf8}
 use Rattle.std.proofs.lemmas.Bool.{and_parts, cases_Bool, eqb-true, ltb-false, ne_eqb}
-use Rattle.edd_syntax.specs.Words.{Variants, Variant, is_code, text_in, text_for, english}
+use Rattle.edd_syntax.specs.declared.numbers.StrNo.{StrNo}
+use Rattle.edd_syntax.specs.Words.{Words, Variants, Variant, is_code, text_in, text_for, english}
 use Rattle.edd_image.specs.Decoding.{◌>>=◌}
 use Rattle.edd_image.specs.Strings.{is_string, string_in, variant_from, variants_from, as_words, is_words, is_variant}
 use Rattle.edd_image.specs.declared.parts.Counts.{Counts}
 use Rattle.edd_image.specs.Fields.{counts_in}
 use Rattle.edd_syntax.specs.Names.{is_name}
-use Rattle.edd_loader.specs.Texts.{given, strings_in}
+use Rattle.edd_image.specs.Agreement.{string_numbered}
+use Rattle.edd_image.specs.Contents.{Span, part, contents_in}
+use Rattle.edd_loader.specs.Lookups.{string_in_row}
+use Rattle.edd_loader.specs.Texts.{given}
 use Rattle.edd_loader.proofs.LookupLaws.{strings_past}
 use Rattle.edd_loader.specs.Variants.{all_variants, are_variants, text_from}
 use Rattle.edd_loader.proofs.VariantTurns.{variants_split, variants_stop, no_variants, words_are_variants}
@@ -176,7 +180,15 @@ unfolding string_in
 no_string [] h e = let contradiction : false ≡ true = e in cc
 no_string (b ∷ bytes) h e = omega arith
 
-pub string_missing : {A : Type 0} (f : List ℕ → Option A) (b : List ℕ) (counts : Counts) (k : ℕ) → counts ≡ counts_in b → nat_lt k counts.strings ≡ false → None ≡ option_and_then f (slice_get (strings_in b) k)
-string_missing f b counts k e h =
-    let past : (counts_in b).strings ≤ k = omega (arith, ltb-false k counts.strings h, ap (λ (c : Counts). c.strings) e) in
-    sym (ap (option_and_then f) (strings_past b k past))
+-- the string of a number, by its bytes
+pub string_here : (b : List ℕ) (n : StrNo) (found : List ℕ) → string_in_row (contents_in b) n.0 ≡ Some found → string_numbered (contents_in b) n ≡ string_in found
+string_here b n found is = here (slice_get (contents_in b).strings n.0) is
+  where
+    here : (row : Option Span) → option_map (λ span. part span (contents_in b).string_bytes) row ≡ Some found → (row >>= λ span. string_in (part span (contents_in b).string_bytes)) ≡ string_in found
+    here None e = absurd cc
+    here (Some span) e = let same : part span (contents_in b).string_bytes ≡ found = cc in ap string_in same
+
+pub string_missing : {A : Type 0} (f : Words → A) (b : List ℕ) (counts : Counts) (n : StrNo) → counts ≡ counts_in b → nat_lt n.0 counts.strings ≡ false → None ≡ option_map f (string_numbered (contents_in b) n)
+string_missing f b counts n e h =
+    let past : (counts_in b).strings ≤ n.0 = omega (arith, ltb-false n.0 counts.strings h, ap (λ (c : Counts). c.strings) e) in
+    rw (strings_past b n.0 past) refl

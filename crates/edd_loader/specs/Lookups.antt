@@ -1,24 +1,25 @@
 -- What the calls on an image look up in it.
-use Rattle.std.specs.Prelude.{◌≡◌, ◌≢◌, ℕ, ◌+◌, ◌<◌, List, Some, map}
+use Rattle.std.specs.Prelude.{◌≡◌, ℕ, ◌≤◌, List, Option, Some, option_map}
 use Rattle.std.specs.List.{slice_get}
 use Rattle.edd_syntax.specs.declared.numbers.ItemNo.{ItemNo}
-use Rattle.edd_syntax.specs.declared.numbers.ItemNo.TheVariants as items
-use Rattle.edd_image.specs.declared.parts.Counts.{Counts}
-use Rattle.edd_image.specs.Contents.{part, contents_in}
+use Rattle.edd_syntax.specs.DeviceValues.{VariableType}
+use Rattle.edd_syntax.specs.Text.{Name}
+use Rattle.edd_image.specs.declared.parts.VarKind.{VarKind}
+use Rattle.edd_image.specs.Agreement.{place_of_item, name_numbered}
+use Rattle.edd_image.specs.Contents.{part, Contents}
 
--- the names of an image: those of its variables, commands, menus, collections and methods, each kind by number
-abbrev pub names_in : List ℕ → List (List ℕ)
-names_in b = map (λ r. part r.span (contents_in b).name_bytes) (contents_in b).names
+-- the type that a row of the code stands for
+abbrev pub type_of_kind : VarKind → VariableType
+type_of_kind kind = record { type = kind.var_type; size = kind.size }
 
--- how many names stand before that of an item
-abbrev pub name_place : Counts → ItemNo → ℕ
-name_place c (items.Variable n) = n.0
-name_place c (items.Command n) = c.variables + n.0
-name_place c (items.Menu n) = c.variables + c.commands + n.0
-name_place c (items.Collection n) = c.variables + c.commands + c.menus + n.0
-name_place c (items.Method n) = c.variables + c.commands + c.menus + c.collections + n.0
+-- the name in the row of a number
+abbrev pub name_in_row : Contents → ℕ → Option Name
+name_in_row c row = option_map (λ r. part r.span c.name_bytes) (slice_get c.names row)
 
--- the name stands at the place, and at none before it
-pub record StandsFirst (names : List (List ℕ)) (name : List ℕ) (place : ℕ) : Type 0 where
-  pub here : slice_get names place ≡ Some name
-  pub first : (k : ℕ) → k < place → slice_get names k ≢ Some name
+-- the bytes of a string, by its number
+abbrev pub string_in_row : Contents → ℕ → Option (List ℕ)
+string_in_row c row = option_map (λ span. part span c.string_bytes) (slice_get c.strings row)
+
+-- no item of this name stands before that one, in the order of kinds and numbers
+abbrev pub IsFirstNamed : Contents → Name → ItemNo → Type 0
+IsFirstNamed c name item = (other : ItemNo) → name_numbered c other ≡ Some name → place_of_item c.counts item ≤ place_of_item c.counts other

@@ -1,19 +1,20 @@
 //! Images that were loaded.
 
-ghost use Rattle.std.specs.Prelude.{◌≡◌, ◌≢◌, ℕ, IfErr, IfOk, IfNone, IfSome, IsTrue, OnOk, Some, is_some, option_and_then, option_map};
+ghost use Rattle.std.specs.Prelude.{◌≡◌, ◌≢◌, IfErr, IfOk, IfNone, IfSome, IsTrue, OnOk, Some, is_some, option_map};
 ghost use Rattle.std.specs.List.{slice_get};
 ghost use Rattle.edd_image.specs.Contents.{contents_in, fields_of_variable};
 ghost use Rattle.edd_image.specs.References.{item_exists, string_exists, variable_exists};
-ghost use Rattle.edd_loader.specs.Lookups.{names_in, name_place, StandsFirst};
+ghost use Rattle.edd_image.specs.Agreement.{name_numbered, string_numbered};
+ghost use Rattle.edd_image.specs.Reading.{environment_of};
+ghost use Rattle.edd_loader.specs.Lookups.{IsFirstNamed, type_of_kind};
 ghost use Rattle.edd_image.specs.Fields.{counts_in};
 ghost use Rattle.edd_image.specs.Validity.{BreaksFirst, IsValid};
-ghost use Rattle.edd_image.specs.Strings.{string_in};
-ghost use Rattle.edd_loader.specs.Texts.{given, seen, strings_in};
+ghost use Rattle.edd_loader.specs.Texts.{given, seen};
 ghost use Rattle.edd_loader.specs.Faults.{rule_of};
 
 use crate::checks::first_broken;
 use crate::fault::{LoadFault, fault_of};
-use crate::lookups::{as_text, find, name_at, name_place, string_at, variable_at};
+use crate::lookups::{as_text, find, name_at, place_of_item, string_at, variable_at};
 use crate::texts::{Text, text_of};
 use edd_image::{Counts, VarKind, counts};
 use edd_syntax::numbers::{ItemNo, StrNo, VarNo};
@@ -73,6 +74,7 @@ impl Image {
     pub fn variable(&self, number: VarNo) -> Option<VarKind>
         ensures exists { is_some result ≡ variable_exists (counts_in self.now) number }
         ensures row { IfSome result (λ kind. slice_get (contents_in self.now).variables number.0 ≡ Some (fields_of_variable kind)) }
+        ensures value { option_map type_of_kind result ≡ slice_get (environment_of (contents_in self.now)).types number.0 }
     {
         variable_at(self.bytes(), number)
     }
@@ -80,20 +82,21 @@ impl Image {
     /// The name of an item, if there is such an item.
     pub fn name(&self, item: ItemNo) -> Option<&str>
         ensures exists { is_some result ≡ item_exists (counts_in self.now) item }
-        ensures name { IfSome result (λ name. slice_get (names_in self.now) (name_place (counts_in self.now) item) ≡ Some name.now) }
+        ensures value { option_map (λ name. name.now) result ≡ name_numbered (contents_in self.now) item }
     {
         let counts = self.counts();
         if !counts.has_item(item) {
             return None;
         }
-        Some(as_text(name_at(self.bytes(), name_place(counts, item))))
+        Some(as_text(name_at(self.bytes(), place_of_item(counts, item))))
     }
 
     /// The first item with this name, in the order of kinds and numbers, if there is one.
     pub fn find(&self, name: &str) -> Option<ItemNo>
         ensures exists { IfSome result (λ item. IsTrue (item_exists (counts_in self.now) item)) }
-        ensures first { IfSome result (λ item. StandsFirst (names_in self.now) name.now (name_place (counts_in self.now) item)) }
-        ensures none { IfNone result ((k : ℕ) → slice_get (names_in self.now) k ≢ Some name.now) }
+        ensures named { IfSome result (λ item. name_numbered (contents_in self.now) item ≡ Some name.now) }
+        ensures first { IfSome result (IsFirstNamed (contents_in self.now) name.now) }
+        ensures none { IfNone result ((item : ItemNo) → name_numbered (contents_in self.now) item ≢ Some name.now) }
     {
         find(self.bytes(), name.as_bytes())
     }
@@ -102,8 +105,7 @@ impl Image {
     /// first in English, else the first one, and of a key its name.
     pub fn text(&self, string: StrNo, code: &str) -> Option<Text<'_>>
         ensures exists { is_some result ≡ string_exists (counts_in self.now) string }
-        ensures text { option_map seen result
-            ≡ option_and_then (λ bytes. option_map (λ words. given words code.now) (string_in bytes)) (slice_get (strings_in self.now) string.0) }
+        ensures value { option_map seen result ≡ option_map (λ words. given words code.now) (string_numbered (contents_in self.now) string) }
     {
         if !self.counts().has_string(string) {
             return None;

@@ -1,6 +1,6 @@
 //! What a valid image has at a number.
 
-ghost use Rattle.std.specs.Prelude.{◌≡◌, ◌≢◌, ℕ, ◌<◌, IfNone, IfSome, Some, true, is_some, IsTrue};
+ghost use Rattle.std.specs.Prelude.{◌≡◌, ◌≢◌, ◌<◌, IfNone, IfSome, Some, true, is_some, option_map, IsTrue};
 ghost use Rattle.std.specs.List.{slice_get};
 ghost use Rattle.std.specs.Str.{is_utf8};
 ghost use Rattle.edd_image.specs.Contents.{contents_in, fields_of_variable};
@@ -9,8 +9,9 @@ ghost use Rattle.edd_image.specs.Layout.{item_count};
 ghost use Rattle.edd_image.specs.References.{item_exists, variable_exists};
 ghost use Rattle.edd_image.specs.Validity.{IsValid};
 ghost use Rattle.edd_image.specs.Strings.{is_string};
-ghost use Rattle.edd_loader.specs.Texts.{strings_in};
-ghost use Rattle.edd_loader.specs.Lookups.{names_in, name_place, StandsFirst};
+ghost use Rattle.edd_image.specs.Agreement.{name_numbered, place_of_item};
+ghost use Rattle.edd_image.specs.Reading.{environment_of};
+ghost use Rattle.edd_loader.specs.Lookups.{name_in_row, string_in_row, type_of_kind, IsFirstNamed};
 
 use crate::sections::item_count;
 use crate::spans::part;
@@ -23,8 +24,8 @@ use edd_image::{
 use edd_syntax::numbers::{CmdNo, CollNo, ItemNo, MenuNo, MethNo, VarNo};
 
 /// How many names stand before that of an item.
-pub fn name_place(counts: Counts, item: ItemNo) -> usize
-    ensures { result ≡ name_place counts item }
+pub fn place_of_item(counts: Counts, item: ItemNo) -> usize
+    ensures { result ≡ place_of_item counts item }
 {
     let commands = counts.variables as usize;
     let menus = commands + counts.commands as usize;
@@ -43,7 +44,7 @@ pub fn name_place(counts: Counts, item: ItemNo) -> usize
 pub fn item_at(counts: Counts, place: usize) -> ItemNo
     requires { place < item_count counts }
     ensures exists { item_exists counts result ≡ true }
-    ensures place { name_place counts result ≡ place }
+    ensures place { place_of_item counts result ≡ place }
 {
     let commands = counts.variables as usize;
     let menus = commands + counts.commands as usize;
@@ -66,7 +67,7 @@ pub fn item_at(counts: Counts, place: usize) -> ItemNo
 pub fn name_at(bytes: &[u8], place: usize) -> &[u8]
     requires valid { IsValid bytes.now }
     requires place { place < item_count (counts_in bytes.now) }
-    ensures value { slice_get (names_in bytes.now) place ≡ Some result.now }
+    ensures value { name_in_row (contents_in bytes.now) place ≡ Some result.now }
     ensures utf8 { IsTrue (is_utf8 result.now) }
 {
     let row = name_rows_start(bytes) + NAME_ROW * place;
@@ -93,8 +94,9 @@ pub fn as_text(bytes: &[u8]) -> &str
 pub fn find(bytes: &[u8], name: &[u8]) -> Option<ItemNo>
     requires { IsValid bytes.now }
     ensures exists { IfSome result (λ item. IsTrue (item_exists (counts_in bytes.now) item)) }
-    ensures first { IfSome result (λ item. StandsFirst (names_in bytes.now) name.now (name_place (counts_in bytes.now) item)) }
-    ensures none { IfNone result ((k : ℕ) → slice_get (names_in bytes.now) k ≢ Some name.now) }
+    ensures named { IfSome result (λ item. name_numbered (contents_in bytes.now) item ≡ Some name.now) }
+    ensures first { IfSome result (IsFirstNamed (contents_in bytes.now) name.now) }
+    ensures none { IfNone result ((item : ItemNo) → name_numbered (contents_in bytes.now) item ≢ Some name.now) }
 {
     let counts = counts(bytes);
     let count = item_count(counts);
@@ -111,6 +113,7 @@ pub fn variable_at(bytes: &[u8], number: VarNo) -> Option<VarKind>
     requires { IsValid bytes.now }
     ensures exists { is_some result ≡ variable_exists (counts_in bytes.now) number }
     ensures row { IfSome result (λ kind. slice_get (contents_in bytes.now).variables number.0 ≡ Some (fields_of_variable kind)) }
+    ensures value { option_map type_of_kind result ≡ slice_get (environment_of (contents_in bytes.now)).types number.0 }
 {
     if number.0 >= variable_count(bytes) {
         return None;
@@ -125,7 +128,7 @@ pub fn variable_at(bytes: &[u8], number: VarNo) -> Option<VarKind>
 pub fn string_at(bytes: &[u8], number: usize) -> &[u8]
     requires valid { IsValid bytes.now }
     requires number { number < (counts_in bytes.now).strings }
-    ensures value { slice_get (strings_in bytes.now) number ≡ Some result.now }
+    ensures value { string_in_row (contents_in bytes.now) number ≡ Some result.now }
     ensures string { IsTrue (is_string result.now) }
 {
     let row = string_rows_start(bytes) + STRING_ROW * number;

@@ -25,8 +25,9 @@ use Rattle.edd_machine.specs.declared.outcome.Outcome.{Outcome}
 use Rattle.edd_machine.specs.declared.outcome.Outcome.TheVariants.{GoesOn, Gives, Ends, Traps}
 use Rattle.edd_machine.specs.Outcomes.{comes_to}
 use Rattle.edd_machine.specs.Running.{IsEffect, CanAct}
-use Rattle.edd_machine.specs.Types.{types_in, type_of_kind}
-use Rattle.edd_machine.proofs.VariableTypes.{type_at_number, types_counted}
+use Rattle.edd_loader.specs.Lookups.{type_of_kind}
+use Rattle.edd_machine.specs.Types.{types_in}
+use Rattle.edd_loader.proofs.VariableTypes.{type_at_number, types_counted}
 
 pub store_acts : (env : Environment) (s : State) (v : VarNo) (next : ℕ) (a : ℤ) (below : List ℤ) (t : VariableType) → s.operands ≡ a ∷ below → type_at env.types v ≡ t
     → act env (instructions.Store v) next s ≡ store_in env s next below (store t.type t.size a) (record { variable = v; value = store t.type t.size a })

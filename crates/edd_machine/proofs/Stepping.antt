@@ -16,7 +16,7 @@ use Rattle.edd_machine.specs.declared.machine.Machine.{Machine}
 use Rattle.edd_machine.specs.declared.code_unit.CodeUnit.{CodeUnit}
 use Rattle.edd_machine.specs.Running.{code_at, running_unit, state_of, IsUnitOf, IsStateIn, IsMachine, StepsTo, ActsTo, CanAct}
 use Rattle.edd_machine.specs.Types.{types_in}
-use Rattle.edd_machine.proofs.VariableTypes.{types_counted}
+use Rattle.edd_loader.proofs.VariableTypes.{types_counted}
 use Rattle.edd_machine.proofs.ImageUnits.{unit_valid, unit_code, unit_inside, counts_are}
 use Rattle.edd_machine.proofs.UnitFacts.{inside, not_nothing, facts}
 

@@ -193,6 +193,7 @@ pub fn find_attribute(image: &Image, attr: AttrRef) -> Option<CodeUnit>
 /// The unit of a method's body, if it has a row: a `Machine` may be opened on it.
 pub fn find_body(image: &Image, method: MethNo) -> Option<CodeUnit>
     ensures value { result ≡ option_map (unit_at image.now) (body_of (contents_in image.now) method) }
+    ensures valid { IsValid image.now }
     ensures unit { IfSome result (IsUnitOf image.now) }
     ensures sort { IfSome result (λ unit. unit.sort ≡ Method) }
     ensures slots { IfSome result (λ unit. unit.slots ≤ 64) }

@@ -1,7 +1,10 @@
-use Rattle.std.proofs.Common.{◌≡◌, Some, None, refl, sym, ap, ◌∙◌, arith, inl, inr}
-use Rattle.std.proofs.lemmas.Bool.{cases_lt}
+use Rattle.std.proofs.Common.{rules, ◌≡◌, ◌∙◌, ap, refl, subst, arith, Some, true}
+use Rattle.edd_image.specs.Agreement.{place_of_item}
+use Rattle.edd_image.specs.Contents.{contents_in}
 use Rattle.edd_image.specs.Layout.{item_count}
-use Rattle.edd_loader.proofs.LookupLaws.{names_past}
+use Rattle.edd_image.specs.References.{item_exists}
+use Rattle.edd_loader.specs.Lookups.{name_in_row}
+use Rattle.edd_loader.proofs.LookupLaws.{name_in_place, named_in_place, first_named}
 use Rattle.edd_loader.proofs.RuleOrder.{has_header}
 use Rattle.edd_loader.proofs.lookups.find.Goals as goal
 
@@ -9,10 +12,18 @@ pub counts-counts-requires : goal.counts-counts-requires
 counts-counts-requires c = has_header _ _ refl c.requires
 
 pub returns-clause-none : goal.returns-clause-none
-returns-clause-none c = λ k e. elim (cases_lt k c.item_count-count.result) [
-  | inl below ↦ c.loop-place.invariant k (omega arith) e
-  | inr past ↦
-      let none = names_past c.args.bytes.now k (omega (arith, c.item_count-count.ensures ∙ ap item_count c.counts-counts.ensures)) in
-      let contradiction : None ≡ Some c.args.name.now = sym none ∙ e in
-      cc
-]
+returns-clause-none c = λ item named.
+    let at = name_in_place c.args.bytes.now item c.args.name.now named in
+    c.loop-place.invariant _ (omega (arith, at.0, c.item_count-count.ensures ∙ ap item_count c.counts-counts.ensures)) at.1
+
+pub returns-then-eq-clause-named : goal.returns-then-eq-clause-named
+returns-then-eq-clause-named c =
+    let there = subst (λ counts. item_exists counts c.item_at.result ≡ true) c.counts-counts.ensures c.item_at.ensures.exists in
+    let same : c.name_at.result.now ≡ c.args.name.now = search rules in
+    named_in_place c.args.bytes.now c.item_at.result there
+    ∙ ap (name_in_row (contents_in c.args.bytes.now)) (subst (λ counts. place_of_item counts c.item_at.result ≡ c.loop-place.place) c.counts-counts.ensures c.item_at.ensures.place)
+    ∙ c.name_at.ensures.value ∙ ap Some same
+
+pub returns-then-eq-clause-first : goal.returns-then-eq-clause-first
+returns-then-eq-clause-first c = first_named c.args.bytes.now c.item_at.result c.args.name.now c.loop-place.place
+    (subst (λ counts. place_of_item counts c.item_at.result ≡ c.loop-place.place) c.counts-counts.ensures c.item_at.ensures.place) c.loop-place.invariant

@@ -1,5 +1,6 @@
 use Rattle.std.proofs.Common.{arith, refl, sym, ◌∙◌}
 use Rattle.edd_loader.proofs.LookupLaws.{typed, kind_is}
+use Rattle.edd_loader.proofs.VariableTypes.{no_type, type_at_number}
 use Rattle.edd_loader.proofs.RuleOrder.{has_header, valid_sections}
 use Rattle.edd_loader.proofs.Spaces.{rooms}
 use Rattle.edd_loader.proofs.lookups.variable_at.Goals as goal
@@ -18,3 +19,13 @@ returns-in_err-var_type-clause-exists c = absurd (typed _ _ _ c.requires (omega 
 
 pub returns-clause-row : goal.returns-clause-row
 returns-clause-row c = kind_is _ _ _ _ _ c.requires (omega (arith, c.variable_count.ensures)) c.variable_type.ensures (sym c.type_of.ensures ∙ c.in_ok-var_type.was) c.variable_size-size.ensures
+
+pub returns-then-number-variable_count-clause-value : goal.returns-then-number-variable_count-clause-value
+returns-then-number-variable_count-clause-value c = no_type _ _ c.requires (omega (arith, c.variable_count.ensures, c.if-number-variable_count.true))
+
+pub returns-in_err-var_type-clause-value : goal.returns-in_err-var_type-clause-value
+returns-in_err-var_type-clause-value c = absurd (typed _ _ _ c.requires (omega (arith, c.variable_count.ensures)) c.variable_type.ensures (sym c.type_of.ensures ∙ c.in_err-var_type.was))
+
+pub returns-clause-value : goal.returns-clause-value
+returns-clause-value c = sym (type_at_number _ _ _ c.requires
+    (kind_is _ _ _ _ _ c.requires (omega (arith, c.variable_count.ensures)) c.variable_type.ensures (sym c.type_of.ensures ∙ c.in_ok-var_type.was) c.variable_size-size.ensures))

@@ -4,8 +4,10 @@ use Rattle.std.proofs.lemmas.Slice.Zip.{AllZip-long}
 use Rattle.edd_image.specs.Fields.{counts_in}
 use Rattle.edd_syntax.specs.DeviceValues.{is_in_range}
 use Rattle.edd_loader.proofs.RuleOrder.{has_header}
-use Rattle.edd_machine.specs.Types.{types_in, type_of_kind}
-use Rattle.edd_machine.proofs.VariableTypes.{types_counted, type_at_number, kind_sized, value_goes, value_fails, values_done}
+use Rattle.edd_loader.specs.Lookups.{type_of_kind}
+use Rattle.edd_machine.specs.Types.{types_in}
+use Rattle.edd_loader.proofs.VariableTypes.{types_counted, type_at_number}
+use Rattle.edd_machine.proofs.VariableTypes.{kind_sized, value_goes, value_fails, values_done}
 use Rattle.edd_machine.proofs.values.are_values.Goals as goal
 
 pub variable_count-requires : goal.variable_count-requires

@@ -1,7 +1,7 @@
 use Rattle.std.proofs.Common.{◌≡◌, true, false, ap, sym, ◌∙◌}
 use Rattle.edd_image.specs.Fields.{counts_in}
 use Rattle.edd_loader.proofs.RuleOrder.{has_header}
-use Rattle.edd_machine.proofs.VariableTypes.{types_counted}
+use Rattle.edd_loader.proofs.VariableTypes.{types_counted}
 use Rattle.edd_machine.proofs.values.Values.new.Goals as goal
 
 pub variable_count-requires : goal.variable_count-requires

@@ -1,0 +1,18 @@
+use Rattle.std.proofs.Common.{◌≡◌, ◌∙◌, ap, sym, subst, Some, true, false}
+use Rattle.edd_image.specs.Contents.{contents_in}
+use Rattle.edd_image.specs.References.{item_exists}
+use Rattle.edd_image.specs.Agreement.{place_of_item}
+use Rattle.edd_loader.specs.Lookups.{name_in_row}
+use Rattle.edd_loader.proofs.LookupLaws.{named_in_place, no_name}
+use Rattle.edd_loader.proofs.image.Image.name.Goals as goal
+
+pub returns-then-not-has_item-clause-value : goal.returns-then-not-has_item-clause-value
+returns-then-not-has_item-clause-value c = no_name c.args.self.now c.args.item
+    (subst (λ counts. item_exists counts c.args.item ≡ false) c.counts-counts.ensures (sym c.has_item.ensures ∙ c.if-not-has_item.true))
+
+pub returns-clause-value : goal.returns-clause-value
+returns-clause-value c = sym (
+    named_in_place c.args.self.now c.args.item (subst (λ counts. item_exists counts c.args.item ≡ true) c.counts-counts.ensures (sym c.has_item.ensures ∙ c.if-not-has_item.false))
+    ∙ ap (name_in_row (contents_in c.args.self.now)) (sym (c.place_of_item.ensures ∙ ap (λ counts. place_of_item counts c.args.item) c.counts-counts.ensures))
+    ∙ subst (λ b. name_in_row (contents_in b) c.place_of_item.result ≡ Some c.name_at.result.now) c.bytes.ensures.value c.name_at.ensures.value
+    ∙ ap Some (sym c.as_text.ensures))
