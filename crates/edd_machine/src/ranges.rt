@@ -3,7 +3,7 @@
 ghost use Rattle.std.specs.Prelude.{◌≡◌, ◌≤◌, ◌*◌, ◌-◌, ◌^◌, pos};
 ghost use Rattle.edd_syntax.specs.DeviceValues.{is_in_range};
 ghost use Rattle.edd_syntax.specs.TwosComplement.{store};
-ghost use Rattle.edd_machine.specs.Types.{type_of_kind};
+ghost use Rattle.edd_loader.specs.Lookups.{type_of_kind};
 
 use edd_image::VarKind;
 use edd_syntax::types::VarType;
