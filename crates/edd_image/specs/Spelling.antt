@@ -12,6 +12,8 @@ use Rattle.edd_image.specs.declared.instruction.Ask.{Ask}
 use Rattle.edd_image.specs.declared.instruction.Ask.TheVariants as ask
 use Rattle.edd_image.specs.declared.instruction.Instruction.{Instruction}
 use Rattle.edd_image.specs.declared.instruction.Instruction.TheVariants as instruction
+use Rattle.edd_image.specs.declared.instruction.Jump.{Jump}
+use Rattle.edd_image.specs.declared.instruction.Jump.TheVariants as jump
 use Rattle.edd_image.specs.Layout.{u16, u32}
 
 abbrev pub i64 : ℤ → List ℕ
@@ -87,6 +89,13 @@ spelling (instruction.Response n class text) = 0x46 ∷ (u32 n ++ class ∷ u16 
 spelling (instruction.Member name item label help) = 0x47 ∷ (u16 name.0 ++ (item_bytes item ++ (optional_bytes label ++ optional_bytes help)))
 spelling (instruction.Ask request) = 0x50 ∷ ask_bytes request
 spelling instruction.Abort = 0x51 ∷ []
+
+-- the instruction that leads to a target
+abbrev pub jump_to : Jump → ℕ → Instruction
+jump_to jump.Always to = instruction.Jump to
+jump_to jump.IfZero to = instruction.JumpIfZero to
+jump_to jump.IfNotZero to = instruction.JumpIfNotZero to
+jump_to (jump.IfLabel label) to = instruction.Case label to
 
 -- ---- the ranges of operands
 

@@ -1,12 +1,12 @@
 //! The bytes of an instruction.
 
-ghost use Rattle.std.specs.Prelude.{◌≡◌, ◌+◌, ◌≤◌, [], ◌∷◌, ◌++◌, length};
+ghost use Rattle.std.specs.Prelude.{◌≡◌, ℕ, ◌+◌, ◌≤◌, [], ◌∷◌, ◌++◌, length};
 ghost use Rattle.arrayvec.specs.ArrayVec.{array_vec_len};
 ghost use Rattle.edd_syntax.specs.Numbers.{kind_number, kind_of, index_of};
 ghost use Rattle.edd_image.specs.Layout.{u16, u32};
-ghost use Rattle.edd_image.specs.Spelling.{i64, spelling, operator_code, comparison_code, ask_bytes, item_bytes, optional_number, optional_bytes};
+ghost use Rattle.edd_image.specs.Spelling.{i64, jump_to, spelling, operator_code, comparison_code, ask_bytes, item_bytes, optional_number, optional_bytes};
 
-use crate::instruction::{Ask, Instruction};
+use crate::instruction::{Ask, Instruction, Jump};
 use arrayvec::ArrayVec;
 use edd_syntax::numbers::{ItemNo, StrNo, VarNo};
 use edd_syntax::operators::{Comparison, Operator};
@@ -187,10 +187,23 @@ fn member(name: StrNo, item: ItemNo, label: Option<StrNo>, help: Option<StrNo>) 
     bytes
 }
 
-fn case(label: i64, target: u32) -> Encoding
-    ensures { result.items ≡ spelling (Instruction.Case label target) }
+/// The bytes of a jump before its target, which are four more.
+pub fn head(jump: Jump) -> Encoding
+    ensures head { (target : ℕ) → result.items ++ u32 target ≡ spelling (jump_to jump target) }
+    ensures len { array_vec_len result ≤ 9 }
 {
-    let mut bytes = with_i64(0x33, label);
+    match jump {
+        Jump::Always => alone(0x30),
+        Jump::IfZero => alone(0x31),
+        Jump::IfNotZero => alone(0x32),
+        Jump::IfLabel(label) => with_i64(0x33, label),
+    }
+}
+
+fn jump_to(jump: Jump, target: u32) -> Encoding
+    ensures { result.items ≡ spelling (jump_to jump target) }
+{
+    let mut bytes = head(jump);
     put(&mut bytes, &target.to_be_bytes());
     bytes
 }
@@ -239,10 +252,10 @@ pub fn encode(instruction: Instruction) -> Encoding
         Instruction::Negate => alone(0x20),
         Instruction::Not => alone(0x21),
         Instruction::Complement => alone(0x22),
-        Instruction::Jump(to) => with_u32(0x30, to),
-        Instruction::JumpIfZero(to) => with_u32(0x31, to),
-        Instruction::JumpIfNotZero(to) => with_u32(0x32, to),
-        Instruction::Case { label, target } => case(label, target),
+        Instruction::Jump(to) => jump_to(Jump::Always, to),
+        Instruction::JumpIfZero(to) => jump_to(Jump::IfZero, to),
+        Instruction::JumpIfNotZero(to) => jump_to(Jump::IfNotZero, to),
+        Instruction::Case { label, target } => jump_to(Jump::IfLabel(label), target),
         Instruction::Text(text) => with_u16(0x40, text.0),
         Instruction::Number => alone(0x41),
         Instruction::Item { item, quals } => entry(item, quals),

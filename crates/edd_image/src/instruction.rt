@@ -16,6 +16,15 @@ pub enum Ask {
     SaveValues,
 }
 
+/// What leads to another place: always, where the topmost operand is 0 or isn't, or where it is a label, which is then taken.
+#[derive(Clone, Copy, PartialEq, Eq, Debug)]
+pub enum Jump {
+    Always,
+    IfZero,
+    IfNotZero,
+    IfLabel(i64),
+}
+
 /// One instruction. A target is a place: a count of bytes from the start of the unit.
 #[derive(Clone, Copy, PartialEq, Eq, Debug)]
 pub enum Instruction {

@@ -2,6 +2,7 @@
 #![tactic(auto)]
 
 mod decoding;
+mod emitter;
 mod encoding;
 mod fields;
 mod header;
@@ -18,7 +19,8 @@ mod worked;
 mod writing;
 
 pub use decoding::decode;
-pub use encoding::{Encoding, encode};
+pub use emitter::{Emitter, Hole};
+pub use encoding::{Encoding, encode, head};
 pub use fields::{u8_at, u16_at, u32_at};
 pub use header::{
     HEADER_LENGTH, attribute_count, code_length, collection_count, command_count, counts,
@@ -26,7 +28,7 @@ pub use header::{
     method_count, names_length, string_count, strings_length, total_length, variable_count,
     version_number,
 };
-pub use instruction::{Ask, Instruction};
+pub use instruction::{Ask, Instruction, Jump};
 pub use laws::{
     answers_keep_the_state, fields_are_parts, openings_are_states, read_is_spelled,
     readings_are_unique, requests_are_met, runs_keep_the_state, runs_may_be_cut,
