@@ -18,3 +18,6 @@ pub mod Widths
 pub mod WorkedEdits
 pub mod WorkedImages
 pub mod WorkedMethods
+pub mod FollowedRuns
+pub mod WorkedAsking
+pub mod WorkedAskingValid
