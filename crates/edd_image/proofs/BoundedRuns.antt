@@ -9,7 +9,7 @@ use Rattle.edd_image.specs.declared.records.Status.TheVariants as status
 use Rattle.edd_image.specs.declared.unit.Context.{Context}
 use Rattle.edd_image.specs.Units.{IsValidUnit}
 use Rattle.edd_image.specs.Steps.{RunningUnit, State, Environment, Effect, IsState, step}
-use Rattle.edd_image.specs.Execution.{Ending, OutOfSteps, Bad, Outcome, Meeting, IsGoodEnding, answered, nothing_met, after_answer, meet_by, meet, closed, request_in, preceded, go_on, execute}
+use Rattle.edd_image.specs.Execution.{Ending, OutOfSteps, Bad, Outcome, Meeting, IsGoodEnding, answered, nothing_met, after_answer, meet_by, meet, closed, request_in, preceded, stepped, go_on, execute}
 use Rattle.edd_image.proofs.AnsweredStates.{state_again}
 use Rattle.edd_image.proofs.NextStates.{next_in_unit}
 
@@ -63,7 +63,7 @@ module _ (context : Context) (env : Environment) where
   stopped m unit None e is = record { state = is.state; same = is.same; answers = is.answers; good = tt }
   stopped m unit (Some ending) e is = record { state = is.state; same = is.same; answers = is.answers; good = subst GoodOption e is.good }
 
-  behind : (unit : RunningUnit) (requests : List Request) (changes : _) (o : Outcome) → Bounded unit o → Bounded unit (preceded requests changes o)
+  behind : (unit : RunningUnit) (requests : List Request) (changes : _) (o : Outcome) → Bounded unit o → Bounded unit (stepped (preceded requests changes o))
   behind unit requests changes o is = record { state = is.state; same = is.same; answers = is.answers; good = is.good }
 
   -- from what a meeting leaves, where n steps more are bounded from every state

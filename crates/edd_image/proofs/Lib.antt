@@ -12,6 +12,7 @@ pub mod ReadIsSpelled
 pub mod Readings
 pub mod Spelled
 pub mod StaysOver
+pub mod StepCounts
 pub mod StringsRead
 pub mod UniqueReadings
 pub mod Widths

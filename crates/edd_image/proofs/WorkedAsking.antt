@@ -30,7 +30,7 @@ use Rattle.edd_image.specs.Decoding.{byte_from, number_from, operator_of, compar
 use Rattle.edd_image.specs.Steps as steps
 use Rattle.edd_image.specs.Steps.{Environment, opening, act, step}
 use Rattle.edd_image.specs.Execution as image
-use Rattle.edd_image.specs.Execution.{Ending, Outcome, preceded}
+use Rattle.edd_image.specs.Execution.{Ending, Outcome, preceded, stepped}
 use Rattle.edd_image.specs.Reading as reading
 use Rattle.edd_image.specs.Contents.{AttributeFields, Contents, contents_in, rows_from}
 use Rattle.edd_image.specs.Fields.{number_at, name_rows_start, attribute_rows_start, code_start, string_rows_start, name_bytes_start, string_bytes_start, sections_end}
@@ -126,14 +126,19 @@ abbrev over : List ℤ → steps.State
 over values = record (at 48 [] values) { status = status.Ended }
 
 abbrev ask_step : Outcome → Outcome
-ask_step = preceded (requests.PutMessage (record { 0 = 0 }) ∷ []) []
+ask_step o = stepped (preceded (requests.PutMessage (record { 0 = 0 }) ∷ []) [] o)
+
+-- after so many steps
+abbrev stepping : ℕ → Outcome → Outcome
+stepping zero o = o
+stepping (suc n) o = stepped (stepping n o)
 
 module _ (k : ℕ) (values : List ℤ) (answers : List Answer) where
-  machine_tests : image.execute env (suc (suc (suc (suc k)))) (at 0 [] values) answers ≡ image.execute env k (at (if is_done values then 48 else 14) [] values) answers
+  machine_tests : image.execute env (suc (suc (suc (suc k)))) (at 0 [] values) answers ≡ stepping 4 (image.execute env k (at (if is_done values then 48 else 14) [] values) answers)
   unfolding image.execute step act instruction_at instruction_from basic_from comparison_of unary_of jump_from number_from
   machine_tests = refl
 
-  machine_ends : image.execute env (suc k) (at 48 [] values) answers ≡ image.execute env k (over values) answers
+  machine_ends : image.execute env (suc k) (at 48 [] values) answers ≡ stepped (image.execute env k (over values) answers)
   unfolding image.execute step act instruction_at instruction_from basic_from
   machine_ends = refl
 
@@ -142,7 +147,7 @@ module _ (k : ℕ) (values : List ℤ) (answers : List Answer) where
   machine_asks = refl
 
   machine_stores : (code : ℤ) → image.execute env (suc (suc (suc (suc (suc (suc (suc (suc (suc (suc k)))))))))) (at 20 (code ∷ []) values) answers
-      ≡ preceded [] (stored values) (image.execute env k (at 0 [] (after_turn values)) answers)
+      ≡ stepping 10 (preceded [] (stored values) (image.execute env k (at 0 [] (after_turn values)) answers))
   unfolding image.execute step act instruction_at instruction_from basic_from operator_of comparison_of unary_of jump_from number_from operate
   machine_stores code = refl
 
@@ -178,11 +183,11 @@ module _ (string_numbered : StrNo → Option Words) (known : string_numbered (re
         (k, enough, subst (λ (t' : Transcript). Along asked changed t' (image.execute env k (at 0 [] values) answers)) (sym source_is) (subst (λ (o' : Outcome). Along asked changed t o') (sym machine_is) h))
 
   -- the test, and then the request, where the loop goes on
-  to_request : (k : ℕ) (values : List ℤ) (answers : List Answer) → is_done values ≡ false → image.execute env (suc (suc (suc (suc (suc k))))) (at 0 [] values) answers ≡ ask_step (image.execute env k (asks values) answers)
+  to_request : (k : ℕ) (values : List ℤ) (answers : List Answer) → is_done values ≡ false → image.execute env (suc (suc (suc (suc (suc k))))) (at 0 [] values) answers ≡ stepping 4 (ask_step (image.execute env k (asks values) answers))
   to_request k values answers is =
       machine_tests (suc k) values answers
-      ∙ ap (λ (b : Bool). image.execute env (suc k) (at (if b then 48 else 14) [] values) answers) is
-      ∙ machine_asks k values answers
+      ∙ ap (λ (b : Bool). stepping 4 (image.execute env (suc k) (at (if b then 48 else 14) [] values) answers)) is
+      ∙ ap (stepping 4) (machine_asks k values answers)
 
   asked_once : SameRequests string_numbered (source.PutMessage says ∷ []) (requests.PutMessage (record { 0 = 0 }) ∷ [])
   asked_once = ((record { 0 = 0 }, refl, known), tt)
@@ -192,15 +197,17 @@ module _ (string_numbered : StrNo → Option Words) (known : string_numbered (re
       → (b : Bool) → is_done values ≡ b → Goes (suc n) m asked changed values answers
   one_turn n m values asked changed answers valid more true is =
       goes (suc n) m asked changed (suc (suc (suc (suc (suc n))))) values answers _ _ (omega arith) (source_ends n m values asked changed answers is)
-      (machine_tests (suc n) values answers ∙ ap (λ (b : Bool). image.execute env (suc n) (at (if b then 48 else 14) [] values) answers) is ∙ machine_ends n values answers ∙ machine_over n values answers)
+      (machine_tests (suc n) values answers
+      ∙ ap (λ (b : Bool). stepping 4 (image.execute env (suc n) (at (if b then 48 else 14) [] values) answers)) is
+      ∙ ap (stepping 4) (machine_ends n values answers ∙ ap stepped (machine_over n values answers)))
       (record { more = []; requests = sym (append-nil asked); same = tt; changes = sym (append-nil changed); values = refl; answers = refl; ending = refl })
   one_turn n m values asked changed [] valid more false is =
       goes (suc n) m asked changed (suc (suc (suc (suc (suc n))))) values [] _ _ (omega arith) (source_waits n m values asked changed is)
-      (to_request n values [] is ∙ ap ask_step (waiting env (asks values) (requests.PutMessage (record { 0 = 0 })) refl n))
+      (to_request n values [] is ∙ ap (λ (o : Outcome). stepping 4 (ask_step o)) (waiting env (asks values) (requests.PutMessage (record { 0 = 0 })) refl n))
       (record { more = source.PutMessage says ∷ []; requests = refl; same = asked_once; changes = sym (append-nil changed); values = refl; answers = refl; ending = refl })
   one_turn n m values asked changed (Abort ∷ rest) valid more false is =
       goes (suc n) m asked changed (suc (suc (suc (suc (suc n))))) values (Abort ∷ rest) _ _ (omega arith) (source_aborts n m values asked changed rest is)
-      (to_request n values (Abort ∷ rest) is ∙ ap ask_step (aborted env (asks values) (requests.PutMessage (record { 0 = 0 })) refl n rest))
+      (to_request n values (Abort ∷ rest) is ∙ ap (λ (o : Outcome). stepping 4 (ask_step o)) (aborted env (asks values) (requests.PutMessage (record { 0 = 0 })) refl n rest))
       (record { more = source.PutMessage says ∷ []; requests = refl; same = asked_once; changes = sym (append-nil changed); values = refl; answers = refl; ending = refl })
   one_turn n m values asked changed (Go code sets ∷ rest) valid more false is =
       let values' = values_set values sets in
@@ -210,8 +217,8 @@ module _ (string_numbered : StrNo → Option Words) (known : string_numbered (re
       goes (suc n) m asked changed (suc (suc (suc (suc (suc k))))) values (Go code sets ∷ rest) _ _ (omega (arith, h.1))
       (source_asks n m values asked changed code sets rest is ∙ source_stores n m values' (asked ++ source.PutMessage says ∷ []) (changed ++ sets) rest)
       (to_request k values (Go code sets ∷ rest) is
-      ∙ ap ask_step (going_on env (asks values) (requests.PutMessage (record { 0 = 0 })) refl k code sets rest valid.0.1)
-      ∙ ap (λ (o' : Outcome). ask_step (preceded [] sets o')) (machine_stores h.0 values' rest code))
+      ∙ ap (λ (o : Outcome). stepping 4 (ask_step o)) (going_on env (asks values) (requests.PutMessage (record { 0 = 0 })) refl k code sets rest valid.0.1)
+      ∙ ap (λ (o' : Outcome). stepping 4 (ask_step (preceded [] sets o'))) (machine_stores h.0 values' rest code))
       (record {
         more = source.PutMessage says ∷ h.2.more;
         requests = h.2.requests ∙ one_behind asked (source.PutMessage says) h.2.more;

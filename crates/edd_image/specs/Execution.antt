@@ -1,5 +1,5 @@
 -- The event of an answer, and the run of at most so many steps under answers.
-use Rattle.std.specs.Prelude.{ℕ, zero, suc, List, [], ◌∷◌, ◌++◌, Option, Some, None, unwrap_or, ⊤}
+use Rattle.std.specs.Prelude.{ℕ, zero, suc, ◌+◌, List, [], ◌∷◌, ◌++◌, Option, Some, None, unwrap_or, ⊤}
 use Rattle.edd_syntax.specs.declared.answer.Trap.{Trap}
 use Rattle.edd_syntax.specs.Answers.{Change, Answer, Go, Abort, SetFault, answer_fault, values_set}
 use Rattle.edd_image.specs.declared.records.Request.{Request}
@@ -36,13 +36,15 @@ pub data Ending : Type 0 where
   -- a running state has no step, which never happens in a valid image
   Stuck : Ending
 
--- what a run comes to: the requests and the changes that it made, in order, the state that it reaches, the answers left
+-- what a run comes to: the requests and the changes that it made, in order, the state that it reaches, the answers left, and how
+-- many steps it took
 pub record Outcome : Type 0 where
   pub requests : List Request
   pub changes : List Change
   pub state : State
   pub answers : List Answer
   pub ending : Ending
+  pub steps : ℕ
 
 -- a state in which no request stands, or why there is none: it is over, or the request that stands isn't answered
 pub record Meeting : Type 0 where
@@ -78,7 +80,7 @@ meet env s answers = meet_by env s.status s answers
 
 -- the run is over where the meeting left it
 abbrev pub closed : Meeting → Ending → Outcome
-closed m ending = record { requests = []; changes = m.changes; state = m.state; answers = m.answers; ending = ending }
+closed m ending = record { requests = []; changes = m.changes; state = m.state; answers = m.answers; ending = ending; steps = 0 }
 
 abbrev pub request_in : Emitted → List Request
 request_in emitted.Nothing = []
@@ -89,11 +91,15 @@ request_in (emitted.Request r) = r ∷ []
 abbrev pub preceded : List Request → List Change → Outcome → Outcome
 preceded requests changes rest = record rest { requests = requests ++ rest.requests; changes = changes ++ rest.changes }
 
+-- the rest of a run, after one step
+abbrev pub stepped : Outcome → Outcome
+stepped rest = record rest { steps = suc rest.steps }
+
 -- a run goes on with a step and what comes behind it, unless it is over or has no step
 abbrev pub go_on : Meeting → Option Ending → Option Effect → (Effect → Outcome) → Outcome
 go_on m (Some ending) x behind = closed m ending
 go_on m None None behind = closed m Stuck
-go_on m None (Some e) behind = preceded (request_in e.emitted) (m.changes ++ e.changes) (behind e)
+go_on m None (Some e) behind = stepped (preceded (request_in e.emitted) (m.changes ++ e.changes) (behind e))
 
 -- At most n steps, each request met at once by the next answer, also one that stands at the start; an answer counts no step.
 unfoldable pub execute : Environment → (n : ℕ) → State → List Answer → Outcome
@@ -102,7 +108,7 @@ execute env (suc n) s answers = let m = meet env s answers in go_on m m.ending (
 
 -- an outcome that is out of steps, and at most n steps more from where it stopped
 abbrev pub resumed : Environment → (n : ℕ) → Outcome → Outcome
-resumed env n o = preceded o.requests o.changes (execute env n o.state o.answers)
+resumed env n o = let rest = execute env n o.state o.answers in record (preceded o.requests o.changes rest) { steps = o.steps + rest.steps }
 
 -- the image had a step for each running state, and no answer was bad
 abbrev pub IsGoodEnding : Ending → Type 0

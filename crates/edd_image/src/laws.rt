@@ -103,6 +103,14 @@ pub fn what_is_over_stays()
         → (execute env m s answers).ending ≢ OutOfSteps → execute env n s answers ≡ execute env m s answers }
 {}
 
+/// A run takes at most as many steps as it may, and one that is out of steps has taken all of them. Answers are no steps.
+pub fn steps_are_counted()
+    ensures at_most { (env : Environment) (n : ℕ) (s : State) (answers : List Answer)
+        → (execute env n s answers).steps ≤ n }
+    ensures all { (env : Environment) (n : ℕ) (s : State) (answers : List Answer)
+        → (execute env n s answers).ending ≡ OutOfSteps → (execute env n s answers).steps ≡ n }
+{}
+
 /// From a state of a valid unit, under valid answers, a run comes to a state of the same unit. It is never stuck, and no answer is
 /// bad.
 pub fn runs_keep_the_state()
