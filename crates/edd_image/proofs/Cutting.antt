@@ -25,7 +25,7 @@ meeting_not_out env status.Running s answers e = cc
 meeting_not_out env (status.Asking r) s [] e = cc
 meeting_not_out env (status.Asking r) s (a ∷ rest) e = by_fault (answer_fault env.types a) a e
   where
-    by_fault : (fault : Option SetFault) (a : Answer) → Meeting.ending (elim fault [ Some f ↦ nothing_met s (a ∷ rest) (Some (Ending.Bad f)) | None ↦ after_answer (answered s a) rest a ]) ≡ Some OutOfSteps → ⊥
+    by_fault : (fault : Option SetFault) (a : Answer) → Meeting.ending (elim fault [ Some f ↦ nothing_met s (a ∷ rest) (Some (Ending.Bad f)) | None ↦ after_answer (answered s a) rest ]) ≡ Some OutOfSteps → ⊥
     by_fault (Some f) a e = cc
     by_fault None (Go code sets) e = cc
     by_fault None Abort e = cc
@@ -39,8 +39,8 @@ meeting_runs env status.Running s answers is e = is
 meeting_runs env (status.Asking r) s [] is e = absurd cc
 meeting_runs env (status.Asking r) s (a ∷ rest) is e = by_fault (answer_fault env.types a) a e
   where
-    by_fault : (fault : Option SetFault) (a : Answer) → Meeting.ending (elim fault [ Some f ↦ nothing_met s (a ∷ rest) (Some (Ending.Bad f)) | None ↦ after_answer (answered s a) rest a ]) ≡ None
-        → State.status (Meeting.state (elim fault [ Some f ↦ nothing_met s (a ∷ rest) (Some (Ending.Bad f)) | None ↦ after_answer (answered s a) rest a ])) ≡ status.Running
+    by_fault : (fault : Option SetFault) (a : Answer) → Meeting.ending (elim fault [ Some f ↦ nothing_met s (a ∷ rest) (Some (Ending.Bad f)) | None ↦ after_answer (answered s a) rest ]) ≡ None
+        → State.status (Meeting.state (elim fault [ Some f ↦ nothing_met s (a ∷ rest) (Some (Ending.Bad f)) | None ↦ after_answer (answered s a) rest ])) ≡ status.Running
     by_fault (Some f) a e = absurd cc
     by_fault None (Go code sets) e = refl
     by_fault None Abort e = absurd cc

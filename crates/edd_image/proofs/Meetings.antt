@@ -35,7 +35,7 @@ module _ (env : Environment) (s : State) (r : Request) where
       → meet_request env (record s { status = Asking r }) (Go code sets ∷ rest)
       ≡ record { changes = sets; state = record s { operands = code ∷ s.operands; values = values_set s.values sets; status = Running }; answers = rest; ending = None }
   taken code sets rest valid =
-      ap (λ (fault : Option SetFault). elim fault [ Some f ↦ nothing_met (record s { status = Asking r }) (Go code sets ∷ rest) (Some (Bad f)) | None ↦ after_answer (answered (record s { status = Asking r }) (Go code sets)) rest (Go code sets) ]) valid
+      ap (λ (fault : Option SetFault). elim fault [ Some f ↦ nothing_met (record s { status = Asking r }) (Go code sets ∷ rest) (Some (Bad f)) | None ↦ after_answer (answered (record s { status = Asking r }) (Go code sets)) rest ]) valid
 
   pub goes_on : (k : ℕ) (code : ℤ) (sets : List Change) (rest : List Answer) → answer_fault env.types (Go code sets) ≡ None
       → execute env k (record s { status = Asking r }) (Go code sets ∷ rest)

@@ -56,24 +56,29 @@ pub record Meeting : Type 0 where
 abbrev pub nothing_met : State → List Answer → Option Ending → Meeting
 nothing_met s answers ending = record { changes = []; state = s; answers = answers; ending = ending }
 
-abbrev pub after_answer : Effect → List Answer → Answer → Meeting
-after_answer e rest (Go code sets) = record { changes = e.changes; state = e.state; answers = rest; ending = None }
-after_answer e rest Abort = record { changes = e.changes; state = e.state; answers = rest; ending = Some Aborted }
+-- how a run ends in a state that has no step; a running state has one, and one that asks is met first
+abbrev pub over_at : Status → Option Ending
+over_at status.Running = None
+over_at (status.Asking r) = None
+over_at status.Ended = Some Ended
+over_at status.Aborted = Some Aborted
+over_at (status.Trapped why) = Some (Trapped why)
+
+-- behind an answer the run goes on or is over as the state says that it leads to
+abbrev pub after_answer : Effect → List Answer → Meeting
+after_answer e rest = record { changes = e.changes; state = e.state; answers = rest; ending = over_at e.state.status }
 
 -- the request that stands is met by the next answer; an answer that can't be taken stays the next, and the request stands
 abbrev pub meet_request : Environment → State → List Answer → Meeting
 meet_request env s [] = nothing_met s [] (Some Waiting)
 meet_request env s (answer ∷ rest) = elim (answer_fault env.types answer) [
   | Some fault ↦ nothing_met s (answer ∷ rest) (Some (Bad fault))
-  | None ↦ after_answer (answered s answer) rest answer
+  | None ↦ after_answer (answered s answer) rest
 ]
 
 abbrev pub meet_by : Environment → Status → State → List Answer → Meeting
-meet_by env status.Running s answers = nothing_met s answers None
 meet_by env (status.Asking r) s answers = meet_request env s answers
-meet_by env status.Ended s answers = nothing_met s answers (Some Ended)
-meet_by env status.Aborted s answers = nothing_met s answers (Some Aborted)
-meet_by env (status.Trapped why) s answers = nothing_met s answers (Some (Trapped why))
+meet_by env st s answers = nothing_met s answers (over_at st)
 
 abbrev pub meet : Environment → State → List Answer → Meeting
 meet env s answers = meet_by env s.status s answers
