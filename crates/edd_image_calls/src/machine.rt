@@ -128,7 +128,10 @@ fn sets_of_an_answer(rt: HostRuntime) -> Result<(), Fail> {
     };
     let image = load(alloc, &image_of(alloc, small)?)?;
     assert_eq!(rt; set_fault(&image, VarNo(0), 127), None);
-    assert_eq!(rt; set_fault(&image, VarNo(0), 128), Some(SetFault::OutOfRange));
+    assert_eq!(rt;
+        set_fault(&image, VarNo(0), 128),
+        Some(SetFault::OutOfRange)
+    );
     assert_eq!(rt; set_fault(&image, VarNo(1), 65_535), None);
     assert_eq!(rt; set_fault(&image, VarNo(1), -1), Some(SetFault::OutOfRange));
     assert_eq!(rt; set_fault(&image, VarNo(2), 0), Some(SetFault::BadVariable));
