@@ -39,16 +39,16 @@ use Rattle.edd_assembly.proofs.Cutting.{code_of, code_cut}
 use Rattle.edd_assembly.proofs.KnownByNumber.{same_kinds, of_transaction}
 use Rattle.edd_assembly.proofs.RecordsAgree.{string_read, default_same, reading_agrees}
 use Rattle.edd_assembly.proofs.RowsAmong.{same_ref, among_rows}
-use Rattle.edd_assembly.proofs.RowsFound.{Found, same_refs, found_or_none, among_plain}
+use Rattle.edd_assembly.proofs.RowsFound.{Found, of_ref, same_refs, found_or_none, among_plain}
 use Rattle.edd_assembly.proofs.TypesRead.{types_read}
 use Rattle.edd_assembly.proofs.Unwritten.{unwritten, transaction_at}
 
-past : {A : Type 0} (xs : List A) (n : ℕ) → slice_get xs n ≡ None → length xs ≤ n
+pub past : {A : Type 0} (xs : List A) (n : ℕ) → slice_get xs n ≡ None → length xs ≤ n
 past [] n h = omega arith
 past (x ∷ xs) zero h = absurd (none-some x (sym h))
 past (x ∷ xs) (suc n) h = omega (arith, past xs n h)
 
-its_kind : (k : Kind) (items : List (Item Target)) (n : ℕ) (i : Item Target) → slice_get (of_kind k items) n ≡ Some i → kind_of_item i.sort ≡ k
+pub its_kind : (k : Kind) (items : List (Item Target)) (n : ℕ) (i : Item Target) → slice_get (of_kind k items) n ≡ Some i → kind_of_item i.sort ≡ k
 its_kind k items n i h =
     same_kinds (kind_of_item i.sort) k
     (subst (λ (x : Item Target). same_kind (kind_of_item x.sort) k ≡ true) (get_or_from_slice_get (of_kind k items) n i i h)
@@ -67,18 +67,18 @@ not_written sub false h z = refl
 
 module _ (unit : Description Target) (lowered : List Lowered) (strings : List Words) (units : AreUnitsOf unit strings lowered)
     (valid : list_all is_words strings ≡ true) (short : length (flat_map string_bytes strings) < 2 ^ 32) where
-  abbrev contents : Contents
+  abbrev pub contents : Contents
   contents = contents_of (assembled unit lowered strings)
 
-  kept : (n : StrNo) (w : Words) → string_of_table strings n ≡ Some w → string_numbered contents n ≡ Some w
+  pub kept : (n : StrNo) (w : Words) → string_of_table strings n ≡ Some w → string_numbered contents n ≡ Some w
   unfolding assembled
   kept = string_read strings valid short
 
-  same_types : environment_of contents ≡ record { types = (environment unit).variables }
+  pub same_types : environment_of contents ≡ record { types = (environment unit).variables }
   unfolding assembled
   same_types = ap (λ ts. record { types = ts }) (types_read unit.items)
 
-  existing : (i : ItemNo) → item_exists contents.counts i ≡ nat_lt (index_of i) (count_of (kind_of i) unit.items)
+  pub existing : (i : ItemNo) → item_exists contents.counts i ≡ nat_lt (index_of i) (count_of (kind_of i) unit.items)
   unfolding assembled
   existing (items_no.Variable n) = refl
   existing (items_no.Command n) = refl
@@ -90,10 +90,10 @@ module _ (unit : Description Target) (lowered : List Lowered) (strings : List Wo
     abbrev env : device.Environment
     env = environment unit
 
-    searched : (Found ref contents.code (IsUnitOf unit strings) (row_of contents ref) × (list_any (λ (l : Lowered). same_ref ref l.row) lowered ≡ true))
+    searched : (Found (of_ref ref) contents.code (IsUnitOf unit strings) (row_of contents ref) × (list_any (λ (l : Lowered). same_ref ref l.row) lowered ≡ true))
         ⊎ ((row_of contents ref ≡ None) × (list_any (λ (l : Lowered). same_ref ref l.row) lowered ≡ false))
     unfolding assembled
-    searched = found_or_none ref (flat_map code_of lowered) (IsUnitOf unit strings) 0 lowered (code_cut lowered) (recursion_from_All (IsUnitOf unit strings) lowered units.each)
+    searched = found_or_none (of_ref ref) (flat_map code_of lowered) (IsUnitOf unit strings) 0 lowered (code_cut lowered) (recursion_from_All (IsUnitOf unit strings) lowered units.each)
 
     -- what is read agrees with this
     abbrev Agrees : source.Reading → Type 0
@@ -121,7 +121,7 @@ module _ (unit : Description Target) (lowered : List Lowered) (strings : List Wo
           (default_records ref.attr, refl, default_same (string_of_table strings) (string_numbered contents) kept ref.attr),
     )
 
-    by_unit : (meaning : Meaning) → tree_meaning unit ref ≡ meaning → same_attr ref.attr attr.Definition ≡ false → is_no_item contents ref ≡ false → Found ref contents.code (IsUnitOf unit strings) (row_of contents ref) → Agrees (gives ref.attr meaning values)
+    by_unit : (meaning : Meaning) → tree_meaning unit ref ≡ meaning → same_attr ref.attr attr.Definition ≡ false → is_no_item contents ref ≡ false → Found (of_ref ref) contents.code (IsUnitOf unit strings) (row_of contents ref) → Agrees (gives ref.attr meaning values)
     by_unit meaning meant no_body there f =
         let row = same_refs f.unit.row ref f.same in
         let code = attribute_code unit strings f.unit f.kept (ap (λ (r : AttrRef). same_attr r.attr attr.Definition) row ∙ no_body) in

@@ -26,15 +26,15 @@ use Rattle.edd_syntax.proofs.WithinLimits.{each_keeps}
 abbrev pub is_formed : {R : Type 0} → Item R → Bool
 is_formed i = is_name i.name && list_all (belongs_to (kind_of_item i.sort)) i.attributes
 
-bind_some : {A B : Type 0} (o : Option A) (f : A → Option B) (z : B) → (o >>= f) ≡ Some z → (x : A) × (o ≡ Some x) × (f x ≡ Some z)
+pub bind_some : {A B : Type 0} (o : Option A) (f : A → Option B) (z : B) → (o >>= f) ≡ Some z → (x : A) × (o ≡ Some x) × (f x ≡ Some z)
 bind_some None f z h = absurd (none-some z h)
 bind_some (Some x) f z h = (x, refl, h)
 
 -- what a function gives of the value that is there
-at_some : {A C : Type 0} (f : A → C) (d : C) (x y : A) → Some x ≡ Some y → f x ≡ f y
+pub at_some : {A C : Type 0} (f : A → C) (d : C) (x y : A) → Some x ≡ Some y → f x ≡ f y
 at_some f d x y h = ap (λ o. option_map_or f o d) h
 
-all_mapped : {X : Type 0} (test : X → Bool) (xs : List X) → list_all test xs ≡ list_all (λ b. b) (map test xs)
+pub all_mapped : {X : Type 0} (test : X → Bool) (xs : List X) → list_all test xs ≡ list_all (λ b. b) (map test xs)
 all_mapped test [] = refl
 all_mapped test (x ∷ xs) = ap (λ b. test x && b) (all_mapped test xs)
 
@@ -46,26 +46,26 @@ all_weaker p q weaker (x ∷ xs) h =
 
 -- ---- the meaning of names leaves them
 
-module _ (k : Kind) where
-  made : {A : Type 0} (o : Option A) (make : A → Attribute Target) (b : Attribute Target) (v : Bool) → ((x : A) → belongs_to k (make x) ≡ v) → (o >>= λ x. Some (make x)) ≡ Some b → belongs_to k b ≡ v
-  made None make b v same h = absurd (none-some b h)
-  made (Some x) make b v same h = sym (at_some (belongs_to k) v (make x) b h) ∙ same x
+pub made : {A : Type 0} (test : Attribute Target → Bool) (o : Option A) (make : A → Attribute Target) (b : Attribute Target) (v : Bool) → ((x : A) → test (make x) ≡ v) → (o >>= λ x. Some (make x)) ≡ Some b → test b ≡ v
+made test None make b v same h = absurd (none-some b h)
+made test (Some x) make b v same h = sym (at_some test v (make x) b h) ∙ same x
 
+module _ (k : Kind) where
   keeps_belonging : (unit : Description Path) (sort : ItemKind) (a : Attribute Path) (b : Attribute Target) → resolved_attribute unit sort a ≡ Some b → belongs_to k b ≡ belongs_to k a
-  keeps_belonging unit sort (item.Label c) b h = made (resolved_cond (at_attribute unit) unchanged c) item.Label b (has_attr k attr.Label) (λ x. refl) h
-  keeps_belonging unit sort (item.Help c) b h = made (resolved_cond (at_attribute unit) unchanged c) item.Help b (has_attr k attr.Help) (λ x. refl) h
+  keeps_belonging unit sort (item.Label c) b h = made (belongs_to k) (resolved_cond (at_attribute unit) unchanged c) item.Label b (has_attr k attr.Label) (λ x. refl) h
+  keeps_belonging unit sort (item.Help c) b h = made (belongs_to k) (resolved_cond (at_attribute unit) unchanged c) item.Help b (has_attr k attr.Help) (λ x. refl) h
   keeps_belonging unit sort (item.Class words) b h = sym (at_some (belongs_to k) false (item.Class words) b h)
-  keeps_belonging unit sort (item.Handling c) b h = made (resolved_cond (at_attribute unit) unchanged c) item.Handling b (has_attr k attr.Handling) (λ x. refl) h
-  keeps_belonging unit sort (item.ConstantUnit c) b h = made (resolved_cond (at_attribute unit) unchanged c) item.ConstantUnit b (has_attr k attr.ConstantUnit) (λ x. refl) h
-  keeps_belonging unit sort (item.Validity c) b h = made (resolved_cond (at_attribute unit) unchanged c) item.Validity b (has_attr k attr.Validity) (λ x. refl) h
-  keeps_belonging unit sort (item.TypeOf word parts) b h = made (each (resolved_type_part unit) parts) (item.TypeOf word) b (same_kind k kind.Variable) (λ x. refl) h
+  keeps_belonging unit sort (item.Handling c) b h = made (belongs_to k) (resolved_cond (at_attribute unit) unchanged c) item.Handling b (has_attr k attr.Handling) (λ x. refl) h
+  keeps_belonging unit sort (item.ConstantUnit c) b h = made (belongs_to k) (resolved_cond (at_attribute unit) unchanged c) item.ConstantUnit b (has_attr k attr.ConstantUnit) (λ x. refl) h
+  keeps_belonging unit sort (item.Validity c) b h = made (belongs_to k) (resolved_cond (at_attribute unit) unchanged c) item.Validity b (has_attr k attr.Validity) (λ x. refl) h
+  keeps_belonging unit sort (item.TypeOf word parts) b h = made (belongs_to k) (each (resolved_type_part unit) parts) (item.TypeOf word) b (same_kind k kind.Variable) (λ x. refl) h
   keeps_belonging unit sort (item.Number n) b h = sym (at_some (belongs_to k) false (item.Number n) b h)
   keeps_belonging unit sort (item.Operation o) b h = sym (at_some (belongs_to k) false (item.Operation o) b h)
-  keeps_belonging unit sort (item.Transaction number parts) b h = made (each (resolved_transaction_part unit) parts) (item.Transaction number) b (has_attr k attr.Transaction) (λ x. refl) h
+  keeps_belonging unit sort (item.Transaction number parts) b h = made (belongs_to k) (each (resolved_transaction_part unit) parts) (item.Transaction number) b (has_attr k attr.Transaction) (λ x. refl) h
   keeps_belonging unit sort (item.ResponseCodes responses) b h = sym (at_some (belongs_to k) false (item.ResponseCodes responses) b h)
-  keeps_belonging unit sort (item.Items entries) b h = made (resolved_conds (at_attribute unit) (resolved_entry unit) entries) item.Items b (has_attr k attr.Items) (λ x. refl) h
-  keeps_belonging unit sort (item.Members members) b h = made (each (resolved_member unit (member_kinds sort)) members) item.Members b (has_attr k attr.Members) (λ x. refl) h
-  keeps_belonging unit sort (item.Definition body) b h = made (resolved_body unit body [] 0) item.Definition b (has_attr k attr.Definition) (λ x. refl) h
+  keeps_belonging unit sort (item.Items entries) b h = made (belongs_to k) (resolved_conds (at_attribute unit) (resolved_entry unit) entries) item.Items b (has_attr k attr.Items) (λ x. refl) h
+  keeps_belonging unit sort (item.Members members) b h = made (belongs_to k) (each (resolved_member unit (member_kinds sort)) members) item.Members b (has_attr k attr.Members) (λ x. refl) h
+  keeps_belonging unit sort (item.Definition body) b h = made (belongs_to k) (resolved_body unit body [] 0) item.Definition b (has_attr k attr.Definition) (λ x. refl) h
 
 keeps_form : (unit : Description Path) (i : Item Path) (y : Item Target) → resolved_item unit i ≡ Some y → is_formed y ≡ is_formed i
 keeps_form unit i y h =

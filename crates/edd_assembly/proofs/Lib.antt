@@ -21,7 +21,10 @@ pub mod SoundSections
 pub mod NamesAgree
 pub mod RecordsAgree
 pub mod RowsAmong
+pub mod WrittenBodies
 pub mod RowsFound
 pub mod Unwritten
 pub mod AttributesAgree
 pub mod SectionsAgree
+pub mod RunsAgree
+pub mod MethodsAgree

@@ -39,7 +39,7 @@ module _ (unit : Description Target) (lowered : List Lowered) (strings : List Wo
   unfolding assembled
   types_agree = types_read unit.items
 
-  short : AreSections (assembled unit lowered strings) → length (flat_map string_bytes strings) < 2 ^ 32
+  pub short : AreSections (assembled unit lowered strings) → length (flat_map string_bytes strings) < 2 ^ 32
   unfolding assembled
   short sections = omega (arith, sections.total_fits)
 

@@ -20,14 +20,14 @@ use Rattle.edd_syntax.specs.SubsetRules.{type_breaches, types_in, wrong_types}
 use Rattle.edd_syntax.specs.Resolved.{IsChecked}
 use Rattle.edd_assembly.specs.Assembly.{is_small_variable}
 
-not_empty : {A : Type 0} {x : A} {xs : List A} → ¬ (x ∷ xs ≡ [])
+pub not_empty : {A : Type 0} {x : A} {xs : List A} → ¬ (x ∷ xs ≡ [])
 not_empty h = omega (arith, ap length h)
 
-no_front : {A : Type 0} (xs ys : List A) → xs ++ ys ≡ [] → xs ≡ []
+pub no_front : {A : Type 0} (xs ys : List A) → xs ++ ys ≡ [] → xs ≡ []
 no_front [] ys h = refl
 no_front (x ∷ xs) ys h = absurd (not_empty h)
 
-no_rest : {A : Type 0} (xs ys : List A) → xs ++ ys ≡ [] → ys ≡ []
+pub no_rest : {A : Type 0} (xs ys : List A) → xs ++ ys ≡ [] → ys ≡ []
 no_rest [] ys h = h
 no_rest (x ∷ xs) ys h = absurd (not_empty h)
 

@@ -1,6 +1,8 @@
 -- What the code of a description's attributes has to be for its image to be valid, and to say what the description says.
-use Rattle.std.specs.Prelude.{◌≡◌, ℕ, ◌≤◌, true, false, List, length, map, if◌then◌else◌}
+use Rattle.std.specs.Prelude.{◌≡◌, ℕ, ◌≤◌, true, false, List, length, map, if◌then◌else◌, ⊤}
 use Rattle.std.specs.List.{All}
+use Rattle.edd_syntax.specs.declared.numbers.MethNo.{MethNo}
+use Rattle.edd_syntax.specs.declared.numbers.ItemNo.TheVariants as items
 use Rattle.edd_syntax.specs.declared.numbers.Attr.TheVariants as attr
 use Rattle.edd_syntax.specs.declared.numbers.AttrRef.{AttrRef}
 use Rattle.edd_syntax.specs.declared.reference.Target.{Target}
@@ -13,6 +15,7 @@ use Rattle.edd_image.specs.declared.unit.Sort.TheVariants.{Method}
 use Rattle.edd_image.specs.declared.unit.Context.{Context}
 use Rattle.edd_image.specs.Units.{IsValidUnit}
 use Rattle.edd_image.specs.Agreement.{counts_of, IsAttributeCode}
+use Rattle.edd_image.specs.MethodAgreement.{IsMethodCode}
 use Rattle.edd_assembly.specs.Assembly.{Lowered}
 
 -- the row as the description has it, in which a body stands at 0
@@ -44,3 +47,10 @@ IsUnitOf unit strings l = elim (same_attr l.row.attr attr.Definition) [
 pub record AreUnitsOf (unit : Description Target) (strings : List Words) (lowered : List Lowered) : Type 0 where
   pub in_order : map plain_row lowered ≡ rows unit.items
   pub each : All (IsUnitOf unit strings) lowered
+
+-- the code of a body is that of its method; of other code nothing is asked
+abbrev pub IsMethodOf : Description Target → List Words → Lowered → Type 0
+IsMethodOf unit strings l = elim (same_attr l.row.attr attr.Definition) [
+  | true ↦ (m : MethNo) × (l.row.item ≡ items.Method m) × IsMethodCode unit strings m l.row.sub l.code
+  | false ↦ ⊤
+]

@@ -1,6 +1,7 @@
 //! Laws of the sections, for the crates above.
 
 ghost use Rattle.std.specs.Prelude.{◌≡◌, List, map};
+ghost use Rattle.std.specs.List.{All};
 ghost use Rattle.edd_syntax.specs.declared.reference.Target.{Target};
 ghost use Rattle.edd_syntax.specs.declared.words.Words as in_code;
 ghost use Rattle.edd_syntax.specs.Resolved.{IsChecked};
@@ -9,13 +10,14 @@ ghost use Rattle.edd_syntax.specs.WordsView.{string_of};
 ghost use Rattle.edd_syntax.specs.Item.{Description};
 ghost use Rattle.edd_syntax.specs.Device.{environment};
 ghost use Rattle.edd_image.specs.Agreement.{AgreesOnData};
+ghost use Rattle.edd_image.specs.MethodAgreement.{AgreesOnMethods};
 ghost use Rattle.edd_image.specs.Contents.{part, contents_of};
 ghost use Rattle.edd_image.specs.Layout.{AreSections};
 ghost use Rattle.edd_image.specs.Reading.{environment_of};
 ghost use Rattle.edd_image.specs.Strings.{string_bytes};
 ghost use Rattle.edd_image.specs.Validity.{IsSound};
 ghost use Rattle.edd_assembly.specs.Assembly.{Lowered, names_of, assembled};
-ghost use Rattle.edd_assembly.specs.LoweredUnits.{AreUnitsOf};
+ghost use Rattle.edd_assembly.specs.LoweredUnits.{AreUnitsOf, IsMethodOf};
 
 /// The names, the strings and the code that the rows of the sections cut are those that were put together, and the types of
 /// the variables are the description's.
@@ -49,4 +51,14 @@ pub fn sections_agree()
         → AreUnitsOf unit (map string_of words) lowered
         → AreSections (assembled unit lowered (map string_of words))
         → AgreesOnData unit (contents_of (assembled unit lowered (map string_of words))) }
+{}
+
+/// The sections of a checked description and of its units do what its methods do, where the code of each body is that of its method
+/// and the sections fit an image: for every method, under all values of a device and all valid answers.
+pub fn methods_agree()
+    ensures { (unit : Description Target) (lowered : List Lowered) (words : List in_code.Words)
+        → ∥ IsChecked unit ∥₁ → AreUnitsOf unit (map string_of words) lowered
+        → All (IsMethodOf unit (map string_of words)) lowered
+        → AreSections (assembled unit lowered (map string_of words))
+        → AgreesOnMethods unit (contents_of (assembled unit lowered (map string_of words))) }
 {}

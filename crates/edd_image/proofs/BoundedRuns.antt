@@ -9,7 +9,7 @@ use Rattle.edd_image.specs.declared.records.Status.TheVariants as status
 use Rattle.edd_image.specs.declared.unit.Context.{Context}
 use Rattle.edd_image.specs.Units.{IsValidUnit}
 use Rattle.edd_image.specs.Steps.{RunningUnit, State, Environment, Effect, IsState, step}
-use Rattle.edd_image.specs.Execution.{Ending, OutOfSteps, Bad, Outcome, Meeting, IsGoodEnding, answered, nothing_met, after_answer, meet_by, meet, closed, request_in, preceded, go_on, execute}
+use Rattle.edd_image.specs.Execution.{Ending, OutOfSteps, Bad, Outcome, Meeting, IsGoodEnding, answered, nothing_met, after_answer, meet_by, meet, closed, request_in, preceded, stepped, go_on, execute}
 use Rattle.edd_image.proofs.AnsweredStates.{state_again}
 use Rattle.edd_image.proofs.NextStates.{next_in_unit}
 
@@ -35,7 +35,7 @@ module _ (context : Context) (env : Environment) where
     runs : m.ending ≡ None → m.state.status ≡ status.Running
 
   met_answer : (s : State) (r : Request) (a : Answer) (rest : List Answer) → s.status ≡ status.Asking r → IsState context env s → IsValidAnswer env.types a → ValidAnswers rest
-      → Met s.unit (after_answer (answered s a) rest a)
+      → Met s.unit (after_answer (answered s a) rest)
   met_answer s r (Go code sets) rest asks is valid others = record { state = state_again context env s r (Go code sets) is asks valid; same = refl; answers = others; good = tt; runs = λ e. refl }
   met_answer s r Abort rest asks is valid others = record { state = state_again context env s r Abort is asks valid; same = refl; answers = others; good = tt; runs = λ e. absurd cc }
 
@@ -46,7 +46,7 @@ module _ (context : Context) (env : Environment) where
   met status.Running s answers e is valid = record { state = is; same = refl; answers = valid; good = tt; runs = λ x. e }
   met (status.Asking r) s [] e is valid = over s [] Ending.Waiting is valid tt
   met (status.Asking r) s (a ∷ rest) e is valid =
-      subst (λ (fault : Option SetFault). Met s.unit (elim fault [ Some f ↦ nothing_met s (a ∷ rest) (Some (Bad f)) | None ↦ after_answer (answered s a) rest a ]))
+      subst (λ (fault : Option SetFault). Met s.unit (elim fault [ Some f ↦ nothing_met s (a ∷ rest) (Some (Bad f)) | None ↦ after_answer (answered s a) rest ]))
       (sym (no_fault env a valid.0)) (met_answer s r a rest e is valid.0 valid.1)
   met status.Ended s answers e is valid = over s answers Ending.Ended is valid tt
   met status.Aborted s answers e is valid = over s answers Ending.Aborted is valid tt
@@ -63,7 +63,7 @@ module _ (context : Context) (env : Environment) where
   stopped m unit None e is = record { state = is.state; same = is.same; answers = is.answers; good = tt }
   stopped m unit (Some ending) e is = record { state = is.state; same = is.same; answers = is.answers; good = subst GoodOption e is.good }
 
-  behind : (unit : RunningUnit) (requests : List Request) (changes : _) (o : Outcome) → Bounded unit o → Bounded unit (preceded requests changes o)
+  behind : (unit : RunningUnit) (requests : List Request) (changes : _) (o : Outcome) → Bounded unit o → Bounded unit (stepped (preceded requests changes o))
   behind unit requests changes o is = record { state = is.state; same = is.same; answers = is.answers; good = is.good }
 
   -- from what a meeting leaves, where n steps more are bounded from every state

@@ -6,26 +6,26 @@ use Rattle.edd_image.specs.declared.records.Request.{Request}
 use Rattle.edd_image.specs.declared.records.Status.{Status}
 use Rattle.edd_image.specs.declared.records.Status.TheVariants as status
 use Rattle.edd_image.specs.Steps.{State, Environment, Effect, step}
-use Rattle.edd_image.specs.Execution.{Ending, OutOfSteps, Outcome, Meeting, answered, after_answer, nothing_met, meet_by, meet, closed, request_in, preceded, go_on, execute, resumed}
+use Rattle.edd_image.specs.Execution.{Ending, OutOfSteps, Outcome, Meeting, answered, after_answer, nothing_met, meet_by, meet, closed, request_in, preceded, stepped, go_on, execute, resumed}
 
 -- ---- outcomes
 
-same_outcome : {r r' : List Request} {c c' : List Change} {s : State} {left : List Answer} {e : Ending} → r ≡ r' → c ≡ c'
-    → ◌≡◌ {A = Outcome} (record { requests = r; changes = c; state = s; answers = left; ending = e }) (record { requests = r'; changes = c'; state = s; answers = left; ending = e })
-same_outcome p q = cc
+same_outcome : {r r' : List Request} {c c' : List Change} {s : State} {left : List Answer} {e : Ending} {n n' : ℕ} → r ≡ r' → c ≡ c' → n ≡ n'
+    → ◌≡◌ {A = Outcome} (record { requests = r; changes = c; state = s; answers = left; ending = e; steps = n }) (record { requests = r'; changes = c'; state = s; answers = left; ending = e; steps = n' })
+same_outcome p q t = cc
 
 preceded_twice : (a c : List Request) (b d : List Change) (o : Outcome) → preceded a b (preceded c d o) ≡ preceded (a ++ c) (b ++ d) o
-preceded_twice a c b d o = same_outcome (sym (append_assoc a c o.requests)) (sym (append_assoc b d o.changes))
+preceded_twice a c b d o = same_outcome (sym (append_assoc a c o.requests)) (sym (append_assoc b d o.changes)) refl
 
 -- ---- meetings
 
 -- a meeting never says that steps are out
-meeting_not_out : (env : Environment) (st : Status) (s : State) (answers : List Answer) → (meet_by env st s answers).ending ≡ Some OutOfSteps → ⊥
+pub meeting_not_out : (env : Environment) (st : Status) (s : State) (answers : List Answer) → (meet_by env st s answers).ending ≡ Some OutOfSteps → ⊥
 meeting_not_out env status.Running s answers e = cc
 meeting_not_out env (status.Asking r) s [] e = cc
 meeting_not_out env (status.Asking r) s (a ∷ rest) e = by_fault (answer_fault env.types a) a e
   where
-    by_fault : (fault : Option SetFault) (a : Answer) → Meeting.ending (elim fault [ Some f ↦ nothing_met s (a ∷ rest) (Some (Ending.Bad f)) | None ↦ after_answer (answered s a) rest a ]) ≡ Some OutOfSteps → ⊥
+    by_fault : (fault : Option SetFault) (a : Answer) → Meeting.ending (elim fault [ Some f ↦ nothing_met s (a ∷ rest) (Some (Ending.Bad f)) | None ↦ after_answer (answered s a) rest ]) ≡ Some OutOfSteps → ⊥
     by_fault (Some f) a e = cc
     by_fault None (Go code sets) e = cc
     by_fault None Abort e = cc
@@ -39,8 +39,8 @@ meeting_runs env status.Running s answers is e = is
 meeting_runs env (status.Asking r) s [] is e = absurd cc
 meeting_runs env (status.Asking r) s (a ∷ rest) is e = by_fault (answer_fault env.types a) a e
   where
-    by_fault : (fault : Option SetFault) (a : Answer) → Meeting.ending (elim fault [ Some f ↦ nothing_met s (a ∷ rest) (Some (Ending.Bad f)) | None ↦ after_answer (answered s a) rest a ]) ≡ None
-        → State.status (Meeting.state (elim fault [ Some f ↦ nothing_met s (a ∷ rest) (Some (Ending.Bad f)) | None ↦ after_answer (answered s a) rest a ])) ≡ status.Running
+    by_fault : (fault : Option SetFault) (a : Answer) → Meeting.ending (elim fault [ Some f ↦ nothing_met s (a ∷ rest) (Some (Ending.Bad f)) | None ↦ after_answer (answered s a) rest ]) ≡ None
+        → State.status (Meeting.state (elim fault [ Some f ↦ nothing_met s (a ∷ rest) (Some (Ending.Bad f)) | None ↦ after_answer (answered s a) rest ])) ≡ status.Running
     by_fault (Some f) a e = absurd cc
     by_fault None (Go code sets) e = refl
     by_fault None Abort e = absurd cc
@@ -61,7 +61,7 @@ unfolding execute
 from_meeting env zero m none runs s answers is =
     let here : execute env zero s answers ≡ closed m OutOfSteps = ap (λ (n : Meeting). closed n (unwrap_or n.ending OutOfSteps)) is ∙ ap (λ (o : Option Ending). closed m (unwrap_or o OutOfSteps)) none in
     let there : execute env zero m.state m.answers ≡ closed (nothing_met m.state m.answers None) OutOfSteps = ap (λ (n : Meeting). closed n (unwrap_or n.ending OutOfSteps)) (meet_again env m.state m.answers runs) in
-    here ∙ same_outcome refl (sym (append-nil m.changes)) ∙ ap (λ (o : Outcome). preceded [] m.changes o) (sym there)
+    here ∙ same_outcome refl (sym (append-nil m.changes)) refl ∙ ap (λ (o : Outcome). preceded [] m.changes o) (sym there)
 from_meeting env (suc k) m none runs s answers is =
     let behind : Meeting → Effect → Outcome = λ n e. execute env k e.state n.answers in
     let here : execute env (suc k) s answers ≡ go_on m None (step env m.state) (behind m) =
@@ -72,8 +72,8 @@ from_meeting env (suc k) m none runs s answers is =
     here ∙ by_step (step env m.state) (behind m) ∙ ap (λ (o : Outcome). preceded [] m.changes o) (sym there)
   where
     by_step : (x : Option Effect) (behind : Effect → Outcome) → go_on m None x behind ≡ preceded [] m.changes (go_on (nothing_met m.state m.answers None) None x behind)
-    by_step None behind = same_outcome refl (sym (append-nil m.changes))
-    by_step (Some e) behind = sym (preceded_twice [] (request_in e.emitted) m.changes e.changes (behind e))
+    by_step None behind = same_outcome refl (sym (append-nil m.changes)) refl
+    by_step (Some e) behind = ap stepped (sym (preceded_twice [] (request_in e.emitted) m.changes e.changes (behind e)))
 
 not_out : (o : Option Ending) → (o ≡ Some OutOfSteps → ⊥) → unwrap_or o OutOfSteps ≡ OutOfSteps → o ≡ None
 not_out None never e = refl
@@ -85,6 +85,7 @@ cut_at_once env k s answers e =
     let m = meet env s answers in
     let none : m.ending ≡ None = not_out m.ending (meeting_not_out env s.status s answers) e in
     from_meeting env k m none (meeting_runs env s.status s answers refl none) s answers refl
+    ∙ same_outcome refl refl (sym (zero-add (execute env k m.state m.answers).steps))
 
 -- ---- a step before the cut
 
@@ -97,7 +98,8 @@ cut_behind env k m None (Some f) short long never same e =
     let r = request_in f.emitted in
     let c = m.changes ++ f.changes in
     let o = short f in
-    ap (λ (o' : Outcome). preceded r c o') (same f e) ∙ preceded_twice r o.requests c o.changes (execute env k o.state o.answers)
+    let rest = execute env k o.state o.answers in
+    ap (λ (o' : Outcome). stepped (preceded r c o')) (same f e) ∙ same_outcome (sym (append_assoc r o.requests rest.requests)) (sym (append_assoc c o.changes rest.changes)) (omega arith)
 
 pub cut : (env : Environment) (j k : ℕ) (s : State) (answers : List Answer) → (execute env j s answers).ending ≡ OutOfSteps → execute env (j + k) s answers ≡ resumed env k (execute env j s answers)
 unfolding execute

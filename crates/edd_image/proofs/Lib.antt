@@ -12,9 +12,13 @@ pub mod ReadIsSpelled
 pub mod Readings
 pub mod Spelled
 pub mod StaysOver
+pub mod StepCounts
 pub mod StringsRead
 pub mod UniqueReadings
 pub mod Widths
 pub mod WorkedEdits
 pub mod WorkedImages
 pub mod WorkedMethods
+pub mod FollowedRuns
+pub mod WorkedAsking
+pub mod WorkedAskingValid

@@ -9,33 +9,33 @@ use Rattle.edd_image.specs.Steps.{State, Environment, Effect, step}
 use Rattle.edd_image.specs.Execution.{Ending, Aborted, Waiting, OutOfSteps, Bad, Outcome, Meeting, answered, nothing_met, after_answer, meet_request, closed, request_in, preceded, go_on, execute}
 
 module _ (env : Environment) (s : State) (r : Request) where
-  pub waits : (k : ℕ) → execute env k (record s { status = Asking r }) [] ≡ record { requests = []; changes = []; state = record s { status = Asking r }; answers = []; ending = Waiting }
+  pub waits : (k : ℕ) → execute env k (record s { status = Asking r }) [] ≡ record { requests = []; changes = []; state = record s { status = Asking r }; answers = []; ending = Waiting; steps = 0 }
   unfolding execute
   waits zero = refl
   waits (suc k) = refl
 
   pub aborts : (k : ℕ) (rest : List Answer) → execute env k (record s { status = Asking r }) (Abort ∷ rest)
-      ≡ record { requests = []; changes = []; state = (answered (record s { status = Asking r }) Abort).state; answers = rest; ending = Aborted }
+      ≡ record { requests = []; changes = []; state = (answered (record s { status = Asking r }) Abort).state; answers = rest; ending = Aborted; steps = 0 }
   unfolding execute
   aborts zero rest = refl
   aborts (suc k) rest = refl
 
   same_outcome : (c c' : List Change) (t : State) (left : List Answer) (e : Ending) → c ≡ c'
-      → ◌≡◌ {A = Outcome} (record { requests = []; changes = c; state = t; answers = left; ending = e }) (record { requests = []; changes = c'; state = t; answers = left; ending = e })
-  same_outcome c c' t left e is = ap (λ (x : List Change). record { requests = []; changes = x; state = t; answers = left; ending = e }) is
+      → ◌≡◌ {A = Outcome} (record { requests = []; changes = c; state = t; answers = left; ending = e; steps = 0 }) (record { requests = []; changes = c'; state = t; answers = left; ending = e; steps = 0 })
+  same_outcome c c' t left e is = ap (λ (x : List Change). record { requests = []; changes = x; state = t; answers = left; ending = e; steps = 0 }) is
 
   by_step : (sets : List Change) (t : State) (rest : List Answer) (x : Option Effect) (behind : Effect → Outcome)
       → go_on (record { changes = sets; state = t; answers = rest; ending = None }) None x behind ≡ preceded [] sets (go_on (nothing_met t rest None) None x behind)
   by_step sets t rest None behind = same_outcome sets (sets ++ []) t rest _ (sym (append-nil sets))
   by_step sets t rest (Some e) behind =
-      ap (λ (cs : List Change). record (behind e) { requests = request_in e.emitted ++ (behind e).requests; changes = cs }) (append_assoc sets e.changes (behind e).changes)
+      ap (λ (cs : List Change). record (behind e) { requests = request_in e.emitted ++ (behind e).requests; changes = cs; steps = suc (behind e).steps }) (append_assoc sets e.changes (behind e).changes)
 
   -- an answer that can be taken is taken
   taken : (code : ℤ) (sets : List Change) (rest : List Answer) → answer_fault env.types (Go code sets) ≡ None
       → meet_request env (record s { status = Asking r }) (Go code sets ∷ rest)
       ≡ record { changes = sets; state = record s { operands = code ∷ s.operands; values = values_set s.values sets; status = Running }; answers = rest; ending = None }
   taken code sets rest valid =
-      ap (λ (fault : Option SetFault). elim fault [ Some f ↦ nothing_met (record s { status = Asking r }) (Go code sets ∷ rest) (Some (Bad f)) | None ↦ after_answer (answered (record s { status = Asking r }) (Go code sets)) rest (Go code sets) ]) valid
+      ap (λ (fault : Option SetFault). elim fault [ Some f ↦ nothing_met (record s { status = Asking r }) (Go code sets ∷ rest) (Some (Bad f)) | None ↦ after_answer (answered (record s { status = Asking r }) (Go code sets)) rest ]) valid
 
   pub goes_on : (k : ℕ) (code : ℤ) (sets : List Change) (rest : List Answer) → answer_fault env.types (Go code sets) ≡ None
       → execute env k (record s { status = Asking r }) (Go code sets ∷ rest)

@@ -20,7 +20,7 @@ use Rattle.edd_image.specs.Fields.{number_at, name_rows_start, attribute_rows_st
 use Rattle.edd_image.specs.Steps as steps
 use Rattle.edd_image.specs.Steps.{Environment, opening, act, step}
 use Rattle.edd_image.specs.Execution as image
-use Rattle.edd_image.specs.Execution.{Ending, Ended, OutOfSteps, Outcome, preceded}
+use Rattle.edd_image.specs.Execution.{Ending, Ended, OutOfSteps, Outcome, preceded, stepped}
 use Rattle.edd_image.specs.Reading as reading
 use Rattle.edd_image.specs.Agreement.{string_numbered}
 use Rattle.edd_image.specs.MethodAgreement.{ending_of, SameOutcome, AgreesOnMethod, AgreesOnMethods}
@@ -50,13 +50,13 @@ source_goes_on n values answers =
 abbrev looping : List ℤ → steps.State
 looping values = opening (record { sort = sort.Method; code = 0x30 ∷ 0x00 ∷ 0x00 ∷ 0x00 ∷ 0x00 ∷ [] }) 0 values
 
-abbrev in_steps : List ℤ → List Answer → Outcome
-in_steps values answers = record { requests = []; changes = []; state = looping values; answers = answers; ending = OutOfSteps }
+abbrev in_steps : ℕ → List ℤ → List Answer → Outcome
+in_steps k values answers = record { requests = []; changes = []; state = looping values; answers = answers; ending = OutOfSteps; steps = k }
 
-machine_goes_on : (env : Environment) (k : ℕ) (values : List ℤ) (answers : List Answer) → image.execute env k (looping values) answers ≡ in_steps values answers
+machine_goes_on : (env : Environment) (k : ℕ) (values : List ℤ) (answers : List Answer) → image.execute env k (looping values) answers ≡ in_steps k values answers
 unfolding image.execute step act instruction_at instruction_from basic_from unary_of jump_from number_from
 machine_goes_on env zero values answers = refl
-machine_goes_on env (suc k) values answers = ap (preceded [] []) (machine_goes_on env k values answers)
+machine_goes_on env (suc k) values answers = ap (λ (o : Outcome). stepped (preceded [] [] o)) (machine_goes_on env k values answers)
 
 -- ---- the row of the body
 
@@ -73,7 +73,7 @@ loop_opens values = refl
 
 -- ---- the image does what the method does
 
-goes_on_so : (env : Environment) (k : ℕ) (values : List ℤ) (answers : List Answer) → image.execute env k (reading.opening_of (contents_in loop_image) body values) answers ≡ in_steps values answers
+goes_on_so : (env : Environment) (k : ℕ) (values : List ℤ) (answers : List Answer) → image.execute env k (reading.opening_of (contents_in loop_image) body values) answers ≡ in_steps k values answers
 goes_on_so env k values answers = ap (λ (s : steps.State). image.execute env k s answers) (loop_opens values) ∙ machine_goes_on env k values answers
 
 loop_agrees : AgreesOnMethod loop_unit (contents_in loop_image) first

@@ -1,5 +1,5 @@
 -- The event of an answer, and the run of at most so many steps under answers.
-use Rattle.std.specs.Prelude.{ℕ, zero, suc, List, [], ◌∷◌, ◌++◌, Option, Some, None, unwrap_or, ⊤}
+use Rattle.std.specs.Prelude.{ℕ, zero, suc, ◌+◌, List, [], ◌∷◌, ◌++◌, Option, Some, None, unwrap_or, ⊤}
 use Rattle.edd_syntax.specs.declared.answer.Trap.{Trap}
 use Rattle.edd_syntax.specs.Answers.{Change, Answer, Go, Abort, SetFault, answer_fault, values_set}
 use Rattle.edd_image.specs.declared.records.Request.{Request}
@@ -36,13 +36,15 @@ pub data Ending : Type 0 where
   -- a running state has no step, which never happens in a valid image
   Stuck : Ending
 
--- what a run comes to: the requests and the changes that it made, in order, the state that it reaches, the answers left
+-- what a run comes to: the requests and the changes that it made, in order, the state that it reaches, the answers left, and how
+-- many steps it took
 pub record Outcome : Type 0 where
   pub requests : List Request
   pub changes : List Change
   pub state : State
   pub answers : List Answer
   pub ending : Ending
+  pub steps : ℕ
 
 -- a state in which no request stands, or why there is none: it is over, or the request that stands isn't answered
 pub record Meeting : Type 0 where
@@ -54,31 +56,36 @@ pub record Meeting : Type 0 where
 abbrev pub nothing_met : State → List Answer → Option Ending → Meeting
 nothing_met s answers ending = record { changes = []; state = s; answers = answers; ending = ending }
 
-abbrev pub after_answer : Effect → List Answer → Answer → Meeting
-after_answer e rest (Go code sets) = record { changes = e.changes; state = e.state; answers = rest; ending = None }
-after_answer e rest Abort = record { changes = e.changes; state = e.state; answers = rest; ending = Some Aborted }
+-- how a run ends in a state that has no step; a running state has one, and one that asks is met first
+abbrev pub over_at : Status → Option Ending
+over_at status.Running = None
+over_at (status.Asking r) = None
+over_at status.Ended = Some Ended
+over_at status.Aborted = Some Aborted
+over_at (status.Trapped why) = Some (Trapped why)
+
+-- behind an answer the run goes on or is over as the state says that it leads to
+abbrev pub after_answer : Effect → List Answer → Meeting
+after_answer e rest = record { changes = e.changes; state = e.state; answers = rest; ending = over_at e.state.status }
 
 -- the request that stands is met by the next answer; an answer that can't be taken stays the next, and the request stands
 abbrev pub meet_request : Environment → State → List Answer → Meeting
 meet_request env s [] = nothing_met s [] (Some Waiting)
 meet_request env s (answer ∷ rest) = elim (answer_fault env.types answer) [
   | Some fault ↦ nothing_met s (answer ∷ rest) (Some (Bad fault))
-  | None ↦ after_answer (answered s answer) rest answer
+  | None ↦ after_answer (answered s answer) rest
 ]
 
 abbrev pub meet_by : Environment → Status → State → List Answer → Meeting
-meet_by env status.Running s answers = nothing_met s answers None
 meet_by env (status.Asking r) s answers = meet_request env s answers
-meet_by env status.Ended s answers = nothing_met s answers (Some Ended)
-meet_by env status.Aborted s answers = nothing_met s answers (Some Aborted)
-meet_by env (status.Trapped why) s answers = nothing_met s answers (Some (Trapped why))
+meet_by env st s answers = nothing_met s answers (over_at st)
 
 abbrev pub meet : Environment → State → List Answer → Meeting
 meet env s answers = meet_by env s.status s answers
 
 -- the run is over where the meeting left it
 abbrev pub closed : Meeting → Ending → Outcome
-closed m ending = record { requests = []; changes = m.changes; state = m.state; answers = m.answers; ending = ending }
+closed m ending = record { requests = []; changes = m.changes; state = m.state; answers = m.answers; ending = ending; steps = 0 }
 
 abbrev pub request_in : Emitted → List Request
 request_in emitted.Nothing = []
@@ -89,11 +96,15 @@ request_in (emitted.Request r) = r ∷ []
 abbrev pub preceded : List Request → List Change → Outcome → Outcome
 preceded requests changes rest = record rest { requests = requests ++ rest.requests; changes = changes ++ rest.changes }
 
+-- the rest of a run, after one step
+abbrev pub stepped : Outcome → Outcome
+stepped rest = record rest { steps = suc rest.steps }
+
 -- a run goes on with a step and what comes behind it, unless it is over or has no step
 abbrev pub go_on : Meeting → Option Ending → Option Effect → (Effect → Outcome) → Outcome
 go_on m (Some ending) x behind = closed m ending
 go_on m None None behind = closed m Stuck
-go_on m None (Some e) behind = preceded (request_in e.emitted) (m.changes ++ e.changes) (behind e)
+go_on m None (Some e) behind = stepped (preceded (request_in e.emitted) (m.changes ++ e.changes) (behind e))
 
 -- At most n steps, each request met at once by the next answer, also one that stands at the start; an answer counts no step.
 unfoldable pub execute : Environment → (n : ℕ) → State → List Answer → Outcome
@@ -102,7 +113,7 @@ execute env (suc n) s answers = let m = meet env s answers in go_on m m.ending (
 
 -- an outcome that is out of steps, and at most n steps more from where it stopped
 abbrev pub resumed : Environment → (n : ℕ) → Outcome → Outcome
-resumed env n o = preceded o.requests o.changes (execute env n o.state o.answers)
+resumed env n o = let rest = execute env n o.state o.answers in record (preceded o.requests o.changes rest) { steps = o.steps + rest.steps }
 
 -- the image had a step for each running state, and no answer was bad
 abbrev pub IsGoodEnding : Ending → Type 0

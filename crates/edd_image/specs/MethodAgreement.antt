@@ -19,7 +19,7 @@ use Rattle.edd_image.specs.declared.records.Request.TheVariants as requests
 use Rattle.edd_image.specs.declared.unit.Context.{Context}
 use Rattle.edd_image.specs.declared.unit.Sort.TheVariants as sort
 use Rattle.edd_image.specs.declared.unit.Version.TheVariants.{One}
-use Rattle.edd_image.specs.Agreement.{IsString, counts_of, string_of_table, string_numbered}
+use Rattle.edd_image.specs.Agreement.{AgreesOnData, IsString, counts_of, string_of_table, string_numbered}
 use Rattle.edd_image.specs.Contents.{AttributeFields, Contents}
 use Rattle.edd_image.specs.References.{item_exists}
 use Rattle.edd_image.specs.Reading as image
@@ -109,3 +109,8 @@ pub record AgreesOnMethod (unit : Description Target) (c : Contents) (method : M
 -- each method that there is
 abbrev pub AgreesOnMethods : Description Target → Contents → Type 0
 AgreesOnMethods unit c = (method : MethNo) → IsTrue (item_exists c.counts (Method method)) → AgreesOnMethod unit c method
+
+-- The image says and does what the description does: this is all that a compiled image promises of its unit.
+pub record Agrees (unit : Description Target) (c : Contents) : Type 0 where
+  pub on_data : AgreesOnData unit c
+  pub on_methods : AgreesOnMethods unit c

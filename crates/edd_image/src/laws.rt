@@ -1,6 +1,6 @@
 //! Laws of the definitions, for the crates above.
 
-ghost use Rattle.std.specs.Prelude.{◌≡◌, ◌≢◌, ℕ, ℤ, ◌+◌, ◌≤◌, List, [], ◌∷◌, ◌++◌, length, drop, None, Some};
+ghost use Rattle.std.specs.Prelude.{◌≡◌, ◌≢◌, ℕ, ℤ, ◌+◌, ◌≤◌, List, [], ◌∷◌, ◌++◌, length, drop, Option, None, Some};
 ghost use Rattle.std.specs.List.{AllByRecursion};
 ghost use Rattle.edd_image.specs.declared.instruction.Instruction.{Instruction};
 ghost use Rattle.edd_image.specs.Decoding.{instruction_at};
@@ -10,7 +10,7 @@ ghost use Rattle.edd_image.specs.Units.{IsValidUnit};
 ghost use Rattle.edd_image.specs.Validity.{code_limit, IsSound, IsValid};
 ghost use Rattle.edd_syntax.specs.Answers.{Answer, Go, Abort, Change, IsValidAnswer, answer_fault};
 ghost use Rattle.edd_syntax.specs.declared.numbers.AttrRef.{AttrRef};
-ghost use Rattle.edd_syntax.specs.DeviceValues.{AreDeviceValues};
+ghost use Rattle.edd_syntax.specs.DeviceValues.{AreDeviceValues, VariableType};
 ghost use Rattle.edd_image.specs.Reading.{Reading, IsReading};
 ghost use Rattle.edd_syntax.specs.Words.{Words};
 ghost use Rattle.edd_image.specs.declared.records.Request.{Request};
@@ -19,6 +19,9 @@ ghost use Rattle.edd_image.specs.declared.unit.Context.{Context};
 ghost use Rattle.edd_image.specs.Strings.{WordsFit, string_bytes, string_in};
 ghost use Rattle.edd_image.specs.Steps.{State, Environment, Effect, IsState, opening, step};
 ghost use Rattle.edd_image.specs.Execution.{Aborted, Waiting, OutOfSteps, IsGoodEnding, answered, closed, execute, nothing_met, preceded, resumed};
+ghost use Rattle.edd_syntax.specs.declared.numbers.StrNo.{StrNo};
+ghost use Rattle.edd_syntax.specs.Execution.{Transcript};
+ghost use Rattle.edd_image.specs.MethodAgreement.{SameOutcome, AgreesOnRuns};
 ghost use Rattle.edd_image.specs.Spelling.{AreBytes, spelling, IsSpelled};
 
 /// An instruction that was spelled is read again, whatever stands around it.
@@ -100,6 +103,14 @@ pub fn what_is_over_stays()
         → (execute env m s answers).ending ≢ OutOfSteps → execute env n s answers ≡ execute env m s answers }
 {}
 
+/// A run takes at most as many steps as it may, and one that is out of steps has taken all of them. Answers are no steps.
+pub fn steps_are_counted()
+    ensures at_most { (env : Environment) (n : ℕ) (s : State) (answers : List Answer)
+        → (execute env n s answers).steps ≤ n }
+    ensures all { (env : Environment) (n : ℕ) (s : State) (answers : List Answer)
+        → (execute env n s answers).ending ≡ OutOfSteps → (execute env n s answers).steps ≡ n }
+{}
+
 /// From a state of a valid unit, under valid answers, a run comes to a state of the same unit. It is never stuck, and no answer is
 /// bad.
 pub fn runs_keep_the_state()
@@ -113,4 +124,15 @@ pub fn runs_keep_the_state()
 pub fn readings_are_unique()
     ensures { (b : List ℕ) (ref : AttrRef) (values : List ℤ) (r q : Reading)
         → IsReading b ref values r → IsReading b ref values q → r ≡ q }
+{}
+
+/// A unit that comes along with the source agrees with it on all runs: where for every number of turns the machine comes to the
+/// same within that many steps or more, what one of them comes to when it is over the other comes to as well.
+pub fn followed_runs_agree()
+    ensures { (string_numbered : StrNo → Option Words) (types : List VariableType)
+        (source : (turns : ℕ) → List ℤ → List Answer → Transcript) (env : Environment) (start : List ℤ → State)
+        → ((values : List ℤ) (answers : List Answer) → AreDeviceValues types values
+        → AllByRecursion (IsValidAnswer types) answers → (n : ℕ)
+        → (k : ℕ) × (n ≤ k) × SameOutcome string_numbered (source n values answers) (execute env k (start values) answers))
+        → AgreesOnRuns string_numbered types source (λ k values answers. execute env k (start values) answers) }
 {}

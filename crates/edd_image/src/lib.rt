@@ -30,9 +30,9 @@ pub use header::{
 };
 pub use instruction::{Ask, Instruction, Jump};
 pub use laws::{
-    answers_keep_the_state, fields_are_parts, openings_are_states, read_is_spelled,
-    readings_are_unique, requests_are_met, runs_keep_the_state, runs_may_be_cut,
-    sound_parts_are_valid, spelled_is_read, steps_keep_the_state, what_is_over_stays,
+    answers_keep_the_state, fields_are_parts, followed_runs_agree, openings_are_states,
+    read_is_spelled, readings_are_unique, requests_are_met, runs_keep_the_state, runs_may_be_cut,
+    sound_parts_are_valid, spelled_is_read, steps_are_counted, steps_keep_the_state, what_is_over_stays,
     written_strings_are_read,
 };
 pub use numbers::{attr_of, item_of, type_of};
@@ -51,7 +51,7 @@ pub use starts::{
 };
 pub use unit::{Context, Sort, Version, Way};
 pub use worked::{
-    edits_break_their_rules, endless_loops_agree, label_is_read, worked_images_are_valid,
-    worked_layouts,
+    asking_loops_agree, edits_break_their_rules, endless_loops_agree, label_is_read,
+    worked_images_are_valid, worked_layouts,
 };
 pub use writing::{CODE_LIMIT, WriteFault, write};

@@ -1,4 +1,5 @@
-//! Three small images by hand, as laws: the layouts of their parts, valid, and with each edit the rule that it breaks.
+//! Small images by hand, as laws: the layouts of their parts, valid, with each edit the rule that it breaks, and what their
+//! methods do.
 
 ghost use Rattle.std.specs.Prelude.{◌≡◌, [], ◌∷◌, pos, Some, take, slice_set};
 ghost use Rattle.edd_syntax.specs.declared.numbers.Attr.TheVariants as attr;
@@ -11,21 +12,23 @@ ghost use Rattle.edd_image.specs.Validity.{IsValid, BreaksFirst};
 ghost use Rattle.edd_image.specs.Reading.{IsReading, Records, NoItem};
 ghost use Rattle.edd_image.specs.Contents.{contents_in};
 ghost use Rattle.edd_image.specs.MethodAgreement.{AgreesOnMethods};
-ghost use Rattle.edd_image.specs.WorkedMethods.{loop_unit, end_image};
+ghost use Rattle.edd_image.specs.WorkedMethods.{loop_unit, end_image, asking_unit, asking_parts, asking_image, image_with, exchanged_code, unasked_code};
 ghost use Rattle.edd_image.specs.Worked.{empty_parts, empty_image, loop_parts, loop_image, with_code, label_parts, label_image, label_of, handling_of};
 
-/// The bytes of the three images are the layouts of their parts.
+/// The bytes of the images are the layouts of their parts.
 pub fn worked_layouts()
     ensures empty { layout empty_parts ≡ empty_image }
     ensures endless { layout loop_parts ≡ loop_image }
     ensures label { layout label_parts ≡ label_image }
+    ensures asking { layout asking_parts ≡ asking_image }
 {}
 
-/// The three images are valid.
+/// The images are valid.
 pub fn worked_images_are_valid()
     ensures empty { IsValid empty_image }
     ensures endless { IsValid loop_image }
     ensures label { IsValid label_image }
+    ensures asking { IsValid asking_image }
 {}
 
 /// Each edit breaks one rule and none before it.
@@ -59,4 +62,15 @@ pub fn label_is_read()
 pub fn endless_loops_agree()
     ensures a_loop { AgreesOnMethods loop_unit (contents_in loop_image) }
     ensures an_end { AgreesOnMethods loop_unit (contents_in end_image) → ⊥ }
+{}
+
+/// The image with a loop over a value of the device does what its method does, under all values and all valid answers: the same
+/// request and the same two changes in each turn, and the same end. Two valid images don't: one that changes `y` before `x`, and
+/// one that asks nothing.
+pub fn asking_loops_agree()
+    ensures asking { AgreesOnMethods asking_unit (contents_in asking_image) }
+    ensures exchanged { IsValid (image_with exchanged_code)
+        × (AgreesOnMethods asking_unit (contents_in (image_with exchanged_code)) → ⊥) }
+    ensures unasked { IsValid (image_with unasked_code)
+        × (AgreesOnMethods asking_unit (contents_in (image_with unasked_code)) → ⊥) }
 {}

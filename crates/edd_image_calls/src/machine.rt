@@ -6,7 +6,9 @@ ghost use Rattle.edd_machine.specs.Running.{IsMachine};
 use crate::worked::LABEL;
 use edd_image::{Emitted, Record, Request, Status};
 use edd_loader::{Image, load};
-use edd_machine::{Machine, ReadFault, Values, ValuesFault, attribute, find_body};
+use edd_machine::{
+    Machine, ReadFault, SetFault, Values, ValuesFault, attribute, find_body, set_fault,
+};
 use edd_syntax::answer::Trap;
 use edd_syntax::numbers::{Attr, AttrRef, ItemNo, MethNo, StrNo, VarNo};
 use std::alloc::{AllocError, Global};
@@ -113,6 +115,26 @@ fn values_in_their_ranges(rt: HostRuntime) -> Result<(), Fail> {
     assert_eq!(rt; values.get(VarNo(0)), Some(-128));
     assert_eq!(rt; values.get(VarNo(1)), None);
     assert!(rt; values.are_of(&image));
+    Ok(())
+}
+
+#[test]
+fn sets_of_an_answer(rt: HostRuntime) -> Result<(), Fail> {
+    let alloc = rt.alloc();
+    let small = Small {
+        variables: &[[INTEGER, 1, 0, 0], [UNSIGNED, 2, 0, 0]],
+        methods: 0,
+        rows: &[],
+    };
+    let image = load(alloc, &image_of(alloc, small)?)?;
+    assert_eq!(rt; set_fault(&image, VarNo(0), 127), None);
+    assert_eq!(rt;
+        set_fault(&image, VarNo(0), 128),
+        Some(SetFault::OutOfRange)
+    );
+    assert_eq!(rt; set_fault(&image, VarNo(1), 65_535), None);
+    assert_eq!(rt; set_fault(&image, VarNo(1), -1), Some(SetFault::OutOfRange));
+    assert_eq!(rt; set_fault(&image, VarNo(2), 0), Some(SetFault::BadVariable));
     Ok(())
 }
 
@@ -281,10 +303,19 @@ const PRINTED_READ_FAULTS: [(ReadFault, &str); 6] = [
     (ReadFault::Memory, "no memory"),
 ];
 
+const PRINTED_SET_FAULTS: [(SetFault, &str); 2] = [
+    (SetFault::BadVariable, "206 BAD_VARIABLE"),
+    (SetFault::OutOfRange, "207 OUT_OF_RANGE"),
+];
+
 #[test]
 fn faults_print(rt: HostRuntime) -> Result<(), Fail> {
     let alloc = rt.alloc();
     for (fault, want) in PRINTED_VALUES_FAULTS {
+        let text = format!(in alloc; "{fault}")?;
+        assert_eq!(rt; text.as_str(), want, "{fault:?}");
+    }
+    for (fault, want) in PRINTED_SET_FAULTS {
         let text = format!(in alloc; "{fault}")?;
         assert_eq!(rt; text.as_str(), want, "{fault:?}");
     }

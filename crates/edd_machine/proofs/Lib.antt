@@ -5,6 +5,7 @@ pub mod BodyUnits
 pub mod Following
 pub mod ImageUnits
 pub mod RisingRows
+pub mod SetFaults
 pub mod Stepping
 pub mod Tops
 pub mod UnitFacts

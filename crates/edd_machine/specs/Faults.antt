@@ -3,6 +3,7 @@ use Rattle.std.specs.Prelude.{◌≡◌, ◌≢◌, ℕ, ℤ, false, List, lengt
 use Rattle.edd_syntax.specs.declared.answer.Trap.{Trap}
 use Rattle.edd_syntax.specs.declared.answer.Trap.TheVariants as trap
 use Rattle.edd_syntax.specs.declared.numbers.AttrRef.{AttrRef}
+use Rattle.edd_syntax.specs.Answers.{SetFault, BadVariable, OutOfRange}
 use Rattle.edd_syntax.specs.DeviceValues.{VariableType, AreDeviceValues}
 use Rattle.edd_image.specs.Contents.{contents_in}
 use Rattle.edd_image.specs.Reading.{NoItem, Fault, IsReading, is_no_item}
@@ -10,6 +11,8 @@ use Rattle.edd_machine.specs.declared.fault.ValuesFault.{ValuesFault}
 use Rattle.edd_machine.specs.declared.fault.ValuesFault.TheVariants as values_fault
 use Rattle.edd_machine.specs.declared.fault.ReadFault.{ReadFault}
 use Rattle.edd_machine.specs.declared.fault.ReadFault.TheVariants as read_fault
+use Rattle.edd_machine.specs.declared.fault.SetFault as in_code
+use Rattle.edd_machine.specs.declared.fault.SetFault.TheVariants as named
 use Rattle.edd_machine.specs.Types.{types_in}
 
 -- what a fault says of the numbers; for want of memory nothing is wrong with them
@@ -35,3 +38,8 @@ IsReadFault b ref values read_fault.DivZero = AreDeviceValues (types_in b) value
 IsReadFault b ref values read_fault.DivOverflow = AreDeviceValues (types_in b) values × IsReading b ref values (Fault trap.DivOverflow)
 IsReadFault b ref values read_fault.BadShift = AreDeviceValues (types_in b) values × IsReading b ref values (Fault trap.BadShift)
 IsReadFault b ref values read_fault.Memory = (is_no_item (contents_in b) ref ≡ false) × AreDeviceValues (types_in b) values
+
+-- the fault of a set
+abbrev pub set_fault_of : in_code.SetFault → SetFault
+set_fault_of named.BadVariable = BadVariable
+set_fault_of named.OutOfRange = OutOfRange

@@ -1,4 +1,4 @@
-//! Why numbers are no values of a device, and why an attribute is not read.
+//! Why numbers are no values of a device, why an attribute is not read, and why an answer can't set a variable.
 
 ghost use Rattle.std.specs.Prelude.{◌≡◌, Some};
 ghost use Rattle.edd_machine.specs.declared.fault.ReadFault.TheVariants as read_fault;
@@ -63,6 +63,17 @@ impl<T: Drop> From<AllocFailed<T>> for ReadFault {
     fn from(_e: AllocFailed<T>) -> ReadFault {
         ReadFault::Memory
     }
+}
+
+/// Why an answer can't set a variable to a value. Each fault prints its number and its kind.
+#[derive(Clone, Copy, Debug, PartialEq, Eq, Error)]
+pub enum SetFault {
+    /// There is no such variable.
+    #[error("206 BAD_VARIABLE")]
+    BadVariable,
+    /// The value is out of the range of the variable.
+    #[error("207 OUT_OF_RANGE")]
+    OutOfRange,
 }
 
 /// The fault of a trap.

@@ -11,13 +11,15 @@ mod outcome;
 mod ranges;
 mod reading;
 mod rows;
+mod sets;
 mod values;
 
 pub use code_unit::CodeUnit;
-pub use fault::{ReadFault, ValuesFault};
+pub use fault::{ReadFault, SetFault, ValuesFault};
 pub use laws::{answers_stay_in_the_unit, asking_has_room, bodies_open_as_their_rows};
 pub use machine::Machine;
 pub use operands::Operands;
 pub use reading::{attribute, attribute_of_device};
 pub use rows::find_body;
+pub use sets::set_fault;
 pub use values::Values;

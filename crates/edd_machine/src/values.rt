@@ -7,7 +7,7 @@ ghost use Rattle.edd_machine.specs.Faults.{IsValuesFault};
 ghost use Rattle.edd_machine.specs.Types.{types_in};
 
 use crate::fault::ValuesFault;
-use crate::ranges::is_in_range;
+use crate::sets::set_fault;
 use edd_image::variable_count;
 use edd_loader::Image;
 use edd_syntax::numbers::VarNo;
@@ -65,13 +65,8 @@ pub fn are_values(image: &Image, numbers: &[i64]) -> bool
         return false;
     }
     for (index, number) in numbers.iter().enumerate() {
-        match image.variable(VarNo(index as u16)) {
-            Some(kind) => {
-                if !is_in_range(kind, *number) {
-                    return false;
-                }
-            }
-            None => return false,
+        if set_fault(image, VarNo(index as u16), *number).is_some() {
+            return false;
         }
     }
     true

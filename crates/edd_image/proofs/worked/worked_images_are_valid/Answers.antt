@@ -1,4 +1,5 @@
 use Rattle.edd_image.proofs.WorkedImages.{empty_valid, loop_valid, label_valid}
+use Rattle.edd_image.proofs.WorkedAskingValid.{asking_valid}
 use Rattle.edd_image.proofs.worked.worked_images_are_valid.Goals as goal
 
 pub returns-clause-empty : goal.returns-clause-empty
@@ -9,3 +10,6 @@ returns-clause-endless c = loop_valid
 
 pub returns-clause-label : goal.returns-clause-label
 returns-clause-label c = label_valid
+
+pub returns-clause-asking : goal.returns-clause-asking
+returns-clause-asking c = asking_valid

@@ -1,4 +1,5 @@
 use Rattle.edd_image.proofs.WorkedImages.{empty_layout, loop_layout, label_layout}
+use Rattle.edd_image.proofs.WorkedAskingValid.{asking_layout}
 use Rattle.edd_image.proofs.worked.worked_layouts.Goals as goal
 
 pub returns-clause-empty : goal.returns-clause-empty
@@ -9,3 +10,6 @@ returns-clause-endless c = loop_layout
 
 pub returns-clause-label : goal.returns-clause-label
 returns-clause-label c = label_layout
+
+pub returns-clause-asking : goal.returns-clause-asking
+returns-clause-asking c = asking_layout
