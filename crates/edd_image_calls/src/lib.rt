@@ -2,6 +2,8 @@
 #![tactic(auto)]
 
 #[cfg(test)]
+mod emitting;
+#[cfg(test)]
 mod images;
 #[cfg(test)]
 mod loader;
