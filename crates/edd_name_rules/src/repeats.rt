@@ -124,7 +124,7 @@ fn is_transaction(attribute: &Attribute<Path>) -> bool
 }
 
 // The word of an attribute that stands there already, unless it is a transaction, or the first such word inside it.
-#[tactic(auto, using(crate::proofs::FirstLaws::firsts))]
+#[tactic(auto, using(edd_syntax::proofs::FirstLaws::firsts))]
 fn repeated_at(attribute: &Attribute<Path>, before: &[Attribute<Path>]) -> Option<&'static str>
     ensures { option_map (λ w. w.now) result
         ≡ first_of (repeated_here (map attribute_word (map (attribute_of path_of) before.now)) (attribute_of path_of attribute.now)) }

@@ -6,7 +6,7 @@ use Rattle.edd_syntax.specs.Expression.{Argument, Arguments, arguments_from}
 use Rattle.edd_syntax.specs.SubsetRules.{Parameter, all_fit, call_breaches, argument_mismatches}
 use Rattle.edd_syntax.specs.SubsetRules as rules
 use Rattle.edd_syntax.specs.Refusal.{Mismatch, first_of}
-use Rattle.edd_types.proofs.FirstLaws.{first_of-append_none, first_of-append_some}
+use Rattle.edd_syntax.proofs.FirstLaws.{first_of-append_none, first_of-append_some}
 use Rattle.std.specs.Prelude.{◌&&◌, true, Bool, Some, None, if◌then◌else◌}
 
 and_false : (b : Bool) → b && false ≡ false

@@ -114,7 +114,7 @@ fn is_call(function: Target, arguments: &[Argument<Target>], is_statement: bool)
 
 /// The line of the first call with arguments that its function does not take, or of an abort inside an expression.
 #[cycle(calls)]
-#[tactic(auto, using(crate::proofs::FirstLaws::firsts))]
+#[tactic(auto, using(edd_syntax::proofs::FirstLaws::firsts))]
 pub fn check_calls(e: &Expr<Target>, is_statement: bool) -> Result<(), u32>
     ensures { found Mismatch result ≡ first_of (call_mismatches is_statement (expr_of (λ r. r) e.now)) }
 {
@@ -161,7 +161,7 @@ pub fn check_calls(e: &Expr<Target>, is_statement: bool) -> Result<(), u32>
 }
 
 #[cycle(calls)]
-#[tactic(auto, using(crate::proofs::FirstLaws::firsts))]
+#[tactic(auto, using(edd_syntax::proofs::FirstLaws::firsts))]
 fn check_arguments(arguments: &[Argument<Target>]) -> Result<(), u32>
     ensures { found Mismatch result ≡ first_of (argument_mismatches (arguments_from (map (argument_of (λ r. r)) arguments.now))) }
 {
@@ -172,7 +172,7 @@ fn check_arguments(arguments: &[Argument<Target>]) -> Result<(), u32>
 }
 
 #[cycle(calls)]
-#[tactic(auto, using(crate::proofs::FirstLaws::firsts))]
+#[tactic(auto, using(edd_syntax::proofs::FirstLaws::firsts))]
 fn check_argument(argument: &Argument<Target>) -> Result<(), u32>
     ensures { found Mismatch result ≡ first_of (argument_mismatches (arguments_from (argument_of (λ r. r) argument.now ∷ []))) }
 {
