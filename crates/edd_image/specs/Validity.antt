@@ -1,6 +1,6 @@
 -- The rules on an image, in their order, and valid images.
 use Rattle.std.specs.Prelude.{ℕ, ◌+◌, ◌<◌, ◌==◌, Bool, true, false, not, ◌&&◌, ◌||◌, List, [], ◌∷◌, length, map, Option, Some, None, is_some, nat_lt, nat_le, IsTrue, if◌then◌else◌}
-use Rattle.std.specs.List.{AllByRecursion, list_all, list_any}
+use Rattle.std.specs.List.{AllByRecursion, list_all}
 use Rattle.std.specs.Option.{option_map_or}
 use Rattle.edd_syntax.specs.declared.numbers.ItemNo.{ItemNo}
 use Rattle.edd_syntax.specs.declared.numbers.Attr.{Attr}
@@ -8,6 +8,7 @@ use Rattle.edd_syntax.specs.declared.numbers.Attr.TheVariants as attr
 use Rattle.edd_syntax.specs.declared.types.VarType.{VarType}
 use Rattle.edd_syntax.specs.declared.types.VarType.TheVariants as var_type
 use Rattle.edd_syntax.specs.Numbers.{kind_of, attr_number, same_attr, has_attr}
+use Rattle.edd_syntax.specs.Attributes.{is_of_transaction}
 use Rattle.edd_syntax.specs.Names.{is_name, is_within}
 use Rattle.edd_image.specs.declared.parts.Counts.{Counts}
 use Rattle.edd_image.specs.declared.unit.Sort.{Sort}
@@ -83,10 +84,6 @@ attr_of n =
     if n == 20 then Some attr.Members else
     if n == 21 then Some attr.Definition else
     None
-
--- the attributes that each transaction of a command has
-abbrev pub is_of_transaction : Attr → Bool
-is_of_transaction a = list_any (same_attr a) (attr.Transaction ∷ attr.Request ∷ attr.Reply ∷ [])
 
 -- a transaction's position, at most 64 slots of a method, else 0
 abbrev pub sub_fits : Attr → ℕ → Bool
