@@ -10,9 +10,8 @@ use Rattle.edd_syntax.specs.declared.numbers.Attr.TheVariants as attr
 use Rattle.edd_syntax.specs.declared.numbers.ItemNo.{ItemNo}
 use Rattle.edd_syntax.specs.declared.numbers.ItemNo.TheVariants as items
 use Rattle.edd_syntax.specs.Numbers.{kind_number, kind_of, index_of, item_number, attr_number, same_kind, same_attr}
-use Rattle.edd_syntax.specs.Attributes as source
 use Rattle.edd_image.specs.Decoding.{item_of}
-use Rattle.edd_image.specs.Validity.{attr_of, is_of_transaction}
+use Rattle.edd_image.specs.Validity.{attr_of}
 
 abbrev kind_at : ℕ → Kind
 kind_at n =
@@ -78,27 +77,3 @@ numbered_index kind.Command n = refl
 numbered_index kind.Menu n = refl
 numbered_index kind.Collection n = refl
 numbered_index kind.Method n = refl
-
--- the source and the image mean the same attributes of a transaction
-pub of_transaction : (a : Attr) → is_of_transaction a ≡ source.is_of_transaction a
-of_transaction attr.Label = refl
-of_transaction attr.Help = refl
-of_transaction attr.Class = refl
-of_transaction attr.Handling = refl
-of_transaction attr.ConstantUnit = refl
-of_transaction attr.Validity = refl
-of_transaction attr.DefaultValue = refl
-of_transaction attr.MinValue = refl
-of_transaction attr.MaxValue = refl
-of_transaction attr.DisplayFormat = refl
-of_transaction attr.EditFormat = refl
-of_transaction attr.Enumerators = refl
-of_transaction attr.Number = refl
-of_transaction attr.Operation = refl
-of_transaction attr.Transaction = refl
-of_transaction attr.Request = refl
-of_transaction attr.Reply = refl
-of_transaction attr.ResponseCodes = refl
-of_transaction attr.Items = refl
-of_transaction attr.Members = refl
-of_transaction attr.Definition = refl

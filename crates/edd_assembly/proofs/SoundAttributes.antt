@@ -9,11 +9,12 @@ use Rattle.edd_syntax.specs.declared.numbers.AttrRef.{AttrRef}
 use Rattle.edd_syntax.specs.declared.reference.Target.{Target}
 use Rattle.edd_syntax.specs.Item.{Item}
 use Rattle.edd_syntax.specs.Numbers.{kind_number, kind_of, index_of, attr_number, same_attr, has_attr}
+use Rattle.edd_syntax.specs.Attributes.{is_of_transaction}
 use Rattle.edd_syntax.specs.Rows.{rows}
 use Rattle.edd_image.specs.declared.parts.Counts.{Counts}
 use Rattle.edd_image.specs.Contents.{AttributeFields, fields_of_attribute}
 use Rattle.edd_image.specs.References.{item_exists}
-use Rattle.edd_image.specs.Validity.{attr_of, is_of_transaction, has_attribute, is_attribute_row, rises, rise}
+use Rattle.edd_image.specs.Validity.{attr_of, has_attribute, is_attribute_row, rises, rise}
 use Rattle.edd_assembly.specs.Assembly.{Lowered, attribute_row_at, attribute_rows}
 use Rattle.edd_assembly.specs.LoweredUnits.{plain_row}
 use Rattle.edd_assembly.proofs.KnownByNumber.{attr_again, item_again}
