@@ -1,11 +1,9 @@
 //! The bytes of the instructions that give records.
 
 ghost use Rattle.std.specs.Prelude.{◌≡◌, ◌++◌, ◌∷◌, OnOk};
-ghost use Rattle.edd_syntax.specs.Numbers as numbers;
 ghost use Rattle.edd_image.specs.Layout.{u16, u32};
 ghost use Rattle.edd_image.specs.Spelling.{item_bytes, optional_bytes, spelling};
 
-use crate::items::kind_and_index;
 use edd_image::Instruction;
 use edd_syntax::numbers::{ItemNo, StrNo, VarNo};
 use std::alloc::AllocError;
@@ -25,9 +23,8 @@ fn put_u32(code: &mut Vec<u8>, number: u32) -> Result<(), AllocError>
 fn put_item(code: &mut Vec<u8>, item: ItemNo) -> Result<(), AllocError>
     ensures { OnOk result (code.new.items ≡ code.old.items ++ item_bytes item) }
 {
-    let (kind, index) = kind_and_index(item);
-    code.push(kind as u8)?;
-    put_u16(code, index)
+    code.push(item.kind().number())?;
+    put_u16(code, item.index())
 }
 
 // The number of a string that may be missing, which FFFF says.
