@@ -9,9 +9,8 @@ use Rattle.edd_syntax.specs.declared.numbers.Attr.{Attr}
 use Rattle.edd_syntax.specs.declared.numbers.Attr.TheVariants as attr
 use Rattle.edd_syntax.specs.declared.numbers.ItemNo.{ItemNo}
 use Rattle.edd_syntax.specs.declared.numbers.ItemNo.TheVariants as items
-use Rattle.edd_syntax.specs.Numbers.{kind_number, kind_of, index_of, item_number, attr_number, same_kind, same_attr}
+use Rattle.edd_syntax.specs.Numbers.{kind_number, kind_of, index_of, item_number, attr_number, attr_from_number, same_kind, same_attr}
 use Rattle.edd_image.specs.Decoding.{item_of}
-use Rattle.edd_image.specs.Validity.{attr_of}
 
 abbrev kind_at : ℕ → Kind
 kind_at n =
@@ -31,7 +30,7 @@ kind_again kind.Method = refl
 pub same_kinds : (k j : Kind) → same_kind k j ≡ true → k ≡ j
 same_kinds k j h = sym (kind_again k) ∙ ap kind_at (eqb-true (kind_number k) (kind_number j) h) ∙ kind_again j
 
-pub attr_again : (a : Attr) → attr_of (attr_number a) ≡ Some a
+pub attr_again : (a : Attr) → attr_from_number (attr_number a) ≡ Some a
 attr_again attr.Label = refl
 attr_again attr.Help = refl
 attr_again attr.Class = refl
@@ -55,7 +54,7 @@ attr_again attr.Members = refl
 attr_again attr.Definition = refl
 
 pub same_attrs : (a b : Attr) → same_attr a b ≡ true → a ≡ b
-same_attrs a b h = same_Some a b (sym (attr_again a) ∙ ap attr_of (eqb-true (attr_number a) (attr_number b) h) ∙ attr_again b)
+same_attrs a b h = same_Some a b (sym (attr_again a) ∙ ap attr_from_number (eqb-true (attr_number a) (attr_number b) h) ∙ attr_again b)
 
 pub item_again : (i : ItemNo) → item_of (kind_number (kind_of i)) (index_of i) ≡ Some i
 item_again (items.Variable n) = refl

@@ -7,8 +7,8 @@ ghost use Rattle.edd_image.specs.Validity.{fills, rise, rises, sub_fits, has_att
 ghost use Rattle.edd_loader.specs.Rows.{rises_next};
 
 use edd_image::{
-    ATTRIBUTE_ROW, Counts, attr_of, attribute_item, attribute_kind, attribute_length,
-    attribute_number, attribute_start, attribute_sub, attribute_zero, item_of,
+    ATTRIBUTE_ROW, Counts, attribute_item, attribute_kind, attribute_length, attribute_number,
+    attribute_start, attribute_sub, attribute_zero, item_of,
 };
 use edd_syntax::numbers::{Attr, ItemNo};
 
@@ -43,7 +43,7 @@ fn is_attribute_row(bytes: &[u8], counts: Counts, row: usize) -> bool
     let Some(item) = item_of(attribute_kind(bytes, row), attribute_item(bytes, row)) else {
         return false;
     };
-    let Some(attr) = attr_of(attribute_number(bytes, row)) else {
+    let Some(attr) = Attr::from_number(attribute_number(bytes, row)) else {
         return false;
     };
     has_attribute(counts, item, attr, attribute_sub(bytes, row)) && attribute_zero(bytes, row) == 0

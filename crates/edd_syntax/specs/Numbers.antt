@@ -1,5 +1,5 @@
 -- The numbers and the words of kinds and of attributes, and which kinds have which attributes.
-use Rattle.std.specs.Prelude.{ℕ, Bool, ◌==◌, List, [], ◌∷◌, codes}
+use Rattle.std.specs.Prelude.{ℕ, Bool, ◌==◌, if◌then◌else◌, List, [], ◌∷◌, Option, Some, None, codes}
 use Rattle.std.specs.List.{list_any}
 use Rattle.edd_syntax.specs.declared.symbols.Keyword.TheVariants as keyword
 use Rattle.edd_syntax.specs.declared.numbers.Kind.{Kind}
@@ -78,6 +78,32 @@ attr_number attr.ResponseCodes = 18
 attr_number attr.Items = 19
 attr_number attr.Members = 20
 attr_number attr.Definition = 21
+
+-- the attribute of a number
+abbrev pub attr_from_number : ℕ → Option Attr
+attr_from_number n =
+    if n == 1 then Some attr.Label else
+    if n == 2 then Some attr.Help else
+    if n == 3 then Some attr.Class else
+    if n == 4 then Some attr.Handling else
+    if n == 5 then Some attr.ConstantUnit else
+    if n == 6 then Some attr.Validity else
+    if n == 7 then Some attr.DefaultValue else
+    if n == 8 then Some attr.MinValue else
+    if n == 9 then Some attr.MaxValue else
+    if n == 10 then Some attr.DisplayFormat else
+    if n == 11 then Some attr.EditFormat else
+    if n == 12 then Some attr.Enumerators else
+    if n == 13 then Some attr.Number else
+    if n == 14 then Some attr.Operation else
+    if n == 15 then Some attr.Transaction else
+    if n == 16 then Some attr.Request else
+    if n == 17 then Some attr.Reply else
+    if n == 18 then Some attr.ResponseCodes else
+    if n == 19 then Some attr.Items else
+    if n == 20 then Some attr.Members else
+    if n == 21 then Some attr.Definition else
+    None
 
 abbrev pub same_attr : Attr → Attr → Bool
 same_attr a b = attr_number a == attr_number b

@@ -81,6 +81,36 @@ impl Attr {
         self as u8
     }
 
+    /// The attribute of a number in an image, where there is one (this profile).
+    pub fn from_number(number: u8) -> Option<Attr>
+        ensures { result ≡ numbers.attr_from_number number }
+    {
+        match number {
+            1 => Some(Attr::Label),
+            2 => Some(Attr::Help),
+            3 => Some(Attr::Class),
+            4 => Some(Attr::Handling),
+            5 => Some(Attr::ConstantUnit),
+            6 => Some(Attr::Validity),
+            7 => Some(Attr::DefaultValue),
+            8 => Some(Attr::MinValue),
+            9 => Some(Attr::MaxValue),
+            10 => Some(Attr::DisplayFormat),
+            11 => Some(Attr::EditFormat),
+            12 => Some(Attr::Enumerators),
+            13 => Some(Attr::Number),
+            14 => Some(Attr::Operation),
+            15 => Some(Attr::Transaction),
+            16 => Some(Attr::Request),
+            17 => Some(Attr::Reply),
+            18 => Some(Attr::ResponseCodes),
+            19 => Some(Attr::Items),
+            20 => Some(Attr::Members),
+            21 => Some(Attr::Definition),
+            _ => None,
+        }
+    }
+
     /// The word of the attribute, as EDDL has it (IEC 61804-3). ENUMERATORS is a word of this profile, since the list of a type
     /// stands without one.
     pub fn word(self) -> &'static str
