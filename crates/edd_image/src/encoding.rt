@@ -2,7 +2,6 @@
 
 ghost use Rattle.std.specs.Prelude.{◌≡◌, ℕ, ◌+◌, ◌≤◌, [], ◌∷◌, ◌++◌, length};
 ghost use Rattle.arrayvec.specs.ArrayVec.{array_vec_len};
-ghost use Rattle.edd_syntax.specs.Numbers.{kind_number, kind_of, index_of};
 ghost use Rattle.edd_image.specs.Layout.{u16, u32};
 ghost use Rattle.edd_image.specs.Spelling.{i64, jump_to, spelling, operator_code, comparison_code, ask_bytes, item_bytes, optional_number, optional_bytes};
 
@@ -101,28 +100,13 @@ fn number_or_none(string: Option<StrNo>) -> u16
     }
 }
 
-// The number of its kind, and its own among the items of that kind.
-fn item_numbers(item: ItemNo) -> (u8, u16)
-    ensures kind { result.0 ≡ kind_number (kind_of item) }
-    ensures index { result.1 ≡ index_of item }
-{
-    match item {
-        ItemNo::Variable(number) => (1, number.0),
-        ItemNo::Command(number) => (2, number.0),
-        ItemNo::Menu(number) => (3, number.0),
-        ItemNo::Collection(number) => (4, number.0),
-        ItemNo::Method(number) => (5, number.0),
-    }
-}
-
 fn put_item(bytes: &mut Encoding, item: ItemNo)
     requires { array_vec_len bytes.old + 3 ≤ 13 }
     ensures items { bytes.new.items ≡ bytes.old.items ++ item_bytes item }
     ensures len { array_vec_len bytes.new ≡ array_vec_len bytes.old + 3 }
 {
-    let (kind, index) = item_numbers(item);
-    bytes.push(kind);
-    put(bytes, &index.to_be_bytes());
+    bytes.push(item.kind().number());
+    put(bytes, &item.index().to_be_bytes());
 }
 
 fn put_optional(bytes: &mut Encoding, string: Option<StrNo>)
