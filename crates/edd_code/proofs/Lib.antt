@@ -13,3 +13,8 @@ pub mod ExpressionSizes
 pub mod ExpressionFlow
 pub mod ExpressionSpelling
 pub mod ExpressionValues
+pub mod AttributeEffects
+pub mod MethodSteps
+pub mod StraightRuns
+pub mod MethodRuns
+pub mod BlockReading

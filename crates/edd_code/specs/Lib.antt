@@ -5,3 +5,7 @@ pub mod Expressions
 pub mod Closing
 pub mod ExpressionMeaning
 pub mod Reads
+pub mod BlockEffects
+pub mod AttributeEffects
+pub mod Reports
+pub mod MethodEffects

@@ -11,4 +11,7 @@ pub use expression::write_expression;
 pub use expression_laws::{
     expressions_are_short, expressions_are_spelled, expressions_flow, expressions_mean_their_values,
 };
-pub use laws::{blocks_are_followed, blocks_are_valid, sizes_are_lengths};
+pub use laws::{
+    attributes_are_a_case, blocks_are_followed, blocks_are_valid, blocks_come_to_their_outcomes,
+    sizes_are_lengths,
+};
