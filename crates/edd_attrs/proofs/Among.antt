@@ -6,7 +6,7 @@ use Rattle.edd_syntax.specs.declared.numbers.StrNo.{StrNo}
 use Rattle.std.specs.Prelude.{Option}
 use Rattle.edd_syntax.specs.Words.{Words}
 use Rattle.edd_image.specs.Agreement.{string_of_table}
-use Rattle.edd_expressions.specs.Blocks.{Block}
+use Rattle.edd_code.specs.Blocks.{Block}
 use Rattle.edd_attrs.specs.Code.{GrowsBy, Overflows}
 use Rattle.edd_attrs.specs.Lowered.{WritesBlock}
 use Rattle.edd_attrs.proofs.Growing.{both_added, overflows_second}

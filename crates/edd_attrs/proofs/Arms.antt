@@ -10,9 +10,9 @@ use Rattle.edd_syntax.specs.Words.{Words}
 use Rattle.edd_image.specs.Agreement.{string_of_table}
 use Rattle.edd_image.specs.Layout.{u32}
 use Rattle.edd_image.specs.Spelling.{i64}
-use Rattle.edd_expressions.specs.Blocks.{Block, Match, bytes_at}
-use Rattle.edd_expressions.specs.Closing.{closed}
-use Rattle.edd_expressions.proofs.Closing.{match_closed, closed_length}
+use Rattle.edd_code.specs.Blocks.{Block, Match, bytes_at}
+use Rattle.edd_code.specs.Closing.{closed}
+use Rattle.edd_code.proofs.Closing.{match_closed, closed_length}
 use Rattle.edd_attrs.specs.Code.{GrowsBy, Overflows}
 use Rattle.edd_attrs.specs.TreeBlocks.{IsCondsBlock, IsArmsBlock}
 use Rattle.edd_attrs.specs.Writing.{WritesArm, WritesArms, WritesBody, arms_strings, conds_strings, header, headers, with_body}

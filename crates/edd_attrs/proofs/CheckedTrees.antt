@@ -30,7 +30,7 @@ use Rattle.edd_attrs.specs.Trees.{Tree, trees_of_part, trees_of_parts, tree_of_t
 use Rattle.edd_attrs.specs.Records.{kept_data}
 use Rattle.edd_attrs.proofs.InTrees.{if_there, all_append, named, throughout, throughout_item, tree_has}
 use Rattle.edd_image.specs.declared.parts.Counts.{Counts}
-use Rattle.edd_expressions.specs.Reads.{reads_existing}
+use Rattle.edd_code.specs.Reads.{reads_existing}
 use Rattle.edd_attrs.proofs.GoodTrees.{bind_some, each_all, is_good, item_good}
 use Rattle.edd_attrs.proofs.Existing.{is_item_of}
 use Rattle.edd_attrs.proofs.BothTests.{both_of}

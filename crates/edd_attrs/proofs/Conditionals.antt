@@ -12,10 +12,10 @@ use Rattle.edd_image.specs.declared.instruction.Instruction.TheVariants as instr
 use Rattle.edd_image.specs.Agreement.{string_of_table}
 use Rattle.edd_image.specs.Layout.{u32}
 use Rattle.edd_image.specs.Spelling.{spelling}
-use Rattle.edd_expressions.specs.Blocks.{Block, Nothing, Straight, Then, Either, bytes_at}
-use Rattle.edd_expressions.specs.Closing.{closed}
-use Rattle.edd_expressions.specs.Expressions.{expression_block}
-use Rattle.edd_expressions.proofs.Closing.{either_closed, straight_written}
+use Rattle.edd_code.specs.Blocks.{Block, Nothing, Straight, Then, Either, bytes_at}
+use Rattle.edd_code.specs.Closing.{closed}
+use Rattle.edd_code.specs.Expressions.{expression_block}
+use Rattle.edd_code.proofs.Closing.{either_closed, straight_written}
 use Rattle.edd_attrs.specs.Code.{GrowsBy, Overflows}
 use Rattle.edd_attrs.specs.Lowered.{WritesBlock}
 use Rattle.edd_attrs.specs.TreeBlocks.{IsCondBlock, IsCondsBlock, IsDefaultBlock}

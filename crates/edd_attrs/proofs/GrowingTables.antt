@@ -14,9 +14,9 @@ use Rattle.edd_image.specs.declared.instruction.Instruction.{Instruction}
 use Rattle.edd_image.specs.declared.instruction.Instruction.TheVariants as instruction
 use Rattle.edd_image.specs.References.{optional_string_exists, item_exists, request_exists, names_exist}
 use Rattle.edd_image.specs.Agreement.{attribute_context}
-use Rattle.edd_expressions.specs.Blocks as block
-use Rattle.edd_expressions.specs.Blocks.{Block}
-use Rattle.edd_expressions.specs.Flow.{all_straight}
+use Rattle.edd_code.specs.Blocks as block
+use Rattle.edd_code.specs.Blocks.{Block}
+use Rattle.edd_code.specs.Flow.{all_straight}
 use Rattle.edd_attrs.proofs.BothTests.{both_of, both_true}
 
 pub all_weaker : (f g : Instruction → Bool) → ((i : Instruction) → f i ≡ true → g i ≡ true) → (b : Block) → all_straight f b ≡ true → all_straight g b ≡ true

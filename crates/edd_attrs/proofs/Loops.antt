@@ -6,8 +6,8 @@ use Rattle.std.proofs.lemmas.List.{append-nil, take_more, take_all, take-append-
 use Rattle.edd_syntax.specs.declared.numbers.StrNo.{StrNo}
 use Rattle.edd_syntax.specs.Words.{Words}
 use Rattle.edd_image.specs.Agreement.{string_of_table}
-use Rattle.edd_expressions.specs.Blocks.{Block, Nothing, Then, bytes_at}
-use Rattle.edd_expressions.proofs.Closing.{nothing_written}
+use Rattle.edd_code.specs.Blocks.{Block, Nothing, Then, bytes_at}
+use Rattle.edd_code.proofs.Closing.{nothing_written}
 use Rattle.edd_attrs.specs.Code.{GrowsBy, Overflows}
 use Rattle.edd_attrs.specs.Lowered.{WritesBlock}
 use Rattle.edd_attrs.proofs.Among.{within_left, within_right, overflows_later}

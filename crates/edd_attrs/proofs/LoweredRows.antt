@@ -28,11 +28,11 @@ use Rattle.edd_image.specs.Units.{IsValidUnit}
 use Rattle.edd_image.specs.Reading.{given_within}
 use Rattle.edd_image.specs.Steps.{opening}
 use Rattle.edd_image.specs.Agreement.{SameRun, UnitMeans, IsAttributeCode, string_of_table, attribute_context, tree_meaning}
-use Rattle.edd_expressions.specs.Blocks.{Block, size, bytes_at, unit_code}
-use Rattle.edd_expressions.specs.Outcomes.{does}
-use Rattle.edd_expressions.proofs.BlockBytes.{lengths}
-use Rattle.edd_expressions.proofs.BlockUnits.{unit_is_valid}
-use Rattle.edd_expressions.proofs.UnitRuns.{unit_goes, unit_traps}
+use Rattle.edd_code.specs.Blocks.{Block, size, bytes_at, unit_code}
+use Rattle.edd_code.specs.Outcomes.{does}
+use Rattle.edd_code.proofs.BlockBytes.{lengths}
+use Rattle.edd_code.proofs.BlockUnits.{unit_is_valid}
+use Rattle.edd_code.proofs.UnitRuns.{unit_goes, unit_traps}
 use Rattle.edd_attrs.specs.Trees as trees
 use Rattle.edd_attrs.specs.Trees.{Tree, tree_at}
 use Rattle.edd_attrs.specs.Records.{kept_enumerator, kept_data, kept_entry, kept_response, kept_member}

@@ -17,11 +17,11 @@ use Rattle.edd_image.specs.declared.records.Record.{Record}
 use Rattle.edd_image.specs.declared.instruction.Instruction.TheVariants as instruction
 use Rattle.edd_image.specs.Steps.{Environment, act}
 use Rattle.edd_image.specs.Agreement.{SameRecords}
-use Rattle.edd_expressions.specs.Blocks as block
-use Rattle.edd_expressions.specs.Blocks.{Block}
-use Rattle.edd_expressions.specs.Outcomes.{Outcome, Goes, Traps, Stuck, behind, and_then, does}
-use Rattle.edd_expressions.specs.Expressions.{expression_block}
-use Rattle.edd_expressions.specs.ExpressionMeaning.{of_value}
+use Rattle.edd_code.specs.Blocks as block
+use Rattle.edd_code.specs.Blocks.{Block}
+use Rattle.edd_code.specs.Outcomes.{Outcome, Goes, Traps, Stuck, behind, and_then, does}
+use Rattle.edd_code.specs.Expressions.{expression_block}
+use Rattle.edd_code.specs.ExpressionMeaning.{of_value}
 use Rattle.edd_attrs.specs.TreeBlocks.{IsCondBlock, IsCondsBlock, IsArmsBlock, IsDefaultBlock, IsLineBlock}
 use Rattle.edd_attrs.proofs.GivenRecords.{given, all_given, case_given, default_given}
 use Rattle.edd_attrs.proofs.BothTests.{both_of}

@@ -21,12 +21,12 @@ use Rattle.edd_syntax.specs.WellFormed.{is_text, is_cond, are_conds, is_single}
 use Rattle.edd_image.specs.declared.instruction.Instruction.TheVariants as instruction
 use Rattle.edd_image.specs.Steps.{Environment, act}
 use Rattle.edd_image.specs.Agreement.{string_of_table}
-use Rattle.edd_expressions.specs.Blocks as block
-use Rattle.edd_expressions.specs.Blocks.{Block}
-use Rattle.edd_expressions.specs.Outcomes.{and_then, does}
-use Rattle.edd_expressions.specs.Expressions.{expression_block}
-use Rattle.edd_expressions.specs.ExpressionMeaning.{of_value}
-use Rattle.edd_expressions.proofs.ExpressionValues.{means}
+use Rattle.edd_code.specs.Blocks as block
+use Rattle.edd_code.specs.Blocks.{Block}
+use Rattle.edd_code.specs.Outcomes.{and_then, does}
+use Rattle.edd_code.specs.Expressions.{expression_block}
+use Rattle.edd_code.specs.ExpressionMeaning.{of_value}
+use Rattle.edd_code.proofs.ExpressionValues.{means}
 use Rattle.edd_attrs.specs.Trees as trees
 use Rattle.edd_attrs.specs.Trees.{Tree}
 use Rattle.edd_attrs.specs.Records.{text_record, class_record, handling_record, validity_record, is_fine, kept_data}

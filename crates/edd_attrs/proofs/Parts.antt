@@ -7,7 +7,7 @@ use Rattle.edd_syntax.specs.Attributes.{enumerator}
 use Rattle.edd_syntax.specs.Item as item
 use Rattle.edd_syntax.specs.Item.{TypePart}
 use Rattle.edd_syntax.specs.Words.{Words}
-use Rattle.edd_expressions.specs.Blocks.{Block}
+use Rattle.edd_code.specs.Blocks.{Block}
 use Rattle.edd_attrs.specs.TreeBlocks.{Giving, IsCondBlock, IsCondsBlock, elements}
 use Rattle.edd_attrs.specs.Writing.{WritesPart, element_strings}
 use Rattle.edd_attrs.proofs.Loops.{Step, block_step, no_step}

@@ -15,9 +15,9 @@ use Rattle.edd_image.specs.References.{names_exist}
 use Rattle.edd_image.specs.Spelling.{IsSpelled}
 use Rattle.edd_image.specs.Steps.{Environment, act}
 use Rattle.edd_image.specs.Agreement.{SameRecord, string_of_table, attribute_context}
-use Rattle.edd_expressions.specs.Blocks.{Block, size}
-use Rattle.edd_expressions.specs.Flow.{AreSpelled, Flows, all_straight, depth_after}
-use Rattle.edd_expressions.specs.Outcomes.{Goes, does}
+use Rattle.edd_code.specs.Blocks.{Block, size}
+use Rattle.edd_code.specs.Flow.{AreSpelled, Flows, all_straight, depth_after}
+use Rattle.edd_code.specs.Outcomes.{Goes, does}
 use Rattle.edd_attrs.specs.Code.{giving}
 use Rattle.edd_attrs.specs.Records.{is_fine}
 use Rattle.edd_attrs.specs.TreeBlocks.{straight_line, IsRecordBlock}

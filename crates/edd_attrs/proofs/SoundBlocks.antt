@@ -10,10 +10,10 @@ use Rattle.edd_syntax.specs.WellFormed.{is_label, is_pure_expr, is_cond, are_con
 use Rattle.edd_image.specs.declared.instruction.Instruction.TheVariants as instruction
 use Rattle.edd_image.specs.declared.unit.Context.{Context}
 use Rattle.edd_image.specs.References.{names_exist}
-use Rattle.edd_expressions.specs.Blocks as block
-use Rattle.edd_expressions.specs.Blocks.{Block, size}
-use Rattle.edd_expressions.specs.Flow.{AreSpelled, Flows, all_straight, depth_after}
-use Rattle.edd_expressions.specs.Expressions.{expression_block}
+use Rattle.edd_code.specs.Blocks as block
+use Rattle.edd_code.specs.Blocks.{Block, size}
+use Rattle.edd_code.specs.Flow.{AreSpelled, Flows, all_straight, depth_after}
+use Rattle.edd_code.specs.Expressions.{expression_block}
 use Rattle.edd_attrs.specs.TreeBlocks.{IsCondBlock, IsCondsBlock, IsArmsBlock, IsDefaultBlock}
 use Rattle.edd_attrs.proofs.RecordOperands.{label_fits}
 use Rattle.edd_attrs.proofs.BothTests.{both_of, both_true}

@@ -28,13 +28,13 @@ use Rattle.edd_image.specs.declared.instruction.Instruction.TheVariants as instr
 use Rattle.edd_image.specs.declared.unit.Context.{Context}
 use Rattle.edd_image.specs.References.{names_exist}
 use Rattle.edd_image.specs.Agreement.{string_of_table, attribute_context}
-use Rattle.edd_expressions.specs.Blocks as block
-use Rattle.edd_expressions.specs.Blocks.{Block, size}
-use Rattle.edd_expressions.specs.Flow.{AreSpelled, Flows, all_straight, depth_after}
-use Rattle.edd_expressions.specs.Reads.{reads_existing}
-use Rattle.edd_expressions.proofs.ExpressionFlow.{expression_runs}
-use Rattle.edd_expressions.proofs.ExpressionSizes.{is_short}
-use Rattle.edd_expressions.proofs.ExpressionSpelling.{is_spelled, is_named}
+use Rattle.edd_code.specs.Blocks as block
+use Rattle.edd_code.specs.Blocks.{Block, size}
+use Rattle.edd_code.specs.Flow.{AreSpelled, Flows, all_straight, depth_after}
+use Rattle.edd_code.specs.Reads.{reads_existing}
+use Rattle.edd_code.proofs.ExpressionFlow.{expression_runs}
+use Rattle.edd_code.proofs.ExpressionSizes.{is_short}
+use Rattle.edd_code.proofs.ExpressionSpelling.{is_spelled, is_named}
 use Rattle.edd_attrs.specs.Trees as trees
 use Rattle.edd_attrs.specs.Trees.{Tree}
 use Rattle.edd_attrs.specs.Records.{text_record, class_record, handling_record, validity_record, is_fine, kept_data}

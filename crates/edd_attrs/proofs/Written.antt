@@ -19,9 +19,9 @@ use Rattle.edd_image.specs.declared.instruction.Instruction.TheVariants as instr
 use Rattle.edd_image.specs.Layout.{u16}
 use Rattle.edd_image.specs.Spelling.{i64, optional_bytes, spelling}
 use Rattle.edd_image.specs.Agreement.{class_number, mask_number, SameRecord, string_of_table}
-use Rattle.edd_expressions.specs.Blocks.{Block, Nothing, Straight, Then, bytes_at}
-use Rattle.edd_expressions.specs.Expressions.{expression_block}
-use Rattle.edd_expressions.proofs.Closing.{nothing_written, straight_written, then_written}
+use Rattle.edd_code.specs.Blocks.{Block, Nothing, Straight, Then, bytes_at}
+use Rattle.edd_code.specs.Expressions.{expression_block}
+use Rattle.edd_code.proofs.Closing.{nothing_written, straight_written, then_written}
 use Rattle.edd_attrs.specs.Code.{giving, GrowsBy, Keeps, KeepsOptional}
 use Rattle.edd_attrs.specs.Lowered.{WritesBlock, LowersTree}
 use Rattle.edd_attrs.specs.Records.{strings_of_record}

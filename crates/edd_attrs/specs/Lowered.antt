@@ -3,7 +3,7 @@ use Rattle.std.specs.Prelude.{◌≡◌, ℕ, List, ◌++◌, length, Option}
 use Rattle.edd_syntax.specs.declared.numbers.StrNo.{StrNo}
 use Rattle.edd_syntax.specs.Words.{Words}
 use Rattle.edd_image.specs.Agreement.{string_of_table}
-use Rattle.edd_expressions.specs.Blocks.{Block, bytes_at, unit_code}
+use Rattle.edd_code.specs.Blocks.{Block, bytes_at, unit_code}
 use Rattle.edd_attrs.specs.Code.{GrowsBy, Overflows}
 use Rattle.edd_attrs.specs.Sizes.{strings_of_tree}
 use Rattle.edd_attrs.specs.Trees.{Tree}

@@ -13,9 +13,9 @@ use Rattle.edd_image.specs.declared.records.Record.{Record}
 use Rattle.edd_image.specs.declared.instruction.Instruction.{Instruction}
 use Rattle.edd_image.specs.declared.instruction.Instruction.TheVariants as instruction
 use Rattle.edd_image.specs.Agreement.{SameRecord}
-use Rattle.edd_expressions.specs.Blocks as block
-use Rattle.edd_expressions.specs.Blocks.{Block}
-use Rattle.edd_expressions.specs.Expressions.{expression_block}
+use Rattle.edd_code.specs.Blocks as block
+use Rattle.edd_code.specs.Blocks.{Block}
+use Rattle.edd_code.specs.Expressions.{expression_block}
 use Rattle.edd_attrs.specs.Code.{giving}
 use Rattle.edd_attrs.specs.Records.{text_record, class_record, handling_record, validity_record}
 use Rattle.edd_attrs.specs.Trees.{Tree, Texts, Class, Handling, Validity, Expressions, Enumerators, Number, Operation, Transaction, Data, ResponseCodes, Items, Members}

@@ -13,8 +13,8 @@ use Rattle.edd_syntax.specs.Item.{Enumerator, TypePart}
 use Rattle.edd_image.specs.Agreement.{string_of_table}
 use Rattle.edd_image.specs.declared.instruction.Instruction.TheVariants as instruction
 use Rattle.edd_image.specs.Spelling.{spelling}
-use Rattle.edd_expressions.specs.Blocks.{Block, bytes_at}
-use Rattle.edd_expressions.specs.Closing.{closed}
+use Rattle.edd_code.specs.Blocks.{Block, bytes_at}
+use Rattle.edd_code.specs.Closing.{closed}
 use Rattle.edd_attrs.specs.Code.{GrowsBy}
 use Rattle.edd_attrs.specs.Lowered.{WritesBlock}
 use Rattle.edd_attrs.specs.Records.{kept_enumerator, strings_of_record}

@@ -13,7 +13,7 @@ ghost use Rattle.edd_attrs.specs.Writing.{WritesArm, WritesArms, WritesBody, arm
 
 use crate::elements::Element;
 use crate::fault::LowerFault;
-use edd_expressions::{close, open_case, open_if_zero, open_jump, put, write_expression};
+use edd_code::{close, open_case, open_if_zero, open_jump, put, write_expression};
 use edd_image::Instruction;
 use edd_strings::Table;
 use edd_syntax::cond::{Arm, Cond};

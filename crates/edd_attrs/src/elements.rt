@@ -14,7 +14,7 @@ ghost use Rattle.edd_syntax.specs.WellFormed.{is_text};
 ghost use Rattle.edd_syntax.specs.Words.{Words};
 ghost use Rattle.edd_syntax.specs.WordsView.{text_of};
 ghost use Rattle.edd_image.specs.Agreement as agreement;
-ghost use Rattle.edd_expressions.specs.Blocks.{Block};
+ghost use Rattle.edd_code.specs.Blocks.{Block};
 ghost use Rattle.edd_attrs.specs.Code.{Grows, Overflows};
 ghost use Rattle.edd_attrs.specs.Lowered.{WritesBlock};
 ghost use Rattle.edd_attrs.specs.Records.{class_record, handling_record, kept_data, kept_entry, kept_enumerator, kept_member, kept_response, strings_of_record, text_record, validity_record};
@@ -23,7 +23,7 @@ ghost use Rattle.edd_attrs.specs.Writing.{WritesRecord};
 
 use crate::fault::LowerFault;
 use crate::strings::{add_name, add_optional, add_text};
-use edd_expressions::{put, write_expression};
+use edd_code::{put, write_expression};
 use edd_image::Instruction;
 use edd_strings::Table;
 use edd_syntax::expr::Expr;

@@ -21,7 +21,7 @@ use crate::elements::write_number;
 use crate::fault::LowerFault;
 use crate::lists::write_all;
 use crate::trees::Tree;
-use edd_expressions::put;
+use edd_code::put;
 use edd_image::Instruction;
 use edd_strings::Table;
 use edd_syntax::item::TypePart;

@@ -1,0 +1,61 @@
+-- What a block needs so that its unit is valid: operands that are there, and instructions that are allowed.
+use Rattle.std.specs.Prelude.{◌≡◌, ℕ, ◌+◌, ◌-◌, ◌≤◌, Bool, true, ◌&&◌, ⊤, FitsSigned, IsTrue, Option, Some, None, is_some, is_none}
+use Rattle.std.specs.Int.{w64}
+use Rattle.edd_image.specs.declared.instruction.Instruction.{Instruction}
+use Rattle.edd_image.specs.declared.unit.Version.TheVariants as version
+use Rattle.edd_image.specs.declared.unit.Sort.TheVariants as sort
+use Rattle.edd_image.specs.Spelling.{IsSpelled}
+use Rattle.edd_image.specs.Units.{takes, leaves, jump, is_allowed}
+use Rattle.edd_code.specs.Blocks.{Block, Nothing, Straight, Then, WhenNotZero, WhenZero, Either, Match}
+
+-- how many operands an instruction leaves for the one behind it
+abbrev pub left_of : Option ℕ → ℕ
+left_of None = 0
+left_of (Some n) = n
+
+-- how many operands there are behind a block, with so many in front of it
+abbrev pub depth_after : Block → ℕ → ℕ
+depth_after Nothing d = d
+depth_after (Straight i) d = d - takes i + left_of (leaves i)
+depth_after (Then first second) d = depth_after second (depth_after first d)
+depth_after (WhenNotZero body) d = d - 1
+depth_after (WhenZero body) d = d - 1
+depth_after (Either first otherwise) d = depth_after first (d - 1)
+depth_after (Match label body rest) d = depth_after body (d - 1)
+
+-- an instruction of an attribute that goes on to the one behind it, and nowhere else
+abbrev pub is_straight : Instruction → Bool
+is_straight i = is_allowed version.One sort.Attribute i && (is_some (leaves i) && is_none (jump i))
+
+-- Each instruction finds the operands that it takes, and at most as many as the stack holds; parts that come together leave as many.
+abbrev pub Flows : Block → ℕ → Type 0
+Flows Nothing d = ⊤
+Flows (Straight i) d = IsTrue (is_straight i) × (takes i ≤ d) × (d ≤ 128)
+Flows (Then first second) d = Flows first d × Flows second (depth_after first d)
+Flows (WhenNotZero body) d = (1 ≤ d) × (d ≤ 128) × Flows body (d - 1) × (depth_after body (d - 1) ≡ d - 1)
+Flows (WhenZero body) d = (1 ≤ d) × (d ≤ 128) × Flows body (d - 1) × (depth_after body (d - 1) ≡ d - 1)
+Flows (Either first otherwise) d =
+    (1 ≤ d) × (d ≤ 128) × Flows first (d - 1) × Flows otherwise (d - 1) × (depth_after otherwise (d - 1) ≡ depth_after first (d - 1))
+    × (depth_after first (d - 1) ≤ 128)
+Flows (Match label body rest) d =
+    (1 ≤ d) × (d ≤ 128) × Flows body (d - 1) × Flows rest d × (depth_after rest d ≡ depth_after body (d - 1)) × (depth_after rest d ≤ 128)
+
+-- each operand is in its range
+abbrev pub AreSpelled : Block → Type 0
+AreSpelled Nothing = ⊤
+AreSpelled (Straight i) = IsSpelled i
+AreSpelled (Then first second) = AreSpelled first × AreSpelled second
+AreSpelled (WhenNotZero body) = AreSpelled body
+AreSpelled (WhenZero body) = AreSpelled body
+AreSpelled (Either first otherwise) = AreSpelled first × AreSpelled otherwise
+AreSpelled (Match label body rest) = FitsSigned w64 label × AreSpelled body × AreSpelled rest
+
+-- each straight instruction passes a test
+abbrev pub all_straight : (Instruction → Bool) → Block → Bool
+all_straight f Nothing = true
+all_straight f (Straight i) = f i
+all_straight f (Then first second) = all_straight f first && all_straight f second
+all_straight f (WhenNotZero body) = all_straight f body
+all_straight f (WhenZero body) = all_straight f body
+all_straight f (Either first otherwise) = all_straight f first && all_straight f otherwise
+all_straight f (Match label body rest) = all_straight f body && all_straight f rest

@@ -1,0 +1,11 @@
+pub mod Blocks
+pub mod Flow
+pub mod Outcomes
+pub mod Expressions
+pub mod Closing
+pub mod ExpressionMeaning
+pub mod Reads
+pub mod BlockEffects
+pub mod AttributeEffects
+pub mod Reports
+pub mod MethodEffects

@@ -1,0 +1,170 @@
+//! The code of expressions.
+
+ghost use Rattle.std.specs.Prelude.{◌≡◌, ◌++◌, length, OnOk};
+ghost use Rattle.edd_syntax.specs.TreeView.{expr_of};
+ghost use Rattle.edd_code.specs.Blocks.{WhenNotZero, WhenZero, Either, Straight, Then, bytes_at};
+ghost use Rattle.edd_code.specs.Expressions.{item_block, read_block, unary_block, truth_block, then_test, instead, no_value, expression_block};
+
+use crate::emit::{close, open_if_not_zero, open_if_zero, open_jump, put};
+use edd_image::Instruction;
+use edd_syntax::expr::Expr;
+use edd_syntax::numbers::ItemNo;
+use edd_syntax::operators::UnaryOperator;
+use edd_syntax::reference::Target;
+use std::alloc::AllocError;
+
+#[tactic(auto, unfolding(crate::specs::Blocks::emitted, crate::specs::Blocks::bytes_of))]
+fn write_item(code: &mut Vec<u8>, item: ItemNo) -> Result<(), AllocError>
+    ensures { OnOk result (code.new.items ≡ code.old.items ++ bytes_at (length code.old.items) (item_block item)) }
+{
+    match item {
+        ItemNo::Variable(variable) => put(code, Instruction::Variable(variable)),
+        ItemNo::Command(_) | ItemNo::Menu(_) | ItemNo::Collection(_) | ItemNo::Method(_) => {
+            put(code, Instruction::Push(0))
+        }
+    }
+}
+
+#[tactic(auto, unfolding(crate::specs::Blocks::emitted, crate::specs::Blocks::bytes_of))]
+fn write_read(code: &mut Vec<u8>, from: Target) -> Result<(), AllocError>
+    ensures { OnOk result (code.new.items ≡ code.old.items ++ bytes_at (length code.old.items) (read_block from)) }
+{
+    match from {
+        Target::Item(item) => write_item(code, item),
+        Target::Local(_) | Target::Function(_) => put(code, Instruction::Push(0)),
+    }
+}
+
+#[tactic(auto, unfolding(crate::specs::Blocks::emitted, crate::specs::Blocks::bytes_of))]
+fn write_unary(code: &mut Vec<u8>, op: UnaryOperator) -> Result<(), AllocError>
+    ensures { OnOk result (code.new.items ≡ code.old.items ++ bytes_at (length code.old.items) (unary_block op)) }
+{
+    match op {
+        UnaryOperator::Plus => Ok(()),
+        UnaryOperator::Minus => put(code, Instruction::Negate),
+        UnaryOperator::Not => put(code, Instruction::Not),
+        UnaryOperator::Complement => put(code, Instruction::Complement),
+    }
+}
+
+#[tactic(auto, unfolding(crate::specs::Blocks::emitted, crate::specs::Blocks::bytes_of))]
+fn write_truth(code: &mut Vec<u8>) -> Result<(), AllocError>
+    ensures { OnOk result (code.new.items ≡ code.old.items ++ bytes_at (length code.old.items) truth_block) }
+{
+    put(code, Instruction::Not)?;
+    put(code, Instruction::Not)
+}
+
+/// The code of an expression, which leaves its value on top of the operands.
+#[cycle(expressions)]
+#[tactic(auto, using(crate::proofs::Writing::goes_on, crate::proofs::Writing::one_more), unfolding(crate::specs::Expressions::expression_block))]
+pub fn write_expression(code: &mut Vec<u8>, e: &Expr<Target>) -> Result<(), AllocError>
+    ensures { OnOk result (code.new.items
+        ≡ code.old.items ++ bytes_at (length code.old.items) (expression_block (expr_of (λ r. r) e.now))) }
+{
+    match e {
+        Expr::Literal(value) => put(code, Instruction::Push(*value)),
+        Expr::Reference(from) => write_read(code, *from),
+        Expr::Parentheses(inner) => write_expression(code, inner),
+        Expr::Unary(op, operand) => {
+            write_expression(code, operand)?;
+            write_unary(code, *op)
+        }
+        Expr::Binary(op, left, right) => {
+            write_two(code, left, right)?;
+            put(code, Instruction::Operate(*op))
+        }
+        Expr::Compare(by, left, right) => {
+            write_two(code, left, right)?;
+            put(code, Instruction::Compare(*by))
+        }
+        Expr::LogicalAnd(left, right) => {
+            write_expression(code, left)?;
+            write_and(code, right)
+        }
+        Expr::LogicalOr(left, right) => {
+            write_expression(code, left)?;
+            write_or(code, right)
+        }
+        Expr::Conditional(test, first, second) => {
+            write_expression(code, test)?;
+            write_either(code, first, second)
+        }
+        Expr::Decimal { .. }
+        | Expr::Assign(_, _)
+        | Expr::CompoundAssign(_, _, _)
+        | Expr::Increment(_, _)
+        | Expr::Call { .. } => put(code, Instruction::Push(0)),
+    }
+}
+
+// The left operand, and the right one on top of it.
+#[cycle(expressions)]
+fn write_two(
+    code: &mut Vec<u8>,
+    left: &Expr<Target>,
+    right: &Expr<Target>,
+) -> Result<(), AllocError>
+    ensures { OnOk result (code.new.items ≡ code.old.items ++ bytes_at (length code.old.items)
+        (Then (expression_block (expr_of (λ r. r) left.now)) (expression_block (expr_of (λ r. r) right.now)))) }
+{
+    write_expression(code, left)?;
+    write_expression(code, right)
+}
+
+// What stands behind the left side of `&&`.
+#[cycle(expressions)]
+fn write_and(code: &mut Vec<u8>, right: &Expr<Target>) -> Result<(), AllocError>
+    ensures { OnOk result (code.new.items ≡ code.old.items ++ bytes_at (length code.old.items)
+        (then_test (WhenNotZero (instead (expression_block (expr_of (λ r. r) right.now)))))) }
+{
+    put(code, Instruction::Duplicate)?;
+    let hole = open_if_zero(code)?;
+    write_instead(code, right)?;
+    close(code, hole);
+    Ok(())
+}
+
+// What stands behind the left side of `||`.
+#[cycle(expressions)]
+fn write_or(code: &mut Vec<u8>, right: &Expr<Target>) -> Result<(), AllocError>
+    ensures { OnOk result (code.new.items ≡ code.old.items ++ bytes_at (length code.old.items)
+        (Then truth_block (then_test (WhenZero (instead (expression_block (expr_of (λ r. r) right.now))))))) }
+{
+    write_truth(code)?;
+    put(code, Instruction::Duplicate)?;
+    let hole = open_if_not_zero(code)?;
+    write_instead(code, right)?;
+    close(code, hole);
+    Ok(())
+}
+
+// The truth of the right side, in place of the topmost operand.
+#[cycle(expressions)]
+fn write_instead(code: &mut Vec<u8>, right: &Expr<Target>) -> Result<(), AllocError>
+    ensures { OnOk result (code.new.items ≡ code.old.items ++ bytes_at (length code.old.items)
+        (instead (expression_block (expr_of (λ r. r) right.now)))) }
+{
+    put(code, Instruction::Pop)?;
+    write_expression(code, right)?;
+    write_truth(code)
+}
+
+// Behind a test, the expression that it chooses.
+#[cycle(expressions)]
+fn write_either(
+    code: &mut Vec<u8>,
+    first: &Expr<Target>,
+    second: &Expr<Target>,
+) -> Result<(), AllocError>
+    ensures { OnOk result (code.new.items ≡ code.old.items ++ bytes_at (length code.old.items)
+        (Either (expression_block (expr_of (λ r. r) first.now)) (expression_block (expr_of (λ r. r) second.now)))) }
+{
+    let otherwise = open_if_zero(code)?;
+    write_expression(code, first)?;
+    let end = open_jump(code)?;
+    close(code, otherwise);
+    write_expression(code, second)?;
+    close(code, end);
+    Ok(())
+}

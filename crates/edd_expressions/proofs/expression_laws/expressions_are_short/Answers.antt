@@ -1,5 +1,0 @@
-use Rattle.edd_expressions.proofs.ExpressionSizes.{is_short}
-use Rattle.edd_expressions.proofs.expression_laws.expressions_are_short.Goals as goal
-
-pub returns : goal.returns
-returns c = is_short

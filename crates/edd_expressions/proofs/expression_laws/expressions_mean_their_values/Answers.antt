@@ -1,5 +1,0 @@
-use Rattle.edd_expressions.proofs.ExpressionValues.{means}
-use Rattle.edd_expressions.proofs.expression_laws.expressions_mean_their_values.Goals as goal
-
-pub returns : goal.returns
-returns c = λ image_env env d e operands. means image_env env d e operands

@@ -1,5 +1,0 @@
-use Rattle.edd_expressions.proofs.BlockUnits.{unit_is_valid}
-use Rattle.edd_expressions.proofs.laws.blocks_are_valid.Goals as goal
-
-pub returns : goal.returns
-returns c context b version sort spelled flows after small exist = unit_is_valid context b version sort spelled flows after small exist
