@@ -3,7 +3,7 @@
 ghost use Rattle.std.specs.Prelude.{◌≡◌, ℕ, ◌+◌, ◌≤◌, [], ◌∷◌, ◌++◌, length};
 ghost use Rattle.arrayvec.specs.ArrayVec.{array_vec_len};
 ghost use Rattle.edd_image.specs.Layout.{u16, u32};
-ghost use Rattle.edd_image.specs.Spelling.{i64, jump_to, spelling, operator_code, comparison_code, ask_bytes, item_bytes, optional_number, optional_bytes};
+ghost use Rattle.edd_image.specs.Spelling.{i64, head_length, jump_to, spelling, operator_code, comparison_code, ask_bytes, item_bytes, optional_number, optional_bytes};
 
 use crate::instruction::{Ask, Instruction, Jump};
 use arrayvec::ArrayVec;
@@ -174,7 +174,7 @@ fn member(name: StrNo, item: ItemNo, label: Option<StrNo>, help: Option<StrNo>) 
 /// The bytes of a jump before its target, which are four more.
 pub fn head(jump: Jump) -> Encoding
     ensures head { (target : ℕ) → result.items ++ u32 target ≡ spelling (jump_to jump target) }
-    ensures len { array_vec_len result ≤ 9 }
+    ensures len { array_vec_len result ≡ head_length jump }
 {
     match jump {
         Jump::Always => alone(0x30),
