@@ -15,6 +15,7 @@ ghost use Rattle.edd_syntax.specs.WordsView.{text_of};
 
 use crate::branches::Named;
 use crate::exprs::{copy_expr, refer_variable};
+use crate::made::made_of;
 use crate::texts::{copy_optional_text, copy_text};
 use edd_name_meanings::directory::Names;
 use edd_name_meanings::fault::NameFault;
@@ -107,8 +108,7 @@ impl Named for Enumerator {
     #[tactic(auto, using(crate::proofs::UseLaws::faults), unfolding(edd_name_meanings::specs::Meanings::Means))]
     fn copy(&self, names: &Names) -> Result<Enumerator, NameFault> {
         let text = copy_text(&self.text, names.alloc)?;
-        let help = copy_optional_text(&self.help, names.alloc)?;
-        Ok(Enumerator {
+        made_of!(copy_optional_text(&self.help, names.alloc), help => Enumerator {
             line: self.line,
             value: self.value,
             text,
@@ -156,11 +156,13 @@ impl Named for MenuEntry<Path> {
     #[tactic(auto, using(crate::proofs::UseLaws::faults), unfolding(edd_name_meanings::specs::Meanings::Means))]
     fn copy(&self, names: &Names) -> Result<MenuEntry<Target>, NameFault> {
         match self {
-            MenuEntry::Text(text) => Ok(MenuEntry::Text(copy_text(text, names.alloc)?)),
+            MenuEntry::Text(text) => {
+                made_of!(copy_text(text, names.alloc), text => MenuEntry::Text(text))
+            }
             MenuEntry::Reference { to, qualifiers } => {
                 let kinds = [Kind::Variable, Kind::Menu, Kind::Collection, Kind::Method];
-                Ok(MenuEntry::Reference {
-                    to: refer(names, &[], &kinds, to)?,
+                made_of!(refer(names, &[], &kinds, to), to => MenuEntry::Reference {
+                    to,
                     qualifiers: *qualifiers,
                 })
             }
