@@ -4,7 +4,7 @@ ghost use Rattle.std.specs.Prelude.{◌≡◌, [], ◌∷◌, None, Some, IfErr,
 ghost use Rattle.std.specs.Str.{bytes_eq};
 ghost use Rattle.edd_syntax.specs.NameRules.{faults_of_local, faults_of_item};
 ghost use Rattle.edd_syntax.specs.NameUses.{OfItem, OfFunction};
-ghost use Rattle.edd_syntax.specs.Resolution.{look_up, builtins, meaning, local_meant, item_meant, function_meant};
+ghost use Rattle.edd_syntax.specs.Resolution.{look_up, builtin_name, builtins, meaning, local_meant, item_meant, function_meant};
 ghost use Rattle.edd_syntax.specs.Refusal.{first_of};
 ghost use Rattle.edd_syntax.specs.TreeView.{path_of};
 ghost use Rattle.edd_name_meanings.specs.Directory.{unit_of};
@@ -79,16 +79,11 @@ pub fn refer(
     }
 }
 
-// The function, where the name is this word: else what was found.
-fn if_named(
-    name: &str,
-    word: &str,
-    function: Builtin,
-    otherwise: Option<Builtin>,
-) -> Option<Builtin>
-    ensures { result ≡ (if bytes_eq word.now name.now then Some function else otherwise) }
+// The function, where this is its name: else what was found.
+fn if_named(name: &str, function: Builtin, otherwise: Option<Builtin>) -> Option<Builtin>
+    ensures { result ≡ (if bytes_eq (builtin_name function) name.now then Some function else otherwise) }
 {
-    if word == name {
+    if function.name() == name {
         Some(function)
     } else {
         otherwise
@@ -99,20 +94,20 @@ fn if_named(
 pub fn builtin(name: &str) -> Option<Builtin>
     ensures { result ≡ look_up name.now builtins }
 {
-    let found = if_named(name, "process_abort", Builtin::ProcessAbort, None);
-    let found = if_named(name, "abort", Builtin::Abort, found);
-    let found = if_named(name, "lassign", Builtin::Lassign, found);
-    let found = if_named(name, "iassign", Builtin::Iassign, found);
-    let found = if_named(name, "lvar_value", Builtin::LvarValue, found);
-    let found = if_named(name, "ivar_value", Builtin::IvarValue, found);
-    let found = if_named(name, "save_values", Builtin::SaveValues, found);
-    let found = if_named(name, "send_command_trans", Builtin::SendCommandTrans, found);
-    let found = if_named(name, "send_command", Builtin::SendCommand, found);
-    let found = if_named(name, "SELECT_FROM_LIST", Builtin::SelectFromList, found);
-    let found = if_named(name, "GET_DEV_VAR_VALUE", Builtin::GetDevVarValue, found);
-    let found = if_named(name, "DELAY", Builtin::Delay, found);
-    let found = if_named(name, "ACKNOWLEDGE", Builtin::Acknowledge, found);
-    if_named(name, "PUT_MESSAGE", Builtin::PutMessage, found)
+    let found = if_named(name, Builtin::ProcessAbort, None);
+    let found = if_named(name, Builtin::Abort, found);
+    let found = if_named(name, Builtin::Lassign, found);
+    let found = if_named(name, Builtin::Iassign, found);
+    let found = if_named(name, Builtin::LvarValue, found);
+    let found = if_named(name, Builtin::IvarValue, found);
+    let found = if_named(name, Builtin::SaveValues, found);
+    let found = if_named(name, Builtin::SendCommandTrans, found);
+    let found = if_named(name, Builtin::SendCommand, found);
+    let found = if_named(name, Builtin::SelectFromList, found);
+    let found = if_named(name, Builtin::GetDevVarValue, found);
+    let found = if_named(name, Builtin::Delay, found);
+    let found = if_named(name, Builtin::Acknowledge, found);
+    if_named(name, Builtin::PutMessage, found)
 }
 
 /// What the name of a call means.
