@@ -1,0 +1,16 @@
+pub mod CodePlaces
+pub mod CodeBytes
+pub mod CodeReading
+pub mod Effects
+pub mod CodeRuns
+pub mod LoopTurns
+pub mod UnitRuns
+pub mod SameRuns
+pub mod SameActions
+pub mod TreeParts
+pub mod ExpressionSteps
+pub mod StatementTrees
+pub mod CodeSpelled
+pub mod ResolvedSlots
+pub mod MethodAgreement
+pub mod WorkedBodies
