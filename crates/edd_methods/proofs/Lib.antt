@@ -14,3 +14,5 @@ pub mod CodeSpelled
 pub mod ResolvedSlots
 pub mod MethodAgreement
 pub mod WorkedBodies
+pub mod CodeSizes
+pub mod CheckedBodies

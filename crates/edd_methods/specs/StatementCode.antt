@@ -1,8 +1,9 @@
 -- The code of the statements of a method, and what the blocks of its expressions are to do.
-use Rattle.std.specs.Prelude.{◌≡◌, true, false, [], Option}
+use Rattle.std.specs.Prelude.{◌≡◌, ◌*◌, ◌≤◌, true, false, [], Option}
 use Rattle.edd_syntax.specs.declared.numbers.StrNo.{StrNo}
 use Rattle.edd_syntax.specs.declared.reference.Target.{Target}
 use Rattle.edd_syntax.specs.Expression.{Expr}
+use Rattle.edd_syntax.specs.Size.{nodes}
 use Rattle.edd_syntax.specs.Statement.{Stmt, Body}
 use Rattle.edd_syntax.specs.Words.{Words}
 use Rattle.edd_syntax.specs.Device as source
@@ -10,7 +11,7 @@ use Rattle.edd_syntax.specs.MethodState.{State}
 use Rattle.edd_syntax.specs.Evaluation.{evaluate}
 use Rattle.edd_image.specs.declared.instruction.Instruction.TheVariants as instruction
 use Rattle.edd_image.specs.Steps.{Environment}
-use Rattle.edd_code.specs.Blocks.{Block, Straight, Then}
+use Rattle.edd_code.specs.Blocks.{Block, Straight, Then, size}
 use Rattle.edd_code.specs.Flow.{AreSpelled}
 use Rattle.edd_code.specs.MethodEffects.{does, pushed}
 use Rattle.edd_methods.specs.Statements.{Code}
@@ -42,6 +43,10 @@ module _ (block_of : Expr Target → Block) where
   -- each operand in the block of the expression is in its range
   abbrev pub IsSpelled : Expr Target → Type 0
   IsSpelled e = AreSpelled (block_of e)
+
+  -- the block of the expression has at most 32 bytes a node
+  abbrev pub IsShort : Expr Target → Type 0
+  IsShort e = size (block_of e) ≤ 32 * nodes e
 
   -- from every state, the block of the expression leaves its value, or stops as it does
   abbrev pub Means : (StrNo → Option Words) → Environment → source.Environment → Expr Target → Type 0

@@ -1,6 +1,6 @@
 //! Laws of the code of methods, for the crates above.
 
-ghost use Rattle.std.specs.Prelude.{◌≡◌, ℕ, ◌+◌, ◌<◌, ◌≤◌, ◌^◌, ℤ, pos, List, [], ◌++◌, length, Option, Some};
+ghost use Rattle.std.specs.Prelude.{◌≡◌, ℕ, ◌+◌, ◌*◌, ◌<◌, ◌≤◌, ◌^◌, ℤ, pos, List, [], ◌++◌, length, Option, Some};
 ghost use Rattle.std.specs.List.{AllByRecursion};
 ghost use Rattle.edd_syntax.specs.declared.numbers.MethNo.{MethNo};
 ghost use Rattle.edd_syntax.specs.declared.numbers.StrNo.{StrNo};
@@ -15,8 +15,9 @@ ghost use Rattle.edd_syntax.specs.MethodState as source;
 ghost use Rattle.edd_syntax.specs.MethodState.{Action, pure};
 ghost use Rattle.edd_syntax.specs.Reference.{Path};
 ghost use Rattle.edd_syntax.specs.ResolvedTrees.{resolved_body};
+ghost use Rattle.edd_syntax.specs.Size.{body_nodes};
 ghost use Rattle.edd_syntax.specs.Statement.{Body, Stmt, slots_in};
-ghost use Rattle.edd_syntax.specs.SubsetRules.{body_expressions};
+ghost use Rattle.edd_syntax.specs.SubsetRules.{body_expressions, call_mismatches, mismatches};
 ghost use Rattle.edd_syntax.specs.Words.{Words};
 ghost use Rattle.edd_image.specs.declared.unit.Sort.TheVariants.{Method};
 ghost use Rattle.edd_image.specs.Agreement.{string_of_table};
@@ -29,7 +30,7 @@ ghost use Rattle.edd_code.specs.MethodEffects.{CanBeTaken};
 ghost use Rattle.edd_code.specs.Numbered.{machine_of};
 ghost use Rattle.edd_methods.specs.Following.{Does, Follows};
 ghost use Rattle.edd_methods.specs.MethodCode.{HasBlocks, method_code};
-ghost use Rattle.edd_methods.specs.StatementCode.{IsSpelled, Means, body_code, statement_code};
+ghost use Rattle.edd_methods.specs.StatementCode.{IsShort, IsSpelled, Means, body_code, statement_code};
 ghost use Rattle.edd_methods.specs.StatementEffects.{IsWhole, Same, always, loop_turns, performs};
 ghost use Rattle.edd_methods.specs.Statements.{Code, IsSpelledCode, bytes_at, size, unit_code};
 ghost use Rattle.edd_methods.specs.TreeExpressions.{Each, EachIn, EachSlot, UnlessAbort};
@@ -97,6 +98,18 @@ pub fn bodies_do_what_they_say()
 /// Each operand in the code of a body is in its range, where those in the blocks of its expressions are.
 pub fn bodies_are_spelled()
     ensures { (block_of : Expr Target → Block) (body : Body Target) → EachIn (IsSpelled block_of) body → IsSpelledCode (body_code block_of body) }
+{}
+
+/// The code of a body has at most 32 bytes for each of its nodes, where the blocks of its expressions do.
+pub fn bodies_are_short()
+    ensures { (block_of : Expr Target → Block) (body : Body Target) → EachIn (IsShort block_of) body
+        → size (body_code block_of body) ≤ 32 * body_nodes body }
+{}
+
+/// In a checked description the calls in each method's body fit, and aborts are whole statements.
+pub fn calls_of_methods_fit()
+    ensures { (unit : Description Target) → mismatches unit ≡ [] → (m : MethNo)
+        → AllByRecursion (λ p. call_mismatches p.is_statement p.expression ≡ []) (body_expressions (body_of unit m)) }
 {}
 
 /// The declarators of a resolved body have slots below the number of slots of the body.
