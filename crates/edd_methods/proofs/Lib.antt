@@ -16,3 +16,4 @@ pub mod MethodAgreement
 pub mod WorkedBodies
 pub mod CodeSizes
 pub mod CheckedBodies
+pub mod ResolvedBodies

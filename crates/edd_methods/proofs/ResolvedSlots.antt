@@ -47,7 +47,7 @@ module _ (m n : ℕ) (le : m ≤ n) where
 -- ---- resolved trees
 
 -- a value that is made of another
-bound : {A B : Type 0} (o : Option A) (f : A → Option B) (b : B) → (o >>= f) ≡ Some b → (x : A) × (o ≡ Some x) × (f x ≡ Some b)
+pub bound : {A B : Type 0} (o : Option A) (f : A → Option B) (b : B) → (o >>= f) ≡ Some b → (x : A) × (o ≡ Some x) × (f x ≡ Some b)
 bound None f b h = absurd (none-some b h)
 bound (Some x) f b h = (x, refl, h)
 

@@ -14,6 +14,7 @@ ghost use Rattle.edd_syntax.specs.Item.{Description};
 ghost use Rattle.edd_syntax.specs.MethodState as source;
 ghost use Rattle.edd_syntax.specs.MethodState.{Action, pure};
 ghost use Rattle.edd_syntax.specs.Reference.{Path};
+ghost use Rattle.edd_syntax.specs.Resolved.{IsResolved};
 ghost use Rattle.edd_syntax.specs.ResolvedTrees.{resolved_body};
 ghost use Rattle.edd_syntax.specs.Size.{body_nodes};
 ghost use Rattle.edd_syntax.specs.Statement.{Body, Stmt, slots_in};
@@ -116,6 +117,12 @@ pub fn calls_of_methods_fit()
 pub fn declarators_have_slots()
     ensures { (unit : Description Path) (body : Body Path) (resolved : Body Target) → resolved_body unit body [] 0 ≡ Some resolved
         → EachSlot (slots_in resolved) resolved }
+{}
+
+/// In a resolved description each declarator of a method's body has a slot of the body, of which there are at most 64.
+pub fn methods_have_their_slots()
+    ensures few { (d : Description Target) → IsResolved d → (m : MethNo) → slots_in (body_of d m) ≤ 64 }
+    ensures each { (d : Description Target) → IsResolved d → (m : MethNo) → EachSlot (slots_in (body_of d m)) (body_of d m) }
 {}
 
 /// What is asked of the expressions of a body is so where its declarators have slots and it is so of each in the list of its
