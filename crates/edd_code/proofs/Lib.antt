@@ -28,3 +28,4 @@ pub mod MethodSpelling
 pub mod SameBlocks
 pub mod AbortBlocks
 pub mod CheckedCalls
+pub mod Existing

@@ -1,17 +1,16 @@
 -- What the methods' bodies of a checked description keep.
-use Rattle.std.proofs.Common.{◌≡◌, refl, subst, ◌∙◌, sym, ap, ℕ, zero, suc, ◌+◌, ◌≤◌, Bool, true, false, List, [], ◌∷◌, ◌++◌, Option, Some, None, arith}
+use Rattle.std.proofs.Common.{◌≡◌, refl, subst, ℕ, zero, suc, Bool, true, false, List, [], ◌∷◌, ◌++◌, Option, Some, None}
 use Rattle.std.specs.Prelude.{slice_get, cond}
-use Rattle.std.specs.List.{AllByRecursion, filter, flat_map, list_any}
-use Rattle.std.proofs.lemmas.Option.{none-some, same_Some}
+use Rattle.std.specs.List.{AllByRecursion, filter, flat_map}
+use Rattle.std.proofs.lemmas.Option.{same_Some}
 use Rattle.edd_syntax.specs.declared.numbers.ItemNo.TheVariants as item_no
 use Rattle.edd_syntax.specs.declared.numbers.MethNo.{MethNo}
 use Rattle.edd_syntax.specs.declared.reference.Target.{Target}
-use Rattle.edd_syntax.specs.Reference.{Path}
-use Rattle.edd_syntax.specs.Device.{item_at, items_of}
+use Rattle.edd_syntax.specs.Device.{item_at}
 use Rattle.edd_syntax.specs.Execution.{body_in, body_of}
 use Rattle.edd_syntax.specs.Item as item
 use Rattle.edd_syntax.specs.Item.{Attribute, Item, Description}
-use Rattle.edd_syntax.specs.Statement.{Body, Nil, slots_in}
+use Rattle.edd_syntax.specs.Statement.{Body, Nil}
 use Rattle.edd_syntax.specs.SubsetRules.{attributes_of, body_expressions, call_mismatches, mismatches}
 use Rattle.edd_code.specs.MethodReads.{CallsFit}
 use Rattle.edd_code.proofs.CheckedCalls.{calls_fit}

@@ -1,5 +1,5 @@
 -- The code of a body has at most 32 bytes for each of its nodes.
-use Rattle.std.proofs.Common.{◌≡◌, refl, ℕ, ◌+◌, ◌*◌, ◌≤◌, Bool, true, false, List, [], ◌∷◌, Option, Some, None, arith}
+use Rattle.std.proofs.Common.{◌≡◌, refl, ◌+◌, ◌*◌, ◌≤◌, Bool, true, false, List, [], ◌∷◌, Option, Some, None, arith}
 use Rattle.edd_syntax.specs.declared.reference.Target.{Target}
 use Rattle.edd_syntax.specs.declared.reference.Target.TheVariants.{Local, Item, Function}
 use Rattle.edd_syntax.specs.Expression.{Expr}
@@ -12,7 +12,7 @@ use Rattle.edd_code.specs.MethodExpressions.{store_block}
 use Rattle.edd_methods.specs.Statements.{size, arms_size, tests_size, part_size}
 use Rattle.edd_methods.specs.TreeCode.{initial_block, declare_block, first_of, test_of, last_of, code_of, code_in, arms_of}
 use Rattle.edd_methods.specs.TreeExpressions.{is_abort_call, IsSlot, EachWritten, EachDeclared, Each, EachIn}
-use Rattle.edd_methods.specs.StatementCode.{popped, alone_block, blocks_by, body_code, IsShort}
+use Rattle.edd_methods.specs.StatementCode.{popped, alone_block, blocks_by, IsShort}
 
 module _ (block_of : Expr Target → blocks.Block) where
   abbrev P : Expr Target → Type 0

@@ -17,3 +17,8 @@ pub mod WorkedBodies
 pub mod CodeSizes
 pub mod CheckedBodies
 pub mod ResolvedBodies
+pub mod ResolvedExpressions
+pub mod ResolvedStatements
+pub mod ResolvedUnits
+pub mod ResolvedReferences
+pub mod CheckedMethods

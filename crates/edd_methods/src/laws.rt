@@ -1,6 +1,6 @@
 //! Laws of the code of methods, for the crates above.
 
-ghost use Rattle.std.specs.Prelude.{◌≡◌, ℕ, ◌+◌, ◌*◌, ◌<◌, ◌≤◌, ◌^◌, ℤ, pos, List, [], ◌++◌, length, Option, Some};
+ghost use Rattle.std.specs.Prelude.{◌≡◌, ℕ, ◌+◌, ◌*◌, ◌<◌, ◌≤◌, ◌^◌, ℤ, pos, List, [], ◌++◌, length, true, Option, Some};
 ghost use Rattle.std.specs.List.{AllByRecursion};
 ghost use Rattle.edd_syntax.specs.declared.numbers.MethNo.{MethNo};
 ghost use Rattle.edd_syntax.specs.declared.numbers.StrNo.{StrNo};
@@ -14,7 +14,7 @@ ghost use Rattle.edd_syntax.specs.Item.{Description};
 ghost use Rattle.edd_syntax.specs.MethodState as source;
 ghost use Rattle.edd_syntax.specs.MethodState.{Action, pure};
 ghost use Rattle.edd_syntax.specs.Reference.{Path};
-ghost use Rattle.edd_syntax.specs.Resolved.{IsResolved};
+ghost use Rattle.edd_syntax.specs.Resolved.{IsChecked, IsResolved};
 ghost use Rattle.edd_syntax.specs.ResolvedTrees.{resolved_body};
 ghost use Rattle.edd_syntax.specs.Size.{body_nodes};
 ghost use Rattle.edd_syntax.specs.Statement.{Body, Stmt, slots_in};
@@ -28,7 +28,10 @@ ghost use Rattle.edd_image.specs.Steps.{Environment, opening};
 ghost use Rattle.edd_image.specs.Units.{IsValidUnit};
 ghost use Rattle.edd_code.specs.Blocks.{Block};
 ghost use Rattle.edd_code.specs.MethodEffects.{CanBeTaken};
-ghost use Rattle.edd_code.specs.Numbered.{machine_of};
+ghost use Rattle.edd_code.specs.Flow.{AreSpelled, all_straight};
+ghost use Rattle.edd_code.specs.MethodExpressions.{method_block};
+ghost use Rattle.edd_code.specs.Numbered.{HasNumbers, machine_of};
+ghost use Rattle.edd_image.specs.References.{names_exist};
 ghost use Rattle.edd_methods.specs.Following.{Does, Follows};
 ghost use Rattle.edd_methods.specs.MethodCode.{HasBlocks, method_code};
 ghost use Rattle.edd_methods.specs.StatementCode.{IsShort, IsSpelled, Means, body_code, statement_code};
@@ -161,4 +164,29 @@ pub fn valid_code_is_the_methods()
         → HasBlocks number (string_of_table strings) (body_of unit m) → size (method_code number (body_of unit m)) < 2 ^ 31
         → IsValidUnit (method_context unit strings (slots_in (body_of unit m))) (unit_code (method_code number (body_of unit m)))
         → IsMethodCode unit strings m (slots_in (body_of unit m)) (unit_code (method_code number (body_of unit m))) }
+{}
+
+/// In a checked description, in whose table of strings the texts of a method have their numbers, the operands in the blocks of the
+/// method's expressions are in their ranges, and the variables, slots and strings that they name exist.
+pub fn checked_expressions_are_spelled()
+    ensures { (d : Description Target) → IsChecked d → (m : MethNo) → (strings : List Words) → length strings ≤ 65536 → (number : Words → StrNo)
+        → AllByRecursion (λ p. HasNumbers (string_of_table strings) number p.expression) (body_expressions (body_of d m))
+        → AllByRecursion (λ p. AreSpelled (method_block number p.expression)
+        × (all_straight (names_exist (method_context d strings (slots_in (body_of d m)))) (method_block number p.expression) ≡ true))
+        (body_expressions (body_of d m)) }
+{}
+
+/// So the unit of a method's code is the method's where it is valid, for each method of a checked description.
+pub fn checked_methods_have_their_code()
+    ensures { (d : Description Target) → IsChecked d → (m : MethNo) → (strings : List Words) → length strings ≤ 65536 → (number : Words → StrNo)
+        → AllByRecursion (λ p. HasNumbers (string_of_table strings) number p.expression) (body_expressions (body_of d m))
+        → size (method_code number (body_of d m)) < 2 ^ 31
+        → IsValidUnit (method_context d strings (slots_in (body_of d m))) (unit_code (method_code number (body_of d m)))
+        → IsMethodCode d strings m (slots_in (body_of d m)) (unit_code (method_code number (body_of d m))) }
+{}
+
+/// The code of each method of a checked description has at most 32 bytes for each node of its body.
+pub fn checked_methods_are_short()
+    ensures { (d : Description Target) → IsChecked d → (m : MethNo) → (number : Words → StrNo)
+        → size (method_code number (body_of d m)) ≤ 32 * body_nodes (body_of d m) }
 {}
