@@ -29,14 +29,13 @@ use Rattle.edd_image.specs.References.{item_exists}
 use Rattle.edd_image.specs.Contents.{part, Contents, AttributeFields, contents_of}
 use Rattle.edd_image.specs.Strings.{string_bytes, is_words}
 use Rattle.edd_image.specs.Steps.{opening}
-use Rattle.edd_image.specs.Validity as validity
 use Rattle.edd_image.specs.Reading as image
 use Rattle.edd_image.specs.Reading.{environment_of, row_of, opening_of, given_within, reading_of, default_records, is_no_item, reading_within}
 use Rattle.edd_image.specs.Agreement.{SameReading, SameRun, IsAttributeCode, string_of_table, string_numbered, item_meaning, tree_meaning}
 use Rattle.edd_assembly.specs.Assembly.{Lowered, assembled}
 use Rattle.edd_assembly.specs.LoweredUnits.{IsBodyCode, IsUnitOf, AreUnitsOf}
 use Rattle.edd_assembly.proofs.Cutting.{code_of, code_cut}
-use Rattle.edd_assembly.proofs.KnownByNumber.{same_kinds, of_transaction}
+use Rattle.edd_assembly.proofs.KnownByNumber.{same_kinds}
 use Rattle.edd_assembly.proofs.RecordsAgree.{string_read, default_same, reading_agrees}
 use Rattle.edd_assembly.proofs.RowsAmong.{same_ref, among_rows}
 use Rattle.edd_assembly.proofs.RowsFound.{Found, of_ref, same_refs, found_or_none, among_plain}
@@ -154,10 +153,9 @@ module _ (unit : Description Target) (lowered : List Lowered) (strings : List Wo
       module _ (may : has_attr (kind_of ref.item) ref.attr ≡ true) (no_body : same_attr ref.attr attr.Definition ≡ false) where
         no_item_is : is_no_item contents ref ≡ (if source.is_of_transaction ref.attr then is_none (row_of contents ref) else not (ref.sub == 0))
         no_item_is =
-            ap (λ b. not b || (not (has_attr (kind_of ref.item) ref.attr) || (same_attr ref.attr attr.Definition || (if validity.is_of_transaction ref.attr then is_none (row_of contents ref) else not (ref.sub == 0))))) exists
-            ∙ ap (λ b. not b || (same_attr ref.attr attr.Definition || (if validity.is_of_transaction ref.attr then is_none (row_of contents ref) else not (ref.sub == 0)))) may
-            ∙ ap (λ b. b || (if validity.is_of_transaction ref.attr then is_none (row_of contents ref) else not (ref.sub == 0))) no_body
-            ∙ ap (λ b. if b then is_none (row_of contents ref) else not (ref.sub == 0)) (of_transaction ref.attr)
+            ap (λ b. not b || (not (has_attr (kind_of ref.item) ref.attr) || (same_attr ref.attr attr.Definition || (if source.is_of_transaction ref.attr then is_none (row_of contents ref) else not (ref.sub == 0))))) exists
+            ∙ ap (λ b. not b || (same_attr ref.attr attr.Definition || (if source.is_of_transaction ref.attr then is_none (row_of contents ref) else not (ref.sub == 0)))) may
+            ∙ ap (λ b. b || (if source.is_of_transaction ref.attr then is_none (row_of contents ref) else not (ref.sub == 0))) no_body
 
         stands : list_any (λ (l : Lowered). same_ref ref l.row) lowered ≡ list_any (λ s. s == ref.sub) (positions ref.attr i.attributes)
         stands = among_plain ref no_body lowered ∙ ap (list_any (same_ref ref)) units.in_order ∙ among_rows unit.items ref i there
@@ -207,7 +205,7 @@ module _ (unit : Description Target) (lowered : List Lowered) (strings : List Wo
         by_sort false isnt = by_position isnt (ref.sub == 0) refl
 
       abbrev rest_of : Bool
-      rest_of = same_attr ref.attr attr.Definition || (if validity.is_of_transaction ref.attr then is_none (row_of contents ref) else not (ref.sub == 0))
+      rest_of = same_attr ref.attr attr.Definition || (if source.is_of_transaction ref.attr then is_none (row_of contents ref) else not (ref.sub == 0))
 
       by_readable : (b : Bool) → is_readable (kind_of ref.item) ref.attr ≡ b
           → Agrees (if not b then source.NoItem else (if source.is_of_transaction ref.attr then gives_in ref.attr (slice_get (transactions env i.attributes) ref.sub) values else (if ref.sub == 0 then gives ref.attr (meaning_of ref.attr (of_attributes env i.attributes)) values else source.NoItem)))
@@ -218,7 +216,7 @@ module _ (unit : Description Target) (lowered : List Lowered) (strings : List Wo
           nothing (or_right (not (item_exists contents.counts ref.item)) (not (has_attr (kind_of ref.item) ref.attr) || rest_of)
           (⊎_elim (λ h. or_left (not (has_attr (kind_of ref.item) ref.attr)) rest_of (not_from_false (has_attr (kind_of ref.item) ref.attr) h))
           (λ h. or_right (not (has_attr (kind_of ref.item) ref.attr)) rest_of
-          (or_left (same_attr ref.attr attr.Definition) (if validity.is_of_transaction ref.attr then is_none (row_of contents ref) else not (ref.sub == 0)) (not-false (same_attr ref.attr attr.Definition) h)))
+          (or_left (same_attr ref.attr attr.Definition) (if source.is_of_transaction ref.attr then is_none (row_of contents ref) else not (ref.sub == 0)) (not-false (same_attr ref.attr attr.Definition) h)))
           (and_cases (has_attr (kind_of ref.item) ref.attr) (not (same_attr ref.attr attr.Definition)) cannot)))
 
       of_item : Agrees (read_item env i ref.attr ref.sub values)
@@ -229,7 +227,7 @@ module _ (unit : Description Target) (lowered : List Lowered) (strings : List Wo
 
     by_item : (o : Option (Item Target)) → item_at unit ref.item ≡ o → Agrees (elim o as (λ w. source.Reading) [ Some i ↦ read_item env i ref.attr ref.sub values | None ↦ source.NoItem ])
     by_item None isnt =
-        nothing (or_left (not (item_exists contents.counts ref.item)) (not (has_attr (kind_of ref.item) ref.attr) || (same_attr ref.attr attr.Definition || (if validity.is_of_transaction ref.attr then is_none (row_of contents ref) else not (ref.sub == 0))))
+        nothing (or_left (not (item_exists contents.counts ref.item)) (not (has_attr (kind_of ref.item) ref.attr) || (same_attr ref.attr attr.Definition || (if source.is_of_transaction ref.attr then is_none (row_of contents ref) else not (ref.sub == 0))))
         (not_from_false (item_exists contents.counts ref.item) (existing ref.item ∙ le-ltb (index_of ref.item) (count_of (kind_of ref.item) unit.items) (past (of_kind (kind_of ref.item) unit.items) (index_of ref.item) isnt))))
     by_item (Some i) is = of_item i is
 

@@ -9,10 +9,8 @@ use Rattle.edd_syntax.specs.declared.numbers.Attr.{Attr}
 use Rattle.edd_syntax.specs.declared.numbers.Attr.TheVariants as attr
 use Rattle.edd_syntax.specs.declared.numbers.ItemNo.{ItemNo}
 use Rattle.edd_syntax.specs.declared.numbers.ItemNo.TheVariants as items
-use Rattle.edd_syntax.specs.Numbers.{kind_number, kind_of, index_of, item_number, attr_number, same_kind, same_attr}
-use Rattle.edd_syntax.specs.Attributes as source
+use Rattle.edd_syntax.specs.Numbers.{kind_number, kind_of, index_of, item_number, attr_number, attr_from_number, same_kind, same_attr}
 use Rattle.edd_image.specs.Decoding.{item_of}
-use Rattle.edd_image.specs.Validity.{attr_of, is_of_transaction}
 
 abbrev kind_at : ℕ → Kind
 kind_at n =
@@ -32,7 +30,7 @@ kind_again kind.Method = refl
 pub same_kinds : (k j : Kind) → same_kind k j ≡ true → k ≡ j
 same_kinds k j h = sym (kind_again k) ∙ ap kind_at (eqb-true (kind_number k) (kind_number j) h) ∙ kind_again j
 
-pub attr_again : (a : Attr) → attr_of (attr_number a) ≡ Some a
+pub attr_again : (a : Attr) → attr_from_number (attr_number a) ≡ Some a
 attr_again attr.Label = refl
 attr_again attr.Help = refl
 attr_again attr.Class = refl
@@ -56,7 +54,7 @@ attr_again attr.Members = refl
 attr_again attr.Definition = refl
 
 pub same_attrs : (a b : Attr) → same_attr a b ≡ true → a ≡ b
-same_attrs a b h = same_Some a b (sym (attr_again a) ∙ ap attr_of (eqb-true (attr_number a) (attr_number b) h) ∙ attr_again b)
+same_attrs a b h = same_Some a b (sym (attr_again a) ∙ ap attr_from_number (eqb-true (attr_number a) (attr_number b) h) ∙ attr_again b)
 
 pub item_again : (i : ItemNo) → item_of (kind_number (kind_of i)) (index_of i) ≡ Some i
 item_again (items.Variable n) = refl
@@ -78,27 +76,3 @@ numbered_index kind.Command n = refl
 numbered_index kind.Menu n = refl
 numbered_index kind.Collection n = refl
 numbered_index kind.Method n = refl
-
--- the source and the image mean the same attributes of a transaction
-pub of_transaction : (a : Attr) → is_of_transaction a ≡ source.is_of_transaction a
-of_transaction attr.Label = refl
-of_transaction attr.Help = refl
-of_transaction attr.Class = refl
-of_transaction attr.Handling = refl
-of_transaction attr.ConstantUnit = refl
-of_transaction attr.Validity = refl
-of_transaction attr.DefaultValue = refl
-of_transaction attr.MinValue = refl
-of_transaction attr.MaxValue = refl
-of_transaction attr.DisplayFormat = refl
-of_transaction attr.EditFormat = refl
-of_transaction attr.Enumerators = refl
-of_transaction attr.Number = refl
-of_transaction attr.Operation = refl
-of_transaction attr.Transaction = refl
-of_transaction attr.Request = refl
-of_transaction attr.Reply = refl
-of_transaction attr.ResponseCodes = refl
-of_transaction attr.Items = refl
-of_transaction attr.Members = refl
-of_transaction attr.Definition = refl

@@ -10,7 +10,7 @@ use Rattle.edd_syntax.specs.Item.{kind_of_item, Item}
 use Rattle.edd_syntax.specs.Numbers.{same_kind}
 use Rattle.edd_image.specs.declared.parts.NameRow.{NameRow}
 use Rattle.edd_assembly.specs.Assembly.{name_row_at, name_rows, names_of_kind, names_of_kinds}
-use Rattle.edd_assembly.proofs.Appending.{with_rest, appended, all_appended}
+use Rattle.edd_syntax.proofs.Appending.{with_rest, appended, all_appended}
 
 -- the bytes of names
 abbrev pub bytes_of : List Name → List ℕ

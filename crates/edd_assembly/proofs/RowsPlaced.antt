@@ -17,15 +17,14 @@ use Rattle.edd_syntax.specs.NameRules.{kinds}
 use Rattle.edd_syntax.specs.Names.{is_name}
 use Rattle.edd_syntax.specs.Numbers.{kind_of, item_number, has_attr, same_kind, same_attr}
 use Rattle.edd_syntax.specs.Resolution.{count_of}
-use Rattle.edd_syntax.specs.Attributes as source
+use Rattle.edd_syntax.specs.Attributes.{is_of_transaction}
 use Rattle.edd_syntax.specs.Rows.{part_attr, stands_for, is_written, transaction_positions, positions, rows_at, item_rows, rows_from, of_kind, rows_of_attr, rows_of_kind, attributes_in_order, rows}
 use Rattle.edd_syntax.specs.WellFormed.{belongs_to}
 use Rattle.edd_image.specs.declared.parts.Counts.{Counts}
 use Rattle.edd_image.specs.References.{item_exists}
-use Rattle.edd_image.specs.Validity.{is_of_transaction}
 use Rattle.edd_image.specs.Agreement.{counts_of}
 use Rattle.edd_assembly.proofs.ItemForms.{is_formed, all_weaker}
-use Rattle.edd_assembly.proofs.KnownByNumber.{same_kinds, same_attrs, numbered_kind, of_transaction}
+use Rattle.edd_assembly.proofs.KnownByNumber.{same_kinds, same_attrs, numbered_kind}
 
 -- the item exists and may have the attribute, which stands at 0 where it is not of a transaction
 abbrev pub is_placed : Counts → AttrRef → Bool
@@ -80,28 +79,28 @@ module _ (k : Kind) (a : Attr) where
   abbrev fits_at : ℕ → Bool
   fits_at s = has_attr k a && (is_of_transaction a || s == 0)
 
-  of_any_transaction : has_attr k attr.Transaction ≡ true → source.is_of_transaction a ≡ true → has_attr k a ≡ true
+  of_any_transaction : has_attr k attr.Transaction ≡ true → is_of_transaction a ≡ true → has_attr k a ≡ true
   of_any_transaction h of = from a of
     where
-      from : (b : Attr) → source.is_of_transaction b ≡ true → has_attr k b ≡ true
+      from : (b : Attr) → is_of_transaction b ≡ true → has_attr k b ≡ true
       from attr.Transaction t = h
       from attr.Request t = h
       from attr.Reply t = h
       from b t = absurd (false≢true t)
 
-  transactions_fit : source.is_of_transaction a ≡ true → (next : ℕ) (ws : List (Attribute Target)) → list_all (belongs_to k) ws ≡ true → list_all fits_at (transaction_positions next ws) ≡ true
+  transactions_fit : is_of_transaction a ≡ true → (next : ℕ) (ws : List (Attribute Target)) → list_all (belongs_to k) ws ≡ true → list_all fits_at (transaction_positions next ws) ≡ true
   transactions_fit of next [] h = refl
   transactions_fit of next (item.Transaction number parts ∷ rest) h =
       let both = and_parts (has_attr k attr.Transaction) (list_all (belongs_to k) rest) h in
       and_from (fits_at next) (list_all fits_at (transaction_positions (suc next) rest))
-      (and_from (has_attr k a) (is_of_transaction a || next == 0) (of_any_transaction both.0 of) (or_left (is_of_transaction a) (next == 0) (of_transaction a ∙ of)))
+      (and_from (has_attr k a) (is_of_transaction a || next == 0) (of_any_transaction both.0 of) (or_left (is_of_transaction a) (next == 0) of))
       (transactions_fit of (suc next) rest both.1)
   transactions_fit of next (w ∷ rest) h = transactions_fit of next rest (and_parts (belongs_to k w) (list_all (belongs_to k) rest) h).1
 
   positions_fit : (ws : List (Attribute Target)) → list_all (belongs_to k) ws ≡ true → list_all fits_at (positions a ws) ≡ true
-  positions_fit ws h = pick (source.is_of_transaction a) (is_written a ws) refl refl
+  positions_fit ws h = pick (is_of_transaction a) (is_written a ws) refl refl
     where
-      pick : (b c : Bool) → source.is_of_transaction a ≡ b → is_written a ws ≡ c → list_all fits_at (if b then transaction_positions 0 ws else (if c then 0 ∷ [] else [])) ≡ true
+      pick : (b c : Bool) → is_of_transaction a ≡ b → is_written a ws ≡ c → list_all fits_at (if b then transaction_positions 0 ws else (if c then 0 ∷ [] else [])) ≡ true
       pick true c of written = transactions_fit of 0 ws h
       pick false true of written = and_from (fits_at 0) true (and_from (has_attr k a) (is_of_transaction a || 0 == 0) (any_written_has ws h written) (or_right (is_of_transaction a) (0 == 0) refl)) refl
       pick false false of written = refl

@@ -8,12 +8,13 @@ use Rattle.edd_syntax.specs.declared.numbers.Attr.TheVariants as attr
 use Rattle.edd_syntax.specs.declared.numbers.AttrRef.{AttrRef}
 use Rattle.edd_syntax.specs.declared.reference.Target.{Target}
 use Rattle.edd_syntax.specs.Item.{Item}
-use Rattle.edd_syntax.specs.Numbers.{kind_number, kind_of, index_of, attr_number, same_attr, has_attr}
+use Rattle.edd_syntax.specs.Numbers.{kind_number, kind_of, index_of, attr_number, attr_from_number, same_attr, has_attr}
+use Rattle.edd_syntax.specs.Attributes.{is_of_transaction}
 use Rattle.edd_syntax.specs.Rows.{rows}
 use Rattle.edd_image.specs.declared.parts.Counts.{Counts}
 use Rattle.edd_image.specs.Contents.{AttributeFields, fields_of_attribute}
 use Rattle.edd_image.specs.References.{item_exists}
-use Rattle.edd_image.specs.Validity.{attr_of, is_of_transaction, has_attribute, is_attribute_row, rises, rise}
+use Rattle.edd_image.specs.Validity.{has_attribute, is_attribute_row, rises, rise}
 use Rattle.edd_assembly.specs.Assembly.{Lowered, attribute_row_at, attribute_rows}
 use Rattle.edd_assembly.specs.LoweredUnits.{plain_row}
 use Rattle.edd_assembly.proofs.KnownByNumber.{attr_again, item_again}
@@ -39,7 +40,7 @@ module _ (counts : Counts) where
 
   row_sound : (s : ℕ) (l : Lowered) → is_placed counts (plain_row l) ≡ true → HasFewSlots l → is_attribute_row counts (fields_of_attribute (attribute_row_at s l)) ≡ true
   row_sound s l placed few =
-      ap (λ o. option_map_or (λ i. option_map_or (λ a. has_attribute counts i a l.row.sub) (attr_of (attr_number l.row.attr)) false) o false && true) (item_again l.row.item)
+      ap (λ o. option_map_or (λ i. option_map_or (λ a. has_attribute counts i a l.row.sub) (attr_from_number (attr_number l.row.attr)) false) o false && true) (item_again l.row.item)
       ∙ ap (λ o. option_map_or (λ a. has_attribute counts l.row.item a l.row.sub) o false && true) (attr_again l.row.attr)
       ∙ and_from (has_attribute counts l.row.item l.row.attr l.row.sub) true (has_it l.row (same_attr l.row.attr attr.Definition) refl few placed) refl
 

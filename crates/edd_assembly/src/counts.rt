@@ -31,7 +31,7 @@ fn kind_of(item: &Item<Target>) -> Kind
 fn is_kind(item: &Item<Target>, kind: Kind) -> bool
     ensures { result ≡ numbers.same_kind (kind_of_item (item_of (λ r. r) item.now).sort) kind }
 {
-    kind_of(item) as u8 == kind as u8
+    kind_of(item) == kind
 }
 
 /// How many items of a kind there are.

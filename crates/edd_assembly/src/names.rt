@@ -52,7 +52,7 @@ impl NameSection {
             ≡ self.old.bytes.items ++ flat_map (λ n. n) (names_of_kind kind (item_of (λ r. r) item.now ∷ []))) }
     {
         let (of, name) = kind_and_name(item);
-        if of as u8 == kind as u8 {
+        if of == kind {
             self.push(name)?;
         }
         Ok(())

@@ -10,7 +10,7 @@ ghost use Rattle.edd_attrs.specs.Rows as rows;
 ghost use Rattle.edd_attrs.specs.Trees as trees;
 ghost use Rattle.edd_attrs.specs.Views as views;
 
-use crate::items::{attributes_of, has_kind, kind_and_index, tree_in};
+use crate::items::{attributes_of, has_kind, tree_in};
 use crate::trees::Tree;
 use edd_syntax::item::{Attribute, Identification, Item};
 use edd_syntax::numbers::{AttrRef, Kind};
@@ -119,7 +119,6 @@ pub fn tree_by<'a>(
     ensures { option_map views.tree_of result
         ≡ trees.tree_at (description (identification_of identification) (map (item_of (λ r. r)) items.now)) row }
 {
-    let (kind, number) = kind_and_index(row.item);
-    let attributes = attributes_by(index, items, kind, number)?;
+    let attributes = attributes_by(index, items, row.item.kind(), row.item.index())?;
     tree_in(attributes, row.attr, row.sub)
 }

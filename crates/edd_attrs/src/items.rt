@@ -1,7 +1,6 @@
 //! The item of a row, and the tree of a row in it.
 
 ghost use Rattle.std.specs.Prelude.{◌≡◌, ◌∷◌, map, option_map, slice_get};
-ghost use Rattle.edd_syntax.specs.Attributes as attributes;
 ghost use Rattle.edd_syntax.specs.Item.{kind_of_item};
 ghost use Rattle.edd_syntax.specs.ItemView.{attribute_of, identification_of, item_of, transaction_part_of};
 ghost use Rattle.edd_syntax.specs.Numbers as numbers;
@@ -10,29 +9,10 @@ ghost use Rattle.edd_attrs.specs.Rows as rows;
 ghost use Rattle.edd_attrs.specs.Trees as trees;
 ghost use Rattle.edd_attrs.specs.Views as views;
 
-use crate::trees::{Tree, is_same, tree_among};
+use crate::trees::{Tree, tree_among};
 use edd_syntax::item::{Attribute, Identification, Item, TransactionPart};
 use edd_syntax::numbers::{Attr, AttrRef, ItemNo, Kind};
 use edd_syntax::reference::Target;
-
-fn is_same_kind(a: Kind, b: Kind) -> bool
-    ensures { result ≡ numbers.same_kind a b }
-{
-    a as u8 == b as u8
-}
-
-pub fn kind_and_index(number: ItemNo) -> (Kind, u16)
-    ensures kind { result.0 ≡ numbers.kind_of number }
-    ensures index { result.1 ≡ numbers.index_of number }
-{
-    match number {
-        ItemNo::Variable(n) => (Kind::Variable, n.0),
-        ItemNo::Command(n) => (Kind::Command, n.0),
-        ItemNo::Menu(n) => (Kind::Menu, n.0),
-        ItemNo::Collection(n) => (Kind::Collection, n.0),
-        ItemNo::Method(n) => (Kind::Method, n.0),
-    }
-}
 
 fn kind_of(item: &Item<Target>) -> Kind
     ensures { result ≡ kind_of_item (item_of (λ r. r) item.now).sort }
@@ -50,7 +30,7 @@ fn kind_of(item: &Item<Target>) -> Kind
 pub fn has_kind(item: &Item<Target>, kind: Kind) -> bool
     ensures { result ≡ numbers.same_kind (kind_of_item (item_of (λ r. r) item.now).sort) kind }
 {
-    is_same_kind(kind_of(item), kind)
+    kind_of(item) == kind
 }
 
 /// The attributes of an item.
@@ -133,7 +113,7 @@ fn tree_of_transaction_part<'a>(part: &'a TransactionPart<Target>, attr: Attr) -
         TransactionPart::Request(all) => (Attr::Request, Tree::Data(all)),
         TransactionPart::Reply(all) => (Attr::Reply, Tree::Data(all)),
     };
-    if is_same(of, attr) { Some(tree) } else { None }
+    if of == attr { Some(tree) } else { None }
 }
 
 fn tree_among_transaction_parts<'a>(
@@ -155,24 +135,18 @@ fn tree_of_transaction<'a>(transaction: Transaction<'a>, attr: Attr) -> Option<T
     ensures { option_map views.tree_of result ≡ trees.first_tree attr (views.transaction_of transaction.entry) }
 {
     let (number, parts) = transaction;
-    if is_same(Attr::Transaction, attr) {
+    if attr == Attr::Transaction {
         Some(Tree::Transaction(number))
     } else {
         tree_among_transaction_parts(parts, attr)
     }
 }
 
-fn is_of_transaction(attr: Attr) -> bool
-    ensures { result ≡ attributes.is_of_transaction attr }
-{
-    matches!(attr, Attr::Transaction | Attr::Request | Attr::Reply)
-}
-
 /// The tree of an attribute among these.
 pub fn tree_in<'a>(attributes: &'a [Attribute<Target>], attr: Attr, sub: u16) -> Option<Tree<'a>>
     ensures { option_map views.tree_of result ≡ trees.tree_in (map (attribute_of (λ r. r)) attributes.now) attr sub }
 {
-    if is_of_transaction(attr) {
+    if attr.is_of_transaction() {
         let transaction = transaction_at(attributes, sub)?;
         tree_of_transaction(transaction, attr)
     } else {
@@ -190,7 +164,6 @@ pub fn tree_at<'a>(
     ensures { option_map views.tree_of result
         ≡ trees.tree_at (description (identification_of identification) (map (item_of (λ r. r)) items.now)) row }
 {
-    let (kind, index) = kind_and_index(row.item);
-    let attributes = attributes_at(items, kind, index)?;
+    let attributes = attributes_at(items, row.item.kind(), row.item.index())?;
     tree_in(attributes, row.attr, row.sub)
 }

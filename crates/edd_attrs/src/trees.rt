@@ -2,7 +2,6 @@
 
 ghost use Rattle.std.specs.Prelude.{◌≡◌, map, option_map};
 ghost use Rattle.edd_syntax.specs.ItemView.{attribute_of, type_part_of};
-ghost use Rattle.edd_syntax.specs.Numbers as numbers;
 ghost use Rattle.edd_attrs.specs.Trees as trees;
 ghost use Rattle.edd_attrs.specs.Views as views;
 
@@ -33,12 +32,6 @@ pub enum Tree<'a> {
     Members(&'a [Member<Target>]),
 }
 
-pub fn is_same(a: Attr, b: Attr) -> bool
-    ensures { result ≡ numbers.same_attr a b }
-{
-    a as u8 == b as u8
-}
-
 // The tree of a part of a type.
 fn tree_of_part<'a>(part: &'a TypePart<Target>, attr: Attr) -> Option<Tree<'a>>
     ensures { option_map views.tree_of result ≡ trees.first_tree attr (trees.trees_of_part (type_part_of (λ r. r) part.now)) }
@@ -51,7 +44,7 @@ fn tree_of_part<'a>(part: &'a TypePart<Target>, attr: Attr) -> Option<Tree<'a>>
         TypePart::EditFormat { format, .. } => (Attr::EditFormat, Tree::Texts(format)),
         TypePart::Element(_) => return None,
     };
-    if is_same(of, attr) { Some(tree) } else { None }
+    if of == attr { Some(tree) } else { None }
 }
 
 fn tree_among_parts<'a>(parts: &'a [TypePart<Target>], attr: Attr) -> Option<Tree<'a>>
@@ -77,7 +70,7 @@ fn tree_of<'a>(attribute: &'a Attribute<Target>, attr: Attr) -> Option<Tree<'a>>
         Attribute::ConstantUnit(c) => (Attr::ConstantUnit, Tree::Texts(c)),
         Attribute::Validity(c) => (Attr::Validity, Tree::Validity(c)),
         Attribute::TypeOf { parts, .. } => {
-            if !is_same(Attr::Enumerators, attr) {
+            if attr != Attr::Enumerators {
                 return tree_among_parts(parts, attr);
             }
             (Attr::Enumerators, Tree::Enumerators(parts))
@@ -89,7 +82,7 @@ fn tree_of<'a>(attribute: &'a Attribute<Target>, attr: Attr) -> Option<Tree<'a>>
         Attribute::Members(members) => (Attr::Members, Tree::Members(members)),
         Attribute::Transaction { .. } | Attribute::Definition(_) => return None,
     };
-    if is_same(of, attr) { Some(tree) } else { None }
+    if of == attr { Some(tree) } else { None }
 }
 
 /// The tree of an attribute other than those of transactions.

@@ -5,8 +5,8 @@ ghost use Rattle.edd_syntax.specs.TreeView.{expr_of};
 ghost use Rattle.edd_code.specs.Blocks.{WhenNotZero, WhenZero, Either, Straight, Then, bytes_at};
 ghost use Rattle.edd_code.specs.Expressions.{item_block, read_block, unary_block, truth_block, then_test, instead, no_value, expression_block};
 
-use crate::emit::{close, open_if_not_zero, open_if_zero, open_jump, put};
-use edd_image::Instruction;
+use crate::emit::{close, open, put};
+use edd_image::{Emitter, Instruction, Jump};
 use edd_syntax::expr::Expr;
 use edd_syntax::numbers::ItemNo;
 use edd_syntax::operators::UnaryOperator;
@@ -14,8 +14,8 @@ use edd_syntax::reference::Target;
 use std::alloc::AllocError;
 
 #[tactic(auto, unfolding(crate::specs::Blocks::emitted, crate::specs::Blocks::bytes_of))]
-fn write_item(code: &mut Vec<u8>, item: ItemNo) -> Result<(), AllocError>
-    ensures { OnOk result (code.new.items ≡ code.old.items ++ bytes_at (length code.old.items) (item_block item)) }
+fn write_item(code: &mut Emitter, item: ItemNo) -> Result<(), AllocError>
+    ensures { OnOk result (code.new ≡ code.old ++ bytes_at (length code.old) (item_block item)) }
 {
     match item {
         ItemNo::Variable(variable) => put(code, Instruction::Variable(variable)),
@@ -26,8 +26,8 @@ fn write_item(code: &mut Vec<u8>, item: ItemNo) -> Result<(), AllocError>
 }
 
 #[tactic(auto, unfolding(crate::specs::Blocks::emitted, crate::specs::Blocks::bytes_of))]
-fn write_read(code: &mut Vec<u8>, from: Target) -> Result<(), AllocError>
-    ensures { OnOk result (code.new.items ≡ code.old.items ++ bytes_at (length code.old.items) (read_block from)) }
+fn write_read(code: &mut Emitter, from: Target) -> Result<(), AllocError>
+    ensures { OnOk result (code.new ≡ code.old ++ bytes_at (length code.old) (read_block from)) }
 {
     match from {
         Target::Item(item) => write_item(code, item),
@@ -36,8 +36,8 @@ fn write_read(code: &mut Vec<u8>, from: Target) -> Result<(), AllocError>
 }
 
 #[tactic(auto, unfolding(crate::specs::Blocks::emitted, crate::specs::Blocks::bytes_of))]
-fn write_unary(code: &mut Vec<u8>, op: UnaryOperator) -> Result<(), AllocError>
-    ensures { OnOk result (code.new.items ≡ code.old.items ++ bytes_at (length code.old.items) (unary_block op)) }
+fn write_unary(code: &mut Emitter, op: UnaryOperator) -> Result<(), AllocError>
+    ensures { OnOk result (code.new ≡ code.old ++ bytes_at (length code.old) (unary_block op)) }
 {
     match op {
         UnaryOperator::Plus => Ok(()),
@@ -48,8 +48,8 @@ fn write_unary(code: &mut Vec<u8>, op: UnaryOperator) -> Result<(), AllocError>
 }
 
 #[tactic(auto, unfolding(crate::specs::Blocks::emitted, crate::specs::Blocks::bytes_of))]
-fn write_truth(code: &mut Vec<u8>) -> Result<(), AllocError>
-    ensures { OnOk result (code.new.items ≡ code.old.items ++ bytes_at (length code.old.items) truth_block) }
+fn write_truth(code: &mut Emitter) -> Result<(), AllocError>
+    ensures { OnOk result (code.new ≡ code.old ++ bytes_at (length code.old) truth_block) }
 {
     put(code, Instruction::Not)?;
     put(code, Instruction::Not)
@@ -58,9 +58,9 @@ fn write_truth(code: &mut Vec<u8>) -> Result<(), AllocError>
 /// The code of an expression, which leaves its value on top of the operands.
 #[cycle(expressions)]
 #[tactic(auto, using(crate::proofs::Writing::goes_on, crate::proofs::Writing::one_more), unfolding(crate::specs::Expressions::expression_block))]
-pub fn write_expression(code: &mut Vec<u8>, e: &Expr<Target>) -> Result<(), AllocError>
-    ensures { OnOk result (code.new.items
-        ≡ code.old.items ++ bytes_at (length code.old.items) (expression_block (expr_of (λ r. r) e.now))) }
+pub fn write_expression(code: &mut Emitter, e: &Expr<Target>) -> Result<(), AllocError>
+    ensures { OnOk result (code.new
+        ≡ code.old ++ bytes_at (length code.old) (expression_block (expr_of (λ r. r) e.now))) }
 {
     match e {
         Expr::Literal(value) => put(code, Instruction::Push(*value)),
@@ -101,11 +101,11 @@ pub fn write_expression(code: &mut Vec<u8>, e: &Expr<Target>) -> Result<(), Allo
 // The left operand, and the right one on top of it.
 #[cycle(expressions)]
 fn write_two(
-    code: &mut Vec<u8>,
+    code: &mut Emitter,
     left: &Expr<Target>,
     right: &Expr<Target>,
 ) -> Result<(), AllocError>
-    ensures { OnOk result (code.new.items ≡ code.old.items ++ bytes_at (length code.old.items)
+    ensures { OnOk result (code.new ≡ code.old ++ bytes_at (length code.old)
         (Then (expression_block (expr_of (λ r. r) left.now)) (expression_block (expr_of (λ r. r) right.now)))) }
 {
     write_expression(code, left)?;
@@ -114,12 +114,12 @@ fn write_two(
 
 // What stands behind the left side of `&&`.
 #[cycle(expressions)]
-fn write_and(code: &mut Vec<u8>, right: &Expr<Target>) -> Result<(), AllocError>
-    ensures { OnOk result (code.new.items ≡ code.old.items ++ bytes_at (length code.old.items)
+fn write_and(code: &mut Emitter, right: &Expr<Target>) -> Result<(), AllocError>
+    ensures { OnOk result (code.new ≡ code.old ++ bytes_at (length code.old)
         (then_test (WhenNotZero (instead (expression_block (expr_of (λ r. r) right.now)))))) }
 {
     put(code, Instruction::Duplicate)?;
-    let hole = open_if_zero(code)?;
+    let hole = open(code, Jump::IfZero)?;
     write_instead(code, right)?;
     close(code, hole);
     Ok(())
@@ -127,13 +127,13 @@ fn write_and(code: &mut Vec<u8>, right: &Expr<Target>) -> Result<(), AllocError>
 
 // What stands behind the left side of `||`.
 #[cycle(expressions)]
-fn write_or(code: &mut Vec<u8>, right: &Expr<Target>) -> Result<(), AllocError>
-    ensures { OnOk result (code.new.items ≡ code.old.items ++ bytes_at (length code.old.items)
+fn write_or(code: &mut Emitter, right: &Expr<Target>) -> Result<(), AllocError>
+    ensures { OnOk result (code.new ≡ code.old ++ bytes_at (length code.old)
         (Then truth_block (then_test (WhenZero (instead (expression_block (expr_of (λ r. r) right.now))))))) }
 {
     write_truth(code)?;
     put(code, Instruction::Duplicate)?;
-    let hole = open_if_not_zero(code)?;
+    let hole = open(code, Jump::IfNotZero)?;
     write_instead(code, right)?;
     close(code, hole);
     Ok(())
@@ -141,8 +141,8 @@ fn write_or(code: &mut Vec<u8>, right: &Expr<Target>) -> Result<(), AllocError>
 
 // The truth of the right side, in place of the topmost operand.
 #[cycle(expressions)]
-fn write_instead(code: &mut Vec<u8>, right: &Expr<Target>) -> Result<(), AllocError>
-    ensures { OnOk result (code.new.items ≡ code.old.items ++ bytes_at (length code.old.items)
+fn write_instead(code: &mut Emitter, right: &Expr<Target>) -> Result<(), AllocError>
+    ensures { OnOk result (code.new ≡ code.old ++ bytes_at (length code.old)
         (instead (expression_block (expr_of (λ r. r) right.now)))) }
 {
     put(code, Instruction::Pop)?;
@@ -153,16 +153,16 @@ fn write_instead(code: &mut Vec<u8>, right: &Expr<Target>) -> Result<(), AllocEr
 // Behind a test, the expression that it chooses.
 #[cycle(expressions)]
 fn write_either(
-    code: &mut Vec<u8>,
+    code: &mut Emitter,
     first: &Expr<Target>,
     second: &Expr<Target>,
 ) -> Result<(), AllocError>
-    ensures { OnOk result (code.new.items ≡ code.old.items ++ bytes_at (length code.old.items)
+    ensures { OnOk result (code.new ≡ code.old ++ bytes_at (length code.old)
         (Either (expression_block (expr_of (λ r. r) first.now)) (expression_block (expr_of (λ r. r) second.now)))) }
 {
-    let otherwise = open_if_zero(code)?;
+    let otherwise = open(code, Jump::IfZero)?;
     write_expression(code, first)?;
-    let end = open_jump(code)?;
+    let end = open(code, Jump::Always)?;
     close(code, otherwise);
     write_expression(code, second)?;
     close(code, end);

@@ -7,7 +7,7 @@ mod expression_laws;
 mod laws;
 mod method_laws;
 
-pub use emit::{close, open_case, open_if_not_zero, open_if_zero, open_jump, put};
+pub use emit::{close, open, put};
 pub use expression::write_expression;
 pub use expression_laws::{
     expressions_are_short, expressions_are_spelled, expressions_flow, expressions_mean_their_values,

@@ -8,40 +8,14 @@ use crate::fault::ShowFault;
 use crate::lines::print;
 use crate::page::Page;
 use crate::records::push_records;
-use crate::words::{attribute_word, kind_word, type_word};
+use crate::words::type_word;
 use edd_image::{Counts, Record, VarKind};
 use edd_loader::Image;
 use edd_machine::{ReadFault, Values, attribute_of_device};
-use edd_syntax::numbers::{
-    Attr, AttrRef, CmdNo, CollNo, ItemNo, KINDS, Kind, MenuNo, MethNo, VarNo,
-};
+use edd_syntax::numbers::{ATTRIBUTES, Attr, AttrRef, ItemNo, KINDS, Kind};
 use std::alloc::Global;
 use std::fmt::Write as _;
 use std::io::Write;
-
-/// The attributes that stand before those of the transactions, by their numbers.
-const BEFORE_TRANSACTIONS: [Attr; 14] = [
-    Attr::Label,
-    Attr::Help,
-    Attr::Class,
-    Attr::Handling,
-    Attr::ConstantUnit,
-    Attr::Validity,
-    Attr::DefaultValue,
-    Attr::MinValue,
-    Attr::MaxValue,
-    Attr::DisplayFormat,
-    Attr::EditFormat,
-    Attr::Enumerators,
-    Attr::Number,
-    Attr::Operation,
-];
-
-/// Those of a transaction.
-const OF_TRANSACTIONS: [Attr; 3] = [Attr::Transaction, Attr::Request, Attr::Reply];
-
-/// Those behind the transactions.
-const BEHIND_TRANSACTIONS: [Attr; 3] = [Attr::ResponseCodes, Attr::Items, Attr::Members];
 
 // What a read of an attribute comes to.
 #[derive(Drop)]
@@ -101,29 +75,8 @@ fn print_attribute<W: Write>(
     if is_empty {
         return Ok(());
     }
-    let word = String::from_str(alloc, attribute_word(row.attr))?;
+    let word = String::from_str(alloc, row.attr.word())?;
     print_found(alloc, page, word, found, out)
-}
-
-fn print_attributes<W: Write>(
-    alloc: Global,
-    page: &Page<'_>,
-    values: &Values,
-    item: ItemNo,
-    attributes: &[Attr],
-    out: &mut W,
-) -> Result<(), ShowFault>
-    requires { AreDeviceValues (types_in page.now.image.now) values.now.numbers.items }
-{
-    for attr in attributes {
-        let row = AttrRef {
-            item,
-            attr: *attr,
-            sub: 0,
-        };
-        print_attribute(alloc, page, values, row, out)?;
-    }
-    Ok(())
 }
 
 // The three lines of a transaction, if there is one at this position.
@@ -137,13 +90,16 @@ fn print_transaction<W: Write>(
 ) -> Result<bool, ShowFault>
     requires { AreDeviceValues (types_in page.now.image.now) values.now.numbers.items }
 {
-    for attr in OF_TRANSACTIONS {
+    for attr in ATTRIBUTES {
+        if !attr.is_of_transaction() {
+            continue;
+        }
         let row = AttrRef { item, attr, sub };
         let found = read(alloc, page, row, values)?;
         if attr == Attr::Transaction && matches!(&found, Found::Nothing) {
             return Ok(false);
         }
-        let word = format!(in alloc; "{}[{sub}]", attribute_word(attr))?;
+        let word = format!(in alloc; "{}[{sub}]", attr.word())?;
         print_found(alloc, page, word, found, out)?;
     }
     Ok(true)
@@ -166,14 +122,43 @@ fn print_transactions<W: Write>(
     Ok(())
 }
 
-fn item_number(kind: Kind, number: u16) -> ItemNo {
-    match kind {
-        Kind::Variable => ItemNo::Variable(VarNo(number)),
-        Kind::Command => ItemNo::Command(CmdNo(number)),
-        Kind::Menu => ItemNo::Menu(MenuNo(number)),
-        Kind::Collection => ItemNo::Collection(CollNo(number)),
-        Kind::Method => ItemNo::Method(MethNo(number)),
+// The line of an attribute. Those of transactions stand together, at the place of TRANSACTION.
+fn print_attribute_of<W: Write>(
+    alloc: Global,
+    page: &Page<'_>,
+    values: &Values,
+    item: ItemNo,
+    attr: Attr,
+    out: &mut W,
+) -> Result<(), ShowFault>
+    requires { AreDeviceValues (types_in page.now.image.now) values.now.numbers.items }
+{
+    if attr == Attr::Transaction {
+        return print_transactions(alloc, page, values, item, out);
     }
+    if attr.is_of_transaction() {
+        return Ok(());
+    }
+    print_attribute(alloc, page, values, AttrRef { item, attr, sub: 0 }, out)
+}
+
+// The attributes that an item of this kind may have, by their numbers.
+fn print_attributes<W: Write>(
+    alloc: Global,
+    page: &Page<'_>,
+    values: &Values,
+    kind: Kind,
+    item: ItemNo,
+    out: &mut W,
+) -> Result<(), ShowFault>
+    requires { AreDeviceValues (types_in page.now.image.now) values.now.numbers.items }
+{
+    for attr in ATTRIBUTES {
+        if attr.may_belong_to(kind) {
+            print_attribute_of(alloc, page, values, item, attr, out)?;
+        }
+    }
+    Ok(())
 }
 
 // The first line of an item: a variable has its type and its size behind its name.
@@ -184,7 +169,7 @@ fn print_head<W: Write>(
     item: ItemNo,
     out: &mut W,
 ) -> Result<(), ShowFault> {
-    let (word, name) = (kind_word(kind), page.name(item));
+    let (word, name) = (kind.word(), page.name(item));
     let of: Option<VarKind> = match item {
         ItemNo::Variable(number) => page.image.variable(number),
         _ => None,
@@ -211,16 +196,12 @@ fn print_item<W: Write>(
 ) -> Result<(), ShowFault>
     requires { IsTrue are_good → AreDeviceValues (types_in page.now.image.now) values.now.numbers.items }
 {
-    let item = item_number(kind, number);
+    let item = kind.item(number);
     print_head(alloc, page, kind, item, out)?;
     if !are_good {
         return Err(ShowFault::WrongValues);
     }
-    print_attributes(alloc, page, values, item, &BEFORE_TRANSACTIONS, out)?;
-    if kind == Kind::Command {
-        print_transactions(alloc, page, values, item, out)?;
-    }
-    print_attributes(alloc, page, values, item, &BEHIND_TRANSACTIONS, out)
+    print_attributes(alloc, page, values, kind, item, out)
 }
 
 fn count_of(counts: &Counts, kind: Kind) -> u16 {

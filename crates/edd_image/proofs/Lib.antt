@@ -1,6 +1,7 @@
 pub mod AnsweredStates
 pub mod BoundedRuns
 pub mod Cutting
+pub mod KnownInstructions
 pub mod LayoutFields
 pub mod LayoutRows
 pub mod LayoutValid

@@ -1,9 +1,8 @@
 -- A running state of a valid unit has a step, to a state again; and so a valid unit opens.
-use Rattle.std.proofs.Common.{◌≡◌, ℤ, ℕ, zero, suc, ◌+◌, ◌-◌, ◌<◌, ◌≤◌, Bool, true, nat_eq, nat_lt, pos, List, [], ◌∷◌, ◌++◌, length, Option, Some, None, refl, sym, ap, subst, ◌∙◌, ◌⊎◌, inl, inr, arith}
-use Rattle.std.specs.Prelude.{IfSome, IsTrue, replicate}
-use Rattle.std.specs.List.{AllByRecursion, list_all}
-use Rattle.std.specs.Option.{option_to_list}
-use Rattle.std.proofs.lemmas.Bool.{or_left, eq-eqb, ltb-true, and_parts, or_cases, eqb-true}
+use Rattle.std.proofs.Common.{◌≡◌, ℤ, ℕ, zero, suc, ◌+◌, ◌-◌, ◌<◌, ◌≤◌, true, nat_eq, nat_lt, pos, List, [], ◌∷◌, length, Option, Some, None, refl, sym, ap, subst, ◌∙◌, ◌⊎◌, inl, inr, arith}
+use Rattle.std.specs.Prelude.{IsTrue, replicate}
+use Rattle.std.specs.List.{AllByRecursion}
+use Rattle.std.proofs.lemmas.Bool.{or_left, eq-eqb, ltb-true, and_parts, eqb-true}
 use Rattle.std.proofs.lemmas.List.{length-replicate}
 use Rattle.edd_syntax.specs.DeviceValues.{AreDeviceValues}
 use Rattle.edd_image.specs.declared.records.Status.{Status}
@@ -13,75 +12,13 @@ use Rattle.edd_image.specs.declared.unit.Sort.{Sort}
 use Rattle.edd_image.specs.declared.unit.Way.{Way}
 use Rattle.edd_image.specs.declared.unit.Context.{Context}
 use Rattle.edd_image.specs.Decoding.{◌>>=◌, instruction_at}
-use Rattle.edd_image.specs.Units.{Placed, before, instructions_from, instructions, end_of, takes, onward, jump, ways, is_start, is_forward, lands, AreDepths, IsFresh, IsValidUnit}
+use Rattle.edd_image.specs.Units.{Placed, before, instructions_from, instructions, end_of, takes, onward, jump, ways, is_start, AreDepths, IsFresh, IsValidUnit}
 use Rattle.edd_image.specs.Steps.{RunningUnit, State, Environment, Effect, StandsWith, Stands, IsState, opening, act, step, if_running}
+use Rattle.edd_image.proofs.KnownInstructions.{pick, Known, all_known, of_two, if_some_at}
 use Rattle.edd_image.proofs.Lengths.{instruction_inside}
 use Rattle.edd_image.proofs.Progress.{AllFit, Arrives, Arrived, zero_fits, instruction_acts}
 
--- ---- the instructions of a unit
-
-each_two : {X : Type 0} {P Q R : X → Type 0} (xs : List X) → ((x : X) → P x → Q x → R x) → AllByRecursion P xs → AllByRecursion Q xs → AllByRecursion R xs
-each_two [] f g h = tt
-each_two (x ∷ xs) f g h = (f x g.0 h.0, each_two xs f g.1 h.1)
-
--- what is known of each instruction is known of the one that starts at a place
-pick : (P : Placed → Type 0) (xs : List Placed) (q : ℕ) → AllByRecursion P xs → is_start xs q ≡ true → (x : Placed) × (x.place ≡ q) × P x
-pick P [] q h e = absurd cc
-pick P (x ∷ xs) q h e = elim (or_cases (nat_eq x.place q) (is_start xs q) e) [
-  | inl here ↦ (x, eqb-true x.place q here, h.0)
-  | inr there ↦ pick P xs q h.1 there
-]
-
-all_pass : {X : Type 0} (p : X → Bool) (xs : List X) → list_all p xs ≡ true → AllByRecursion (λ x. p x ≡ true) xs
-all_pass p [] e = tt
-all_pass p (x ∷ xs) e =
-    let parts = and_parts (p x) (list_all p xs) e in
-    (parts.0, all_pass p xs parts.1)
-
--- each of the instructions stands where it is said to
-abbrev pub StandsIn : List ℕ → Placed → Type 0
-StandsIn code x = instruction_at code x.place ≡ Some (x.instruction, x.next)
-
-stand_before : (code : List ℕ) (place : ℕ) (o : Option (Instruction × ℕ)) (f : ℕ → List Placed) → instruction_at code place ≡ o → ((next : ℕ) → AllByRecursion (StandsIn code) (f next)) → AllByRecursion (StandsIn code) (before place o f)
-stand_before code place None f e h = tt
-stand_before code place (Some found) f e h = (e, h found.1)
-
-stand_from : (n : ℕ) (code : List ℕ) (place : ℕ) → AllByRecursion (StandsIn code) (instructions_from n code place)
-unfolding instructions_from
-stand_from zero code place = tt
-stand_from (suc n) code place = stand_before code place (instruction_at code place) _ refl (λ next. stand_from n code next)
-
-all_stand : (code : List ℕ) → AllByRecursion (StandsIn code) (instructions code)
-unfolding instructions
-all_stand code = stand_from (length code) code 0
-
--- what the rules say of one instruction
-pub record Known (code : List ℕ) (depth : ℕ → ℕ) (x : Placed) : Type 0 where
-  pub stands : StandsIn code x
-  pub enough : takes x.instruction ≤ depth x.place
-  pub agrees : AllByRecursion (λ w. depth w.to ≡ depth x.place - takes x.instruction + w.leaves) (ways x)
-  pub lands_on : AllByRecursion (λ w. is_start (instructions code) w.to ≡ true) (ways x)
-
-all_known : (context : Context) (code : List ℕ) (depth : ℕ → ℕ) → IsValidUnit context code → AreDepths (instructions code) depth → AllByRecursion (Known code depth) (instructions code)
-all_known context code depth valid d =
-    let xs = instructions code in
-    let landing = all_pass (lands context.sort xs) xs valid.jumps in
-    let ways_known = each_two {R = λ x. AllByRecursion (λ w. depth w.to ≡ depth x.place - takes x.instruction + w.leaves) (ways x) × AllByRecursion (λ w. is_start xs w.to ≡ true) (ways x)} xs
-    (λ x p q. (p, all_pass (λ w. is_start xs w.to) (ways x) (and_parts (is_forward context.sort x) _ q).1)) d.agree landing in
-    let first = each_two {R = λ x. StandsIn code x × (takes x.instruction ≤ depth x.place)} xs (λ x p q. (p, q)) (all_stand code) d.enough in
-    each_two {R = Known code depth} xs (λ x p q. record { stands = p.0; enough = p.1; agrees = q.0; lands_on = q.1 }) first ways_known
-
 -- ---- ways
-
-of_two : (P : Way → Type 0) (o j : Option Way) → AllByRecursion P (option_to_list o ++ option_to_list j) → IfSome o P × IfSome j P
-of_two P None None h = (tt, tt)
-of_two P None (Some w) h = (tt, h.0)
-of_two P (Some v) None h = (h.0, tt)
-of_two P (Some v) (Some w) h = (h.0, h.1.0)
-
-if_some_at : (P : Way → Type 0) (o : Option Way) (w : Way) → IfSome o P → o ≡ Some w → P w
-if_some_at P None w h e = absurd cc
-if_some_at P (Some v) w h e = let same : v ≡ w = cc in subst P same h
 
 -- a way of which a fact holds
 on_way : (P : Way → Type 0) (x : Placed) (w : Way) → AllByRecursion P (ways x) → (onward x.instruction x.next ≡ Some w) ⊎ (jump x.instruction ≡ Some w) → P w
@@ -91,8 +28,8 @@ on_way P x w h (inr e) = if_some_at P (jump x.instruction) w (of_two P (onward x
 -- ---- the next state
 
 -- where a way leads, an instruction stands with the number of operands that belongs there
-stands_again : (code : List ℕ) (depth : ℕ → ℕ) → AreDepths (instructions code) depth → (x : Placed) → Known code depth x → (s t : State) (more : ℕ) → length s.operands ≡ depth x.place → Arrives x.instruction x.next s t more → StandsWith code t.place (more + length t.operands)
-stands_again code depth d x k s t more here way =
+stands_again : (context : Context) (code : List ℕ) (depth : ℕ → ℕ) → AreDepths (instructions code) depth → (x : Placed) → Known context code depth x → (s t : State) (more : ℕ) → length s.operands ≡ depth x.place → Arrives x.instruction x.next s t more → StandsWith code t.place (more + length t.operands)
+stands_again context code depth d x k s t more here way =
     let w = way.0 in
     let lands_there : is_start (instructions code) w.to ≡ true = on_way (λ v. is_start (instructions code) v.to ≡ true) x w k.lands_on way.1 in
     let number : depth w.to ≡ depth x.place - takes x.instruction + w.leaves = on_way (λ v. depth v.to ≡ depth x.place - takes x.instruction + v.leaves) x w k.agrees way.1 in
@@ -103,12 +40,12 @@ stands_again code depth d x k s t more here way =
       operands = way.2.1 ∙ ap (λ (n : ℕ). n - takes x.instruction + w.leaves) here ∙ sym number ∙ ap depth (sym way.2.0);
     }
 
-stands_by : (code : List ℕ) (depth : ℕ → ℕ) → AreDepths (instructions code) depth → (x : Placed) → Known code depth x → (s t : State) (st : Status) → length s.operands ≡ depth x.place → t.unit.code ≡ code → Arrived x.instruction x.next s t st → Stands t st
-stands_by code depth d x k s t Running here same way = subst (λ (c : List ℕ). StandsWith c t.place (length t.operands)) (sym same) (subst (λ (n : ℕ). StandsWith code t.place n) (omega arith) (stands_again code depth d x k s t 0 here way))
-stands_by code depth d x k s t (Asking r) here same way = subst (λ (c : List ℕ). StandsWith c t.place (suc (length t.operands))) (sym same) (subst (λ (n : ℕ). StandsWith code t.place n) (omega arith) (stands_again code depth d x k s t 1 here way))
-stands_by code depth d x k s t Ended here same way = tt
-stands_by code depth d x k s t Aborted here same way = tt
-stands_by code depth d x k s t (Trapped why) here same way = tt
+stands_by : (context : Context) (code : List ℕ) (depth : ℕ → ℕ) → AreDepths (instructions code) depth → (x : Placed) → Known context code depth x → (s t : State) (st : Status) → length s.operands ≡ depth x.place → t.unit.code ≡ code → Arrived x.instruction x.next s t st → Stands t st
+stands_by context code depth d x k s t Running here same way = subst (λ (c : List ℕ). StandsWith c t.place (length t.operands)) (sym same) (subst (λ (n : ℕ). StandsWith code t.place n) (omega arith) (stands_again context code depth d x k s t 0 here way))
+stands_by context code depth d x k s t (Asking r) here same way = subst (λ (c : List ℕ). StandsWith c t.place (suc (length t.operands))) (sym same) (subst (λ (n : ℕ). StandsWith code t.place n) (omega arith) (stands_again context code depth d x k s t 1 here way))
+stands_by context code depth d x k s t Ended here same way = tt
+stands_by context code depth d x k s t Aborted here same way = tt
+stands_by context code depth d x k s t (Trapped why) here same way = tt
 
 step_is : (env : Environment) (s : State) (found : Instruction × ℕ) (o : Option Effect) → s.status ≡ Running → instruction_at s.unit.code s.place ≡ Some found → act env found.0 found.1 s ≡ o → step env s ≡ o
 unfolding step
@@ -124,7 +61,7 @@ next_in_unit context env s valid is running =
     let code = s.unit.code in
     let here : StandsWith code s.place (length s.operands) = subst (λ (st : Status). Stands s st) running is.stands in
     let depth = here.depth in
-    let at = pick (Known code depth) (instructions code) s.place (all_known context code depth valid here.depths) here.at_start in
+    let at = pick (Known context code depth) (instructions code) s.place (all_known context code depth valid here.depths) here.at_start in
     let x = at.0 in
     let k = at.2 in
     let count : length s.operands ≡ depth x.place = here.operands ∙ ap depth (sym at.1) in
@@ -140,7 +77,7 @@ next_in_unit context env s valid is running =
       (
         record {
           sort = ap (λ (u : RunningUnit). u.sort) goes.kept.unit ∙ is.sort;
-          stands = stands_by code depth here.depths x k s e.state e.state.status count (ap (λ (u : RunningUnit). u.code) goes.kept.unit) goes.arrived;
+          stands = stands_by context code depth here.depths x k s e.state e.state.status count (ap (λ (u : RunningUnit). u.code) goes.kept.unit) goes.arrived;
           operands = subst (λ (so : Sort). AllFit so e.state.operands) is.sort goes.operands;
           slot_count = goes.kept.slot_count ∙ is.slot_count;
           slots = subst (λ (so : Sort). AllFit so e.state.slots) is.sort goes.kept.slots;

@@ -9,6 +9,7 @@ use Rattle.edd_syntax.specs.declared.numbers.Attr.{Attr}
 use Rattle.edd_syntax.specs.declared.numbers.Attr.TheVariants as attr
 use Rattle.edd_syntax.specs.declared.numbers.AttrRef.{AttrRef}
 use Rattle.edd_syntax.specs.Numbers.{kind_number, kind_of, index_of, attr_number, same_attr, has_attr}
+use Rattle.edd_syntax.specs.Attributes.{is_of_transaction}
 use Rattle.edd_syntax.specs.DeviceValues.{VariableType}
 use Rattle.edd_image.specs.declared.records.Record.{Record}
 use Rattle.edd_image.specs.declared.records.Record.TheVariants as records
@@ -18,7 +19,7 @@ use Rattle.edd_image.specs.declared.records.Emitted.{Emitted}
 use Rattle.edd_image.specs.declared.records.Emitted.TheVariants as emitted
 use Rattle.edd_image.specs.References.{item_exists}
 use Rattle.edd_image.specs.Contents.{part, VariableFields, AttributeFields, Contents, contents_in}
-use Rattle.edd_image.specs.Validity.{type_of, is_of_transaction, sort_of, slots_of}
+use Rattle.edd_image.specs.Validity.{type_of, sort_of, slots_of}
 use Rattle.edd_image.specs.Steps.{Effect, State, Environment, opening, step}
 
 -- ---- the rows of an image

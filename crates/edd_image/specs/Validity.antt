@@ -1,13 +1,14 @@
 -- The rules on an image, in their order, and valid images.
 use Rattle.std.specs.Prelude.{ℕ, ◌+◌, ◌<◌, ◌==◌, Bool, true, false, not, ◌&&◌, ◌||◌, List, [], ◌∷◌, length, map, Option, Some, None, is_some, nat_lt, nat_le, IsTrue, if◌then◌else◌}
-use Rattle.std.specs.List.{AllByRecursion, list_all, list_any}
+use Rattle.std.specs.List.{AllByRecursion, list_all}
 use Rattle.std.specs.Option.{option_map_or}
 use Rattle.edd_syntax.specs.declared.numbers.ItemNo.{ItemNo}
 use Rattle.edd_syntax.specs.declared.numbers.Attr.{Attr}
 use Rattle.edd_syntax.specs.declared.numbers.Attr.TheVariants as attr
 use Rattle.edd_syntax.specs.declared.types.VarType.{VarType}
 use Rattle.edd_syntax.specs.declared.types.VarType.TheVariants as var_type
-use Rattle.edd_syntax.specs.Numbers.{kind_of, attr_number, same_attr, has_attr}
+use Rattle.edd_syntax.specs.Numbers.{kind_of, attr_number, attr_from_number, same_attr, has_attr}
+use Rattle.edd_syntax.specs.Attributes.{is_of_transaction}
 use Rattle.edd_syntax.specs.Names.{is_name, is_within}
 use Rattle.edd_image.specs.declared.parts.Counts.{Counts}
 use Rattle.edd_image.specs.declared.unit.Sort.{Sort}
@@ -58,36 +59,6 @@ are_variable_rows c = list_all is_variable_row c.variables
 abbrev pub are_name_rows : Contents → Bool
 are_name_rows c = list_all (λ r. r.padding == 0) c.names && fills 0 (map (λ r. r.span) c.names) (length c.name_bytes)
 
--- the attribute of a number
-abbrev pub attr_of : ℕ → Option Attr
-attr_of n =
-    if n == 1 then Some attr.Label else
-    if n == 2 then Some attr.Help else
-    if n == 3 then Some attr.Class else
-    if n == 4 then Some attr.Handling else
-    if n == 5 then Some attr.ConstantUnit else
-    if n == 6 then Some attr.Validity else
-    if n == 7 then Some attr.DefaultValue else
-    if n == 8 then Some attr.MinValue else
-    if n == 9 then Some attr.MaxValue else
-    if n == 10 then Some attr.DisplayFormat else
-    if n == 11 then Some attr.EditFormat else
-    if n == 12 then Some attr.Enumerators else
-    if n == 13 then Some attr.Number else
-    if n == 14 then Some attr.Operation else
-    if n == 15 then Some attr.Transaction else
-    if n == 16 then Some attr.Request else
-    if n == 17 then Some attr.Reply else
-    if n == 18 then Some attr.ResponseCodes else
-    if n == 19 then Some attr.Items else
-    if n == 20 then Some attr.Members else
-    if n == 21 then Some attr.Definition else
-    None
-
--- the attributes that each transaction of a command has
-abbrev pub is_of_transaction : Attr → Bool
-is_of_transaction a = list_any (same_attr a) (attr.Transaction ∷ attr.Request ∷ attr.Reply ∷ [])
-
 -- a transaction's position, at most 64 slots of a method, else 0
 abbrev pub sub_fits : Attr → ℕ → Bool
 sub_fits a sub = is_of_transaction a || (if same_attr a attr.Definition then nat_le sub 64 else sub == 0)
@@ -98,7 +69,7 @@ has_attribute counts item a sub = item_exists counts item && (has_attr (kind_of 
 
 abbrev pub is_attribute_row : Counts → AttributeFields → Bool
 is_attribute_row counts r =
-    option_map_or (λ item. option_map_or (λ a. has_attribute counts item a r.sub) (attr_of r.attribute) false) (item_of r.kind r.item) false
+    option_map_or (λ item. option_map_or (λ a. has_attribute counts item a r.sub) (attr_from_number r.attribute) false) (item_of r.kind r.item) false
     && r.padding == 0
 
 -- rows rise by kind, attribute, item and sub, and a method has one body

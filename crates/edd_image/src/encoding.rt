@@ -2,9 +2,8 @@
 
 ghost use Rattle.std.specs.Prelude.{◌≡◌, ℕ, ◌+◌, ◌≤◌, [], ◌∷◌, ◌++◌, length};
 ghost use Rattle.arrayvec.specs.ArrayVec.{array_vec_len};
-ghost use Rattle.edd_syntax.specs.Numbers.{kind_number, kind_of, index_of};
 ghost use Rattle.edd_image.specs.Layout.{u16, u32};
-ghost use Rattle.edd_image.specs.Spelling.{i64, jump_to, spelling, operator_code, comparison_code, ask_bytes, item_bytes, optional_number, optional_bytes};
+ghost use Rattle.edd_image.specs.Spelling.{i64, head_length, jump_to, spelling, operator_code, comparison_code, ask_bytes, item_bytes, optional_number, optional_bytes};
 
 use crate::instruction::{Ask, Instruction, Jump};
 use arrayvec::ArrayVec;
@@ -101,28 +100,13 @@ fn number_or_none(string: Option<StrNo>) -> u16
     }
 }
 
-// The number of its kind, and its own among the items of that kind.
-fn item_numbers(item: ItemNo) -> (u8, u16)
-    ensures kind { result.0 ≡ kind_number (kind_of item) }
-    ensures index { result.1 ≡ index_of item }
-{
-    match item {
-        ItemNo::Variable(number) => (1, number.0),
-        ItemNo::Command(number) => (2, number.0),
-        ItemNo::Menu(number) => (3, number.0),
-        ItemNo::Collection(number) => (4, number.0),
-        ItemNo::Method(number) => (5, number.0),
-    }
-}
-
 fn put_item(bytes: &mut Encoding, item: ItemNo)
     requires { array_vec_len bytes.old + 3 ≤ 13 }
     ensures items { bytes.new.items ≡ bytes.old.items ++ item_bytes item }
     ensures len { array_vec_len bytes.new ≡ array_vec_len bytes.old + 3 }
 {
-    let (kind, index) = item_numbers(item);
-    bytes.push(kind);
-    put(bytes, &index.to_be_bytes());
+    bytes.push(item.kind().number());
+    put(bytes, &item.index().to_be_bytes());
 }
 
 fn put_optional(bytes: &mut Encoding, string: Option<StrNo>)
@@ -190,7 +174,7 @@ fn member(name: StrNo, item: ItemNo, label: Option<StrNo>, help: Option<StrNo>) 
 /// The bytes of a jump before its target, which are four more.
 pub fn head(jump: Jump) -> Encoding
     ensures head { (target : ℕ) → result.items ++ u32 target ≡ spelling (jump_to jump target) }
-    ensures len { array_vec_len result ≤ 9 }
+    ensures len { array_vec_len result ≡ head_length jump }
 {
     match jump {
         Jump::Always => alone(0x30),

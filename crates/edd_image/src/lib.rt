@@ -32,10 +32,10 @@ pub use instruction::{Ask, Instruction, Jump};
 pub use laws::{
     answers_keep_the_state, fields_are_parts, followed_runs_agree, openings_are_states,
     read_is_spelled, readings_are_unique, requests_are_met, runs_keep_the_state, runs_may_be_cut,
-    sound_parts_are_valid, spelled_is_read, steps_are_counted, steps_keep_the_state, what_is_over_stays,
-    written_strings_are_read,
+    sound_parts_are_valid, spelled_is_read, steps_are_counted, steps_keep_the_state,
+    what_is_over_stays, written_strings_are_read,
 };
-pub use numbers::{attr_of, item_of, type_of};
+pub use numbers::{item_of, type_of};
 pub use parts::{AttributeRow, Counts, NameRow, Parts, StringRow, VarKind};
 pub use records::{Emitted, Record, Request, Status};
 pub use rows::{

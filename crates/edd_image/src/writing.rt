@@ -3,11 +3,9 @@
 ghost use Rattle.std.specs.Prelude.{◌≡◌, ◌≤◌, ◌<◌, ◌++◌, ◌↔◌, OnOk, IfOk, IsOk, vec_len};
 ghost use Rattle.std.specs.List.{AllByRecursion, flat_map};
 ghost use Rattle.edd_image.specs.declared.writing.WriteFault.TheVariants.{Memory};
-ghost use Rattle.edd_syntax.specs.Numbers.{kind_number, kind_of, index_of, attr_number};
 ghost use Rattle.edd_image.specs.Layout.{sections_of, magic, lengths, layout_length, identification, counts, header, layout, type_code, variable_row, name_row, attribute_key, attribute_row, string_row, u16, u32, CountsFit, AreSections, NameFits, AttributeFits, StringFits};
 
 use crate::parts::{AttributeRow, Counts, NameRow, Parts, StringRow, VarKind};
-use edd_syntax::numbers::{Attr, ItemNo};
 use edd_syntax::types::VarType;
 use std::alloc::{AllocError, Global};
 
@@ -42,36 +40,6 @@ fn type_code(var_type: VarType) -> u8
     }
 }
 
-fn kind_number(item: ItemNo) -> u8
-    ensures { result ≡ kind_number (kind_of item) }
-{
-    match item {
-        ItemNo::Variable(_) => 1,
-        ItemNo::Command(_) => 2,
-        ItemNo::Menu(_) => 3,
-        ItemNo::Collection(_) => 4,
-        ItemNo::Method(_) => 5,
-    }
-}
-
-fn index_of(item: ItemNo) -> u16
-    ensures { result ≡ index_of item }
-{
-    match item {
-        ItemNo::Variable(number) => number.0,
-        ItemNo::Command(number) => number.0,
-        ItemNo::Menu(number) => number.0,
-        ItemNo::Collection(number) => number.0,
-        ItemNo::Method(number) => number.0,
-    }
-}
-
-fn attr_number(attr: Attr) -> u8
-    ensures { result ≡ attr_number attr }
-{
-    attr as u8
-}
-
 fn put_u16(out: &mut Vec<u8>, number: u16) -> Result<(), AllocError>
     ensures { OnOk result (out.new.items ≡ out.old.items ++ u16 number) }
 {
@@ -104,9 +72,9 @@ fn put_name(out: &mut Vec<u8>, row: NameRow) -> Result<(), AllocError>
 fn put_attribute_key(out: &mut Vec<u8>, row: AttributeRow) -> Result<(), AllocError>
     ensures { OnOk result (out.new.items ≡ out.old.items ++ attribute_key row) }
 {
-    out.push(kind_number(row.item))?;
-    out.push(attr_number(row.attr))?;
-    put_u16(out, index_of(row.item))?;
+    out.push(row.item.kind().number())?;
+    out.push(row.attr.number())?;
+    put_u16(out, row.item.index())?;
     put_u16(out, row.sub)?;
     put_u16(out, 0)
 }

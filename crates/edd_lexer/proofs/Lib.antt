@@ -5,6 +5,7 @@ pub mod StringEnds
 pub mod Sound
 pub mod SoundSigns
 pub mod Complete
+pub mod Cuts
 pub mod CompleteSigns
 pub mod Whole
 pub mod Unique

@@ -1,22 +1,19 @@
 -- Reading one step after the other, as the loop does.
-use Rattle.std.proofs.Common.{◌≡◌, ℕ, ◌+◌, ◌-◌, ◌≤◌, ◌<◌, Bool, true, false, cond, ◌&&◌, ◌||◌, ◌==◌, List, [], ◌∷◌, ◌++◌, take, drop, length, Option, Some, Result, Ok, Err, refl, sym, ap, ◌∙◌, append_assoc, length-append, length-take, length-drop, arith}
+use Rattle.std.proofs.Common.{◌≡◌, ℕ, ◌+◌, ◌-◌, ◌≤◌, ◌<◌, Bool, true, false, cond, ◌||◌, List, [], ◌∷◌, ◌++◌, take, drop, length, Result, Ok, Err, refl, sym, ap, ◌∙◌, append_assoc, length-append, length-take, length-drop, arith}
 use Rattle.std.specs.Prelude.{bytes_eq, slice_range, slice_index}
 use Rattle.std.proofs.lemmas.List.{append-nil, drop_at, drop-drop}
 use Rattle.std.proofs.lemmas.Slice.Eq.{bytes_eq-Decides}
 use Rattle.edd_syntax.specs.Token.{Token}
 use Rattle.edd_lexer.specs.declared.token.TokenKind.{TokenKind}
 use Rattle.edd_lexer.proofs.CompleteSigns.{gap_again}
-use Rattle.edd_lexer.specs.Bytes.{is_blank, is_line_end, begins, front, in_line}
-use Rattle.edd_lexer.specs.Strings.{quote}
-use Rattle.edd_lexer.specs.Gaps.{Gap, blank, line_comment, block_comment, mark, behind_close}
-use Rattle.edd_lexer.specs.Tokens.{Lexeme, Stands, word, integer, decimal, string, sign, behind_byte_order_mark}
-use Rattle.edd_lexer.specs.Signs.{symbol_bytes}
+use Rattle.edd_lexer.specs.Bytes.{is_blank, is_line_end}
+use Rattle.edd_lexer.specs.Gaps.{Gap, blank}
+use Rattle.edd_lexer.specs.Tokens.{Lexeme, Stands, behind_byte_order_mark}
 use Rattle.edd_lexer.specs.Faults.{Fault}
 use Rattle.edd_lexer.specs.Reading.{Step, token, gap, wrong, step_at, with_first, after_step, tokens_of}
 use Rattle.edd_lexer.specs.Views.{token_of}
 use Rattle.edd_lexer.specs.Parts.{Follows, Leads}
-use Rattle.edd_lexer.proofs.Runs.{both, front_behind}
-use Rattle.edd_lexer.proofs.ByteTests.{next_here}
+use Rattle.edd_lexer.proofs.Cuts.{gap_cut, token_cut}
 use Rattle.edd_lexer.proofs.Sound.{Right}
 use Rattle.edd_lexer.proofs.SoundSigns.{step_right}
 use Rattle.edd_lexer.proofs.Whole.{token_shortens, gap_shortens, tokens_from, tokens_step, tokens_end}
@@ -30,34 +27,11 @@ left here bytes rest whole =
     let n : length bytes ≡ length here - length rest = omega (arith, length-append bytes rest, ap length whole) in
     sym (ap (λ (t : List ℕ). drop (length here - length rest) t) whole ∙ drop_at bytes rest (length here - length rest) n)
 
--- behind the end of a comment stands the end of it
-close_cut : (body rest : List ℕ) → behind_close body ≡ Some rest → (bytes : List ℕ) × (body ≡ bytes ++ rest)
-close_cut [] rest e = absurd cc
-close_cut (b ∷ body) rest e = go ((b == 42) && begins (λ c. c == 47) body) refl e (close_cut body rest)
-  where
-    go : (t : Bool) → ((b == 42) && begins (λ c. c == 47) body) ≡ t → (elim t as (λ _. Option (List ℕ)) [ true ↦ Some (drop 1 body) | false ↦ behind_close body ]) ≡ Some rest
-        → (behind_close body ≡ Some rest → (bytes : List ℕ) × (body ≡ bytes ++ rest)) → (bytes : List ℕ) × (b ∷ body ≡ bytes ++ rest)
-    go true t f more =
-        let same : drop 1 body ≡ rest = cc in
-        let slash = next_here 47 body (both (b == 42) (begins (λ c. c == 47) body) t).1 in
-        (b ∷ 47 ∷ [], ap (λ (x : List ℕ). b ∷ x) slash ∙ ap (λ (x : List ℕ). b ∷ 47 ∷ x) same)
-    go false t f more = let found = more f in (b ∷ found.0, ap (λ (x : List ℕ). b ∷ x) found.1)
-
 gap_left : (fresh : Bool) (here : List ℕ) (next : Bool) (rest : List ℕ) → Gap fresh here next rest → rest ≡ drop (length here - length rest) here
-gap_left fresh here next rest (blank {b = b} e) = left here (b ∷ []) rest refl
-gap_left fresh here next rest (line_comment {body = body}) = left here (47 ∷ 47 ∷ front in_line body) rest (ap (λ (x : List ℕ). 47 ∷ 47 ∷ x) (sym (front_behind in_line body)))
-gap_left fresh here next rest (block_comment {body = body} e) =
-    let found = close_cut body rest e in left here (47 ∷ 42 ∷ found.0) rest (ap (λ (x : List ℕ). 47 ∷ 42 ∷ x) found.1)
-gap_left fresh here next rest (mark {body = body} e) = left here (35 ∷ front in_line body) rest (ap (λ (x : List ℕ). 35 ∷ x) (sym (front_behind in_line body)))
+gap_left fresh here next rest g = let cut = gap_cut fresh here next rest g in left here cut.0 rest cut.1
 
 token_left : (here : List ℕ) (t : Token) (rest : List ℕ) → Stands here t rest → rest ≡ drop (length here - length rest) here
-token_left here t rest (word bytes whole name stop is) = left here bytes rest whole
-token_left here t rest (integer bytes n whole spelled fits free is) = left here bytes rest whole
-token_left here t rest (decimal bytes whole spelled free is) = left here bytes rest whole
-token_left here t rest (string inside raw whole closed good is) =
-    left here (quote ∷ (raw ++ quote ∷ [])) rest
-    (whole ∙ (ap (λ (x : List ℕ). quote ∷ x) closed.whole ∙ ap (λ (x : List ℕ). quote ∷ x) (sym (append_assoc raw (quote ∷ []) rest))))
-token_left here t rest (sign s whole free is) = left here (symbol_bytes s) rest whole
+token_left here t rest s = let cut = token_cut here t rest s in left here cut.0 rest cut.1
 
 right_leads : (fresh : Bool) (here : List ℕ) (s : Step) → Right fresh here s → Leads here s
 right_leads fresh here (token t rest) r = record { shorter = token_shortens here t rest r; is_end = token_left here t rest r }

@@ -1,71 +1,12 @@
 -- The table of the reserved words, and the words by their length, say the same.
-use Rattle.std.proofs.Common.{◌≡◌, ℕ, ◌==◌, Bool, true, false, cond, List, [], ◌∷◌, length, Option, Some, None, codes, refl, sym, ap, ◌∙◌, inl, inr, ◌⊎◌}
+use Rattle.std.proofs.Common.{◌≡◌, ℕ, ◌==◌, Bool, true, false, cond, List, [], ◌∷◌, length, Option, Some, None, refl, sym, ap, ◌∙◌, inl, inr, ◌⊎◌}
 use Rattle.std.specs.Prelude.{slice_index, bytes_eq, find}
 use Rattle.std.proofs.lemmas.Slice.Eq.{bytes_eq-Decides}
 use Rattle.edd_syntax.specs.declared.symbols.Keyword.{Keyword}
 use Rattle.edd_syntax.specs.declared.symbols.Keyword.TheVariants as keyword
 use Rattle.edd_syntax.specs.Text.{Name}
-use Rattle.edd_syntax.specs.Token.{Token, Reserved, Identifier, keywords, word_token}
+use Rattle.edd_syntax.specs.Token.{Token, Reserved, Identifier, keywords, spelling, word_token}
 use Rattle.edd_lexer.specs.Keywords.{only, of_two, of_three, of_four, of_five, of_six, of_seven, of_eight, of_nine, of_ten, of_eleven, of_twelve, of_thirteen, of_fourteen, of_fifteen, keyword_by_length}
-
--- how a reserved word is written
-abbrev spelling : Keyword → List ℕ
-spelling keyword.Manufacturer = codes "MANUFACTURER"
-spelling keyword.DeviceType = codes "DEVICE_TYPE"
-spelling keyword.DeviceRevision = codes "DEVICE_REVISION"
-spelling keyword.DdRevision = codes "DD_REVISION"
-spelling keyword.Variable = codes "VARIABLE"
-spelling keyword.Command = codes "COMMAND"
-spelling keyword.Menu = codes "MENU"
-spelling keyword.Collection = codes "COLLECTION"
-spelling keyword.Method = codes "METHOD"
-spelling keyword.Of = codes "OF"
-spelling keyword.Label = codes "LABEL"
-spelling keyword.Help = codes "HELP"
-spelling keyword.Class = codes "CLASS"
-spelling keyword.Handling = codes "HANDLING"
-spelling keyword.ConstantUnit = codes "CONSTANT_UNIT"
-spelling keyword.Validity = codes "VALIDITY"
-spelling keyword.Type = codes "TYPE"
-spelling keyword.Number = codes "NUMBER"
-spelling keyword.Operation = codes "OPERATION"
-spelling keyword.Transaction = codes "TRANSACTION"
-spelling keyword.ResponseCodes = codes "RESPONSE_CODES"
-spelling keyword.Request = codes "REQUEST"
-spelling keyword.Reply = codes "REPLY"
-spelling keyword.Items = codes "ITEMS"
-spelling keyword.Members = codes "MEMBERS"
-spelling keyword.Definition = codes "DEFINITION"
-spelling keyword.If = codes "IF"
-spelling keyword.Else = codes "ELSE"
-spelling keyword.Select = codes "SELECT"
-spelling keyword.Case = codes "CASE"
-spelling keyword.Default = codes "DEFAULT"
-spelling keyword.DefaultValue = codes "DEFAULT_VALUE"
-spelling keyword.MinValue = codes "MIN_VALUE"
-spelling keyword.MaxValue = codes "MAX_VALUE"
-spelling keyword.DisplayFormat = codes "DISPLAY_FORMAT"
-spelling keyword.EditFormat = codes "EDIT_FORMAT"
-spelling keyword.Int = codes "int"
-spelling keyword.Long = codes "long"
-spelling keyword.MethodIf = codes "if"
-spelling keyword.MethodElse = codes "else"
-spelling keyword.While = codes "while"
-spelling keyword.Do = codes "do"
-spelling keyword.For = codes "for"
-spelling keyword.Switch = codes "switch"
-spelling keyword.MethodCase = codes "case"
-spelling keyword.MethodDefault = codes "default"
-spelling keyword.Break = codes "break"
-spelling keyword.Continue = codes "continue"
-spelling keyword.Return = codes "return"
-spelling keyword.Char = codes "char"
-spelling keyword.Short = codes "short"
-spelling keyword.Unsigned = codes "unsigned"
-spelling keyword.Signed = codes "signed"
-spelling keyword.Float = codes "float"
-spelling keyword.Double = codes "double"
-spelling keyword.Goto = codes "goto"
 
 spelling_read : (k : Keyword) → keyword_by_length (spelling k) ≡ Some k
 unfolding only keyword_by_length of_two of_three of_four of_five of_six of_seven of_eight of_nine of_ten of_eleven of_twelve of_thirteen of_fourteen of_fifteen
@@ -196,7 +137,7 @@ spelled_if : (word : List ℕ) (t : Bool) (x y : Option Keyword) → Spelled wor
 spelled_if word true x y a b = a
 spelled_if word false x y a b = b
 
-only_spelled : (word : List ℕ) (k : Keyword) → Spelled word (only word (spelling k) k)
+only_spelled : (word : List ℕ) (k : Keyword) → Spelled word (only word k)
 unfolding Spelled only
 only_spelled word k = go (bytes_eq word (spelling k)) refl
   where

@@ -2,68 +2,37 @@
 
 ghost use Rattle.std.specs.Prelude.{◌≡◌, ◌+◌, ◌*◌, ◌≤◌, ◌&&◌, length, map};
 ghost use Rattle.std.specs.List.{list_all};
-ghost use Rattle.edd_syntax.specs.Numbers.{has_attr, kind_of};
 ghost use Rattle.edd_image.specs.Contents.{rows_from, attribute_fields};
 ghost use Rattle.edd_image.specs.Validity.{fills, rise, rises, sub_fits, has_attribute, is_attribute_row};
 ghost use Rattle.edd_loader.specs.Rows.{rises_next};
 
 use edd_image::{
-    ATTRIBUTE_ROW, Counts, attr_of, attribute_item, attribute_kind, attribute_length,
-    attribute_number, attribute_start, attribute_sub, attribute_zero, item_of,
+    ATTRIBUTE_ROW, Counts, attribute_item, attribute_kind, attribute_length, attribute_number,
+    attribute_start, attribute_sub, attribute_zero, item_of,
 };
 use edd_syntax::numbers::{Attr, ItemNo};
 
 /// The number of DEFINITION. Its unit is the body of a method, and each other one's gives an attribute.
 pub const DEFINITION: u8 = Attr::Definition as u8;
 
-// Whether items of this kind may have the attribute.
-fn may_have(item: ItemNo, attr: Attr) -> bool
-    ensures { result ≡ has_attr (kind_of item) attr }
-{
-    match attr {
-        Attr::Label | Attr::Help => !matches!(item, ItemNo::Command(_)),
-        Attr::Class => matches!(item, ItemNo::Variable(_) | ItemNo::Method(_)),
-        Attr::Validity => {
-            matches!(
-                item,
-                ItemNo::Variable(_) | ItemNo::Menu(_) | ItemNo::Method(_)
-            )
-        }
-        Attr::Handling
-        | Attr::ConstantUnit
-        | Attr::DefaultValue
-        | Attr::MinValue
-        | Attr::MaxValue
-        | Attr::DisplayFormat
-        | Attr::EditFormat
-        | Attr::Enumerators => matches!(item, ItemNo::Variable(_)),
-        Attr::Number
-        | Attr::Operation
-        | Attr::Transaction
-        | Attr::Request
-        | Attr::Reply
-        | Attr::ResponseCodes => matches!(item, ItemNo::Command(_)),
-        Attr::Items => matches!(item, ItemNo::Menu(_)),
-        Attr::Members => matches!(item, ItemNo::Collection(_)),
-        Attr::Definition => matches!(item, ItemNo::Method(_)),
-    }
-}
-
 // Whether the attribute may have this transaction's position, number of slots or 0.
 fn sub_fits(attr: Attr, sub: u16) -> bool
     ensures { result ≡ sub_fits attr sub }
 {
-    match attr {
-        Attr::Transaction | Attr::Request | Attr::Reply => true,
-        Attr::Definition => sub <= 64,
-        _ => sub == 0,
+    if attr.is_of_transaction() {
+        return true;
+    }
+    if attr == Attr::Definition {
+        sub <= 64
+    } else {
+        sub == 0
     }
 }
 
 fn has_attribute(counts: Counts, item: ItemNo, attr: Attr, sub: u16) -> bool
     ensures { result ≡ has_attribute counts item attr sub }
 {
-    counts.has_item(item) && may_have(item, attr) && sub_fits(attr, sub)
+    counts.has_item(item) && attr.may_belong_to(item.kind()) && sub_fits(attr, sub)
 }
 
 // Whether the item exists and may have the attribute, and the zero is 0.
@@ -74,7 +43,7 @@ fn is_attribute_row(bytes: &[u8], counts: Counts, row: usize) -> bool
     let Some(item) = item_of(attribute_kind(bytes, row), attribute_item(bytes, row)) else {
         return false;
     };
-    let Some(attr) = attr_of(attribute_number(bytes, row)) else {
+    let Some(attr) = Attr::from_number(attribute_number(bytes, row)) else {
         return false;
     };
     has_attribute(counts, item, attr, attribute_sub(bytes, row)) && attribute_zero(bytes, row) == 0

@@ -15,7 +15,7 @@ use Rattle.edd_image.proofs.AnsweredStates.{state_again}
 use Rattle.edd_machine.specs.declared.code_unit.CodeUnit.{CodeUnit}
 use Rattle.edd_machine.specs.Running.{IsStateIn}
 use Rattle.edd_machine.specs.Types.{types_in}
-use Rattle.edd_machine.proofs.UnitFacts.{pick}
+use Rattle.edd_image.proofs.KnownInstructions.{pick}
 
 pub asking_room : (context : Context) (env : Environment) (s : State) (r : Request) → IsState context env s → s.status ≡ Asking r → length s.operands < 128
 asking_room context env s r is asks =

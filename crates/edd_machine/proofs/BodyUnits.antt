@@ -9,7 +9,7 @@ use Rattle.edd_syntax.specs.declared.numbers.Attr.TheVariants as attr
 use Rattle.edd_syntax.specs.declared.numbers.ItemNo.{ItemNo}
 use Rattle.edd_syntax.specs.declared.numbers.ItemNo.TheVariants as items
 use Rattle.edd_syntax.specs.declared.numbers.MethNo.{MethNo}
-use Rattle.edd_syntax.specs.Numbers.{kind_of, has_attr}
+use Rattle.edd_syntax.specs.Numbers.{kind_of, attr_from_number, has_attr}
 use Rattle.edd_image.specs.declared.parts.Counts.{Counts}
 use Rattle.edd_image.specs.declared.rules.Rule.TheVariants as rule
 use Rattle.edd_image.specs.declared.unit.Sort.TheVariants.{Method}
@@ -18,7 +18,7 @@ use Rattle.edd_image.specs.Decoding.{item_of}
 use Rattle.edd_image.specs.References.{item_exists}
 use Rattle.edd_image.specs.Reading.{body_of, is_row_of, opening_of}
 use Rattle.edd_image.specs.Steps.{opening}
-use Rattle.edd_image.specs.Validity.{IsValid, attr_of, has_attribute, is_attribute_row, is_body, sort_of, slots_of, sub_fits, are_variable_rows, are_name_rows, are_attribute_rows, are_string_rows}
+use Rattle.edd_image.specs.Validity.{IsValid, has_attribute, is_attribute_row, is_body, sort_of, slots_of, sub_fits, are_variable_rows, are_name_rows, are_attribute_rows, are_string_rows}
 use Rattle.edd_loader.proofs.LookupLaws.{all_at}
 use Rattle.edd_machine.specs.declared.code_unit.CodeUnit.{CodeUnit}
 use Rattle.edd_machine.specs.Running.{unit_at, running_unit, IsUnitOf}
@@ -26,7 +26,7 @@ use Rattle.edd_machine.proofs.ImageUnits.{unit_code}
 use Rattle.edd_machine.proofs.AttributeReadings.{stands}
 
 -- a method has at most 64 slots
-row_slots : (counts : Counts) (r : AttributeFields) (item : Option ItemNo) (a : Option Attr) → a ≡ attr_of r.attribute
+row_slots : (counts : Counts) (r : AttributeFields) (item : Option ItemNo) (a : Option Attr) → a ≡ attr_from_number r.attribute
     → option_map_or (λ i. option_map_or (λ x. has_attribute counts i x r.sub) a false) item false ≡ true → slots_of r ≤ 64
 row_slots counts r None a e h = absurd cc
 row_slots counts r (Some i) None e h = absurd cc
@@ -39,7 +39,7 @@ row_slots counts r (Some i) (Some x) e h = by_body (is_body r) refl
     by_body false g = omega arith
     by_body true g =
         let number : r.attribute ≡ 21 = eqb-true r.attribute 21 g in
-        let own' : Some x ≡ Some attr.Definition = e ∙ ap attr_of number in
+        let own' : Some x ≡ Some attr.Definition = e ∙ ap attr_from_number number in
         let own : x ≡ attr.Definition = cc in
         let small : sub_fits attr.Definition r.sub ≡ true = subst (λ (y : Attr). sub_fits y r.sub ≡ true) own fits in
         leb-true r.sub 64 small
@@ -53,7 +53,7 @@ slots_small b number r valid at =
     let attributes = and_parts (are_attribute_rows c) (are_string_rows c) names.1 in
     let all = (and_parts (list_all (is_attribute_row c.counts) c.attributes) _ attributes.0).0 in
     let row = all_at (is_attribute_row c.counts) c.attributes number r all at in
-    row_slots c.counts r (item_of r.kind r.item) (attr_of r.attribute) refl (and_parts _ (nat_eq r.padding 0) row).0
+    row_slots c.counts r (item_of r.kind r.item) (attr_from_number r.attribute) refl (and_parts _ (nat_eq r.padding 0) row).0
 
 -- the unit of a body that was found
 pub record IsBody (b : List ℕ) (u : CodeUnit) : Type 0 where

@@ -1,20 +1,14 @@
 -- The types of the variables of a valid image, by number.
-use Rattle.std.proofs.Common.{◌≡◌, ℕ, zero, suc, ◌+◌, ◌<◌, ◌≤◌, true, false, ◌&&◌, nat_eq, ℤ, pos, get_or, List, [], ◌∷◌, length, drop, Option, Some, None, refl, sym, ap, ◌∙◌, arith, add-one}
-use Rattle.std.specs.Prelude.{option_map, is_some}
-use Rattle.std.specs.List.{filter_map, list_all, slice_get}
+use Rattle.std.proofs.Common.{◌≡◌, ℕ, zero, suc, ◌+◌, ◌<◌, ◌≤◌, true, false, ℤ, pos, get_or, List, [], ◌∷◌, length, drop, Some, refl, sym, ◌∙◌, arith, add-one}
+use Rattle.std.specs.Prelude.{is_some}
+use Rattle.std.specs.List.{slice_get}
 use Rattle.std.proofs.lemmas.Bool.{and_parts, leb-true}
 use Rattle.std.proofs.lemmas.Option.{slice_get-get_or}
-use Rattle.edd_syntax.specs.declared.types.VarType.{VarType}
-use Rattle.edd_syntax.specs.declared.types.VarType.TheVariants as var_type
 use Rattle.edd_syntax.specs.DeviceValues.{VariableType, is_in_range, AreDeviceValues}
 use Rattle.edd_image.specs.declared.parts.VarKind.{VarKind}
-use Rattle.edd_image.specs.declared.rules.Rule.TheVariants as rule
-use Rattle.edd_image.specs.Fields.{counts_in}
 use Rattle.edd_image.specs.Layout.{type_code}
-use Rattle.edd_image.specs.Contents.{VariableFields, rows_from, contents_in, fields_of_variable}
-use Rattle.edd_image.specs.Reading.{variable_type_of}
-use Rattle.edd_image.specs.Validity.{IsValid, type_of, is_variable_row, are_variable_rows, are_name_rows, are_attribute_rows, are_string_rows}
-use Rattle.edd_loader.specs.Lookups.{type_of_kind}
+use Rattle.edd_image.specs.Contents.{contents_in, fields_of_variable}
+use Rattle.edd_image.specs.Validity.{IsValid, type_of, is_variable_row}
 use Rattle.edd_loader.proofs.LookupLaws.{all_at}
 use Rattle.edd_loader.proofs.VariableTypes.{variable_rows}
 

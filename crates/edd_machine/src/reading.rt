@@ -2,12 +2,11 @@
 
 ghost use Rattle.std.specs.Prelude.{◌≡◌, ℤ, List, IfErr, IfOk, OnOk, Ok, is_some};
 ghost use Rattle.edd_syntax.specs.DeviceValues.{AreDeviceValues};
-ghost use Rattle.edd_syntax.specs.Numbers.{has_attr, kind_of};
 ghost use Rattle.edd_image.specs.declared.unit.Sort.TheVariants.{Attribute};
 ghost use Rattle.edd_image.specs.Contents.{Contents, contents_in};
 ghost use Rattle.edd_image.specs.Reading.{Records, IsReading, default_records, environment_of, is_no_item, reading_of, row_of};
 ghost use Rattle.edd_image.specs.Steps.{opening};
-ghost use Rattle.edd_image.specs.Validity.{IsValid, is_of_transaction};
+ghost use Rattle.edd_image.specs.Validity.{IsValid};
 ghost use Rattle.edd_machine.specs.Faults.{IsReadFault};
 ghost use Rattle.edd_machine.specs.Given.{Gives, GivesFault};
 ghost use Rattle.edd_machine.specs.Running.{running_unit, IsUnitOf};
@@ -21,59 +20,20 @@ use crate::rows::find_attribute;
 use crate::values::Values;
 use edd_image::{Counts, Record, decode};
 use edd_loader::Image;
-use edd_syntax::numbers::{Attr, AttrRef, ItemNo};
+use edd_syntax::numbers::{Attr, AttrRef};
 use std::alloc::{AllocError, Global};
-
-// Whether items of this kind may have the attribute.
-fn may_have(item: ItemNo, attr: Attr) -> bool
-    ensures { result ≡ has_attr (kind_of item) attr }
-{
-    match attr {
-        Attr::Label | Attr::Help => !matches!(item, ItemNo::Command(_)),
-        Attr::Class => matches!(item, ItemNo::Variable(_) | ItemNo::Method(_)),
-        Attr::Validity => {
-            matches!(
-                item,
-                ItemNo::Variable(_) | ItemNo::Menu(_) | ItemNo::Method(_)
-            )
-        }
-        Attr::Handling
-        | Attr::ConstantUnit
-        | Attr::DefaultValue
-        | Attr::MinValue
-        | Attr::MaxValue
-        | Attr::DisplayFormat
-        | Attr::EditFormat
-        | Attr::Enumerators => matches!(item, ItemNo::Variable(_)),
-        Attr::Number
-        | Attr::Operation
-        | Attr::Transaction
-        | Attr::Request
-        | Attr::Reply
-        | Attr::ResponseCodes => matches!(item, ItemNo::Command(_)),
-        Attr::Items => matches!(item, ItemNo::Menu(_)),
-        Attr::Members => matches!(item, ItemNo::Collection(_)),
-        Attr::Definition => matches!(item, ItemNo::Method(_)),
-    }
-}
-
-fn is_of_transaction(attr: Attr) -> bool
-    ensures { result ≡ is_of_transaction attr }
-{
-    matches!(attr, Attr::Transaction | Attr::Request | Attr::Reply)
-}
 
 // Whether there is no such item, or none that has this attribute, by the counts and by whether the attribute has a row.
 fn is_no_item(counts: Counts, attr: AttrRef, has_row: bool) -> bool
     ensures { (c : Contents) → c.counts ≡ counts → is_some (row_of c attr) ≡ has_row → result ≡ is_no_item c attr }
 {
-    if !counts.has_item(attr.item) || !may_have(attr.item, attr.attr) {
+    if !counts.has_item(attr.item) || !attr.attr.may_belong_to(attr.item.kind()) {
         return true;
     }
     if matches!(attr.attr, Attr::Definition) {
         return true;
     }
-    if is_of_transaction(attr.attr) {
+    if attr.attr.is_of_transaction() {
         !has_row
     } else {
         attr.sub != 0

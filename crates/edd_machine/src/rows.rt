@@ -1,7 +1,6 @@
 //! The row of an attribute or of a method's body, searched among the rising rows.
 
 ghost use Rattle.std.specs.Prelude.{◌≡◌, ℕ, ◌+◌, ◌*◌, ◌<◌, ◌≤◌, IfSome, length, option_map};
-ghost use Rattle.edd_syntax.specs.Numbers.{kind_number, kind_of, index_of, attr_number};
 ghost use Rattle.edd_image.specs.Contents.{attribute_fields, contents_in};
 ghost use Rattle.edd_image.specs.Fields.{attribute_count, header_length};
 ghost use Rattle.edd_image.specs.Reading.{row_of, body_of};
@@ -16,43 +15,13 @@ use edd_image::{
     attribute_number, attribute_rows_start, attribute_start, attribute_sub, code_start,
 };
 use edd_loader::Image;
-use edd_syntax::numbers::{Attr, AttrRef, ItemNo, MethNo};
+use edd_syntax::numbers::{Attr, AttrRef, Kind, MethNo};
 
 // The number of DEFINITION, whose unit is a method's body.
 const DEFINITION: u8 = Attr::Definition as u8;
 
 // The number of METHOD.
-const METHOD: u8 = 5;
-
-fn kind_number(item: ItemNo) -> u8
-    ensures { result ≡ kind_number (kind_of item) }
-{
-    match item {
-        ItemNo::Variable(_) => 1,
-        ItemNo::Command(_) => 2,
-        ItemNo::Menu(_) => 3,
-        ItemNo::Collection(_) => 4,
-        ItemNo::Method(_) => 5,
-    }
-}
-
-fn index_of(item: ItemNo) -> u16
-    ensures { result ≡ index_of item }
-{
-    match item {
-        ItemNo::Variable(number) => number.0,
-        ItemNo::Command(number) => number.0,
-        ItemNo::Menu(number) => number.0,
-        ItemNo::Collection(number) => number.0,
-        ItemNo::Method(number) => number.0,
-    }
-}
-
-fn attr_number(attr: Attr) -> u8
-    ensures { result ≡ attr_number attr }
-{
-    attr as u8
-}
+const METHOD: u8 = Kind::Method as u8;
 
 // The four numbers by which rows rise, as one.
 fn rank(kind: u8, attribute: u8, item: u16, sub: u16) -> u64
@@ -147,9 +116,9 @@ fn attribute_row(bytes: &[u8], attr: AttrRef) -> Option<usize>
     ensures row { option_map (attribute_fields bytes.now) result ≡ row_of (contents_in bytes.now) attr }
     ensures inside { IfSome result (λ row. row + ATTRIBUTE_ROW ≤ length bytes.now) }
 {
-    let kind = kind_number(attr.item);
-    let attribute = attr_number(attr.attr);
-    let item = index_of(attr.item);
+    let kind = attr.item.kind().number();
+    let attribute = attr.attr.number();
+    let item = attr.item.index();
     let first = first_row(bytes, rank(kind, attribute, item, attr.sub));
     if first == attribute_count(bytes) as usize {
         return None;

@@ -1,6 +1,5 @@
 pub mod CondSpends
 pub mod Counting
-pub mod FirstLaws
 pub mod Missing
 pub mod Noting
 pub mod Passing

@@ -7,7 +7,7 @@ use Rattle.edd_syntax.specs.Item.{Attribute, Item, kind_of_item}
 use Rattle.edd_syntax.specs.NameRules.{attribute_word, required_words}
 use Rattle.edd_syntax.specs.Refusal.{MissingAttribute, is_name_in}
 use Rattle.edd_name_rules.specs.Walks.{missing_in, missing_among}
-use Rattle.edd_name_rules.proofs.FirstLaws.{first_of-append_none, first_of-append_some}
+use Rattle.edd_syntax.proofs.FirstLaws.{first_of-append_none, first_of-append_some}
 
 pub one_item : {R : Type 0} (i : Item R) → missing_in (i ∷ []) ≡ missing_among i.name i.attributes (required_words (kind_of_item i.sort))
 one_item i = append-nil (missing_among i.name i.attributes (required_words (kind_of_item i.sort)))

@@ -14,7 +14,7 @@ use Rattle.edd_name_rules.specs.declared.fault.RuleFault.TheVariants.{NoMemory}
 use Rattle.std.proofs.lemmas.Grind.{common_steps}
 use Rattle.edd_name_rules.specs.Faults.{refusal_of, Agrees, IsFound, IsDuplicate}
 use Rattle.edd_name_rules.specs.Seen.{HasSeen}
-use Rattle.edd_name_rules.proofs.FirstLaws.{first_of-append_none}
+use Rattle.edd_syntax.proofs.FirstLaws.{first_of-append_none}
 use Rattle.edd_name_rules.proofs.Repeating.{map_append}
 use Rattle.edd_name_rules.proofs.SeenBefore.{SameNames, append_same, append_left, append_comm}
 

@@ -11,7 +11,7 @@ use Rattle.edd_syntax.specs.Refusal.{is_name_in, repeated, first_of}
 use Rattle.std.proofs.lemmas.Grind.{flat_map-append}
 use Rattle.std.proofs.lemmas.List.{append-nil}
 use Rattle.edd_name_rules.proofs.Repeating.{map_append}
-use Rattle.edd_name_rules.proofs.FirstLaws.{first_of-append_none, first_of-append_some}
+use Rattle.edd_syntax.proofs.FirstLaws.{first_of-append_none, first_of-append_some}
 
 -- the same names
 abbrev pub SameNames : List Name → List Name → Type 0

@@ -9,7 +9,9 @@ ghost use Rattle.edd_syntax.specs.TreeView.{path_of};
 ghost use Rattle.edd_name_rules.specs.Walks.{missing_in, missing_among, refusal_of_missing};
 
 use edd_syntax::item::{Attribute, Item};
+use edd_syntax::numbers::Attr;
 use edd_syntax::reference::Path;
+use edd_syntax::symbols::Keyword;
 
 /// An item without an attribute that its kind needs.
 #[derive(Clone, Copy)]
@@ -23,20 +25,20 @@ pub fn word_of(attribute: &Attribute<Path>) -> &'static str
     ensures { result.now ≡ attribute_word (attribute_of path_of attribute.now) }
 {
     match attribute {
-        Attribute::Label(_) => "LABEL",
-        Attribute::Help(_) => "HELP",
-        Attribute::Class(_) => "CLASS",
-        Attribute::Handling(_) => "HANDLING",
-        Attribute::ConstantUnit(_) => "CONSTANT_UNIT",
-        Attribute::Validity(_) => "VALIDITY",
-        Attribute::TypeOf { .. } => "TYPE",
-        Attribute::Number(_) => "NUMBER",
-        Attribute::Operation(_) => "OPERATION",
-        Attribute::Transaction { .. } => "TRANSACTION",
-        Attribute::ResponseCodes(_) => "RESPONSE_CODES",
-        Attribute::Items(_) => "ITEMS",
-        Attribute::Members(_) => "MEMBERS",
-        Attribute::Definition(_) => "DEFINITION",
+        Attribute::Label(_) => Attr::Label.word(),
+        Attribute::Help(_) => Attr::Help.word(),
+        Attribute::Class(_) => Attr::Class.word(),
+        Attribute::Handling(_) => Attr::Handling.word(),
+        Attribute::ConstantUnit(_) => Attr::ConstantUnit.word(),
+        Attribute::Validity(_) => Attr::Validity.word(),
+        Attribute::TypeOf { .. } => Keyword::Type.spelling(),
+        Attribute::Number(_) => Attr::Number.word(),
+        Attribute::Operation(_) => Attr::Operation.word(),
+        Attribute::Transaction { .. } => Attr::Transaction.word(),
+        Attribute::ResponseCodes(_) => Attr::ResponseCodes.word(),
+        Attribute::Items(_) => Attr::Items.word(),
+        Attribute::Members(_) => Attr::Members.word(),
+        Attribute::Definition(_) => Attr::Definition.word(),
     }
 }
 
@@ -57,11 +59,11 @@ fn missing_in_item(item: &Item<Path>) -> Option<Missing>
     ensures { option_map refusal_of_missing result ≡ first_of (missing_in (item_of path_of item.now ∷ [])) }
 {
     match item {
-        Item::Variable(d) => missing_word(&d.name, &d.attributes, "TYPE"),
+        Item::Variable(d) => missing_word(&d.name, &d.attributes, Keyword::Type.spelling()),
         Item::Command(d) => missing_of_command(&d.name, &d.attributes),
-        Item::Menu(d) => missing_word(&d.name, &d.attributes, "ITEMS"),
-        Item::Collection(d) => missing_word(&d.name, &d.attributes, "MEMBERS"),
-        Item::Method(d) => missing_word(&d.name, &d.attributes, "DEFINITION"),
+        Item::Menu(d) => missing_word(&d.name, &d.attributes, Attr::Items.word()),
+        Item::Collection(d) => missing_word(&d.name, &d.attributes, Attr::Members.word()),
+        Item::Method(d) => missing_word(&d.name, &d.attributes, Attr::Definition.word()),
     }
 }
 
@@ -70,13 +72,13 @@ fn missing_of_command<'a>(name: &'a str, attributes: &[Attribute<Path>]) -> Opti
     ensures { option_map refusal_of_missing result
         ≡ first_of (missing_among name.now (map (attribute_of path_of) attributes.now) (required_words Command)) }
 {
-    if let Some(missing) = missing_word(name, attributes, "NUMBER") {
+    if let Some(missing) = missing_word(name, attributes, Attr::Number.word()) {
         return Some(missing);
     }
-    if let Some(missing) = missing_word(name, attributes, "OPERATION") {
+    if let Some(missing) = missing_word(name, attributes, Attr::Operation.word()) {
         return Some(missing);
     }
-    missing_word(name, attributes, "TRANSACTION")
+    missing_word(name, attributes, Attr::Transaction.word())
 }
 
 fn missing_word<'a>(

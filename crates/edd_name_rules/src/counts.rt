@@ -4,7 +4,6 @@ ghost use Rattle.std.specs.Prelude.{◌≡◌, [], ◌∷◌, map, nat_lt};
 ghost use Rattle.std.specs.List.{list_any};
 ghost use Rattle.edd_syntax.specs.ItemView.{item_of, attribute_of};
 ghost use Rattle.edd_syntax.specs.NameRules.{item_limit, kinds};
-ghost use Rattle.edd_syntax.specs.Numbers.{same_kind};
 ghost use Rattle.edd_syntax.specs.Resolution.{count_of};
 ghost use Rattle.edd_syntax.specs.TreeView.{path_of};
 ghost use Rattle.edd_name_rules.specs.Spending.{spent, transactions_in};
@@ -29,17 +28,11 @@ pub fn spend_items(items: &[Item<Path>], kind: Kind, budget: u32) -> Option<u32>
 fn spend_item(item: &Item<Path>, kind: Kind, budget: u32) -> Option<u32>
     ensures { result ≡ spent budget (count_of kind (item_of path_of item.now ∷ [])) }
 {
-    if is_same(kind_of(item), kind) {
+    if kind_of(item) == kind {
         budget.checked_sub(1)
     } else {
         Some(budget)
     }
-}
-
-fn is_same(a: Kind, b: Kind) -> bool
-    ensures { result ≡ same_kind a b }
-{
-    a as u8 == b as u8
 }
 
 /// What is left of a number of transactions after these attributes, if they are enough.

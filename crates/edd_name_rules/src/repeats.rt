@@ -11,14 +11,15 @@ ghost use Rattle.edd_name_rules.specs.Walks.{repeated_here, is_transaction};
 use crate::attributes::{has_word, word_of};
 use crate::items::attributes_of;
 use edd_syntax::item::{Attribute, Item, TransactionPart, TypePart};
+use edd_syntax::numbers::Attr;
 use edd_syntax::reference::Path;
 
 fn part_word(part: &TransactionPart<Path>) -> &'static str
     ensures { result.now ≡ transaction_part_word (transaction_part_of path_of part.now) }
 {
     match part {
-        TransactionPart::Request(_) => "REQUEST",
-        TransactionPart::Reply(_) => "REPLY",
+        TransactionPart::Request(_) => Attr::Request.word(),
+        TransactionPart::Reply(_) => Attr::Reply.word(),
     }
 }
 
@@ -52,11 +53,11 @@ fn option_word(part: &TypePart<Path>) -> Option<&'static str>
     ensures { cons_option (option_map (λ w. w.now) result) [] ≡ type_part_words (type_part_of path_of part.now) }
 {
     match part {
-        TypePart::DefaultValue { .. } => Some("DEFAULT_VALUE"),
-        TypePart::MinValue { .. } => Some("MIN_VALUE"),
-        TypePart::MaxValue { .. } => Some("MAX_VALUE"),
-        TypePart::DisplayFormat { .. } => Some("DISPLAY_FORMAT"),
-        TypePart::EditFormat { .. } => Some("EDIT_FORMAT"),
+        TypePart::DefaultValue { .. } => Some(Attr::DefaultValue.word()),
+        TypePart::MinValue { .. } => Some(Attr::MinValue.word()),
+        TypePart::MaxValue { .. } => Some(Attr::MaxValue.word()),
+        TypePart::DisplayFormat { .. } => Some(Attr::DisplayFormat.word()),
+        TypePart::EditFormat { .. } => Some(Attr::EditFormat.word()),
         TypePart::Element(_) => None,
     }
 }
@@ -124,7 +125,7 @@ fn is_transaction(attribute: &Attribute<Path>) -> bool
 }
 
 // The word of an attribute that stands there already, unless it is a transaction, or the first such word inside it.
-#[tactic(auto, using(crate::proofs::FirstLaws::firsts))]
+#[tactic(auto, using(edd_syntax::proofs::FirstLaws::firsts))]
 fn repeated_at(attribute: &Attribute<Path>, before: &[Attribute<Path>]) -> Option<&'static str>
     ensures { option_map (λ w. w.now) result
         ≡ first_of (repeated_here (map attribute_word (map (attribute_of path_of) before.now)) (attribute_of path_of attribute.now)) }

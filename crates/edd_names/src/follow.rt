@@ -15,7 +15,7 @@ ghost use Rattle.edd_names.specs.Paths.{Reaches};
 
 use crate::directory::Names;
 use crate::fault::NameFault;
-use crate::places::{Place, is_among, is_same, kind_of_number, place_of_member, wrong_kind};
+use crate::places::{Place, is_among, place_of_member, wrong_kind};
 use edd_syntax::numbers::{ItemNo, Kind, VarNo};
 use edd_syntax::reference::{Path, Target};
 
@@ -33,7 +33,7 @@ fn step<'b>(
     ensures err { IfErr result (λ f. (allowed : List Kind) (all : List Refusal) (meant : Option ItemNo) (rest : List Name)
         → Reaches (unit_of names.now) allowed all meant place.entry (member.now ∷ rest) → IsFirst f all) }
 {
-    if !is_same(place.kind, Kind::Collection) {
+    if place.kind != Kind::Collection {
         return Err(wrong_kind(names.alloc, place.name));
     }
     match place.item {
@@ -73,7 +73,7 @@ pub fn follow(
 {
     let mut place = Place {
         name: &path.base,
-        kind: kind_of_number(from),
+        kind: from.kind(),
         item: Some(from),
     };
     for member in &path.members {

@@ -5,7 +5,7 @@ ghost use Rattle.std.specs.List.{list_any};
 ghost use Rattle.edd_syntax.specs.declared.numbers.Kind.TheVariants as kind;
 ghost use Rattle.edd_syntax.specs.ItemView.{member_of};
 ghost use Rattle.edd_syntax.specs.NameRules.{is_kind_among, faults_along};
-ghost use Rattle.edd_syntax.specs.Numbers.{kind_of, same_kind};
+ghost use Rattle.edd_syntax.specs.Numbers.{kind_of};
 ghost use Rattle.edd_syntax.specs.Refusal.{UnknownName, WrongKind, first_of};
 ghost use Rattle.edd_syntax.specs.Resolution.{FoundMember, along, item_of_member, member_at, of_kind};
 ghost use Rattle.edd_syntax.specs.TreeView.{path_of};
@@ -42,29 +42,11 @@ pub fn wrong_kind(alloc: Global, name: &str) -> NameFault
     }
 }
 
-pub fn kind_of_number(item: ItemNo) -> Kind
-    ensures { result ≡ kind_of item }
-{
-    match item {
-        ItemNo::Variable(_) => Kind::Variable,
-        ItemNo::Command(_) => Kind::Command,
-        ItemNo::Menu(_) => Kind::Menu,
-        ItemNo::Collection(_) => Kind::Collection,
-        ItemNo::Method(_) => Kind::Method,
-    }
-}
-
-pub fn is_same(a: Kind, b: Kind) -> bool
-    ensures { result ≡ same_kind a b }
-{
-    a as u8 == b as u8
-}
-
 pub fn is_among(allowed: &[Kind], kind: Kind) -> bool
     ensures { result ≡ is_kind_among allowed.now kind }
 {
     for other in allowed {
-        if is_same(kind, *other) {
+        if kind == *other {
             return true;
         }
     }
@@ -83,7 +65,7 @@ fn item_of_kind(item: Option<ItemNo>, kind: Kind) -> Option<ItemNo>
     ensures { result ≡ option_and_then (of_kind kind) item }
 {
     match item {
-        Some(i) if is_same(kind_of_number(i), kind) => Some(i),
+        Some(i) if i.kind() == kind => Some(i),
         _ => None,
     }
 }

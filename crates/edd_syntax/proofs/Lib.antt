@@ -1,5 +1,7 @@
+pub mod Appending
 pub mod Bits
 pub mod CondRows
+pub mod FirstLaws
 pub mod KeptItems
 pub mod WithinLimits
 pub mod NumberedLoops

@@ -3,7 +3,7 @@ use Rattle.std.proofs.Common.{◌≡◌, refl, sym, ap, ◌∙◌, ℕ, zero, su
 use Rattle.std.proofs.lemmas.List.{at_drop_more}
 use Rattle.std.proofs.lemmas.Grind.{common_steps}
 use Rattle.std.specs.List.{list_all}
-use Rattle.edd_syntax.proofs.RowLaws.{with_rest, appended, all_appended}
+use Rattle.edd_syntax.proofs.Appending.{with_rest, appended, all_appended}
 
 -- how many elements from the i-th on pass a test
 module _ {X Y : Type 0} (test : Y → Bool) (view : X → Y) where

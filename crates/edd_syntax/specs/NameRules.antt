@@ -1,14 +1,17 @@
 -- The rules of a description on counts, names and attributes, each as the list of its breaches in the order of the source. Of two
 -- things that clash the later one is the breach.
-use Rattle.std.specs.Prelude.{ℕ, Bool, true, false, not, nat_lt, if◌then◌else◌, List, [], ◌∷◌, ◌++◌, length, map, filter, sum, Option, Some, None, codes}
+use Rattle.std.specs.Prelude.{ℕ, Bool, true, false, not, nat_lt, if◌then◌else◌, List, [], ◌∷◌, ◌++◌, length, map, filter, sum, Option, Some, None}
 use Rattle.std.specs.List.{list_any, flat_map}
 use Rattle.edd_syntax.specs.declared.limits.Limit.TheVariants as limit
 use Rattle.edd_syntax.specs.declared.numbers.Kind.{Kind}
 use Rattle.edd_syntax.specs.declared.numbers.Kind.TheVariants as kind
 use Rattle.edd_syntax.specs.declared.numbers.ItemNo.{ItemNo}
+use Rattle.edd_syntax.specs.declared.numbers.Attr.TheVariants as attr
+use Rattle.edd_syntax.specs.declared.symbols.Keyword.TheVariants as keyword
 use Rattle.edd_syntax.specs.Text.{Name}
 use Rattle.edd_syntax.specs.Reference.{Path}
-use Rattle.edd_syntax.specs.Numbers.{same_kind, kind_of}
+use Rattle.edd_syntax.specs.Token.{spelling}
+use Rattle.edd_syntax.specs.Numbers.{same_kind, kind_of, attr_word}
 use Rattle.edd_syntax.specs.Statement as s
 use Rattle.edd_syntax.specs.Statement.{Declarator, Stmt, Body, Nil, Cons, Declare, Statement, CaseLabel, DefaultLabel, slots_in}
 use Rattle.edd_syntax.specs.Item as item
@@ -109,33 +112,33 @@ duplicate_names unit = map DuplicateName (repeated_in_items [] unit.items)
 -- ---- an attribute of an item, of a transaction or of a type's braces that stands there already
 
 abbrev pub attribute_word : {R : Type 0} → Attribute R → Name
-attribute_word (item.Label c) = codes "LABEL"
-attribute_word (item.Help c) = codes "HELP"
-attribute_word (item.Class words) = codes "CLASS"
-attribute_word (item.Handling c) = codes "HANDLING"
-attribute_word (item.ConstantUnit c) = codes "CONSTANT_UNIT"
-attribute_word (item.Validity c) = codes "VALIDITY"
-attribute_word (item.TypeOf word parts) = codes "TYPE"
-attribute_word (item.Number n) = codes "NUMBER"
-attribute_word (item.Operation o) = codes "OPERATION"
-attribute_word (item.Transaction number parts) = codes "TRANSACTION"
-attribute_word (item.ResponseCodes responses) = codes "RESPONSE_CODES"
-attribute_word (item.Items entries) = codes "ITEMS"
-attribute_word (item.Members members) = codes "MEMBERS"
-attribute_word (item.Definition body) = codes "DEFINITION"
+attribute_word (item.Label c) = attr_word attr.Label
+attribute_word (item.Help c) = attr_word attr.Help
+attribute_word (item.Class words) = attr_word attr.Class
+attribute_word (item.Handling c) = attr_word attr.Handling
+attribute_word (item.ConstantUnit c) = attr_word attr.ConstantUnit
+attribute_word (item.Validity c) = attr_word attr.Validity
+attribute_word (item.TypeOf word parts) = spelling keyword.Type
+attribute_word (item.Number n) = attr_word attr.Number
+attribute_word (item.Operation o) = attr_word attr.Operation
+attribute_word (item.Transaction number parts) = attr_word attr.Transaction
+attribute_word (item.ResponseCodes responses) = attr_word attr.ResponseCodes
+attribute_word (item.Items entries) = attr_word attr.Items
+attribute_word (item.Members members) = attr_word attr.Members
+attribute_word (item.Definition body) = attr_word attr.Definition
 
 -- the options of a type; the elements of its list may be many
 abbrev pub type_part_words : {R : Type 0} → TypePart R → List Name
-type_part_words (item.DefaultValue c) = codes "DEFAULT_VALUE" ∷ []
-type_part_words (item.MinValue c) = codes "MIN_VALUE" ∷ []
-type_part_words (item.MaxValue c) = codes "MAX_VALUE" ∷ []
-type_part_words (item.DisplayFormat c) = codes "DISPLAY_FORMAT" ∷ []
-type_part_words (item.EditFormat c) = codes "EDIT_FORMAT" ∷ []
+type_part_words (item.DefaultValue c) = attr_word attr.DefaultValue ∷ []
+type_part_words (item.MinValue c) = attr_word attr.MinValue ∷ []
+type_part_words (item.MaxValue c) = attr_word attr.MaxValue ∷ []
+type_part_words (item.DisplayFormat c) = attr_word attr.DisplayFormat ∷ []
+type_part_words (item.EditFormat c) = attr_word attr.EditFormat ∷ []
 type_part_words (item.Element c) = []
 
 abbrev pub transaction_part_word : {R : Type 0} → TransactionPart R → Name
-transaction_part_word (item.Request all) = codes "REQUEST"
-transaction_part_word (item.Reply all) = codes "REPLY"
+transaction_part_word (item.Request all) = attr_word attr.Request
+transaction_part_word (item.Reply all) = attr_word attr.Reply
 
 -- the repeated words in the braces of an attribute
 abbrev pub repeated_words_inside : {R : Type 0} → Attribute R → List Name
@@ -156,11 +159,11 @@ duplicate_attributes unit = map DuplicateAttribute (flat_map (λ i. repeated_wor
 -- ---- a missing attribute
 
 abbrev pub required_words : Kind → List Name
-required_words kind.Variable = codes "TYPE" ∷ []
-required_words kind.Command = codes "NUMBER" ∷ codes "OPERATION" ∷ codes "TRANSACTION" ∷ []
-required_words kind.Menu = codes "ITEMS" ∷ []
-required_words kind.Collection = codes "MEMBERS" ∷ []
-required_words kind.Method = codes "DEFINITION" ∷ []
+required_words kind.Variable = spelling keyword.Type ∷ []
+required_words kind.Command = attr_word attr.Number ∷ attr_word attr.Operation ∷ attr_word attr.Transaction ∷ []
+required_words kind.Menu = attr_word attr.Items ∷ []
+required_words kind.Collection = attr_word attr.Members ∷ []
+required_words kind.Method = attr_word attr.Definition ∷ []
 
 abbrev pub missing_words : {R : Type 0} → Item R → List Name
 missing_words i = filter (λ word. not (is_name_in (map attribute_word i.attributes) word)) (required_words (kind_of_item i.sort))

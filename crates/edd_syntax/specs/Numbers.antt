@@ -1,12 +1,15 @@
--- The numbers of kinds and of attributes, and which kinds have which attributes.
-use Rattle.std.specs.Prelude.{ℕ, Bool, ◌==◌, List, [], ◌∷◌}
+-- The numbers and the words of kinds and of attributes, and which kinds have which attributes.
+use Rattle.std.specs.Prelude.{ℕ, Bool, ◌==◌, if◌then◌else◌, List, [], ◌∷◌, Option, Some, None, codes}
 use Rattle.std.specs.List.{list_any}
+use Rattle.edd_syntax.specs.declared.symbols.Keyword.TheVariants as keyword
 use Rattle.edd_syntax.specs.declared.numbers.Kind.{Kind}
 use Rattle.edd_syntax.specs.declared.numbers.Kind.TheVariants.{Variable, Command, Menu, Collection, Method}
 use Rattle.edd_syntax.specs.declared.numbers.ItemNo.{ItemNo}
 use Rattle.edd_syntax.specs.declared.numbers.ItemNo.TheVariants as item_no
 use Rattle.edd_syntax.specs.declared.numbers.Attr.{Attr}
 use Rattle.edd_syntax.specs.declared.numbers.Attr.TheVariants as attr
+use Rattle.edd_syntax.specs.Text.{Name}
+use Rattle.edd_syntax.specs.Token.{spelling}
 
 -- ---- kinds
 
@@ -19,6 +22,14 @@ kind_number Method = 5
 
 abbrev pub same_kind : Kind → Kind → Bool
 same_kind a b = kind_number a == kind_number b
+
+-- the word with which an item of a kind begins where an image is shown
+abbrev pub kind_name : Kind → Name
+kind_name Variable = codes "variable"
+kind_name Command = codes "command"
+kind_name Menu = codes "menu"
+kind_name Collection = codes "collection"
+kind_name Method = codes "method"
 
 -- the item of a kind by its number among the items of that kind
 abbrev pub item_number : Kind → ℕ → ItemNo
@@ -68,8 +79,58 @@ attr_number attr.Items = 19
 attr_number attr.Members = 20
 attr_number attr.Definition = 21
 
+-- the attribute of a number
+abbrev pub attr_from_number : ℕ → Option Attr
+attr_from_number n =
+    if n == 1 then Some attr.Label else
+    if n == 2 then Some attr.Help else
+    if n == 3 then Some attr.Class else
+    if n == 4 then Some attr.Handling else
+    if n == 5 then Some attr.ConstantUnit else
+    if n == 6 then Some attr.Validity else
+    if n == 7 then Some attr.DefaultValue else
+    if n == 8 then Some attr.MinValue else
+    if n == 9 then Some attr.MaxValue else
+    if n == 10 then Some attr.DisplayFormat else
+    if n == 11 then Some attr.EditFormat else
+    if n == 12 then Some attr.Enumerators else
+    if n == 13 then Some attr.Number else
+    if n == 14 then Some attr.Operation else
+    if n == 15 then Some attr.Transaction else
+    if n == 16 then Some attr.Request else
+    if n == 17 then Some attr.Reply else
+    if n == 18 then Some attr.ResponseCodes else
+    if n == 19 then Some attr.Items else
+    if n == 20 then Some attr.Members else
+    if n == 21 then Some attr.Definition else
+    None
+
 abbrev pub same_attr : Attr → Attr → Bool
 same_attr a b = attr_number a == attr_number b
+
+-- the reserved word of an attribute; ENUMERATORS is none, since a type's list stands without a word
+abbrev pub attr_word : Attr → Name
+attr_word attr.Label = spelling keyword.Label
+attr_word attr.Help = spelling keyword.Help
+attr_word attr.Class = spelling keyword.Class
+attr_word attr.Handling = spelling keyword.Handling
+attr_word attr.ConstantUnit = spelling keyword.ConstantUnit
+attr_word attr.Validity = spelling keyword.Validity
+attr_word attr.DefaultValue = spelling keyword.DefaultValue
+attr_word attr.MinValue = spelling keyword.MinValue
+attr_word attr.MaxValue = spelling keyword.MaxValue
+attr_word attr.DisplayFormat = spelling keyword.DisplayFormat
+attr_word attr.EditFormat = spelling keyword.EditFormat
+attr_word attr.Enumerators = codes "ENUMERATORS"
+attr_word attr.Number = spelling keyword.Number
+attr_word attr.Operation = spelling keyword.Operation
+attr_word attr.Transaction = spelling keyword.Transaction
+attr_word attr.Request = spelling keyword.Request
+attr_word attr.Reply = spelling keyword.Reply
+attr_word attr.ResponseCodes = spelling keyword.ResponseCodes
+attr_word attr.Items = spelling keyword.Items
+attr_word attr.Members = spelling keyword.Members
+attr_word attr.Definition = spelling keyword.Definition
 
 -- the kinds whose items may have an attribute
 abbrev pub kinds_with : Attr → List Kind

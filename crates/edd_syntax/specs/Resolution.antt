@@ -1,7 +1,7 @@
 -- What names mean. An item's number is the count of items of its kind before it, a local's slot the count of declarators of its
 -- method before it. A name means the innermost local that was declared before it and whose block is open there, else the item;
 -- `c.m` means the item of the member m of c.
-use Rattle.std.specs.Prelude.{ℕ, ◌+◌, Bool, List, [], ◌∷◌, ◌++◌, length, filter, find, Option, Some, None, option_map, option_and_then, codes, if◌then◌else◌}
+use Rattle.std.specs.Prelude.{ℕ, ◌+◌, Bool, List, [], ◌∷◌, ◌++◌, length, filter, find, map, Option, Some, None, option_map, option_and_then, codes, if◌then◌else◌}
 use Rattle.std.specs.Str.{bytes_eq}
 use Rattle.std.specs.List.{list_any, flat_map}
 use Rattle.edd_syntax.specs.declared.numbers.Kind.{Kind}
@@ -108,24 +108,32 @@ abbrev pub meaning : Description Path → Scope → (kinds : List Kind) → Path
 meaning unit scope kinds path =
     elim (look_up path.base scope) [ Some slot ↦ local_meant slot path.members | None ↦ item_meant unit kinds path ]
 
--- the functions that a method may call
+-- the name of a function that a method may call
+abbrev pub builtin_name : Builtin → Name
+builtin_name builtin.PutMessage = codes "PUT_MESSAGE"
+builtin_name builtin.Acknowledge = codes "ACKNOWLEDGE"
+builtin_name builtin.Delay = codes "DELAY"
+builtin_name builtin.GetDevVarValue = codes "GET_DEV_VAR_VALUE"
+builtin_name builtin.SelectFromList = codes "SELECT_FROM_LIST"
+builtin_name builtin.SendCommand = codes "send_command"
+builtin_name builtin.SendCommandTrans = codes "send_command_trans"
+builtin_name builtin.SaveValues = codes "save_values"
+builtin_name builtin.IvarValue = codes "ivar_value"
+builtin_name builtin.LvarValue = codes "lvar_value"
+builtin_name builtin.Iassign = codes "iassign"
+builtin_name builtin.Lassign = codes "lassign"
+builtin_name builtin.Abort = codes "abort"
+builtin_name builtin.ProcessAbort = codes "process_abort"
+
+abbrev pub all_builtins : List Builtin
+all_builtins =
+    builtin.PutMessage ∷ builtin.Acknowledge ∷ builtin.Delay ∷ builtin.GetDevVarValue ∷ builtin.SelectFromList ∷
+    builtin.SendCommand ∷ builtin.SendCommandTrans ∷ builtin.SaveValues ∷ builtin.IvarValue ∷ builtin.LvarValue ∷
+    builtin.Iassign ∷ builtin.Lassign ∷ builtin.Abort ∷ builtin.ProcessAbort ∷ []
+
+-- the functions that a method may call, by their names
 abbrev pub builtins : List (Name × Builtin)
-builtins =
-    (codes "PUT_MESSAGE", builtin.PutMessage) ∷
-    (codes "ACKNOWLEDGE", builtin.Acknowledge) ∷
-    (codes "DELAY", builtin.Delay) ∷
-    (codes "GET_DEV_VAR_VALUE", builtin.GetDevVarValue) ∷
-    (codes "SELECT_FROM_LIST", builtin.SelectFromList) ∷
-    (codes "send_command", builtin.SendCommand) ∷
-    (codes "send_command_trans", builtin.SendCommandTrans) ∷
-    (codes "save_values", builtin.SaveValues) ∷
-    (codes "ivar_value", builtin.IvarValue) ∷
-    (codes "lvar_value", builtin.LvarValue) ∷
-    (codes "iassign", builtin.Iassign) ∷
-    (codes "lassign", builtin.Lassign) ∷
-    (codes "abort", builtin.Abort) ∷
-    (codes "process_abort", builtin.ProcessAbort) ∷
-    []
+builtins = map (λ f. (builtin_name f, f)) all_builtins
 
 abbrev pub function_meant : Path → Option Target
 function_meant path = option_map Function (look_up path.base builtins)

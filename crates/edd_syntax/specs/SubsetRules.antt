@@ -7,6 +7,8 @@ use Rattle.std.specs.Ordering.{int_eq}
 use Rattle.edd_syntax.specs.declared.numbers.ItemNo.TheVariants as item_no
 use Rattle.edd_syntax.specs.declared.operators.Builtin.{Builtin}
 use Rattle.edd_syntax.specs.declared.operators.Builtin.TheVariants as builtin
+use Rattle.edd_syntax.specs.declared.operators.Parameter.{Parameter}
+use Rattle.edd_syntax.specs.declared.operators.Parameter.TheVariants as parameter
 use Rattle.edd_syntax.specs.declared.types.VarType.{VarType}
 use Rattle.edd_syntax.specs.declared.types.VarType.TheVariants as var_type
 use Rattle.edd_syntax.specs.Text.{Name}
@@ -126,25 +128,20 @@ attributes_of unit = flat_map (λ i. i.attributes) unit.items
 
 -- ---- arguments that a function can't have, and an abort that isn't a statement of its own
 
--- what a function takes in a place: a text, a number, or a plain reference to a device variable
-pub data Parameter : Type 0 where
-  Text : Parameter
-  Number : Parameter
-  DeviceVariable : Parameter
-
+-- what a function takes, place by place
 abbrev pub parameters : Builtin → List Parameter
-parameters builtin.PutMessage = Text ∷ []
-parameters builtin.Acknowledge = Text ∷ []
-parameters builtin.Delay = Number ∷ Text ∷ []
-parameters builtin.GetDevVarValue = Text ∷ DeviceVariable ∷ []
-parameters builtin.SelectFromList = Text ∷ Text ∷ []
-parameters builtin.SendCommand = Number ∷ []
-parameters builtin.SendCommandTrans = Number ∷ Number ∷ []
+parameters builtin.PutMessage = parameter.Text ∷ []
+parameters builtin.Acknowledge = parameter.Text ∷ []
+parameters builtin.Delay = parameter.Number ∷ parameter.Text ∷ []
+parameters builtin.GetDevVarValue = parameter.Text ∷ parameter.DeviceVariable ∷ []
+parameters builtin.SelectFromList = parameter.Text ∷ parameter.Text ∷ []
+parameters builtin.SendCommand = parameter.Number ∷ []
+parameters builtin.SendCommandTrans = parameter.Number ∷ parameter.Number ∷ []
 parameters builtin.SaveValues = []
-parameters builtin.IvarValue = DeviceVariable ∷ []
-parameters builtin.LvarValue = DeviceVariable ∷ []
-parameters builtin.Iassign = DeviceVariable ∷ Number ∷ []
-parameters builtin.Lassign = DeviceVariable ∷ Number ∷ []
+parameters builtin.IvarValue = parameter.DeviceVariable ∷ []
+parameters builtin.LvarValue = parameter.DeviceVariable ∷ []
+parameters builtin.Iassign = parameter.DeviceVariable ∷ parameter.Number ∷ []
+parameters builtin.Lassign = parameter.DeviceVariable ∷ parameter.Number ∷ []
 parameters builtin.Abort = []
 parameters builtin.ProcessAbort = []
 
@@ -157,9 +154,9 @@ is_text (expr.Text text) = true
 is_text (expr.Value e) = false
 
 abbrev pub fits : Parameter → Argument Target → Bool
-fits Text argument = is_text argument
-fits Number argument = not (is_text argument)
-fits DeviceVariable argument = is_device_variable argument
+fits parameter.Text argument = is_text argument
+fits parameter.Number argument = not (is_text argument)
+fits parameter.DeviceVariable argument = is_device_variable argument
 
 abbrev pub all_fit : List Parameter → Arguments Target → Bool
 all_fit [] expr.Nil = true

@@ -1,5 +1,5 @@
 -- The tokens of the language, as far as the grammar tells them apart.
-use Rattle.std.specs.Prelude.{ℕ, List, [], ◌∷◌, find, Some, None, codes}
+use Rattle.std.specs.Prelude.{ℕ, List, [], ◌∷◌, find, map, Some, None, codes}
 use Rattle.std.specs.Str.{bytes_eq}
 use Rattle.edd_syntax.specs.declared.symbols.Keyword.{Keyword}
 use Rattle.edd_syntax.specs.declared.symbols.Keyword.TheVariants as keyword
@@ -17,66 +17,80 @@ pub data Token : Type 0 where
   String : (raw : List ℕ) → Token
   Sign : Symbol → Token
 
+-- how a reserved word is written
+abbrev pub spelling : Keyword → Name
+spelling keyword.Manufacturer = codes "MANUFACTURER"
+spelling keyword.DeviceType = codes "DEVICE_TYPE"
+spelling keyword.DeviceRevision = codes "DEVICE_REVISION"
+spelling keyword.DdRevision = codes "DD_REVISION"
+spelling keyword.Variable = codes "VARIABLE"
+spelling keyword.Command = codes "COMMAND"
+spelling keyword.Menu = codes "MENU"
+spelling keyword.Collection = codes "COLLECTION"
+spelling keyword.Method = codes "METHOD"
+spelling keyword.Of = codes "OF"
+spelling keyword.Label = codes "LABEL"
+spelling keyword.Help = codes "HELP"
+spelling keyword.Class = codes "CLASS"
+spelling keyword.Handling = codes "HANDLING"
+spelling keyword.ConstantUnit = codes "CONSTANT_UNIT"
+spelling keyword.Validity = codes "VALIDITY"
+spelling keyword.Type = codes "TYPE"
+spelling keyword.Number = codes "NUMBER"
+spelling keyword.Operation = codes "OPERATION"
+spelling keyword.Transaction = codes "TRANSACTION"
+spelling keyword.ResponseCodes = codes "RESPONSE_CODES"
+spelling keyword.Request = codes "REQUEST"
+spelling keyword.Reply = codes "REPLY"
+spelling keyword.Items = codes "ITEMS"
+spelling keyword.Members = codes "MEMBERS"
+spelling keyword.Definition = codes "DEFINITION"
+spelling keyword.If = codes "IF"
+spelling keyword.Else = codes "ELSE"
+spelling keyword.Select = codes "SELECT"
+spelling keyword.Case = codes "CASE"
+spelling keyword.Default = codes "DEFAULT"
+spelling keyword.DefaultValue = codes "DEFAULT_VALUE"
+spelling keyword.MinValue = codes "MIN_VALUE"
+spelling keyword.MaxValue = codes "MAX_VALUE"
+spelling keyword.DisplayFormat = codes "DISPLAY_FORMAT"
+spelling keyword.EditFormat = codes "EDIT_FORMAT"
+spelling keyword.Int = codes "int"
+spelling keyword.Long = codes "long"
+spelling keyword.MethodIf = codes "if"
+spelling keyword.MethodElse = codes "else"
+spelling keyword.While = codes "while"
+spelling keyword.Do = codes "do"
+spelling keyword.For = codes "for"
+spelling keyword.Switch = codes "switch"
+spelling keyword.MethodCase = codes "case"
+spelling keyword.MethodDefault = codes "default"
+spelling keyword.Break = codes "break"
+spelling keyword.Continue = codes "continue"
+spelling keyword.Return = codes "return"
+spelling keyword.Char = codes "char"
+spelling keyword.Short = codes "short"
+spelling keyword.Unsigned = codes "unsigned"
+spelling keyword.Signed = codes "signed"
+spelling keyword.Float = codes "float"
+spelling keyword.Double = codes "double"
+spelling keyword.Goto = codes "goto"
+
 -- the reserved words
+abbrev pub all_keywords : List Keyword
+all_keywords =
+    keyword.Manufacturer ∷ keyword.DeviceType ∷ keyword.DeviceRevision ∷ keyword.DdRevision ∷ keyword.Variable ∷
+    keyword.Command ∷ keyword.Menu ∷ keyword.Collection ∷ keyword.Method ∷ keyword.Of ∷ keyword.Label ∷ keyword.Help ∷
+    keyword.Class ∷ keyword.Handling ∷ keyword.ConstantUnit ∷ keyword.Validity ∷ keyword.Type ∷ keyword.Number ∷
+    keyword.Operation ∷ keyword.Transaction ∷ keyword.ResponseCodes ∷ keyword.Request ∷ keyword.Reply ∷ keyword.Items ∷
+    keyword.Members ∷ keyword.Definition ∷ keyword.If ∷ keyword.Else ∷ keyword.Select ∷ keyword.Case ∷ keyword.Default ∷
+    keyword.DefaultValue ∷ keyword.MinValue ∷ keyword.MaxValue ∷ keyword.DisplayFormat ∷ keyword.EditFormat ∷ keyword.Int ∷
+    keyword.Long ∷ keyword.MethodIf ∷ keyword.MethodElse ∷ keyword.While ∷ keyword.Do ∷ keyword.For ∷ keyword.Switch ∷
+    keyword.MethodCase ∷ keyword.MethodDefault ∷ keyword.Break ∷ keyword.Continue ∷ keyword.Return ∷ keyword.Char ∷
+    keyword.Short ∷ keyword.Unsigned ∷ keyword.Signed ∷ keyword.Float ∷ keyword.Double ∷ keyword.Goto ∷ []
+
 abbrev pub keywords : List (Name × Keyword)
-keywords =
-    (codes "MANUFACTURER", keyword.Manufacturer) ∷
-    (codes "DEVICE_TYPE", keyword.DeviceType) ∷
-    (codes "DEVICE_REVISION", keyword.DeviceRevision) ∷
-    (codes "DD_REVISION", keyword.DdRevision) ∷
-    (codes "VARIABLE", keyword.Variable) ∷
-    (codes "COMMAND", keyword.Command) ∷
-    (codes "MENU", keyword.Menu) ∷
-    (codes "COLLECTION", keyword.Collection) ∷
-    (codes "METHOD", keyword.Method) ∷
-    (codes "OF", keyword.Of) ∷
-    (codes "LABEL", keyword.Label) ∷
-    (codes "HELP", keyword.Help) ∷
-    (codes "CLASS", keyword.Class) ∷
-    (codes "HANDLING", keyword.Handling) ∷
-    (codes "CONSTANT_UNIT", keyword.ConstantUnit) ∷
-    (codes "VALIDITY", keyword.Validity) ∷
-    (codes "TYPE", keyword.Type) ∷
-    (codes "NUMBER", keyword.Number) ∷
-    (codes "OPERATION", keyword.Operation) ∷
-    (codes "TRANSACTION", keyword.Transaction) ∷
-    (codes "RESPONSE_CODES", keyword.ResponseCodes) ∷
-    (codes "REQUEST", keyword.Request) ∷
-    (codes "REPLY", keyword.Reply) ∷
-    (codes "ITEMS", keyword.Items) ∷
-    (codes "MEMBERS", keyword.Members) ∷
-    (codes "DEFINITION", keyword.Definition) ∷
-    (codes "IF", keyword.If) ∷
-    (codes "ELSE", keyword.Else) ∷
-    (codes "SELECT", keyword.Select) ∷
-    (codes "CASE", keyword.Case) ∷
-    (codes "DEFAULT", keyword.Default) ∷
-    (codes "DEFAULT_VALUE", keyword.DefaultValue) ∷
-    (codes "MIN_VALUE", keyword.MinValue) ∷
-    (codes "MAX_VALUE", keyword.MaxValue) ∷
-    (codes "DISPLAY_FORMAT", keyword.DisplayFormat) ∷
-    (codes "EDIT_FORMAT", keyword.EditFormat) ∷
-    (codes "int", keyword.Int) ∷
-    (codes "long", keyword.Long) ∷
-    (codes "if", keyword.MethodIf) ∷
-    (codes "else", keyword.MethodElse) ∷
-    (codes "while", keyword.While) ∷
-    (codes "do", keyword.Do) ∷
-    (codes "for", keyword.For) ∷
-    (codes "switch", keyword.Switch) ∷
-    (codes "case", keyword.MethodCase) ∷
-    (codes "default", keyword.MethodDefault) ∷
-    (codes "break", keyword.Break) ∷
-    (codes "continue", keyword.Continue) ∷
-    (codes "return", keyword.Return) ∷
-    (codes "char", keyword.Char) ∷
-    (codes "short", keyword.Short) ∷
-    (codes "unsigned", keyword.Unsigned) ∷
-    (codes "signed", keyword.Signed) ∷
-    (codes "float", keyword.Float) ∷
-    (codes "double", keyword.Double) ∷
-    (codes "goto", keyword.Goto) ∷
-    []
+keywords = map (λ k. (spelling k, k)) all_keywords
 
 -- the token of a word: a reserved word, or a name
 abbrev pub word_token : Name → Token

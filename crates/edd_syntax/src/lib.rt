@@ -15,6 +15,7 @@ pub mod resolved;
 mod rows;
 pub mod stmt;
 pub mod symbols;
+mod tables;
 pub mod text;
 pub mod types;
 pub mod unit;

@@ -62,3 +62,11 @@ pub enum Builtin {
     Abort,
     ProcessAbort,
 }
+
+/// What a function takes in a place: a text, a number, or a plain reference to a device variable.
+#[derive(Clone, Copy, PartialEq, Eq, Debug)]
+pub enum Parameter {
+    Text,
+    Number,
+    DeviceVariable,
+}

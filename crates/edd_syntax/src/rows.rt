@@ -2,32 +2,18 @@
 
 ghost use Rattle.std.specs.Prelude.{◌≡◌, ◌++◌, ◌≤◌, map, filter, length, nat_le, IsTrue, IfOk, OnOk};
 ghost use Rattle.std.specs.List.{list_any, list_all, flat_map};
-ghost use Rattle.edd_syntax.specs.Attributes as attributes;
 ghost use Rattle.edd_syntax.specs.declared.numbers.Kind.{Kind};
 ghost use Rattle.edd_syntax.specs.Item.{kind_of_item};
 ghost use Rattle.edd_syntax.specs.ItemView.{attribute_of, item_of, type_part_of, numbered_items};
 ghost use Rattle.edd_syntax.specs.NameRules as rules;
-ghost use Rattle.edd_syntax.specs.Numbers as numbers;
 ghost use Rattle.edd_syntax.specs.Resolution.{count_of};
 ghost use Rattle.edd_syntax.specs.Rows as order;
 
 use crate::checked::Checked;
 use crate::item::{Attribute, Item, TypePart};
-use crate::numbers::{Attr, AttrRef, CmdNo, CollNo, ItemNo, KINDS, Kind, MenuNo, MethNo, VarNo};
+use crate::numbers::{ATTRIBUTES, Attr, AttrRef, ItemNo, KINDS, Kind};
 use crate::reference::Target;
 use std::alloc::{AllocError, Global};
-
-fn is_same_attr(a: Attr, b: Attr) -> bool
-    ensures { result ≡ numbers.same_attr a b }
-{
-    a as u8 == b as u8
-}
-
-fn is_same_kind(a: Kind, b: Kind) -> bool
-    ensures { result ≡ numbers.same_kind a b }
-{
-    a as u8 == b as u8
-}
 
 fn part_attr(part: &TypePart<Target>) -> Attr
     ensures { result ≡ order.part_attr (type_part_of (λ r. r) part.now) }
@@ -46,7 +32,7 @@ fn part_attr(part: &TypePart<Target>) -> Attr
 fn is_part(part: &TypePart<Target>, attr: Attr) -> bool
     ensures { result ≡ order.part_stands_for attr (type_part_of (λ r. r) part.now) }
 {
-    is_same_attr(attr, part_attr(part))
+    attr == part_attr(part)
 }
 
 fn has_part(parts: &[TypePart<Target>], attr: Attr) -> bool
@@ -81,7 +67,7 @@ fn stands_for(attribute: &Attribute<Target>, attr: Attr) -> bool
         Attribute::Members(_) => Attr::Members,
         Attribute::Definition(_) => Attr::Definition,
     };
-    is_same_attr(attr, written)
+    attr == written
 }
 
 fn is_written(attributes: &[Attribute<Target>], attr: Attr) -> bool
@@ -93,24 +79,6 @@ fn is_written(attributes: &[Attribute<Target>], attr: Attr) -> bool
         }
     }
     false
-}
-
-fn is_of_transaction(attr: Attr) -> bool
-    ensures { result ≡ attributes.is_of_transaction attr }
-{
-    matches!(attr, Attr::Transaction | Attr::Request | Attr::Reply)
-}
-
-fn item_number(kind: Kind, number: u16) -> ItemNo
-    ensures { result ≡ numbers.item_number kind number }
-{
-    match kind {
-        Kind::Variable => ItemNo::Variable(VarNo(number)),
-        Kind::Command => ItemNo::Command(CmdNo(number)),
-        Kind::Menu => ItemNo::Menu(MenuNo(number)),
-        Kind::Collection => ItemNo::Collection(CollNo(number)),
-        Kind::Method => ItemNo::Method(MethNo(number)),
-    }
 }
 
 // The kind and the attributes of an item.
@@ -165,7 +133,7 @@ fn push_item(
     requires { length (filter rules.is_transaction (map (attribute_of (λ r. r)) attributes.now)) ≤ 4096 }
     ensures { OnOk result (rows.new.items ≡ rows.old.items ++ order.item_rows item attr (map (attribute_of (λ r. r)) attributes.now)) }
 {
-    if is_of_transaction(attr) {
+    if attr.is_of_transaction() {
         return push_transactions(rows, attributes, item, attr);
     }
     if is_written(attributes, attr) {
@@ -188,38 +156,13 @@ fn push_items(
     let mut number = 0;
     for item in items {
         let (of, attributes) = parts_of(item);
-        if is_same_kind(of, kind) {
-            push_item(rows, attributes, item_number(kind, number), attr)?;
+        if of == kind {
+            push_item(rows, attributes, kind.item(number), attr)?;
             number += 1;
         }
     }
     Ok(())
 }
-
-// The attributes by their numbers.
-const ATTRIBUTES: [Attr; 21] = [
-    Attr::Label,
-    Attr::Help,
-    Attr::Class,
-    Attr::Handling,
-    Attr::ConstantUnit,
-    Attr::Validity,
-    Attr::DefaultValue,
-    Attr::MinValue,
-    Attr::MaxValue,
-    Attr::DisplayFormat,
-    Attr::EditFormat,
-    Attr::Enumerators,
-    Attr::Number,
-    Attr::Operation,
-    Attr::Transaction,
-    Attr::Request,
-    Attr::Reply,
-    Attr::ResponseCodes,
-    Attr::Items,
-    Attr::Members,
-    Attr::Definition,
-];
 
 // The rows of these attributes of the items of a kind.
 fn push_attributes(

@@ -1,5 +1,8 @@
 //! The reserved words and the signs of the language.
 
+ghost use Rattle.std.specs.Prelude.{◌≡◌};
+ghost use Rattle.edd_syntax.specs.Token.{spelling};
+
 use crate::operators::{Comparison, Operator};
 
 /// A word that is never a name.
@@ -61,6 +64,72 @@ pub enum Keyword {
     Float,
     Double,
     Goto,
+}
+
+impl Keyword {
+    /// How the word is written, as EDDL has it (IEC 61804-3).
+    pub fn spelling(self) -> &'static str
+        ensures { result.now ≡ spelling self }
+    {
+        match self {
+            Keyword::Manufacturer => "MANUFACTURER",
+            Keyword::DeviceType => "DEVICE_TYPE",
+            Keyword::DeviceRevision => "DEVICE_REVISION",
+            Keyword::DdRevision => "DD_REVISION",
+            Keyword::Variable => "VARIABLE",
+            Keyword::Command => "COMMAND",
+            Keyword::Menu => "MENU",
+            Keyword::Collection => "COLLECTION",
+            Keyword::Method => "METHOD",
+            Keyword::Of => "OF",
+            Keyword::Label => "LABEL",
+            Keyword::Help => "HELP",
+            Keyword::Class => "CLASS",
+            Keyword::Handling => "HANDLING",
+            Keyword::ConstantUnit => "CONSTANT_UNIT",
+            Keyword::Validity => "VALIDITY",
+            Keyword::Type => "TYPE",
+            Keyword::Number => "NUMBER",
+            Keyword::Operation => "OPERATION",
+            Keyword::Transaction => "TRANSACTION",
+            Keyword::ResponseCodes => "RESPONSE_CODES",
+            Keyword::Request => "REQUEST",
+            Keyword::Reply => "REPLY",
+            Keyword::Items => "ITEMS",
+            Keyword::Members => "MEMBERS",
+            Keyword::Definition => "DEFINITION",
+            Keyword::If => "IF",
+            Keyword::Else => "ELSE",
+            Keyword::Select => "SELECT",
+            Keyword::Case => "CASE",
+            Keyword::Default => "DEFAULT",
+            Keyword::DefaultValue => "DEFAULT_VALUE",
+            Keyword::MinValue => "MIN_VALUE",
+            Keyword::MaxValue => "MAX_VALUE",
+            Keyword::DisplayFormat => "DISPLAY_FORMAT",
+            Keyword::EditFormat => "EDIT_FORMAT",
+            Keyword::Int => "int",
+            Keyword::Long => "long",
+            Keyword::MethodIf => "if",
+            Keyword::MethodElse => "else",
+            Keyword::While => "while",
+            Keyword::Do => "do",
+            Keyword::For => "for",
+            Keyword::Switch => "switch",
+            Keyword::MethodCase => "case",
+            Keyword::MethodDefault => "default",
+            Keyword::Break => "break",
+            Keyword::Continue => "continue",
+            Keyword::Return => "return",
+            Keyword::Char => "char",
+            Keyword::Short => "short",
+            Keyword::Unsigned => "unsigned",
+            Keyword::Signed => "signed",
+            Keyword::Float => "float",
+            Keyword::Double => "double",
+            Keyword::Goto => "goto",
+        }
+    }
 }
 
 /// A sign, or an operator by what it does.

@@ -21,6 +21,7 @@ use Rattle.edd_lexer.specs.Kept.{IsKept, IsLexeme}
 use Rattle.edd_lexer.specs.Tokens.{Lexeme, Stands, word, integer, decimal, string, sign, TokensFrom, nothing, behind_gap, behind_token, AreTokens, behind_byte_order_mark}
 use Rattle.edd_lexer.specs.Views.{token_of, lexeme_of}
 use Rattle.edd_lexer.proofs.Keeping.{tokens_kept}
+use Rattle.edd_lexer.proofs.Cuts.{gap_cut, token_cut}
 use Rattle.edd_lexer.proofs.Runs.{both, front_behind}
 use Rattle.edd_lexer.proofs.ByteTests.{next_here}
 use Rattle.edd_lexer.proofs.ReservedWords.{Tokened, word_tokened}
@@ -82,37 +83,11 @@ behind_more : (text here bytes rest : List ℕ) → Ends text here → here ≡ 
 behind_more text here bytes rest ends e =
     (ends.0 ++ bytes, ends.1 ∙ (ap (λ (x : List ℕ). ends.0 ++ x) e ∙ sym (append_assoc ends.0 bytes rest)))
 
--- behind the end of a comment stands the end of it
-close_cut : (body rest : List ℕ) → behind_close body ≡ Some rest → (bytes : List ℕ) × (body ≡ bytes ++ rest)
-close_cut [] rest e = absurd cc
-close_cut (b ∷ body) rest e = go ((b == 42) && begins (λ c. c == 47) body) refl e (close_cut body rest)
-  where
-    go : (t : Bool) → ((b == 42) && begins (λ c. c == 47) body) ≡ t → (elim t as (λ _. Option (List ℕ)) [ true ↦ Some (drop 1 body) | false ↦ behind_close body ]) ≡ Some rest
-        → (behind_close body ≡ Some rest → (bytes : List ℕ) × (body ≡ bytes ++ rest)) → (bytes : List ℕ) × (b ∷ body ≡ bytes ++ rest)
-    go true t f more =
-        let same : drop 1 body ≡ rest = cc in
-        let slash = next_here 47 body (both (b == 42) (begins (λ c. c == 47) body) t).1 in
-        (b ∷ 47 ∷ [], ap (λ (x : List ℕ). b ∷ x) slash ∙ ap (λ (x : List ℕ). b ∷ 47 ∷ x) same)
-    go false t f more = let found = more f in (b ∷ found.0, ap (λ (x : List ℕ). b ∷ x) found.1)
-
 behind_the_gap : (text : List ℕ) (fresh : Bool) (here : List ℕ) (next : Bool) (rest : List ℕ) → Ends text here → Gap fresh here next rest → Ends text rest
-behind_the_gap text fresh here next rest ends (blank {b = b} e) = behind_more text here (b ∷ []) rest ends refl
-behind_the_gap text fresh here next rest ends (line_comment {body = body}) =
-    behind_more text here (47 ∷ 47 ∷ front in_line body) rest ends (ap (λ (x : List ℕ). 47 ∷ 47 ∷ x) (sym (front_behind in_line body)))
-behind_the_gap text fresh here next rest ends (block_comment {body = body} e) =
-    let found = close_cut body rest e in
-    behind_more text here (47 ∷ 42 ∷ found.0) rest ends (ap (λ (x : List ℕ). 47 ∷ 42 ∷ x) found.1)
-behind_the_gap text fresh here next rest ends (mark {body = body} e) =
-    behind_more text here (35 ∷ front in_line body) rest ends (ap (λ (x : List ℕ). 35 ∷ x) (sym (front_behind in_line body)))
+behind_the_gap text fresh here next rest ends g = let cut = gap_cut fresh here next rest g in behind_more text here cut.0 rest ends cut.1
 
 behind_the_token : (text here : List ℕ) (t : Token) (rest : List ℕ) → Ends text here → Stands here t rest → Ends text rest
-behind_the_token text here t rest ends (word bytes whole name stop is) = behind_more text here bytes rest ends whole
-behind_the_token text here t rest ends (integer bytes n whole spelled fits free is) = behind_more text here bytes rest ends whole
-behind_the_token text here t rest ends (decimal bytes whole spelled free is) = behind_more text here bytes rest ends whole
-behind_the_token text here t rest ends (string inside raw whole closed good is) =
-    behind_more text here (quote ∷ (raw ++ quote ∷ [])) rest ends
-    (whole ∙ (ap (λ (x : List ℕ). quote ∷ x) closed.whole ∙ ap (λ (x : List ℕ). quote ∷ x) (sym (append_assoc raw (quote ∷ []) rest))))
-behind_the_token text here t rest ends (sign s whole free is) = behind_more text here (symbol_bytes s) rest ends whole
+behind_the_token text here t rest ends s = let cut = token_cut here t rest s in behind_more text here cut.0 rest ends cut.1
 
 -- ---- each token has its text
 

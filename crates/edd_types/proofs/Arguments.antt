@@ -3,10 +3,13 @@ use Rattle.std.proofs.Common.{◌≡◌, refl, sym, ◌∙◌, ◌<◌, ◌≤�
 use Rattle.std.proofs.lemmas.Bool.{false≢true}
 use Rattle.edd_syntax.specs.declared.reference.Target.{Target}
 use Rattle.edd_syntax.specs.Expression.{Argument, Arguments, arguments_from}
-use Rattle.edd_syntax.specs.SubsetRules.{Parameter, all_fit, call_breaches, argument_mismatches}
+use Rattle.edd_syntax.specs.declared.operators.Builtin.{Builtin}
+use Rattle.edd_syntax.specs.declared.operators.Builtin.TheVariants as builtin
+use Rattle.edd_syntax.specs.declared.operators.Parameter.{Parameter}
+use Rattle.edd_syntax.specs.SubsetRules.{all_fit, parameters, call_breaches, argument_mismatches}
 use Rattle.edd_syntax.specs.SubsetRules as rules
 use Rattle.edd_syntax.specs.Refusal.{Mismatch, first_of}
-use Rattle.edd_types.proofs.FirstLaws.{first_of-append_none, first_of-append_some}
+use Rattle.edd_syntax.proofs.FirstLaws.{first_of-append_none, first_of-append_some}
 use Rattle.std.specs.Prelude.{◌&&◌, true, Bool, Some, None, if◌then◌else◌}
 
 and_false : (b : Bool) → b && false ≡ false
@@ -46,6 +49,24 @@ pub ruleset not_two = (few_are_not_two, many_are_not_two)
 pub some_are_not_none : {X : Type 0} (view : X → Argument Target) (xs : List X) → 1 ≤ length xs → false ≡ all_fit [] (arguments_from (map view xs))
 some_are_not_none view [] h = absurd (omega arith)
 some_are_not_none view (x ∷ xs) h = refl
+
+-- ---- how many a function takes
+
+pub few_parameters : (f : Builtin) → length (parameters f) ≤ 2
+few_parameters builtin.PutMessage = omega arith
+few_parameters builtin.Acknowledge = omega arith
+few_parameters builtin.Delay = omega arith
+few_parameters builtin.GetDevVarValue = omega arith
+few_parameters builtin.SelectFromList = omega arith
+few_parameters builtin.SendCommand = omega arith
+few_parameters builtin.SendCommandTrans = omega arith
+few_parameters builtin.SaveValues = omega arith
+few_parameters builtin.IvarValue = omega arith
+few_parameters builtin.LvarValue = omega arith
+few_parameters builtin.Iassign = omega arith
+few_parameters builtin.Lassign = omega arith
+few_parameters builtin.Abort = omega arith
+few_parameters builtin.ProcessAbort = omega arith
 
 -- ---- a call and its arguments
 

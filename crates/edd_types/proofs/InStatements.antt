@@ -10,7 +10,7 @@ use Rattle.edd_syntax.specs.Statement.{Declarator, Stmt, Part, Body, body_from}
 use Rattle.edd_syntax.specs.SubsetRules.{Placed, optional_part, stmt_expressions, body_expressions}
 use Rattle.edd_types.specs.declared.breach.Breach.{Breach}
 use Rattle.edd_types.specs.Breaches.{in_placed, in_part, in_expressions, in_statement, in_body, in_optional, in_header, in_declarators}
-use Rattle.edd_types.proofs.FirstLaws.{first_of-append_none, first_of-append_some}
+use Rattle.edd_syntax.proofs.FirstLaws.{first_of-append_none, first_of-append_some}
 
 module _ (b : Breach) where
   pub in_expressions-append : (xs ys : List (Placed Target)) → in_expressions b (xs ++ ys) ≡ in_expressions b xs ++ in_expressions b ys

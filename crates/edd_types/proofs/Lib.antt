@@ -1,6 +1,6 @@
 pub mod Arguments
 pub mod BareViews
-pub mod FirstLaws
+pub mod FoundLaws
 pub mod InStatements
 pub mod RuleLaws
 pub mod Splits

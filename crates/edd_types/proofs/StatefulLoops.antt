@@ -3,7 +3,7 @@ use Rattle.std.proofs.Common.{◌≡◌, sym, ap, ◌∙◌, ℕ, ◌+◌, ◌<�
 use Rattle.std.proofs.lemmas.List.{at_drop_more}
 use Rattle.std.proofs.Math.ListN.{drop_of_length-le}
 use Rattle.edd_syntax.specs.Refusal.{Refusal, first_of}
-use Rattle.edd_types.proofs.FirstLaws.{first_of-append_none, first_of-append_some}
+use Rattle.edd_syntax.proofs.FirstLaws.{first_of-append_none, first_of-append_some}
 
 module _ {S X Y : Type 0} (breaches : S → List Y → List Refusal) (one : S → Y → List Refusal) (next : S → Y → S) (view : X → Y) (splits : (s : S) (y : Y) (ys : List Y) → breaches s (y ∷ ys) ≡ one s y ++ breaches (next s y) ys) where
   -- the first breach of the elements from the i-th on, in a state

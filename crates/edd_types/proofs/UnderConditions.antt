@@ -8,7 +8,7 @@ use Rattle.edd_syntax.proofs.CondRows.{of_value, of_if, of_select, of_case, of_d
 use Rattle.edd_types.specs.declared.breach.Breach.{Breach}
 use Rattle.edd_types.specs.Breaches.{in_cond, in_conds, in_arm, in_arms, in_default, has_default}
 use Rattle.edd_types.proofs.Weights.{element_is_smaller, arm_is_smaller}
-use Rattle.edd_types.proofs.FirstLaws.{first_of-append_none, first_of-append_some}
+use Rattle.edd_syntax.proofs.FirstLaws.{first_of-append_none, first_of-append_some}
 
 module _ {V : Type 0} (b : Breach) (of : V → List Refusal) where
   pub conds_split : (c : Cond Target V) (cs : List (Cond Target V)) → in_conds b of (conds_from (c ∷ cs)) ≡ in_conds b of (conds_from (c ∷ [])) ++ in_conds b of (conds_from cs)

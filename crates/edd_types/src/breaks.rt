@@ -12,7 +12,7 @@ use edd_syntax::stmt::{Part, Stmt};
 
 /// The line of the first `break` or `continue` that has nothing to leave.
 #[cycle(breaks)]
-#[tactic(auto, using(crate::proofs::FirstLaws::firsts))]
+#[tactic(auto, using(edd_syntax::proofs::FirstLaws::firsts))]
 pub fn check_breaks(s: &Stmt<Target>, in_loop: bool, in_switch: bool) -> Result<(), u32>
     ensures { found BreakOutside result ≡ first_of (breaks_outside in_loop in_switch (stmt_of (λ r. r) s.now)) }
 {
@@ -40,7 +40,7 @@ pub fn check_breaks(s: &Stmt<Target>, in_loop: bool, in_switch: bool) -> Result<
 }
 
 #[cycle(breaks)]
-#[tactic(auto, using(crate::proofs::FirstLaws::firsts))]
+#[tactic(auto, using(edd_syntax::proofs::FirstLaws::firsts))]
 pub fn check_parts(parts: &[Part<Target>], in_loop: bool, in_switch: bool) -> Result<(), u32>
     ensures { found BreakOutside result ≡ first_of (breaks_outside_in in_loop in_switch (body_from (map (part_of (λ r. r)) parts.now))) }
 {
@@ -51,7 +51,7 @@ pub fn check_parts(parts: &[Part<Target>], in_loop: bool, in_switch: bool) -> Re
 }
 
 #[cycle(breaks)]
-#[tactic(auto, using(crate::proofs::FirstLaws::firsts))]
+#[tactic(auto, using(edd_syntax::proofs::FirstLaws::firsts))]
 fn check_part(part: &Part<Target>, in_loop: bool, in_switch: bool) -> Result<(), u32>
     ensures { found BreakOutside result ≡ first_of (breaks_outside_in in_loop in_switch (body_from (part_of (λ r. r) part.now ∷ []))) }
 {

@@ -1,17 +1,16 @@
 //! Calls of builtin functions.
 
-ghost use Rattle.std.specs.Prelude.{◌≡◌, [], ◌∷◌, map, if◌then◌else◌, Some, None};
+ghost use Rattle.std.specs.Prelude.{◌≡◌, ◌≤◌, [], ◌∷◌, map, length, if◌then◌else◌, Some, None};
 ghost use Rattle.edd_syntax.specs.Expression.{arguments_from};
 ghost use Rattle.edd_syntax.specs.TreeView.{expr_of, argument_of};
 ghost use Rattle.edd_syntax.specs.SubsetRules as rules;
-ghost use Rattle.edd_syntax.specs.SubsetRules.{all_fit, parameters, is_abort, call_breaches, call_mismatches, argument_mismatches};
+ghost use Rattle.edd_syntax.specs.SubsetRules.{all_fit, is_abort, call_breaches, call_mismatches, argument_mismatches};
 ghost use Rattle.edd_syntax.specs.Refusal.{first_of, Mismatch};
 ghost use Rattle.edd_types.specs.Found.{found};
-ghost use Rattle.edd_types.specs.Parameters.{parameter_of};
 
 use edd_syntax::expr::{Argument, Expr};
 use edd_syntax::numbers::ItemNo;
-use edd_syntax::operators::Builtin;
+use edd_syntax::operators::{Builtin, Parameter};
 use edd_syntax::reference::Target;
 
 fn is_text(argument: &Argument<Target>) -> bool
@@ -32,16 +31,8 @@ fn is_device_variable(argument: &Argument<Target>) -> bool
     }
 }
 
-// What a function takes in a place.
-#[derive(Clone, Copy)]
-enum Parameter {
-    Text,
-    Number,
-    DeviceVariable,
-}
-
 fn fits(parameter: Parameter, argument: &Argument<Target>) -> bool
-    ensures { result ≡ rules.fits (parameter_of parameter) (argument_of (λ r. r) argument.now) }
+    ensures { result ≡ rules.fits parameter (argument_of (λ r. r) argument.now) }
 {
     match parameter {
         Parameter::Text => is_text(argument),
@@ -62,7 +53,7 @@ fn are_none(arguments: &[Argument<Target>]) -> bool
 
 #[tactic(auto, using(crate::proofs::Arguments::not_one))]
 fn is_one(first: Parameter, arguments: &[Argument<Target>]) -> bool
-    ensures { result ≡ all_fit (parameter_of first ∷ []) (arguments_from (map (argument_of (λ r. r)) arguments.now)) }
+    ensures { result ≡ all_fit (first ∷ []) (arguments_from (map (argument_of (λ r. r)) arguments.now)) }
 {
     match arguments {
         [only] => fits(first, only),
@@ -72,7 +63,7 @@ fn is_one(first: Parameter, arguments: &[Argument<Target>]) -> bool
 
 #[tactic(auto, using(crate::proofs::Arguments::not_two))]
 fn are_two(first: Parameter, second: Parameter, arguments: &[Argument<Target>]) -> bool
-    ensures { result ≡ all_fit (parameter_of first ∷ parameter_of second ∷ []) (arguments_from (map (argument_of (λ r. r)) arguments.now)) }
+    ensures { result ≡ all_fit (first ∷ second ∷ []) (arguments_from (map (argument_of (λ r. r)) arguments.now)) }
 {
     match arguments {
         [one, other] => fits(first, one) && fits(second, other),
@@ -80,25 +71,20 @@ fn are_two(first: Parameter, second: Parameter, arguments: &[Argument<Target>]) 
     }
 }
 
-// The arguments are such as the function takes, in number and kind.
-fn all_fit(function: Builtin, arguments: &[Argument<Target>]) -> bool
-    ensures { result ≡ all_fit (parameters function) (arguments_from (map (argument_of (λ r. r)) arguments.now)) }
+// The arguments are such as these parameters ask for, in number and kind. No function has more than two.
+fn all_fit(parameters: &[Parameter], arguments: &[Argument<Target>]) -> bool
+    requires { length parameters.now ≤ 2 }
+    ensures { result ≡ all_fit parameters.now (arguments_from (map (argument_of (λ r. r)) arguments.now)) }
 {
-    use Parameter::{DeviceVariable, Number, Text};
-    match function {
-        Builtin::PutMessage | Builtin::Acknowledge => is_one(Text, arguments),
-        Builtin::Delay => are_two(Number, Text, arguments),
-        Builtin::GetDevVarValue => are_two(Text, DeviceVariable, arguments),
-        Builtin::SelectFromList => are_two(Text, Text, arguments),
-        Builtin::SendCommand => is_one(Number, arguments),
-        Builtin::SendCommandTrans => are_two(Number, Number, arguments),
-        Builtin::IvarValue | Builtin::LvarValue => is_one(DeviceVariable, arguments),
-        Builtin::Iassign | Builtin::Lassign => are_two(DeviceVariable, Number, arguments),
-        Builtin::SaveValues | Builtin::Abort | Builtin::ProcessAbort => are_none(arguments),
+    match parameters {
+        [] => are_none(arguments),
+        [only] => is_one(*only, arguments),
+        [first, second, ..] => are_two(*first, *second, arguments),
     }
 }
 
 // An abort is a statement of its own.
+#[tactic(auto, using(crate::proofs::Arguments::few_parameters))]
 fn is_call(function: Target, arguments: &[Argument<Target>], is_statement: bool) -> bool
     ensures { first_of (call_breaches is_statement function (arguments_from (map (argument_of (λ r. r)) arguments.now)))
         ≡ (if result then None else Some Mismatch) }
@@ -106,7 +92,7 @@ fn is_call(function: Target, arguments: &[Argument<Target>], is_statement: bool)
     match function {
         Target::Function(f) => {
             let is_abort = matches!(f, Builtin::Abort | Builtin::ProcessAbort);
-            all_fit(f, arguments) && (is_statement || !is_abort)
+            all_fit(f.parameters(), arguments) && (is_statement || !is_abort)
         }
         Target::Local(_) | Target::Item(_) => false,
     }
@@ -114,7 +100,7 @@ fn is_call(function: Target, arguments: &[Argument<Target>], is_statement: bool)
 
 /// The line of the first call with arguments that its function does not take, or of an abort inside an expression.
 #[cycle(calls)]
-#[tactic(auto, using(crate::proofs::FirstLaws::firsts))]
+#[tactic(auto, using(edd_syntax::proofs::FirstLaws::firsts))]
 pub fn check_calls(e: &Expr<Target>, is_statement: bool) -> Result<(), u32>
     ensures { found Mismatch result ≡ first_of (call_mismatches is_statement (expr_of (λ r. r) e.now)) }
 {
@@ -161,7 +147,7 @@ pub fn check_calls(e: &Expr<Target>, is_statement: bool) -> Result<(), u32>
 }
 
 #[cycle(calls)]
-#[tactic(auto, using(crate::proofs::FirstLaws::firsts))]
+#[tactic(auto, using(edd_syntax::proofs::FirstLaws::firsts))]
 fn check_arguments(arguments: &[Argument<Target>]) -> Result<(), u32>
     ensures { found Mismatch result ≡ first_of (argument_mismatches (arguments_from (map (argument_of (λ r. r)) arguments.now))) }
 {
@@ -172,7 +158,7 @@ fn check_arguments(arguments: &[Argument<Target>]) -> Result<(), u32>
 }
 
 #[cycle(calls)]
-#[tactic(auto, using(crate::proofs::FirstLaws::firsts))]
+#[tactic(auto, using(edd_syntax::proofs::FirstLaws::firsts))]
 fn check_argument(argument: &Argument<Target>) -> Result<(), u32>
     ensures { found Mismatch result ≡ first_of (argument_mismatches (arguments_from (argument_of (λ r. r) argument.now ∷ []))) }
 {

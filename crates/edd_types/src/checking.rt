@@ -63,7 +63,7 @@ fn check_rule(alloc: Global, items: &[Item<Target>], rule: Rule) -> Result<(), T
     }
 }
 
-#[tactic(auto, using(crate::proofs::FirstLaws::firsts), unfolding(crate::specs::Rules::all_broken))]
+#[tactic(auto, using(edd_syntax::proofs::FirstLaws::firsts), unfolding(crate::specs::Rules::all_broken))]
 fn check_all(alloc: Global, items: &[Item<Target>]) -> Result<(), TypeFault>
     ensures ok { OnOk result (None ≡ first_of (all_broken (map (item_of (λ r. r)) items.now))) }
     ensures err { IfErr result (IsFirstOf (all_broken (map (item_of (λ r. r)) items.now))) }

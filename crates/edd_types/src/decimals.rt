@@ -12,7 +12,7 @@ use edd_syntax::reference::Target;
 
 /// The line of the first decimal in an expression, if it has one.
 #[cycle(decimals)]
-#[tactic(auto, using(crate::proofs::FirstLaws::firsts))]
+#[tactic(auto, using(edd_syntax::proofs::FirstLaws::firsts))]
 pub fn check_decimals(e: &Expr<Target>) -> Result<(), u32>
     ensures { found FloatValue result ≡ first_of (decimals (expr_of (λ r. r) e.now)) }
 {
@@ -49,7 +49,7 @@ pub fn check_decimals(e: &Expr<Target>) -> Result<(), u32>
 }
 
 #[cycle(decimals)]
-#[tactic(auto, using(crate::proofs::FirstLaws::firsts))]
+#[tactic(auto, using(edd_syntax::proofs::FirstLaws::firsts))]
 fn check_arguments(arguments: &[Argument<Target>]) -> Result<(), u32>
     ensures { found FloatValue result ≡ first_of (argument_decimals (arguments_from (map (argument_of (λ r. r)) arguments.now))) }
 {
@@ -60,7 +60,7 @@ fn check_arguments(arguments: &[Argument<Target>]) -> Result<(), u32>
 }
 
 #[cycle(decimals)]
-#[tactic(auto, using(crate::proofs::FirstLaws::firsts))]
+#[tactic(auto, using(edd_syntax::proofs::FirstLaws::firsts))]
 fn check_argument(argument: &Argument<Target>) -> Result<(), u32>
     ensures { found FloatValue result ≡ first_of (argument_decimals (arguments_from (argument_of (λ r. r) argument.now ∷ []))) }
 {

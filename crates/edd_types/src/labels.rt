@@ -75,7 +75,7 @@ fn add_part(
 }
 
 #[cycle(labels)]
-#[tactic(auto, using(crate::proofs::FirstLaws::firsts))]
+#[tactic(auto, using(edd_syntax::proofs::FirstLaws::firsts))]
 fn check_inside(s: &Stmt<Target>, alloc: Global) -> Result<Option<u32>, AllocError>
     ensures { IfOk result (λ line. found_at DuplicateCase line ≡ first_of (repeated_labels_inside (stmt_of (λ r. r) s.now))) }
 {

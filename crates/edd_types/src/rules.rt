@@ -28,7 +28,7 @@ pub enum Rule {
     DuplicateCase,
 }
 
-#[tactic(auto, using(crate::proofs::FirstLaws::firsts, crate::proofs::RuleLaws::calls_in_attribute))]
+#[tactic(auto, using(edd_syntax::proofs::FirstLaws::firsts, crate::proofs::RuleLaws::calls_in_attribute))]
 fn check_mismatches(attribute: &Attribute<Target>) -> Result<(), u32>
     ensures { found Mismatch result ≡ first_of (broken_in rule.Mismatch (attribute_of (λ r. r) attribute.now)) }
 {
@@ -36,7 +36,7 @@ fn check_mismatches(attribute: &Attribute<Target>) -> Result<(), u32>
     check_inside(attribute, Breach::Call)
 }
 
-#[tactic(auto, using(crate::proofs::FirstLaws::flat_one))]
+#[tactic(auto, using(edd_syntax::proofs::FirstLaws::flat_one))]
 fn check_breaks_in(attribute: &Attribute<Target>) -> Result<(), u32>
     ensures { found BreakOutside result ≡ first_of (broken_in rule.BreakOutside (attribute_of (λ r. r) attribute.now)) }
 {

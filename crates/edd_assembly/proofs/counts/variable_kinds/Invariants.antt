@@ -1,7 +1,7 @@
 use Rattle.std.proofs.Common.{◌≡◌, map, [], ◌∷◌}
 use Rattle.edd_syntax.specs.ItemView.{item_of}
 use Rattle.edd_assembly.specs.Assembly.{variable_kinds}
-use Rattle.edd_assembly.proofs.Appending.{with_rest}
+use Rattle.edd_syntax.proofs.Appending.{with_rest}
 use Rattle.edd_assembly.proofs.Types.{variables_split}
 use Rattle.edd_assembly.proofs.counts.variable_kinds.Given as goal
 

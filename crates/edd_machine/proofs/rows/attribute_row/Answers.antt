@@ -1,4 +1,5 @@
-use Rattle.std.proofs.Common.{refl, sym, ◌∙◌}
+use Rattle.std.proofs.Common.{refl, sym, ap, ◌∙◌}
+use Rattle.edd_syntax.specs.Numbers.{kind_number}
 use Rattle.edd_loader.proofs.RuleOrder.{has_header}
 use Rattle.edd_machine.proofs.RisingRows.{attribute_past, attribute_other, attribute_other_sub, attribute_there, row_inside}
 use Rattle.edd_machine.proofs.rows.attribute_row.Goals as goal
@@ -22,12 +23,12 @@ pub returns-then-first-attribute_count-clause-row : goal.returns-then-first-attr
 returns-then-first-attribute_count-clause-row c = sym (attribute_past c.args.bytes.now c.args.attr c.first_row-first.result (record {
   valid = c.requires;
   are = record { below = λ i. (c.type_inv.bytes i).fits };
-  kind = c.kind_number-kind.result;
-  kind_is = c.kind_number-kind.ensures;
-  attribute = c.attr_number-attribute.result;
-  attribute_is = c.attr_number-attribute.ensures;
-  item = c.index_of-item.result;
-  item_is = c.index_of-item.ensures;
+  kind = c.number-kind.result;
+  kind_is = c.number-kind.ensures ∙ ap kind_number c.kind.ensures;
+  attribute = c.number-attribute.result;
+  attribute_is = c.number-attribute.ensures;
+  item = c.index-item.result;
+  item_is = c.index-item.ensures;
   key = c.rank.result;
   key_is = c.rank.ensures;
   end = c.first_row-first.ensures.end;
@@ -39,12 +40,12 @@ pub returns-then-not-is_row_of-clause-row : goal.returns-then-not-is_row_of-clau
 returns-then-not-is_row_of-clause-row c = sym (attribute_other c.args.bytes.now c.args.attr c.first_row-first.result (record {
   valid = c.requires;
   are = record { below = λ i. (c.type_inv.bytes i).fits };
-  kind = c.kind_number-kind.result;
-  kind_is = c.kind_number-kind.ensures;
-  attribute = c.attr_number-attribute.result;
-  attribute_is = c.attr_number-attribute.ensures;
-  item = c.index_of-item.result;
-  item_is = c.index_of-item.ensures;
+  kind = c.number-kind.result;
+  kind_is = c.number-kind.ensures ∙ ap kind_number c.kind.ensures;
+  attribute = c.number-attribute.result;
+  attribute_is = c.number-attribute.ensures;
+  item = c.index-item.result;
+  item_is = c.index-item.ensures;
   key = c.rank.result;
   key_is = c.rank.ensures;
   end = c.first_row-first.ensures.end;
@@ -56,12 +57,12 @@ pub returns-then-attribute_sub-attr-clause-row : goal.returns-then-attribute_sub
 returns-then-attribute_sub-attr-clause-row c = sym (attribute_other_sub c.args.bytes.now c.args.attr c.first_row-first.result (record {
   valid = c.requires;
   are = record { below = λ i. (c.type_inv.bytes i).fits };
-  kind = c.kind_number-kind.result;
-  kind_is = c.kind_number-kind.ensures;
-  attribute = c.attr_number-attribute.result;
-  attribute_is = c.attr_number-attribute.ensures;
-  item = c.index_of-item.result;
-  item_is = c.index_of-item.ensures;
+  kind = c.number-kind.result;
+  kind_is = c.number-kind.ensures ∙ ap kind_number c.kind.ensures;
+  attribute = c.number-attribute.result;
+  attribute_is = c.number-attribute.ensures;
+  item = c.index-item.result;
+  item_is = c.index-item.ensures;
   key = c.rank.result;
   key_is = c.rank.ensures;
   end = c.first_row-first.ensures.end;
@@ -73,12 +74,12 @@ pub returns-clause-row : goal.returns-clause-row
 returns-clause-row c = attribute_there c.args.bytes.now c.args.attr c.first_row-first.result (record {
   valid = c.requires;
   are = record { below = λ i. (c.type_inv.bytes i).fits };
-  kind = c.kind_number-kind.result;
-  kind_is = c.kind_number-kind.ensures;
-  attribute = c.attr_number-attribute.result;
-  attribute_is = c.attr_number-attribute.ensures;
-  item = c.index_of-item.result;
-  item_is = c.index_of-item.ensures;
+  kind = c.number-kind.result;
+  kind_is = c.number-kind.ensures ∙ ap kind_number c.kind.ensures;
+  attribute = c.number-attribute.result;
+  attribute_is = c.number-attribute.ensures;
+  item = c.index-item.result;
+  item_is = c.index-item.ensures;
   key = c.rank.result;
   key_is = c.rank.ensures;
   end = c.first_row-first.ensures.end;

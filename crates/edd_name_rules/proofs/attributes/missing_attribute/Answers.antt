@@ -2,7 +2,7 @@ use Rattle.std.proofs.Common.{arith}
 use Rattle.edd_syntax.specs.TreeView.{path_of}
 use Rattle.edd_syntax.specs.ItemView.{item_of}
 use Rattle.edd_name_rules.specs.Walks.{refusal_of_missing, missing_in}
-use Rattle.edd_name_rules.proofs.FirstLaws.{goes_on, stops_at}
+use Rattle.edd_syntax.proofs.FirstLaws.{goes_on, stops_at}
 use Rattle.edd_name_rules.proofs.Missing.{items_split}
 use Rattle.edd_name_rules.proofs.attributes.missing_attribute.Goals as goal
 

@@ -2,7 +2,7 @@ use Rattle.std.proofs.Common.{◌≡◌}
 use Rattle.edd_syntax.specs.TreeView.{path_of}
 use Rattle.edd_syntax.specs.ItemView.{item_of}
 use Rattle.edd_name_rules.specs.Walks.{missing_in}
-use Rattle.edd_name_rules.proofs.FirstLaws.{first_from}
+use Rattle.edd_syntax.proofs.FirstLaws.{first_from}
 use Rattle.edd_name_rules.proofs.Missing.{items_split}
 use Rattle.edd_name_rules.proofs.attributes.missing_attribute.Given as goal
 

@@ -3,7 +3,7 @@ use Rattle.std.specs.List.{flat_map}
 use Rattle.edd_syntax.specs.ItemView.{item_of}
 use Rattle.edd_syntax.specs.NameRules.{repeated_words}
 use Rattle.edd_syntax.specs.TreeView.{path_of}
-use Rattle.edd_name_rules.proofs.FirstLaws.{first_from, flat_split}
+use Rattle.edd_syntax.proofs.FirstLaws.{first_from, flat_split}
 use Rattle.edd_name_rules.proofs.repeats.repeated_in_items.Given as goal
 
 -- the items so far have no attribute twice

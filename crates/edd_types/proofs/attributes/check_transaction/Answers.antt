@@ -3,7 +3,8 @@ use Rattle.std.specs.List.{flat_map}
 use Rattle.edd_syntax.specs.ItemView.{transaction_part_of}
 use Rattle.edd_syntax.specs.Refusal.{first_of}
 use Rattle.edd_types.specs.Breaches.{refusal_of, in_transaction_part}
-use Rattle.edd_types.proofs.FirstLaws.{found_err, flat_split, flat_one, goes_on, stops_at}
+use Rattle.edd_types.proofs.FoundLaws.{found_err}
+use Rattle.edd_syntax.proofs.FirstLaws.{flat_split, flat_one, goes_on, stops_at}
 use Rattle.edd_types.proofs.attributes.check_transaction.Goals as goal
 
 pub loop-part-preserved : goal.loop-part-preserved

@@ -2,7 +2,7 @@ use Rattle.std.proofs.Common.{◌≡◌}
 use Rattle.std.specs.List.{flat_map}
 use Rattle.edd_syntax.specs.ItemView.{transaction_part_of}
 use Rattle.edd_types.specs.Breaches.{in_transaction_part}
-use Rattle.edd_types.proofs.FirstLaws.{first_from, flat_split}
+use Rattle.edd_syntax.proofs.FirstLaws.{first_from, flat_split}
 use Rattle.edd_types.proofs.attributes.check_transaction.Given as goal
 
 -- the parts so far have no breach

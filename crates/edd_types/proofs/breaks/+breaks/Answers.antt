@@ -4,7 +4,8 @@ use Rattle.edd_syntax.specs.TreeView.{part_of}
 use Rattle.edd_syntax.specs.SubsetRules.{breaks_outside, breaks_outside_in}
 use Rattle.edd_syntax.specs.Refusal.{first_of, BreakOutside}
 use Rattle.edd_syntax.proofs.TreeRows.{block_is, switch_is}
-use Rattle.edd_types.proofs.FirstLaws.{found_err, goes_on, stops_at}
+use Rattle.edd_types.proofs.FoundLaws.{found_err}
+use Rattle.edd_syntax.proofs.FirstLaws.{goes_on, stops_at}
 use Rattle.edd_types.proofs.Splits.{breaks_split}
 use Rattle.edd_types.proofs.breaks.+breaks.Goals as goal
 

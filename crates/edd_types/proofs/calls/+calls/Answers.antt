@@ -4,7 +4,8 @@ use Rattle.edd_syntax.specs.TreeView.{argument_of}
 use Rattle.edd_syntax.specs.SubsetRules.{call_mismatches, argument_mismatches}
 use Rattle.edd_syntax.specs.Refusal.{Mismatch, first_of}
 use Rattle.edd_syntax.proofs.TreeRows.{call_is}
-use Rattle.edd_types.proofs.FirstLaws.{found_err, goes_on, stops_at}
+use Rattle.edd_types.proofs.FoundLaws.{found_err}
+use Rattle.edd_syntax.proofs.FirstLaws.{goes_on, stops_at}
 use Rattle.edd_types.proofs.Arguments.{call_breaks, call_passes}
 use Rattle.edd_types.proofs.Splits.{mismatches_split}
 use Rattle.edd_types.proofs.calls.+calls.Goals as goal

@@ -2,7 +2,7 @@ use Rattle.std.proofs.Common.{◌≡◌}
 use Rattle.edd_syntax.specs.Expression.{arguments_from}
 use Rattle.edd_syntax.specs.TreeView.{argument_of}
 use Rattle.edd_syntax.specs.SubsetRules.{argument_mismatches}
-use Rattle.edd_types.proofs.FirstLaws.{first_from}
+use Rattle.edd_syntax.proofs.FirstLaws.{first_from}
 use Rattle.edd_types.proofs.Splits.{mismatches_split}
 use Rattle.edd_types.proofs.calls.+calls.Given as goal
 

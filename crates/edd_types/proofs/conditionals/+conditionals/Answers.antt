@@ -5,7 +5,8 @@ use Rattle.edd_syntax.specs.Refusal.{first_of}
 use Rattle.edd_syntax.specs.TreeView.{expr_of}
 use Rattle.edd_syntax.proofs.CondRows.{of_if}
 use Rattle.edd_types.specs.Breaches.{refusal_of, in_part, in_cond, in_conds, in_arm, in_arms, has_default}
-use Rattle.edd_types.proofs.FirstLaws.{found_err, first_of-append_none, first_of-append_some}
+use Rattle.edd_types.proofs.FoundLaws.{found_err}
+use Rattle.edd_syntax.proofs.FirstLaws.{first_of-append_none, first_of-append_some}
 use Rattle.edd_types.proofs.StatefulLoops as stateful
 use Rattle.edd_types.proofs.UnderConditions.{arms_split}
 use Rattle.edd_types.proofs.Weights.{element_is_smaller, arm_is_smaller}

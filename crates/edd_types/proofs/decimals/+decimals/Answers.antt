@@ -4,7 +4,8 @@ use Rattle.edd_syntax.specs.Expression.{arguments_from}
 use Rattle.edd_syntax.specs.Refusal.{first_of, FloatValue}
 use Rattle.edd_syntax.specs.TreeView.{argument_of}
 use Rattle.edd_syntax.proofs.TreeRows.{call_is}
-use Rattle.edd_types.proofs.FirstLaws.{found_err, goes_on, stops_at}
+use Rattle.edd_types.proofs.FoundLaws.{found_err}
+use Rattle.edd_syntax.proofs.FirstLaws.{goes_on, stops_at}
 use Rattle.edd_types.proofs.Splits.{argument_decimals_split}
 use Rattle.edd_types.proofs.decimals.+decimals.Goals as goal
 

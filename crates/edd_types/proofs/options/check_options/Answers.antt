@@ -4,7 +4,8 @@ use Rattle.edd_syntax.specs.Refusal.{first_of}
 use Rattle.edd_syntax.specs.ItemView.{type_part_of}
 use Rattle.edd_syntax.specs.SubsetRules.{part_breaches}
 use Rattle.edd_syntax.specs.Refusal.{Mismatch}
-use Rattle.edd_types.proofs.FirstLaws.{found_err, flat_split, flat_one, goes_on, stops_at}
+use Rattle.edd_types.proofs.FoundLaws.{found_err}
+use Rattle.edd_syntax.proofs.FirstLaws.{flat_split, flat_one, goes_on, stops_at}
 use Rattle.edd_types.proofs.options.check_options.Goals as goal
 
 pub loop-part-preserved : goal.loop-part-preserved

@@ -2,7 +2,7 @@ use Rattle.std.proofs.Common.{◌≡◌}
 use Rattle.std.specs.List.{flat_map}
 use Rattle.edd_syntax.specs.ItemView.{type_part_of}
 use Rattle.edd_syntax.specs.SubsetRules.{part_breaches}
-use Rattle.edd_types.proofs.FirstLaws.{first_from, flat_split}
+use Rattle.edd_syntax.proofs.FirstLaws.{first_from, flat_split}
 use Rattle.edd_types.proofs.options.check_options.Given as goal
 
 -- nothing so far has a breach

@@ -4,7 +4,7 @@ use Rattle.edd_syntax.specs.ItemView.{attribute_of}
 use Rattle.edd_syntax.specs.Refusal.{first_of}
 use Rattle.edd_types.specs.Found.{found_at}
 use Rattle.edd_types.specs.Rules.{why, broken_in}
-use Rattle.edd_types.proofs.FirstLaws.{flat_split, flat_one, goes_on, stops_at}
+use Rattle.edd_syntax.proofs.FirstLaws.{flat_split, flat_one, goes_on, stops_at}
 use Rattle.edd_types.proofs.rules.check_attributes.Goals as goal
 
 pub loop-attribute-preserved : goal.loop-attribute-preserved

@@ -4,7 +4,7 @@ use Rattle.edd_syntax.specs.ItemView.{item_of}
 use Rattle.edd_syntax.specs.Refusal.{first_of}
 use Rattle.edd_types.specs.Found.{found_at}
 use Rattle.edd_types.specs.Rules.{why, broken_in}
-use Rattle.edd_types.proofs.FirstLaws.{flat_split, flat_one, stops_at}
+use Rattle.edd_syntax.proofs.FirstLaws.{flat_split, flat_one, stops_at}
 use Rattle.edd_types.proofs.rules.check_items.Goals as goal
 
 pub returns-in-Some : goal.returns-in-Some

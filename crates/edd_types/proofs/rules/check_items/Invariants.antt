@@ -2,7 +2,7 @@ use Rattle.std.proofs.Common.{◌≡◌}
 use Rattle.std.specs.List.{flat_map}
 use Rattle.edd_syntax.specs.ItemView.{item_of}
 use Rattle.edd_types.specs.Rules.{broken_in}
-use Rattle.edd_types.proofs.FirstLaws.{first_from, flat_split}
+use Rattle.edd_syntax.proofs.FirstLaws.{first_from, flat_split}
 use Rattle.edd_types.proofs.rules.check_items.Given as goal
 
 -- the items so far keep the rule

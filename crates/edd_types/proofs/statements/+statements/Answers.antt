@@ -4,7 +4,8 @@ use Rattle.edd_syntax.specs.TreeView.{expr_of, part_of}
 use Rattle.edd_syntax.proofs.TreeRows.{block_is, switch_is}
 use Rattle.edd_syntax.specs.Refusal.{first_of}
 use Rattle.edd_types.specs.Breaches.{refusal_of, in_part, in_statement, in_body}
-use Rattle.edd_types.proofs.FirstLaws.{found_err, first_of-append_none, goes_on, stops_at, at_the_end}
+use Rattle.edd_types.proofs.FoundLaws.{found_err}
+use Rattle.edd_syntax.proofs.FirstLaws.{first_of-append_none, goes_on, stops_at, at_the_end}
 use Rattle.edd_types.proofs.InStatements.{parts_split, in_no_parts, in_block, in_switch}
 use Rattle.edd_types.proofs.statements.+statements.Goals as goal
 

@@ -2,7 +2,7 @@ use Rattle.std.proofs.Common.{◌≡◌}
 use Rattle.edd_syntax.specs.Statement.{body_from}
 use Rattle.edd_syntax.specs.TreeView.{part_of}
 use Rattle.edd_types.specs.Breaches.{in_body}
-use Rattle.edd_types.proofs.FirstLaws.{first_from}
+use Rattle.edd_syntax.proofs.FirstLaws.{first_from}
 use Rattle.edd_types.proofs.InStatements.{parts_split}
 use Rattle.edd_types.proofs.statements.+statements.Given as goal
 

@@ -2,7 +2,8 @@ use Rattle.std.proofs.Common.{◌∙◌, ap, sym, arith}
 use Rattle.edd_syntax.specs.TreeView.{declarator_of}
 use Rattle.edd_syntax.specs.Refusal.{first_of}
 use Rattle.edd_types.specs.Breaches.{refusal_of, in_declarators}
-use Rattle.edd_types.proofs.FirstLaws.{found_err, goes_on, stops_at, at_the_end}
+use Rattle.edd_types.proofs.FoundLaws.{found_err}
+use Rattle.edd_syntax.proofs.FirstLaws.{goes_on, stops_at, at_the_end}
 use Rattle.edd_types.proofs.InStatements.{declarators_split, in_declarator, in_no_declarators}
 use Rattle.edd_types.proofs.statements.check_declarators.Goals as goal
 

@@ -1,7 +1,7 @@
 use Rattle.std.proofs.Common.{◌≡◌}
 use Rattle.edd_syntax.specs.TreeView.{declarator_of}
 use Rattle.edd_types.specs.Breaches.{in_declarators}
-use Rattle.edd_types.proofs.FirstLaws.{first_from}
+use Rattle.edd_syntax.proofs.FirstLaws.{first_from}
 use Rattle.edd_types.proofs.InStatements.{declarators_split}
 use Rattle.edd_types.proofs.statements.check_declarators.Given as goal
 

@@ -1,7 +1,7 @@
 use Rattle.std.proofs.Common.{◌≡◌}
 use Rattle.edd_syntax.specs.ItemView.{attribute_of}
 use Rattle.edd_types.specs.WrongTypes.{in_attributes}
-use Rattle.edd_types.proofs.FirstLaws.{first_from}
+use Rattle.edd_syntax.proofs.FirstLaws.{first_from}
 use Rattle.edd_types.proofs.TypeBreaches.{attributes_split}
 use Rattle.edd_types.proofs.types.wrong_attributes.Given as goal
 

@@ -1,7 +1,7 @@
 use Rattle.std.proofs.Common.{arith}
 use Rattle.edd_syntax.specs.ItemView.{item_of}
 use Rattle.edd_types.specs.WrongTypes.{refusal_of_wrong, in_items}
-use Rattle.edd_types.proofs.FirstLaws.{goes_on, stops_at}
+use Rattle.edd_syntax.proofs.FirstLaws.{goes_on, stops_at}
 use Rattle.edd_types.proofs.TypeBreaches.{items_split}
 use Rattle.edd_types.proofs.types.wrong_type.Goals as goal
 

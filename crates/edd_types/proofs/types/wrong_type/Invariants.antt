@@ -1,7 +1,7 @@
 use Rattle.std.proofs.Common.{◌≡◌}
 use Rattle.edd_syntax.specs.ItemView.{item_of}
 use Rattle.edd_types.specs.WrongTypes.{in_items}
-use Rattle.edd_types.proofs.FirstLaws.{first_from}
+use Rattle.edd_syntax.proofs.FirstLaws.{first_from}
 use Rattle.edd_types.proofs.TypeBreaches.{items_split}
 use Rattle.edd_types.proofs.types.wrong_type.Given as goal
 

@@ -1,0 +1,10 @@
+-- What is found where a walk stops.
+use Rattle.std.proofs.Common.{◌≡◌, refl, ℕ, Some}
+use Rattle.std.proofs.lemmas.Bool.{false≢true}
+use Rattle.std.specs.Prelude.{Result, Ok, Err, IsErr}
+use Rattle.edd_syntax.specs.Refusal.{Refusal}
+use Rattle.edd_types.specs.Found.{found}
+
+pub found_err : (why : Refusal) (r : Result (Unit {0}) ℕ) → IsErr r → found why r ≡ Some why
+found_err why (Ok done) is = absurd (false≢true is)
+found_err why (Err line) is = refl
