@@ -47,6 +47,7 @@ module _ (version : Version) (sort : Sort) where
 abbrev pub is_straight : Instruction → Bool
 is_straight i = is_straight_in One Attribute i
 
+-- so the block may stand in an attribute
 abbrev pub Flows : Block → ℕ → Type 0
 Flows b d = FlowsIn One Attribute b d
 

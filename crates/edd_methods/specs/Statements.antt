@@ -16,6 +16,7 @@ pub data Part : Type 0 where
   -- it leaves one operand, and where that is 0, the loop is left
   Test : Block → Part
 
+-- code of statements; no operands stand before it, nor behind it
 mutual
   pub data Code : Type 0 where
     -- it leaves no operand
