@@ -9,8 +9,7 @@ use Rattle.edd_syntax.specs.declared.numbers.Attr.{Attr}
 use Rattle.edd_syntax.specs.declared.numbers.Attr.TheVariants as attr
 use Rattle.edd_syntax.specs.declared.numbers.ItemNo.{ItemNo}
 use Rattle.edd_syntax.specs.declared.numbers.ItemNo.TheVariants as items
-use Rattle.edd_syntax.specs.Numbers.{kind_number, kind_of, index_of, item_number, attr_number, attr_from_number, same_kind, same_attr}
-use Rattle.edd_image.specs.Decoding.{item_of}
+use Rattle.edd_syntax.specs.Numbers.{kind_number, kind_of, index_of, item_number, attr_number, attr_from_number, same_kind, same_attr, item_from_numbers}
 
 abbrev kind_at : ℕ → Kind
 kind_at n =
@@ -56,7 +55,7 @@ attr_again attr.Definition = refl
 pub same_attrs : (a b : Attr) → same_attr a b ≡ true → a ≡ b
 same_attrs a b h = same_Some a b (sym (attr_again a) ∙ ap attr_from_number (eqb-true (attr_number a) (attr_number b) h) ∙ attr_again b)
 
-pub item_again : (i : ItemNo) → item_of (kind_number (kind_of i)) (index_of i) ≡ Some i
+pub item_again : (i : ItemNo) → item_from_numbers (kind_number (kind_of i)) (index_of i) ≡ Some i
 item_again (items.Variable n) = refl
 item_again (items.Command n) = refl
 item_again (items.Menu n) = refl

@@ -22,6 +22,7 @@ pub mod NamesAgree
 pub mod RecordsAgree
 pub mod RowsAmong
 pub mod WrittenBodies
+pub mod FewSlots
 pub mod RowsFound
 pub mod Unwritten
 pub mod AttributesAgree

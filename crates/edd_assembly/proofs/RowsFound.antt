@@ -9,9 +9,8 @@ use Rattle.edd_syntax.specs.declared.numbers.Attr.TheVariants as attr
 use Rattle.edd_syntax.specs.declared.numbers.ItemNo.TheVariants as items_no
 use Rattle.edd_syntax.specs.declared.numbers.AttrRef.{AttrRef}
 use Rattle.edd_syntax.specs.declared.numbers.MethNo.{MethNo}
-use Rattle.edd_syntax.specs.Numbers.{kind_number, kind_of, index_of, attr_number, same_attr}
+use Rattle.edd_syntax.specs.Numbers.{kind_number, kind_of, index_of, attr_number, same_attr, item_from_numbers}
 use Rattle.edd_image.specs.Contents.{part, AttributeFields, fields_of_attribute}
-use Rattle.edd_image.specs.Decoding.{item_of}
 use Rattle.edd_image.specs.Reading.{is_row_of}
 use Rattle.edd_assembly.specs.Assembly.{Lowered, attribute_row_at, attribute_rows}
 use Rattle.edd_assembly.specs.LoweredUnits.{plain_row}
@@ -28,8 +27,8 @@ same_index r ref h =
     let by_kind = and_parts (kind_number (kind_of r.item) == kind_number (kind_of ref.item)) (attr_number r.attr == attr_number ref.attr && index_of r.item == index_of ref.item) row.0 in
     let by_attr = and_parts (attr_number r.attr == attr_number ref.attr) (index_of r.item == index_of ref.item) by_kind.1 in
     same_Some r.item ref.item (sym (item_again r.item)
-    ∙ ap (λ n. item_of n (index_of r.item)) (eqb-true (kind_number (kind_of r.item)) (kind_number (kind_of ref.item)) by_kind.0)
-    ∙ ap (item_of (kind_number (kind_of ref.item))) (eqb-true (index_of r.item) (index_of ref.item) by_attr.1)
+    ∙ ap (λ n. item_from_numbers n (index_of r.item)) (eqb-true (kind_number (kind_of r.item)) (kind_number (kind_of ref.item)) by_kind.0)
+    ∙ ap (item_from_numbers (kind_number (kind_of ref.item))) (eqb-true (index_of r.item) (index_of ref.item) by_attr.1)
     ∙ item_again ref.item)
 
 same_attribute : (r ref : AttrRef) → same_ref ref r ≡ true → r.attr ≡ ref.attr

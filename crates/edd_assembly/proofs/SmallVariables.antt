@@ -31,7 +31,7 @@ pub no_rest : {A : Type 0} (xs ys : List A) → xs ++ ys ≡ [] → ys ≡ []
 no_rest [] ys h = h
 no_rest (x ∷ xs) ys h = absurd (not_empty h)
 
-no_refusal : (b : Bool) (why : Refusal) → refused_if b why ≡ [] → b ≡ false
+pub no_refusal : (b : Bool) (why : Refusal) → refused_if b why ≡ [] → b ≡ false
 no_refusal true why h = absurd (not_empty h)
 no_refusal false why h = refl
 

@@ -131,7 +131,7 @@ bodies d checked =
 -- ---- a method of a checked description
 
 -- what holds of all holds of one that is picked
-of_picked : {A : Type 0} (q p : A → Bool) (xs : List A) (n : ℕ) (x : A) → list_all q xs ≡ true → slice_get (filter p xs) n ≡ Some x → q x ≡ true
+pub of_picked : {A : Type 0} (q p : A → Bool) (xs : List A) (n : ℕ) (x : A) → list_all q xs ≡ true → slice_get (filter p xs) n ≡ Some x → q x ≡ true
 of_picked q p [] n x all h = absurd (none-some x h)
 of_picked q p (y ∷ ys) n x all h = pick (p y) n h (λ k g. of_picked q p ys k x parts.1 g)
   where

@@ -1,5 +1,5 @@
 -- What the code of a description's attributes has to be for its image to be valid, and to say what the description says.
-use Rattle.std.specs.Prelude.{◌≡◌, ℕ, ◌≤◌, true, false, List, length, map, if◌then◌else◌, ⊤}
+use Rattle.std.specs.Prelude.{◌≡◌, ℕ, ◌≤◌, true, false, List, map, if◌then◌else◌, ⊤}
 use Rattle.std.specs.List.{All}
 use Rattle.edd_syntax.specs.declared.numbers.MethNo.{MethNo}
 use Rattle.edd_syntax.specs.declared.numbers.ItemNo.TheVariants as items
@@ -10,31 +10,19 @@ use Rattle.edd_syntax.specs.Numbers.{same_attr}
 use Rattle.edd_syntax.specs.Words.{Words}
 use Rattle.edd_syntax.specs.Item.{Description}
 use Rattle.edd_syntax.specs.Rows.{rows}
-use Rattle.edd_image.specs.declared.unit.Version.TheVariants.{One}
-use Rattle.edd_image.specs.declared.unit.Sort.TheVariants.{Method}
-use Rattle.edd_image.specs.declared.unit.Context.{Context}
 use Rattle.edd_image.specs.Units.{IsValidUnit}
-use Rattle.edd_image.specs.Agreement.{counts_of, IsAttributeCode}
-use Rattle.edd_image.specs.MethodAgreement.{IsMethodCode}
+use Rattle.edd_image.specs.Agreement.{IsAttributeCode}
+use Rattle.edd_image.specs.MethodAgreement.{method_context, IsMethodCode}
 use Rattle.edd_assembly.specs.Assembly.{Lowered}
 
 -- the row as the description has it, in which a body stands at 0
 abbrev pub plain_row : Lowered → AttrRef
 plain_row l = if same_attr l.row.attr attr.Definition then record l.row { sub = 0 } else l.row
 
--- where the unit of a body stands
-abbrev pub body_context : Description Target → (strings : List Words) → (slots : ℕ) → Context
-body_context unit strings slots = record {
-  version = One;
-  counts = counts_of unit.identification unit.items (length strings);
-  sort = Method;
-  slots = slots;
-}
-
 -- the code of a body is a valid unit with at most 64 slots
 pub record IsBodyCode (unit : Description Target) (strings : List Words) (slots : ℕ) (code : List ℕ) : Type 0 where
   pub few_slots : slots ≤ 64
-  pub valid : IsValidUnit (body_context unit strings slots) code
+  pub valid : IsValidUnit (method_context unit strings slots) code
 
 -- the code is that of its attribute
 abbrev pub IsUnitOf : Description Target → List Words → Lowered → Type 0

@@ -1,7 +1,8 @@
 //! Laws of the sections, for the crates above.
 
-ghost use Rattle.std.specs.Prelude.{◌≡◌, List, map};
+ghost use Rattle.std.specs.Prelude.{◌≡◌, ℕ, List, map};
 ghost use Rattle.std.specs.List.{All};
+ghost use Rattle.edd_syntax.specs.declared.numbers.MethNo.{MethNo};
 ghost use Rattle.edd_syntax.specs.declared.reference.Target.{Target};
 ghost use Rattle.edd_syntax.specs.declared.words.Words as in_code;
 ghost use Rattle.edd_syntax.specs.Resolved.{IsChecked};
@@ -10,14 +11,14 @@ ghost use Rattle.edd_syntax.specs.WordsView.{string_of};
 ghost use Rattle.edd_syntax.specs.Item.{Description};
 ghost use Rattle.edd_syntax.specs.Device.{environment};
 ghost use Rattle.edd_image.specs.Agreement.{AgreesOnData};
-ghost use Rattle.edd_image.specs.MethodAgreement.{AgreesOnMethods};
+ghost use Rattle.edd_image.specs.MethodAgreement.{AgreesOnMethods, IsMethodCode};
 ghost use Rattle.edd_image.specs.Contents.{part, contents_of};
 ghost use Rattle.edd_image.specs.Layout.{AreSections};
 ghost use Rattle.edd_image.specs.Reading.{environment_of};
 ghost use Rattle.edd_image.specs.Strings.{string_bytes};
 ghost use Rattle.edd_image.specs.Validity.{IsSound};
 ghost use Rattle.edd_assembly.specs.Assembly.{Lowered, names_of, assembled};
-ghost use Rattle.edd_assembly.specs.LoweredUnits.{AreUnitsOf, IsMethodOf};
+ghost use Rattle.edd_assembly.specs.LoweredUnits.{AreUnitsOf, IsBodyCode, IsMethodOf};
 
 /// The names, the strings and the code that the rows of the sections cut are those that were put together, and the types of
 /// the variables are the description's.
@@ -61,4 +62,10 @@ pub fn methods_agree()
         → All (IsMethodOf unit (map string_of words)) lowered
         → AreSections (assembled unit lowered (map string_of words))
         → AgreesOnMethods unit (contents_of (assembled unit lowered (map string_of words))) }
+{}
+
+/// The code of a method of a checked description is that of a body: a valid unit with at most 64 slots.
+pub fn method_code_is_body_code()
+    ensures { (unit : Description Target) (strings : List Words) (m : MethNo) (slots : ℕ) (code : List ℕ)
+        → ∥ IsChecked unit ∥₁ → IsMethodCode unit strings m slots code → IsBodyCode unit strings slots code }
 {}

@@ -9,6 +9,8 @@ mod parts;
 mod strings;
 mod units;
 
-pub use laws::{methods_agree, sections_agree, sections_are_read, sections_are_sound};
+pub use laws::{
+    method_code_is_body_code, methods_agree, sections_agree, sections_are_read, sections_are_sound,
+};
 pub use parts::assemble;
 pub use units::Lowered;

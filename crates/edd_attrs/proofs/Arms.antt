@@ -1,7 +1,7 @@
 -- The bodies of the arms of a SELECT, which are written from the last to the first.
-use Rattle.std.proofs.Common.{◌≡◌, refl, sym, ap, subst, ◌∙◌, ℕ, ◌+◌, ◌<◌, ◌≤◌, ℤ, List, [], ◌∷◌, ◌++◌, length, get_or, take, drop, Option, arith, append_assoc, length-append}
+use Rattle.std.proofs.Common.{◌≡◌, refl, sym, ap, subst, ◌∙◌, ℕ, ◌+◌, ◌<◌, ◌≤◌, ℤ, List, [], ◌∷◌, ◌++◌, length, get_or, take, drop, Option, Some, None, zero, suc, arith, append_assoc, length-append}
 use Rattle.std.specs.List.{flat_map}
-use Rattle.std.proofs.lemmas.List.{append-nil, take_all, drop_all}
+use Rattle.std.proofs.lemmas.List.{append-nil, take_more, take_all, drop_all}
 use Rattle.edd_syntax.specs.declared.numbers.StrNo.{StrNo}
 use Rattle.edd_syntax.specs.declared.reference.Target.{Target}
 use Rattle.edd_syntax.specs.Conditional.{Conds, Arm, NoArms, ConsArm, Case, Default, arms_from}
@@ -15,7 +15,7 @@ use Rattle.edd_code.specs.Closing.{closed}
 use Rattle.edd_code.proofs.Closing.{match_closed, closed_length}
 use Rattle.edd_attrs.specs.Code.{GrowsBy, Overflows}
 use Rattle.edd_attrs.specs.TreeBlocks.{IsCondsBlock, IsArmsBlock}
-use Rattle.edd_attrs.specs.Writing.{WritesArm, WritesArms, WritesBody, arms_strings, conds_strings, header, headers, with_body}
+use Rattle.edd_attrs.specs.Writing.{WritesArm, WritesArms, WritesBody, arms_strings, conds_strings, header, headers, hole_of, holes_of, with_body}
 use Rattle.edd_attrs.proofs.Among.{Within, within_same, within_left, within_right, grows_within, grows_twice, overflows_later}
 use Rattle.edd_attrs.proofs.Flat.{arms_strings_are, strings_at_arm}
 use Rattle.edd_attrs.proofs.Growing.{nothing_added}
@@ -43,54 +43,106 @@ body_matches front before label body rest is =
     let c4 : List ℕ = closed c3 (length front + 9) in
     match_closed front c1 before c3 c4 (c4 ++ bytes_at (length c4) body) label body rest refl is refl refl refl
 
+-- ---- open targets
+
+snoc_same : {X : Type 0} (xs ys : List X) (x y : X) → xs ++ x ∷ [] ≡ ys ++ y ∷ [] → (xs ≡ ys) × (x ≡ y)
+snoc_same [] [] x y e = let same : x ≡ y = cc in (refl, same)
+snoc_same [] (b ∷ ys) x y e = absurd (omega (arith, ap length e, length-append ys (y ∷ [])))
+snoc_same (a ∷ xs) [] x y e = absurd (omega (arith, ap length e, length-append xs (x ∷ [])))
+snoc_same (a ∷ xs) (b ∷ ys) x y e =
+    let head : a ≡ b = cc in
+    let tail : xs ++ x ∷ [] ≡ ys ++ y ∷ [] = cc in
+    let rest = snoc_same xs ys x y tail in
+    let whole : a ∷ xs ≡ b ∷ ys = rw (head, rest.0) refl in
+    (whole, rest.1)
+
+-- the last of the first k elements is taken away
+pub popped : (all olds news : List (Option ℕ)) (hole : Option ℕ) (k : ℕ) → olds ≡ take (k + 1) all → olds ≡ news ++ hole ∷ [] → k < length all → (news ≡ take k all) × (hole ≡ get_or all k None)
+popped all olds news hole k is parts below = snoc_same news (take k all) hole (get_or all k None) (sym parts ∙ is ∙ take_more all k None below)
+
+no_more : (n : ℕ) → n ≡ n + 0
+no_more n = omega arith
+
+module _ {V : Type 0} where
+  pub holes_counted : (place : ℕ) (arms : List (Arm Target V)) → length (holes_of place arms) ≡ length arms
+  holes_counted place [] = refl
+  holes_counted place (arm ∷ rest) = ap suc (holes_counted (place + length (header arm)) rest)
+
+  -- one arm more
+  pub holes_more : (place : ℕ) (arms : List (Arm Target V)) (arm : Arm Target V) → holes_of place (arms ++ arm ∷ []) ≡ holes_of place arms ++ hole_of (place + length (headers arms)) arm ∷ []
+  holes_more place [] arm = ap (λ p. hole_of p arm ∷ []) (no_more place)
+  holes_more place (x ∷ rest) arm =
+      ap (λ hs. hole_of place x ∷ hs) (holes_more (place + length (header x)) rest arm
+      ∙ ap (λ p. holes_of (place + length (header x)) rest ++ hole_of p arm ∷ []) (omega (arith, length-append (header x) (headers rest))))
+
+  pub holes_taken : (place i : ℕ) (arms : List (Arm Target V)) (arm : Arm Target V) → i < length arms → arm ≡ get_or arms i arm
+      → holes_of place (take (i + 1) arms) ≡ holes_of place (take i arms) ++ hole_of (place + length (headers (take i arms))) arm ∷ []
+  holes_taken place i arms arm below at =
+      ap (holes_of place) (take_more arms i arm below ∙ ap (λ a. take i arms ++ a ∷ []) (sym at)) ∙ holes_more place (take i arms) arm
+
+  -- the open target of an arm
+  pub hole_at : (place : ℕ) (arms : List (Arm Target V)) (i : ℕ) (arm : Arm Target V) → i < length arms → arm ≡ get_or arms i arm
+      → get_or (holes_of place arms) i None ≡ hole_of (place + length (headers (take i arms))) arm
+  hole_at place [] i arm below at = absurd (omega arith)
+  hole_at place (x ∷ rest) zero arm below at = ap (λ a. hole_of place a) (sym at) ∙ ap (λ p. hole_of p arm) (no_more place)
+  hole_at place (x ∷ rest) (suc i) arm below at =
+      hole_at (place + length (header x)) rest i arm (omega arith) at
+      ∙ ap (λ p. hole_of p arm) (omega (arith, length-append (header x) (headers (take i rest))))
+
+-- a header lies inside the headers
+pub header_inside : {V : Type 0} (arms : List (Arm Target V)) (i : ℕ) (arm : Arm Target V) → i < length arms → arm ≡ get_or arms i arm
+    → length (headers (take i arms)) + length (header arm) ≤ length (headers arms)
+header_inside arms i arm below at = omega (
+  arith,
+  ap length (flat_parts header arms i) ∙ length-append (headers (take i arms)) (headers (drop i arms)),
+  ap length (flat_drop header arms i arm below at) ∙ length-append (header arm) (headers (drop (i + 1) arms)),
+)
+
 -- ---- one arm
 
 module _ {V : Type 0} (strings : V → List Words) (is_block : (StrNo → Option Words) → V → Block → Type 0) where
-  pub case_written : (old new : List Words) (before after : List ℕ) (behind start hole : ℕ) (label : ℤ) (body : Conds Target V) → start + 13 ≡ behind → behind ≤ length before → hole ≡ start + 9
-      → WritesBody old before hole (conds_strings strings body) (λ numbered b. IsCondsBlock (is_block numbered) body b) new after → WritesArm strings is_block old before behind (Case label body) new after start
-  case_written old new before after behind start hole label body starts inside at w = record {
+  pub case_written : (old new : List Words) (before after : List ℕ) (hole : ℕ) (label : ℤ) (body : Conds Target V) → hole + 4 ≤ length before
+      → WritesBody old before hole (conds_strings strings body) (λ numbered b. IsCondsBlock (is_block numbered) body b) new after → WritesArm strings is_block old before (Some hole) (Case label body) new after
+  case_written old new before after hole label body inside w = record {
     table = grows_within (arms_strings strings (ConsArm (Case label body) NoArms)) w.table (within_left (conds_strings strings body) [] (arms_strings strings (ConsArm (Case label body) NoArms)) (ap (flat_map strings) (append-nil (values_of body)) ∙ sym (append-nil (conds_strings strings body))));
-    starts = omega arith;
-    longer = subst (λ (code : List ℕ). length before ≤ length code) (sym w.written) (with_body_length before hole w.block (omega arith));
+    longer = subst (λ (code : List ℕ). length before ≤ length code) (sym w.written) (with_body_length before hole w.block inside);
     around = λ rest. Match label w.block rest;
-    written = λ front rest is ends.
+    written = λ front rest is at.
+        let place : hole ≡ length front + 9 = cc in
         w.written
-        ∙ ap (λ (place : ℕ). with_body before place w.block) (omega (arith, length-append front (0x33 ∷ (i64 label ++ u32 0))))
+        ∙ ap (λ (p : ℕ). with_body before p w.block) place
         ∙ body_matches front before label w.block rest is;
     is = λ later otherwise rest b held. (w.block, b, refl, w.is later, held);
   }
 
-  pub default_written : (old : List Words) (before : List ℕ) (behind : ℕ) (body : Conds Target V) → WritesArm strings is_block old before behind (Default body) old before behind
-  default_written old before behind body = record {
+  pub default_written : (old : List Words) (before : List ℕ) (hole : Option ℕ) (body : Conds Target V) → WritesArm strings is_block old before hole (Default body) old before
+  default_written old before hole body = record {
     table = grows_within (arms_strings strings (ConsArm (Default body) NoArms)) (nothing_added old) (λ w held. absurd (omega (arith, held.1)));
-    starts = omega arith;
     longer = omega arith;
     around = λ rest. rest;
-    written = λ front rest is ends. is ∙ ap (λ (code : List ℕ). code ++ bytes_at (length code) rest) (append-nil front);
+    written = λ front rest is at. is ∙ ap (λ (code : List ℕ). code ++ bytes_at (length code) rest) (append-nil front);
     is = λ later otherwise rest b held. held;
   }
 
   -- ---- all arms
 
-  -- the arms from the one at i on are written, whose headers begin at `start`
-  pub record Back (i : ℕ) (arms : List (Arm Target V)) (a : List Words) (before : List ℕ) (behind : ℕ) (b : List Words) (now : List ℕ) (start : ℕ) : Type 0 where
+  -- the arms from the one at i on are written
+  pub record Back (i : ℕ) (arms : List (Arm Target V)) (a : List Words) (before : List ℕ) (holes : List (Option ℕ)) (b : List Words) (now : List ℕ) : Type 0 where
     pub table : GrowsBy a (arms_strings strings (arms_from (drop i arms))) b
-    pub starts : start + length (headers (drop i arms)) ≡ behind
     pub longer : length before ≤ length now
     pub around : Block → Block
     pub written : (front : List ℕ) (rest : Block) → before ≡ (front ++ headers arms) ++ bytes_at (length (front ++ headers arms)) rest
-        → length (front ++ headers arms) ≡ behind → now ≡ (front ++ headers (take i arms)) ++ bytes_at (length (front ++ headers (take i arms))) (around rest)
+        → holes ≡ holes_of (length front) arms → now ≡ (front ++ headers (take i arms)) ++ bytes_at (length (front ++ headers (take i arms))) (around rest)
     pub is : (later : List Words) (otherwise : Block) (x : Block) → IsArmsBlock (is_block (string_of_table (b ++ later))) otherwise NoArms x
         → IsArmsBlock (is_block (string_of_table (b ++ later))) otherwise (arms_from (drop i arms)) (around x)
 
-  pub back_starts : (i : ℕ) (arms : List (Arm Target V)) (a : List Words) (before : List ℕ) (behind : ℕ) → length arms ≤ i → Back i arms a before behind a before behind
-  back_starts i arms a before behind h =
+  pub back_starts : (i : ℕ) (arms : List (Arm Target V)) (a : List Words) (before : List ℕ) (holes : List (Option ℕ)) → length arms ≤ i → Back i arms a before holes a before
+  back_starts i arms a before holes h =
       let none : drop i arms ≡ [] = drop_all i arms h in record {
         table = subst (λ (xs : List (Arm Target V)). GrowsBy a (arms_strings strings (arms_from xs)) a) (sym none) (nothing_added a);
-        starts = omega (arith, ap (λ (xs : List (Arm Target V)). length (headers xs)) none);
         longer = omega arith;
         around = λ x. x;
-        written = λ front rest is ends. subst (λ (xs : List (Arm Target V)). before ≡ (front ++ headers xs) ++ bytes_at (length (front ++ headers xs)) rest) (sym (take_all i arms h)) is;
+        written = λ front rest is at. subst (λ (xs : List (Arm Target V)). before ≡ (front ++ headers xs) ++ bytes_at (length (front ++ headers xs)) rest) (sym (take_all i arms h)) is;
         is = λ later otherwise x held. subst (λ (xs : List (Arm Target V)). IsArmsBlock (is_block (string_of_table (a ++ later))) otherwise (arms_from xs) x) (sym none) held;
       }
 
@@ -114,38 +166,28 @@ module _ {V : Type 0} (strings : V → List Words) (is_block : (StrNo → Option
         (within_right (flat_map (strings_at_arm strings) (take i arms)) (flat_map (strings_at_arm strings) (drop i arms)) (flat_map (strings_at_arm strings) arms) (flat_parts (strings_at_arm strings) arms i) w
         (within_same (arms_strings strings (arms_from (drop i arms))) (flat_map (strings_at_arm strings) (drop i arms)) (sym (arms_strings_are strings (drop i arms))) w held))
 
-    -- how many bytes the headers have
-    behind_rest : length (headers (drop i arms)) ≡ length (header arm) + length (headers (drop (i + 1) arms))
-    behind_rest = ap length (flat_drop header arms i arm below at) ∙ length-append (header arm) (headers (drop (i + 1) arms))
-
     in_front : (front : List ℕ) → front ++ headers (take (i + 1) arms) ≡ (front ++ headers (take i arms)) ++ header arm
     in_front front = ap (λ (code : List ℕ). front ++ code) (flat_take header arms i arm below at) ∙ sym (append_assoc front (headers (take i arms)) (header arm))
 
-    all_headers : length (headers arms) ≡ length (headers (take (i + 1) arms)) + length (headers (drop (i + 1) arms))
-    all_headers = ap length (flat_parts header arms (i + 1)) ∙ length-append (headers (take (i + 1) arms)) (headers (drop (i + 1) arms))
-
-    taken_headers : length (headers (take (i + 1) arms)) ≡ length (headers (take i arms)) + length (header arm)
-    taken_headers = ap length (flat_take header arms i arm below at) ∙ length-append (headers (take i arms)) (header arm)
-
-    -- there is room for the header of the arm
-    pub back_room : (behind start : ℕ) → length (headers arms) ≤ behind → start + length (headers (drop (i + 1) arms)) ≡ behind → length (header arm) ≤ start
-    back_room behind start room starts = omega (arith, all_headers, taken_headers)
-
-    pub back_overflows : (a b : List Words) (before now : List ℕ) (behind start : ℕ) → Back (i + 1) arms a before behind b now start → Overflows b (strings_at_arm strings arm) → Overflows a (arms_strings strings (arms_from arms))
-    back_overflows a b before now behind start back over =
+    pub back_overflows : (a b : List Words) (before now : List ℕ) (holes : List (Option ℕ)) → Back (i + 1) arms a before holes b now → Overflows b (strings_at_arm strings arm) → Overflows a (arms_strings strings (arms_from arms))
+    back_overflows a b before now holes back over =
         overflows_later a (arms_strings strings (arms_from (drop (i + 1) arms))) b (strings_at_arm strings arm) (arms_strings strings (arms_from arms)) back.table over
         (λ w held. all_within w (rest_within w held)) (λ w held. all_within w (arm_within w held))
 
-    pub back_grows : (a b c : List Words) (before now after : List ℕ) (behind start start' : ℕ) → Back (i + 1) arms a before behind b now start → WritesArm strings is_block b now start arm c after start' → Back i arms a before behind c after start'
-    back_grows a b c before now after behind start start' back w = record {
+    -- the open target of the arm stands behind the headers before it
+    pub own_hole : (place : ℕ) → get_or (holes_of place arms) i None ≡ hole_of (place + length (headers (take i arms))) arm
+    own_hole place = hole_at place arms i arm below at
+
+    pub back_grows : (a b c : List Words) (before now after : List ℕ) (holes : List (Option ℕ)) (hole : Option ℕ) → hole ≡ get_or holes i None
+        → Back (i + 1) arms a before holes b now → WritesArm strings is_block b now hole arm c after → Back i arms a before holes c after
+    back_grows a b c before now after holes hole own back w = record {
       table = grows_twice (arms_strings strings (arms_from (drop i arms))) back.table w.table rest_within arm_within;
-      starts = omega (arith, behind_rest, w.starts, back.starts);
       longer = omega (arith, w.longer, back.longer);
       around = λ x. w.around (back.around x);
-      written = λ front rest is ends.
+      written = λ front rest is at.
           w.written (front ++ headers (take i arms)) (back.around rest)
-          (back.written front rest is ends ∙ ap (λ (code : List ℕ). code ++ bytes_at (length code) (back.around rest)) (in_front front))
-          (omega (arith, ap length (in_front front), length-append front (headers (take (i + 1) arms)), length-append front (headers arms), all_headers, back.starts));
+          (back.written front rest is at ∙ ap (λ (code : List ℕ). code ++ bytes_at (length code) (back.around rest)) (in_front front))
+          (own ∙ ap (λ hs. get_or hs i None) at ∙ own_hole (length front) ∙ ap (λ place. hole_of place arm) (sym (length-append front (headers (take i arms)))));
       is = λ later otherwise x held.
           let e : c ++ later ≡ b ++ (w.table.more ++ later) = later_on b c w.table.more later w.table.grown in
           let behind_it : IsArmsBlock (is_block (string_of_table (c ++ later))) otherwise (arms_from (drop (i + 1) arms)) (back.around x) =
@@ -155,11 +197,11 @@ module _ {V : Type 0} (strings : V → List Words) (is_block : (StrNo → Option
           (w.is later otherwise (arms_from (drop (i + 1) arms)) (back.around x) behind_it);
     }
 
-  pub back_ends : (i : ℕ) (arms : List (Arm Target V)) (a b : List Words) (before now : List ℕ) (behind start : ℕ) → i ≤ 0 → Back i arms a before behind b now start → WritesArms strings is_block a before behind arms b now
-  back_ends i arms a b before now behind start h back =
-      let whole : Back 0 arms a before behind b now start = let none : i ≡ 0 = omega arith in subst (λ (k : ℕ). Back k arms a before behind b now start) none back in record {
+  pub back_ends : (i : ℕ) (arms : List (Arm Target V)) (a b : List Words) (before now : List ℕ) (holes : List (Option ℕ)) → i ≤ 0 → Back i arms a before holes b now → WritesArms strings is_block a before holes arms b now
+  back_ends i arms a b before now holes h back =
+      let whole : Back 0 arms a before holes b now = let none : i ≡ 0 = omega arith in subst (λ (k : ℕ). Back k arms a before holes b now) none back in record {
         table = whole.table;
         around = whole.around;
-        written = λ front rest is ends. whole.written front rest is ends ∙ ap (λ (code : List ℕ). code ++ bytes_at (length code) (whole.around rest)) (append-nil front);
+        written = λ front rest is at. whole.written front rest is at ∙ ap (λ (code : List ℕ). code ++ bytes_at (length code) (whole.around rest)) (append-nil front);
         is = whole.is;
       }

@@ -15,7 +15,7 @@ use Rattle.edd_syntax.specs.TreeView.{expr_of}
 use Rattle.edd_syntax.proofs.CondRows.{of_value, of_if, of_select, of_case, of_default}
 use Rattle.edd_image.specs.Layout.{u32}
 use Rattle.edd_image.specs.Spelling.{i64}
-use Rattle.edd_attrs.specs.Writing.{default_of, header}
+use Rattle.edd_attrs.specs.Writing.{default_of, header, hole_of}
 
 module _ {V W : Type 0} (view : V → W) where
   abbrev pub viewed : code.Cond Target V → Cond Target W
@@ -59,6 +59,12 @@ module _ {V W : Type 0} (view : V → W) where
 
   pub default_header : (x : code_arm.Arm Target V) (line : ℕ) (v : Vec (code.Cond Target V) Global) → x ≡ a.Default line v → header (arm_viewed x) ≡ []
   default_header x line v is = ap header (default_is x line v v.items is refl)
+
+  pub case_hole : (x : code_arm.Arm Target V) (place : ℕ) (label : ℤ) (v : Vec (code.Cond Target V) Global) → x ≡ a.Case label v → hole_of place (arm_viewed x) ≡ Some (place + 9)
+  case_hole x place label v is = ap (hole_of place) (case_is x label v v.items is refl)
+
+  pub default_hole : (x : code_arm.Arm Target V) (place line : ℕ) (v : Vec (code.Cond Target V) Global) → x ≡ a.Default line v → hole_of place (arm_viewed x) ≡ None
+  default_hole x place line v is = ap (hole_of place) (default_is x line v v.items is refl)
 
   pub case_has_none : (x : code_arm.Arm Target V) (label : ℤ) (v : Vec (code.Cond Target V) Global) → x ≡ a.Case label v → default_of (ConsArm (arm_viewed x) NoArms) ≡ None
   case_has_none x label v is = ap (λ (arm : Arm Target W). default_of (ConsArm arm NoArms)) (case_is x label v v.items is refl)

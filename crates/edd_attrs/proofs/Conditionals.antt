@@ -1,5 +1,5 @@
 -- The code of conditionals, put together from that of their parts.
-use Rattle.std.proofs.Common.{◌≡◌, refl, sym, ap, subst, ◌∙◌, ℕ, ◌+◌, List, ◌∷◌, ◌++◌, length, arith}
+use Rattle.std.proofs.Common.{◌≡◌, refl, sym, ap, subst, ◌∙◌, ℕ, ◌+◌, List, ◌∷◌, ◌++◌, length, arith, ◌≤◌, length-append}
 use Rattle.std.specs.Prelude.{Option, Some, None}
 use Rattle.std.proofs.lemmas.Grind.{flat_map-append}
 use Rattle.edd_syntax.specs.declared.numbers.StrNo.{StrNo}
@@ -19,7 +19,7 @@ use Rattle.edd_code.proofs.Closing.{either_closed, straight_written}
 use Rattle.edd_attrs.specs.Code.{GrowsBy, Overflows}
 use Rattle.edd_attrs.specs.Lowered.{WritesBlock}
 use Rattle.edd_attrs.specs.TreeBlocks.{IsCondBlock, IsCondsBlock, IsDefaultBlock}
-use Rattle.edd_attrs.specs.Writing.{WritesArms, arms_strings, cond_strings, conds_strings, default_of, headers}
+use Rattle.edd_attrs.specs.Writing.{WritesArms, arms_strings, cond_strings, conds_strings, default_of, headers, holes_of}
 use Rattle.edd_attrs.proofs.Flat.{default_within}
 use Rattle.edd_attrs.proofs.Among.{block_within, grows_twice, overflows_later, overflows_within, within_left, within_right}
 use Rattle.edd_attrs.proofs.Loops.{later_on}
@@ -89,19 +89,19 @@ module _ {V : Type 0} (strings : V → List Words) (is_block : (StrNo → Option
 
   -- ---- SELECT
 
-  pub select_written : (old mid new : List Words) (before c0 c1 c2 c3 after : List ℕ) (e : Expr Target) (arms : List (Arm Target V)) (behind : ℕ)
-      → c0 ≡ before ++ bytes_at (length before) (expression_block e) → c1 ≡ c0 ++ headers arms → behind ≡ length c1 → c2 ≡ c1 ++ spelling instruction.Pop
+  pub select_written : (old mid new : List Words) (before c0 c1 c2 c3 after : List ℕ) (e : Expr Target) (arms : List (Arm Target V)) (holes : List (Option ℕ))
+      → c0 ≡ before ++ bytes_at (length before) (expression_block e) → c1 ≡ c0 ++ headers arms → holes ≡ holes_of (length c0) arms → c2 ≡ c1 ++ spelling instruction.Pop
       → WritesBlock old c2 (arms_strings strings (arms_from arms)) (λ numbered b. IsDefaultBlock (is_block numbered) (arms_from arms) b) mid c3
-      → WritesArms strings is_block mid c3 behind arms new after
+      → WritesArms strings is_block mid c3 holes arms new after
       → WritesBlock old before (arms_strings strings (arms_from arms)) (λ numbered b. IsCondBlock (is_block numbered) (Select e (arms_from arms)) b) new after
-  select_written old mid new before c0 c1 c2 c3 after e arms behind test opened ends popped x w =
+  select_written old mid new before c0 c1 c2 c3 after e arms holes test opened at popped x w =
       let rest : Block = Then (Straight instruction.Pop) x.block in
       let third : c3 ≡ (c0 ++ headers arms) ++ bytes_at (length (c0 ++ headers arms)) rest =
       both_blocks (c0 ++ headers arms) c2 c3 (Straight instruction.Pop) x.block
       (popped ∙ ap (λ (code : List ℕ). code ++ spelling instruction.Pop) opened ∙ straight_written (c0 ++ headers arms) instruction.Pop) x.written in record {
         table = grows_twice (arms_strings strings (arms_from arms)) x.table w.table (λ v held. held) (λ v held. held);
         block = Then (expression_block e) (w.around rest);
-        written = both_blocks before c0 after (expression_block e) (w.around rest) test (w.written c0 rest third (sym (ends ∙ ap length opened)));
+        written = both_blocks before c0 after (expression_block e) (w.around rest) test (w.written c0 rest third at);
         is = λ later.
             let e' : new ++ later ≡ mid ++ (w.table.more ++ later) = later_on mid new w.table.more later w.table.grown in
             (w.around rest, x.block, refl, subst (λ (t : List Words). IsDefaultBlock (is_block (string_of_table t)) (arms_from arms) x.block) (sym e') (x.is (w.table.more ++ later)), w.is later x.block rest refl);
@@ -120,3 +120,9 @@ found_here (Default x) rest body e = e
 pub not_here : {V : Type 0} (arm : Arm Target V) (rest : Arms Target V) → None ≡ default_of (ConsArm arm NoArms) → default_of (ConsArm arm rest) ≡ default_of rest
 not_here (Case label x) rest e = refl
 not_here (Default x) rest e = absurd cc
+
+-- the open targets of a SELECT's arms lie inside the code
+pub holes_inside : {V : Type 0} (c0 c1 c2 c3 : List ℕ) (arms : List (Arm Target V)) (b : Block) → c1 ≡ c0 ++ headers arms → c2 ≡ c1 ++ spelling instruction.Pop → c3 ≡ c2 ++ bytes_at (length c2) b
+    → length c0 + length (headers arms) ≤ length c3
+holes_inside c0 c1 c2 c3 arms b opened popped more =
+    omega (arith, ap length opened ∙ length-append c0 (headers arms), ap length popped ∙ length-append c1 (spelling instruction.Pop), ap length more ∙ length-append c2 (bytes_at (length c2) b))

@@ -16,8 +16,7 @@ use Rattle.edd_image.specs.declared.records.Record.{Record}
 use Rattle.edd_image.specs.declared.records.Record.TheVariants as records
 use Rattle.edd_image.specs.declared.instruction.Instruction.{Instruction}
 use Rattle.edd_image.specs.declared.instruction.Instruction.TheVariants as instruction
-use Rattle.edd_image.specs.Layout.{u16}
-use Rattle.edd_image.specs.Spelling.{i64, optional_bytes, spelling}
+use Rattle.edd_image.specs.Spelling.{spelling}
 use Rattle.edd_image.specs.Agreement.{class_number, mask_number, SameRecord, string_of_table}
 use Rattle.edd_code.specs.Blocks.{Block, Nothing, Straight, Then, bytes_at}
 use Rattle.edd_code.specs.Expressions.{expression_block}

@@ -53,6 +53,16 @@ header (Default body) = []
 abbrev pub headers : {V : Type 0} → List (Arm Target V) → List ℕ
 headers arms = flat_map header arms
 
+-- the place of the open target of an arm whose header stands at a place
+abbrev pub hole_of : {V : Type 0} → (place : ℕ) → Arm Target V → Option ℕ
+hole_of place (Case label body) = Some (place + 9)
+hole_of place (Default body) = None
+
+-- the same of all arms, whose headers stand one behind the other
+abbrev pub holes_of : {V : Type 0} → (place : ℕ) → List (Arm Target V) → List (Option ℕ)
+holes_of place [] = []
+holes_of place (arm ∷ rest) = hole_of place arm ∷ holes_of (place + length (header arm)) rest
+
 -- behind the code a jump over the body, which is the target of the CASE
 abbrev pub with_body : (code : List ℕ) (hole : ℕ) → Block → List ℕ
 with_body code hole body =
@@ -65,24 +75,22 @@ pub record WritesBody (old : List Words) (before : List ℕ) (hole : ℕ) (strin
   pub is : (later : List Words) → of (string_of_table (new ++ later)) block
 
 module _ {V : Type 0} (strings : V → List Words) (is_block : (StrNo → Option Words) → V → Block → Type 0) where
-  -- The body of an arm is written, whose CASE ends at `behind` and begins at `start`: the block of the rest became that of the arm
-  -- and the rest.
-  pub record WritesArm (old : List Words) (before : List ℕ) (behind : ℕ) (arm : Arm Target V) (new : List Words) (after : List ℕ) (start : ℕ) : Type 0 where
+  -- The body of an arm is written, whose CASE has the open target: the block of the rest became that of the arm and the rest.
+  pub record WritesArm (old : List Words) (before : List ℕ) (hole : Option ℕ) (arm : Arm Target V) (new : List Words) (after : List ℕ) : Type 0 where
     pub table : GrowsBy old (arms_strings strings (ConsArm arm NoArms)) new
-    pub starts : start + length (header arm) ≡ behind
     pub longer : length before ≤ length after
     pub around : Block → Block
     pub written : (front : List ℕ) (rest : Block) → before ≡ (front ++ header arm) ++ bytes_at (length (front ++ header arm)) rest
-        → length (front ++ header arm) ≡ behind → after ≡ front ++ bytes_at (length front) (around rest)
+        → hole ≡ hole_of (length front) arm → after ≡ front ++ bytes_at (length front) (around rest)
     pub is : (later : List Words) (otherwise : Block) (rest : Arms Target V) (b : Block) → IsArmsBlock (is_block (string_of_table (new ++ later))) otherwise rest b
         → IsArmsBlock (is_block (string_of_table (new ++ later))) otherwise (ConsArm arm rest) (around b)
 
-  -- the same of all arms, whose headers end at `behind`
-  pub record WritesArms (old : List Words) (before : List ℕ) (behind : ℕ) (arms : List (Arm Target V)) (new : List Words) (after : List ℕ) : Type 0 where
+  -- the same of all arms
+  pub record WritesArms (old : List Words) (before : List ℕ) (holes : List (Option ℕ)) (arms : List (Arm Target V)) (new : List Words) (after : List ℕ) : Type 0 where
     pub table : GrowsBy old (arms_strings strings (arms_from arms)) new
     pub around : Block → Block
     pub written : (front : List ℕ) (rest : Block) → before ≡ (front ++ headers arms) ++ bytes_at (length (front ++ headers arms)) rest
-        → length (front ++ headers arms) ≡ behind → after ≡ front ++ bytes_at (length front) (around rest)
+        → holes ≡ holes_of (length front) arms → after ≡ front ++ bytes_at (length front) (around rest)
     pub is : (later : List Words) (otherwise : Block) (b : Block) → IsArmsBlock (is_block (string_of_table (new ++ later))) otherwise NoArms b
         → IsArmsBlock (is_block (string_of_table (new ++ later))) otherwise (arms_from arms) (around b)
 

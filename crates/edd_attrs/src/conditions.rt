@@ -1,6 +1,6 @@
 //! The code of conditionals. A jump is written with an open target, which is closed when the place behind is known.
 
-ghost use Rattle.std.specs.Prelude.{◌≡◌, ◌+◌, ◌≤◌, ◌++◌, IfOk, IsErrOf, IsTrue, OnOk, length, map, option_map};
+ghost use Rattle.std.specs.Prelude.{◌≡◌, ℕ, ◌+◌, ◌≤◌, ◌++◌, IfOk, IsErrOf, IsTrue, OnOk, length, map, option_map};
 ghost use Rattle.std.specs.List.{list_all};
 ghost use Rattle.edd_syntax.specs.Conditional.{If, Select, NoArms, ConsArm, conds_from, arms_from};
 ghost use Rattle.edd_syntax.specs.ItemView.{cond_of, conds_of, arm_of};
@@ -9,12 +9,12 @@ ghost use Rattle.edd_syntax.specs.TreeView.{expr_of};
 ghost use Rattle.edd_attrs.specs.Code.{Grows, Overflows};
 ghost use Rattle.edd_attrs.specs.Lowered.{WritesBlock};
 ghost use Rattle.edd_attrs.specs.TreeBlocks.{IsCondBlock, IsCondsBlock, IsDefaultBlock};
-ghost use Rattle.edd_attrs.specs.Writing.{WritesArm, WritesArms, WritesBody, arms_strings, cond_strings, conds_strings, default_of, header, headers};
+ghost use Rattle.edd_attrs.specs.Writing.{WritesArm, WritesArms, WritesBody, arms_strings, cond_strings, conds_strings, default_of, header, headers, hole_of, holes_of};
 
 use crate::elements::Element;
 use crate::fault::LowerFault;
-use edd_code::{close, open_case, open_if_zero, open_jump, put, write_expression};
-use edd_image::Instruction;
+use edd_code::{close, open, put, write_expression};
+use edd_image::{Emitter, Hole, Instruction, Jump};
 use edd_strings::Table;
 use edd_syntax::cond::{Arm, Cond};
 use edd_syntax::expr::Expr;
@@ -25,13 +25,13 @@ use std::alloc::{AllocError, Global};
 #[cycle(conditions)]
 pub fn write_cond<V: Element>(
     alloc: Global,
-    code: &mut Vec<u8>,
+    code: &mut Emitter,
     table: &mut Table,
     c: &Cond<Target, V>,
 ) -> Result<(), LowerFault>
     requires { IsTrue (list_all V.is_kept (values_in (cond_of (λ r. r) V.view c.now))) }
-    ensures ok { OnOk result (WritesBlock table.old code.old.items (cond_strings V.strings (cond_of (λ r. r) V.view c.now))
-        (λ numbered b. IsCondBlock (V.is_block numbered) (cond_of (λ r. r) V.view c.now) b) table.new code.new.items) }
+    ensures ok { OnOk result (WritesBlock table.old code.old (cond_strings V.strings (cond_of (λ r. r) V.view c.now))
+        (λ numbered b. IsCondBlock (V.is_block numbered) (cond_of (λ r. r) V.view c.now) b) table.new code.new) }
     ensures grows { Grows table.old table.new }
     ensures too_many { IsErrOf result LowerFault.TooMany → Overflows table.old (cond_strings V.strings (cond_of (λ r. r) V.view c.now)) }
 {
@@ -49,7 +49,7 @@ pub fn write_cond<V: Element>(
 #[cycle(conditions)]
 fn write_if<V: Element>(
     alloc: Global,
-    code: &mut Vec<u8>,
+    code: &mut Emitter,
     table: &mut Table,
     condition: &Expr<Target>,
     first: &[Cond<Target, V>],
@@ -57,18 +57,18 @@ fn write_if<V: Element>(
 ) -> Result<(), LowerFault>
     requires first { IsTrue (list_all V.is_kept (values_of (conds_of (λ r. r) V.view first.now))) }
     requires otherwise { IsTrue (list_all V.is_kept (values_of (conds_of (λ r. r) V.view otherwise.now))) }
-    ensures ok { OnOk result (WritesBlock table.old code.old.items
+    ensures ok { OnOk result (WritesBlock table.old code.old
         (cond_strings V.strings (If (expr_of (λ r. r) condition.now) (conds_of (λ r. r) V.view first.now) (conds_of (λ r. r) V.view otherwise.now)))
         (λ numbered b. IsCondBlock (V.is_block numbered) (If (expr_of (λ r. r) condition.now) (conds_of (λ r. r) V.view first.now) (conds_of (λ r. r) V.view otherwise.now)) b)
-        table.new code.new.items) }
+        table.new code.new) }
     ensures grows { Grows table.old table.new }
     ensures too_many { IsErrOf result LowerFault.TooMany → Overflows table.old
         (cond_strings V.strings (If (expr_of (λ r. r) condition.now) (conds_of (λ r. r) V.view first.now) (conds_of (λ r. r) V.view otherwise.now))) }
 {
     write_expression(code, condition)?;
-    let otherwise_hole = open_if_zero(code)?;
+    let otherwise_hole = open(code, Jump::IfZero)?;
     write_conds(alloc, code, table, first)?;
-    let end_hole = open_jump(code)?;
+    let end_hole = open(code, Jump::Always)?;
     close(code, otherwise_hole);
     write_conds(alloc, code, table, otherwise)?;
     close(code, end_hole);
@@ -79,13 +79,13 @@ fn write_if<V: Element>(
 #[cycle(conditions)]
 pub fn write_conds<V: Element>(
     alloc: Global,
-    code: &mut Vec<u8>,
+    code: &mut Emitter,
     table: &mut Table,
     all: &[Cond<Target, V>],
 ) -> Result<(), LowerFault>
     requires { IsTrue (list_all V.is_kept (values_of (conds_of (λ r. r) V.view all.now))) }
-    ensures ok { OnOk result (WritesBlock table.old code.old.items (conds_strings V.strings (conds_of (λ r. r) V.view all.now))
-        (λ numbered b. IsCondsBlock (V.is_block numbered) (conds_of (λ r. r) V.view all.now) b) table.new code.new.items) }
+    ensures ok { OnOk result (WritesBlock table.old code.old (conds_strings V.strings (conds_of (λ r. r) V.view all.now))
+        (λ numbered b. IsCondsBlock (V.is_block numbered) (conds_of (λ r. r) V.view all.now) b) table.new code.new) }
     ensures grows { Grows table.old table.new }
     ensures too_many { IsErrOf result LowerFault.TooMany → Overflows table.old (conds_strings V.strings (conds_of (λ r. r) V.view all.now)) }
 {
@@ -99,43 +99,54 @@ pub fn write_conds<V: Element>(
 #[cycle(conditions)]
 fn write_select<V: Element>(
     alloc: Global,
-    code: &mut Vec<u8>,
+    code: &mut Emitter,
     table: &mut Table,
     on: &Expr<Target>,
     arms: &[Arm<Target, V>],
 ) -> Result<(), LowerFault>
     requires { IsTrue (list_all V.is_kept (values_under (arms_from (map (arm_of (λ r. r) V.view) arms.now)))) }
-    ensures ok { OnOk result (WritesBlock table.old code.old.items (arms_strings V.strings (arms_from (map (arm_of (λ r. r) V.view) arms.now)))
+    ensures ok { OnOk result (WritesBlock table.old code.old (arms_strings V.strings (arms_from (map (arm_of (λ r. r) V.view) arms.now)))
         (λ numbered b. IsCondBlock (V.is_block numbered) (Select (expr_of (λ r. r) on.now) (arms_from (map (arm_of (λ r. r) V.view) arms.now))) b)
-        table.new code.new.items) }
+        table.new code.new) }
     ensures grows { Grows table.old table.new }
     ensures too_many { IsErrOf result LowerFault.TooMany
         → Overflows table.old (arms_strings V.strings (arms_from (map (arm_of (λ r. r) V.view) arms.now))) }
 {
     write_expression(code, on)?;
-    open_cases(code, arms)?;
-    let behind = code.len();
+    let mut holes = open_cases(alloc, code, arms)?;
     put(code, Instruction::Pop)?;
     write_default(alloc, code, table, arms)?;
-    write_bodies(alloc, code, table, behind, arms)
+    write_bodies(alloc, code, table, &mut holes, arms)
 }
 
-fn open_arm<V: Element>(code: &mut Vec<u8>, arm: &Arm<Target, V>) -> Result<(), AllocError>
-    ensures { OnOk result (code.new.items ≡ code.old.items ++ header (arm_of (λ r. r) V.view arm.now)) }
+// A CASE with an open target; DEFAULT has no code of its own.
+fn open_arm<V: Element>(
+    code: &mut Emitter,
+    arm: &Arm<Target, V>,
+) -> Result<Option<Hole>, AllocError>
+    ensures code { OnOk result (code.new ≡ code.old ++ header (arm_of (λ r. r) V.view arm.now)) }
+    ensures hole { IfOk result (λ hole. hole ≡ hole_of (length code.old) (arm_of (λ r. r) V.view arm.now)) }
 {
-    if let Arm::Case { label, .. } = arm {
-        open_case(code, *label)?;
+    match arm {
+        Arm::Case { label, .. } => Ok(Some(open(code, Jump::IfLabel(*label))?)),
+        Arm::Default { .. } => Ok(None),
     }
-    Ok(())
 }
 
-fn open_cases<V: Element>(code: &mut Vec<u8>, arms: &[Arm<Target, V>]) -> Result<(), AllocError>
-    ensures { OnOk result (code.new.items ≡ code.old.items ++ headers (map (arm_of (λ r. r) V.view) arms.now)) }
+// The open targets of all arms.
+fn open_cases<V: Element>(
+    alloc: Global,
+    code: &mut Emitter,
+    arms: &[Arm<Target, V>],
+) -> Result<Vec<Option<Hole>>, AllocError>
+    ensures code { OnOk result (code.new ≡ code.old ++ headers (map (arm_of (λ r. r) V.view) arms.now)) }
+    ensures holes { IfOk result (λ holes. holes.items ≡ holes_of (length code.old) (map (arm_of (λ r. r) V.view) arms.now)) }
 {
+    let mut holes = Vec::new(alloc);
     for arm in arms {
-        open_arm(code, arm)?;
+        holes.push(open_arm(code, arm)?)?;
     }
-    Ok(())
+    Ok(holes)
 }
 
 // The body of an arm that is a DEFAULT.
@@ -164,13 +175,13 @@ fn default_among<'a, V: Element>(arms: &'a [Arm<Target, V>]) -> Option<&'a [Cond
 #[cycle(conditions)]
 fn write_default<V: Element>(
     alloc: Global,
-    code: &mut Vec<u8>,
+    code: &mut Emitter,
     table: &mut Table,
     arms: &[Arm<Target, V>],
 ) -> Result<(), LowerFault>
     requires { IsTrue (list_all V.is_kept (values_under (arms_from (map (arm_of (λ r. r) V.view) arms.now)))) }
-    ensures ok { OnOk result (WritesBlock table.old code.old.items (arms_strings V.strings (arms_from (map (arm_of (λ r. r) V.view) arms.now)))
-        (λ numbered b. IsDefaultBlock (V.is_block numbered) (arms_from (map (arm_of (λ r. r) V.view) arms.now)) b) table.new code.new.items) }
+    ensures ok { OnOk result (WritesBlock table.old code.old (arms_strings V.strings (arms_from (map (arm_of (λ r. r) V.view) arms.now)))
+        (λ numbered b. IsDefaultBlock (V.is_block numbered) (arms_from (map (arm_of (λ r. r) V.view) arms.now)) b) table.new code.new) }
     ensures grows { Grows table.old table.new }
     ensures too_many { IsErrOf result LowerFault.TooMany
         → Overflows table.old (arms_strings V.strings (arms_from (map (arm_of (λ r. r) V.view) arms.now))) }
@@ -181,58 +192,55 @@ fn write_default<V: Element>(
     }
 }
 
-// The bodies of all arms, whose CASEs end at `behind`.
+// The bodies of all arms, from the last to the first, whose CASEs have these open targets.
 #[cycle(conditions)]
 fn write_bodies<V: Element>(
     alloc: Global,
-    code: &mut Vec<u8>,
+    code: &mut Emitter,
     table: &mut Table,
-    behind: usize,
+    holes: &mut Vec<Option<Hole>>,
     arms: &[Arm<Target, V>],
 ) -> Result<(), LowerFault>
     requires kept { IsTrue (list_all V.is_kept (values_under (arms_from (map (arm_of (λ r. r) V.view) arms.now)))) }
-    requires room { length (headers (map (arm_of (λ r. r) V.view) arms.now)) ≤ behind }
-    requires inside { behind ≤ length code.old.items }
+    requires holes { (place : ℕ) × (holes.old.items ≡ holes_of place (map (arm_of (λ r. r) V.view) arms.now))
+        × (place + length (headers (map (arm_of (λ r. r) V.view) arms.now)) ≤ length code.old) }
     ensures ok { OnOk result
-        (WritesArms V.strings V.is_block table.old code.old.items behind (map (arm_of (λ r. r) V.view) arms.now) table.new code.new.items) }
+        (WritesArms V.strings V.is_block table.old code.old holes.old.items (map (arm_of (λ r. r) V.view) arms.now) table.new code.new) }
     ensures grows { Grows table.old table.new }
     ensures too_many { IsErrOf result LowerFault.TooMany
         → Overflows table.old (arms_strings V.strings (arms_from (map (arm_of (λ r. r) V.view) arms.now))) }
 {
-    let mut start = behind;
     let mut left = arms.len();
     while left > 0 {
         left -= 1;
-        start = write_arm(alloc, code, table, start, &arms[left])?;
+        let Some(hole) = holes.pop() else {
+            unreachable!();
+        };
+        write_arm(alloc, code, table, hole, &arms[left])?;
     }
     Ok(())
 }
 
-// The body of an arm, whose CASE ends at `behind`; gives where it begins.
+// The body of an arm, whose CASE has this open target.
 #[cycle(conditions)]
 fn write_arm<V: Element>(
     alloc: Global,
-    code: &mut Vec<u8>,
+    code: &mut Emitter,
     table: &mut Table,
-    behind: usize,
+    hole: Option<Hole>,
     arm: &Arm<Target, V>,
-) -> Result<usize, LowerFault>
+) -> Result<(), LowerFault>
     requires kept { IsTrue (list_all V.is_kept (values_under (ConsArm (arm_of (λ r. r) V.view arm.now) NoArms))) }
-    requires room { length (header (arm_of (λ r. r) V.view arm.now)) ≤ behind }
-    requires inside { behind ≤ length code.old.items }
-    ensures ok { IfOk result
-        (λ start. WritesArm V.strings V.is_block table.old code.old.items behind (arm_of (λ r. r) V.view arm.now) table.new code.new.items start) }
+    requires hole { (place : ℕ) × (hole ≡ hole_of place (arm_of (λ r. r) V.view arm.now)) × (place + length (header (arm_of (λ r. r) V.view arm.now)) ≤ length code.old) }
+    ensures ok { OnOk result (WritesArm V.strings V.is_block table.old code.old hole (arm_of (λ r. r) V.view arm.now) table.new code.new) }
     ensures grows { Grows table.old table.new }
     ensures too_many { IsErrOf result LowerFault.TooMany
         → Overflows table.old (arms_strings V.strings (ConsArm (arm_of (λ r. r) V.view arm.now) NoArms)) }
 {
-    match arm {
-        Arm::Case { body, .. } => {
-            let start = behind - 13;
-            write_body(alloc, code, table, start + 9, body)?;
-            Ok(start)
-        }
-        Arm::Default { .. } => Ok(behind),
+    match (arm, hole) {
+        (Arm::Case { body, .. }, Some(hole)) => write_body(alloc, code, table, hole, body),
+        (Arm::Case { .. }, None) => unreachable!(),
+        (Arm::Default { .. }, _) => Ok(()),
     }
 }
 
@@ -240,19 +248,19 @@ fn write_arm<V: Element>(
 #[cycle(conditions)]
 fn write_body<V: Element>(
     alloc: Global,
-    code: &mut Vec<u8>,
+    code: &mut Emitter,
     table: &mut Table,
-    case_hole: usize,
+    case_hole: Hole,
     body: &[Cond<Target, V>],
 ) -> Result<(), LowerFault>
     requires kept { IsTrue (list_all V.is_kept (values_of (conds_of (λ r. r) V.view body.now))) }
-    requires inside { case_hole + 4 ≤ length code.old.items }
-    ensures ok { OnOk result (WritesBody table.old code.old.items case_hole (conds_strings V.strings (conds_of (λ r. r) V.view body.now))
-        (λ numbered b. IsCondsBlock (V.is_block numbered) (conds_of (λ r. r) V.view body.now) b) table.new code.new.items) }
+    requires inside { case_hole + 4 ≤ length code.old }
+    ensures ok { OnOk result (WritesBody table.old code.old case_hole (conds_strings V.strings (conds_of (λ r. r) V.view body.now))
+        (λ numbered b. IsCondsBlock (V.is_block numbered) (conds_of (λ r. r) V.view body.now) b) table.new code.new) }
     ensures grows { Grows table.old table.new }
     ensures too_many { IsErrOf result LowerFault.TooMany → Overflows table.old (conds_strings V.strings (conds_of (λ r. r) V.view body.now)) }
 {
-    let jump_hole = open_jump(code)?;
+    let jump_hole = open(code, Jump::Always)?;
     close(code, case_hole);
     write_conds(alloc, code, table, body)?;
     close(code, jump_hole);

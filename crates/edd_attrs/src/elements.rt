@@ -24,7 +24,7 @@ ghost use Rattle.edd_attrs.specs.Writing.{WritesRecord};
 use crate::fault::LowerFault;
 use crate::strings::{add_name, add_optional, add_text};
 use edd_code::{put, write_expression};
-use edd_image::Instruction;
+use edd_image::{Emitter, Instruction};
 use edd_strings::Table;
 use edd_syntax::expr::Expr;
 use edd_syntax::item::{
@@ -51,10 +51,10 @@ pub trait Element {
     ghost is_kept: { Meant → Bool };
 
     /// Writes the code that gives its record.
-    fn write(&self, alloc: Global, code: &mut Vec<u8>, table: &mut Table) -> Result<(), LowerFault>
+    fn write(&self, alloc: Global, code: &mut Emitter, table: &mut Table) -> Result<(), LowerFault>
         requires { IsTrue (is_kept (view self.now)) }
-        ensures ok { OnOk result (WritesBlock table.old code.old.items (strings (view self.now)) (λ numbered b. is_block numbered (view self.now) b)
-            table.new code.new.items) }
+        ensures ok { OnOk result (WritesBlock table.old code.old (strings (view self.now)) (λ numbered b. is_block numbered (view self.now) b)
+            table.new code.new) }
         ensures grows { Grows table.old table.new }
         ensures too_many { IsErrOf result LowerFault.TooMany → Overflows table.old (strings (view self.now)) };
 }
@@ -63,9 +63,9 @@ pub trait Element {
 
 /// Writes the code that gives a number.
 #[tactic(auto, using(crate::proofs::Written::number_written))]
-pub fn write_number(code: &mut Vec<u8>, number: u32) -> Result<(), AllocError>
+pub fn write_number(code: &mut Emitter, number: u32) -> Result<(), AllocError>
     ensures { OnOk result
-        ((table : List Words) → WritesRecord table code.old.items (source.Number (pos number)) table code.new.items) }
+        ((table : List Words) → WritesRecord table code.old (source.Number (pos number)) table code.new) }
 {
     put(code, Instruction::Push(number))?;
     put(code, Instruction::Number)
@@ -96,7 +96,7 @@ impl Element for Handling {
     fn write(
         &self,
         _alloc: Global,
-        code: &mut Vec<u8>,
+        code: &mut Emitter,
         _table: &mut Table,
     ) -> Result<(), LowerFault> {
         write_number(code, handling_number(*self))?;
@@ -119,7 +119,7 @@ impl Element for bool {
     fn write(
         &self,
         _alloc: Global,
-        code: &mut Vec<u8>,
+        code: &mut Emitter,
         _table: &mut Table,
     ) -> Result<(), LowerFault> {
         write_number(code, u32::from(*self))?;
@@ -144,7 +144,7 @@ impl Element for Expr<Target> {
     fn write(
         &self,
         _alloc: Global,
-        code: &mut Vec<u8>,
+        code: &mut Emitter,
         _table: &mut Table,
     ) -> Result<(), LowerFault> {
         write_expression(code, self)?;
@@ -170,7 +170,7 @@ impl Element for Text {
     fn write(
         &self,
         alloc: Global,
-        code: &mut Vec<u8>,
+        code: &mut Emitter,
         table: &mut Table,
     ) -> Result<(), LowerFault> {
         let number = add_text(alloc, table, self)?;
@@ -195,7 +195,7 @@ impl Element for String {
     fn write(
         &self,
         alloc: Global,
-        code: &mut Vec<u8>,
+        code: &mut Emitter,
         table: &mut Table,
     ) -> Result<(), LowerFault> {
         let number = add_name(alloc, table, self)?;
@@ -227,9 +227,9 @@ fn item_of(target: Target) -> ItemNo
 }
 
 #[tactic(auto, using(crate::proofs::Written::item_written))]
-fn write_item(code: &mut Vec<u8>, to: Target, qualifiers: MenuQualifiers) -> Result<(), AllocError>
+fn write_item(code: &mut Emitter, to: Target, qualifiers: MenuQualifiers) -> Result<(), AllocError>
     ensures { OnOk result
-        ((table : List Words) → WritesRecord table code.old.items (source.Entry (source.item_of to) qualifiers) table code.new.items) }
+        ((table : List Words) → WritesRecord table code.old (source.Entry (source.item_of to) qualifiers) table code.new) }
 {
     let (item, quals) = (item_of(to), menu_bits(qualifiers));
     put(code, Instruction::Item { item, quals })
@@ -250,7 +250,7 @@ impl Element for MenuEntry<Target> {
     fn write(
         &self,
         alloc: Global,
-        code: &mut Vec<u8>,
+        code: &mut Emitter,
         table: &mut Table,
     ) -> Result<(), LowerFault> {
         match self {
@@ -290,13 +290,13 @@ fn mask_number(mask: Option<u32>) -> u32
 
 #[tactic(auto, using(crate::proofs::Written::variable_written))]
 fn write_variable(
-    code: &mut Vec<u8>,
+    code: &mut Emitter,
     variable: Target,
     mask: Option<u32>,
     qualifiers: DataQualifiers,
 ) -> Result<(), AllocError>
     ensures { OnOk result
-        ((table : List Words) → WritesRecord table code.old.items (source.DataVar (source.variable_of variable) mask qualifiers) table code.new.items) }
+        ((table : List Words) → WritesRecord table code.old (source.DataVar (source.variable_of variable) mask qualifiers) table code.new) }
 {
     put(
         code,
@@ -309,10 +309,10 @@ fn write_variable(
 }
 
 #[tactic(auto, using(crate::proofs::Written::constant_written))]
-fn write_constant(code: &mut Vec<u8>, value: u32) -> Result<(), AllocError>
+fn write_constant(code: &mut Emitter, value: u32) -> Result<(), AllocError>
     requires { value < 256 }
     ensures { OnOk result
-        ((table : List Words) → WritesRecord table code.old.items (source.DataConst value) table code.new.items) }
+        ((table : List Words) → WritesRecord table code.old (source.DataConst value) table code.new) }
 {
     put(code, Instruction::DataConst(value as u8))
 }
@@ -332,7 +332,7 @@ impl Element for DataItem<Target> {
     fn write(
         &self,
         _alloc: Global,
-        code: &mut Vec<u8>,
+        code: &mut Emitter,
         _table: &mut Table,
     ) -> Result<(), LowerFault> {
         match self {
@@ -373,7 +373,7 @@ impl Element for Enumerator {
     fn write(
         &self,
         alloc: Global,
-        code: &mut Vec<u8>,
+        code: &mut Emitter,
         table: &mut Table,
     ) -> Result<(), LowerFault> {
         let text = add_text(alloc, table, &self.text)?;
@@ -412,7 +412,7 @@ impl Element for ResponseCode {
     fn write(
         &self,
         alloc: Global,
-        code: &mut Vec<u8>,
+        code: &mut Emitter,
         table: &mut Table,
     ) -> Result<(), LowerFault> {
         let text = add_text(alloc, table, &self.text)?;
@@ -442,7 +442,7 @@ impl Element for Member<Target> {
     fn write(
         &self,
         alloc: Global,
-        code: &mut Vec<u8>,
+        code: &mut Emitter,
         table: &mut Table,
     ) -> Result<(), LowerFault> {
         let name = add_name(alloc, table, &self.name)?;

@@ -8,19 +8,20 @@ ghost use Rattle.edd_attrs.specs.TreeBlocks.{IsLineBlock};
 
 use crate::elements::Element;
 use crate::fault::LowerFault;
+use edd_image::Emitter;
 use edd_strings::Table;
 use std::alloc::Global;
 
 /// The code of a list of elements.
 pub fn write_all<V: Element>(
     alloc: Global,
-    code: &mut Vec<u8>,
+    code: &mut Emitter,
     table: &mut Table,
     all: &[V],
 ) -> Result<(), LowerFault>
     requires { IsTrue (list_all V.is_kept (map V.view all.now)) }
-    ensures ok { OnOk result (WritesBlock table.old code.old.items (flat_map V.strings (map V.view all.now))
-        (λ numbered b. IsLineBlock (V.is_block numbered) (map V.view all.now) b) table.new code.new.items) }
+    ensures ok { OnOk result (WritesBlock table.old code.old (flat_map V.strings (map V.view all.now))
+        (λ numbered b. IsLineBlock (V.is_block numbered) (map V.view all.now) b) table.new code.new) }
     ensures grows { Grows table.old table.new }
     ensures too_many { IsErrOf result LowerFault.TooMany → Overflows table.old (flat_map V.strings (map V.view all.now)) }
 {

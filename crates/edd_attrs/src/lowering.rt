@@ -22,7 +22,7 @@ use crate::fault::LowerFault;
 use crate::lists::write_all;
 use crate::trees::Tree;
 use edd_code::put;
-use edd_image::Instruction;
+use edd_image::{Emitter, Instruction};
 use edd_strings::Table;
 use edd_syntax::item::TypePart;
 use edd_syntax::reference::Target;
@@ -41,9 +41,9 @@ fn operation_number(operation: Operation) -> u32
 
 // The number of a transaction, which may have none.
 #[tactic(auto, unfolding(crate::specs::TreeBlocks::IsTreeBlock))]
-fn write_optional_number(code: &mut Vec<u8>, number: Option<u32>) -> Result<(), AllocError>
+fn write_optional_number(code: &mut Emitter, number: Option<u32>) -> Result<(), AllocError>
     ensures { OnOk result ((table : List Words)
-        → WritesBlock table code.old.items [] (λ numbered b. IsTreeBlock numbered (trees.Transaction number) b) table code.new.items) }
+        → WritesBlock table code.old [] (λ numbered b. IsTreeBlock numbered (trees.Transaction number) b) table code.new) }
 {
     match number {
         None => Ok(()),
@@ -55,12 +55,12 @@ fn write_optional_number(code: &mut Vec<u8>, number: Option<u32>) -> Result<(), 
 #[tactic(auto, using(crate::proofs::Growing::no_growth))]
 fn write_part(
     alloc: Global,
-    code: &mut Vec<u8>,
+    code: &mut Emitter,
     table: &mut Table,
     part: &TypePart<Target>,
 ) -> Result<(), LowerFault>
     requires { IsTrue (is_kept_part (type_part_of (λ r. r) part.now)) }
-    ensures ok { OnOk result (WritesPart table.old code.old.items (type_part_of (λ r. r) part.now) table.new code.new.items) }
+    ensures ok { OnOk result (WritesPart table.old code.old (type_part_of (λ r. r) part.now) table.new code.new) }
     ensures grows { Grows table.old table.new }
     ensures too_many { IsErrOf result LowerFault.TooMany → Overflows table.old (element_strings (type_part_of (λ r. r) part.now)) }
 {
@@ -72,14 +72,14 @@ fn write_part(
 
 fn write_parts(
     alloc: Global,
-    code: &mut Vec<u8>,
+    code: &mut Emitter,
     table: &mut Table,
     parts: &[TypePart<Target>],
 ) -> Result<(), LowerFault>
     requires { IsTrue (list_all kept_enumerator (values_of (elements (map (type_part_of (λ r. r)) parts.now)))) }
-    ensures ok { OnOk result (WritesBlock table.old code.old.items (conds_strings enumerator_strings (elements (map (type_part_of (λ r. r)) parts.now)))
+    ensures ok { OnOk result (WritesBlock table.old code.old (conds_strings enumerator_strings (elements (map (type_part_of (λ r. r)) parts.now)))
         (λ numbered b. IsCondsBlock (Giving numbered source.enumerator) (elements (map (type_part_of (λ r. r)) parts.now)) b)
-        table.new code.new.items) }
+        table.new code.new) }
     ensures grows { Grows table.old table.new }
     ensures too_many { IsErrOf result LowerFault.TooMany
         → Overflows table.old (conds_strings enumerator_strings (elements (map (type_part_of (λ r. r)) parts.now))) }
@@ -94,13 +94,13 @@ fn write_parts(
 #[tactic(auto, unfolding(crate::specs::Kept::is_kept_tree, crate::specs::Sizes::tree_strings, crate::specs::TreeBlocks::IsTreeBlock))]
 fn write_tree(
     alloc: Global,
-    code: &mut Vec<u8>,
+    code: &mut Emitter,
     table: &mut Table,
     tree: Tree,
 ) -> Result<(), LowerFault>
     requires { IsTrue (is_kept_tree (views.tree_of tree)) }
-    ensures ok { OnOk result (WritesBlock table.old code.old.items (tree_strings (views.tree_of tree.entry))
-        (λ numbered b. IsTreeBlock numbered (views.tree_of tree.entry) b) table.new code.new.items) }
+    ensures ok { OnOk result (WritesBlock table.old code.old (tree_strings (views.tree_of tree.entry))
+        (λ numbered b. IsTreeBlock numbered (views.tree_of tree.entry) b) table.new code.new) }
     ensures grows { Grows table.old table.new }
     ensures too_many { IsErrOf result LowerFault.TooMany → Overflows table.old (tree_strings (views.tree_of tree.entry)) }
 {
@@ -132,10 +132,10 @@ pub fn lower_tree(
     ensures grows { Grows table.old table.new }
     ensures too_many { IsErrOf result LowerFault.TooMany → OverflowsTree table.old (option_map views.tree_of tree.entry) }
 {
-    let mut code = Vec::new(alloc);
+    let mut code = Emitter::new(alloc);
     if let Some(tree) = tree {
         write_tree(alloc, &mut code, table, tree)?;
     }
     put(&mut code, Instruction::End)?;
-    Ok(code)
+    Ok(code.finish())
 }

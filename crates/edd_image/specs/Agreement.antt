@@ -24,7 +24,9 @@ use Rattle.edd_syntax.specs.Attributes.{menu_bits, data_bits, meaning_of, read_a
 use Rattle.edd_image.specs.declared.parts.Counts.{Counts}
 use Rattle.edd_image.specs.declared.records.Record.{Record}
 use Rattle.edd_image.specs.declared.records.Record.TheVariants as records
+use Rattle.edd_image.specs.declared.unit.Version.{Version}
 use Rattle.edd_image.specs.declared.unit.Version.TheVariants.{One}
+use Rattle.edd_image.specs.declared.unit.Sort.{Sort}
 use Rattle.edd_image.specs.declared.unit.Sort.TheVariants.{Attribute}
 use Rattle.edd_image.specs.declared.unit.Context.{Context}
 use Rattle.edd_image.specs.Decoding.{◌>>=◌}
@@ -133,14 +135,18 @@ counts_of i items strings = record {
   dd_revision = i.dd_revision;
 }
 
+-- where a unit stands in an image of a version
+abbrev pub unit_context : Version → Description Target → (strings : List Words) → Sort → (slots : ℕ) → Context
+unit_context version unit strings sort slots = record {
+  version = version;
+  counts = counts_of unit.identification unit.items (length strings);
+  sort = sort;
+  slots = slots;
+}
+
 -- where the unit of an attribute stands
 abbrev pub attribute_context : Description Target → (strings : List Words) → Context
-attribute_context unit strings = record {
-  version = One;
-  counts = counts_of unit.identification unit.items (length strings);
-  sort = Attribute;
-  slots = 0;
-}
+attribute_context unit strings = unit_context One unit strings Attribute 0
 
 -- The code is a valid unit, and means what the tree of the attribute means, with strings by their numbers in this table.
 pub record IsAttributeCode (unit : Description Target) (strings : List Words) (ref : AttrRef) (code : List ℕ) : Type 0 where

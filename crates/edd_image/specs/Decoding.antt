@@ -4,7 +4,7 @@ use Rattle.std.specs.Int.{Width, w16, w32, w64, byte_len, from_be_bytes, cast_si
 use Rattle.edd_syntax.specs.declared.numbers.VarNo.{VarNo}
 use Rattle.edd_syntax.specs.declared.numbers.StrNo.{StrNo}
 use Rattle.edd_syntax.specs.declared.numbers.ItemNo.{ItemNo}
-use Rattle.edd_syntax.specs.declared.numbers.ItemNo.TheVariants as items
+use Rattle.edd_syntax.specs.Numbers.{item_from_numbers}
 use Rattle.edd_syntax.specs.declared.operators.Operator.{Operator}
 use Rattle.edd_syntax.specs.declared.operators.Operator.TheVariants as operator
 use Rattle.edd_syntax.specs.declared.operators.Comparison.{Comparison}
@@ -42,20 +42,11 @@ abbrev pub optional_string : ℕ → Option StrNo
 optional_string n = if n == 0xffff then None else Some (string n)
 
 -- an item by its kind and number
-abbrev pub item_of : ℕ → ℕ → Option ItemNo
-item_of kind n =
-    if kind == 1 then Some (items.Variable (record { 0 = n })) else
-    if kind == 2 then Some (items.Command (record { 0 = n })) else
-    if kind == 3 then Some (items.Menu (record { 0 = n })) else
-    if kind == 4 then Some (items.Collection (record { 0 = n })) else
-    if kind == 5 then Some (items.Method (record { 0 = n })) else
-    None
-
 unfoldable pub item_from : List ℕ → Option (ItemNo × List ℕ)
 item_from bytes = do
   kind ← byte_from bytes
   n ← number_from w16 kind.1
-  item ← item_of kind.0 n.0
+  item ← item_from_numbers kind.0 n.0
   Some (item, n.1)
 
 -- ---- the instructions by their codes

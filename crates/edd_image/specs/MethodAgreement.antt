@@ -1,5 +1,5 @@
 -- When the code of a method, and a whole image, do what the methods of a description do.
-use Rattle.std.specs.Prelude.{◌≡◌, ◌≢◌, ℕ, ◌≤◌, ℤ, List, [], ◌∷◌, length, Option, Some, IsTrue, ⊤}
+use Rattle.std.specs.Prelude.{◌≡◌, ◌≢◌, ℕ, ◌≤◌, ℤ, List, [], ◌∷◌, Option, Some, IsTrue, ⊤}
 use Rattle.std.specs.List.{AllByRecursion}
 use Rattle.edd_syntax.specs.declared.numbers.MethNo.{MethNo}
 use Rattle.edd_syntax.specs.declared.numbers.ItemNo.TheVariants.{Method}
@@ -19,7 +19,7 @@ use Rattle.edd_image.specs.declared.records.Request.TheVariants as requests
 use Rattle.edd_image.specs.declared.unit.Context.{Context}
 use Rattle.edd_image.specs.declared.unit.Sort.TheVariants as sort
 use Rattle.edd_image.specs.declared.unit.Version.TheVariants.{One}
-use Rattle.edd_image.specs.Agreement.{AgreesOnData, IsString, counts_of, string_of_table, string_numbered}
+use Rattle.edd_image.specs.Agreement.{AgreesOnData, IsString, string_of_table, string_numbered, unit_context}
 use Rattle.edd_image.specs.Contents.{AttributeFields, Contents}
 use Rattle.edd_image.specs.References.{item_exists}
 use Rattle.edd_image.specs.Reading as image
@@ -82,12 +82,7 @@ module _ (string_numbered : StrNo → Option Words) where
 
 -- where the unit of a method stands
 abbrev pub method_context : Description Target → (strings : List Words) → (slots : ℕ) → Context
-method_context unit strings slots = record {
-  version = One;
-  counts = counts_of unit.identification unit.items (length strings);
-  sort = sort.Method;
-  slots = slots;
-}
+method_context unit strings slots = unit_context One unit strings sort.Method slots
 
 -- The code is a valid unit with a slot for each declared local, and its runs are those of the method's body, with strings by their
 -- numbers in this table.

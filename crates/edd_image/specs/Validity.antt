@@ -7,7 +7,7 @@ use Rattle.edd_syntax.specs.declared.numbers.Attr.{Attr}
 use Rattle.edd_syntax.specs.declared.numbers.Attr.TheVariants as attr
 use Rattle.edd_syntax.specs.declared.types.VarType.{VarType}
 use Rattle.edd_syntax.specs.declared.types.VarType.TheVariants as var_type
-use Rattle.edd_syntax.specs.Numbers.{kind_of, attr_number, attr_from_number, same_attr, has_attr}
+use Rattle.edd_syntax.specs.Numbers.{kind_of, attr_number, attr_from_number, same_attr, has_attr, item_from_numbers}
 use Rattle.edd_syntax.specs.Attributes.{is_of_transaction}
 use Rattle.edd_syntax.specs.Names.{is_name, is_within}
 use Rattle.edd_image.specs.declared.parts.Counts.{Counts}
@@ -18,7 +18,6 @@ use Rattle.edd_image.specs.declared.rules.UnitRule.{UnitRule}
 use Rattle.edd_image.specs.declared.rules.UnitRule.TheVariants as unit_rule
 use Rattle.edd_image.specs.declared.rules.Rule.{Rule}
 use Rattle.edd_image.specs.declared.rules.Rule.TheVariants as rule
-use Rattle.edd_image.specs.Decoding.{item_of}
 use Rattle.edd_image.specs.References.{item_exists}
 use Rattle.edd_image.specs.Fields.{header_length, has_magic, version_number, total_length, code_length, sections_end}
 use Rattle.edd_image.specs.Contents.{Span, part, VariableFields, AttributeFields, Contents, version_of, contents_in}
@@ -69,7 +68,7 @@ has_attribute counts item a sub = item_exists counts item && (has_attr (kind_of 
 
 abbrev pub is_attribute_row : Counts → AttributeFields → Bool
 is_attribute_row counts r =
-    option_map_or (λ item. option_map_or (λ a. has_attribute counts item a r.sub) (attr_from_number r.attribute) false) (item_of r.kind r.item) false
+    option_map_or (λ item. option_map_or (λ a. has_attribute counts item a r.sub) (attr_from_number r.attribute) false) (item_from_numbers r.kind r.item) false
     && r.padding == 0
 
 -- rows rise by kind, attribute, item and sub, and a method has one body

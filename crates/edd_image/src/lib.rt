@@ -35,7 +35,7 @@ pub use laws::{
     sound_parts_are_valid, spelled_is_read, steps_are_counted, steps_keep_the_state,
     what_is_over_stays, written_strings_are_read,
 };
-pub use numbers::{item_of, type_of};
+pub use numbers::type_of;
 pub use parts::{AttributeRow, Counts, NameRow, Parts, StringRow, VarKind};
 pub use records::{Emitted, Record, Request, Status};
 pub use rows::{

@@ -8,7 +8,7 @@ ghost use Rattle.edd_loader.specs.Rows.{rises_next};
 
 use edd_image::{
     ATTRIBUTE_ROW, Counts, attribute_item, attribute_kind, attribute_length, attribute_number,
-    attribute_start, attribute_sub, attribute_zero, item_of,
+    attribute_start, attribute_sub, attribute_zero,
 };
 use edd_syntax::numbers::{Attr, ItemNo};
 
@@ -40,7 +40,8 @@ fn is_attribute_row(bytes: &[u8], counts: Counts, row: usize) -> bool
     requires { row + ATTRIBUTE_ROW ≤ length bytes.now }
     ensures { result ≡ is_attribute_row counts (attribute_fields bytes.now row) }
 {
-    let Some(item) = item_of(attribute_kind(bytes, row), attribute_item(bytes, row)) else {
+    let Some(item) = ItemNo::from_numbers(attribute_kind(bytes, row), attribute_item(bytes, row))
+    else {
         return false;
     };
     let Some(attr) = Attr::from_number(attribute_number(bytes, row)) else {

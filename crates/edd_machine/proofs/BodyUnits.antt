@@ -9,12 +9,11 @@ use Rattle.edd_syntax.specs.declared.numbers.Attr.TheVariants as attr
 use Rattle.edd_syntax.specs.declared.numbers.ItemNo.{ItemNo}
 use Rattle.edd_syntax.specs.declared.numbers.ItemNo.TheVariants as items
 use Rattle.edd_syntax.specs.declared.numbers.MethNo.{MethNo}
-use Rattle.edd_syntax.specs.Numbers.{kind_of, attr_from_number, has_attr}
+use Rattle.edd_syntax.specs.Numbers.{kind_of, attr_from_number, has_attr, item_from_numbers}
 use Rattle.edd_image.specs.declared.parts.Counts.{Counts}
 use Rattle.edd_image.specs.declared.rules.Rule.TheVariants as rule
 use Rattle.edd_image.specs.declared.unit.Sort.TheVariants.{Method}
 use Rattle.edd_image.specs.Contents.{AttributeFields, contents_in}
-use Rattle.edd_image.specs.Decoding.{item_of}
 use Rattle.edd_image.specs.References.{item_exists}
 use Rattle.edd_image.specs.Reading.{body_of, is_row_of, opening_of}
 use Rattle.edd_image.specs.Steps.{opening}
@@ -53,7 +52,7 @@ slots_small b number r valid at =
     let attributes = and_parts (are_attribute_rows c) (are_string_rows c) names.1 in
     let all = (and_parts (list_all (is_attribute_row c.counts) c.attributes) _ attributes.0).0 in
     let row = all_at (is_attribute_row c.counts) c.attributes number r all at in
-    row_slots c.counts r (item_of r.kind r.item) (attr_from_number r.attribute) refl (and_parts _ (nat_eq r.padding 0) row).0
+    row_slots c.counts r (item_from_numbers r.kind r.item) (attr_from_number r.attribute) refl (and_parts _ (nat_eq r.padding 0) row).0
 
 -- the unit of a body that was found
 pub record IsBody (b : List ℕ) (u : CodeUnit) : Type 0 where

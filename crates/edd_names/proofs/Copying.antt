@@ -1,8 +1,8 @@
 -- Lists of trees that are copied one after another.
 use Rattle.std.proofs.Common.{◌≡◌, sym, ap, ◌∙◌, ℕ, ◌+◌, ◌<◌, List, [], ◌∷◌, ◌++◌, length, get_or, drop, map, Option, Some, append_assoc, subst}
 use Rattle.std.proofs.lemmas.List.{at_drop_more, append-nil}
-use Rattle.edd_names.specs.declared.fault.NameFault.{NameFault}
-use Rattle.edd_names.specs.Meanings.{Means, NoFault, FirstFault}
+use Rattle.edd_name_meanings.specs.declared.fault.NameFault.{NameFault}
+use Rattle.edd_name_meanings.specs.Meanings.{Means, NoFault, FirstFault}
 use Rattle.edd_name_rules.proofs.Repeating.{map_append}
 use Rattle.edd_names.proofs.UseLaws.{none_append, fault_left, fault_right}
 use Rattle.edd_syntax.specs.Reference.{Path}

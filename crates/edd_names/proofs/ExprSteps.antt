@@ -1,10 +1,10 @@
 -- Calls and their arguments with the meaning of their names.
-use Rattle.std.proofs.Common.{◌≡◌, refl, sym, ap, ◌∙◌, ℕ, List, [], ◌∷◌, ◌++◌, map, Option, Some, None, subst}
+use Rattle.std.proofs.Common.{◌≡◌, refl, sym, ap, ◌∙◌, ℕ, zero, suc, ◌+◌, ◌*◌, ◌<◌, ◌≤◌, List, [], ◌∷◌, ◌++◌, length, get_or, map, Option, Some, None, arith, subst}
 use Rattle.std.specs.Prelude.{Vec}
 use Rattle.std.specs.declared.alloc.Global as alloc
 use Rattle.std.proofs.lemmas.List.{append-nil}
-use Rattle.edd_names.specs.declared.fault.NameFault.{NameFault}
-use Rattle.edd_names.specs.Meanings.{Means, NoFault, FirstFault}
+use Rattle.edd_name_meanings.specs.declared.fault.NameFault.{NameFault}
+use Rattle.edd_name_meanings.specs.Meanings.{Means, NoFault, FirstFault}
 use Rattle.edd_names.specs.ResolvedParts.{resolved_argument}
 use Rattle.edd_syntax.specs.declared.expr.Expr as code
 use Rattle.edd_syntax.specs.declared.expr.Expr.TheVariants as e
@@ -17,7 +17,9 @@ use Rattle.edd_syntax.specs.Expression.{Argument, Text, Value, Arguments, Cons, 
 use Rattle.edd_syntax.specs.NameUses.{OfFunction, expr_uses, argument_uses}
 use Rattle.edd_syntax.specs.Resolution.{Scope, function_meant}
 use Rattle.edd_syntax.specs.ResolvedTrees.{◌>>=◌, each, resolved_expr, resolved_arguments}
+use Rattle.edd_syntax.specs.Size.{nodes, argument_nodes}
 use Rattle.edd_syntax.specs.TreeView.{path_of, expr_of, argument_of}
+use Rattle.edd_name_rules.proofs.Spends.{argument_nodes_split}
 use Rattle.edd_syntax.proofs.TreeRows.{call_is}
 
 pub bound : {A B C : Type 0} (o : Option A) (p : Option B) (k : A → B → C) (a : A) (b : B) → o ≡ Some a → p ≡ Some b → (o >>= (λ x. p >>= (λ y. Some (k x y)))) ≡ Some (k a b)
@@ -63,3 +65,35 @@ module _ (unit : Description Path) (x : code.Expr code_path.Path) (line : ℕ) (
       ap (resolved_expr at) call
       ∙ bound (function_meant (path_of p)) (resolved_arguments at (arguments_from (map (argument_of path_of) items))) (λ f r. Call f r) t (arguments_from (map (argument_of (λ r. r)) w.items)) (h known) (k known)
       ∙ ap (λ y. Some y) (sym (call_is (λ r. r) (e.Call line t w) line t w refl))
+
+-- ---- what stands inside an expression has fewer nodes than it
+
+-- how far a walk may still go down
+abbrev pub expr_depth : code.Expr code_path.Path → ℕ
+expr_depth x = 6 * nodes (expr_of path_of x)
+
+abbrev pub arguments_depth : List (code_argument.Argument code_path.Path) → ℕ
+arguments_depth xs = 6 * argument_nodes (arguments_from (map (argument_of path_of) xs))
+
+abbrev pub argument_depth : code_argument.Argument code_path.Path → ℕ
+argument_depth x = 6 * argument_nodes (arguments_from (argument_of path_of x ∷ []))
+
+pub call_falls : (t : ℕ) (x : code.Expr code_path.Path) (line : ℕ) (p : code_path.Path) (v : Vec (code_argument.Argument code_path.Path) alloc.Global) (xs : List (code_argument.Argument code_path.Path)) → x ≡ e.Call line p v → xs ≡ v.items → t ≡ expr_depth x → arguments_depth xs + 5 < t
+call_falls t x line p v xs is same m =
+    let e = ap nodes (call_is path_of x line p v is) in
+    let f = ap arguments_depth same in
+    omega (arith, e, f, m)
+
+pub argument_falls : (t i : ℕ) (xs : List (code_argument.Argument code_path.Path)) (x : code_argument.Argument code_path.Path) → i < length xs → x ≡ get_or xs i x → t ≡ arguments_depth xs + 3 → argument_depth x + 2 < t
+argument_falls t i xs x h is m = let e = within i xs x h is in omega (arith, e, m)
+  where
+    within : (i : ℕ) (xs : List (code_argument.Argument code_path.Path)) (x : code_argument.Argument code_path.Path) → i < length xs → x ≡ get_or xs i x → argument_nodes (arguments_from (argument_of path_of x ∷ [])) ≤ argument_nodes (arguments_from (map (argument_of path_of) xs))
+    within i [] x h is = absurd (omega arith)
+    within zero (y ∷ ys) x h is =
+        let e = ap (λ z. argument_nodes (arguments_from (argument_of path_of z ∷ []))) is in
+        let f = argument_nodes_split (argument_of path_of y) (map (argument_of path_of) ys) in
+        omega (arith, e, f)
+    within (suc i) (y ∷ ys) x h is =
+        let e = within i ys x (omega arith) is in
+        let f = argument_nodes_split (argument_of path_of y) (map (argument_of path_of) ys) in
+        omega (arith, e, f)

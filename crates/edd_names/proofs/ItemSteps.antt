@@ -1,6 +1,6 @@
 -- An item with the meaning of its names, from its attributes.
 use Rattle.std.proofs.Common.{◌≡◌, sym, ap, ◌∙◌, List, Some}
-use Rattle.edd_names.specs.Meanings.{Means}
+use Rattle.edd_name_meanings.specs.Meanings.{Means}
 use Rattle.edd_syntax.specs.declared.reference.Target.{Target}
 use Rattle.edd_syntax.specs.Item.{Attribute, Description, Item, ItemKind}
 use Rattle.edd_syntax.specs.Reference.{Path}

@@ -3,12 +3,8 @@ pub mod Copying
 pub mod CopyingIn
 pub mod DeclaratorSteps
 pub mod ExprSteps
-pub mod Gathering
 pub mod ItemSteps
-pub mod LookingUp
-pub mod MapLaws
 pub mod MemberLaws
-pub mod PathLaws
 pub mod ResolvingLaws
 pub mod StatementSteps
 pub mod UseLaws

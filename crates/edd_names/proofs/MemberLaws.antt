@@ -3,7 +3,7 @@ use Rattle.std.proofs.Common.{◌≡◌, refl, ℕ, zero, suc, Bool, true, false
 use Rattle.std.specs.Prelude.{IsTrue, not, ◌&&◌, ◌||◌, if◌then◌else◌, filter, find, is_some, option_map, option_and_then, slice_get}
 use Rattle.std.specs.List.{flat_map, list_all}
 use Rattle.std.specs.Str.{bytes_eq}
-use Rattle.edd_names.specs.Meanings.{AllMembersNamed, NoFault, faults_in}
+use Rattle.edd_name_meanings.specs.Meanings.{AllMembersNamed, NoFault, faults_in}
 use Rattle.edd_syntax.specs.declared.numbers.Kind.{Kind}
 use Rattle.edd_syntax.specs.declared.numbers.ItemNo.{ItemNo}
 use Rattle.edd_syntax.specs.Device.{items_of, item_at}

@@ -2,14 +2,14 @@
 use Rattle.std.proofs.Common.{◌≡◌, refl, sym, ap, ◌∙◌, Bool, true, false, List, [], ◌∷◌, ◌++◌, Some, None, append_assoc, subst}
 use Rattle.std.specs.Prelude.{IsTrue, nat_lt}
 use Rattle.std.specs.List.{list_any}
-use Rattle.edd_names.specs.declared.directory.Names.{Names}
-use Rattle.edd_names.specs.declared.fault.NameFault.{NameFault}
-use Rattle.edd_names.specs.Directory.{unit_of}
+use Rattle.edd_name_meanings.specs.declared.directory.Names.{Names}
+use Rattle.edd_name_meanings.specs.declared.fault.NameFault.{NameFault}
+use Rattle.edd_name_meanings.specs.Directory.{unit_of}
 use Rattle.edd_name_rules.specs.declared.fault.RuleFault.{RuleFault}
 use Rattle.edd_name_rules.specs.declared.fault.RuleFault.TheVariants as rule
 use Rattle.edd_name_rules.specs.Faults as rules
-use Rattle.edd_names.specs.Faults.{IsFound, IsFirst, of_rule}
-use Rattle.edd_names.specs.Meanings.{Means, NoFault, FirstFault, faults_in}
+use Rattle.edd_name_meanings.specs.Faults.{IsFound, IsFirst, of_rule}
+use Rattle.edd_name_meanings.specs.Meanings.{Means, NoFault, FirstFault, faults_in}
 use Rattle.edd_names.specs.Units.{unit_view}
 use Rattle.edd_name_rules.specs.Walks.{described}
 use Rattle.edd_name_rules.proofs.FirstLaws.{first_of-append_none}

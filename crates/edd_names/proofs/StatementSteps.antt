@@ -3,14 +3,13 @@ use Rattle.std.proofs.Common.{◌≡◌, refl, sym, ap, ◌∙◌, ℕ, zero, su
 use Rattle.std.specs.Prelude.{Vec}
 use Rattle.std.specs.declared.alloc.Global as alloc
 use Rattle.std.proofs.lemmas.List.{at_drop_more}
-use Rattle.edd_names.specs.declared.fault.NameFault.{NameFault}
-use Rattle.edd_names.specs.Meanings.{Means, NoFault, FirstFault}
+use Rattle.edd_name_meanings.specs.declared.fault.NameFault.{NameFault}
+use Rattle.edd_name_meanings.specs.Meanings.{Means, NoFault, FirstFault}
 use Rattle.edd_names.specs.ResolvedParts.{part_uses, resolved_part, scope_behind, next_behind}
 use Rattle.edd_names.proofs.DeclaratorSteps.{State}
 use Rattle.edd_names.proofs.ExprSteps.{bound, regroup}
 use Rattle.edd_name_rules.proofs.SlotLaws.{slots_split}
 use Rattle.edd_name_rules.proofs.Spends.{body_nodes_split}
-use Rattle.edd_names.proofs.UseLaws.{none_append, fault_right}
 use Rattle.edd_syntax.specs.declared.expr.Expr as code_expr
 use Rattle.edd_syntax.specs.declared.stmt.Stmt as code
 use Rattle.edd_syntax.specs.declared.stmt.Stmt.TheVariants as s
@@ -121,11 +120,11 @@ module _ (unit : Description Path) (x : code.Stmt code_path.Path) (v : Vec (code
     unfolding slots_of
     switch_slots = ap slots_of switch
 
-    pub switch_none : (scope : Scope) (n : ℕ) → NoFault unit (expr_uses scope (expr_of path_of on)) → NoFault unit (body_uses listed scope n) → NoFault unit (stmt_uses (stmt_of path_of x) scope n)
-    switch_none scope n h k = subst (λ t. NoFault unit (stmt_uses t scope n)) (sym switch) (none_append unit (expr_uses scope (expr_of path_of on)) _ h k)
+    pub switch_none : (scope : Scope) (n : ℕ) → NoFault unit (expr_uses scope (expr_of path_of on) ++ body_uses listed scope n) → NoFault unit (stmt_uses (stmt_of path_of x) scope n)
+    switch_none scope n h = subst (λ t. NoFault unit (stmt_uses t scope n)) (sym switch) h
 
-    pub switch_fault : (scope : Scope) (n : ℕ) (f : NameFault) → NoFault unit (expr_uses scope (expr_of path_of on)) → FirstFault f unit (body_uses listed scope n) → FirstFault f unit (stmt_uses (stmt_of path_of x) scope n)
-    switch_fault scope n f h k = subst (λ t. FirstFault f unit (stmt_uses t scope n)) (sym switch) (fault_right unit f (expr_uses scope (expr_of path_of on)) _ h k)
+    pub switch_fault : (scope : Scope) (n : ℕ) (f : NameFault) → FirstFault f unit (expr_uses scope (expr_of path_of on) ++ body_uses listed scope n) → FirstFault f unit (stmt_uses (stmt_of path_of x) scope n)
+    switch_fault scope n f h = subst (λ t. FirstFault f unit (stmt_uses t scope n)) (sym switch) h
 
     pub switch_means : (scope : Scope) (n : ℕ) (on' : code_expr.Expr Target) (w : Vec (code_part.Part Target) alloc.Global) → Means unit (resolved_expr (at_scope unit scope) (expr_of path_of on)) (expr_of (λ r. r) on') → Means unit (resolved_body unit listed scope n) (body_from (map (part_of (λ r. r)) w.items)) → Means unit (resolved_stmt unit (stmt_of path_of x) scope n) (stmt_of (λ r. r) (s.Switch on' w))
     unfolding Means resolved_stmt
@@ -138,13 +137,13 @@ module _ (unit : Description Path) (x : code.Stmt code_path.Path) (v : Vec (code
 
 -- how far a walk may still go down; a list counts for a little more, since it may have one part
 abbrev pub stmt_depth : code.Stmt code_path.Path → ℕ
-stmt_depth x = 4 * statement_nodes (stmt_of path_of x)
+stmt_depth x = 5 * statement_nodes (stmt_of path_of x)
 
 abbrev pub parts_depth : List (code_part.Part code_path.Path) → ℕ
-parts_depth xs = 4 * body_nodes (body_from (map (part_of path_of) xs))
+parts_depth xs = 5 * body_nodes (body_from (map (part_of path_of) xs))
 
 abbrev pub part_depth : code_part.Part code_path.Path → ℕ
-part_depth x = 4 * body_nodes (body_from (part_of path_of x ∷ []))
+part_depth x = 5 * body_nodes (body_from (part_of path_of x ∷ []))
 
 pub block_falls : (t : ℕ) (x : code.Stmt code_path.Path) (v : Vec (code_part.Part code_path.Path) alloc.Global) (xs : List (code_part.Part code_path.Path)) → x ≡ s.Block v → xs ≡ v.items → t ≡ stmt_depth x → parts_depth xs + 3 < t
 block_falls t x v xs is same m =
@@ -152,7 +151,7 @@ block_falls t x v xs is same m =
     let f = ap parts_depth same in
     omega (arith, e, f, m)
 
-pub switch_falls : (t : ℕ) (x : code.Stmt code_path.Path) (on : code_expr.Expr code_path.Path) (v : Vec (code_part.Part code_path.Path) alloc.Global) (xs : List (code_part.Part code_path.Path)) → x ≡ s.Switch on v → xs ≡ v.items → t ≡ stmt_depth x → parts_depth xs + 3 < t
+pub switch_falls : (t : ℕ) (x : code.Stmt code_path.Path) (on : code_expr.Expr code_path.Path) (v : Vec (code_part.Part code_path.Path) alloc.Global) (xs : List (code_part.Part code_path.Path)) → x ≡ s.Switch on v → xs ≡ v.items → t ≡ stmt_depth x → parts_depth xs + 4 < t
 switch_falls t x on v xs is same m =
     let e = ap statement_nodes (switch_is path_of x on v is) in
     let f = ap parts_depth same in

@@ -1,10 +1,10 @@
 -- Faults in uses that stand one behind the other, and what trees of references mean.
-use Rattle.std.proofs.Common.{◌≡◌, refl, sym, ap, ◌∙◌, List, [], ◌∷◌, ◌++◌, None, Option, subst}
+use Rattle.std.proofs.Common.{◌≡◌, refl, sym, ap, ◌∙◌, List, [], ◌∷◌, ◌++◌, None, Option, append_assoc, subst}
 use Rattle.std.proofs.lemmas.Grind.{flat_map-append}
-use Rattle.edd_names.specs.declared.fault.NameFault.{NameFault}
-use Rattle.edd_names.specs.declared.fault.NameFault.TheVariants.{NoMemory}
-use Rattle.edd_names.specs.Faults.{refusal_of, IsFound, IsFirst}
-use Rattle.edd_names.specs.Meanings.{faults_in, NoFault, FirstFault}
+use Rattle.edd_name_meanings.specs.declared.fault.NameFault.{NameFault}
+use Rattle.edd_name_meanings.specs.declared.fault.NameFault.TheVariants.{NoMemory}
+use Rattle.edd_name_meanings.specs.Faults.{refusal_of, IsFound, IsFirst}
+use Rattle.edd_name_meanings.specs.Meanings.{faults_in, NoFault, FirstFault}
 use Rattle.edd_name_rules.proofs.FirstLaws.{first_of-append_none}
 use Rattle.edd_name_rules.proofs.Noting.{told_left, told_right}
 use Rattle.edd_syntax.specs.Reference.{Path}
@@ -56,8 +56,20 @@ module _ (unit : Description Path) where
   pub fault_later : (f : NameFault) (u : Use) (vs : List Use) → NoFault unit (u ∷ []) → FirstFault f unit vs → FirstFault f unit (u ∷ vs)
   fault_later f u vs none h = fault_right f (u ∷ []) vs none h
 
+  pub none_behind_two : (us vs ws : List Use) → NoFault unit (us ++ vs) → NoFault unit ws → NoFault unit (us ++ (vs ++ ws))
+  none_behind_two us vs ws h k = subst (NoFault unit) (append_assoc us vs ws) (none_append (us ++ vs) ws h k)
+
+  pub fault_in_two : (f : NameFault) (us vs ws : List Use) → FirstFault f unit (us ++ vs) → FirstFault f unit (us ++ (vs ++ ws))
+  fault_in_two f us vs ws h = subst (FirstFault f unit) (append_assoc us vs ws) (fault_left f (us ++ vs) ws h)
+
+  pub fault_behind_two : (f : NameFault) (us vs ws : List Use) → NoFault unit (us ++ vs) → FirstFault f unit ws → FirstFault f unit (us ++ (vs ++ ws))
+  fault_behind_two f us vs ws none h = subst (FirstFault f unit) (append_assoc us vs ws) (fault_right f (us ++ vs) ws none h)
+
   pub memory_fault : (us : List Use) → FirstFault NoMemory unit us
   unfolding FirstFault
   memory_fault us = memory_refused (first_of (faults_in unit us))
 
 pub ruleset faults = (no_use, none_append, none_cons, fault_left, fault_right, fault_here, fault_later, memory_fault)
+
+-- where the first two parts are known as one
+pub ruleset faults_behind_two = (none_behind_two, fault_in_two, fault_behind_two)

@@ -1,9 +1,2 @@
-pub mod Directory
-pub mod Faults
-pub mod Limits
-pub mod Meanings
-pub mod Members
-pub mod Numbering
-pub mod Paths
 pub mod ResolvedParts
 pub mod Units

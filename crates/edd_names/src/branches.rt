@@ -8,13 +8,14 @@ ghost use Rattle.edd_syntax.specs.NameUses.{Use, cond_uses, conds_uses, arms_use
 ghost use Rattle.edd_syntax.specs.Reference as pure;
 ghost use Rattle.edd_syntax.specs.ResolvedTrees.{at_attribute, resolved_cond, resolved_conds, resolved_arms};
 ghost use Rattle.edd_syntax.specs.TreeView.{path_of};
-ghost use Rattle.edd_names.specs.Directory.{unit_of};
-ghost use Rattle.edd_names.specs.Meanings.{Means, NoFault, FirstFault};
+ghost use Rattle.edd_name_meanings.specs.Directory.{unit_of};
+ghost use Rattle.edd_name_meanings.specs.Meanings.{Means, NoFault, FirstFault};
 ghost use Rattle.edd_names.specs.ResolvedParts.{resolved_arm};
 
-use crate::directory::Names;
 use crate::exprs::copy_expr;
-use crate::fault::NameFault;
+use crate::made::made_of;
+use edd_name_meanings::directory::Names;
+use edd_name_meanings::fault::NameFault;
 use edd_syntax::cond::{Arm, Cond};
 use edd_syntax::reference::{Path, Target};
 
@@ -56,7 +57,7 @@ pub fn copy_cond<V: Named>(
     ensures err { IfErr result (λ f. FirstFault f (unit_of names.now) (cond_uses V.uses (cond_of path_of V.before c.now))) }
 {
     match c {
-        Cond::Value(v) => Ok(Cond::Value(v.copy(names)?)),
+        Cond::Value(v) => made_of!(v.copy(names), v => Cond::Value(v)),
         Cond::If {
             condition,
             first,
@@ -64,8 +65,7 @@ pub fn copy_cond<V: Named>(
         } => {
             let condition = copy_expr(condition, names, &[])?;
             let first = copy_conds(first, names)?;
-            let otherwise = copy_conds(otherwise, names)?;
-            Ok(Cond::If {
+            made_of!(copy_conds(otherwise, names), otherwise => Cond::If {
                 condition,
                 first,
                 otherwise,
@@ -73,8 +73,7 @@ pub fn copy_cond<V: Named>(
         }
         Cond::Select { on, arms } => {
             let on = copy_expr(on, names, &[])?;
-            let arms = copy_arms(arms, names)?;
-            Ok(Cond::Select { on, arms })
+            made_of!(copy_arms(arms, names), arms => Cond::Select { on, arms })
         }
     }
 }
@@ -164,15 +163,13 @@ fn copy_arm<V: Named>(arm: &Arm<Path, V>, names: &Names) -> Result<Arm<Target, V
 {
     match arm {
         Arm::Case { label, body } => {
-            let body = copy_conds(body, names)?;
-            Ok(Arm::Case {
+            made_of!(copy_conds(body, names), body => Arm::Case {
                 label: *label,
                 body,
             })
         }
         Arm::Default { line, body } => {
-            let body = copy_conds(body, names)?;
-            Ok(Arm::Default { line: *line, body })
+            made_of!(copy_conds(body, names), body => Arm::Default { line: *line, body })
         }
     }
 }

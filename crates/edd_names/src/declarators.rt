@@ -8,21 +8,22 @@ ghost use Rattle.edd_syntax.specs.NameUses.{optional_uses, declarator_uses};
 ghost use Rattle.edd_syntax.specs.Resolution.{all_declared, declared};
 ghost use Rattle.edd_syntax.specs.ResolvedTrees.{at_scope, resolved_optional, resolved_declarators};
 ghost use Rattle.edd_syntax.specs.TreeView.{path_of, expr_of, declarator_of};
-ghost use Rattle.edd_names.specs.declared.fault.NameFault.TheVariants.{NoMemory};
-ghost use Rattle.edd_names.specs.Directory.{unit_of};
-ghost use Rattle.edd_names.specs.Meanings.{Means, NoFault, FirstFault, scope_of};
+ghost use Rattle.edd_name_meanings.specs.declared.fault.NameFault.TheVariants.{NoMemory};
+ghost use Rattle.edd_name_meanings.specs.Directory.{unit_of};
+ghost use Rattle.edd_name_meanings.specs.Meanings.{Means, NoFault, FirstFault, scope_of};
 ghost use Rattle.edd_names.specs.ResolvedParts.{resolved_declarator};
 
-use crate::directory::Names;
 use crate::exprs::copy_expr;
-use crate::fault::NameFault;
-use crate::references::Local;
+use crate::made::made_of;
+use edd_name_meanings::directory::Names;
+use edd_name_meanings::fault::NameFault;
+use edd_name_meanings::references::Local;
 use edd_syntax::expr::Expr;
 use edd_syntax::reference::{Path, Target};
 use edd_syntax::stmt::Declarator;
 
 /// An expression that may be missing, with the meaning of its names.
-#[tactic(auto, using(crate::proofs::UseLaws::faults), unfolding(crate::specs::Meanings::Means))]
+#[tactic(auto, using(crate::proofs::UseLaws::faults), unfolding(edd_name_meanings::specs::Meanings::Means))]
 pub fn copy_optional(
     e: &Option<Expr<Path>>,
     names: &Names,
@@ -34,7 +35,7 @@ pub fn copy_optional(
     ensures err { IfErr result (λ f. FirstFault f (unit_of names.now) (optional_uses (scope_of scope.now) (option_map (expr_of path_of) e.now))) }
 {
     match e {
-        Some(e) => Ok(Some(copy_expr(e, names, scope)?)),
+        Some(e) => made_of!(copy_expr(e, names, scope), e => Some(e)),
         None => Ok(None),
     }
 }
@@ -54,7 +55,7 @@ pub fn declare<'a>(scope: &mut Vec<Local<'a>>, place: &'a Path, slot: u8) -> Res
     Ok(())
 }
 
-#[tactic(auto, using(crate::proofs::UseLaws::faults), unfolding(crate::specs::Meanings::Means))]
+#[tactic(auto, using(crate::proofs::UseLaws::faults), unfolding(edd_name_meanings::specs::Meanings::Means))]
 fn copy_declarator(
     declarator: &Declarator<Path>,
     names: &Names,
@@ -66,8 +67,7 @@ fn copy_declarator(
         (resolved_declarator (unit_of names.now) (scope_of scope.now) slot (declarator_of path_of declarator.now)) (declarator_of (λ r. r) t)) }
     ensures err { IfErr result (λ f. FirstFault f (unit_of names.now) (optional_uses (scope_of scope.now) (declarator_of path_of declarator.now).value)) }
 {
-    let value = copy_optional(&declarator.value, names, scope)?;
-    Ok(Declarator {
+    made_of!(copy_optional(&declarator.value, names, scope), value => Declarator {
         place: Target::Local(slot),
         value,
     })

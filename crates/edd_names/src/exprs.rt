@@ -8,14 +8,15 @@ ghost use Rattle.edd_syntax.specs.NameUses.{OfFunction, OfItem, expr_uses, argum
 ghost use Rattle.edd_syntax.specs.Resolution.{function_meant, meaning, variable_kinds};
 ghost use Rattle.edd_syntax.specs.ResolvedTrees.{resolved_expr, resolved_arguments};
 ghost use Rattle.edd_syntax.specs.TreeView.{path_of, expr_of, argument_of};
-ghost use Rattle.edd_names.specs.Directory.{unit_of};
+ghost use Rattle.edd_name_meanings.specs.Directory.{unit_of};
 ghost use Rattle.edd_names.specs.ResolvedParts.{resolved_argument};
-ghost use Rattle.edd_names.specs.Meanings.{Means, NoFault, FirstFault, scope_of};
+ghost use Rattle.edd_name_meanings.specs.Meanings.{Means, NoFault, FirstFault, scope_of};
 
-use crate::directory::Names;
-use crate::fault::NameFault;
-use crate::references::{Local, refer, refer_function};
+use crate::made::made_of;
 use crate::texts::copy_text;
+use edd_name_meanings::directory::Names;
+use edd_name_meanings::fault::NameFault;
+use edd_name_meanings::references::{Local, refer, refer_function};
 use edd_syntax::expr::{Argument, Expr};
 use edd_syntax::numbers::Kind;
 use edd_syntax::reference::{Path, Target};
@@ -31,7 +32,7 @@ pub fn refer_variable(names: &Names, scope: &[Local], path: &Path) -> Result<Tar
 
 /// An expression with the meaning of its names.
 #[cycle(exprs)]
-#[tactic(auto, using(crate::proofs::UseLaws::faults), unfolding(crate::specs::Meanings::Means, edd_syntax::specs::ResolvedTrees::resolved_expr))]
+#[tactic(auto, using(crate::proofs::UseLaws::faults), unfolding(edd_name_meanings::specs::Meanings::Means, edd_syntax::specs::ResolvedTrees::resolved_expr))]
 pub fn copy_expr(e: &Expr<Path>, names: &Names, scope: &[Local]) -> Result<Expr<Target>, NameFault>
     ensures none { IfOk result (λ t. NoFault (unit_of names.now) (expr_uses (scope_of scope.now) (expr_of path_of e.now))) }
     ensures ok { IfOk result (λ t. Means (unit_of names.now)
@@ -41,39 +42,58 @@ pub fn copy_expr(e: &Expr<Path>, names: &Names, scope: &[Local]) -> Result<Expr<
     match e {
         Expr::Literal(value) => Ok(Expr::Literal(*value)),
         Expr::Decimal { line } => Ok(Expr::Decimal { line: *line }),
-        Expr::Reference(from) => Ok(Expr::Reference(refer_variable(names, scope, from)?)),
-        Expr::Parentheses(inner) => Ok(Expr::Parentheses(copy_boxed(inner, names, scope)?)),
-        Expr::Unary(op, operand) => Ok(Expr::Unary(*op, copy_boxed(operand, names, scope)?)),
+        Expr::Reference(from) => {
+            made_of!(refer_variable(names, scope, from), from => Expr::Reference(from))
+        }
+        Expr::Parentheses(inner) => {
+            made_of!(copy_boxed(inner, names, scope), inner => Expr::Parentheses(inner))
+        }
+        Expr::Unary(op, operand) => {
+            made_of!(copy_boxed(operand, names, scope), operand => Expr::Unary(*op, operand))
+        }
         Expr::Binary(op, left, right) => {
-            let left = copy_boxed(left, names, scope)?;
-            Ok(Expr::Binary(*op, left, copy_boxed(right, names, scope)?))
+            made_of!(
+                copy_pair(left, right, names, scope),
+                (left, right) => Expr::Binary(*op, left, right)
+            )
         }
         Expr::Compare(by, left, right) => {
-            let left = copy_boxed(left, names, scope)?;
-            Ok(Expr::Compare(*by, left, copy_boxed(right, names, scope)?))
+            made_of!(
+                copy_pair(left, right, names, scope),
+                (left, right) => Expr::Compare(*by, left, right)
+            )
         }
         Expr::LogicalAnd(left, right) => {
-            let left = copy_boxed(left, names, scope)?;
-            Ok(Expr::LogicalAnd(left, copy_boxed(right, names, scope)?))
+            made_of!(
+                copy_pair(left, right, names, scope),
+                (left, right) => Expr::LogicalAnd(left, right)
+            )
         }
         Expr::LogicalOr(left, right) => {
-            let left = copy_boxed(left, names, scope)?;
-            Ok(Expr::LogicalOr(left, copy_boxed(right, names, scope)?))
+            made_of!(
+                copy_pair(left, right, names, scope),
+                (left, right) => Expr::LogicalOr(left, right)
+            )
         }
         Expr::Conditional(test, first, second) => {
             let test = copy_boxed(test, names, scope)?;
-            let first = copy_boxed(first, names, scope)?;
-            Ok(Expr::Conditional(test, first, copy_boxed(second, names, scope)?))
+            made_of!(
+                copy_pair(first, second, names, scope),
+                (first, second) => Expr::Conditional(test, first, second)
+            )
         }
         Expr::Assign(to, value) => {
-            let (to, value) = copy_assigned(value, to, names, scope)?;
-            Ok(Expr::Assign(to, value))
+            made_of!(copy_assigned(value, to, names, scope), (to, value) => Expr::Assign(to, value))
         }
         Expr::CompoundAssign(op, to, value) => {
-            let (to, value) = copy_assigned(value, to, names, scope)?;
-            Ok(Expr::CompoundAssign(*op, to, value))
+            made_of!(
+                copy_assigned(value, to, names, scope),
+                (to, value) => Expr::CompoundAssign(*op, to, value)
+            )
         }
-        Expr::Increment(by, to) => Ok(Expr::Increment(*by, refer_variable(names, scope, to)?)),
+        Expr::Increment(by, to) => {
+            made_of!(refer_variable(names, scope, to), to => Expr::Increment(*by, to))
+        }
         Expr::Call {
             line,
             function,
@@ -102,8 +122,27 @@ fn copy_boxed(
         (resolved_expr (meaning (unit_of names.now) (scope_of scope.now) variable_kinds) (expr_of path_of e.now)) (expr_of (λ r. r) t.value)) }
     ensures err { IfErr result (λ f. FirstFault f (unit_of names.now) (expr_uses (scope_of scope.now) (expr_of path_of e.now))) }
 {
-    let copy = copy_expr(e, names, scope)?;
-    Ok(Box::new(names.alloc, copy)?)
+    made_of!(copy_expr(e, names, scope), copy => Box::new(names.alloc, copy)?)
+}
+
+// Two parts of an expression, one behind the other.
+#[cycle(exprs)]
+#[tactic(auto, using(crate::proofs::UseLaws::faults))]
+fn copy_pair(
+    left: &Expr<Path>,
+    right: &Expr<Path>,
+    names: &Names,
+    scope: &[Local],
+) -> Result<(Box<Expr<Target>>, Box<Expr<Target>>), NameFault>
+    ensures none { IfOk result (λ t. NoFault (unit_of names.now) (expr_uses (scope_of scope.now) (expr_of path_of left.now) ++ expr_uses (scope_of scope.now) (expr_of path_of right.now))) }
+    ensures left { IfOk result (λ t. Means (unit_of names.now)
+        (resolved_expr (meaning (unit_of names.now) (scope_of scope.now) variable_kinds) (expr_of path_of left.now)) (expr_of (λ r. r) t.0.value)) }
+    ensures right { IfOk result (λ t. Means (unit_of names.now)
+        (resolved_expr (meaning (unit_of names.now) (scope_of scope.now) variable_kinds) (expr_of path_of right.now)) (expr_of (λ r. r) t.1.value)) }
+    ensures err { IfErr result (λ f. FirstFault f (unit_of names.now) (expr_uses (scope_of scope.now) (expr_of path_of left.now) ++ expr_uses (scope_of scope.now) (expr_of path_of right.now))) }
+{
+    let left = copy_boxed(left, names, scope)?;
+    made_of!(copy_boxed(right, names, scope), right => (left, right))
 }
 
 // What is assigned to, and the value.
@@ -122,7 +161,7 @@ fn copy_assigned(
     ensures err { IfErr result (λ f. FirstFault f (unit_of names.now) (OfItem (scope_of scope.now) variable_kinds (path_of to.now) ∷ expr_uses (scope_of scope.now) (expr_of path_of value.now))) }
 {
     let to = refer_variable(names, scope, to)?;
-    Ok((to, copy_boxed(value, names, scope)?))
+    made_of!(copy_boxed(value, names, scope), value => (to, value))
 }
 
 // The function that is called, and its arguments.
@@ -142,7 +181,7 @@ fn copy_call(
     ensures err { IfErr result (λ f. FirstFault f (unit_of names.now) (OfFunction (path_of function.now) ∷ argument_uses (scope_of scope.now) (arguments_from (map (argument_of path_of) arguments.now)))) }
 {
     let function = refer_function(names, function)?;
-    Ok((function, copy_arguments(arguments, names, scope)?))
+    made_of!(copy_arguments(arguments, names, scope), arguments => (function, arguments))
 }
 
 #[cycle(exprs)]
@@ -201,7 +240,7 @@ fn add_argument(
 }
 
 #[cycle(exprs)]
-#[tactic(auto, using(crate::proofs::UseLaws::faults), unfolding(crate::specs::Meanings::Means))]
+#[tactic(auto, using(crate::proofs::UseLaws::faults), unfolding(edd_name_meanings::specs::Meanings::Means))]
 fn copy_argument(
     argument: &Argument<Path>,
     names: &Names,
@@ -213,7 +252,8 @@ fn copy_argument(
     ensures err { IfErr result (λ f. FirstFault f (unit_of names.now) (argument_uses (scope_of scope.now) (arguments_from (argument_of path_of argument.now ∷ [])))) }
 {
     match argument {
-        Argument::Text(text) => Ok(Argument::Text(copy_text(text, names.alloc)?)),
-        Argument::Value(e) => Ok(Argument::Value(copy_expr(e, names, scope)?)),
+        Argument::Text(text) =>
+            made_of!(copy_text(text, names.alloc), text => Argument::Text(text)),
+        Argument::Value(e) => made_of!(copy_expr(e, names, scope), e => Argument::Value(e)),
     }
 }

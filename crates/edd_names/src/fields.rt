@@ -8,18 +8,19 @@ ghost use Rattle.edd_syntax.specs.Resolution.{member_kinds};
 ghost use Rattle.edd_syntax.specs.ResolvedTrees.{each, resolved_attribute, resolved_body, resolved_member};
 ghost use Rattle.edd_syntax.specs.Statement.{body_from, slots_in};
 ghost use Rattle.edd_syntax.specs.TreeView.{path_of, part_of};
-ghost use Rattle.edd_names.specs.declared.fault.NameFault.TheVariants.{NoMemory};
-ghost use Rattle.edd_names.specs.Directory.{unit_of};
-ghost use Rattle.edd_names.specs.Meanings.{Means, NoFault, FirstFault};
+ghost use Rattle.edd_name_meanings.specs.declared.fault.NameFault.TheVariants.{NoMemory};
+ghost use Rattle.edd_name_meanings.specs.Directory.{unit_of};
+ghost use Rattle.edd_name_meanings.specs.Meanings.{Means, NoFault, FirstFault};
 ghost use Rattle.edd_names.specs.ResolvedParts.{member_uses};
 ghost use Rattle.edd_name_rules.specs.Spending.{locals_in};
 
 use crate::branches::{copy_cond, copy_conds};
-use crate::directory::Names;
-use crate::fault::NameFault;
+use crate::made::made_of;
 use crate::parts::{copy_members, copy_transaction_parts, copy_type_parts};
 use crate::statements::copy_body;
 use crate::texts::{copy_responses, copy_words};
+use edd_name_meanings::directory::Names;
+use edd_name_meanings::fault::NameFault;
 use edd_syntax::item::{Attribute, Item, Member, TypeWord};
 use edd_syntax::reference::{Path, Target};
 use edd_syntax::stmt::Part;
@@ -71,7 +72,7 @@ fn copy_members_of(
     }
 }
 
-#[tactic(auto, using(crate::proofs::UseLaws::faults), unfolding(crate::specs::Meanings::Means))]
+#[tactic(auto, using(crate::proofs::UseLaws::faults), unfolding(edd_name_meanings::specs::Meanings::Means))]
 fn copy_attribute(
     attribute: &Attribute<Path>,
     names: &Names,
@@ -85,30 +86,36 @@ fn copy_attribute(
 {
     let alloc = names.alloc;
     match attribute {
-        Attribute::Label(c) => Ok(Attribute::Label(copy_cond(c, names)?)),
-        Attribute::Help(c) => Ok(Attribute::Help(copy_cond(c, names)?)),
-        Attribute::Class(words) => Ok(Attribute::Class(copy_words(words, alloc)?)),
-        Attribute::Handling(c) => Ok(Attribute::Handling(copy_cond(c, names)?)),
-        Attribute::ConstantUnit(c) => Ok(Attribute::ConstantUnit(copy_cond(c, names)?)),
-        Attribute::Validity(c) => Ok(Attribute::Validity(copy_cond(c, names)?)),
+        Attribute::Label(c) => made_of!(copy_cond(c, names), c => Attribute::Label(c)),
+        Attribute::Help(c) => made_of!(copy_cond(c, names), c => Attribute::Help(c)),
+        Attribute::Class(words) =>
+            made_of!(copy_words(words, alloc), words => Attribute::Class(words)),
+        Attribute::Handling(c) => made_of!(copy_cond(c, names), c => Attribute::Handling(c)),
+        Attribute::ConstantUnit(c) =>
+            made_of!(copy_cond(c, names), c => Attribute::ConstantUnit(c)),
+        Attribute::Validity(c) => made_of!(copy_cond(c, names), c => Attribute::Validity(c)),
         Attribute::TypeOf { word, parts } => {
             let parts = copy_type_parts(parts, names)?;
-            let word = copy_type_word(word, alloc)?;
-            Ok(Attribute::TypeOf { word, parts })
+            made_of!(copy_type_word(word, alloc), word => Attribute::TypeOf { word, parts })
         }
         Attribute::Number(n) => Ok(Attribute::Number(*n)),
         Attribute::Operation(o) => Ok(Attribute::Operation(*o)),
         Attribute::Transaction { number, parts } => {
-            let parts = copy_transaction_parts(parts, names)?;
-            Ok(Attribute::Transaction {
+            made_of!(copy_transaction_parts(parts, names), parts => Attribute::Transaction {
                 number: *number,
                 parts,
             })
         }
-        Attribute::ResponseCodes(all) => Ok(Attribute::ResponseCodes(copy_responses(all, alloc)?)),
-        Attribute::Items(entries) => Ok(Attribute::Items(copy_conds(entries, names)?)),
-        Attribute::Members(all) => Ok(Attribute::Members(copy_members_of(item, all, names)?)),
-        Attribute::Definition(parts) => Ok(Attribute::Definition(copy_definition(parts, names)?)),
+        Attribute::ResponseCodes(all) =>
+            made_of!(copy_responses(all, alloc), all => Attribute::ResponseCodes(all)),
+        Attribute::Items(entries) => {
+            made_of!(copy_conds(entries, names), entries => Attribute::Items(entries))
+        }
+        Attribute::Members(all) => {
+            made_of!(copy_members_of(item, all, names), all => Attribute::Members(all))
+        }
+        Attribute::Definition(parts) =>
+            made_of!(copy_definition(parts, names), parts => Attribute::Definition(parts)),
     }
 }
 

@@ -14,11 +14,12 @@ ghost use Rattle.edd_syntax.specs.TreeView.{path_of, expr_of};
 ghost use Rattle.edd_syntax.specs.WordsView.{text_of};
 
 use crate::branches::Named;
-use crate::directory::Names;
 use crate::exprs::{copy_expr, refer_variable};
-use crate::fault::NameFault;
-use crate::references::refer;
+use crate::made::made_of;
 use crate::texts::{copy_optional_text, copy_text};
+use edd_name_meanings::directory::Names;
+use edd_name_meanings::fault::NameFault;
+use edd_name_meanings::references::refer;
 use edd_syntax::expr::Expr;
 use edd_syntax::item::{DataItem, Enumerator, MenuEntry};
 use edd_syntax::numbers::Kind;
@@ -41,7 +42,7 @@ impl Named for Text {
 
     ghost meant = { λ unit. unchanged };
 
-    #[tactic(auto, using(crate::proofs::UseLaws::faults), unfolding(crate::specs::Meanings::Means))]
+    #[tactic(auto, using(crate::proofs::UseLaws::faults), unfolding(edd_name_meanings::specs::Meanings::Means))]
     fn copy(&self, names: &Names) -> Result<Text, NameFault> {
         copy_text(self, names.alloc)
     }
@@ -62,7 +63,7 @@ impl Named for Handling {
 
     ghost meant = { λ unit. unchanged };
 
-    #[tactic(auto, using(crate::proofs::UseLaws::faults), unfolding(crate::specs::Meanings::Means))]
+    #[tactic(auto, using(crate::proofs::UseLaws::faults), unfolding(edd_name_meanings::specs::Meanings::Means))]
     fn copy(&self, names: &Names) -> Result<Handling, NameFault> {
         Ok(*self)
     }
@@ -83,7 +84,7 @@ impl Named for bool {
 
     ghost meant = { λ unit. unchanged };
 
-    #[tactic(auto, using(crate::proofs::UseLaws::faults), unfolding(crate::specs::Meanings::Means))]
+    #[tactic(auto, using(crate::proofs::UseLaws::faults), unfolding(edd_name_meanings::specs::Meanings::Means))]
     fn copy(&self, names: &Names) -> Result<bool, NameFault> {
         Ok(*self)
     }
@@ -104,11 +105,10 @@ impl Named for Enumerator {
 
     ghost meant = { λ unit. unchanged };
 
-    #[tactic(auto, using(crate::proofs::UseLaws::faults), unfolding(crate::specs::Meanings::Means))]
+    #[tactic(auto, using(crate::proofs::UseLaws::faults), unfolding(edd_name_meanings::specs::Meanings::Means))]
     fn copy(&self, names: &Names) -> Result<Enumerator, NameFault> {
         let text = copy_text(&self.text, names.alloc)?;
-        let help = copy_optional_text(&self.help, names.alloc)?;
-        Ok(Enumerator {
+        made_of!(copy_optional_text(&self.help, names.alloc), help => Enumerator {
             line: self.line,
             value: self.value,
             text,
@@ -132,7 +132,7 @@ impl Named for Expr<Path> {
 
     ghost meant = { λ unit. resolved_expr (at_attribute unit) };
 
-    #[tactic(auto, using(crate::proofs::UseLaws::faults), unfolding(crate::specs::Meanings::Means))]
+    #[tactic(auto, using(crate::proofs::UseLaws::faults), unfolding(edd_name_meanings::specs::Meanings::Means))]
     fn copy(&self, names: &Names) -> Result<Expr<Target>, NameFault> {
         copy_expr(self, names, &[])
     }
@@ -153,14 +153,16 @@ impl Named for MenuEntry<Path> {
 
     ghost meant = { resolved_entry };
 
-    #[tactic(auto, using(crate::proofs::UseLaws::faults), unfolding(crate::specs::Meanings::Means))]
+    #[tactic(auto, using(crate::proofs::UseLaws::faults), unfolding(edd_name_meanings::specs::Meanings::Means))]
     fn copy(&self, names: &Names) -> Result<MenuEntry<Target>, NameFault> {
         match self {
-            MenuEntry::Text(text) => Ok(MenuEntry::Text(copy_text(text, names.alloc)?)),
+            MenuEntry::Text(text) => {
+                made_of!(copy_text(text, names.alloc), text => MenuEntry::Text(text))
+            }
             MenuEntry::Reference { to, qualifiers } => {
                 let kinds = [Kind::Variable, Kind::Menu, Kind::Collection, Kind::Method];
-                Ok(MenuEntry::Reference {
-                    to: refer(names, &[], &kinds, to)?,
+                made_of!(refer(names, &[], &kinds, to), to => MenuEntry::Reference {
+                    to,
                     qualifiers: *qualifiers,
                 })
             }
@@ -183,7 +185,7 @@ impl Named for DataItem<Path> {
 
     ghost meant = { resolved_data };
 
-    #[tactic(auto, using(crate::proofs::UseLaws::faults), unfolding(crate::specs::Meanings::Means))]
+    #[tactic(auto, using(crate::proofs::UseLaws::faults), unfolding(edd_name_meanings::specs::Meanings::Means))]
     fn copy(&self, names: &Names) -> Result<DataItem<Target>, NameFault> {
         match self {
             DataItem::Constant { line, value } => Ok(DataItem::Constant {

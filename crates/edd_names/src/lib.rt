@@ -1,23 +1,17 @@
-//! The meaning of the names of a description.
+//! A description with the meaning of each name in its place.
 #![tactic(auto)]
 
 mod branches;
 mod declarators;
-mod directory;
 mod exprs;
-pub mod fault;
 mod fields;
-mod follow;
 mod leaves;
-mod lookups;
-mod members;
-mod numbering;
+mod made;
 mod parts;
-mod places;
-mod references;
 mod resolving;
 mod statements;
 mod texts;
 mod unit_items;
 
+pub use edd_name_meanings::fault;
 pub use resolving::resolve;

@@ -6,47 +6,45 @@ ghost use Rattle.edd_syntax.specs.ItemView.{type_part_of, transaction_part_of, m
 ghost use Rattle.edd_syntax.specs.NameUses.{type_part_uses, transaction_part_uses};
 ghost use Rattle.edd_syntax.specs.ResolvedTrees.{each, resolved_type_part, resolved_transaction_part, resolved_member};
 ghost use Rattle.edd_syntax.specs.TreeView.{path_of};
-ghost use Rattle.edd_names.specs.Directory.{unit_of};
+ghost use Rattle.edd_name_meanings.specs.Directory.{unit_of};
 ghost use Rattle.edd_names.specs.ResolvedParts.{member_uses};
-ghost use Rattle.edd_names.specs.Meanings.{Means, NoFault, FirstFault};
+ghost use Rattle.edd_name_meanings.specs.Meanings.{Means, NoFault, FirstFault};
 
 use crate::branches::{copy_cond, copy_conds};
-use crate::directory::Names;
-use crate::fault::NameFault;
-use crate::references::refer;
+use crate::made::made_of;
 use crate::texts::copy_optional_text;
+use edd_name_meanings::directory::Names;
+use edd_name_meanings::fault::NameFault;
+use edd_name_meanings::references::refer;
 use edd_syntax::item::{Member, TransactionPart, TypePart};
 use edd_syntax::numbers::Kind;
 use edd_syntax::reference::{Path, Target};
 
-#[tactic(auto, using(crate::proofs::UseLaws::faults), unfolding(crate::specs::Meanings::Means))]
+#[tactic(auto, using(crate::proofs::UseLaws::faults), unfolding(edd_name_meanings::specs::Meanings::Means))]
 fn copy_type_part(type_part: &TypePart<Path>, names: &Names) -> Result<TypePart<Target>, NameFault>
     ensures none { IfOk result (λ t. NoFault (unit_of names.now) (type_part_uses (type_part_of path_of type_part.now))) }
     ensures ok { IfOk result (λ t. Means (unit_of names.now) (resolved_type_part (unit_of names.now) (type_part_of path_of type_part.now)) (type_part_of (λ r. r) t)) }
     ensures err { IfErr result (λ f. FirstFault f (unit_of names.now) (type_part_uses (type_part_of path_of type_part.now))) }
 {
     match type_part {
-        TypePart::DefaultValue { line, value } => Ok(TypePart::DefaultValue {
-            line: *line,
-            value: copy_cond(value, names)?,
-        }),
-        TypePart::MinValue { line, value } => Ok(TypePart::MinValue {
-            line: *line,
-            value: copy_cond(value, names)?,
-        }),
-        TypePart::MaxValue { line, value } => Ok(TypePart::MaxValue {
-            line: *line,
-            value: copy_cond(value, names)?,
-        }),
-        TypePart::DisplayFormat { line, format } => Ok(TypePart::DisplayFormat {
-            line: *line,
-            format: copy_cond(format, names)?,
-        }),
-        TypePart::EditFormat { line, format } => Ok(TypePart::EditFormat {
-            line: *line,
-            format: copy_cond(format, names)?,
-        }),
-        TypePart::Element(element) => Ok(TypePart::Element(copy_cond(element, names)?)),
+        TypePart::DefaultValue { line, value } => {
+            made_of!(copy_cond(value, names), value => TypePart::DefaultValue { line: *line, value })
+        }
+        TypePart::MinValue { line, value } => {
+            made_of!(copy_cond(value, names), value => TypePart::MinValue { line: *line, value })
+        }
+        TypePart::MaxValue { line, value } => {
+            made_of!(copy_cond(value, names), value => TypePart::MaxValue { line: *line, value })
+        }
+        TypePart::DisplayFormat { line, format } => {
+            made_of!(copy_cond(format, names), format => TypePart::DisplayFormat { line: *line, format })
+        }
+        TypePart::EditFormat { line, format } => {
+            made_of!(copy_cond(format, names), format => TypePart::EditFormat { line: *line, format })
+        }
+        TypePart::Element(element) => {
+            made_of!(copy_cond(element, names), element => TypePart::Element(element))
+        }
     }
 }
 
@@ -82,7 +80,7 @@ pub fn copy_type_parts(
     Ok(copies)
 }
 
-#[tactic(auto, using(crate::proofs::UseLaws::faults), unfolding(crate::specs::Meanings::Means))]
+#[tactic(auto, using(crate::proofs::UseLaws::faults), unfolding(edd_name_meanings::specs::Meanings::Means))]
 fn copy_transaction_part(
     transaction_part: &TransactionPart<Path>,
     names: &Names,
@@ -92,8 +90,12 @@ fn copy_transaction_part(
     ensures err { IfErr result (λ f. FirstFault f (unit_of names.now) (transaction_part_uses (transaction_part_of path_of transaction_part.now))) }
 {
     match transaction_part {
-        TransactionPart::Request(all) => Ok(TransactionPart::Request(copy_conds(all, names)?)),
-        TransactionPart::Reply(all) => Ok(TransactionPart::Reply(copy_conds(all, names)?)),
+        TransactionPart::Request(all) => {
+            made_of!(copy_conds(all, names), all => TransactionPart::Request(all))
+        }
+        TransactionPart::Reply(all) => {
+            made_of!(copy_conds(all, names), all => TransactionPart::Reply(all))
+        }
     }
 }
 
@@ -129,7 +131,7 @@ pub fn copy_transaction_parts(
     Ok(copies)
 }
 
-#[tactic(auto, using(crate::proofs::UseLaws::faults), unfolding(crate::specs::Meanings::Means))]
+#[tactic(auto, using(crate::proofs::UseLaws::faults), unfolding(edd_name_meanings::specs::Meanings::Means))]
 fn copy_member(
     member: &Member<Path>,
     names: &Names,
@@ -142,8 +144,7 @@ fn copy_member(
     let item = refer(names, &[], kinds, &member.item)?;
     let name = String::from_str(names.alloc, &member.name)?;
     let label = copy_optional_text(&member.label, names.alloc)?;
-    let help = copy_optional_text(&member.help, names.alloc)?;
-    Ok(Member {
+    made_of!(copy_optional_text(&member.help, names.alloc), help => Member {
         name,
         item,
         label,

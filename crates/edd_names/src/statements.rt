@@ -1,22 +1,23 @@
 //! Statements with the meaning of their names.
 
-ghost use Rattle.std.specs.Prelude.{◌≡◌, ◌+◌, ◌≤◌, ◌++◌, [], ◌∷◌, IfErr, IfOk, OnErr, OnOk, map};
+ghost use Rattle.std.specs.Prelude.{◌≡◌, ◌+◌, ◌≤◌, ◌++◌, List, [], ◌∷◌, IfErr, IfOk, OnErr, OnOk, map, option_map};
 ghost use Rattle.edd_syntax.specs.declared.reference.Target.{Target};
 ghost use Rattle.edd_syntax.specs.declared.stmt.Part.{Part};
-ghost use Rattle.edd_syntax.specs.NameUses.{expr_uses, stmt_uses, body_uses};
-ghost use Rattle.edd_syntax.specs.ResolvedTrees.{at_scope, resolved_expr, resolved_stmt, resolved_body};
+ghost use Rattle.edd_syntax.specs.NameUses.{Use, expr_uses, optional_uses, stmt_uses, body_uses};
+ghost use Rattle.edd_syntax.specs.ResolvedTrees.{at_scope, resolved_expr, resolved_optional, resolved_stmt, resolved_body};
 ghost use Rattle.edd_syntax.specs.Statement.{body_from, slots_of, slots_in};
 ghost use Rattle.edd_syntax.specs.TreeView.{path_of, expr_of, stmt_of, part_of};
-ghost use Rattle.edd_names.specs.declared.fault.NameFault.TheVariants.{NoMemory};
-ghost use Rattle.edd_names.specs.Directory.{unit_of};
-ghost use Rattle.edd_names.specs.Meanings.{Means, NoFault, FirstFault, scope_of};
+ghost use Rattle.edd_name_meanings.specs.declared.fault.NameFault.TheVariants.{NoMemory};
+ghost use Rattle.edd_name_meanings.specs.Directory.{unit_of};
+ghost use Rattle.edd_name_meanings.specs.Meanings.{Means, NoFault, FirstFault, scope_of};
 ghost use Rattle.edd_names.specs.ResolvedParts.{part_uses, resolved_part, scope_behind, next_behind};
 
 use crate::declarators::{add_declarators, copy_optional};
-use crate::directory::Names;
 use crate::exprs::copy_expr;
-use crate::fault::NameFault;
-use crate::references::Local;
+use crate::made::made_of;
+use edd_name_meanings::directory::Names;
+use edd_name_meanings::fault::NameFault;
+use edd_name_meanings::references::Local;
 use edd_syntax::expr::Expr;
 use edd_syntax::reference::{Path, Target};
 use edd_syntax::stmt::{Part, Stmt};
@@ -32,7 +33,7 @@ fn inner_scope<'a>(scope: &[Local<'a>], alloc: Global) -> Result<Vec<Local<'a>>,
 
 /// A statement with the meaning of its names. Each of its locals takes the next slot.
 #[cycle(statements)]
-#[tactic(auto, using(crate::proofs::UseLaws::faults), unfolding(crate::specs::Meanings::Means, edd_syntax::specs::ResolvedTrees::resolved_stmt, edd_syntax::specs::Statement::slots_of))]
+#[tactic(auto, using(crate::proofs::UseLaws::faults), unfolding(edd_name_meanings::specs::Meanings::Means, edd_syntax::specs::ResolvedTrees::resolved_stmt, edd_syntax::specs::Statement::slots_of))]
 fn copy_stmt<'a>(
     s: &'a Stmt<Path>,
     names: &Names,
@@ -48,24 +49,31 @@ fn copy_stmt<'a>(
 {
     match s {
         Stmt::Empty => Ok(Stmt::Empty),
-        Stmt::Evaluate(e) => Ok(Stmt::Evaluate(copy_expr(e, names, scope)?)),
+        Stmt::Evaluate(e) => made_of!(copy_expr(e, names, scope), e => Stmt::Evaluate(e)),
         Stmt::Block(parts) => Ok(Stmt::Block(copy_body(parts, names, scope, next)?)),
         Stmt::If(condition, first) => {
-            let (condition, first) = copy_guarded(condition, first, names, scope, next)?;
-            Ok(Stmt::If(condition, first))
+            made_of!(
+                copy_guarded(condition, first, names, scope, next),
+                (condition, first) => Stmt::If(condition, first)
+            )
         }
         Stmt::IfElse(condition, first, otherwise) => {
-            let condition = copy_expr(condition, names, scope)?;
-            let first = copy_boxed(first, names, scope, next)?;
-            Ok(Stmt::IfElse(condition, first, copy_boxed(otherwise, names, scope, next)?))
+            made_of!(
+                copy_choice(condition, first, otherwise, names, scope, next),
+                (condition, first, otherwise) => Stmt::IfElse(condition, first, otherwise)
+            )
         }
         Stmt::While(condition, body) => {
-            let (condition, body) = copy_guarded(condition, body, names, scope, next)?;
-            Ok(Stmt::While(condition, body))
+            made_of!(
+                copy_guarded(condition, body, names, scope, next),
+                (condition, body) => Stmt::While(condition, body)
+            )
         }
         Stmt::Do(body, condition) => {
-            let body = copy_boxed(body, names, scope, next)?;
-            Ok(Stmt::Do(body, copy_expr(condition, names, scope)?))
+            made_of!(
+                copy_repeated(body, condition, names, scope, next),
+                (body, condition) => Stmt::Do(body, condition)
+            )
         }
         Stmt::For {
             initial,
@@ -73,19 +81,22 @@ fn copy_stmt<'a>(
             update,
             body,
         } => {
-            let initial = copy_optional(initial, names, scope)?;
-            let condition = copy_optional(condition, names, scope)?;
-            let update = copy_optional(update, names, scope)?;
-            Ok(Stmt::For {
-                initial,
-                condition,
-                update,
-                body: copy_boxed(body, names, scope, next)?,
-            })
+            made_of!(
+                copy_looped(initial, condition, update, body, names, scope, next),
+                (head, body) => {
+                    let (initial, condition, update) = head;
+                    Stmt::For {
+                        initial,
+                        condition,
+                        update,
+                        body,
+                    }
+                }
+            )
         }
         Stmt::Switch(on, parts) => {
-            let on = copy_expr(on, names, scope)?;
-            Ok(Stmt::Switch(on, copy_body(parts, names, scope, next)?))
+            let (on, parts) = copy_switched(parts, on, names, scope, next)?;
+            Ok(Stmt::Switch(on, parts))
         }
         Stmt::Break { line } => Ok(Stmt::Break { line: *line }),
         Stmt::Continue { line } => Ok(Stmt::Continue { line: *line }),
@@ -109,8 +120,7 @@ fn copy_boxed<'a>(
     ensures next { IfOk result (λ t. next.new ≡ next.old + slots_of (stmt_of path_of s.now)) }
     ensures err { IfErr result (λ f. FirstFault f (unit_of names.now) (stmt_uses (stmt_of path_of s.now) (scope_of scope.now) next.old)) }
 {
-    let copy = copy_stmt(s, names, scope, next)?;
-    Ok(Box::new(names.alloc, copy)?)
+    made_of!(copy_stmt(s, names, scope, next), copy => Box::new(names.alloc, copy)?)
 }
 
 // A condition, and the statement that stands under it.
@@ -135,7 +145,149 @@ fn copy_guarded<'a>(
         (expr_uses (scope_of scope.now) (expr_of path_of condition.now) ++ stmt_uses (stmt_of path_of body.now) (scope_of scope.now) next.old)) }
 {
     let condition = copy_expr(condition, names, scope)?;
-    Ok((condition, copy_boxed(body, names, scope, next)?))
+    made_of!(copy_boxed(body, names, scope, next), body => (condition, body))
+}
+
+// A condition, and the two statements of which one is chosen.
+#[cycle(statements)]
+#[tactic(auto, using(crate::proofs::UseLaws::faults, crate::proofs::UseLaws::faults_behind_two))]
+fn copy_choice<'a>(
+    condition: &'a Expr<Path>,
+    first: &'a Stmt<Path>,
+    otherwise: &'a Stmt<Path>,
+    names: &Names,
+    scope: &[Local<'a>],
+    next: &mut u8,
+) -> Result<(Expr<Target>, Box<Stmt<Target>>, Box<Stmt<Target>>), NameFault>
+    requires { next.old + (slots_of (stmt_of path_of first.now) + slots_of (stmt_of path_of otherwise.now)) ≤ 64 }
+    ensures none { IfOk result (λ t. NoFault (unit_of names.now)
+        (expr_uses (scope_of scope.now) (expr_of path_of condition.now) ++ (stmt_uses (stmt_of path_of first.now) (scope_of scope.now) next.old ++ stmt_uses (stmt_of path_of otherwise.now) (scope_of scope.now) (next.old + slots_of (stmt_of path_of first.now))))) }
+    ensures condition { IfOk result (λ t. Means (unit_of names.now)
+        (resolved_expr (at_scope (unit_of names.now) (scope_of scope.now)) (expr_of path_of condition.now)) (expr_of (λ r. r) t.0)) }
+    ensures first { IfOk result (λ t. Means (unit_of names.now)
+        (resolved_stmt (unit_of names.now) (stmt_of path_of first.now) (scope_of scope.now) next.old) (stmt_of (λ r. r) t.1.value)) }
+    ensures otherwise { IfOk result (λ t. Means (unit_of names.now)
+        (resolved_stmt (unit_of names.now) (stmt_of path_of otherwise.now) (scope_of scope.now) (next.old + slots_of (stmt_of path_of first.now))) (stmt_of (λ r. r) t.2.value)) }
+    ensures next { IfOk result (λ t. next.new ≡ next.old + (slots_of (stmt_of path_of first.now) + slots_of (stmt_of path_of otherwise.now))) }
+    ensures err { IfErr result (λ f. FirstFault f (unit_of names.now)
+        (expr_uses (scope_of scope.now) (expr_of path_of condition.now) ++ (stmt_uses (stmt_of path_of first.now) (scope_of scope.now) next.old ++ stmt_uses (stmt_of path_of otherwise.now) (scope_of scope.now) (next.old + slots_of (stmt_of path_of first.now))))) }
+{
+    let (condition, first) = copy_guarded(condition, first, names, scope, next)?;
+    made_of!(copy_boxed(otherwise, names, scope, next), otherwise => (condition, first, otherwise))
+}
+
+// A statement, and the condition behind it.
+#[cycle(statements)]
+#[tactic(auto, using(crate::proofs::UseLaws::faults))]
+fn copy_repeated<'a>(
+    body: &'a Stmt<Path>,
+    condition: &'a Expr<Path>,
+    names: &Names,
+    scope: &[Local<'a>],
+    next: &mut u8,
+) -> Result<(Box<Stmt<Target>>, Expr<Target>), NameFault>
+    requires { next.old + slots_of (stmt_of path_of body.now) ≤ 64 }
+    ensures none { IfOk result (λ t. NoFault (unit_of names.now)
+        (stmt_uses (stmt_of path_of body.now) (scope_of scope.now) next.old ++ expr_uses (scope_of scope.now) (expr_of path_of condition.now))) }
+    ensures body { IfOk result (λ t. Means (unit_of names.now)
+        (resolved_stmt (unit_of names.now) (stmt_of path_of body.now) (scope_of scope.now) next.old) (stmt_of (λ r. r) t.0.value)) }
+    ensures condition { IfOk result (λ t. Means (unit_of names.now)
+        (resolved_expr (at_scope (unit_of names.now) (scope_of scope.now)) (expr_of path_of condition.now)) (expr_of (λ r. r) t.1)) }
+    ensures next { IfOk result (λ t. next.new ≡ next.old + slots_of (stmt_of path_of body.now)) }
+    ensures err { IfErr result (λ f. FirstFault f (unit_of names.now)
+        (stmt_uses (stmt_of path_of body.now) (scope_of scope.now) next.old ++ expr_uses (scope_of scope.now) (expr_of path_of condition.now))) }
+{
+    let body = copy_boxed(body, names, scope, next)?;
+    made_of!(copy_expr(condition, names, scope), condition => (body, condition))
+}
+
+// The three expressions of FOR, each of which may be missing.
+type Head = (
+    Option<Expr<Target>>,
+    Option<Expr<Target>>,
+    Option<Expr<Target>>,
+);
+
+// They stand before the body, so that its faults come behind theirs.
+#[tactic(auto, using(crate::proofs::UseLaws::faults))]
+fn copy_head(
+    initial: &Option<Expr<Path>>,
+    condition: &Option<Expr<Path>>,
+    update: &Option<Expr<Path>>,
+    names: &Names,
+    scope: &[Local],
+) -> Result<Head, NameFault>
+    ensures none_initial { IfOk result (λ t. NoFault (unit_of names.now) (optional_uses (scope_of scope.now) (option_map (expr_of path_of) initial.now))) }
+    ensures none_condition { IfOk result (λ t. NoFault (unit_of names.now) (optional_uses (scope_of scope.now) (option_map (expr_of path_of) condition.now))) }
+    ensures none_update { IfOk result (λ t. NoFault (unit_of names.now) (optional_uses (scope_of scope.now) (option_map (expr_of path_of) update.now))) }
+    ensures initial { IfOk result (λ t. Means (unit_of names.now)
+        (resolved_optional (at_scope (unit_of names.now) (scope_of scope.now)) (option_map (expr_of path_of) initial.now)) (option_map (expr_of (λ r. r)) t.0)) }
+    ensures condition { IfOk result (λ t. Means (unit_of names.now)
+        (resolved_optional (at_scope (unit_of names.now) (scope_of scope.now)) (option_map (expr_of path_of) condition.now)) (option_map (expr_of (λ r. r)) t.1)) }
+    ensures update { IfOk result (λ t. Means (unit_of names.now)
+        (resolved_optional (at_scope (unit_of names.now) (scope_of scope.now)) (option_map (expr_of path_of) update.now)) (option_map (expr_of (λ r. r)) t.2)) }
+    ensures err { IfErr result (λ f. (rest : List Use) → FirstFault f (unit_of names.now)
+        (optional_uses (scope_of scope.now) (option_map (expr_of path_of) initial.now) ++ (optional_uses (scope_of scope.now) (option_map (expr_of path_of) condition.now) ++ (optional_uses (scope_of scope.now) (option_map (expr_of path_of) update.now) ++ rest)))) }
+{
+    let initial = copy_optional(initial, names, scope)?;
+    let condition = copy_optional(condition, names, scope)?;
+    made_of!(copy_optional(update, names, scope), update => (initial, condition, update))
+}
+
+// The head and the body of FOR.
+#[cycle(statements)]
+#[tactic(auto, using(crate::proofs::UseLaws::faults))]
+fn copy_looped<'a>(
+    initial: &'a Option<Expr<Path>>,
+    condition: &'a Option<Expr<Path>>,
+    update: &'a Option<Expr<Path>>,
+    body: &'a Stmt<Path>,
+    names: &Names,
+    scope: &[Local<'a>],
+    next: &mut u8,
+) -> Result<(Head, Box<Stmt<Target>>), NameFault>
+    requires { next.old + slots_of (stmt_of path_of body.now) ≤ 64 }
+    ensures none { IfOk result (λ t. NoFault (unit_of names.now)
+        (optional_uses (scope_of scope.now) (option_map (expr_of path_of) initial.now) ++ (optional_uses (scope_of scope.now) (option_map (expr_of path_of) condition.now) ++ (optional_uses (scope_of scope.now) (option_map (expr_of path_of) update.now) ++ stmt_uses (stmt_of path_of body.now) (scope_of scope.now) next.old)))) }
+    ensures initial { IfOk result (λ t. Means (unit_of names.now)
+        (resolved_optional (at_scope (unit_of names.now) (scope_of scope.now)) (option_map (expr_of path_of) initial.now)) (option_map (expr_of (λ r. r)) t.0.0)) }
+    ensures condition { IfOk result (λ t. Means (unit_of names.now)
+        (resolved_optional (at_scope (unit_of names.now) (scope_of scope.now)) (option_map (expr_of path_of) condition.now)) (option_map (expr_of (λ r. r)) t.0.1)) }
+    ensures update { IfOk result (λ t. Means (unit_of names.now)
+        (resolved_optional (at_scope (unit_of names.now) (scope_of scope.now)) (option_map (expr_of path_of) update.now)) (option_map (expr_of (λ r. r)) t.0.2)) }
+    ensures body { IfOk result (λ t. Means (unit_of names.now)
+        (resolved_stmt (unit_of names.now) (stmt_of path_of body.now) (scope_of scope.now) next.old) (stmt_of (λ r. r) t.1.value)) }
+    ensures next { IfOk result (λ t. next.new ≡ next.old + slots_of (stmt_of path_of body.now)) }
+    ensures err { IfErr result (λ f. FirstFault f (unit_of names.now)
+        (optional_uses (scope_of scope.now) (option_map (expr_of path_of) initial.now) ++ (optional_uses (scope_of scope.now) (option_map (expr_of path_of) condition.now) ++ (optional_uses (scope_of scope.now) (option_map (expr_of path_of) update.now) ++ stmt_uses (stmt_of path_of body.now) (scope_of scope.now) next.old)))) }
+{
+    let head = copy_head(initial, condition, update, names, scope)?;
+    made_of!(copy_boxed(body, names, scope, next), body => (head, body))
+}
+
+// What SWITCH is on, and its parts.
+#[cycle(statements)]
+#[tactic(auto, using(crate::proofs::UseLaws::faults))]
+fn copy_switched<'a>(
+    parts: &'a [Part<Path>],
+    on: &'a Expr<Path>,
+    names: &Names,
+    scope: &[Local<'a>],
+    next: &mut u8,
+) -> Result<(Expr<Target>, Vec<Part<Target>>), NameFault>
+    requires { next.old + slots_in (body_from (map (part_of path_of) parts.now)) ≤ 64 }
+    ensures none { IfOk result (λ t. NoFault (unit_of names.now)
+        (expr_uses (scope_of scope.now) (expr_of path_of on.now) ++ body_uses (body_from (map (part_of path_of) parts.now)) (scope_of scope.now) next.old)) }
+    ensures on { IfOk result (λ t. Means (unit_of names.now)
+        (resolved_expr (at_scope (unit_of names.now) (scope_of scope.now)) (expr_of path_of on.now)) (expr_of (λ r. r) t.0)) }
+    ensures parts { IfOk result (λ t. Means (unit_of names.now)
+        (resolved_body (unit_of names.now) (body_from (map (part_of path_of) parts.now)) (scope_of scope.now) next.old) (body_from (map (part_of (λ r. r)) t.1.items))) }
+    ensures next { IfOk result (λ t. next.new ≡ next.old + slots_in (body_from (map (part_of path_of) parts.now))) }
+    ensures err { IfErr result (λ f. FirstFault f (unit_of names.now)
+        (expr_uses (scope_of scope.now) (expr_of path_of on.now) ++ body_uses (body_from (map (part_of path_of) parts.now)) (scope_of scope.now) next.old)) }
+{
+    let on = copy_expr(on, names, scope)?;
+    made_of!(copy_body(parts, names, scope, next), parts => (on, parts))
 }
 
 /// What stands between braces, with the meaning of its names. Its locals can be used up to the closing brace.
@@ -185,7 +337,7 @@ fn add_parts<'a>(
 
 // A part of a block, with the scope and the next slot behind it.
 #[cycle(statements)]
-#[tactic(auto, using(crate::proofs::UseLaws::faults), unfolding(crate::specs::Meanings::Means, edd_syntax::specs::Statement::slots_of))]
+#[tactic(auto, using(crate::proofs::UseLaws::faults), unfolding(edd_name_meanings::specs::Meanings::Means, edd_syntax::specs::Statement::slots_of))]
 fn copy_part<'a>(
     part: &'a Part<Path>,
     names: &Names,
@@ -205,7 +357,7 @@ fn copy_part<'a>(
             add_declarators(declarators, names, scope, next, &mut copies)?;
             Ok(Part::Declare(copies))
         }
-        Part::Statement(s) => Ok(Part::Statement(copy_stmt(s, names, scope, next)?)),
+        Part::Statement(s) => made_of!(copy_stmt(s, names, scope, next), s => Part::Statement(s)),
         Part::CaseLabel { line, label } => Ok(Part::CaseLabel {
             line: *line,
             label: *label,

@@ -3,9 +3,9 @@
 ghost use Rattle.std.specs.Prelude.{◌≡◌, [], IfErr, IfOk, OnOk, map, option_map, string_bytes};
 ghost use Rattle.edd_syntax.specs.ItemView.{response_code_of};
 ghost use Rattle.edd_syntax.specs.WordsView.{text_of};
-ghost use Rattle.edd_names.specs.declared.fault.NameFault.TheVariants.{NoMemory};
+ghost use Rattle.edd_name_meanings.specs.declared.fault.NameFault.TheVariants.{NoMemory};
 
-use crate::fault::NameFault;
+use edd_name_meanings::fault::NameFault;
 use edd_syntax::item::ResponseCode;
 use edd_syntax::text::Text;
 use std::alloc::Global;

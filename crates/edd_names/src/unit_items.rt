@@ -7,12 +7,12 @@ ghost use Rattle.edd_syntax.specs.NameRules.{local_limit, locals_of};
 ghost use Rattle.edd_syntax.specs.NameUses.{item_uses};
 ghost use Rattle.edd_syntax.specs.ResolvedTrees.{each, resolved_item};
 ghost use Rattle.edd_syntax.specs.TreeView.{path_of};
-ghost use Rattle.edd_names.specs.Directory.{unit_of};
-ghost use Rattle.edd_names.specs.Meanings.{Means, NoFault, FirstFault};
+ghost use Rattle.edd_name_meanings.specs.Directory.{unit_of};
+ghost use Rattle.edd_name_meanings.specs.Meanings.{Means, NoFault, FirstFault};
 
-use crate::directory::Names;
-use crate::fault::NameFault;
 use crate::fields::copy_attributes;
+use edd_name_meanings::directory::Names;
+use edd_name_meanings::fault::NameFault;
 use edd_name_rules::items::{attributes_of, name_of};
 use edd_syntax::item::{
     Attribute, CollectionDef, CommandDef, Item, MenuDef, MethodDef, VariableDef,

@@ -39,6 +39,16 @@ item_number Menu n = item_no.Menu (record { 0 = n })
 item_number Collection n = item_no.Collection (record { 0 = n })
 item_number Method n = item_no.Method (record { 0 = n })
 
+-- the item by the number of its kind and its own, where there is such a kind
+abbrev pub item_from_numbers : ℕ → ℕ → Option ItemNo
+item_from_numbers kind n =
+    if kind == 1 then Some (item_no.Variable (record { 0 = n })) else
+    if kind == 2 then Some (item_no.Command (record { 0 = n })) else
+    if kind == 3 then Some (item_no.Menu (record { 0 = n })) else
+    if kind == 4 then Some (item_no.Collection (record { 0 = n })) else
+    if kind == 5 then Some (item_no.Method (record { 0 = n })) else
+    None
+
 abbrev pub kind_of : ItemNo → Kind
 kind_of (item_no.Variable n) = Variable
 kind_of (item_no.Command n) = Command

@@ -46,6 +46,21 @@ impl Kind {
 }
 
 impl ItemNo {
+    /// The item by the number of its kind and its own among the items of that kind, where there is such a kind (this profile).
+    #[inline(always)]
+    pub fn from_numbers(kind: u8, index: u16) -> Option<ItemNo>
+        ensures { result ≡ numbers.item_from_numbers kind index }
+    {
+        match kind {
+            1 => Some(ItemNo::Variable(VarNo(index))),
+            2 => Some(ItemNo::Command(CmdNo(index))),
+            3 => Some(ItemNo::Menu(MenuNo(index))),
+            4 => Some(ItemNo::Collection(CollNo(index))),
+            5 => Some(ItemNo::Method(MethNo(index))),
+            _ => None,
+        }
+    }
+
     /// The kind of the item (this profile).
     pub fn kind(self) -> Kind
         ensures { result ≡ numbers.kind_of self }

@@ -1,4 +1,4 @@
-use Rattle.std.proofs.Common.{◌+◌, ◌*◌, ◌≤◌, length, map}
+use Rattle.std.proofs.Common.{◌≡◌, ◌+◌, ◌*◌, ◌≤◌, length, map, take}
 use Rattle.edd_syntax.specs.Conditional.{NoArms, ConsArm, conds_from, arms_from}
 use Rattle.edd_syntax.specs.ItemView.{cond_of, conds_of, arm_of}
 use Rattle.edd_syntax.specs.Size.{cond_nodes, conds_nodes, arms_nodes, leaf}
@@ -36,14 +36,15 @@ decreases-write_body g l = 4 * conds_nodes leaf (conds_of (λ r. r) g.V.Element.
 -- the conditionals so far are written
 abbrev pub invariant-write_conds-loop-c : goal.invariant-write_conds-loop-c
 invariant-write_conds-loop-c g l = record {
-  front : Front (cond_strings g.V.Element.strings) (λ numbered xs b. IsCondsBlock (g.V.Element.is_block numbered) (conds_from xs) b) l.c-index (map (cond_of (λ r. r) g.V.Element.view) l.all) l.initial.table l.initial.code.items l.table l.code.items;
+  front : Front (cond_strings g.V.Element.strings) (λ numbered xs b. IsCondsBlock (g.V.Element.is_block numbered) (conds_from xs) b) l.c-index (map (cond_of (λ r. r) g.V.Element.view) l.all) l.initial.table l.initial.code l.table l.code;
   grows : Grows l.initial.table l.table;
 }
 
--- the arms from the one at `left` on are written
+-- the arms from the one at `left` on are written, and the open targets of the others are left
 abbrev pub invariant-write_bodies-loop-left : goal.invariant-write_bodies-loop-left
 invariant-write_bodies-loop-left g l = record {
-  back : Back g.V.Element.strings g.V.Element.is_block l.left (map (arm_of (λ r. r) g.V.Element.view) l.arms) l.initial.table l.initial.code.items l.behind l.table l.code.items l.start;
+  back : Back g.V.Element.strings g.V.Element.is_block l.left (map (arm_of (λ r. r) g.V.Element.view) l.arms) l.initial.table l.initial.code l.initial.holes.items l.table l.code;
+  others : l.holes.items ≡ take l.left l.initial.holes.items;
   within : l.left ≤ length l.arms;
   grows : Grows l.initial.table l.table;
 }

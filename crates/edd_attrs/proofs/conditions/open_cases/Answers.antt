@@ -1,22 +1,37 @@
-use Rattle.std.proofs.Common.{ℕ, List, arith, sym, ap, ◌∙◌, ◌++◌, map, take, append_assoc}
-use Rattle.std.proofs.lemmas.List.{append-nil, length-map, take_all}
+use Rattle.std.proofs.Common.{◌≡◌, ◌+◌, ◌<◌, ℕ, List, [], ◌∷◌, arith, sym, ap, ◌∙◌, ◌++◌, length, map, take, append_assoc, length-append}
+use Rattle.std.proofs.lemmas.List.{length-map, take_all}
 use Rattle.edd_syntax.specs.ItemView.{arm_of}
-use Rattle.edd_attrs.specs.Writing.{header, headers}
+use Rattle.edd_attrs.specs.Writing.{header, headers, hole_of, holes_of}
+use Rattle.edd_attrs.proofs.Arms.{holes_taken}
 use Rattle.edd_attrs.proofs.Loops.{flat_take, viewed_at}
 use Rattle.edd_attrs.proofs.conditions.open_cases.Goals as goal
 
-pub loop-arm-init : goal.loop-arm-init
-loop-arm-init g c = sym (append-nil c.args.code.now.items)
-
 pub loop-arm-preserved : goal.loop-arm-preserved
 loop-arm-preserved g c =
-    c.in_ok-open_arm.ensures
-    ∙ ap (λ (code : List ℕ). code ++ header (arm_of (λ r. r) g.V.Element.view c.arm-item.result)) c.loop-arm.invariant
-    ∙ append_assoc c.args.code.now.items (headers (take c.loop-arm.arm-index (map (arm_of (λ r. r) g.V.Element.view) c.args.arms.now))) (header (arm_of (λ r. r) g.V.Element.view c.arm-item.result))
-    ∙ ap (λ (code : List ℕ). c.args.code.now.items ++ code)
-    (sym (flat_take header (map (arm_of (λ r. r) g.V.Element.view) c.args.arms.now) c.loop-arm.arm-index (arm_of (λ r. r) g.V.Element.view c.arm-item.result) (omega (arith, length-map c.args.arms.now (arm_of (λ r. r) g.V.Element.view)))
-    (viewed_at (arm_of (λ r. r) g.V.Element.view) c.args.arms.now c.loop-arm.arm-index c.arm-item.result (omega arith) c.arm-item.is)))
+    let view = arm_of (λ r. r) g.V.Element.view in
+    let arms = map view c.args.arms.now in
+    let i = c.loop-arm.arm-index in
+    let arm = view c.arm-item.result in
+    let start = c.args.code.now in
+    let below : i < length arms = omega (arith, length-map c.args.arms.now view) in
+    let at = viewed_at view c.args.arms.now i c.arm-item.result (omega arith) c.arm-item.is in
+    let place : length c.loop-arm.code ≡ length start + length (headers (take i arms)) =
+    ap length c.loop-arm.invariant.code ∙ length-append start (headers (take i arms)) in
+    record {
+      code = c.in_ok-open_arm.ensures.code
+          ∙ ap (λ (code : List ℕ). code ++ header arm) c.loop-arm.invariant.code
+          ∙ append_assoc start (headers (take i arms)) (header arm)
+          ∙ ap (λ (code : List ℕ). start ++ code) (sym (flat_take header arms i arm below at));
+      holes = c.in_ok-push.ensures.items
+          ∙ ap (λ hs. hs ++ c.in_ok-open_arm.field-0 ∷ []) c.loop-arm.invariant.holes
+          ∙ ap (λ h. holes_of (length start) (take i arms) ++ h ∷ []) (c.in_ok-open_arm.ensures.hole ∙ ap (λ p. hole_of p arm) place)
+          ∙ sym (holes_taken (length start) i arms arm below at);
+    }
 
-pub returns : goal.returns
-returns g c =
-    c.loop-arm.invariant ∙ ap (λ xs. c.args.code.now.items ++ headers xs) (take_all c.loop-arm.arm-index (map (arm_of (λ r. r) g.V.Element.view) c.args.arms.now) (omega (arith, length-map c.args.arms.now (arm_of (λ r. r) g.V.Element.view))))
+pub returns-clause-code : goal.returns-clause-code
+returns-clause-code g c =
+    c.loop-arm.invariant.code ∙ ap (λ xs. c.args.code.now ++ headers xs) (take_all c.loop-arm.arm-index (map (arm_of (λ r. r) g.V.Element.view) c.args.arms.now) (omega (arith, length-map c.args.arms.now (arm_of (λ r. r) g.V.Element.view))))
+
+pub returns-clause-holes : goal.returns-clause-holes
+returns-clause-holes g c =
+    c.loop-arm.invariant.holes ∙ ap (holes_of (length c.args.code.now)) (take_all c.loop-arm.arm-index (map (arm_of (λ r. r) g.V.Element.view) c.args.arms.now) (omega (arith, length-map c.args.arms.now (arm_of (λ r. r) g.V.Element.view))))

@@ -15,7 +15,7 @@ write-requires g c =
 
 pub loop-v-init : goal.loop-v-init
 loop-v-init g c = record {
-  front = front_starts g.V.Element.strings (λ numbered. IsLineBlock (g.V.Element.is_block numbered)) (map g.V.Element.view c.args.all.now) c.args.table.now c.args.code.now.items;
+  front = front_starts g.V.Element.strings (λ numbered. IsLineBlock (g.V.Element.is_block numbered)) (map g.V.Element.view c.args.all.now) c.args.table.now c.args.code.now;
   grows = no_growth c.args.table.now;
 }
 
@@ -23,9 +23,9 @@ pub loop-v-preserved : goal.loop-v-preserved
 loop-v-preserved g c = record {
   front =
       front_grows g.V.Element.strings (λ numbered. IsLineBlock (g.V.Element.is_block numbered)) c.loop-v.v-index (map g.V.Element.view c.args.all.now) (g.V.Element.view c.v-item.result)
-      c.args.table.now c.loop-v.table c.write.new.table c.args.code.now.items c.loop-v.code.items c.write.new.code.items (omega (arith, length-map c.args.all.now g.V.Element.view))
+      c.args.table.now c.loop-v.table c.write.new.table c.args.code.now c.loop-v.code c.write.new.code (omega (arith, length-map c.args.all.now g.V.Element.view))
       (viewed_at g.V.Element.view c.args.all.now c.loop-v.v-index c.v-item.result (omega arith) c.v-item.is) c.loop-v.invariant.front
-      (block_step g.V.Element.strings (λ numbered. IsLineBlock (g.V.Element.is_block numbered)) (g.V.Element.view c.v-item.result) c.loop-v.table c.write.new.table c.loop-v.code.items c.write.new.code.items
+      (block_step g.V.Element.strings (λ numbered. IsLineBlock (g.V.Element.is_block numbered)) (g.V.Element.view c.v-item.result) c.loop-v.table c.write.new.table c.loop-v.code c.write.new.code
       (λ numbered b. g.V.Element.is_block numbered (g.V.Element.view c.v-item.result) b) c.in_ok-write.ensures.ok (λ numbered rest p q one more. (p, q, refl, one, more)));
   grows = grows_on c.args.table.now c.loop-v.table c.write.new.table c.loop-v.invariant.grows c.in_ok-write.ensures.grows;
 }
@@ -36,10 +36,10 @@ returns-in_err-write-clause-grows g c = grows_on c.args.table.now c.loop-v.table
 pub returns-in_err-write-clause-too_many : goal.returns-in_err-write-clause-too_many
 returns-in_err-write-clause-too_many g c h =
     let over : Overflows c.loop-v.table (g.V.Element.strings (g.V.Element.view c.v-item.result)) = grind (arith, common_steps) in
-    front_overflows g.V.Element.strings (λ numbered. IsLineBlock (g.V.Element.is_block numbered)) c.loop-v.v-index (map g.V.Element.view c.args.all.now) (g.V.Element.view c.v-item.result) c.args.table.now c.loop-v.table c.args.code.now.items c.loop-v.code.items
+    front_overflows g.V.Element.strings (λ numbered. IsLineBlock (g.V.Element.is_block numbered)) c.loop-v.v-index (map g.V.Element.view c.args.all.now) (g.V.Element.view c.v-item.result) c.args.table.now c.loop-v.table c.args.code.now c.loop-v.code
     (omega (arith, length-map c.args.all.now g.V.Element.view)) (viewed_at g.V.Element.view c.args.all.now c.loop-v.v-index c.v-item.result (omega arith) c.v-item.is) c.loop-v.invariant.front over
 
 pub returns-clause-ok : goal.returns-clause-ok
 returns-clause-ok g c =
-    front_ends g.V.Element.strings (λ numbered. IsLineBlock (g.V.Element.is_block numbered)) c.loop-v.v-index (map g.V.Element.view c.args.all.now) c.args.table.now c.loop-v.table c.args.code.now.items c.loop-v.code.items
+    front_ends g.V.Element.strings (λ numbered. IsLineBlock (g.V.Element.is_block numbered)) c.loop-v.v-index (map g.V.Element.view c.args.all.now) c.args.table.now c.loop-v.table c.args.code.now c.loop-v.code
     (omega (arith, length-map c.args.all.now g.V.Element.view)) c.loop-v.invariant.front (λ numbered. refl)

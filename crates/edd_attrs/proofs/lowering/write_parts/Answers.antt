@@ -19,7 +19,7 @@ write_part-requires c =
 
 pub loop-part-init : goal.loop-part-init
 loop-part-init c = record {
-  front = front_starts element_strings IsPartsBlock (map (type_part_of (λ r. r)) c.args.parts.now) c.args.table.now c.args.code.now.items;
+  front = front_starts element_strings IsPartsBlock (map (type_part_of (λ r. r)) c.args.parts.now) c.args.table.now c.args.code.now;
   grows = no_growth c.args.table.now;
 }
 
@@ -27,9 +27,9 @@ pub loop-part-preserved : goal.loop-part-preserved
 loop-part-preserved c = record {
   front =
       front_grows element_strings IsPartsBlock c.loop-part.part-index (map (type_part_of (λ r. r)) c.args.parts.now) (type_part_of (λ r. r) c.part-item.result)
-      c.args.table.now c.loop-part.table c.write_part.new.table c.args.code.now.items c.loop-part.code.items c.write_part.new.code.items (omega (arith, length-map c.args.parts.now (type_part_of (λ r. r))))
+      c.args.table.now c.loop-part.table c.write_part.new.table c.args.code.now c.loop-part.code c.write_part.new.code (omega (arith, length-map c.args.parts.now (type_part_of (λ r. r))))
       (viewed_at (type_part_of (λ r. r)) c.args.parts.now c.loop-part.part-index c.part-item.result (omega arith) c.part-item.is) c.loop-part.invariant.front
-      (part_step (type_part_of (λ r. r) c.part-item.result) c.loop-part.table c.write_part.new.table c.loop-part.code.items c.write_part.new.code.items c.in_ok-write_part.ensures.ok);
+      (part_step (type_part_of (λ r. r) c.part-item.result) c.loop-part.table c.write_part.new.table c.loop-part.code c.write_part.new.code c.in_ok-write_part.ensures.ok);
   grows = grows_on c.args.table.now c.loop-part.table c.write_part.new.table c.loop-part.invariant.grows c.in_ok-write_part.ensures.grows;
 }
 
@@ -40,12 +40,12 @@ pub returns-in_err-write_part-clause-too_many : goal.returns-in_err-write_part-c
 returns-in_err-write_part-clause-too_many c h =
     let over : Overflows c.loop-part.table (element_strings (type_part_of (λ r. r) c.part-item.result)) = grind (arith, common_steps) in
     subst (λ (ws : List Words). Overflows c.args.table.now ws) (element_strings_are (map (type_part_of (λ r. r)) c.args.parts.now))
-    (front_overflows element_strings IsPartsBlock c.loop-part.part-index (map (type_part_of (λ r. r)) c.args.parts.now) (type_part_of (λ r. r) c.part-item.result) c.args.table.now c.loop-part.table c.args.code.now.items c.loop-part.code.items
+    (front_overflows element_strings IsPartsBlock c.loop-part.part-index (map (type_part_of (λ r. r)) c.args.parts.now) (type_part_of (λ r. r) c.part-item.result) c.args.table.now c.loop-part.table c.args.code.now c.loop-part.code
     (omega (arith, length-map c.args.parts.now (type_part_of (λ r. r)))) (viewed_at (type_part_of (λ r. r)) c.args.parts.now c.loop-part.part-index c.part-item.result (omega arith) c.part-item.is) c.loop-part.invariant.front over)
 
 pub returns-clause-ok : goal.returns-clause-ok
 returns-clause-ok c =
-    subst (λ (ws : List Words). WritesBlock c.args.table.now c.args.code.now.items ws (λ numbered b. IsPartsBlock numbered (map (type_part_of (λ r. r)) c.args.parts.now) b) c.loop-part.table c.loop-part.code.items)
+    subst (λ (ws : List Words). WritesBlock c.args.table.now c.args.code.now ws (λ numbered b. IsPartsBlock numbered (map (type_part_of (λ r. r)) c.args.parts.now) b) c.loop-part.table c.loop-part.code)
     (element_strings_are (map (type_part_of (λ r. r)) c.args.parts.now))
-    (front_ends element_strings IsPartsBlock c.loop-part.part-index (map (type_part_of (λ r. r)) c.args.parts.now) c.args.table.now c.loop-part.table c.args.code.now.items c.loop-part.code.items
+    (front_ends element_strings IsPartsBlock c.loop-part.part-index (map (type_part_of (λ r. r)) c.args.parts.now) c.args.table.now c.loop-part.table c.args.code.now c.loop-part.code
     (omega (arith, length-map c.args.parts.now (type_part_of (λ r. r)))) c.loop-part.invariant.front (λ numbered. refl))

@@ -9,6 +9,6 @@ use Rattle.edd_attrs.proofs.lowering.write_parts.Given as goal
 -- the parts so far are written
 abbrev pub invariant-loop-part : goal.invariant-loop-part
 invariant-loop-part l = record {
-  front : Front element_strings IsPartsBlock l.part-index (map (type_part_of (λ r. r)) l.parts) l.initial.table l.initial.code.items l.table l.code.items;
+  front : Front element_strings IsPartsBlock l.part-index (map (type_part_of (λ r. r)) l.parts) l.initial.table l.initial.code l.table l.code;
   grows : Grows l.initial.table l.table;
 }

@@ -33,8 +33,8 @@ write_cond-requires-in-Expressions c = always (values_in (cond_of (λ r. r) (exp
 pub returns-in-Texts-clause-ok : goal.returns-in-Texts-clause-ok
 unfolding IsTreeBlock
 returns-in-Texts-clause-ok c =
-    subst (λ (t : Tree). OnOk c.write_cond.result (WritesBlock c.args.table.now c.args.code.now.items (tree_strings (tree_of t)) (λ numbered b. IsTreeBlock numbered (tree_of t) b) c.write_cond.new.table c.write_cond.new.code.items)) (sym c.in-Texts.is)
-    (subst (λ (ws : List Words). OnOk c.write_cond.result (WritesBlock c.args.table.now c.args.code.now.items ws (λ numbered b. IsTreeBlock numbered (trees.Texts (cond_of (λ r. r) text_of c.in-Texts.c.now)) b) c.write_cond.new.table c.write_cond.new.code.items))
+    subst (λ (t : Tree). OnOk c.write_cond.result (WritesBlock c.args.table.now c.args.code.now (tree_strings (tree_of t)) (λ numbered b. IsTreeBlock numbered (tree_of t) b) c.write_cond.new.table c.write_cond.new.code)) (sym c.in-Texts.is)
+    (subst (λ (ws : List Words). OnOk c.write_cond.result (WritesBlock c.args.table.now c.args.code.now ws (λ numbered b. IsTreeBlock numbered (trees.Texts (cond_of (λ r. r) text_of c.in-Texts.c.now)) b) c.write_cond.new.table c.write_cond.new.code))
     (of_texts (cond_of (λ r. r) text_of c.in-Texts.c.now)) c.write_cond.ensures.ok)
 
 pub returns-in-Texts-clause-too_many : goal.returns-in-Texts-clause-too_many
@@ -46,8 +46,8 @@ returns-in-Texts-clause-too_many c =
 pub returns-in-Class-clause-ok : goal.returns-in-Class-clause-ok
 unfolding IsTreeBlock
 returns-in-Class-clause-ok c =
-    subst (λ (t : Tree). OnOk c.write_all.result (WritesBlock c.args.table.now c.args.code.now.items (tree_strings (tree_of t)) (λ numbered b. IsTreeBlock numbered (tree_of t) b) c.write_all.new.table c.write_all.new.code.items)) (sym c.in-Class.is)
-    (subst (λ (ws : List Words). OnOk c.write_all.result (WritesBlock c.args.table.now c.args.code.now.items ws (λ numbered b. IsTreeBlock numbered (trees.Class (map string_bytes c.in-Class.names.now)) b) c.write_all.new.table c.write_all.new.code.items))
+    subst (λ (t : Tree). OnOk c.write_all.result (WritesBlock c.args.table.now c.args.code.now (tree_strings (tree_of t)) (λ numbered b. IsTreeBlock numbered (tree_of t) b) c.write_all.new.table c.write_all.new.code)) (sym c.in-Class.is)
+    (subst (λ (ws : List Words). OnOk c.write_all.result (WritesBlock c.args.table.now c.args.code.now ws (λ numbered b. IsTreeBlock numbered (trees.Class (map string_bytes c.in-Class.names.now)) b) c.write_all.new.table c.write_all.new.code))
     (of_class (map string_bytes c.in-Class.names.now)) c.write_all.ensures.ok)
 
 pub returns-in-Class-clause-too_many : goal.returns-in-Class-clause-too_many
@@ -59,8 +59,8 @@ returns-in-Class-clause-too_many c =
 pub returns-in-Handling-clause-ok : goal.returns-in-Handling-clause-ok
 unfolding IsTreeBlock
 returns-in-Handling-clause-ok c =
-    subst (λ (t : Tree). OnOk c.write_cond-in-Handling.result (WritesBlock c.args.table.now c.args.code.now.items (tree_strings (tree_of t)) (λ numbered b. IsTreeBlock numbered (tree_of t) b) c.write_cond-in-Handling.new.table c.write_cond-in-Handling.new.code.items)) (sym c.in-Handling.is)
-    (subst (λ (ws : List Words). OnOk c.write_cond-in-Handling.result (WritesBlock c.args.table.now c.args.code.now.items ws (λ numbered b. IsTreeBlock numbered (trees.Handling (cond_of (λ r. r) (λ h. h) c.in-Handling.c.now)) b) c.write_cond-in-Handling.new.table c.write_cond-in-Handling.new.code.items))
+    subst (λ (t : Tree). OnOk c.write_cond-in-Handling.result (WritesBlock c.args.table.now c.args.code.now (tree_strings (tree_of t)) (λ numbered b. IsTreeBlock numbered (tree_of t) b) c.write_cond-in-Handling.new.table c.write_cond-in-Handling.new.code)) (sym c.in-Handling.is)
+    (subst (λ (ws : List Words). OnOk c.write_cond-in-Handling.result (WritesBlock c.args.table.now c.args.code.now ws (λ numbered b. IsTreeBlock numbered (trees.Handling (cond_of (λ r. r) (λ h. h) c.in-Handling.c.now)) b) c.write_cond-in-Handling.new.table c.write_cond-in-Handling.new.code))
     (of_handling (cond_of (λ r. r) (λ h. h) c.in-Handling.c.now)) c.write_cond-in-Handling.ensures.ok)
 
 pub returns-in-Handling-clause-too_many : goal.returns-in-Handling-clause-too_many
@@ -72,8 +72,8 @@ returns-in-Handling-clause-too_many c =
 pub returns-in-Validity-clause-ok : goal.returns-in-Validity-clause-ok
 unfolding IsTreeBlock
 returns-in-Validity-clause-ok c =
-    subst (λ (t : Tree). OnOk c.write_cond-in-Validity.result (WritesBlock c.args.table.now c.args.code.now.items (tree_strings (tree_of t)) (λ numbered b. IsTreeBlock numbered (tree_of t) b) c.write_cond-in-Validity.new.table c.write_cond-in-Validity.new.code.items)) (sym c.in-Validity.is)
-    (subst (λ (ws : List Words). OnOk c.write_cond-in-Validity.result (WritesBlock c.args.table.now c.args.code.now.items ws (λ numbered b. IsTreeBlock numbered (trees.Validity (cond_of (λ r. r) (λ b. b) c.in-Validity.c.now)) b) c.write_cond-in-Validity.new.table c.write_cond-in-Validity.new.code.items))
+    subst (λ (t : Tree). OnOk c.write_cond-in-Validity.result (WritesBlock c.args.table.now c.args.code.now (tree_strings (tree_of t)) (λ numbered b. IsTreeBlock numbered (tree_of t) b) c.write_cond-in-Validity.new.table c.write_cond-in-Validity.new.code)) (sym c.in-Validity.is)
+    (subst (λ (ws : List Words). OnOk c.write_cond-in-Validity.result (WritesBlock c.args.table.now c.args.code.now ws (λ numbered b. IsTreeBlock numbered (trees.Validity (cond_of (λ r. r) (λ b. b) c.in-Validity.c.now)) b) c.write_cond-in-Validity.new.table c.write_cond-in-Validity.new.code))
     (of_validity (cond_of (λ r. r) (λ b. b) c.in-Validity.c.now)) c.write_cond-in-Validity.ensures.ok)
 
 pub returns-in-Validity-clause-too_many : goal.returns-in-Validity-clause-too_many
@@ -85,8 +85,8 @@ returns-in-Validity-clause-too_many c =
 pub returns-in-Expressions-clause-ok : goal.returns-in-Expressions-clause-ok
 unfolding IsTreeBlock
 returns-in-Expressions-clause-ok c =
-    subst (λ (t : Tree). OnOk c.write_cond-in-Expressions.result (WritesBlock c.args.table.now c.args.code.now.items (tree_strings (tree_of t)) (λ numbered b. IsTreeBlock numbered (tree_of t) b) c.write_cond-in-Expressions.new.table c.write_cond-in-Expressions.new.code.items)) (sym c.in-Expressions.is)
-    (subst (λ (ws : List Words). OnOk c.write_cond-in-Expressions.result (WritesBlock c.args.table.now c.args.code.now.items ws (λ numbered b. IsTreeBlock numbered (trees.Expressions (cond_of (λ r. r) (expr_of (λ r. r)) c.in-Expressions.c.now)) b) c.write_cond-in-Expressions.new.table c.write_cond-in-Expressions.new.code.items))
+    subst (λ (t : Tree). OnOk c.write_cond-in-Expressions.result (WritesBlock c.args.table.now c.args.code.now (tree_strings (tree_of t)) (λ numbered b. IsTreeBlock numbered (tree_of t) b) c.write_cond-in-Expressions.new.table c.write_cond-in-Expressions.new.code)) (sym c.in-Expressions.is)
+    (subst (λ (ws : List Words). OnOk c.write_cond-in-Expressions.result (WritesBlock c.args.table.now c.args.code.now ws (λ numbered b. IsTreeBlock numbered (trees.Expressions (cond_of (λ r. r) (expr_of (λ r. r)) c.in-Expressions.c.now)) b) c.write_cond-in-Expressions.new.table c.write_cond-in-Expressions.new.code))
     (of_expressions (cond_of (λ r. r) (expr_of (λ r. r)) c.in-Expressions.c.now)) c.write_cond-in-Expressions.ensures.ok)
 
 pub returns-in-Expressions-clause-too_many : goal.returns-in-Expressions-clause-too_many
@@ -98,8 +98,8 @@ returns-in-Expressions-clause-too_many c =
 pub returns-in-Enumerators-clause-ok : goal.returns-in-Enumerators-clause-ok
 unfolding IsTreeBlock
 returns-in-Enumerators-clause-ok c =
-    subst (λ (t : Tree). OnOk c.write_parts.result (WritesBlock c.args.table.now c.args.code.now.items (tree_strings (tree_of t)) (λ numbered b. IsTreeBlock numbered (tree_of t) b) c.write_parts.new.table c.write_parts.new.code.items)) (sym c.in-Enumerators.is)
-    (subst (λ (ws : List Words). OnOk c.write_parts.result (WritesBlock c.args.table.now c.args.code.now.items ws (λ numbered b. IsTreeBlock numbered (trees.Enumerators (map (type_part_of (λ r. r)) c.in-Enumerators.parts.now)) b) c.write_parts.new.table c.write_parts.new.code.items))
+    subst (λ (t : Tree). OnOk c.write_parts.result (WritesBlock c.args.table.now c.args.code.now (tree_strings (tree_of t)) (λ numbered b. IsTreeBlock numbered (tree_of t) b) c.write_parts.new.table c.write_parts.new.code)) (sym c.in-Enumerators.is)
+    (subst (λ (ws : List Words). OnOk c.write_parts.result (WritesBlock c.args.table.now c.args.code.now ws (λ numbered b. IsTreeBlock numbered (trees.Enumerators (map (type_part_of (λ r. r)) c.in-Enumerators.parts.now)) b) c.write_parts.new.table c.write_parts.new.code))
     (of_enumerators (map (type_part_of (λ r. r)) c.in-Enumerators.parts.now)) c.write_parts.ensures.ok)
 
 pub returns-in-Enumerators-clause-too_many : goal.returns-in-Enumerators-clause-too_many
@@ -111,8 +111,8 @@ returns-in-Enumerators-clause-too_many c =
 pub returns-in-Data-clause-ok : goal.returns-in-Data-clause-ok
 unfolding IsTreeBlock
 returns-in-Data-clause-ok c =
-    subst (λ (t : Tree). OnOk c.write_conds.result (WritesBlock c.args.table.now c.args.code.now.items (tree_strings (tree_of t)) (λ numbered b. IsTreeBlock numbered (tree_of t) b) c.write_conds.new.table c.write_conds.new.code.items)) (sym c.in-Data.is)
-    (subst (λ (ws : List Words). OnOk c.write_conds.result (WritesBlock c.args.table.now c.args.code.now.items ws (λ numbered b. IsTreeBlock numbered (trees.Data (conds_of (λ r. r) (data_item_of (λ r. r)) c.in-Data.all.now)) b) c.write_conds.new.table c.write_conds.new.code.items))
+    subst (λ (t : Tree). OnOk c.write_conds.result (WritesBlock c.args.table.now c.args.code.now (tree_strings (tree_of t)) (λ numbered b. IsTreeBlock numbered (tree_of t) b) c.write_conds.new.table c.write_conds.new.code)) (sym c.in-Data.is)
+    (subst (λ (ws : List Words). OnOk c.write_conds.result (WritesBlock c.args.table.now c.args.code.now ws (λ numbered b. IsTreeBlock numbered (trees.Data (conds_of (λ r. r) (data_item_of (λ r. r)) c.in-Data.all.now)) b) c.write_conds.new.table c.write_conds.new.code))
     (of_data_items (conds_of (λ r. r) (data_item_of (λ r. r)) c.in-Data.all.now)) c.write_conds.ensures.ok)
 
 pub returns-in-Data-clause-too_many : goal.returns-in-Data-clause-too_many
@@ -124,8 +124,8 @@ returns-in-Data-clause-too_many c =
 pub returns-in-ResponseCodes-clause-ok : goal.returns-in-ResponseCodes-clause-ok
 unfolding IsTreeBlock
 returns-in-ResponseCodes-clause-ok c =
-    subst (λ (t : Tree). OnOk c.write_all-in-ResponseCodes.result (WritesBlock c.args.table.now c.args.code.now.items (tree_strings (tree_of t)) (λ numbered b. IsTreeBlock numbered (tree_of t) b) c.write_all-in-ResponseCodes.new.table c.write_all-in-ResponseCodes.new.code.items)) (sym c.in-ResponseCodes.is)
-    (subst (λ (ws : List Words). OnOk c.write_all-in-ResponseCodes.result (WritesBlock c.args.table.now c.args.code.now.items ws (λ numbered b. IsTreeBlock numbered (trees.ResponseCodes (map response_code_of c.in-ResponseCodes.codes.now)) b) c.write_all-in-ResponseCodes.new.table c.write_all-in-ResponseCodes.new.code.items))
+    subst (λ (t : Tree). OnOk c.write_all-in-ResponseCodes.result (WritesBlock c.args.table.now c.args.code.now (tree_strings (tree_of t)) (λ numbered b. IsTreeBlock numbered (tree_of t) b) c.write_all-in-ResponseCodes.new.table c.write_all-in-ResponseCodes.new.code)) (sym c.in-ResponseCodes.is)
+    (subst (λ (ws : List Words). OnOk c.write_all-in-ResponseCodes.result (WritesBlock c.args.table.now c.args.code.now ws (λ numbered b. IsTreeBlock numbered (trees.ResponseCodes (map response_code_of c.in-ResponseCodes.codes.now)) b) c.write_all-in-ResponseCodes.new.table c.write_all-in-ResponseCodes.new.code))
     (of_responses (map response_code_of c.in-ResponseCodes.codes.now)) c.write_all-in-ResponseCodes.ensures.ok)
 
 pub returns-in-ResponseCodes-clause-too_many : goal.returns-in-ResponseCodes-clause-too_many
@@ -137,8 +137,8 @@ returns-in-ResponseCodes-clause-too_many c =
 pub returns-in-Items-clause-ok : goal.returns-in-Items-clause-ok
 unfolding IsTreeBlock
 returns-in-Items-clause-ok c =
-    subst (λ (t : Tree). OnOk c.write_conds-in-Items.result (WritesBlock c.args.table.now c.args.code.now.items (tree_strings (tree_of t)) (λ numbered b. IsTreeBlock numbered (tree_of t) b) c.write_conds-in-Items.new.table c.write_conds-in-Items.new.code.items)) (sym c.in-Items.is)
-    (subst (λ (ws : List Words). OnOk c.write_conds-in-Items.result (WritesBlock c.args.table.now c.args.code.now.items ws (λ numbered b. IsTreeBlock numbered (trees.Items (conds_of (λ r. r) (entry_of (λ r. r)) c.in-Items.entries.now)) b) c.write_conds-in-Items.new.table c.write_conds-in-Items.new.code.items))
+    subst (λ (t : Tree). OnOk c.write_conds-in-Items.result (WritesBlock c.args.table.now c.args.code.now (tree_strings (tree_of t)) (λ numbered b. IsTreeBlock numbered (tree_of t) b) c.write_conds-in-Items.new.table c.write_conds-in-Items.new.code)) (sym c.in-Items.is)
+    (subst (λ (ws : List Words). OnOk c.write_conds-in-Items.result (WritesBlock c.args.table.now c.args.code.now ws (λ numbered b. IsTreeBlock numbered (trees.Items (conds_of (λ r. r) (entry_of (λ r. r)) c.in-Items.entries.now)) b) c.write_conds-in-Items.new.table c.write_conds-in-Items.new.code))
     (of_items (conds_of (λ r. r) (entry_of (λ r. r)) c.in-Items.entries.now)) c.write_conds-in-Items.ensures.ok)
 
 pub returns-in-Items-clause-too_many : goal.returns-in-Items-clause-too_many
@@ -150,8 +150,8 @@ returns-in-Items-clause-too_many c =
 pub returns-in-Members-clause-ok : goal.returns-in-Members-clause-ok
 unfolding IsTreeBlock
 returns-in-Members-clause-ok c =
-    subst (λ (t : Tree). OnOk c.write_all-in-Members.result (WritesBlock c.args.table.now c.args.code.now.items (tree_strings (tree_of t)) (λ numbered b. IsTreeBlock numbered (tree_of t) b) c.write_all-in-Members.new.table c.write_all-in-Members.new.code.items)) (sym c.in-Members.is)
-    (subst (λ (ws : List Words). OnOk c.write_all-in-Members.result (WritesBlock c.args.table.now c.args.code.now.items ws (λ numbered b. IsTreeBlock numbered (trees.Members (map (member_of (λ r. r)) c.in-Members.members.now)) b) c.write_all-in-Members.new.table c.write_all-in-Members.new.code.items))
+    subst (λ (t : Tree). OnOk c.write_all-in-Members.result (WritesBlock c.args.table.now c.args.code.now (tree_strings (tree_of t)) (λ numbered b. IsTreeBlock numbered (tree_of t) b) c.write_all-in-Members.new.table c.write_all-in-Members.new.code)) (sym c.in-Members.is)
+    (subst (λ (ws : List Words). OnOk c.write_all-in-Members.result (WritesBlock c.args.table.now c.args.code.now ws (λ numbered b. IsTreeBlock numbered (trees.Members (map (member_of (λ r. r)) c.in-Members.members.now)) b) c.write_all-in-Members.new.table c.write_all-in-Members.new.code))
     (of_members (map (member_of (λ r. r)) c.in-Members.members.now)) c.write_all-in-Members.ensures.ok)
 
 pub returns-in-Members-clause-too_many : goal.returns-in-Members-clause-too_many
@@ -163,17 +163,17 @@ returns-in-Members-clause-too_many c =
 pub returns-in_ok-write_number-in-Number-clause-ok : goal.returns-in_ok-write_number-in-Number-clause-ok
 unfolding IsTreeBlock tree_strings
 returns-in_ok-write_number-in-Number-clause-ok c =
-    subst (λ (t : Tree). WritesBlock c.args.table.now c.args.code.now.items (tree_strings (tree_of t)) (λ numbered b. IsTreeBlock numbered (tree_of t) b) c.args.table.now c.write_number.new.code.items) (sym (c.in-Number.is))
+    subst (λ (t : Tree). WritesBlock c.args.table.now c.args.code.now (tree_strings (tree_of t)) (λ numbered b. IsTreeBlock numbered (tree_of t) b) c.args.table.now c.write_number.new.code) (sym (c.in-Number.is))
     (c.in_ok-write_number-in-Number.ensures c.args.table.now)
 
 pub returns-in_ok-write_number-in-Operation-clause-ok : goal.returns-in_ok-write_number-in-Operation-clause-ok
 unfolding IsTreeBlock tree_strings
 returns-in_ok-write_number-in-Operation-clause-ok c =
-    subst (λ (t : Tree). WritesBlock c.args.table.now c.args.code.now.items (tree_strings (tree_of t)) (λ numbered b. IsTreeBlock numbered (tree_of t) b) c.args.table.now c.write_number-in-Operation.new.code.items) (sym (c.in-Operation.is))
-    (subst (λ n. WritesRecord c.args.table.now c.args.code.now.items (source.Number (pos n)) c.args.table.now c.write_number-in-Operation.new.code.items) c.operation_number.ensures (c.in_ok-write_number-in-Operation.ensures c.args.table.now))
+    subst (λ (t : Tree). WritesBlock c.args.table.now c.args.code.now (tree_strings (tree_of t)) (λ numbered b. IsTreeBlock numbered (tree_of t) b) c.args.table.now c.write_number-in-Operation.new.code) (sym (c.in-Operation.is))
+    (subst (λ n. WritesRecord c.args.table.now c.args.code.now (source.Number (pos n)) c.args.table.now c.write_number-in-Operation.new.code) c.operation_number.ensures (c.in_ok-write_number-in-Operation.ensures c.args.table.now))
 
 pub returns-in_ok-write_optional_number-in-Transaction-clause-ok : goal.returns-in_ok-write_optional_number-in-Transaction-clause-ok
 unfolding IsTreeBlock tree_strings
 returns-in_ok-write_optional_number-in-Transaction-clause-ok c =
-    subst (λ (t : Tree). WritesBlock c.args.table.now c.args.code.now.items (tree_strings (tree_of t)) (λ numbered b. IsTreeBlock numbered (tree_of t) b) c.args.table.now c.write_optional_number.new.code.items) (sym c.in-Transaction.is)
+    subst (λ (t : Tree). WritesBlock c.args.table.now c.args.code.now (tree_strings (tree_of t)) (λ numbered b. IsTreeBlock numbered (tree_of t) b) c.args.table.now c.write_optional_number.new.code) (sym c.in-Transaction.is)
     (c.in_ok-write_optional_number-in-Transaction.ensures c.args.table.now)

@@ -9,8 +9,8 @@ use Rattle.edd_syntax.specs.ItemView.{cond_of, arm_of}
 use Rattle.edd_syntax.specs.NameUses.{conds_uses, arms_uses}
 use Rattle.edd_syntax.specs.ResolvedTrees.{at_attribute, resolved_cond, resolved_conds, resolved_arms}
 use Rattle.edd_syntax.specs.TreeView.{path_of}
-use Rattle.edd_names.specs.Directory.{unit_of}
-use Rattle.edd_names.specs.Meanings.{Means, NoFault, FirstFault}
+use Rattle.edd_name_meanings.specs.Directory.{unit_of}
+use Rattle.edd_name_meanings.specs.Meanings.{Means, NoFault, FirstFault}
 use Rattle.edd_names.specs.ResolvedParts.{resolved_arm}
 use Rattle.edd_names.proofs.BranchSteps.{conds_split, arms_split, conds_joined, arms_joined, no_conds, no_arms, one_cond, value_none, value_fault, value_means, if_none, if_fault, if_fault_first, if_fault_otherwise, if_means, select_none, select_fault, select_fault_arms, select_means, case_none, case_fault, case_means, default_none, default_fault, default_means}
 use Rattle.edd_name_rules.proofs.CondSpends.{cond_depth, arm_depth, conds_depth, arms_depth, first_falls, otherwise_falls, arms_fall, case_falls, default_falls, element_falls, arm_falls}
@@ -19,22 +19,21 @@ use Rattle.edd_name_rules.proofs.Passing.{passed}
 use Rattle.edd_names.proofs.UseLaws.{no_use}
 use Rattle.edd_names.proofs.branches.+branches.Goals as goal
 
-pub copy_cond-returns-in_err-copy-in-Value-clause-err : goal.copy_cond-returns-in_err-copy-in-Value-clause-err
-copy_cond-returns-in_err-copy-in-Value-clause-err g t c =
-    passed c.from_residual.result c.in_err-copy-in-Value.field-0.0 _ c.from_residual.ensures.1
-    (value_fault (unit_of c.args.names.now) g.V.Named.before g.V.Named.after g.V.Named.uses g.V.Named.meant c.args.c.now _ c.in-Value.is c.in_err-copy-in-Value.field-0.0 c.in_err-copy-in-Value.ensures.err)
+pub copy_cond-returns-in-Err-clause-err : goal.copy_cond-returns-in-Err-clause-err
+copy_cond-returns-in-Err-clause-err g t c =
+    value_fault (unit_of c.args.names.now) g.V.Named.before g.V.Named.after g.V.Named.uses g.V.Named.meant c.args.c.now _ c.in-Value.is c.in-Err.fault c.in-Err.ensures.err
 
-pub copy_cond-returns-in_ok-copy-in-Value-clause-none : goal.copy_cond-returns-in_ok-copy-in-Value-clause-none
-copy_cond-returns-in_ok-copy-in-Value-clause-none g t c =
-    value_none (unit_of c.args.names.now) g.V.Named.before g.V.Named.after g.V.Named.uses g.V.Named.meant c.args.c.now _ c.in-Value.is c.in_ok-copy-in-Value.ensures.none
+pub copy_cond-returns-in-Ok-clause-none : goal.copy_cond-returns-in-Ok-clause-none
+copy_cond-returns-in-Ok-clause-none g t c =
+    value_none (unit_of c.args.names.now) g.V.Named.before g.V.Named.after g.V.Named.uses g.V.Named.meant c.args.c.now _ c.in-Value.is c.in-Ok.ensures.none
 
-pub copy_cond-returns-in_ok-copy-in-Value-clause-ok : goal.copy_cond-returns-in_ok-copy-in-Value-clause-ok
-copy_cond-returns-in_ok-copy-in-Value-clause-ok g t c =
-    value_means (unit_of c.args.names.now) g.V.Named.before g.V.Named.after g.V.Named.uses g.V.Named.meant c.args.c.now _ c.in-Value.is c.in_ok-copy-in-Value.field-0 c.in_ok-copy-in-Value.ensures.ok
+pub copy_cond-returns-in-Ok-clause-ok : goal.copy_cond-returns-in-Ok-clause-ok
+copy_cond-returns-in-Ok-clause-ok g t c =
+    value_means (unit_of c.args.names.now) g.V.Named.before g.V.Named.after g.V.Named.uses g.V.Named.meant c.args.c.now _ c.in-Value.is c.in-Ok.v c.in-Ok.ensures.ok
 
 pub copy_cond-returns-in_err-condition-in-If-clause-err : goal.copy_cond-returns-in_err-condition-in-If-clause-err
 copy_cond-returns-in_err-condition-in-If-clause-err g t c =
-    passed c.from_residual-in_err-condition-in-If.result c.in_err-condition-in-If.field-0.0 _ c.from_residual-in_err-condition-in-If.ensures.1
+    passed c.from_residual.result c.in_err-condition-in-If.field-0.0 _ c.from_residual.ensures.1
     (if_fault (unit_of c.args.names.now) g.V.Named.before g.V.Named.after g.V.Named.uses g.V.Named.meant c.args.c.now _ _ _ c.in-If.is c.in_err-condition-in-If.field-0.0 c.in_err-condition-in-If.ensures.err)
 
 pub copy_cond-returns-in_err-first-in-If-clause-err : goal.copy_cond-returns-in_err-first-in-If-clause-err
@@ -42,65 +41,61 @@ copy_cond-returns-in_err-first-in-If-clause-err g t c =
     passed c.from_residual-in_err-first-in-If.result c.in_err-first-in-If.field-0.0 _ c.from_residual-in_err-first-in-If.ensures.1
     (if_fault_first (unit_of c.args.names.now) g.V.Named.before g.V.Named.after g.V.Named.uses g.V.Named.meant c.args.c.now _ _ _ c.in-If.is c.in_err-first-in-If.field-0.0 c.deref.result.now c.deref.ensures.value c.in_ok-condition-in-If.ensures.none c.in_err-first-in-If.ensures.err)
 
-pub copy_cond-returns-in_err-otherwise-in-If-clause-err : goal.copy_cond-returns-in_err-otherwise-in-If-clause-err
-copy_cond-returns-in_err-otherwise-in-If-clause-err g t c =
-    passed c.from_residual-in_err-otherwise-in-If.result c.in_err-otherwise-in-If.field-0.0 _ c.from_residual-in_err-otherwise-in-If.ensures.1
-    (if_fault_otherwise (unit_of c.args.names.now) g.V.Named.before g.V.Named.after g.V.Named.uses g.V.Named.meant c.args.c.now _ _ _ c.in-If.is c.in_err-otherwise-in-If.field-0.0 c.deref.result.now c.deref-in-If.result.now c.deref.ensures.value c.deref-in-If.ensures.value c.in_ok-condition-in-If.ensures.none c.in_ok-first-in-If.ensures.none c.in_err-otherwise-in-If.ensures.err)
+pub copy_cond-returns-in-Err-copy_conds-clause-err : goal.copy_cond-returns-in-Err-copy_conds-clause-err
+copy_cond-returns-in-Err-copy_conds-clause-err g t c =
+    if_fault_otherwise (unit_of c.args.names.now) g.V.Named.before g.V.Named.after g.V.Named.uses g.V.Named.meant c.args.c.now _ _ _ c.in-If.is c.in-Err-copy_conds.fault c.deref.result.now c.deref-in-If.result.now c.deref.ensures.value c.deref-in-If.ensures.value c.in_ok-condition-in-If.ensures.none c.in_ok-first-in-If.ensures.none c.in-Err-copy_conds.ensures.err
 
-pub copy_cond-returns-in_ok-otherwise-in-If-clause-none : goal.copy_cond-returns-in_ok-otherwise-in-If-clause-none
-copy_cond-returns-in_ok-otherwise-in-If-clause-none g t c =
-    if_none (unit_of c.args.names.now) g.V.Named.before g.V.Named.after g.V.Named.uses g.V.Named.meant c.args.c.now _ _ _ c.deref.result.now c.deref-in-If.result.now c.in-If.is c.deref.ensures.value c.deref-in-If.ensures.value c.in_ok-condition-in-If.ensures.none c.in_ok-first-in-If.ensures.none c.in_ok-otherwise-in-If.ensures.none
+pub copy_cond-returns-in-Ok-copy_conds-clause-none : goal.copy_cond-returns-in-Ok-copy_conds-clause-none
+copy_cond-returns-in-Ok-copy_conds-clause-none g t c =
+    if_none (unit_of c.args.names.now) g.V.Named.before g.V.Named.after g.V.Named.uses g.V.Named.meant c.args.c.now _ _ _ c.deref.result.now c.deref-in-If.result.now c.in-If.is c.deref.ensures.value c.deref-in-If.ensures.value c.in_ok-condition-in-If.ensures.none c.in_ok-first-in-If.ensures.none c.in-Ok-copy_conds.ensures.none
 
-pub copy_cond-returns-in_ok-otherwise-in-If-clause-ok : goal.copy_cond-returns-in_ok-otherwise-in-If-clause-ok
-copy_cond-returns-in_ok-otherwise-in-If-clause-ok g t c =
-    if_means (unit_of c.args.names.now) g.V.Named.before g.V.Named.after g.V.Named.uses g.V.Named.meant c.args.c.now _ _ _ c.deref.result.now c.deref-in-If.result.now c.in-If.is c.deref.ensures.value c.deref-in-If.ensures.value c.in_ok-condition-in-If.condition c.in_ok-first-in-If.first c.in_ok-otherwise-in-If.otherwise c.in_ok-condition-in-If.ensures.ok c.in_ok-first-in-If.ensures.ok c.in_ok-otherwise-in-If.ensures.ok
+pub copy_cond-returns-in-Ok-copy_conds-clause-ok : goal.copy_cond-returns-in-Ok-copy_conds-clause-ok
+copy_cond-returns-in-Ok-copy_conds-clause-ok g t c =
+    if_means (unit_of c.args.names.now) g.V.Named.before g.V.Named.after g.V.Named.uses g.V.Named.meant c.args.c.now _ _ _ c.deref.result.now c.deref-in-If.result.now c.in-If.is c.deref.ensures.value c.deref-in-If.ensures.value c.in_ok-condition-in-If.condition c.in_ok-first-in-If.first c.in-Ok-copy_conds.otherwise c.in_ok-condition-in-If.ensures.ok c.in_ok-first-in-If.ensures.ok c.in-Ok-copy_conds.ensures.ok
 
 pub copy_cond-returns-in_err-on-in-Select-clause-err : goal.copy_cond-returns-in_err-on-in-Select-clause-err
 copy_cond-returns-in_err-on-in-Select-clause-err g t c =
     passed c.from_residual-in_err-on-in-Select.result c.in_err-on-in-Select.field-0.0 _ c.from_residual-in_err-on-in-Select.ensures.1
     (select_fault (unit_of c.args.names.now) g.V.Named.before g.V.Named.after g.V.Named.uses g.V.Named.meant c.args.c.now _ _ _ c.in-Select.is refl c.in_err-on-in-Select.field-0.0 c.in_err-on-in-Select.ensures.err)
 
-pub copy_cond-returns-in_err-arms-in-Select-clause-err : goal.copy_cond-returns-in_err-arms-in-Select-clause-err
-copy_cond-returns-in_err-arms-in-Select-clause-err g t c =
-    passed c.from_residual-in_err-arms-in-Select.result c.in_err-arms-in-Select.field-0.0 _ c.from_residual-in_err-arms-in-Select.ensures.1
-    (select_fault_arms (unit_of c.args.names.now) g.V.Named.before g.V.Named.after g.V.Named.uses g.V.Named.meant c.args.c.now _ _ c.deref-in-Select.result.now c.in-Select.is c.deref-in-Select.ensures.value c.in_err-arms-in-Select.field-0.0 c.in_ok-on-in-Select.ensures.none c.in_err-arms-in-Select.ensures.err)
+pub copy_cond-returns-in-Err-copy_arms-clause-err : goal.copy_cond-returns-in-Err-copy_arms-clause-err
+copy_cond-returns-in-Err-copy_arms-clause-err g t c =
+    select_fault_arms (unit_of c.args.names.now) g.V.Named.before g.V.Named.after g.V.Named.uses g.V.Named.meant c.args.c.now _ _ c.deref-in-Select.result.now c.in-Select.is c.deref-in-Select.ensures.value c.in-Err-copy_arms.fault c.in_ok-on-in-Select.ensures.none c.in-Err-copy_arms.ensures.err
 
-pub copy_cond-returns-in_ok-arms-in-Select-clause-none : goal.copy_cond-returns-in_ok-arms-in-Select-clause-none
-copy_cond-returns-in_ok-arms-in-Select-clause-none g t c =
-    select_none (unit_of c.args.names.now) g.V.Named.before g.V.Named.after g.V.Named.uses g.V.Named.meant c.args.c.now _ _ c.deref-in-Select.result.now c.in-Select.is c.deref-in-Select.ensures.value c.in_ok-on-in-Select.ensures.none c.in_ok-arms-in-Select.ensures.none
+pub copy_cond-returns-in-Ok-copy_arms-clause-none : goal.copy_cond-returns-in-Ok-copy_arms-clause-none
+copy_cond-returns-in-Ok-copy_arms-clause-none g t c =
+    select_none (unit_of c.args.names.now) g.V.Named.before g.V.Named.after g.V.Named.uses g.V.Named.meant c.args.c.now _ _ c.deref-in-Select.result.now c.in-Select.is c.deref-in-Select.ensures.value c.in_ok-on-in-Select.ensures.none c.in-Ok-copy_arms.ensures.none
 
-pub copy_cond-returns-in_ok-arms-in-Select-clause-ok : goal.copy_cond-returns-in_ok-arms-in-Select-clause-ok
-copy_cond-returns-in_ok-arms-in-Select-clause-ok g t c =
-    select_means (unit_of c.args.names.now) g.V.Named.before g.V.Named.after g.V.Named.uses g.V.Named.meant c.args.c.now _ _ c.deref-in-Select.result.now c.in-Select.is c.deref-in-Select.ensures.value c.in_ok-on-in-Select.on c.in_ok-arms-in-Select.arms c.in_ok-on-in-Select.ensures.ok c.in_ok-arms-in-Select.ensures.ok
+pub copy_cond-returns-in-Ok-copy_arms-clause-ok : goal.copy_cond-returns-in-Ok-copy_arms-clause-ok
+copy_cond-returns-in-Ok-copy_arms-clause-ok g t c =
+    select_means (unit_of c.args.names.now) g.V.Named.before g.V.Named.after g.V.Named.uses g.V.Named.meant c.args.c.now _ _ c.deref-in-Select.result.now c.in-Select.is c.deref-in-Select.ensures.value c.in_ok-on-in-Select.on c.in-Ok-copy_arms.arms c.in_ok-on-in-Select.ensures.ok c.in-Ok-copy_arms.ensures.ok
 
-pub copy_arm-returns-in_err-body-in-Case-clause-err : goal.copy_arm-returns-in_err-body-in-Case-clause-err
-copy_arm-returns-in_err-body-in-Case-clause-err g t c =
-    passed c.from_residual.result c.in_err-body-in-Case.field-0.0 _ c.from_residual.ensures.1
-    (case_fault (unit_of c.args.names.now) g.V.Named.before g.V.Named.after g.V.Named.uses g.V.Named.meant c.args.arm.now c.deref.result.now _ _ c.in-Case.is c.deref.ensures.value c.in_err-body-in-Case.field-0.0 c.in_err-body-in-Case.ensures.err)
+pub copy_arm-returns-in-Err-clause-err : goal.copy_arm-returns-in-Err-clause-err
+copy_arm-returns-in-Err-clause-err g t c =
+    case_fault (unit_of c.args.names.now) g.V.Named.before g.V.Named.after g.V.Named.uses g.V.Named.meant c.args.arm.now c.deref.result.now _ _ c.in-Case.is c.deref.ensures.value c.in-Err.fault c.in-Err.ensures.err
 
-pub copy_arm-returns-in_ok-body-in-Case-clause-none : goal.copy_arm-returns-in_ok-body-in-Case-clause-none
-copy_arm-returns-in_ok-body-in-Case-clause-none g t c =
-    case_none (unit_of c.args.names.now) g.V.Named.before g.V.Named.after g.V.Named.uses g.V.Named.meant c.args.arm.now c.deref.result.now _ _ c.in-Case.is c.deref.ensures.value c.in_ok-body-in-Case.ensures.none
+pub copy_arm-returns-in-Ok-clause-none : goal.copy_arm-returns-in-Ok-clause-none
+copy_arm-returns-in-Ok-clause-none g t c =
+    case_none (unit_of c.args.names.now) g.V.Named.before g.V.Named.after g.V.Named.uses g.V.Named.meant c.args.arm.now c.deref.result.now _ _ c.in-Case.is c.deref.ensures.value c.in-Ok.ensures.none
 
-pub copy_arm-returns-in_ok-body-in-Case-clause-ok : goal.copy_arm-returns-in_ok-body-in-Case-clause-ok
-copy_arm-returns-in_ok-body-in-Case-clause-ok g t c =
+pub copy_arm-returns-in-Ok-clause-ok : goal.copy_arm-returns-in-Ok-clause-ok
+copy_arm-returns-in-Ok-clause-ok g t c =
     let f : SFits w64 c.in-Case.label = search rules in
-    subst (λ z. Means (unit_of c.args.names.now) (resolved_arm (at_attribute (unit_of c.args.names.now)) (g.V.Named.meant (unit_of c.args.names.now)) (arm_of path_of g.V.Named.before c.args.arm.now)) (arm_of (λ r. r) g.V.Named.after (Case z c.in_ok-body-in-Case.body)))
+    subst (λ z. Means (unit_of c.args.names.now) (resolved_arm (at_attribute (unit_of c.args.names.now)) (g.V.Named.meant (unit_of c.args.names.now)) (arm_of path_of g.V.Named.before c.args.arm.now)) (arm_of (λ r. r) g.V.Named.after (Case z c.in-Ok.body)))
     (sym (to_z-of_z w64 c.in-Case.label f))
-    (case_means (unit_of c.args.names.now) g.V.Named.before g.V.Named.after g.V.Named.uses g.V.Named.meant c.args.arm.now c.deref.result.now _ _ c.in-Case.is c.deref.ensures.value c.in_ok-body-in-Case.body c.in_ok-body-in-Case.ensures.ok)
+    (case_means (unit_of c.args.names.now) g.V.Named.before g.V.Named.after g.V.Named.uses g.V.Named.meant c.args.arm.now c.deref.result.now _ _ c.in-Case.is c.deref.ensures.value c.in-Ok.body c.in-Ok.ensures.ok)
 
-pub copy_arm-returns-in_err-body-in-Default-clause-err : goal.copy_arm-returns-in_err-body-in-Default-clause-err
-copy_arm-returns-in_err-body-in-Default-clause-err g t c =
-    passed c.from_residual-in_err-body-in-Default.result c.in_err-body-in-Default.field-0.0 _ c.from_residual-in_err-body-in-Default.ensures.1
-    (default_fault (unit_of c.args.names.now) g.V.Named.before g.V.Named.after g.V.Named.uses g.V.Named.meant c.args.arm.now c.deref-in-Default.result.now _ _ c.in-Default.is c.deref-in-Default.ensures.value c.in_err-body-in-Default.field-0.0 c.in_err-body-in-Default.ensures.err)
+pub copy_arm-returns-in-Err-copy_conds-clause-err : goal.copy_arm-returns-in-Err-copy_conds-clause-err
+copy_arm-returns-in-Err-copy_conds-clause-err g t c =
+    default_fault (unit_of c.args.names.now) g.V.Named.before g.V.Named.after g.V.Named.uses g.V.Named.meant c.args.arm.now c.deref-in-Default.result.now _ _ c.in-Default.is c.deref-in-Default.ensures.value c.in-Err-copy_conds.fault c.in-Err-copy_conds.ensures.err
 
-pub copy_arm-returns-in_ok-body-in-Default-clause-none : goal.copy_arm-returns-in_ok-body-in-Default-clause-none
-copy_arm-returns-in_ok-body-in-Default-clause-none g t c =
-    default_none (unit_of c.args.names.now) g.V.Named.before g.V.Named.after g.V.Named.uses g.V.Named.meant c.args.arm.now c.deref-in-Default.result.now _ _ c.in-Default.is c.deref-in-Default.ensures.value c.in_ok-body-in-Default.ensures.none
+pub copy_arm-returns-in-Ok-copy_conds-clause-none : goal.copy_arm-returns-in-Ok-copy_conds-clause-none
+copy_arm-returns-in-Ok-copy_conds-clause-none g t c =
+    default_none (unit_of c.args.names.now) g.V.Named.before g.V.Named.after g.V.Named.uses g.V.Named.meant c.args.arm.now c.deref-in-Default.result.now _ _ c.in-Default.is c.deref-in-Default.ensures.value c.in-Ok-copy_conds.ensures.none
 
-pub copy_arm-returns-in_ok-body-in-Default-clause-ok : goal.copy_arm-returns-in_ok-body-in-Default-clause-ok
-copy_arm-returns-in_ok-body-in-Default-clause-ok g t c =
-    default_means (unit_of c.args.names.now) g.V.Named.before g.V.Named.after g.V.Named.uses g.V.Named.meant c.args.arm.now c.deref-in-Default.result.now _ _ c.in-Default.is c.deref-in-Default.ensures.value c.in_ok-body-in-Default.body c.in_ok-body-in-Default.ensures.ok
+pub copy_arm-returns-in-Ok-copy_conds-clause-ok : goal.copy_arm-returns-in-Ok-copy_conds-clause-ok
+copy_arm-returns-in-Ok-copy_conds-clause-ok g t c =
+    default_means (unit_of c.args.names.now) g.V.Named.before g.V.Named.after g.V.Named.uses g.V.Named.meant c.args.arm.now c.deref-in-Default.result.now _ _ c.in-Default.is c.deref-in-Default.ensures.value c.in-Ok-copy_conds.body c.in-Ok-copy_conds.ensures.ok
 
 pub add_conds-loop-c-init : goal.add_conds-loop-c-init
 add_conds-loop-c-init g t c =

@@ -5,7 +5,7 @@ use Rattle.edd_syntax.specs.Size.{cond_nodes, conds_nodes, arms_nodes, leaf}
 use Rattle.edd_syntax.specs.TreeView.{path_of}
 use Rattle.edd_syntax.specs.NameUses.{conds_uses, arms_uses}
 use Rattle.edd_syntax.specs.ResolvedTrees.{at_attribute, resolved_cond, resolved_conds, resolved_arms}
-use Rattle.edd_names.specs.Directory.{unit_of}
+use Rattle.edd_name_meanings.specs.Directory.{unit_of}
 use Rattle.edd_names.specs.ResolvedParts.{resolved_arm}
 use Rattle.edd_names.proofs.BranchSteps.{conds_split, arms_split, conds_joined, arms_joined}
 use Rattle.edd_names.proofs.Copying.{Copied}

@@ -3,8 +3,8 @@ use Rattle.std.proofs.Math.ListN.{drop_of_length-le}
 use Rattle.edd_syntax.specs.Resolution.{declared}
 use Rattle.edd_syntax.specs.Resolution.{all_declared}
 use Rattle.edd_syntax.specs.TreeView.{path_of, declarator_of}
-use Rattle.edd_names.specs.Directory.{unit_of}
-use Rattle.edd_names.specs.Meanings.{scope_of}
+use Rattle.edd_name_meanings.specs.Directory.{unit_of}
+use Rattle.edd_name_meanings.specs.Meanings.{scope_of}
 use Rattle.edd_names.proofs.CopyingIn.{at_start, one_more, stops, none_at_end, meant_at_end}
 use Rattle.edd_names.proofs.DeclaratorSteps.{behind, uses_here, uses_from, uses_split, meant_here, meant_from, declarators_joined, declared_more}
 use Rattle.edd_name_rules.proofs.Passing.{passed}

@@ -1,8 +1,8 @@
 use Rattle.std.proofs.Common.{◌≡◌, ◌+◌, map, drop}
 use Rattle.edd_syntax.specs.Resolution.{all_declared}
 use Rattle.edd_syntax.specs.TreeView.{path_of, declarator_of}
-use Rattle.edd_names.specs.Directory.{unit_of}
-use Rattle.edd_names.specs.Meanings.{scope_of}
+use Rattle.edd_name_meanings.specs.Directory.{unit_of}
+use Rattle.edd_name_meanings.specs.Meanings.{scope_of}
 use Rattle.edd_names.proofs.CopyingIn.{Copied}
 use Rattle.edd_names.proofs.DeclaratorSteps.{behind, uses_here, uses_from, uses_split, meant_here, meant_from, declarators_joined}
 use Rattle.edd_names.proofs.declarators.add_declarators.Given as goal

@@ -1,15 +1,15 @@
-use Rattle.std.proofs.Common.{arith}
+use Rattle.std.proofs.Common.{sym, arith}
 use Rattle.std.proofs.Math.ListN.{drop_of_length-le}
 use Rattle.edd_syntax.specs.Expression.{arguments_from}
 use Rattle.edd_syntax.specs.NameUses.{argument_uses}
 use Rattle.edd_syntax.specs.Resolution.{meaning, variable_kinds}
 use Rattle.edd_syntax.specs.ResolvedTrees.{resolved_arguments}
 use Rattle.edd_syntax.specs.TreeView.{path_of, argument_of}
-use Rattle.edd_names.specs.Directory.{unit_of}
-use Rattle.edd_names.specs.Meanings.{scope_of}
+use Rattle.edd_name_meanings.specs.Directory.{unit_of}
+use Rattle.edd_name_meanings.specs.Meanings.{scope_of}
 use Rattle.edd_names.specs.ResolvedParts.{resolved_argument}
 use Rattle.edd_names.proofs.Copying.{at_start, one_more, stops, none_at_end, meant_at_end}
-use Rattle.edd_names.proofs.ExprSteps.{argument_uses_split, arguments_joined, no_arguments, call_none, call_fault, call_means}
+use Rattle.edd_names.proofs.ExprSteps.{argument_uses_split, arguments_joined, no_arguments, call_none, call_fault, call_means, call_falls, argument_falls}
 use Rattle.edd_names.proofs.UseLaws.{no_use}
 use Rattle.edd_name_rules.proofs.Passing.{passed}
 use Rattle.edd_names.proofs.exprs.+exprs.Goals as goal
@@ -47,3 +47,9 @@ copy_expr-returns-in_ok-function-in-Call-clause-none t c =
 pub copy_expr-returns-in_ok-function-in-Call-clause-ok : goal.copy_expr-returns-in_ok-function-in-Call-clause-ok
 copy_expr-returns-in_ok-function-in-Call-clause-ok t c =
     call_means (unit_of c.args.names.now) c.args.e.now _ _ _ c.deref-in-Call.result.now c.in-Call.is c.deref-in-Call.ensures.value (meaning (unit_of c.args.names.now) (scope_of c.args.scope.now) variable_kinds) c.in_ok-function-in-Call.function c.in_ok-function-in-Call.arguments c.in_ok-function-in-Call.ensures.function c.in_ok-function-in-Call.ensures.arguments
+
+pub copy_expr-copy_call-requires : goal.copy_expr-copy_call-requires
+copy_expr-copy_call-requires t c = (call_falls t c.args.e.now _ _ _ c.deref-in-Call.result.now c.in-Call.is c.deref-in-Call.ensures.value (sym c.decreases), tt)
+
+pub add_arguments-add_argument-requires : goal.add_arguments-add_argument-requires
+add_arguments-add_argument-requires t c = (argument_falls t c.loop-argument.argument-index c.args.arguments.now c.argument-item.result (omega arith) c.argument-item.is (sym c.decreases), tt)

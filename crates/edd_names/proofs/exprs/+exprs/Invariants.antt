@@ -1,14 +1,42 @@
+use Rattle.std.proofs.Common.{◌+◌}
 use Rattle.edd_syntax.specs.Expression.{arguments_from}
 use Rattle.edd_syntax.specs.NameUses.{argument_uses}
 use Rattle.edd_syntax.specs.Resolution.{meaning, variable_kinds}
 use Rattle.edd_syntax.specs.ResolvedTrees.{resolved_arguments}
 use Rattle.edd_syntax.specs.TreeView.{path_of, argument_of}
-use Rattle.edd_names.specs.Directory.{unit_of}
-use Rattle.edd_names.specs.Meanings.{scope_of}
+use Rattle.edd_name_meanings.specs.Directory.{unit_of}
+use Rattle.edd_name_meanings.specs.Meanings.{scope_of}
 use Rattle.edd_names.specs.ResolvedParts.{resolved_argument}
 use Rattle.edd_names.proofs.Copying.{Copied}
-use Rattle.edd_names.proofs.ExprSteps.{argument_uses_split, arguments_joined}
+use Rattle.edd_names.proofs.ExprSteps.{argument_uses_split, arguments_joined, expr_depth, argument_depth, arguments_depth}
 use Rattle.edd_names.proofs.exprs.+exprs.Given as goal
+
+abbrev pub decreases-copy_expr : goal.decreases-copy_expr
+decreases-copy_expr l = expr_depth l.e.now
+
+abbrev pub decreases-copy_boxed : goal.decreases-copy_boxed
+decreases-copy_boxed l = expr_depth l.e.now + 1
+
+abbrev pub decreases-copy_pair : goal.decreases-copy_pair
+decreases-copy_pair l = expr_depth l.left.now + expr_depth l.right.now + 2
+
+abbrev pub decreases-copy_assigned : goal.decreases-copy_assigned
+decreases-copy_assigned l = expr_depth l.value.now + 2
+
+abbrev pub decreases-copy_call : goal.decreases-copy_call
+decreases-copy_call l = arguments_depth l.arguments.now + 5
+
+abbrev pub decreases-copy_arguments : goal.decreases-copy_arguments
+decreases-copy_arguments l = arguments_depth l.arguments.now + 4
+
+abbrev pub decreases-add_arguments : goal.decreases-add_arguments
+decreases-add_arguments l = arguments_depth l.arguments.now + 3
+
+abbrev pub decreases-add_argument : goal.decreases-add_argument
+decreases-add_argument l = argument_depth l.argument.now + 2
+
+abbrev pub decreases-copy_argument : goal.decreases-copy_argument
+decreases-copy_argument l = argument_depth l.argument.now + 1
 
 -- the arguments so far are copied
 abbrev pub invariant-add_arguments-loop-argument : goal.invariant-add_arguments-loop-argument

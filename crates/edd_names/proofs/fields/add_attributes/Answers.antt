@@ -5,8 +5,8 @@ use Rattle.edd_syntax.specs.ItemView.{attribute_of, item_of}
 use Rattle.edd_syntax.specs.NameUses.{attribute_uses}
 use Rattle.edd_syntax.specs.ResolvedTrees.{each, resolved_attribute}
 use Rattle.edd_syntax.specs.TreeView.{path_of}
-use Rattle.edd_names.specs.Directory.{unit_of}
-use Rattle.edd_names.specs.Meanings.{NoFault, FirstFault}
+use Rattle.edd_name_meanings.specs.Directory.{unit_of}
+use Rattle.edd_name_meanings.specs.Meanings.{NoFault, FirstFault}
 use Rattle.edd_names.proofs.Copying.{at_start, one_more, stops, none_at_end, meant_at_end}
 use Rattle.edd_names.proofs.ExprSteps.{each_joined}
 use Rattle.edd_name_rules.proofs.FirstLaws.{flat_split, flat_one}

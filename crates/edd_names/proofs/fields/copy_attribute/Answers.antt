@@ -5,20 +5,18 @@ use Rattle.edd_syntax.specs.ItemView.{attribute_of, cond_of, entry_of, item_of, 
 use Rattle.edd_syntax.specs.NameUses.{attribute_uses}
 use Rattle.edd_syntax.specs.ResolvedTrees.{◌>>=◌, resolved_attribute}
 use Rattle.edd_syntax.specs.TreeView.{path_of}
-use Rattle.edd_names.specs.Directory.{unit_of}
-use Rattle.edd_names.specs.Meanings.{Means, FirstFault}
-use Rattle.edd_name_rules.proofs.Passing.{passed}
+use Rattle.edd_name_meanings.specs.Directory.{unit_of}
+use Rattle.edd_name_meanings.specs.Meanings.{Means, FirstFault}
 use Rattle.edd_names.proofs.fields.copy_attribute.Goals as goal
 
-pub returns-in_err-copy_members_of-in-Members-clause-err : goal.returns-in_err-copy_members_of-in-Members-clause-err
-returns-in_err-copy_members_of-in-Members-clause-err c =
-    passed c.from_residual-in_err-copy_members_of-in-Members.result c.in_err-copy_members_of-in-Members.field-0.0 _ c.from_residual-in_err-copy_members_of-in-Members.ensures.1
-    (subst (λ a. FirstFault c.in_err-copy_members_of-in-Members.field-0.0 (unit_of c.args.names.now) (attribute_uses (item_of path_of c.args.item.now).sort a))
+pub returns-in-Err-copy_members_of-clause-err : goal.returns-in-Err-copy_members_of-clause-err
+returns-in-Err-copy_members_of-clause-err c =
+    subst (λ a. FirstFault c.in-Err-copy_members_of.fault (unit_of c.args.names.now) (attribute_uses (item_of path_of c.args.item.now).sort a))
     (sym (ap (attribute_of path_of) c.in-Members.is ∙ ap (λ xs. Members (map (member_of path_of) xs)) (sym c.deref-in-Members.ensures.value)))
-    c.in_err-copy_members_of-in-Members.ensures.err)
+    c.in-Err-copy_members_of.ensures.err
 
-pub returns-in_ok-copy_conds-in-Items-clause-ok : goal.returns-in_ok-copy_conds-in-Items-clause-ok
+pub returns-in-Ok-copy_conds-clause-ok : goal.returns-in-Ok-copy_conds-clause-ok
 unfolding Means
-returns-in_ok-copy_conds-in-Items-clause-ok c = λ known.
+returns-in-Ok-copy_conds-clause-ok c = λ known.
     ap (resolved_attribute (unit_of c.args.names.now) (item_of path_of c.args.item.now).sort) (ap (attribute_of path_of) c.in-Items.is ∙ ap (λ xs. Items (conds_from (map (cond_of path_of (entry_of path_of)) xs))) (sym c.deref-in-Items.ensures.value))
-    ∙ ap (λ o. o >>= (λ x. Some (Items x))) (c.in_ok-copy_conds-in-Items.ensures.ok known)
+    ∙ ap (λ o. o >>= (λ x. Some (Items x))) (c.in-Ok-copy_conds.ensures.ok known)

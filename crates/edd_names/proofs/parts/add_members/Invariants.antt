@@ -2,7 +2,7 @@ use Rattle.std.specs.List.{flat_map}
 use Rattle.edd_syntax.specs.ItemView.{member_of}
 use Rattle.edd_syntax.specs.ResolvedTrees.{each, resolved_member}
 use Rattle.edd_syntax.specs.TreeView.{path_of}
-use Rattle.edd_names.specs.Directory.{unit_of}
+use Rattle.edd_name_meanings.specs.Directory.{unit_of}
 use Rattle.edd_names.specs.ResolvedParts.{member_uses}
 use Rattle.edd_names.proofs.Copying.{Copied}
 use Rattle.edd_names.proofs.ExprSteps.{each_joined}

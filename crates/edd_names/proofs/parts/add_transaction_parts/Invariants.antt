@@ -3,7 +3,7 @@ use Rattle.edd_syntax.specs.ItemView.{transaction_part_of}
 use Rattle.edd_syntax.specs.NameUses.{transaction_part_uses}
 use Rattle.edd_syntax.specs.ResolvedTrees.{each, resolved_transaction_part}
 use Rattle.edd_syntax.specs.TreeView.{path_of}
-use Rattle.edd_names.specs.Directory.{unit_of}
+use Rattle.edd_name_meanings.specs.Directory.{unit_of}
 use Rattle.edd_names.proofs.Copying.{Copied}
 use Rattle.edd_names.proofs.ExprSteps.{each_joined}
 use Rattle.edd_name_rules.proofs.FirstLaws.{flat_split}

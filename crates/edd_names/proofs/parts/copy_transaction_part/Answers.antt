@@ -4,18 +4,18 @@ use Rattle.edd_syntax.specs.Conditional.{conds_from}
 use Rattle.edd_syntax.specs.ItemView.{cond_of, data_item_of, transaction_part_of}
 use Rattle.edd_syntax.specs.ResolvedTrees.{◌>>=◌, resolved_transaction_part}
 use Rattle.edd_syntax.specs.TreeView.{path_of}
-use Rattle.edd_names.specs.Directory.{unit_of}
-use Rattle.edd_names.specs.Meanings.{Means}
+use Rattle.edd_name_meanings.specs.Directory.{unit_of}
+use Rattle.edd_name_meanings.specs.Meanings.{Means}
 use Rattle.edd_names.proofs.parts.copy_transaction_part.Goals as goal
 
-pub returns-in_ok-copy_conds-in-Request-clause-ok : goal.returns-in_ok-copy_conds-in-Request-clause-ok
+pub returns-in-Ok-clause-ok : goal.returns-in-Ok-clause-ok
 unfolding Means
-returns-in_ok-copy_conds-in-Request-clause-ok c = λ known.
+returns-in-Ok-clause-ok c = λ known.
     ap (resolved_transaction_part (unit_of c.args.names.now)) (ap (transaction_part_of path_of) c.in-Request.is ∙ ap (λ xs. Request (conds_from (map (cond_of path_of (data_item_of path_of)) xs))) (sym c.deref.ensures.value))
-    ∙ ap (λ o. o >>= (λ x. Some (Request x))) (c.in_ok-copy_conds-in-Request.ensures.ok known)
+    ∙ ap (λ o. o >>= (λ x. Some (Request x))) (c.in-Ok.ensures.ok known)
 
-pub returns-in_ok-copy_conds-in-Reply-clause-ok : goal.returns-in_ok-copy_conds-in-Reply-clause-ok
+pub returns-in-Ok-copy_conds-clause-ok : goal.returns-in-Ok-copy_conds-clause-ok
 unfolding Means
-returns-in_ok-copy_conds-in-Reply-clause-ok c = λ known.
+returns-in-Ok-copy_conds-clause-ok c = λ known.
     ap (resolved_transaction_part (unit_of c.args.names.now)) (ap (transaction_part_of path_of) c.in-Reply.is ∙ ap (λ xs. Reply (conds_from (map (cond_of path_of (data_item_of path_of)) xs))) (sym c.deref-in-Reply.ensures.value))
-    ∙ ap (λ o. o >>= (λ x. Some (Reply x))) (c.in_ok-copy_conds-in-Reply.ensures.ok known)
+    ∙ ap (λ o. o >>= (λ x. Some (Reply x))) (c.in-Ok-copy_conds.ensures.ok known)

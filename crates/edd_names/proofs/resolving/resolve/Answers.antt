@@ -5,7 +5,7 @@ use Rattle.edd_syntax.specs.ItemView.{identification_of, named_items, numbered_i
 use Rattle.edd_syntax.specs.Refusal.{first_of}
 use Rattle.edd_syntax.specs.Resolved.{description}
 use Rattle.edd_syntax.specs.ResolvedTrees.{resolved_unit}
-use Rattle.edd_names.specs.Faults.{IsFirst, of_rule}
+use Rattle.edd_name_meanings.specs.Faults.{IsFirst, of_rule}
 use Rattle.edd_names.specs.Units.{unit_view}
 use Rattle.edd_name_rules.specs.Walks.{described}
 use Rattle.edd_names.proofs.UseLaws.{memory_refused}

@@ -1,7 +1,7 @@
 use Rattle.std.proofs.Common.{sym, ap, ◌∙◌, Some}
 use Rattle.edd_syntax.specs.ItemView.{identification_of, numbered_items}
 use Rattle.edd_syntax.specs.Resolved.{description}
-use Rattle.edd_names.specs.Directory.{unit_of}
+use Rattle.edd_name_meanings.specs.Directory.{unit_of}
 use Rattle.edd_name_rules.proofs.Passing.{passed}
 use Rattle.edd_names.proofs.ResolvingLaws.{few_locals, fault_in_use, is_resolved, meanings, no_breach}
 use Rattle.edd_names.proofs.resolving.resolve_uses.Goals as goal

@@ -2,8 +2,8 @@ use Rattle.std.proofs.Common.{arith, ap, sym, ◌∙◌, ◌+◌, map}
 use Rattle.std.proofs.Math.ListN.{drop_of_length-le}
 use Rattle.edd_syntax.specs.Statement.{body_from, slots_in}
 use Rattle.edd_syntax.specs.TreeView.{path_of, part_of}
-use Rattle.edd_names.specs.Directory.{unit_of}
-use Rattle.edd_names.specs.Meanings.{scope_of}
+use Rattle.edd_name_meanings.specs.Directory.{unit_of}
+use Rattle.edd_name_meanings.specs.Meanings.{scope_of}
 use Rattle.edd_names.specs.ResolvedParts.{scope_behind}
 use Rattle.edd_names.proofs.CopyingIn.{one_more, stops, none_at_end, meant_at_end}
 use Rattle.edd_name_rules.proofs.Passing.{passed}
@@ -36,13 +36,13 @@ add_parts-returns-clause-next t c =
 
 pub copy_stmt-returns-in_err-copy_body-in-Block-clause-err : goal.copy_stmt-returns-in_err-copy_body-in-Block-clause-err
 copy_stmt-returns-in_err-copy_body-in-Block-clause-err t c =
-    passed c.from_residual-in_err-copy_body-in-Block.result c.in_err-copy_body-in-Block.field-0.0 _ c.from_residual-in_err-copy_body-in-Block.ensures.1
+    passed c.from_residual.result c.in_err-copy_body-in-Block.field-0.0 _ c.from_residual.ensures.1
     (block_fault (unit_of c.args.names.now) c.args.s.now _ c.deref.result.now c.deref.ensures.value c.in-Block.is (scope_of c.args.scope.now) c.args.next.now c.in_err-copy_body-in-Block.field-0.0 c.in_err-copy_body-in-Block.ensures.err)
 
-pub copy_stmt-returns-in_err-copy_body-in-Switch-clause-err : goal.copy_stmt-returns-in_err-copy_body-in-Switch-clause-err
-copy_stmt-returns-in_err-copy_body-in-Switch-clause-err t c =
-    passed c.from_residual-in_err-copy_body-in-Switch.result c.in_err-copy_body-in-Switch.field-0.0 _ c.from_residual-in_err-copy_body-in-Switch.ensures.1
-    (switch_fault (unit_of c.args.names.now) c.args.s.now _ c.deref-in-Switch.result.now c.deref-in-Switch.ensures.value _ c.in-Switch.is (scope_of c.args.scope.now) c.args.next.now c.in_err-copy_body-in-Switch.field-0.0 c.in_ok-on-in-Switch.ensures.none c.in_err-copy_body-in-Switch.ensures.err)
+pub copy_stmt-returns-in_err-on-in-Switch-clause-err : goal.copy_stmt-returns-in_err-on-in-Switch-clause-err
+copy_stmt-returns-in_err-on-in-Switch-clause-err t c =
+    passed c.from_residual-in_err-on-in-Switch.result c.in_err-on-in-Switch.field-0.0 _ c.from_residual-in_err-on-in-Switch.ensures.1
+    (switch_fault (unit_of c.args.names.now) c.args.s.now _ c.deref-in-Switch.result.now c.deref-in-Switch.ensures.value _ c.in-Switch.is (scope_of c.args.scope.now) c.args.next.now c.in_err-on-in-Switch.field-0.0 c.in_err-on-in-Switch.ensures.err)
 
 pub copy_stmt-returns-in_ok-copy_body-in-Block-clause-none : goal.copy_stmt-returns-in_ok-copy_body-in-Block-clause-none
 copy_stmt-returns-in_ok-copy_body-in-Block-clause-none t c = block_none (unit_of c.args.names.now) c.args.s.now _ c.deref.result.now c.deref.ensures.value c.in-Block.is (scope_of c.args.scope.now) c.args.next.now c.in_ok-copy_body-in-Block.ensures.none
@@ -54,15 +54,15 @@ pub copy_stmt-returns-in_ok-copy_body-in-Block-clause-next : goal.copy_stmt-retu
 copy_stmt-returns-in_ok-copy_body-in-Block-clause-next t c =
     c.in_ok-copy_body-in-Block.ensures.next ∙ ap (λ k. c.args.next.now + k) (sym (block_slots (unit_of c.args.names.now) c.args.s.now _ c.deref.result.now c.deref.ensures.value c.in-Block.is))
 
-pub copy_stmt-returns-in_ok-copy_body-in-Switch-clause-none : goal.copy_stmt-returns-in_ok-copy_body-in-Switch-clause-none
-copy_stmt-returns-in_ok-copy_body-in-Switch-clause-none t c = switch_none (unit_of c.args.names.now) c.args.s.now _ c.deref-in-Switch.result.now c.deref-in-Switch.ensures.value _ c.in-Switch.is (scope_of c.args.scope.now) c.args.next.now c.in_ok-on-in-Switch.ensures.none c.in_ok-copy_body-in-Switch.ensures.none
+pub copy_stmt-returns-in_ok-on-in-Switch-clause-none : goal.copy_stmt-returns-in_ok-on-in-Switch-clause-none
+copy_stmt-returns-in_ok-on-in-Switch-clause-none t c = switch_none (unit_of c.args.names.now) c.args.s.now _ c.deref-in-Switch.result.now c.deref-in-Switch.ensures.value _ c.in-Switch.is (scope_of c.args.scope.now) c.args.next.now c.in_ok-on-in-Switch.ensures.none
 
-pub copy_stmt-returns-in_ok-copy_body-in-Switch-clause-ok : goal.copy_stmt-returns-in_ok-copy_body-in-Switch-clause-ok
-copy_stmt-returns-in_ok-copy_body-in-Switch-clause-ok t c = switch_means (unit_of c.args.names.now) c.args.s.now _ c.deref-in-Switch.result.now c.deref-in-Switch.ensures.value _ c.in-Switch.is (scope_of c.args.scope.now) c.args.next.now c.in_ok-on-in-Switch.on c.in_ok-copy_body-in-Switch.field-0 c.in_ok-on-in-Switch.ensures.ok c.in_ok-copy_body-in-Switch.ensures.ok
+pub copy_stmt-returns-in_ok-on-in-Switch-clause-ok : goal.copy_stmt-returns-in_ok-on-in-Switch-clause-ok
+copy_stmt-returns-in_ok-on-in-Switch-clause-ok t c = switch_means (unit_of c.args.names.now) c.args.s.now _ c.deref-in-Switch.result.now c.deref-in-Switch.ensures.value _ c.in-Switch.is (scope_of c.args.scope.now) c.args.next.now c.in_ok-on-in-Switch.on c.in_ok-on-in-Switch.parts c.in_ok-on-in-Switch.ensures.on c.in_ok-on-in-Switch.ensures.parts
 
-pub copy_stmt-returns-in_ok-copy_body-in-Switch-clause-next : goal.copy_stmt-returns-in_ok-copy_body-in-Switch-clause-next
-copy_stmt-returns-in_ok-copy_body-in-Switch-clause-next t c =
-    c.in_ok-copy_body-in-Switch.ensures.next ∙ ap (λ k. c.args.next.now + k) (sym (switch_slots (unit_of c.args.names.now) c.args.s.now _ c.deref-in-Switch.result.now c.deref-in-Switch.ensures.value _ c.in-Switch.is))
+pub copy_stmt-returns-in_ok-on-in-Switch-clause-next : goal.copy_stmt-returns-in_ok-on-in-Switch-clause-next
+copy_stmt-returns-in_ok-on-in-Switch-clause-next t c =
+    c.in_ok-on-in-Switch.ensures.next ∙ ap (λ k. c.args.next.now + k) (sym (switch_slots (unit_of c.args.names.now) c.args.s.now _ c.deref-in-Switch.result.now c.deref-in-Switch.ensures.value _ c.in-Switch.is))
 
 pub add_parts-copy_part-requires : goal.add_parts-copy_part-requires
 add_parts-copy_part-requires t c =
@@ -77,8 +77,8 @@ copy_stmt-copy_body-requires t c =
     let r = c.requires in
     (block_falls t c.args.s.now _ c.deref.result.now c.in-Block.is c.deref.ensures.value (sym c.decreases), omega (arith, e, r))
 
-pub copy_stmt-copy_body-requires-in-Switch : goal.copy_stmt-copy_body-requires-in-Switch
-copy_stmt-copy_body-requires-in-Switch t c =
+pub copy_stmt-copy_switched-requires : goal.copy_stmt-copy_switched-requires
+copy_stmt-copy_switched-requires t c =
     let e = switch_slots (unit_of c.args.names.now) c.args.s.now _ c.deref-in-Switch.result.now c.deref-in-Switch.ensures.value _ c.in-Switch.is in
     let r = c.requires in
     (switch_falls t c.args.s.now _ _ c.deref-in-Switch.result.now c.in-Switch.is c.deref-in-Switch.ensures.value (sym c.decreases), omega (arith, e, r))

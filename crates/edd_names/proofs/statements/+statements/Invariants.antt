@@ -1,8 +1,8 @@
 use Rattle.std.proofs.Common.{◌≡◌, ◌+◌, map, drop}
 use Rattle.edd_syntax.specs.Statement.{body_from, slots_in}
 use Rattle.edd_syntax.specs.TreeView.{path_of, part_of}
-use Rattle.edd_names.specs.Directory.{unit_of}
-use Rattle.edd_names.specs.Meanings.{scope_of}
+use Rattle.edd_name_meanings.specs.Directory.{unit_of}
+use Rattle.edd_name_meanings.specs.Meanings.{scope_of}
 use Rattle.edd_names.proofs.CopyingIn.{Copied}
 use Rattle.edd_names.proofs.StatementSteps.{behind, uses_here, uses_from, uses_split, meant_here, meant_from, parts_joined, stmt_depth, parts_depth, part_depth}
 use Rattle.edd_names.proofs.statements.+statements.Given as goal
@@ -30,3 +30,15 @@ decreases-copy_boxed l = stmt_depth l.s.now + 1
 
 abbrev pub decreases-copy_guarded : goal.decreases-copy_guarded
 decreases-copy_guarded l = stmt_depth l.body.now + 2
+
+abbrev pub decreases-copy_choice : goal.decreases-copy_choice
+decreases-copy_choice l = stmt_depth l.first.now + stmt_depth l.otherwise.now + 3
+
+abbrev pub decreases-copy_repeated : goal.decreases-copy_repeated
+decreases-copy_repeated l = stmt_depth l.body.now + 2
+
+abbrev pub decreases-copy_looped : goal.decreases-copy_looped
+decreases-copy_looped l = stmt_depth l.body.now + 2
+
+abbrev pub decreases-copy_switched : goal.decreases-copy_switched
+decreases-copy_switched l = parts_depth l.parts.now + 4

@@ -1,7 +1,7 @@
 use Rattle.std.proofs.Common.{◌∙◌, map}
 use Rattle.edd_syntax.specs.ItemView.{attribute_of, item_of}
 use Rattle.edd_syntax.specs.TreeView.{path_of}
-use Rattle.edd_names.specs.Directory.{unit_of}
+use Rattle.edd_name_meanings.specs.Directory.{unit_of}
 use Rattle.edd_names.proofs.ItemSteps.{item_means}
 use Rattle.edd_names.proofs.unit_items.copy_item.Goals as goal
 

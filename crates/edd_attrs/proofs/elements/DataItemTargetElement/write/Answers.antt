@@ -8,8 +8,8 @@ use Rattle.edd_attrs.proofs.elements.DataItemTargetElement.write.Goals as goal
 
 pub returns-in_ok-write_constant-in-Constant-clause-ok : goal.returns-in_ok-write_constant-in-Constant-clause-ok
 returns-in_ok-write_constant-in-Constant-clause-ok c =
-    subst (λ (d : DataItem Target). WritesRecord c.args._table.now c.args.code.now.items (data_item (data_item_of (λ r. r) d)) c.args._table.now c.write_constant.new.code.items) (sym c.in-Constant.is) (c.in_ok-write_constant-in-Constant.ensures c.args._table.now)
+    subst (λ (d : DataItem Target). WritesRecord c.args._table.now c.args.code.now (data_item (data_item_of (λ r. r) d)) c.args._table.now c.write_constant.new.code) (sym c.in-Constant.is) (c.in_ok-write_constant-in-Constant.ensures c.args._table.now)
 
 pub returns-in_ok-write_variable-in-Variable-clause-ok : goal.returns-in_ok-write_variable-in-Variable-clause-ok
 returns-in_ok-write_variable-in-Variable-clause-ok c =
-    subst (λ (d : DataItem Target). WritesRecord c.args._table.now c.args.code.now.items (data_item (data_item_of (λ r. r) d)) c.args._table.now c.write_variable.new.code.items) (sym c.in-Variable.is) (c.in_ok-write_variable-in-Variable.ensures c.args._table.now)
+    subst (λ (d : DataItem Target). WritesRecord c.args._table.now c.args.code.now (data_item (data_item_of (λ r. r) d)) c.args._table.now c.write_variable.new.code) (sym c.in-Variable.is) (c.in_ok-write_variable-in-Variable.ensures c.args._table.now)

@@ -9,8 +9,8 @@ use Rattle.edd_attrs.proofs.elements.MenuEntryTargetElement.write.Goals as goal
 
 pub returns-in-Text-clause-ok : goal.returns-in-Text-clause-ok
 returns-in-Text-clause-ok c =
-    subst (λ (e : MenuEntry Target). OnOk c.write.result (WritesRecord c.args.table.now c.args.code.now.items (entry (entry_of (λ r. r) e)) c.write.new.table c.write.new.code.items)) (sym c.in-Text.is) c.write.ensures.ok
+    subst (λ (e : MenuEntry Target). OnOk c.write.result (WritesRecord c.args.table.now c.args.code.now (entry (entry_of (λ r. r) e)) c.write.new.table c.write.new.code)) (sym c.in-Text.is) c.write.ensures.ok
 
 pub returns-in_ok-write_item-in-Reference-clause-ok : goal.returns-in_ok-write_item-in-Reference-clause-ok
 returns-in_ok-write_item-in-Reference-clause-ok c =
-    subst (λ (e : MenuEntry Target). WritesRecord c.args.table.now c.args.code.now.items (entry (entry_of (λ r. r) e)) c.args.table.now c.write_item.new.code.items) (sym c.in-Reference.is) (c.in_ok-write_item-in-Reference.ensures c.args.table.now)
+    subst (λ (e : MenuEntry Target). WritesRecord c.args.table.now c.args.code.now (entry (entry_of (λ r. r) e)) c.args.table.now c.write_item.new.code) (sym c.in-Reference.is) (c.in_ok-write_item-in-Reference.ensures c.args.table.now)

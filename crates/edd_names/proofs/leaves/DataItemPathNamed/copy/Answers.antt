@@ -2,8 +2,8 @@ use Rattle.std.proofs.Common.{sym, subst}
 use Rattle.edd_syntax.specs.ItemView.{data_item_of}
 use Rattle.edd_syntax.specs.NameUses.{data_uses}
 use Rattle.edd_syntax.specs.TreeView.{path_of}
-use Rattle.edd_names.specs.Directory.{unit_of}
-use Rattle.edd_names.specs.Meanings.{FirstFault}
+use Rattle.edd_name_meanings.specs.Directory.{unit_of}
+use Rattle.edd_name_meanings.specs.Meanings.{FirstFault}
 use Rattle.edd_name_rules.proofs.Passing.{passed}
 use Rattle.edd_names.proofs.leaves.DataItemPathNamed.copy.Goals as goal
 

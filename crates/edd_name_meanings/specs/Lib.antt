@@ -1,0 +1,7 @@
+pub mod Directory
+pub mod Faults
+pub mod Limits
+pub mod Meanings
+pub mod Members
+pub mod Numbering
+pub mod Paths

@@ -1,0 +1,11 @@
+//! What names mean, at a place where items of some kinds may stand.
+#![tactic(auto)]
+
+pub mod directory;
+pub mod fault;
+mod follow;
+mod lookups;
+pub mod members;
+pub mod numbering;
+mod places;
+pub mod references;

@@ -1,0 +1,151 @@
+//! The members of collections by their names.
+
+ghost use Rattle.std.specs.Prelude.{◌≡◌, [], ◌∷◌, ◌++◌, List, None, IfErr, IfOk, OnOk, filter, find, map, option_map};
+ghost use Rattle.std.specs.List.{flat_map};
+ghost use Rattle.std.specs.Option.{option_or};
+ghost use Rattle.std.specs.Str.{bytes_eq};
+ghost use Rattle.edd_syntax.specs.declared.item.Item.TheVariants as item_kind;
+ghost use Rattle.edd_syntax.specs.declared.numbers.Kind.TheVariants as kind;
+ghost use Rattle.edd_syntax.specs.Item as pure;
+ghost use Rattle.edd_syntax.specs.Item.{kind_of_item};
+ghost use Rattle.edd_syntax.specs.ItemView.{item_of, attribute_of, member_of};
+ghost use Rattle.edd_syntax.specs.Numbers.{same_kind};
+ghost use Rattle.edd_syntax.specs.Reference as reference;
+ghost use Rattle.edd_syntax.specs.Resolution.{members_in, member_in};
+ghost use Rattle.edd_syntax.specs.Text.{Name};
+ghost use Rattle.edd_syntax.specs.TreeView.{path_of};
+ghost use Rattle.edd_name_meanings.specs.declared.fault.NameFault.TheVariants.{NoMemory};
+ghost use Rattle.edd_name_meanings.specs.Members.{member_named, found_in, AreCollections};
+
+use crate::fault::NameFault;
+use crate::numbering::put_first;
+use edd_syntax::item::{Attribute, CollectionDef, Item, Member};
+use edd_syntax::numbers::Kind;
+use edd_syntax::reference::Path;
+use std::alloc::Global;
+use std::collections::HashMap;
+
+/// The members of a collection by their names, with the kind after OF.
+#[derive(Drop)]
+pub struct Collection<'a> {
+    pub of: Kind,
+    pub members: HashMap<&'a str, &'a Member<Path>>,
+}
+
+// Of members of one name the first counts.
+fn add_members<'a>(
+    into: &mut HashMap<&'a str, &'a Member<Path>>,
+    members: &'a [Member<Path>],
+) -> Result<(), NameFault>
+    ensures ok { OnOk result ((q : Name) → member_named q into.new
+        ≡ option_or (member_named q into.old) (find (λ m. bytes_eq m.name q) (map (member_of path_of) members.now))) }
+    ensures err { IfErr result (λ f. f ≡ NoMemory) }
+{
+    for member in members {
+        put_first(into, &member.name, member)?;
+    }
+    Ok(())
+}
+
+fn add_attribute<'a>(
+    into: &mut HashMap<&'a str, &'a Member<Path>>,
+    attribute: &'a Attribute<Path>,
+) -> Result<(), NameFault>
+    ensures ok { OnOk result ((q : Name) → member_named q into.new
+        ≡ option_or (member_named q into.old) (find (λ m. bytes_eq m.name q) (members_in (attribute_of path_of attribute.now)))) }
+    ensures err { IfErr result (λ f. f ≡ NoMemory) }
+{
+    match attribute {
+        Attribute::Members(list) => add_members(into, list),
+        _ => Ok(()),
+    }
+}
+
+fn add_attributes<'a>(
+    into: &mut HashMap<&'a str, &'a Member<Path>>,
+    attributes: &'a [Attribute<Path>],
+) -> Result<(), NameFault>
+    ensures ok { OnOk result ((q : Name) → member_named q into.new
+        ≡ option_or (member_named q into.old) (find (λ m. bytes_eq m.name q) (flat_map members_in (map (attribute_of path_of) attributes.now)))) }
+    ensures err { IfErr result (λ f. f ≡ NoMemory) }
+{
+    for attribute in attributes {
+        add_attribute(into, attribute)?;
+    }
+    Ok(())
+}
+
+fn one_collection<'a>(
+    def: &'a CollectionDef<Path>,
+    alloc: Global,
+) -> Result<Collection<'a>, NameFault>
+    ensures ok { IfOk result (λ c. (q : Name) → found_in c q ≡ member_in (item_of path_of (item_kind.Collection def.now)) q) }
+    ensures err { IfErr result (λ f. f ≡ NoMemory) }
+{
+    let mut members = HashMap::new(alloc);
+    add_attributes(&mut members, &def.attributes)?;
+    Ok(Collection {
+        of: def.of,
+        members,
+    })
+}
+
+// An item that is a collection goes behind the others.
+fn add_collection<'a>(
+    all: &mut Vec<Collection<'a>>,
+    item: &'a Item<Path>,
+    alloc: Global,
+) -> Result<(), NameFault>
+    ensures ok { OnOk result ((is : List (pure.Item reference.Path)) → AreCollections all.old.items is
+        → AreCollections all.new.items (is ++ filter (λ i. same_kind (kind_of_item i.sort) kind.Collection) (item_of path_of item.now ∷ []))) }
+    ensures err { IfErr result (λ f. f ≡ NoMemory) }
+{
+    match item {
+        Item::Collection(def) => {
+            let one = one_collection(def, alloc)?;
+            all.push(one)?;
+            Ok(())
+        }
+        Item::Variable(_) | Item::Command(_) | Item::Menu(_) | Item::Method(_) => Ok(()),
+    }
+}
+
+fn add_collections<'a>(
+    all: &mut Vec<Collection<'a>>,
+    items: &'a [Item<Path>],
+    alloc: Global,
+) -> Result<(), NameFault>
+    requires { all.old.items ≡ [] }
+    ensures ok { OnOk result (AreCollections all.new.items (filter (λ i. same_kind (kind_of_item i.sort) kind.Collection) (map (item_of path_of) items.now))) }
+    ensures err { IfErr result (λ f. f ≡ NoMemory) }
+{
+    for item in items {
+        add_collection(all, item, alloc)?;
+    }
+    Ok(())
+}
+
+/// The collections among items, by their numbers.
+pub fn collections<'a>(
+    items: &'a [Item<Path>],
+    alloc: Global,
+) -> Result<Vec<Collection<'a>>, NameFault>
+    ensures ok { IfOk result (λ all. AreCollections all.items (filter (λ i. same_kind (kind_of_item i.sort) kind.Collection) (map (item_of path_of) items.now))) }
+    ensures err { IfErr result (λ f. f ≡ NoMemory) }
+{
+    let mut all = Vec::new(alloc);
+    add_collections(&mut all, items, alloc)?;
+    Ok(all)
+}
+
+impl<'a> Collection<'a> {
+    /// The member of a name, and the kind after OF.
+    pub fn member(&self, name: &str) -> Option<(&'a Member<Path>, Kind)>
+        ensures { option_map (λ m. (member_of path_of m.0.now, m.1)) result ≡ found_in self.now name.now }
+    {
+        match self.members.get(name) {
+            Some(member) => Some((*member, self.of)),
+            None => None,
+        }
+    }
+}

@@ -1,0 +1,129 @@
+//! What references and the names of functions mean.
+
+ghost use Rattle.std.specs.Prelude.{◌≡◌, [], ◌∷◌, None, Some, IfErr, IfOk, map, if◌then◌else◌};
+ghost use Rattle.std.specs.Str.{bytes_eq};
+ghost use Rattle.edd_syntax.specs.NameRules.{faults_of_local, faults_of_item};
+ghost use Rattle.edd_syntax.specs.NameUses.{OfItem, OfFunction};
+ghost use Rattle.edd_syntax.specs.Resolution.{look_up, builtins, meaning, local_meant, item_meant, function_meant};
+ghost use Rattle.edd_syntax.specs.Refusal.{first_of};
+ghost use Rattle.edd_syntax.specs.TreeView.{path_of};
+ghost use Rattle.edd_name_meanings.specs.Directory.{unit_of};
+ghost use Rattle.edd_name_meanings.specs.Faults.{IsFirst};
+ghost use Rattle.edd_name_meanings.specs.Meanings.{Means, NoFault, FirstFault, scope_of};
+
+use crate::directory::Names;
+use crate::fault::NameFault;
+use crate::follow::follow;
+use crate::places::{unknown_name, wrong_kind};
+use edd_syntax::numbers::Kind;
+use edd_syntax::operators::Builtin;
+use edd_syntax::reference::{Path, Target};
+
+/// A local that can be used, with its slot.
+#[derive(Clone, Copy)]
+pub struct Local<'a> {
+    pub name: &'a str,
+    pub slot: u8,
+}
+
+/// The slot of the first local of a name.
+pub fn find_local(scope: &[Local], name: &str) -> Option<u8>
+    ensures { result ≡ look_up name.now (scope_of scope.now) }
+{
+    for local in scope {
+        if local.name == name {
+            return Some(local.slot);
+        }
+    }
+    None
+}
+
+// The local of a slot, which has no members.
+fn refer_local(names: &Names, slot: u8, path: &Path) -> Result<Target, NameFault>
+    ensures ok { IfOk result (λ t. (None ≡ first_of (faults_of_local (path_of path.now) (path_of path.now).members)) × (local_meant slot (path_of path.now).members ≡ Some t)) }
+    ensures err { IfErr result (λ f. IsFirst f (faults_of_local (path_of path.now) (path_of path.now).members)) }
+{
+    if path.members.is_empty() {
+        Ok(Target::Local(slot))
+    } else {
+        Err(wrong_kind(names.alloc, &path.base))
+    }
+}
+
+fn refer_item(names: &Names, kinds: &[Kind], path: &Path) -> Result<Target, NameFault>
+    ensures ok { IfOk result (λ t. (None ≡ first_of (faults_of_item (unit_of names.now) kinds.now (path_of path.now)))
+        × Means (unit_of names.now) (item_meant (unit_of names.now) kinds.now (path_of path.now)) t) }
+    ensures err { IfErr result (λ f. IsFirst f (faults_of_item (unit_of names.now) kinds.now (path_of path.now))) }
+{
+    match names.item(&path.base) {
+        Some(item) => follow(names, kinds, path, item),
+        None => Err(unknown_name(names.alloc, &path.base)),
+    }
+}
+
+/// What a reference means at a place where items of some kinds may stand.
+#[tactic(auto, unfolding(crate::specs::Meanings::Means, crate::specs::Meanings::NoFault, crate::specs::Meanings::FirstFault, crate::specs::Meanings::faults_in))]
+pub fn refer(
+    names: &Names,
+    scope: &[Local],
+    kinds: &[Kind],
+    path: &Path,
+) -> Result<Target, NameFault>
+    ensures none { IfOk result (λ t. NoFault (unit_of names.now) (OfItem (scope_of scope.now) kinds.now (path_of path.now) ∷ [])) }
+    ensures ok { IfOk result (λ t. Means (unit_of names.now) (meaning (unit_of names.now) (scope_of scope.now) kinds.now (path_of path.now)) t) }
+    ensures err { IfErr result (λ f. FirstFault f (unit_of names.now) (OfItem (scope_of scope.now) kinds.now (path_of path.now) ∷ [])) }
+{
+    match find_local(scope, &path.base) {
+        Some(slot) => refer_local(names, slot, path),
+        None => refer_item(names, kinds, path),
+    }
+}
+
+// The function, where the name is this word: else what was found.
+fn if_named(
+    name: &str,
+    word: &str,
+    function: Builtin,
+    otherwise: Option<Builtin>,
+) -> Option<Builtin>
+    ensures { result ≡ (if bytes_eq word.now name.now then Some function else otherwise) }
+{
+    if word == name {
+        Some(function)
+    } else {
+        otherwise
+    }
+}
+
+/// The function of a name.
+pub fn builtin(name: &str) -> Option<Builtin>
+    ensures { result ≡ look_up name.now builtins }
+{
+    let found = if_named(name, "process_abort", Builtin::ProcessAbort, None);
+    let found = if_named(name, "abort", Builtin::Abort, found);
+    let found = if_named(name, "lassign", Builtin::Lassign, found);
+    let found = if_named(name, "iassign", Builtin::Iassign, found);
+    let found = if_named(name, "lvar_value", Builtin::LvarValue, found);
+    let found = if_named(name, "ivar_value", Builtin::IvarValue, found);
+    let found = if_named(name, "save_values", Builtin::SaveValues, found);
+    let found = if_named(name, "send_command_trans", Builtin::SendCommandTrans, found);
+    let found = if_named(name, "send_command", Builtin::SendCommand, found);
+    let found = if_named(name, "SELECT_FROM_LIST", Builtin::SelectFromList, found);
+    let found = if_named(name, "GET_DEV_VAR_VALUE", Builtin::GetDevVarValue, found);
+    let found = if_named(name, "DELAY", Builtin::Delay, found);
+    let found = if_named(name, "ACKNOWLEDGE", Builtin::Acknowledge, found);
+    if_named(name, "PUT_MESSAGE", Builtin::PutMessage, found)
+}
+
+/// What the name of a call means.
+#[tactic(auto, unfolding(crate::specs::Meanings::Means, crate::specs::Meanings::NoFault, crate::specs::Meanings::FirstFault, crate::specs::Meanings::faults_in))]
+pub fn refer_function(names: &Names, path: &Path) -> Result<Target, NameFault>
+    ensures none { IfOk result (λ t. NoFault (unit_of names.now) (OfFunction (path_of path.now) ∷ [])) }
+    ensures ok { IfOk result (λ t. Means (unit_of names.now) (function_meant (path_of path.now)) t) }
+    ensures err { IfErr result (λ f. FirstFault f (unit_of names.now) (OfFunction (path_of path.now) ∷ [])) }
+{
+    match builtin(&path.base) {
+        Some(function) => Ok(Target::Function(function)),
+        None => Err(unknown_name(names.alloc, &path.base)),
+    }
+}

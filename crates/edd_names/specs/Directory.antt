@@ -1,9 +1,0 @@
--- The names of a unit as the code looks them up.
-use Rattle.edd_names.specs.declared.directory.Names.{Names}
-use Rattle.edd_syntax.specs.Reference.{Path}
-use Rattle.edd_syntax.specs.Item.{Description}
-use Rattle.edd_syntax.specs.ItemView.{identification_of, named_items}
-
--- the unit whose names they are
-abbrev pub unit_of : Names → Description Path
-unit_of n = record { identification = identification_of n.identification; items = named_items n.items.now }
