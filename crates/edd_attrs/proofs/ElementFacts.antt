@@ -29,7 +29,7 @@ use Rattle.edd_image.specs.References.{item_exists}
 use Rattle.edd_attrs.specs.Records.{text_record, class_record, is_fine, counts_in, strings_of_record, strings_of, kept_enumerator, kept_data, kept_entry, kept_response, kept_member}
 use Rattle.edd_attrs.specs.Sizes.{element_texts, element_nodes}
 use Rattle.edd_attrs.specs.TreeBlocks.{elements}
-use Rattle.edd_attrs.proofs.Existing.{is_item_of}
+use Rattle.edd_code.proofs.Existing.{is_item_of}
 use Rattle.edd_attrs.proofs.GoodTrees.{is_low, good_cond, good_enumerator, good_element, good_response, good_data, good_entry, good_member, is_small}
 use Rattle.edd_attrs.proofs.CheckedTrees.{no_breach, none_broken, ruled_element}
 use Rattle.edd_attrs.proofs.BothTests.{both_of, both_true}

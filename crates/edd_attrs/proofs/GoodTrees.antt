@@ -25,7 +25,7 @@ use Rattle.edd_image.specs.Agreement.{mask_number}
 use Rattle.edd_attrs.specs.Trees as trees
 use Rattle.edd_attrs.specs.Trees.{Tree, Named, trees_of_part, trees_of_parts, trees_of_attribute, tree_of_transaction_part}
 use Rattle.edd_attrs.specs.Records.{is_label, kept_enumerator, kept_response, kept_member}
-use Rattle.edd_attrs.proofs.Existing.{is_item_of, meant_exists}
+use Rattle.edd_code.proofs.Existing.{is_item_of, meant_exists}
 use Rattle.edd_attrs.proofs.KeptConditions.{expr_pure, expr_height, cond_tested, conds_tested, same_height, same_heights, stays_single}
 use Rattle.edd_attrs.proofs.InTrees.{all_append, named, throughout, throughout_item}
 use Rattle.edd_attrs.proofs.BothTests.{both_of, both_true}

@@ -29,7 +29,6 @@ pub mod FewNodes
 pub mod NodeBounds
 pub mod LoweredRows
 pub mod Different
-pub mod Existing
 pub mod Growing
 pub mod InTrees
 pub mod Looking

@@ -18,3 +18,14 @@ pub mod MethodSteps
 pub mod StraightRuns
 pub mod MethodRuns
 pub mod BlockReading
+pub mod ExpressionActions
+pub mod Fitting
+pub mod MethodValues
+pub mod BlockFlow
+pub mod MethodFlow
+pub mod MethodSizes
+pub mod MethodSpelling
+pub mod SameBlocks
+pub mod AbortBlocks
+pub mod CheckedCalls
+pub mod Existing

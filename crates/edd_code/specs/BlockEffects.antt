@@ -12,6 +12,7 @@ pub data Outcome (W E : Type 0) : Type 0 where
   -- an operand is missing, or the instruction doesn't go on to the one behind it
   Stuck : Outcome W E
 
+-- what follows where the first goes on
 abbrev pub and_then : {W E : Type 0} → Outcome W E → (List ℤ → W → Outcome W E) → Outcome W E
 and_then (Goes operands w) next = next operands w
 and_then (Stops e) next = Stops e

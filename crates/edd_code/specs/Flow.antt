@@ -2,8 +2,10 @@
 use Rattle.std.specs.Prelude.{◌≡◌, ℕ, ◌+◌, ◌-◌, ◌≤◌, Bool, true, ◌&&◌, ⊤, FitsSigned, IsTrue, Option, Some, None, is_some, is_none}
 use Rattle.std.specs.Int.{w64}
 use Rattle.edd_image.specs.declared.instruction.Instruction.{Instruction}
-use Rattle.edd_image.specs.declared.unit.Version.TheVariants as version
-use Rattle.edd_image.specs.declared.unit.Sort.TheVariants as sort
+use Rattle.edd_image.specs.declared.unit.Version.{Version}
+use Rattle.edd_image.specs.declared.unit.Version.TheVariants.{One}
+use Rattle.edd_image.specs.declared.unit.Sort.{Sort}
+use Rattle.edd_image.specs.declared.unit.Sort.TheVariants.{Attribute}
 use Rattle.edd_image.specs.Spelling.{IsSpelled}
 use Rattle.edd_image.specs.Units.{takes, leaves, jump, is_allowed}
 use Rattle.edd_code.specs.Blocks.{Block, Nothing, Straight, Then, WhenNotZero, WhenZero, Either, Match}
@@ -23,22 +25,31 @@ depth_after (WhenZero body) d = d - 1
 depth_after (Either first otherwise) d = depth_after first (d - 1)
 depth_after (Match label body rest) d = depth_after body (d - 1)
 
--- an instruction of an attribute that goes on to the one behind it, and nowhere else
-abbrev pub is_straight : Instruction → Bool
-is_straight i = is_allowed version.One sort.Attribute i && (is_some (leaves i) && is_none (jump i))
+module _ (version : Version) (sort : Sort) where
+  -- an instruction that may stand in such a unit, and that goes on to the one behind it and nowhere else
+  abbrev pub is_straight_in : Instruction → Bool
+  is_straight_in i = is_allowed version sort i && (is_some (leaves i) && is_none (jump i))
 
--- Each instruction finds the operands that it takes, and at most as many as the stack holds; parts that come together leave as many.
+  -- Each instruction finds the operands that it takes, and at most as many as the stack holds; parts that come together leave as many.
+  abbrev pub FlowsIn : Block → ℕ → Type 0
+  FlowsIn Nothing d = ⊤
+  FlowsIn (Straight i) d = IsTrue (is_straight_in i) × (takes i ≤ d) × (d ≤ 128)
+  FlowsIn (Then first second) d = FlowsIn first d × FlowsIn second (depth_after first d)
+  FlowsIn (WhenNotZero body) d = (1 ≤ d) × (d ≤ 128) × FlowsIn body (d - 1) × (depth_after body (d - 1) ≡ d - 1)
+  FlowsIn (WhenZero body) d = (1 ≤ d) × (d ≤ 128) × FlowsIn body (d - 1) × (depth_after body (d - 1) ≡ d - 1)
+  FlowsIn (Either first otherwise) d =
+      (1 ≤ d) × (d ≤ 128) × FlowsIn first (d - 1) × FlowsIn otherwise (d - 1) × (depth_after otherwise (d - 1) ≡ depth_after first (d - 1))
+      × (depth_after first (d - 1) ≤ 128)
+  FlowsIn (Match label body rest) d =
+      (1 ≤ d) × (d ≤ 128) × FlowsIn body (d - 1) × FlowsIn rest d × (depth_after rest d ≡ depth_after body (d - 1)) × (depth_after rest d ≤ 128)
+
+-- the same in an attribute
+abbrev pub is_straight : Instruction → Bool
+is_straight i = is_straight_in One Attribute i
+
+-- so the block may stand in an attribute
 abbrev pub Flows : Block → ℕ → Type 0
-Flows Nothing d = ⊤
-Flows (Straight i) d = IsTrue (is_straight i) × (takes i ≤ d) × (d ≤ 128)
-Flows (Then first second) d = Flows first d × Flows second (depth_after first d)
-Flows (WhenNotZero body) d = (1 ≤ d) × (d ≤ 128) × Flows body (d - 1) × (depth_after body (d - 1) ≡ d - 1)
-Flows (WhenZero body) d = (1 ≤ d) × (d ≤ 128) × Flows body (d - 1) × (depth_after body (d - 1) ≡ d - 1)
-Flows (Either first otherwise) d =
-    (1 ≤ d) × (d ≤ 128) × Flows first (d - 1) × Flows otherwise (d - 1) × (depth_after otherwise (d - 1) ≡ depth_after first (d - 1))
-    × (depth_after first (d - 1) ≤ 128)
-Flows (Match label body rest) d =
-    (1 ≤ d) × (d ≤ 128) × Flows body (d - 1) × Flows rest d × (depth_after rest d ≡ depth_after body (d - 1)) × (depth_after rest d ≤ 128)
+Flows b d = FlowsIn One Attribute b d
 
 -- each operand is in its range
 abbrev pub AreSpelled : Block → Type 0

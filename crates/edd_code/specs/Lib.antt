@@ -9,3 +9,6 @@ pub mod BlockEffects
 pub mod AttributeEffects
 pub mod Reports
 pub mod MethodEffects
+pub mod MethodExpressions
+pub mod Numbered
+pub mod MethodReads

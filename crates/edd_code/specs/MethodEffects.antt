@@ -23,6 +23,7 @@ pub record Halted : Type 0 where
   pub why : Stop
   pub state : State
 
+-- the stop, in this state
 abbrev pub stops : Stop → State → Outcome State Halted
 stops why s = Stops (record { why = why; state = s })
 
@@ -63,6 +64,7 @@ module _ (text : StrNo → Option Words) (env : Environment) where
   with_answer Aborted operands s = stops source.Aborted s
   with_answer (Trapped why) operands s = stops (source.Trapped why) s
 
+  -- what the effect of an instruction comes to, by the state that was before it
   abbrev pub outcome_of : State → Option Effect → Outcome State Halted
   outcome_of s None = Stuck
   outcome_of s (Some e) = with_answer e.state.status e.state.operands (noted e.changes (record s { slots = e.state.slots; values = e.state.values }))

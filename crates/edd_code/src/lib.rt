@@ -5,6 +5,7 @@ mod emit;
 mod expression;
 mod expression_laws;
 mod laws;
+mod method_laws;
 
 pub use emit::{close, open, put};
 pub use expression::write_expression;
@@ -14,4 +15,9 @@ pub use expression_laws::{
 pub use laws::{
     attributes_are_a_case, blocks_are_followed, blocks_are_valid, blocks_come_to_their_outcomes,
     sizes_are_lengths,
+};
+pub use method_laws::{
+    aborts_are_one_instruction, attributes_have_the_same_blocks, checked_calls_fit,
+    method_expressions_are_short, method_expressions_are_spelled, method_expressions_flow,
+    method_expressions_mean_their_values,
 };

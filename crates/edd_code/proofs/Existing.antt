@@ -5,7 +5,7 @@ use Rattle.std.specs.Str.{bytes_eq}
 use Rattle.std.specs.List.{list_all}
 use Rattle.std.proofs.lemmas.List.Elements.{filter-append}
 use Rattle.std.proofs.lemmas.Option.{same_Some}
-use Rattle.std.proofs.lemmas.Bool.{lt-ltb}
+use Rattle.std.proofs.lemmas.Bool.{lt-ltb, and_parts}
 use Rattle.edd_syntax.specs.declared.numbers.Kind.{Kind}
 use Rattle.edd_syntax.specs.declared.numbers.Kind.TheVariants as kind
 use Rattle.edd_syntax.specs.declared.numbers.ItemNo.{ItemNo}
@@ -16,8 +16,7 @@ use Rattle.edd_syntax.specs.Text.{Name}
 use Rattle.edd_syntax.specs.Item as item
 use Rattle.edd_syntax.specs.Item.{kind_of_item, Description}
 use Rattle.edd_syntax.specs.Numbers.{same_kind, item_number, kind_of, index_of}
-use Rattle.edd_syntax.specs.Resolution.{count_of, numbered_names, item_named, FoundMember, of_kind, item_of_member, member_at, along, is_among, meaning}
-use Rattle.edd_attrs.proofs.BothTests.{both_of}
+use Rattle.edd_syntax.specs.Resolution.{count_of, numbered_names, item_named, FoundMember, of_kind, item_of_member, member_at, along, is_among, item_meant, meaning}
 
 -- the item is one of so many of its kind
 abbrev pub is_item_of : (Kind → ℕ) → ItemNo → Bool
@@ -65,18 +64,19 @@ numbered_exist all before (i ∷ rest) h =
     ap (λ (m : ℕ). nat_lt m (count_of (kind_of (item_number k n)) all)) (index_is k n) ∙ ap (λ (j : Kind). nat_lt n (count_of j all)) (kind_is k n) ∙ lt-ltb n (count_of k all) below in
     rw here (numbered_exist all (before ++ i ∷ []) rest (append_assoc before (i ∷ []) rest ∙ h))
 
-abbrev IfSomeTrue : {A : Type 0} → (A → Bool) → Option A → Type 0
+-- the test is true of what there is
+abbrev pub IfSomeTrue : {A : Type 0} → (A → Bool) → Option A → Type 0
 IfSomeTrue {A} p o = (x : A) → o ≡ Some x → p x ≡ true
 
-found_has : {A : Type 0} (p test : A → Bool) (xs : List A) → list_all p xs ≡ true → IfSomeTrue p (find test xs)
+pub found_has : {A : Type 0} (p test : A → Bool) (xs : List A) → list_all p xs ≡ true → IfSomeTrue p (find test xs)
 found_has p test [] h x e = absurd cc
-found_has p test (y ∷ xs) h x e = here (test y) (both_of (p y) (list_all p xs) h).0 (found_has p test xs (both_of (p y) (list_all p xs) h).1 x) e
+found_has p test (y ∷ xs) h x e = here (test y) (and_parts (p y) (list_all p xs) h).0 (found_has p test xs (and_parts (p y) (list_all p xs) h).1 x) e
   where
     here : (b : Bool) → p y ≡ true → (find test xs ≡ Some x → p x ≡ true) → cond b (Some y) (find test xs) ≡ Some x → p x ≡ true
     here true h k e = subst (λ z. p z ≡ true) (same_Some y x e) h
     here false h k e = k e
 
-mapped : {A B : Type 0} (f : A → B) (p : A → Bool) (q : B → Bool) → ((x : A) → p x ≡ true → q (f x) ≡ true) → (o : Option A) → IfSomeTrue p o → IfSomeTrue q (option_map f o)
+pub mapped : {A B : Type 0} (f : A → B) (p : A → Bool) (q : B → Bool) → ((x : A) → p x ≡ true → q (f x) ≡ true) → (o : Option A) → IfSomeTrue p o → IfSomeTrue q (option_map f o)
 mapped f p q keeps None h y e = absurd cc
 mapped f p q keeps (Some x) h y e = subst (λ z. q z ≡ true) (same_Some (f x) y e) (keeps x (h x refl))
 
@@ -113,9 +113,9 @@ module _ (unit : Description Path) where
       here None h more e = absurd cc
       here (Some k) h more e = more k (h k refl) j e
 
-  -- what a reference in an attribute means is an item of these kinds
-  pub meant_exists : (kinds : List Kind) (path : Path) (t : Target) → meaning unit [] kinds path ≡ Some t → (i : ItemNo) × (t ≡ Item i) × (exists_in i ≡ true) × (is_among kinds i ≡ true)
-  meant_exists kinds path t e =
+  -- what a reference means, where it is no local, is an item of these kinds
+  pub item_meant_exists : (kinds : List Kind) (path : Path) (t : Target) → item_meant unit kinds path ≡ Some t → (i : ItemNo) × (t ≡ Item i) × (exists_in i ≡ true) × (is_among kinds i ≡ true)
+  item_meant_exists kinds path t e =
       here (option_and_then (λ i. along unit i path.members) (item_named unit path.base)) (then_exists (item_named unit path.base) (λ i. along unit i path.members) (λ i f. along_exists i path.members (named_exists path.base i f))) e
     where
       there : (i : ItemNo) (b : Bool) → is_among kinds i ≡ b → exists_in i ≡ true → cond b (Some (Item i)) None ≡ Some t → (j : ItemNo) × (t ≡ Item j) × (exists_in j ≡ true) × (is_among kinds j ≡ true)
@@ -126,3 +126,7 @@ module _ (unit : Description Path) where
           → (j : ItemNo) × (t ≡ Item j) × (exists_in j ≡ true) × (is_among kinds j ≡ true)
       here None h e = absurd cc
       here (Some i) h e = there i (is_among kinds i) refl (h i refl) e
+
+  -- so it is in an attribute
+  pub meant_exists : (kinds : List Kind) (path : Path) (t : Target) → meaning unit [] kinds path ≡ Some t → (i : ItemNo) × (t ≡ Item i) × (exists_in i ≡ true) × (is_among kinds i ≡ true)
+  meant_exists kinds path t e = item_meant_exists kinds path t e

@@ -1,0 +1,79 @@
+//! Laws of the blocks of expressions of methods, for the crates above.
+
+ghost use Rattle.std.specs.Prelude.{◌≡◌, ◌+◌, ◌*◌, ◌≤◌, Option, ℕ, suc, Bool, true, false, ℤ, List, []};
+ghost use Rattle.edd_syntax.specs.declared.numbers.StrNo.{StrNo};
+ghost use Rattle.edd_syntax.specs.declared.reference.Target.{Target};
+ghost use Rattle.edd_syntax.specs.declared.reference.Target.TheVariants.{Function};
+ghost use Rattle.edd_syntax.specs.declared.operators.Builtin.{Builtin};
+ghost use Rattle.edd_syntax.specs.Item.{Description};
+ghost use Rattle.std.specs.List.{AllByRecursion};
+ghost use Rattle.edd_image.specs.declared.instruction.Instruction.TheVariants as instruction;
+ghost use Rattle.edd_syntax.specs.Device as device;
+ghost use Rattle.edd_syntax.specs.Evaluation.{evaluate};
+ghost use Rattle.edd_syntax.specs.Expression.{Expr, Call, Nil};
+ghost use Rattle.edd_syntax.specs.MethodState.{State};
+ghost use Rattle.edd_syntax.specs.Size.{nodes, height};
+ghost use Rattle.edd_syntax.specs.SubsetRules.{attributes_of, call_mismatches, is_abort, mismatches};
+ghost use Rattle.edd_syntax.specs.WellFormed.{is_expr, is_pure_expr};
+ghost use Rattle.edd_syntax.specs.Words.{Words};
+ghost use Rattle.edd_image.specs.declared.unit.Context.{Context};
+ghost use Rattle.edd_image.specs.declared.unit.Sort.TheVariants.{Method};
+ghost use Rattle.edd_image.specs.declared.unit.Version.TheVariants.{One};
+ghost use Rattle.edd_image.specs.References.{names_exist};
+ghost use Rattle.edd_code.specs.Blocks.{Straight, size};
+ghost use Rattle.edd_code.specs.Expressions.{expression_block};
+ghost use Rattle.edd_code.specs.Flow.{AreSpelled, FlowsIn, all_straight, depth_after};
+ghost use Rattle.edd_code.specs.MethodEffects.{pushed, does};
+ghost use Rattle.edd_code.specs.MethodExpressions.{method_block};
+ghost use Rattle.edd_code.specs.MethodReads.{uses_existing, is_no_local, CallsFit, HasStrings};
+ghost use Rattle.edd_code.specs.Numbered.{HasNumbers, machine_of};
+
+/// The block of an expression of a method leaves the expression's value on top of the operands and the state that the expression
+/// leaves, or comes to its stop.
+pub fn method_expressions_mean_their_values()
+    ensures { (text : StrNo → Option Words) (number : Words → StrNo) (env : device.Environment) (is_statement : Bool) (e : Expr Target)
+        → call_mismatches is_statement e ≡ [] → HasNumbers text number e → (operands : List ℤ) (s : State)
+        → does text (machine_of env) (method_block number e) operands s ≡ pushed operands (evaluate env e s) }
+{}
+
+/// The block of an expression that aborts nowhere needs at most two operands more at once than the expression is high, and leaves one.
+pub fn method_expressions_flow()
+    ensures flows { (number : Words → StrNo) (e : Expr Target) → call_mismatches false e ≡ [] → (d : ℕ) → d + height e + 2 ≤ 128
+        → FlowsIn One Method (method_block number e) d }
+    ensures leaves { (number : Words → StrNo) (e : Expr Target) → call_mismatches false e ≡ [] → (d : ℕ) → d + height e + 2 ≤ 128
+        → depth_after (method_block number e) d ≡ suc d }
+{}
+
+/// The block of an expression of a method has at most 32 bytes for each of its nodes.
+pub fn method_expressions_are_short()
+    ensures { (number : Words → StrNo) (is_statement : Bool) (e : Expr Target) → call_mismatches is_statement e ≡ []
+        → size (method_block number e) ≤ 32 * nodes e }
+{}
+
+/// The block of an expression of a method has its operands in their ranges, and the variables, slots and strings that it names exist.
+pub fn method_expressions_are_spelled()
+    ensures spelled { (context : Context) (number : Words → StrNo) (plain : Target → Bool) (is_statement : Bool) (e : Expr Target)
+        → context.counts.variables ≤ 65536 → context.counts.strings ≤ 65536 → context.slots ≤ 65536
+        → call_mismatches is_statement e ≡ [] → is_expr (uses_existing context) plain e ≡ true → HasStrings context number e
+        → AreSpelled (method_block number e) }
+    ensures named { (context : Context) (number : Words → StrNo) (plain : Target → Bool) (is_statement : Bool) (e : Expr Target)
+        → context.counts.variables ≤ 65536 → context.counts.strings ≤ 65536 → context.slots ≤ 65536
+        → call_mismatches is_statement e ≡ [] → is_expr (uses_existing context) plain e ≡ true → HasStrings context number e
+        → all_straight (names_exist context) (method_block number e) ≡ true }
+{}
+
+/// An expression that an attribute may have has the same block in attributes and in methods.
+pub fn attributes_have_the_same_blocks()
+    ensures { (number : Words → StrNo) (plain : Target → Bool) (e : Expr Target) → is_pure_expr is_no_local plain e ≡ true
+        → method_block number e ≡ expression_block e }
+{}
+
+/// A call that aborts is one instruction, which leaves no operand to pop.
+pub fn aborts_are_one_instruction()
+    ensures { (number : Words → StrNo) (f : Builtin) → is_abort f ≡ true → method_block number (Call (Function f) Nil) ≡ Straight instruction.Abort }
+{}
+
+/// In a checked description the calls of each expression fit.
+pub fn checked_calls_fit()
+    ensures { (unit : Description Target) → mismatches unit ≡ [] → AllByRecursion CallsFit (attributes_of unit) }
+{}

@@ -1,0 +1,5 @@
+use Rattle.edd_methods.proofs.CheckedMethods.{expressions_stand}
+use Rattle.edd_methods.proofs.laws.checked_expressions_are_spelled.Goals as goal
+
+pub returns : goal.returns
+returns c = expressions_stand

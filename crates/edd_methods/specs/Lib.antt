@@ -1,0 +1,7 @@
+pub mod Statements
+pub mod StatementEffects
+pub mod Following
+pub mod TreeCode
+pub mod TreeExpressions
+pub mod StatementCode
+pub mod MethodCode
