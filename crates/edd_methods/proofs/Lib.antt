@@ -22,3 +22,9 @@ pub mod ResolvedStatements
 pub mod ResolvedUnits
 pub mod ResolvedReferences
 pub mod CheckedMethods
+pub mod DepthsOfBlocks
+pub mod BlockWays
+pub mod CodeFlow
+pub mod CodeDepths
+pub mod CodeStarts
+pub mod CodeWays
