@@ -15,7 +15,7 @@ use Rattle.edd_methods.proofs.CodePlaces.{PartIn, TestsIn, CodeIn, ArmsIn}
 
 -- ---- instructions that stand in code
 
-default_small : (p out : ℕ) (arms : Arms) → p + arms_size arms < 2 ^ 32 → out < 2 ^ 32 → default_place p out arms < 2 ^ 32
+pub default_small : (p out : ℕ) (arms : Arms) → p + arms_size arms < 2 ^ 32 → out < 2 ^ 32 → default_place p out arms < 2 ^ 32
 default_small p out Nil h k = k
 default_small p out (Statement first rest) h k = default_small (p + size first) out rest (omega (arith, h)) k
 default_small p out (Case label rest) h k = default_small p out rest h k

@@ -28,3 +28,5 @@ pub mod CodeFlow
 pub mod CodeDepths
 pub mod CodeStarts
 pub mod CodeWays
+pub mod CodeListed
+pub mod CodePasses
