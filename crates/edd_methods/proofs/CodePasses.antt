@@ -42,7 +42,7 @@ module _ (f : Instruction → Bool) (jumps : HoldsOfJumps f) (pop : f instructio
   abbrev pub Pass : List Instruction → Type 0
   Pass is = AllByRecursion (λ i. f i ≡ true) is
 
-  both : (is js : List Instruction) → Pass is → Pass js → Pass (is ++ js)
+  pub both : (is js : List Instruction) → Pass is → Pass js → Pass (is ++ js)
   both [] js h k = k
   both (i ∷ is) js h k = (h.0, both is js h.1 k)
 

@@ -46,7 +46,7 @@ module _ (xs : List Placed) (depth : ℕ → ℕ) where
   jump_sound : (p next to : ℕ) → depth p ≡ 0 → IsBorder to → IsSound xs depth (stand p (instruction.Jump to) next)
   jump_sound p next to here there = sound_jump One Method xs depth p next to 0 here there.0 (omega arith) there.1 (λ f. refl)
 
-  end_sound : (p next : ℕ) → depth p ≡ 0 → IsSound xs depth (stand p instruction.End next)
+  pub end_sound : (p next : ℕ) → depth p ≡ 0 → IsSound xs depth (stand p instruction.End next)
   end_sound p next here = record { lands = refl; enough = omega arith; bounded = omega (arith, here); agree = tt; fresh = λ f. here }
 
   leave_sound : (p next to : ℕ) → depth p ≡ 1 → IsBorder next → IsBorder to → (IsFresh xs p → ⊥) → IsSound xs depth (stand p (instruction.JumpIfZero to) next)

@@ -30,3 +30,4 @@ pub mod CodeStarts
 pub mod CodeWays
 pub mod CodeListed
 pub mod CodePasses
+pub mod CodeUnits
