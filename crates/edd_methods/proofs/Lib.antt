@@ -31,3 +31,5 @@ pub mod CodeWays
 pub mod CodeListed
 pub mod CodePasses
 pub mod CodeUnits
+pub mod TreeFits
+pub mod ResolvedHeights
