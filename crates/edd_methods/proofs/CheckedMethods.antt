@@ -67,7 +67,7 @@ all_stand context strings number long few variables slots (p ∷ ps) fit refer k
 
 module _ (d : Description Target) (is : IsChecked d) (m : MethNo) (strings : List Words) (few : length strings ≤ 65536) (number : Words → StrNo)
     (known : AllByRecursion (λ p. HasNumbers (string_of_table strings) number p.expression) (body_expressions (body_of d m))) where
-  calls_fit : AllByRecursion (λ p. call_mismatches p.is_statement p.expression ≡ []) (body_expressions (body_of d m))
+  pub calls_fit : AllByRecursion (λ p. call_mismatches p.is_statement p.expression ≡ []) (body_expressions (body_of d m))
   calls_fit = body_fits d (front_none (mismatches d) _ (front_none (wrong_types d) _ is.no_breach).1).0 m
 
   pub expressions_stand : AllByRecursion (λ p. Stands (method_context d strings (slots_in (body_of d m))) number p.expression) (body_expressions (body_of d m))
@@ -77,7 +77,7 @@ module _ (d : Description Target) (is : IsChecked d) (m : MethNo) (strings : Lis
       let refer = body_refers d is.is_resolved (counts_of d.identification d.items (length strings)) refl m in
       all_stand (method_context d strings (slots_in (body_of d m))) strings number refl few (omega (arith, variables)) (omega (arith, slots)) (body_expressions (body_of d m)) calls_fit refer known
 
-  has_blocks : HasBlocks number (string_of_table strings) (body_of d m)
+  pub has_blocks : HasBlocks number (string_of_table strings) (body_of d m)
   has_blocks = record { fit = calls_fit; known = known; spelled = each_spelled (body_expressions (body_of d m)) expressions_stand }
     where
       each_spelled : (ps : List (Placed Target)) → AllByRecursion (λ p. Stands (method_context d strings (slots_in (body_of d m))) number p.expression) ps

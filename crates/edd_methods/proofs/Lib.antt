@@ -22,6 +22,8 @@ pub mod ResolvedStatements
 pub mod ResolvedUnits
 pub mod ResolvedReferences
 pub mod CheckedMethods
+pub mod MethodFits
+pub mod ValidMethods
 pub mod DepthsOfBlocks
 pub mod BlockWays
 pub mod CodeFlow

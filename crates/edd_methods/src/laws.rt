@@ -185,6 +185,23 @@ pub fn checked_methods_have_their_code()
         → IsMethodCode d strings m (slots_in (body_of d m)) (unit_code (method_code number (body_of d m))) }
 {}
 
+/// The unit of the code of each method of a checked description is valid, where the texts of the method have their numbers in the table
+/// of strings.
+pub fn checked_code_is_valid()
+    ensures { (d : Description Target) → IsChecked d → (m : MethNo) → (strings : List Words) → length strings ≤ 65536 → (number : Words → StrNo)
+        → AllByRecursion (λ p. HasNumbers (string_of_table strings) number p.expression) (body_expressions (body_of d m))
+        → size (method_code number (body_of d m)) < 2 ^ 31
+        → IsValidUnit (method_context d strings (slots_in (body_of d m))) (unit_code (method_code number (body_of d m))) }
+{}
+
+/// So it is the method's.
+pub fn checked_code_is_the_methods()
+    ensures { (d : Description Target) → IsChecked d → (m : MethNo) → (strings : List Words) → length strings ≤ 65536 → (number : Words → StrNo)
+        → AllByRecursion (λ p. HasNumbers (string_of_table strings) number p.expression) (body_expressions (body_of d m))
+        → size (method_code number (body_of d m)) < 2 ^ 31
+        → IsMethodCode d strings m (slots_in (body_of d m)) (unit_code (method_code number (body_of d m))) }
+{}
+
 /// The code of each method of a checked description has at most 32 bytes for each node of its body.
 pub fn checked_methods_are_short()
     ensures { (d : Description Target) → IsChecked d → (m : MethNo) → (number : Words → StrNo)
