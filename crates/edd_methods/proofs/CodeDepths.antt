@@ -7,7 +7,7 @@ use Rattle.edd_code.specs.Blocks as blocks
 use Rattle.edd_code.specs.Blocks.{Block, Straight}
 use Rattle.edd_code.proofs.BlockDepths.{until, until_front, until_behind, depth_in, HasDepthsOf, at_front}
 use Rattle.edd_methods.specs.Statements.{Part, Missing, Step, Test, Code, Plain, Then, Branch, Loop, Switch, Break, Continue, Finish, Arms, Nil, Statement, Case, Default, part_size, tests_size, size, arms_size}
-use Rattle.edd_methods.proofs.CodeFlow.{Rests, Gives, FitsPart, Fits, FitArms}
+use Rattle.edd_methods.specs.CodeFlow.{Rests, Gives, FitsPart, Fits, FitArms}
 use Rattle.edd_methods.proofs.DepthsOfBlocks.{has_depths}
 
 -- ---- one number for each place
@@ -133,11 +133,11 @@ module _ (depth : ℕ → ℕ) where
       let here : depth p ≡ 0 = agree p (omega arith) (omega (arith, end, long)) ∙ ap (λ (b : Block). depth_in b p 0 p) is in
       subst (λ (b : Block). HasDepthsOf depth p 0 b) (sym is) here
   rests_has p q b end (inr runs) agree exit =
-      has_depths One Method depth p 0 b runs.flows (λ x low high. agree x low (omega (arith, high, end))) (ap depth end ∙ exit ∙ sym runs.after)
+      has_depths One Method depth p 0 b runs.0 (λ x low high. agree x low (omega (arith, high, end))) (ap depth end ∙ exit ∙ sym runs.1)
 
   gives_has : (p q : ℕ) (b : Block) → p + blocks.size b ≡ q → Gives b → Agree (depth_in b p 0) p q → depth q ≡ 1 → HasDepthsOf depth p 0 b
   gives_has p q b end runs agree exit =
-      has_depths One Method depth p 0 b runs.flows (λ x low high. agree x low (omega (arith, high, end))) (ap depth end ∙ exit ∙ sym runs.after)
+      has_depths One Method depth p 0 b runs.0 (λ x low high. agree x low (omega (arith, high, end))) (ap depth end ∙ exit ∙ sym runs.1)
 
   part_has : (p q : ℕ) (part : Part) → p + part_size part ≡ q → FitsPart Rests Gives part → Agree (part_depth part p) p q → depth q ≡ 0 → HasPart p part
   part_has p q Missing end fits agree exit = ap depth (omega (arith, end)) ∙ exit

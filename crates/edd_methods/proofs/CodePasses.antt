@@ -15,7 +15,7 @@ use Rattle.edd_code.specs.Blocks.{Block, target}
 use Rattle.edd_code.specs.Flow.{FlowsIn, depth_after, all_straight}
 use Rattle.edd_code.proofs.BlockUnits.{HoldsOfJumps}
 use Rattle.edd_methods.specs.Statements.{Part, Missing, Step, Test, Code, Plain, Then, Branch, Loop, Switch, Break, Continue, Finish, Arms, Nil, Statement, Case, Default, part_size, size, part_emitted, tests_emitted, emitted, arms_emitted}
-use Rattle.edd_methods.proofs.CodeFlow.{Rests, Gives, FitsPart, Fits, FitArms}
+use Rattle.edd_methods.specs.CodeFlow.{Rests, Gives, FitsPart, Fits, FitArms}
 
 -- ---- the blocks of methods have instructions that methods may have
 
@@ -29,11 +29,11 @@ flows_allowed d (blocks.Either first otherwise) h = and_from _ _ (flows_allowed 
 flows_allowed d (blocks.Match label body rest) h = and_from _ _ (flows_allowed (d - 1) body h.2) (flows_allowed d rest h.3)
 
 pub gives_allowed : (b : Block) → Gives b → all_straight (is_allowed One Method) b ≡ true
-gives_allowed b runs = flows_allowed 0 b runs.flows
+gives_allowed b runs = flows_allowed 0 b runs.0
 
 pub rests_allowed : (b : Block) → Rests b → all_straight (is_allowed One Method) b ≡ true
 rests_allowed b (inl is) = ap (all_straight (is_allowed One Method)) is
-rests_allowed b (inr runs) = flows_allowed 0 b runs.flows
+rests_allowed b (inr runs) = flows_allowed 0 b runs.0
 
 -- ---- what is emitted
 

@@ -24,7 +24,8 @@ use Rattle.edd_methods.specs.Statements.{Code, size, emitted, bytes_at, unit_cod
 use Rattle.edd_methods.proofs.BlockWays.{IsSound}
 use Rattle.edd_methods.proofs.CodeBytes.{code_spelled}
 use Rattle.edd_methods.proofs.CodeDepths.{code_depth, HasCode, code_has}
-use Rattle.edd_methods.proofs.CodeFlow.{Rests, Gives, Fits, fits_weaker}
+use Rattle.edd_methods.specs.CodeFlow.{Rests, Gives, Fits}
+use Rattle.edd_methods.proofs.CodeFlow.{fits_weaker}
 use Rattle.edd_methods.proofs.CodeListed.{code_holds}
 use Rattle.edd_methods.proofs.CodePasses.{gives_allowed, rests_allowed, both, list_passes, code_passes}
 use Rattle.edd_methods.proofs.CodeReading.{code_in}

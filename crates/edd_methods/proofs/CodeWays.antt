@@ -13,7 +13,7 @@ use Rattle.edd_code.proofs.BlockJumps.{Inside, starts}
 use Rattle.edd_methods.specs.Statements.{Part, Missing, Step, Test, Code, Plain, Then, Branch, Loop, Switch, Break, Continue, Finish, Arms, Nil, Statement, Case, Default, part_size, tests_size, size, arms_size, default_place}
 use Rattle.edd_methods.proofs.BlockWays.{IsSound, leads_on, leads_near, not_fresh, exit_fresh, sound_straight, sound_zero, sound_case, sound_jump, block_is_sound}
 use Rattle.edd_methods.proofs.CodePlaces.{PartIn, TestsIn, CodeIn, ArmsIn}
-use Rattle.edd_methods.proofs.CodeFlow.{Rests, Gives, FitsPart, Fits, FitArms}
+use Rattle.edd_methods.specs.CodeFlow.{Rests, Gives, FitsPart, Fits, FitArms}
 use Rattle.edd_methods.proofs.CodeDepths.{HasPart, HasOne, HasCode, HasArms, part_front, code_front, arms_front}
 use Rattle.edd_methods.proofs.CodeStarts.{InsidePart, InsideTests, InsideCode, InsideArms, Starts, part_starts, tests_starts, code_starts, arms_starts}
 
@@ -28,18 +28,18 @@ module _ (xs : List Placed) (depth : ℕ → ℕ) where
   -- ---- blocks
 
   value_sound : (p : ℕ) (b : Block) → Gives b → HasDepthsOf depth p 0 b → depth (p + blocks.size b) ≡ 1 → Starts xs (p + blocks.size b) → Inside xs p b → AllIn (IsSound xs depth) p b
-  value_sound p b runs has exit start inside = block_is_sound One Method xs depth p 0 b runs.flows has (exit ∙ sym runs.after) start inside (λ f. refl)
+  value_sound p b runs has exit start inside = block_is_sound One Method xs depth p 0 b runs.0 has (exit ∙ sym runs.1) start inside (λ f. refl)
 
   -- something leads to the place behind a value
   value_leads : (p : ℕ) (b : Block) → Gives b → Inside xs p b → IsFresh xs (p + blocks.size b) → ⊥
-  value_leads p b runs inside fresh = absurd (omega (arith, runs.after, exit_fresh One Method xs p 0 b runs.flows inside (λ f. refl) fresh))
+  value_leads p b runs inside fresh = absurd (omega (arith, runs.1, exit_fresh One Method xs p 0 b runs.0 inside (λ f. refl) fresh))
 
   rests_sound : (p : ℕ) (b : Block) → Rests b → HasDepthsOf depth p 0 b → IsBorder (p + blocks.size b) → Inside xs p b → AllIn (IsSound xs depth) p b
   rests_sound p b (inl is) has exit inside =
       let here = at_front depth p 0 b has in
       let abort : IsSound xs depth (stand p instruction.Abort (p + 1)) = record { lands = refl; enough = omega arith; bounded = omega (arith, here); agree = tt; fresh = λ f. here } in
       subst (λ (b : Block). AllIn (IsSound xs depth) p b) (sym is) abort
-  rests_sound p b (inr runs) has exit inside = block_is_sound One Method xs depth p 0 b runs.flows has (exit.0 ∙ sym runs.after) exit.1 inside (λ f. refl)
+  rests_sound p b (inr runs) has exit inside = block_is_sound One Method xs depth p 0 b runs.0 has (exit.0 ∙ sym runs.1) exit.1 inside (λ f. refl)
 
   -- ---- instructions of statements
 

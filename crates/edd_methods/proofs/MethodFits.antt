@@ -1,5 +1,5 @@
 -- The blocks of a checked method's expressions find their operands, and name what exists.
-use Rattle.std.proofs.Common.{◌≡◌, refl, Bool, true, false, List, [], ◌∷◌, Option, Some, None, arith}
+use Rattle.std.proofs.Common.{◌≡◌, refl, ℕ, Bool, true, false, List, [], ◌∷◌, Option, Some, None, arith}
 use Rattle.std.specs.Prelude.{◌&&◌}
 use Rattle.std.specs.List.{AllByRecursion}
 use Rattle.std.proofs.Math.Logic.{inl, inr}
@@ -27,7 +27,7 @@ use Rattle.edd_methods.specs.StatementCode.{popped, alone_block, blocks_by}
 use Rattle.edd_methods.specs.TreeCode.{initial_block, declare_block}
 use Rattle.edd_methods.specs.TreeExpressions.{is_abort_call, IsSlotBelow, EachWritten, EachDeclared, EachSlotOf, UnlessAbort}
 use Rattle.edd_methods.proofs.CheckedMethods.{Stands}
-use Rattle.edd_methods.proofs.CodeFlow.{Rests, Gives}
+use Rattle.edd_methods.specs.CodeFlow.{Leaves, Rests, Gives}
 use Rattle.edd_methods.proofs.ResolvedHeights.{NoneHigher}
 
 -- ---- what is no abort fits also where it is no whole statement
@@ -82,6 +82,12 @@ value_fits s (Call (Item i) arguments) fit is = absurd cc
 
 -- ---- blocks
 
+leaves : (n : ℕ) (b : Block) → Runs b 0 n → Leaves n b
+leaves n b runs = (runs.flows, runs.after)
+
+runs_so : (n : ℕ) (b : Block) → Leaves n b → Runs b 0 n
+runs_so n b has = record { flows = has.0; after = has.1 }
+
 module _ (context : Context) (number : Words → StrNo) where
   abbrev Named : Block → Type 0
   Named b = all_straight (names_exist context) b ≡ true
@@ -104,10 +110,10 @@ module _ (context : Context) (number : Words → StrNo) where
       by_test true is = (inl refl, refl)
       by_test false is =
           let there = ok is in
-          (inr (then_runs (method_block number e) (Straight instruction.Pop) 0 1 0 there.0 (pop_runs 0 (omega arith))), and_from _ true there.1 refl)
+          (inr (leaves 0 (popped (method_block number) e) (then_runs (method_block number e) (Straight instruction.Pop) 0 1 0 (runs_so 1 (method_block number e) there.0) (pop_runs 0 (omega arith)))), and_from _ true there.1 refl)
 
   initial_there : (e : Option (Expr Target)) → EachWritten IsThere e → GivesThere (initial_block (blocks_by (method_block number)) e)
-  initial_there None ok = (push_runs (instruction.Push 0) 0 refl refl refl (omega arith), refl)
+  initial_there None ok = (leaves 1 (Straight (instruction.Push 0)) (push_runs (instruction.Push 0) 0 refl refl refl (omega arith)), refl)
   initial_there (Some e) ok = ok
 
   store_named : (place : Target) → IsSlotBelow context.slots place → Named (store_block place)
@@ -126,13 +132,13 @@ module _ (context : Context) (number : Words → StrNo) where
       let pop = Straight instruction.Pop in
       let one = initial_there d.value ok.1 in
       let more = declared_there rest slots.1 ok.2 in (
-        then_runs first (Then store (Then pop behind)) 0 1 0 one.0
+        then_runs first (Then store (Then pop behind)) 0 1 0 (runs_so 1 first one.0)
             (then_runs store (Then pop behind) 1 1 0 (store_runs d.place 0 (omega arith)) (then_runs pop behind 1 0 0 (pop_runs 0 (omega arith)) more.0)),
         and_from _ _ one.1 (and_from _ _ (store_named d.place slots.0) (and_from true _ refl more.1)),
       )
 
   pub declares_there : (ds : List (Declarator Target)) → EachSlotOf context.slots ds → EachDeclared IsThere ds → RestsThere (declare_block (blocks_by (method_block number)) ds)
-  declares_there ds slots ok = let there = declared_there ds slots ok in (inr there.0, there.1)
+  declares_there ds slots ok = let there = declared_there ds slots ok in (inr (leaves 0 (declare_block (blocks_by (method_block number)) ds) there.0), there.1)
 
   -- ---- the expressions of a body
 
@@ -140,6 +146,6 @@ module _ (context : Context) (number : Words → StrNo) where
       → AllByRecursion (λ p. Stands context number p.expression) ps → AllByRecursion (UnlessAbort IsThere) ps
   all_there [] fit low stand = tt
   all_there (p ∷ ps) fit low stand = (
-    λ is. (method_runs number p.expression (value_fits p.is_statement p.expression fit.0 is) 0 (omega (arith, low.0)), stand.0.1),
+    λ is. (leaves 1 (method_block number p.expression) (method_runs number p.expression (value_fits p.is_statement p.expression fit.0 is) 0 (omega (arith, low.0))), stand.0.1),
     all_there ps fit.1 low.1 stand.1,
   )

@@ -6,7 +6,7 @@ use Rattle.edd_syntax.specs.Statement.{Declarator, Stmt, Empty, Evaluate, Block,
 use Rattle.edd_code.specs.Blocks as blocks
 use Rattle.edd_methods.specs.TreeCode.{Blocks, declare_block, first_of, test_of, last_of, code_of, code_in, arms_of}
 use Rattle.edd_methods.specs.TreeExpressions.{is_abort_call, EachWritten, EachDeclared, Each, EachIn, EachSlotOf, HasSlots, EachSlot}
-use Rattle.edd_methods.proofs.CodeFlow.{FitsPart, Fits, FitArms}
+use Rattle.edd_methods.specs.CodeFlow.{FitsPart, Fits, FitArms}
 
 -- P: what gives R of the block of an effect, and V of the block of a value; a limit of slots
 module _ (given : Blocks) (limit : ℕ) (P : Expr Target → Type 0) (R V : blocks.Block → Type 0) (value : (e : Expr Target) → P e → V (given.value e))

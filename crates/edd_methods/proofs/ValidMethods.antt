@@ -23,7 +23,8 @@ use Rattle.edd_methods.specs.StatementCode.{IsSpelled, blocks_by}
 use Rattle.edd_methods.specs.Statements.{size, unit_code}
 use Rattle.edd_methods.specs.TreeExpressions.{EachIn, UnlessAbort}
 use Rattle.edd_methods.proofs.CheckedMethods.{calls_fit, expressions_stand, has_blocks, has_method_code}
-use Rattle.edd_methods.proofs.CodeFlow.{Rests, Gives, Fits, fits_weaker}
+use Rattle.edd_methods.specs.CodeFlow.{Rests, Gives, Fits}
+use Rattle.edd_methods.proofs.CodeFlow.{fits_weaker}
 use Rattle.edd_methods.proofs.CodeSpelled.{values_spelled}
 use Rattle.edd_methods.proofs.CodeUnits.{Passes, unit_is_valid}
 use Rattle.edd_methods.proofs.MethodFits.{RestsThere, GivesThere, IsThere, effect_there, declares_there, all_there}

@@ -1,4 +1,5 @@
 pub mod Statements
+pub mod CodeFlow
 pub mod StatementEffects
 pub mod Following
 pub mod TreeCode

@@ -16,11 +16,13 @@ ghost use Rattle.edd_syntax.specs.MethodState.{Action, pure};
 ghost use Rattle.edd_syntax.specs.Reference.{Path};
 ghost use Rattle.edd_syntax.specs.Resolved.{IsChecked, IsResolved};
 ghost use Rattle.edd_syntax.specs.ResolvedTrees.{resolved_body};
-ghost use Rattle.edd_syntax.specs.Size.{body_nodes};
+ghost use Rattle.edd_syntax.specs.Size.{body_nodes, height, height_limit};
 ghost use Rattle.edd_syntax.specs.Statement.{Body, Stmt, slots_in};
 ghost use Rattle.edd_syntax.specs.SubsetRules.{body_expressions, call_mismatches, mismatches};
 ghost use Rattle.edd_syntax.specs.Words.{Words};
+ghost use Rattle.edd_image.specs.declared.unit.Context.{Context};
 ghost use Rattle.edd_image.specs.declared.unit.Sort.TheVariants.{Method};
+ghost use Rattle.edd_image.specs.declared.unit.Version.TheVariants.{One};
 ghost use Rattle.edd_image.specs.Agreement.{string_of_table};
 ghost use Rattle.edd_image.specs.Execution as image;
 ghost use Rattle.edd_image.specs.MethodAgreement.{AgreesOnRuns, IsMethodCode, method_context};
@@ -32,6 +34,7 @@ ghost use Rattle.edd_code.specs.Flow.{AreSpelled, all_straight};
 ghost use Rattle.edd_code.specs.MethodExpressions.{method_block};
 ghost use Rattle.edd_code.specs.Numbered.{HasNumbers, machine_of};
 ghost use Rattle.edd_image.specs.References.{names_exist};
+ghost use Rattle.edd_methods.specs.CodeFlow.{Fits, Gives, Rests};
 ghost use Rattle.edd_methods.specs.Following.{Does, Follows};
 ghost use Rattle.edd_methods.specs.MethodCode.{HasBlocks, method_code};
 ghost use Rattle.edd_methods.specs.StatementCode.{IsShort, IsSpelled, Means, body_code, statement_code};
@@ -183,6 +186,20 @@ pub fn checked_methods_have_their_code()
         → size (method_code number (body_of d m)) < 2 ^ 31
         → IsValidUnit (method_context d strings (slots_in (body_of d m))) (unit_code (method_code number (body_of d m)))
         → IsMethodCode d strings m (slots_in (body_of d m)) (unit_code (method_code number (body_of d m))) }
+{}
+
+/// The unit of code is valid in a method where its blocks find their operands and leave none, or one for a test, the operands of their
+/// instructions are in their ranges, and the variables, slots and strings that they name exist.
+pub fn flowing_code_is_valid()
+    ensures { (context : Context) (c : Code) → context.version ≡ One → context.sort ≡ Method → IsSpelledCode c → size c < 2 ^ 31
+        → Fits Rests Gives c → Fits (λ b. all_straight (names_exist context) b ≡ true) (λ b. all_straight (names_exist context) b ≡ true) c
+        → IsValidUnit context (unit_code c) }
+{}
+
+/// No expression in a method of a resolved description is higher than the limit.
+pub fn expressions_of_methods_are_low()
+    ensures { (d : Description Target) → IsResolved d → (m : MethNo)
+        → AllByRecursion (λ p. height p.expression ≤ height_limit) (body_expressions (body_of d m)) }
 {}
 
 /// The unit of the code of each method of a checked description is valid, where the texts of the method have their numbers in the table
