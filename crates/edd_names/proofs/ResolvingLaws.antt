@@ -12,7 +12,7 @@ use Rattle.edd_name_meanings.specs.Faults.{IsFound, IsFirst, of_rule}
 use Rattle.edd_name_meanings.specs.Meanings.{Means, NoFault, FirstFault, faults_in}
 use Rattle.edd_names.specs.Units.{unit_view}
 use Rattle.edd_name_rules.specs.Walks.{described}
-use Rattle.edd_name_rules.proofs.FirstLaws.{first_of-append_none}
+use Rattle.edd_syntax.proofs.FirstLaws.{first_of-append_none}
 use Rattle.edd_names.proofs.MemberLaws.{all_named}
 use Rattle.edd_names.proofs.UseLaws.{first_left_of, first_right_of}
 use Rattle.edd_syntax.specs.declared.limits.Limit.TheVariants as limit

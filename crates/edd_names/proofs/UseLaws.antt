@@ -5,7 +5,7 @@ use Rattle.edd_name_meanings.specs.declared.fault.NameFault.{NameFault}
 use Rattle.edd_name_meanings.specs.declared.fault.NameFault.TheVariants.{NoMemory}
 use Rattle.edd_name_meanings.specs.Faults.{refusal_of, IsFound, IsFirst}
 use Rattle.edd_name_meanings.specs.Meanings.{faults_in, NoFault, FirstFault}
-use Rattle.edd_name_rules.proofs.FirstLaws.{first_of-append_none}
+use Rattle.edd_syntax.proofs.FirstLaws.{first_of-append_none}
 use Rattle.edd_name_rules.proofs.Noting.{told_left, told_right}
 use Rattle.edd_syntax.specs.Reference.{Path}
 use Rattle.edd_syntax.specs.Item.{Description}

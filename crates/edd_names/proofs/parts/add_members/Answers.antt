@@ -1,4 +1,4 @@
-use Rattle.std.proofs.Common.{refl, subst, arith}
+use Rattle.std.proofs.Common.{refl, sym, subst, arith}
 use Rattle.std.proofs.Math.ListN.{drop_of_length-le}
 use Rattle.std.specs.List.{flat_map}
 use Rattle.edd_syntax.specs.ItemView.{member_of}
@@ -9,7 +9,7 @@ use Rattle.edd_names.specs.ResolvedParts.{member_uses}
 use Rattle.edd_name_meanings.specs.Meanings.{NoFault, FirstFault}
 use Rattle.edd_names.proofs.Copying.{at_start, one_more, stops, none_at_end, meant_at_end}
 use Rattle.edd_names.proofs.ExprSteps.{each_joined}
-use Rattle.edd_name_rules.proofs.FirstLaws.{flat_split, flat_one}
+use Rattle.edd_syntax.proofs.FirstLaws.{flat_split, flat_one}
 use Rattle.edd_name_rules.proofs.Passing.{passed}
 use Rattle.edd_names.proofs.UseLaws.{no_use}
 use Rattle.edd_names.proofs.parts.add_members.Goals as goal
@@ -20,13 +20,13 @@ loop-member-init c = at_start (unit_of c.args.names.now) (member_of path_of) (me
 pub loop-member-preserved : goal.loop-member-preserved
 loop-member-preserved c =
     one_more (unit_of c.args.names.now) (member_of path_of) (member_of (λ r. r)) (flat_map (member_uses c.args.kinds.now)) (flat_split (member_uses c.args.kinds.now)) (resolved_member (unit_of c.args.names.now) c.args.kinds.now) (each (resolved_member (unit_of c.args.names.now) c.args.kinds.now)) (λ ws. ws) (each_joined (resolved_member (unit_of c.args.names.now) c.args.kinds.now)) c.loop-member.member-index c.args.members.now c.member-item.result c.loop-member.copies.items c.push.new.self.items c.in_ok-copy_member.field-0 (omega arith) c.member-item.is
-    (subst (NoFault (unit_of c.args.names.now)) (flat_one (member_uses c.args.kinds.now) (member_of path_of c.member-item.result)) c.in_ok-copy_member.ensures.none) c.in_ok-copy_member.ensures.ok c.in_ok-push.ensures.items c.loop-member.invariant
+    (subst (NoFault (unit_of c.args.names.now)) (sym (flat_one (member_uses c.args.kinds.now) (member_of path_of c.member-item.result))) c.in_ok-copy_member.ensures.none) c.in_ok-copy_member.ensures.ok c.in_ok-push.ensures.items c.loop-member.invariant
 
 pub returns-in_err-copy_member-clause-err : goal.returns-in_err-copy_member-clause-err
 returns-in_err-copy_member-clause-err c =
     passed c.from_residual.result c.in_err-copy_member.field-0.0 _ c.from_residual.ensures.1
     (stops (unit_of c.args.names.now) (member_of path_of) (member_of (λ r. r)) (flat_map (member_uses c.args.kinds.now)) (flat_split (member_uses c.args.kinds.now)) (resolved_member (unit_of c.args.names.now) c.args.kinds.now) (each (resolved_member (unit_of c.args.names.now) c.args.kinds.now)) (λ ws. ws) (each_joined (resolved_member (unit_of c.args.names.now) c.args.kinds.now)) c.loop-member.member-index c.args.members.now c.member-item.result c.loop-member.copies.items c.in_err-copy_member.field-0.0 (omega arith) c.member-item.is
-    (subst (FirstFault c.in_err-copy_member.field-0.0 (unit_of c.args.names.now)) (flat_one (member_uses c.args.kinds.now) (member_of path_of c.member-item.result)) c.in_err-copy_member.ensures.err) c.loop-member.invariant)
+    (subst (FirstFault c.in_err-copy_member.field-0.0 (unit_of c.args.names.now)) (sym (flat_one (member_uses c.args.kinds.now) (member_of path_of c.member-item.result))) c.in_err-copy_member.ensures.err) c.loop-member.invariant)
 
 pub returns-clause-none : goal.returns-clause-none
 returns-clause-none c = none_at_end (unit_of c.args.names.now) (member_of path_of) (member_of (λ r. r)) (flat_map (member_uses c.args.kinds.now)) (flat_split (member_uses c.args.kinds.now)) (resolved_member (unit_of c.args.names.now) c.args.kinds.now) (each (resolved_member (unit_of c.args.names.now) c.args.kinds.now)) (λ ws. ws) (each_joined (resolved_member (unit_of c.args.names.now) c.args.kinds.now)) (no_use (unit_of c.args.names.now)) c.loop-member.member-index c.args.members.now c.loop-member.copies.items (drop_of_length-le c.args.members.now (omega arith)) c.loop-member.invariant

@@ -6,7 +6,7 @@ use Rattle.edd_syntax.specs.TreeView.{path_of}
 use Rattle.edd_name_meanings.specs.Directory.{unit_of}
 use Rattle.edd_names.proofs.Copying.{Copied}
 use Rattle.edd_names.proofs.ExprSteps.{each_joined}
-use Rattle.edd_name_rules.proofs.FirstLaws.{flat_split}
+use Rattle.edd_syntax.proofs.FirstLaws.{flat_split}
 use Rattle.edd_names.proofs.parts.add_type_parts.Given as goal
 
 -- those so far are copied

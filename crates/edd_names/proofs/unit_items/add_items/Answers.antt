@@ -1,4 +1,4 @@
-use Rattle.std.proofs.Common.{refl, subst, arith}
+use Rattle.std.proofs.Common.{refl, sym, subst, arith}
 use Rattle.std.proofs.Math.ListN.{drop_of_length-le}
 use Rattle.std.specs.List.{flat_map}
 use Rattle.edd_syntax.specs.ItemView.{item_of}
@@ -9,7 +9,7 @@ use Rattle.edd_name_meanings.specs.Directory.{unit_of}
 use Rattle.edd_name_meanings.specs.Meanings.{NoFault, FirstFault}
 use Rattle.edd_names.proofs.Copying.{at_start, one_more, stops, none_at_end, meant_at_end}
 use Rattle.edd_names.proofs.ExprSteps.{each_joined}
-use Rattle.edd_name_rules.proofs.FirstLaws.{flat_split, flat_one}
+use Rattle.edd_syntax.proofs.FirstLaws.{flat_split, flat_one}
 use Rattle.edd_name_rules.proofs.Passing.{passed}
 use Rattle.edd_names.proofs.UseLaws.{no_use}
 use Rattle.std.specs.Prelude.{nat_lt}
@@ -26,13 +26,13 @@ copy_item-requires c = none_of_any (λ i. nat_lt local_limit (locals_of i)) (ite
 pub loop-item-preserved : goal.loop-item-preserved
 loop-item-preserved c =
     one_more (unit_of c.args.names.now) (item_of path_of) (item_of (λ r. r)) (flat_map item_uses) (flat_split item_uses) (resolved_item (unit_of c.args.names.now)) (each (resolved_item (unit_of c.args.names.now))) (λ ws. ws) (each_joined (resolved_item (unit_of c.args.names.now))) c.loop-item.item-index c.args.items.now c.item-item.result c.loop-item.copies.items c.push.new.self.items c.in_ok-copy_item.field-0 (omega arith) c.item-item.is
-    (subst (NoFault (unit_of c.args.names.now)) (flat_one item_uses (item_of path_of c.item-item.result)) c.in_ok-copy_item.ensures.none) c.in_ok-copy_item.ensures.ok c.in_ok-push.ensures.items c.loop-item.invariant
+    (subst (NoFault (unit_of c.args.names.now)) (sym (flat_one item_uses (item_of path_of c.item-item.result))) c.in_ok-copy_item.ensures.none) c.in_ok-copy_item.ensures.ok c.in_ok-push.ensures.items c.loop-item.invariant
 
 pub returns-in_err-copy_item-clause-err : goal.returns-in_err-copy_item-clause-err
 returns-in_err-copy_item-clause-err c =
     passed c.from_residual.result c.in_err-copy_item.field-0.0 _ c.from_residual.ensures.1
     (stops (unit_of c.args.names.now) (item_of path_of) (item_of (λ r. r)) (flat_map item_uses) (flat_split item_uses) (resolved_item (unit_of c.args.names.now)) (each (resolved_item (unit_of c.args.names.now))) (λ ws. ws) (each_joined (resolved_item (unit_of c.args.names.now))) c.loop-item.item-index c.args.items.now c.item-item.result c.loop-item.copies.items c.in_err-copy_item.field-0.0 (omega arith) c.item-item.is
-    (subst (FirstFault c.in_err-copy_item.field-0.0 (unit_of c.args.names.now)) (flat_one item_uses (item_of path_of c.item-item.result)) c.in_err-copy_item.ensures.err) c.loop-item.invariant)
+    (subst (FirstFault c.in_err-copy_item.field-0.0 (unit_of c.args.names.now)) (sym (flat_one item_uses (item_of path_of c.item-item.result))) c.in_err-copy_item.ensures.err) c.loop-item.invariant)
 
 pub returns-clause-none : goal.returns-clause-none
 returns-clause-none c = none_at_end (unit_of c.args.names.now) (item_of path_of) (item_of (λ r. r)) (flat_map item_uses) (flat_split item_uses) (resolved_item (unit_of c.args.names.now)) (each (resolved_item (unit_of c.args.names.now))) (λ ws. ws) (each_joined (resolved_item (unit_of c.args.names.now))) (no_use (unit_of c.args.names.now)) c.loop-item.item-index c.args.items.now c.loop-item.copies.items (drop_of_length-le c.args.items.now (omega arith)) c.loop-item.invariant

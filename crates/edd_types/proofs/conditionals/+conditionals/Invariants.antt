@@ -3,7 +3,7 @@ use Rattle.edd_syntax.specs.Conditional.{conds_from, arms_from}
 use Rattle.edd_syntax.specs.ItemView.{cond_of, arm_of}
 use Rattle.edd_syntax.specs.Refusal.{first_of}
 use Rattle.edd_types.specs.Breaches.{in_conds, in_arms, in_arm, has_default}
-use Rattle.edd_types.proofs.FirstLaws as stateless
+use Rattle.edd_syntax.proofs.FirstLaws as stateless
 use Rattle.edd_types.proofs.StatefulLoops as stateful
 use Rattle.edd_types.proofs.UnderConditions.{conds_split, arms_split}
 use Rattle.edd_types.proofs.Weights.{weight, weight_of_all, weight_of_arm, weight_of_arms}
