@@ -7,9 +7,9 @@ use Rattle.std.specs.Prelude.{Option}
 use Rattle.edd_syntax.specs.Words.{Words}
 use Rattle.edd_image.specs.Agreement.{string_of_table}
 use Rattle.edd_code.specs.Blocks.{Block}
-use Rattle.edd_attrs.specs.Code.{GrowsBy, Overflows}
-use Rattle.edd_attrs.specs.Lowered.{WritesBlock}
-use Rattle.edd_attrs.proofs.Growing.{both_added, overflows_second}
+use Rattle.edd_code.specs.Tables.{GrowsBy, Overflows}
+use Rattle.edd_code.specs.Written.{WritesBlock}
+use Rattle.edd_code.proofs.Growing.{both_added, overflows_second}
 
 -- the strings of the first list are among those of the second
 abbrev pub Within : (vs ws : List Words) → Type 0

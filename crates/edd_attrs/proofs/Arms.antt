@@ -13,12 +13,12 @@ use Rattle.edd_image.specs.Spelling.{i64}
 use Rattle.edd_code.specs.Blocks.{Block, Match, bytes_at}
 use Rattle.edd_code.specs.Closing.{closed}
 use Rattle.edd_code.proofs.Closing.{match_closed, closed_length}
-use Rattle.edd_attrs.specs.Code.{GrowsBy, Overflows}
+use Rattle.edd_code.specs.Tables.{GrowsBy, Overflows}
 use Rattle.edd_attrs.specs.TreeBlocks.{IsCondsBlock, IsArmsBlock}
 use Rattle.edd_attrs.specs.Writing.{WritesArm, WritesArms, WritesBody, arms_strings, conds_strings, header, headers, hole_of, holes_of, with_body}
 use Rattle.edd_attrs.proofs.Among.{Within, within_same, within_left, within_right, grows_within, grows_twice, overflows_later}
 use Rattle.edd_attrs.proofs.Flat.{arms_strings_are, strings_at_arm}
-use Rattle.edd_attrs.proofs.Growing.{nothing_added}
+use Rattle.edd_code.proofs.Growing.{nothing_added}
 use Rattle.edd_attrs.proofs.Loops.{later_on, dropped, flat_take, flat_drop, flat_parts}
 
 -- ---- one body

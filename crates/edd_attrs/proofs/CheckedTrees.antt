@@ -33,7 +33,7 @@ use Rattle.edd_image.specs.declared.parts.Counts.{Counts}
 use Rattle.edd_code.specs.Reads.{reads_existing}
 use Rattle.edd_attrs.proofs.GoodTrees.{bind_some, each_all, is_good, item_good}
 use Rattle.edd_code.proofs.Existing.{is_item_of}
-use Rattle.edd_attrs.proofs.BothTests.{both_of}
+use Rattle.edd_code.proofs.BothTests.{both_of}
 
 pub front_none : {A : Type 0} (xs ys : List A) → xs ++ ys ≡ [] → (xs ≡ []) × (ys ≡ [])
 front_none [] ys h = (refl, h)

@@ -16,8 +16,8 @@ use Rattle.edd_code.specs.Blocks.{Block, Nothing, Straight, Then, Either, bytes_
 use Rattle.edd_code.specs.Closing.{closed}
 use Rattle.edd_code.specs.Expressions.{expression_block}
 use Rattle.edd_code.proofs.Closing.{either_closed, straight_written}
-use Rattle.edd_attrs.specs.Code.{GrowsBy, Overflows}
-use Rattle.edd_attrs.specs.Lowered.{WritesBlock}
+use Rattle.edd_code.specs.Tables.{GrowsBy, Overflows}
+use Rattle.edd_code.specs.Written.{WritesBlock}
 use Rattle.edd_attrs.specs.TreeBlocks.{IsCondBlock, IsCondsBlock, IsDefaultBlock}
 use Rattle.edd_attrs.specs.Writing.{WritesArms, arms_strings, cond_strings, conds_strings, default_of, headers, holes_of}
 use Rattle.edd_attrs.proofs.Flat.{default_within}

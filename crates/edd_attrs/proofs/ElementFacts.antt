@@ -32,7 +32,7 @@ use Rattle.edd_attrs.specs.TreeBlocks.{elements}
 use Rattle.edd_code.proofs.Existing.{is_item_of}
 use Rattle.edd_attrs.proofs.GoodTrees.{is_low, good_cond, good_enumerator, good_element, good_response, good_data, good_entry, good_member, is_small}
 use Rattle.edd_attrs.proofs.CheckedTrees.{no_breach, none_broken, ruled_element}
-use Rattle.edd_attrs.proofs.BothTests.{both_of, both_true}
+use Rattle.edd_code.proofs.BothTests.{both_of, both_true}
 
 all_front : {V : Type 0} (p : V → Bool) (xs ys : List V) → list_all p (xs ++ ys) ≡ true → (list_all p xs ≡ true) × (list_all p ys ≡ true)
 all_front p [] ys h = (refl, h)

@@ -12,7 +12,7 @@ use Rattle.edd_syntax.specs.Device.{Environment}
 use Rattle.edd_syntax.specs.Attributes as source
 use Rattle.edd_syntax.specs.Attributes.{each, all_values}
 use Rattle.edd_syntax.specs.WellFormed.{is_single, is_one, is_at_most_one, are_single_arms}
-use Rattle.edd_attrs.proofs.BothTests.{both_of}
+use Rattle.edd_code.proofs.BothTests.{both_of}
 
 module _ (there : Environment) (d : List ℤ) where
   -- what a conditional gives, its expressions and its values taken in turn

@@ -28,7 +28,7 @@ use Rattle.edd_attrs.specs.Records.{is_label, kept_enumerator, kept_response, ke
 use Rattle.edd_code.proofs.Existing.{is_item_of, meant_exists}
 use Rattle.edd_attrs.proofs.KeptConditions.{expr_pure, expr_height, cond_tested, conds_tested, same_height, same_heights, stays_single}
 use Rattle.edd_attrs.proofs.InTrees.{all_append, named, throughout, throughout_item}
-use Rattle.edd_attrs.proofs.BothTests.{both_of, both_true}
+use Rattle.edd_code.proofs.BothTests.{both_of, both_true}
 
 -- ---- steps that may fail
 

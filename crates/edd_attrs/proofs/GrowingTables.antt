@@ -17,7 +17,7 @@ use Rattle.edd_image.specs.Agreement.{attribute_context}
 use Rattle.edd_code.specs.Blocks as block
 use Rattle.edd_code.specs.Blocks.{Block}
 use Rattle.edd_code.specs.Flow.{all_straight}
-use Rattle.edd_attrs.proofs.BothTests.{both_of, both_true}
+use Rattle.edd_code.proofs.BothTests.{both_of, both_true}
 
 pub all_weaker : (f g : Instruction → Bool) → ((i : Instruction) → f i ≡ true → g i ≡ true) → (b : Block) → all_straight f b ≡ true → all_straight g b ≡ true
 all_weaker f g weaker block.Nothing h = refl

@@ -12,7 +12,7 @@ use Rattle.edd_syntax.specs.Device.{items_of, item_at}
 use Rattle.edd_syntax.specs.Attributes.{is_of_transaction}
 use Rattle.edd_attrs.specs.Trees.{Tree, Named, trees_of_attribute, trees_of, transaction_trees, first_tree, tree_in, tree_at}
 use Rattle.edd_attrs.specs.Rows.{trees_of_transaction}
-use Rattle.edd_attrs.proofs.BothTests.{both_of}
+use Rattle.edd_code.proofs.BothTests.{both_of}
 
 pub all_append : {A : Type 0} (p : A → Bool) (xs ys : List A) → list_all p xs ≡ true → list_all p ys ≡ true → list_all p (xs ++ ys) ≡ true
 all_append p [] ys h k = k

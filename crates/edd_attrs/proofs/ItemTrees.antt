@@ -9,7 +9,7 @@ use Rattle.edd_syntax.specs.Numbers.{kind_of, index_of}
 use Rattle.edd_syntax.specs.Device.{item_at}
 use Rattle.std.proofs.lemmas.Option.{slice_get-map}
 use Rattle.edd_attrs.specs.Trees.{Tree, tree_in, tree_at}
-use Rattle.edd_attrs.specs.Rows.{attributes_of_items}
+use Rattle.edd_code.specs.Places.{attributes_of_items}
 
 -- the tree in the attributes that were found
 abbrev pub tree_found : Option (List (Attribute Target)) → AttrRef → Option Tree

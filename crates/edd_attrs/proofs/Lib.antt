@@ -1,4 +1,3 @@
-pub mod BothTests
 pub mod UnitStrings
 pub mod Written
 pub mod Among
@@ -28,13 +27,10 @@ pub mod UnitNodes
 pub mod FewNodes
 pub mod NodeBounds
 pub mod LoweredRows
-pub mod Different
-pub mod Growing
 pub mod InTrees
 pub mod Looking
 pub mod ItemTrees
 pub mod Meanings
 pub mod Picking
-pub mod Places
 pub mod RecordOperands
 pub mod RecordStrings

@@ -8,10 +8,10 @@ use Rattle.edd_syntax.specs.Words.{Words}
 use Rattle.edd_image.specs.Agreement.{string_of_table}
 use Rattle.edd_code.specs.Blocks.{Block, Nothing, Then, bytes_at}
 use Rattle.edd_code.proofs.Closing.{nothing_written}
-use Rattle.edd_attrs.specs.Code.{GrowsBy, Overflows}
-use Rattle.edd_attrs.specs.Lowered.{WritesBlock}
+use Rattle.edd_code.specs.Tables.{GrowsBy, Overflows}
+use Rattle.edd_code.specs.Written.{WritesBlock}
 use Rattle.edd_attrs.proofs.Among.{within_left, within_right, overflows_later}
-use Rattle.edd_attrs.proofs.Growing.{nothing_added, both_added}
+use Rattle.edd_code.proofs.Growing.{nothing_added, both_added}
 use Rattle.edd_attrs.proofs.Written.{both_blocks}
 
 -- a table that begins with the new one begins with the old one

@@ -37,11 +37,11 @@ use Rattle.edd_attrs.specs.Trees as trees
 use Rattle.edd_attrs.specs.Trees.{Tree, tree_at}
 use Rattle.edd_attrs.specs.Records.{kept_enumerator, kept_data, kept_entry, kept_response, kept_member}
 use Rattle.edd_attrs.specs.Sizes.{strings_at, tree_nodes, length_limit}
-use Rattle.edd_attrs.specs.Code.{AreDifferent, Grows}
+use Rattle.edd_code.specs.Tables.{AreDifferent, Grows}
 use Rattle.edd_attrs.specs.Lowered.{LowersTree, OverflowsTree}
 use Rattle.edd_attrs.specs.Kept.{is_kept_tree, is_kept_row}
 use Rattle.edd_attrs.specs.TreeBlocks.{elements, IsBlockOf}
-use Rattle.edd_attrs.proofs.Different.{fewer_different}
+use Rattle.edd_code.proofs.Different.{fewer_different}
 use Rattle.edd_attrs.proofs.InTrees.{if_there}
 use Rattle.edd_attrs.proofs.Meanings.{unit_means}
 use Rattle.edd_attrs.proofs.FewNodes.{few_nodes}
@@ -53,7 +53,7 @@ use Rattle.edd_attrs.proofs.GrowingTables.{still_exist}
 use Rattle.edd_attrs.proofs.MeaningBlocks.{SameOutcome}
 use Rattle.edd_attrs.proofs.SoundTrees.{IsSoundUnit, tree_sound}
 use Rattle.edd_attrs.proofs.MeaningTrees.{block_means, block_held}
-use Rattle.edd_attrs.proofs.BothTests.{both_of}
+use Rattle.edd_code.proofs.BothTests.{both_of}
 
 -- ---- what the code asks of a tree
 

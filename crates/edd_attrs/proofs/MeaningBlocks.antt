@@ -24,7 +24,7 @@ use Rattle.edd_code.specs.Expressions.{expression_block}
 use Rattle.edd_code.specs.ExpressionMeaning.{of_value}
 use Rattle.edd_attrs.specs.TreeBlocks.{IsCondBlock, IsCondsBlock, IsArmsBlock, IsDefaultBlock, IsLineBlock}
 use Rattle.edd_attrs.proofs.GivenRecords.{given, all_given, case_given, default_given}
-use Rattle.edd_attrs.proofs.BothTests.{both_of}
+use Rattle.edd_code.proofs.BothTests.{both_of}
 
 behind_nothing : (o : Outcome) → behind [] o ≡ o
 behind_nothing (Goes records operands) = refl

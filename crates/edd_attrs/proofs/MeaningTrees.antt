@@ -42,7 +42,7 @@ use Rattle.edd_attrs.proofs.GivenRecords.{given_are_chosen, all_are_chosen, expr
 use Rattle.edd_attrs.proofs.RecordBlocks.{record_means}
 use Rattle.edd_attrs.proofs.HeldStrings.{Held, none_in, cond_held, conds_held, line_held}
 use Rattle.edd_attrs.proofs.SoundTrees.{handling_small, operation_small, bit_small, always}
-use Rattle.edd_attrs.proofs.BothTests.{both_of}
+use Rattle.edd_code.proofs.BothTests.{both_of}
 
 module _ (unit : Description Target) (strings : List Words) where
   abbrev count : Kind → ℕ

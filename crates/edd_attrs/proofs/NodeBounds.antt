@@ -13,7 +13,7 @@ use Rattle.edd_attrs.specs.Trees as trees
 use Rattle.edd_attrs.specs.Trees.{Tree, trees_of_part, trees_of_parts, tree_of_transaction_part, tree_at}
 use Rattle.edd_attrs.specs.Sizes.{element_nodes, tree_nodes}
 use Rattle.edd_attrs.proofs.InTrees.{if_there, all_append, named, throughout, throughout_item, tree_has}
-use Rattle.edd_attrs.proofs.BothTests.{both_true}
+use Rattle.edd_code.proofs.BothTests.{both_true}
 
 -- at most n nodes
 abbrev is_within : ℕ → Tree → Bool

@@ -25,7 +25,7 @@ use Rattle.edd_attrs.proofs.RecordOperands.{number_is, record_spelled, record_ex
 use Rattle.edd_attrs.proofs.SoundBlocks.{IsSound}
 use Rattle.edd_attrs.proofs.MeaningBlocks.{SameOutcome}
 use Rattle.edd_attrs.proofs.RecordOperands.{IsSayable, wrap_small}
-use Rattle.edd_attrs.proofs.BothTests.{both_of}
+use Rattle.edd_code.proofs.BothTests.{both_of}
 
 line_spelled : (is : List Instruction) → AllByRecursion IsSpelled is → AreSpelled (straight_line is)
 line_spelled [] h = tt

@@ -32,7 +32,7 @@ use Rattle.edd_image.specs.References.{names_exist, item_exists, variable_exists
 use Rattle.edd_image.specs.Agreement.{class_number, mask_number, IsString, IsOptionalString, SameRecord, string_of_table, attribute_context}
 use Rattle.edd_attrs.specs.Code.{giving}
 use Rattle.edd_attrs.specs.Records.{is_number, is_label, counts_in, is_fine}
-use Rattle.edd_attrs.proofs.BothTests.{both_of}
+use Rattle.edd_code.proofs.BothTests.{both_of}
 
 -- what a record needs so that its code gives it: a number is one of 32 bits
 abbrev pub IsSayable : Record → Type 0

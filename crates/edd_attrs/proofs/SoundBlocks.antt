@@ -16,7 +16,7 @@ use Rattle.edd_code.specs.Flow.{AreSpelled, Flows, all_straight, depth_after}
 use Rattle.edd_code.specs.Expressions.{expression_block}
 use Rattle.edd_attrs.specs.TreeBlocks.{IsCondBlock, IsCondsBlock, IsArmsBlock, IsDefaultBlock}
 use Rattle.edd_attrs.proofs.RecordOperands.{label_fits}
-use Rattle.edd_attrs.proofs.BothTests.{both_of, both_true}
+use Rattle.edd_code.proofs.BothTests.{both_of, both_true}
 
 -- what is known of the blocks of expressions
 pub record ExpressionFacts (context : Context) (reads : Target → Bool) : Type 0 where

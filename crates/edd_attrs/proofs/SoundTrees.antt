@@ -45,7 +45,7 @@ use Rattle.edd_attrs.proofs.CheckedTrees.{reads_of, is_ruled, is_whole, no_breac
 use Rattle.edd_attrs.proofs.ElementFacts.{conds_both, elements_tested, elements_low, elements_nodes, enumerator_fine, response_fine, member_fine, entry_fine, data_fine}
 use Rattle.edd_attrs.proofs.SoundBlocks.{ExpressionFacts, IsSound, nothing_sound, then_sound, cond_sound, conds_sound}
 use Rattle.edd_attrs.proofs.RecordBlocks.{record_is_sound, line_short}
-use Rattle.edd_attrs.proofs.BothTests.{both_of}
+use Rattle.edd_code.proofs.BothTests.{both_of}
 
 pub handling_small : (h : handlings.Handling) → is_small (handling_number h) ≡ true
 handling_small handling.Read = refl

@@ -12,9 +12,9 @@ use Rattle.edd_syntax.specs.SubsetRules.{attributes_of}
 use Rattle.edd_syntax.specs.Strings.{strings_of_texts, type_part_texts, attribute_strings, unit_strings, same_words}
 use Rattle.edd_attrs.specs.Trees.{Tree, trees_of_part, trees_of_parts, tree_of_transaction_part, tree_at}
 use Rattle.edd_attrs.specs.Sizes.{element_texts, tree_strings, strings_of_tree, strings_at}
-use Rattle.edd_attrs.proofs.Different.{has, Contains-has, has-Contains, words_same, words_refl}
+use Rattle.edd_code.proofs.Different.{has, Contains-has, has-Contains, words_same, words_refl}
 use Rattle.edd_attrs.proofs.InTrees.{if_there, all_append, named, throughout, throughout_item, tree_has}
-use Rattle.edd_attrs.proofs.BothTests.{both_of, both_true}
+use Rattle.edd_code.proofs.BothTests.{both_of, both_true}
 
 -- ---- tests on all elements
 

@@ -21,14 +21,16 @@ use Rattle.edd_image.specs.Agreement.{class_number, mask_number, SameRecord, str
 use Rattle.edd_code.specs.Blocks.{Block, Nothing, Straight, Then, bytes_at}
 use Rattle.edd_code.specs.Expressions.{expression_block}
 use Rattle.edd_code.proofs.Closing.{nothing_written, straight_written, then_written}
-use Rattle.edd_attrs.specs.Code.{giving, GrowsBy, Keeps, KeepsOptional}
-use Rattle.edd_attrs.specs.Lowered.{WritesBlock, LowersTree}
+use Rattle.edd_code.specs.Tables.{GrowsBy, Keeps, KeepsOptional}
+use Rattle.edd_attrs.specs.Code.{giving}
+use Rattle.edd_code.specs.Written.{WritesBlock}
+use Rattle.edd_attrs.specs.Lowered.{LowersTree}
 use Rattle.edd_attrs.specs.Records.{strings_of_record}
 use Rattle.edd_attrs.specs.Sizes.{strings_of_tree}
 use Rattle.edd_attrs.specs.Trees.{Tree}
 use Rattle.edd_attrs.specs.TreeBlocks.{IsValueBlock, IsBlockOf, straight_line}
 use Rattle.edd_attrs.specs.Writing.{WritesRecord}
-use Rattle.edd_attrs.proofs.Growing.{no_growth, nothing_added, growth, grows_on, both_added, keeps_on, keeps_optional_on}
+use Rattle.edd_code.proofs.Growing.{no_growth, nothing_added, growth, grows_on, both_added, keeps_on, keeps_optional_on}
 
 -- ---- instructions in a line
 

@@ -1,8 +1,6 @@
 pub mod Code
-pub mod Faults
 pub mod Kept
 pub mod Lowered
-pub mod Places
 pub mod Records
 pub mod Rows
 pub mod Sizes

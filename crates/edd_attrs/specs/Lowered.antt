@@ -4,18 +4,10 @@ use Rattle.edd_syntax.specs.declared.numbers.StrNo.{StrNo}
 use Rattle.edd_syntax.specs.Words.{Words}
 use Rattle.edd_image.specs.Agreement.{string_of_table}
 use Rattle.edd_code.specs.Blocks.{Block, bytes_at, unit_code}
-use Rattle.edd_attrs.specs.Code.{GrowsBy, Overflows}
+use Rattle.edd_code.specs.Tables.{GrowsBy, Overflows}
 use Rattle.edd_attrs.specs.Sizes.{strings_of_tree}
 use Rattle.edd_attrs.specs.Trees.{Tree}
 use Rattle.edd_attrs.specs.TreeBlocks.{IsBlockOf}
-
--- The table grew by these strings alone, and the code by a block that is as `of` says, with strings by their numbers in the new
--- table and in any that begins with it.
-pub record WritesBlock (old : List Words) (before : List ℕ) (strings : List Words) (of : (StrNo → Option Words) → Block → Type 0) (new : List Words) (after : List ℕ) : Type 0 where
-  pub table : GrowsBy old strings new
-  pub block : Block
-  pub written : after ≡ before ++ bytes_at (length before) block
-  pub is : (later : List Words) → of (string_of_table (new ++ later)) block
 
 -- the code is the unit of the tree's block, and the table grew by the tree's strings
 pub record LowersTree (old : List Words) (tree : Option Tree) (new : List Words) (code : List ℕ) : Type 0 where

@@ -1,20 +1,10 @@
--- The item and the transaction of a row, by number.
-use Rattle.std.specs.Prelude.{ℕ, List, [], ◌∷◌, map, Option, Some, None, if◌then◌else◌}
-use Rattle.edd_syntax.specs.declared.numbers.Kind.{Kind}
+-- The transaction of a row, by number.
+use Rattle.std.specs.Prelude.{ℕ, List, [], ◌∷◌, map, Option, Some, None}
 use Rattle.edd_syntax.specs.declared.numbers.Attr.TheVariants as attr
 use Rattle.edd_syntax.specs.declared.reference.Target.{Target}
 use Rattle.edd_syntax.specs.Item as item
-use Rattle.edd_syntax.specs.Item.{kind_of_item, TransactionPart, Attribute, Item}
-use Rattle.edd_syntax.specs.Numbers.{same_kind}
-use Rattle.edd_syntax.specs.Rows.{of_kind}
+use Rattle.edd_syntax.specs.Item.{TransactionPart, Attribute}
 use Rattle.edd_attrs.specs.Trees.{Named, Transaction, tree_of_transaction_part}
-
-abbrev pub attributes_of_kind : Kind → Item Target → Option (List (Attribute Target))
-attributes_of_kind k i = if same_kind (kind_of_item i.sort) k then Some i.attributes else None
-
--- the attributes of each item of a kind
-abbrev pub attributes_of_items : Kind → List (Item Target) → List (List (Attribute Target))
-attributes_of_items k items = map (λ i. i.attributes) (of_kind k items)
 
 abbrev pub trees_of_transaction : Option ℕ → List (TransactionPart Target) → List Named
 trees_of_transaction number parts = (attr.Transaction, Transaction number) ∷ map tree_of_transaction_part parts

@@ -3,10 +3,7 @@ use Rattle.std.specs.Prelude.{ℕ, List, Option, map, string_bytes}
 use Rattle.std.specs.Borrow.{Bor}
 use Rattle.edd_syntax.specs.TreeView.{expr_of}
 use Rattle.edd_syntax.specs.WordsView.{text_of}
-use Rattle.edd_syntax.specs.declared.checked.Checked.{Checked}
-use Rattle.edd_syntax.specs.Item.{Description}
-use Rattle.edd_syntax.specs.Resolved.{description}
-use Rattle.edd_syntax.specs.ItemView.{identification_of, numbered_items, cond_of, conds_of, type_part_of, transaction_part_of, data_item_of, response_code_of, entry_of, member_of}
+use Rattle.edd_syntax.specs.ItemView.{cond_of, conds_of, type_part_of, transaction_part_of, data_item_of, response_code_of, entry_of, member_of}
 use Rattle.edd_attrs.specs.declared.trees.Tree.{Tree}
 use Rattle.edd_attrs.specs.declared.trees.Tree.TheVariants as tree
 use Rattle.edd_syntax.specs.declared.item.TransactionPart.{TransactionPart}
@@ -32,7 +29,3 @@ tree_of (tree.Members members) = trees.Members (map (member_of (λ r. r)) member
 -- a transaction's number and parts
 abbrev pub transaction_of : Option ℕ × Bor (List (TransactionPart Target)) → List trees.Named
 transaction_of t = trees_of_transaction t.0 (map (transaction_part_of (λ r. r)) t.1.now)
-
--- the description that a checked one holds
-abbrev pub unit_of : Checked → Description Target
-unit_of checked = description (identification_of checked.identification) (numbered_items checked.items.value.items)

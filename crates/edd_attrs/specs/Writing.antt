@@ -15,8 +15,8 @@ use Rattle.edd_image.specs.declared.instruction.Instruction.TheVariants as instr
 use Rattle.edd_image.specs.Spelling.{spelling}
 use Rattle.edd_code.specs.Blocks.{Block, bytes_at}
 use Rattle.edd_code.specs.Closing.{closed}
-use Rattle.edd_attrs.specs.Code.{GrowsBy}
-use Rattle.edd_attrs.specs.Lowered.{WritesBlock}
+use Rattle.edd_code.specs.Tables.{GrowsBy}
+use Rattle.edd_code.specs.Written.{WritesBlock}
 use Rattle.edd_attrs.specs.Records.{kept_enumerator, strings_of_record}
 use Rattle.edd_attrs.specs.TreeBlocks.{Giving, IsRecordBlock, IsCondBlock, IsArmsBlock}
 

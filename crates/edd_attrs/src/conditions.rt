@@ -6,14 +6,13 @@ ghost use Rattle.edd_syntax.specs.Conditional.{If, Select, NoArms, ConsArm, cond
 ghost use Rattle.edd_syntax.specs.ItemView.{cond_of, conds_of, arm_of};
 ghost use Rattle.edd_syntax.specs.SubsetRules.{values_in, values_of, values_under};
 ghost use Rattle.edd_syntax.specs.TreeView.{expr_of};
-ghost use Rattle.edd_attrs.specs.Code.{Grows, Overflows};
-ghost use Rattle.edd_attrs.specs.Lowered.{WritesBlock};
+ghost use Rattle.edd_code.specs.Tables.{Grows, Overflows};
+ghost use Rattle.edd_code.specs.Written.{WritesBlock};
 ghost use Rattle.edd_attrs.specs.TreeBlocks.{IsCondBlock, IsCondsBlock, IsDefaultBlock};
 ghost use Rattle.edd_attrs.specs.Writing.{WritesArm, WritesArms, WritesBody, arms_strings, cond_strings, conds_strings, default_of, header, headers, hole_of, holes_of};
 
 use crate::elements::Element;
-use crate::fault::LowerFault;
-use edd_code::{close, open, put, write_expression};
+use edd_code::{LowerFault, close, open, put, write_expression};
 use edd_image::{Emitter, Hole, Instruction, Jump};
 use edd_strings::Table;
 use edd_syntax::cond::{Arm, Cond};

@@ -15,15 +15,13 @@ ghost use Rattle.edd_syntax.specs.Words.{Words};
 ghost use Rattle.edd_syntax.specs.WordsView.{text_of};
 ghost use Rattle.edd_image.specs.Agreement as agreement;
 ghost use Rattle.edd_code.specs.Blocks.{Block};
-ghost use Rattle.edd_attrs.specs.Code.{Grows, Overflows};
-ghost use Rattle.edd_attrs.specs.Lowered.{WritesBlock};
+ghost use Rattle.edd_code.specs.Tables.{Grows, Overflows};
+ghost use Rattle.edd_code.specs.Written.{WritesBlock};
 ghost use Rattle.edd_attrs.specs.Records.{class_record, handling_record, kept_data, kept_entry, kept_enumerator, kept_member, kept_response, strings_of_record, text_record, validity_record};
 ghost use Rattle.edd_attrs.specs.TreeBlocks.{Giving, IsValueBlock};
 ghost use Rattle.edd_attrs.specs.Writing.{WritesRecord};
 
-use crate::fault::LowerFault;
-use crate::strings::{add_name, add_optional, add_text};
-use edd_code::{put, write_expression};
+use edd_code::{LowerFault, add_name, add_optional, add_text, put, write_expression};
 use edd_image::{Emitter, Instruction};
 use edd_strings::Table;
 use edd_syntax::expr::Expr;
@@ -92,7 +90,7 @@ impl Element for Handling {
 
     ghost is_kept = { λ h. true };
 
-    #[tactic(auto, using(crate::proofs::Growing::no_growth))]
+    #[tactic(auto, using(edd_code::proofs::Growing::no_growth))]
     fn write(
         &self,
         _alloc: Global,
@@ -115,7 +113,7 @@ impl Element for bool {
 
     ghost is_kept = { λ b. true };
 
-    #[tactic(auto, using(crate::proofs::Growing::no_growth))]
+    #[tactic(auto, using(edd_code::proofs::Growing::no_growth))]
     fn write(
         &self,
         _alloc: Global,
@@ -246,7 +244,7 @@ impl Element for MenuEntry<Target> {
 
     ghost is_kept = { kept_entry };
 
-    #[tactic(auto, using(crate::proofs::Growing::no_growth))]
+    #[tactic(auto, using(edd_code::proofs::Growing::no_growth))]
     fn write(
         &self,
         alloc: Global,
@@ -328,7 +326,7 @@ impl Element for DataItem<Target> {
 
     ghost is_kept = { kept_data };
 
-    #[tactic(auto, using(crate::proofs::Growing::no_growth))]
+    #[tactic(auto, using(edd_code::proofs::Growing::no_growth))]
     fn write(
         &self,
         _alloc: Global,

@@ -1,82 +1,18 @@
-//! The item of a row, and the tree of a row in it.
+//! The tree of a row in its item.
 
 ghost use Rattle.std.specs.Prelude.{◌≡◌, ◌∷◌, map, option_map, slice_get};
-ghost use Rattle.edd_syntax.specs.Item.{kind_of_item};
 ghost use Rattle.edd_syntax.specs.ItemView.{attribute_of, identification_of, item_of, transaction_part_of};
-ghost use Rattle.edd_syntax.specs.Numbers as numbers;
 ghost use Rattle.edd_syntax.specs.Resolved.{description};
+ghost use Rattle.edd_code.specs.Places.{IsIndexOf};
 ghost use Rattle.edd_attrs.specs.Rows as rows;
 ghost use Rattle.edd_attrs.specs.Trees as trees;
 ghost use Rattle.edd_attrs.specs.Views as views;
 
 use crate::trees::{Tree, tree_among};
+use edd_code::{ItemIndex, attributes_at, attributes_by};
 use edd_syntax::item::{Attribute, Identification, Item, TransactionPart};
-use edd_syntax::numbers::{Attr, AttrRef, ItemNo, Kind};
+use edd_syntax::numbers::{Attr, AttrRef, ItemNo};
 use edd_syntax::reference::Target;
-
-fn kind_of(item: &Item<Target>) -> Kind
-    ensures { result ≡ kind_of_item (item_of (λ r. r) item.now).sort }
-{
-    match item {
-        Item::Variable(_) => Kind::Variable,
-        Item::Command(_) => Kind::Command,
-        Item::Menu(_) => Kind::Menu,
-        Item::Collection(_) => Kind::Collection,
-        Item::Method(_) => Kind::Method,
-    }
-}
-
-/// Whether an item is of this kind.
-pub fn has_kind(item: &Item<Target>, kind: Kind) -> bool
-    ensures { result ≡ numbers.same_kind (kind_of_item (item_of (λ r. r) item.now).sort) kind }
-{
-    kind_of(item) == kind
-}
-
-/// The attributes of an item.
-pub fn attributes_of(item: &Item<Target>) -> &[Attribute<Target>]
-    ensures { map (attribute_of (λ r. r)) result.now ≡ (item_of (λ r. r) item.now).attributes }
-{
-    match item {
-        Item::Variable(d) => &d.attributes,
-        Item::Command(d) => &d.attributes,
-        Item::Menu(d) => &d.attributes,
-        Item::Collection(d) => &d.attributes,
-        Item::Method(d) => &d.attributes,
-    }
-}
-
-// The attributes of an item of this kind.
-fn attributes_of_kind<'a>(item: &'a Item<Target>, kind: Kind) -> Option<&'a [Attribute<Target>]>
-    ensures { option_map (λ a. map (attribute_of (λ r. r)) a.now) result ≡ rows.attributes_of_kind kind (item_of (λ r. r) item.now) }
-{
-    if has_kind(item, kind) {
-        Some(attributes_of(item))
-    } else {
-        None
-    }
-}
-
-// The attributes of an item.
-fn attributes_at<'a>(
-    items: &'a [Item<Target>],
-    kind: Kind,
-    index: u16,
-) -> Option<&'a [Attribute<Target>]>
-    ensures { option_map (λ a. map (attribute_of (λ r. r)) a.now) result
-        ≡ slice_get (rows.attributes_of_items kind (map (item_of (λ r. r)) items.now)) index }
-{
-    let mut left = index;
-    for item in items {
-        if let Some(attributes) = attributes_of_kind(item, kind) {
-            if left == 0 {
-                return Some(attributes);
-            }
-            left -= 1;
-        }
-    }
-    None
-}
 
 type Transaction<'a> = (Option<u32>, &'a [TransactionPart<Target>]);
 
@@ -165,5 +101,21 @@ pub fn tree_at<'a>(
         ≡ trees.tree_at (description (identification_of identification) (map (item_of (λ r. r)) items.now)) row }
 {
     let attributes = attributes_at(items, row.item.kind(), row.item.index())?;
+    tree_in(attributes, row.attr, row.sub)
+}
+
+/// The tree of a row, if it is written, found by the index of the items.
+#[tactic(auto, unfolding(crate::specs::Trees::tree_at), using(crate::proofs::ItemTrees::tree_of_row))]
+pub fn tree_by<'a>(
+    index: &ItemIndex,
+    identification: Identification,
+    items: &'a [Item<Target>],
+    row: AttrRef,
+) -> Option<Tree<'a>>
+    requires { IsIndexOf (map (item_of (λ r. r)) items.now) index.now }
+    ensures { option_map views.tree_of result
+        ≡ trees.tree_at (description (identification_of identification) (map (item_of (λ r. r)) items.now)) row }
+{
+    let attributes = attributes_by(index, items, row.item.kind(), row.item.index())?;
     tree_in(attributes, row.attr, row.sub)
 }

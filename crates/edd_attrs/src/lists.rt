@@ -2,12 +2,12 @@
 
 ghost use Rattle.std.specs.Prelude.{IsErrOf, IsTrue, OnOk, map};
 ghost use Rattle.std.specs.List.{flat_map, list_all};
-ghost use Rattle.edd_attrs.specs.Code.{Grows, Overflows};
-ghost use Rattle.edd_attrs.specs.Lowered.{WritesBlock};
+ghost use Rattle.edd_code.specs.Tables.{Grows, Overflows};
+ghost use Rattle.edd_code.specs.Written.{WritesBlock};
 ghost use Rattle.edd_attrs.specs.TreeBlocks.{IsLineBlock};
 
 use crate::elements::Element;
-use crate::fault::LowerFault;
+use edd_code::LowerFault;
 use edd_image::Emitter;
 use edd_strings::Table;
 use std::alloc::Global;

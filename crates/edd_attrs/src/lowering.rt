@@ -6,9 +6,10 @@ ghost use Rattle.edd_syntax.specs.Attributes as source;
 ghost use Rattle.edd_syntax.specs.ItemView.{type_part_of};
 ghost use Rattle.edd_syntax.specs.SubsetRules.{values_of};
 ghost use Rattle.edd_syntax.specs.Words.{Words};
-ghost use Rattle.edd_attrs.specs.Code.{Grows, Overflows};
+ghost use Rattle.edd_code.specs.Tables.{Grows, Overflows};
 ghost use Rattle.edd_attrs.specs.Kept.{is_kept_row, is_kept_tree};
-ghost use Rattle.edd_attrs.specs.Lowered.{LowersTree, OverflowsTree, WritesBlock};
+ghost use Rattle.edd_code.specs.Written.{WritesBlock};
+ghost use Rattle.edd_attrs.specs.Lowered.{LowersTree, OverflowsTree};
 ghost use Rattle.edd_attrs.specs.Records.{kept_enumerator};
 ghost use Rattle.edd_attrs.specs.Sizes.{tree_strings};
 ghost use Rattle.edd_attrs.specs.TreeBlocks.{Giving, IsCondsBlock, IsTreeBlock, elements};
@@ -18,10 +19,9 @@ ghost use Rattle.edd_attrs.specs.Writing.{WritesPart, conds_strings, element_str
 
 use crate::conditions::{write_cond, write_conds};
 use crate::elements::write_number;
-use crate::fault::LowerFault;
 use crate::lists::write_all;
 use crate::trees::Tree;
-use edd_code::put;
+use edd_code::{LowerFault, put};
 use edd_image::{Emitter, Instruction};
 use edd_strings::Table;
 use edd_syntax::item::TypePart;
@@ -52,7 +52,7 @@ fn write_optional_number(code: &mut Emitter, number: Option<u32>) -> Result<(), 
 }
 
 // The code of a part of a type, which gives something where it is an element of the type's list.
-#[tactic(auto, using(crate::proofs::Growing::no_growth))]
+#[tactic(auto, using(edd_code::proofs::Growing::no_growth))]
 fn write_part(
     alloc: Global,
     code: &mut Emitter,

@@ -6,7 +6,7 @@ use Rattle.std.proofs.lemmas.List.Kept.{AllPairs-cons}
 use Rattle.std.proofs.lemmas.List.Elements.{All-contains_itself}
 use Rattle.edd_syntax.specs.Words.{Words}
 use Rattle.edd_syntax.specs.Strings.{same_words, different}
-use Rattle.edd_attrs.proofs.Different.{has, Contains-has, has-Contains, fewer_different}
+use Rattle.edd_code.proofs.Different.{has, Contains-has, has-Contains, fewer_different}
 
 -- each string once is none that was not there
 different_within : (xs : List Words) (w : Words) → has w (different xs) ≡ true → has w xs ≡ true

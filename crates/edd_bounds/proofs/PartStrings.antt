@@ -21,7 +21,7 @@ use Rattle.edd_syntax.specs.NameRules.{type_part_words}
 use Rattle.edd_syntax.specs.Rows.{part_attr}
 use Rattle.edd_attrs.specs.Trees.{Tree, Named, trees_of_parts, first_tree}
 use Rattle.edd_attrs.specs.Sizes.{element_texts, tree_strings, strings_of_tree}
-use Rattle.edd_attrs.proofs.Different.{has}
+use Rattle.edd_code.proofs.Different.{has}
 use Rattle.edd_bounds.proofs.Apart.{repeated_parts}
 
 -- ---- strings of joined texts

@@ -25,7 +25,7 @@ use Rattle.edd_syntax.specs.SubsetRules.{values_in}
 use Rattle.edd_attrs.specs.Trees as trees
 use Rattle.edd_attrs.specs.Trees.{Tree, Named, tree_of_transaction_part, trees_of_parts, trees_of_attribute, trees_of, transaction_trees, first_tree, tree_in, tree_at}
 use Rattle.edd_attrs.specs.Sizes.{element_texts, tree_strings, strings_of_tree}
-use Rattle.edd_attrs.proofs.Different.{has, Contains-has, has-Contains}
+use Rattle.edd_code.proofs.Different.{has, Contains-has, has-Contains}
 use Rattle.edd_bounds.specs.RowContents.{strings_of_row}
 use Rattle.edd_bounds.proofs.PartStrings.{in_first, in_rest, either_text, in_first_text, in_rest_text}
 

@@ -29,3 +29,8 @@ pub mod SameBlocks
 pub mod AbortBlocks
 pub mod CheckedCalls
 pub mod Existing
+pub mod Growing
+pub mod Places
+pub mod Different
+pub mod BothTests
+pub mod Picking

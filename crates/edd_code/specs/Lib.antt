@@ -12,3 +12,8 @@ pub mod MethodEffects
 pub mod MethodExpressions
 pub mod Numbered
 pub mod MethodReads
+pub mod Tables
+pub mod Written
+pub mod Places
+pub mod Faults
+pub mod Units

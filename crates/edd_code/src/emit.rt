@@ -1,6 +1,6 @@
 //! Instructions of blocks, and jumps whose target is written when the place behind is known.
 
-ghost use Rattle.std.specs.Prelude.{◌≡◌, ◌+◌, ◌≤◌, ◌++◌, length, OnOk, IfOk};
+ghost use Rattle.std.specs.Prelude.{◌≡◌, ◌+◌, ◌≤◌, ◌++◌, length, IfOk, OnErr, OnOk};
 ghost use Rattle.edd_image.specs.Spelling.{head_length, jump_to, spelling};
 ghost use Rattle.edd_code.specs.Closing.{closed};
 
@@ -9,7 +9,8 @@ use std::alloc::AllocError;
 
 /// Writes an instruction behind the code.
 pub fn put(code: &mut Emitter, instruction: Instruction) -> Result<(), AllocError>
-    ensures { OnOk result (code.new ≡ code.old ++ spelling instruction) }
+    ensures code { OnOk result (code.new ≡ code.old ++ spelling instruction) }
+    ensures kept { OnErr result (code.new ≡ code.old) }
 {
     code.emit(encode(instruction).as_slice())
 }
@@ -18,6 +19,7 @@ pub fn put(code: &mut Emitter, instruction: Instruction) -> Result<(), AllocErro
 pub fn open(code: &mut Emitter, jump: Jump) -> Result<Hole, AllocError>
     ensures code { OnOk result (code.new ≡ code.old ++ spelling (jump_to jump 0)) }
     ensures place { IfOk result (λ hole. hole ≡ length code.old + head_length jump) }
+    ensures kept { OnErr result (code.new ≡ code.old) }
 {
     code.hole(head(jump).as_slice())
 }

@@ -17,8 +17,8 @@ use Rattle.edd_name_meanings.specs.Faults.{refusal_of}
 use Rattle.edd_types.specs.declared.fault.TypeFault.{TypeFault}
 use Rattle.edd_types.specs.declared.fault.TypeFault.TheVariants as type
 use Rattle.edd_types.specs.Faults.{refusal_of_fault}
-use Rattle.edd_attrs.specs.declared.fault.LowerFault.{LowerFault}
-use Rattle.edd_attrs.specs.declared.fault.LowerFault.TheVariants as lower
+use Rattle.edd_code.specs.declared.fault.LowerFault.{LowerFault}
+use Rattle.edd_code.specs.declared.fault.LowerFault.TheVariants as lower
 use Rattle.edd_compiler.specs.declared.fault.Fault.{Fault}
 use Rattle.edd_compiler.specs.declared.fault.Fault.TheVariants as fault
 use Rattle.edd_compiler.specs.Sources.{IsUnitOf, HasMethod, IsRefused}

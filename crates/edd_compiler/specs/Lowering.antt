@@ -10,7 +10,7 @@ use Rattle.edd_syntax.specs.Item.{Description}
 use Rattle.edd_syntax.specs.Strings.{different}
 use Rattle.edd_image.specs.Agreement.{IsAttributeCode}
 use Rattle.edd_assembly.specs.Assembly.{Lowered}
-use Rattle.edd_attrs.specs.Code.{Grows}
+use Rattle.edd_code.specs.Tables.{Grows}
 use Rattle.edd_attrs.specs.Sizes.{strings_at, length_limit}
 use Rattle.edd_attrs.specs.Trees.{tree_at}
 

@@ -11,7 +11,7 @@ ghost use Rattle.edd_image.specs.Contents.{contents_in};
 ghost use Rattle.edd_image.specs.Validity.{IsValid};
 ghost use Rattle.edd_syntax.specs.Rows.{rows};
 ghost use Rattle.edd_assembly.specs.Views.{lowered_of};
-ghost use Rattle.edd_attrs.specs.Views.{unit_of};
+ghost use Rattle.edd_code.specs.Units.{unit_of};
 ghost use Rattle.edd_compiler.specs.declared.fault.Fault.TheVariants.{Memory};
 ghost use Rattle.edd_compiler.specs.Faults.{IsOfLowering, Explains};
 ghost use Rattle.edd_compiler.specs.Images.{IsImageOf};

@@ -3,7 +3,7 @@
 ghost use Rattle.std.specs.Prelude.{◌≡◌};
 ghost use Rattle.edd_compiler.specs.Faults.{of_lex, of_parse, of_name, of_type, of_lower};
 
-use edd_attrs::LowerFault;
+use edd_code::LowerFault;
 use edd_lexer::fault::LexFault;
 use edd_names::fault::NameFault;
 use edd_parser::fault::ParseFault;

@@ -4,7 +4,7 @@ use Rattle.std.proofs.lemmas.Result.{IfOk-weaker}
 use Rattle.edd_attrs.specs.Kept.{is_kept_row}
 use Rattle.edd_attrs.specs.Lowered.{LowersTree, OverflowsTree}
 use Rattle.edd_attrs.specs.Trees.{tree_at}
-use Rattle.edd_attrs.specs.Views.{unit_of}
+use Rattle.edd_code.specs.Units.{unit_of}
 use Rattle.edd_attrs.proofs.LoweredRows.{overflowing, lowered_means, lowered_strings, lowered_short, then_on_ok, kept_when_checked}
 use Rattle.edd_attrs.proofs.attribute.lower_found.Goals as goal
 

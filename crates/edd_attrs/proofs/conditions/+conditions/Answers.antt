@@ -10,9 +10,9 @@ use Rattle.edd_syntax.specs.Conditional.{Cond, Arm, Case, NoArms, ConsArm, conds
 use Rattle.edd_syntax.specs.SubsetRules.{values_in, values_of, values_under}
 use Rattle.edd_syntax.specs.TreeView.{expr_of}
 use Rattle.edd_syntax.specs.Words.{Words}
-use Rattle.edd_attrs.specs.declared.fault.LowerFault.TheVariants.{TooMany}
-use Rattle.edd_attrs.specs.Code.{Overflows}
-use Rattle.edd_attrs.specs.Lowered.{WritesBlock}
+use Rattle.edd_code.specs.declared.fault.LowerFault.TheVariants.{TooMany}
+use Rattle.edd_code.specs.Tables.{Overflows}
+use Rattle.edd_code.specs.Written.{WritesBlock}
 use Rattle.edd_attrs.specs.TreeBlocks.{IsCondBlock, IsCondsBlock}
 use Rattle.edd_attrs.specs.Writing.{WritesArm, arms_strings, cond_strings, conds_strings, headers}
 use Rattle.edd_attrs.proofs.Arms.{Back, case_written, default_written, header_inside, hole_at, holes_counted, popped, back_starts, back_overflows, back_grows, back_ends}
@@ -20,7 +20,7 @@ use Rattle.edd_attrs.proofs.Carried.{carried}
 use Rattle.edd_attrs.proofs.CondViews.{viewed, all_viewed, arm_viewed, arms_viewed, value_is, if_is, select_is, case_is, default_is, case_header, case_hole, first_falls, arms_fall, case_falls, element_falls, arm_falls, default_falls}
 use Rattle.edd_attrs.proofs.Conditionals.{if_written, if_overflows, else_overflows, none_written, default_block, default_overflows, select_written, select_overflows}
 use Rattle.edd_attrs.proofs.Flat.{all_parts, alone, element_kept, arm_kept, default_kept, conds_strings_are}
-use Rattle.edd_attrs.proofs.Growing.{no_growth, grows_on}
+use Rattle.edd_code.proofs.Growing.{no_growth, grows_on}
 use Rattle.edd_attrs.proofs.Loops.{front_starts, front_grows, front_overflows, front_ends, block_step, viewed_at}
 use Rattle.edd_attrs.proofs.conditions.+conditions.Goals as goal
 

@@ -2,7 +2,7 @@ use Rattle.std.proofs.Common.{◌≡◌, ◌+◌, ◌*◌, ◌≤◌, length, ma
 use Rattle.edd_syntax.specs.Conditional.{NoArms, ConsArm, conds_from, arms_from}
 use Rattle.edd_syntax.specs.ItemView.{cond_of, conds_of, arm_of}
 use Rattle.edd_syntax.specs.Size.{cond_nodes, conds_nodes, arms_nodes, leaf}
-use Rattle.edd_attrs.specs.Code.{Grows}
+use Rattle.edd_code.specs.Tables.{Grows}
 use Rattle.edd_attrs.specs.TreeBlocks.{IsCondsBlock}
 use Rattle.edd_attrs.specs.Writing.{cond_strings}
 use Rattle.edd_attrs.proofs.Arms.{Back}

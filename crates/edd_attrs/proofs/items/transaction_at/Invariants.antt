@@ -2,7 +2,8 @@ use Rattle.std.proofs.Common.{◌≡◌}
 use Rattle.edd_syntax.specs.ItemView.{attribute_of}
 use Rattle.edd_attrs.specs.Trees.{transaction_trees}
 use Rattle.edd_attrs.specs.Rows.{transaction_in}
-use Rattle.edd_attrs.proofs.Picking.{picked_from, transactions_split}
+use Rattle.edd_code.proofs.Picking.{picked_from}
+use Rattle.edd_attrs.proofs.Picking.{transactions_split}
 use Rattle.edd_attrs.proofs.items.transaction_at.Given as goal
 
 -- the transaction is the one that is left to count to

@@ -1,10 +1,10 @@
 use Rattle.std.proofs.Common.{arith, refl, map}
 use Rattle.std.proofs.lemmas.List.{length-map}
 use Rattle.std.proofs.lemmas.Grind.{common_steps}
-use Rattle.edd_attrs.specs.Code.{Overflows}
+use Rattle.edd_code.specs.Tables.{Overflows}
 use Rattle.edd_attrs.specs.TreeBlocks.{IsLineBlock}
 use Rattle.edd_attrs.proofs.Flat.{each}
-use Rattle.edd_attrs.proofs.Growing.{no_growth, grows_on}
+use Rattle.edd_code.proofs.Growing.{no_growth, grows_on}
 use Rattle.edd_attrs.proofs.Loops.{front_starts, front_grows, front_overflows, front_ends, block_step, viewed_at}
 use Rattle.edd_attrs.proofs.lists.write_all.Goals as goal
 

@@ -1,5 +1,5 @@
 use Rattle.std.proofs.Common.{map}
-use Rattle.edd_attrs.specs.Code.{Grows}
+use Rattle.edd_code.specs.Tables.{Grows}
 use Rattle.edd_attrs.specs.TreeBlocks.{IsLineBlock}
 use Rattle.edd_attrs.proofs.Loops.{Front}
 use Rattle.edd_attrs.proofs.lists.write_all.Given as goal

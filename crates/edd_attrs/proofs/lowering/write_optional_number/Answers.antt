@@ -1,7 +1,7 @@
 use Rattle.std.proofs.Common.{ℕ, List, Option, [], sym, subst}
 use Rattle.std.specs.Prelude.{OnOk}
 use Rattle.edd_syntax.specs.Words.{Words}
-use Rattle.edd_attrs.specs.Lowered.{WritesBlock}
+use Rattle.edd_code.specs.Written.{WritesBlock}
 use Rattle.edd_attrs.specs.TreeBlocks.{IsTreeBlock}
 use Rattle.edd_attrs.specs.Trees as trees
 use Rattle.edd_attrs.proofs.Written.{no_block}

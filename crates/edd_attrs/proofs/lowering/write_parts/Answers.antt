@@ -3,11 +3,11 @@ use Rattle.std.proofs.lemmas.Grind.{common_steps}
 use Rattle.std.proofs.lemmas.List.{length-map}
 use Rattle.edd_syntax.specs.ItemView.{type_part_of}
 use Rattle.edd_syntax.specs.Words.{Words}
-use Rattle.edd_attrs.specs.Code.{Overflows}
-use Rattle.edd_attrs.specs.Lowered.{WritesBlock}
+use Rattle.edd_code.specs.Tables.{Overflows}
+use Rattle.edd_code.specs.Written.{WritesBlock}
 use Rattle.edd_attrs.specs.Writing.{element_strings}
 use Rattle.edd_attrs.proofs.Flat.{part_kept, element_strings_are}
-use Rattle.edd_attrs.proofs.Growing.{no_growth, grows_on}
+use Rattle.edd_code.proofs.Growing.{no_growth, grows_on}
 use Rattle.edd_attrs.proofs.Loops.{front_starts, front_grows, front_overflows, front_ends, viewed_at}
 use Rattle.edd_attrs.proofs.Parts.{IsPartsBlock, part_step}
 use Rattle.edd_attrs.proofs.lowering.write_parts.Goals as goal

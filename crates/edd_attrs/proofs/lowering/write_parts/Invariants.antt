@@ -1,6 +1,6 @@
 use Rattle.std.proofs.Common.{map}
 use Rattle.edd_syntax.specs.ItemView.{type_part_of}
-use Rattle.edd_attrs.specs.Code.{Grows}
+use Rattle.edd_code.specs.Tables.{Grows}
 use Rattle.edd_attrs.specs.Writing.{element_strings}
 use Rattle.edd_attrs.proofs.Loops.{Front}
 use Rattle.edd_attrs.proofs.Parts.{IsPartsBlock}

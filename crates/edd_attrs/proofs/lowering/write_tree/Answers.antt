@@ -6,10 +6,10 @@ use Rattle.edd_syntax.specs.SubsetRules.{values_in}
 use Rattle.edd_syntax.specs.TreeView.{expr_of}
 use Rattle.edd_syntax.specs.Words.{Words}
 use Rattle.edd_syntax.specs.WordsView.{text_of}
-use Rattle.edd_attrs.specs.declared.fault.LowerFault.TheVariants.{TooMany}
+use Rattle.edd_code.specs.declared.fault.LowerFault.TheVariants.{TooMany}
 use Rattle.edd_attrs.specs.declared.trees.Tree.{Tree}
-use Rattle.edd_attrs.specs.Code.{Overflows}
-use Rattle.edd_attrs.specs.Lowered.{WritesBlock}
+use Rattle.edd_code.specs.Tables.{Overflows}
+use Rattle.edd_code.specs.Written.{WritesBlock}
 use Rattle.edd_attrs.specs.Sizes.{tree_strings}
 use Rattle.edd_attrs.specs.TreeBlocks.{IsTreeBlock}
 use Rattle.edd_attrs.specs.Trees as trees

@@ -14,13 +14,13 @@ write_two-returns t c = goes_on_ok c.write_expression-2.result c.args.code.now c
 pub write_instead-returns : goal.write_instead-returns
 write_instead-returns t c =
     let right = expression_block (expr_of (λ r. r) c.args.right.now) in
-    goes_on_ok c.write_truth.result c.args.code.now c.put.new.code _ (Straight instruction.Pop) (Then right truth_block) (one_more c.args.code.now c.put.new.code instruction.Pop c.in_ok-put.ensures)
+    goes_on_ok c.write_truth.result c.args.code.now c.put.new.code _ (Straight instruction.Pop) (Then right truth_block) (one_more c.args.code.now c.put.new.code instruction.Pop c.in_ok-put.ensures.code)
     (goes_on_ok c.write_truth.result c.put.new.code c.write_expression.new.code _ right truth_block c.in_ok-write_expression.ensures c.write_truth.ensures)
 
 pub write_and-returns : goal.write_and-returns
 write_and-returns t c =
     let body = instead (expression_block (expr_of (λ r. r) c.args.right.now)) in
-    goes_on c.args.code.now c.put.new.code _ (Straight instruction.Duplicate) (WhenNotZero body) (one_more c.args.code.now c.put.new.code instruction.Duplicate c.in_ok-put.ensures)
+    goes_on c.args.code.now c.put.new.code _ (Straight instruction.Duplicate) (WhenNotZero body) (one_more c.args.code.now c.put.new.code instruction.Duplicate c.in_ok-put.ensures.code)
     (c.close.ensures ∙ ap (closed c.write_instead.new.code) c.in_ok-hole.ensures.place
     ∙ when_not_zero_closed c.put.new.code c.open.new.code c.write_instead.new.code body c.in_ok-hole.ensures.code c.in_ok-write_instead.ensures)
 
@@ -28,7 +28,7 @@ pub write_or-returns : goal.write_or-returns
 write_or-returns t c =
     let body = instead (expression_block (expr_of (λ r. r) c.args.right.now)) in
     goes_on c.args.code.now c.write_truth.new.code _ truth_block (then_test (WhenZero body)) c.in_ok-write_truth.ensures
-    (goes_on c.write_truth.new.code c.put.new.code _ (Straight instruction.Duplicate) (WhenZero body) (one_more c.write_truth.new.code c.put.new.code instruction.Duplicate c.in_ok-put.ensures)
+    (goes_on c.write_truth.new.code c.put.new.code _ (Straight instruction.Duplicate) (WhenZero body) (one_more c.write_truth.new.code c.put.new.code instruction.Duplicate c.in_ok-put.ensures.code)
     (c.close.ensures ∙ ap (closed c.write_instead.new.code) c.in_ok-hole.ensures.place
     ∙ when_zero_closed c.put.new.code c.open.new.code c.write_instead.new.code body c.in_ok-hole.ensures.code c.in_ok-write_instead.ensures))
 

@@ -1,5 +1,5 @@
 use Rattle.std.proofs.lemmas.Result.{err_from_is_err_and}
-use Rattle.edd_attrs.specs.Views.{unit_of}
+use Rattle.edd_code.specs.Units.{unit_of}
 use Rattle.edd_compiler.proofs.CompiledTexts.{is_image, explained, of_good}
 use Rattle.edd_compiler.proofs.compiling.compile.Goals as goal
 

@@ -1,6 +1,6 @@
 use Rattle.std.proofs.Common.{subst, sym, ◌∙◌}
 use Rattle.std.specs.List.{All}
-use Rattle.edd_attrs.specs.Views.{unit_of}
+use Rattle.edd_code.specs.Units.{unit_of}
 use Rattle.edd_compiler.specs.Lowering.{IsNoBody}
 use Rattle.edd_compiler.proofs.CompiledTexts.{of_bad}
 use Rattle.edd_compiler.proofs.ImageParts.{too_many}

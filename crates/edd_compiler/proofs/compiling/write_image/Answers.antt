@@ -4,7 +4,7 @@ use Rattle.edd_image.specs.Contents.{contents_in}
 use Rattle.edd_image.specs.Layout.{sections_of}
 use Rattle.edd_image.specs.Validity.{IsValid}
 use Rattle.edd_assembly.specs.Views.{lowered_of}
-use Rattle.edd_attrs.specs.Views.{unit_of}
+use Rattle.edd_code.specs.Units.{unit_of}
 use Rattle.edd_compiler.proofs.ImageParts.{few_strings}
 use Rattle.edd_compiler.proofs.WrittenImages.{handed_on, never_longer, is_valid, agrees}
 use Rattle.edd_compiler.proofs.compiling.write_image.Goals as goal

@@ -1,7 +1,7 @@
 use Rattle.std.proofs.Common.{refl, arith, map}
 use Rattle.std.proofs.lemmas.Result.{err_from_is_err_and}
 use Rattle.edd_assembly.specs.Views.{lowered_of}
-use Rattle.edd_attrs.specs.Views.{unit_of}
+use Rattle.edd_code.specs.Units.{unit_of}
 use Rattle.edd_compiler.proofs.LoweredRows.{next_row, over_more, too_many_at}
 use Rattle.edd_compiler.proofs.lowering.lower_rows.Goals as goal
 

@@ -1,6 +1,6 @@
 use Rattle.std.proofs.Common.{map, take}
 use Rattle.edd_assembly.specs.Views.{lowered_of}
-use Rattle.edd_attrs.specs.Views.{unit_of}
+use Rattle.edd_code.specs.Units.{unit_of}
 use Rattle.edd_compiler.specs.Lowering.{HasLowered}
 use Rattle.edd_compiler.proofs.lowering.lower_rows.Given as goal
 

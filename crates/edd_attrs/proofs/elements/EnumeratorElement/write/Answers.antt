@@ -6,8 +6,8 @@ use Rattle.edd_syntax.specs.Words.{Words, words_of}
 use Rattle.edd_syntax.specs.WordsView.{text_of}
 use Rattle.edd_image.specs.declared.instruction.Instruction.{Instruction}
 use Rattle.edd_image.specs.Spelling.{spelling}
-use Rattle.edd_attrs.specs.Code.{Overflows}
-use Rattle.edd_attrs.proofs.Growing.{grows_on, overflows_head, overflows_tail}
+use Rattle.edd_code.specs.Tables.{Overflows}
+use Rattle.edd_code.proofs.Growing.{grows_on, overflows_head, overflows_tail}
 use Rattle.edd_attrs.proofs.Written.{enumerator_written}
 use Rattle.edd_attrs.proofs.elements.EnumeratorElement.write.Goals as goal
 

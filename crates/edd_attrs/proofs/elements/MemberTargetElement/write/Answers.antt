@@ -9,8 +9,8 @@ use Rattle.edd_syntax.specs.Attributes.{item_of}
 use Rattle.edd_syntax.specs.declared.numbers.ItemNo.{ItemNo}
 use Rattle.edd_image.specs.declared.instruction.Instruction.TheVariants as instruction
 use Rattle.edd_image.specs.Spelling.{spelling}
-use Rattle.edd_attrs.specs.Code.{Overflows, GrowsBy, Keeps}
-use Rattle.edd_attrs.proofs.Growing.{overflows_head, overflows_tail, overflows_first, overflows_second}
+use Rattle.edd_code.specs.Tables.{Overflows, GrowsBy, Keeps}
+use Rattle.edd_code.proofs.Growing.{overflows_head, overflows_tail, overflows_first, overflows_second}
 use Rattle.edd_attrs.proofs.Written.{member_written}
 use Rattle.edd_attrs.proofs.elements.MemberTargetElement.write.Goals as goal
 

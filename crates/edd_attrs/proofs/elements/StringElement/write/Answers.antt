@@ -1,6 +1,6 @@
 use Rattle.std.proofs.Common.{ℕ, List, subst, [], ◌∷◌, string_bytes}
 use Rattle.edd_syntax.specs.Words.{name_words}
-use Rattle.edd_attrs.specs.Code.{GrowsBy, Keeps}
+use Rattle.edd_code.specs.Tables.{GrowsBy, Keeps}
 use Rattle.edd_attrs.proofs.Written.{text_written}
 use Rattle.edd_attrs.proofs.elements.StringElement.write.Goals as goal
 

@@ -10,8 +10,8 @@ use Rattle.edd_syntax.specs.declared.reference.Target.{Target}
 use Rattle.edd_syntax.specs.Item.{kind_of_item, Item}
 use Rattle.edd_syntax.specs.Numbers.{same_kind}
 use Rattle.edd_syntax.specs.Rows.{of_kind}
-use Rattle.edd_attrs.specs.Rows.{attributes_of_items}
-use Rattle.edd_attrs.specs.Places.{attributes_at_place, ArePlaces, with_place}
+use Rattle.edd_code.specs.Places.{attributes_of_items}
+use Rattle.edd_code.specs.Places.{attributes_at_place, ArePlaces, with_place}
 
 -- the items of a kind in two parts
 attributes_append : (k : Kind) (xs ys : List (Item Target)) → attributes_of_items k (xs ++ ys) ≡ attributes_of_items k xs ++ attributes_of_items k ys

@@ -5,7 +5,7 @@ ghost use Rattle.std.specs.Option.{option_to_list};
 ghost use Rattle.edd_syntax.specs.WellFormed.{if_some, is_text};
 ghost use Rattle.edd_syntax.specs.Words.{name_words, words_of};
 ghost use Rattle.edd_syntax.specs.WordsView.{string_of, text_of};
-ghost use Rattle.edd_attrs.specs.Code.{Grows, GrowsBy, Keeps, KeepsOptional, Overflows};
+ghost use Rattle.edd_code.specs.Tables.{Grows, GrowsBy, Keeps, KeepsOptional, Overflows};
 
 use crate::fault::LowerFault;
 use edd_strings::{Table, key, split};

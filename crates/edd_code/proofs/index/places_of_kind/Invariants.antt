@@ -1,8 +1,8 @@
 use Rattle.std.proofs.Common.{◌≡◌, map, take, Some}
 use Rattle.edd_syntax.specs.ItemView.{item_of}
-use Rattle.edd_attrs.specs.Places.{attributes_at_place}
-use Rattle.edd_attrs.specs.Rows.{attributes_of_items}
-use Rattle.edd_attrs.proofs.index.places_of_kind.Given as goal
+use Rattle.edd_code.specs.Places.{attributes_at_place}
+use Rattle.edd_code.specs.Places.{attributes_of_items}
+use Rattle.edd_code.proofs.index.places_of_kind.Given as goal
 
 -- the places are those of the items so far
 abbrev pub invariant-loop-place : goal.invariant-loop-place

@@ -16,7 +16,7 @@ pub enum LowerFault {
 }
 
 impl From<AllocError> for LowerFault {
-    ghost use Rattle.edd_attrs.specs.declared.fault.LowerFault.TheVariants.{Memory};
+    ghost use Rattle.edd_code.specs.declared.fault.LowerFault.TheVariants.{Memory};
 
     ghost from_gives = { λ _ fault. fault ≡ Memory };
 
@@ -26,7 +26,7 @@ impl From<AllocError> for LowerFault {
 }
 
 impl<T: Drop> From<AllocFailed<T>> for LowerFault {
-    ghost use Rattle.edd_attrs.specs.declared.fault.LowerFault.TheVariants.{Memory};
+    ghost use Rattle.edd_code.specs.declared.fault.LowerFault.TheVariants.{Memory};
 
     ghost from_gives = { λ _ fault. fault ≡ Memory };
 
@@ -37,7 +37,7 @@ impl<T: Drop> From<AllocFailed<T>> for LowerFault {
 
 // A text of a checked description has no bad escape, so only the other two faults are met.
 impl From<StringFault> for LowerFault {
-    ghost use Rattle.edd_attrs.specs.Faults.{lower_fault_of};
+    ghost use Rattle.edd_code.specs.Faults.{lower_fault_of};
 
     ghost from_gives = { λ fault lower_fault. lower_fault ≡ lower_fault_of fault };
 

@@ -1,11 +1,20 @@
 -- Where the items of a kind stand among all items.
-use Rattle.std.specs.Prelude.{◌≡◌, ℕ, Bool, if◌then◌else◌, List, [], ◌∷◌, ◌++◌, map, slice_get, Option, Some, option_map}
+use Rattle.std.specs.Prelude.{◌≡◌, ℕ, Bool, if◌then◌else◌, List, [], ◌∷◌, ◌++◌, map, slice_get, Option, Some, None, option_map}
 use Rattle.edd_syntax.specs.declared.numbers.Kind.{Kind}
 use Rattle.edd_syntax.specs.declared.numbers.Kind.TheVariants as kind
 use Rattle.edd_syntax.specs.declared.reference.Target.{Target}
-use Rattle.edd_syntax.specs.Item.{Attribute, Item}
-use Rattle.edd_attrs.specs.declared.index.ItemIndex.{ItemIndex}
-use Rattle.edd_attrs.specs.Rows.{attributes_of_items}
+use Rattle.edd_syntax.specs.Item.{kind_of_item, Attribute, Item}
+use Rattle.edd_syntax.specs.Numbers.{same_kind}
+use Rattle.edd_code.specs.declared.index.ItemIndex.{ItemIndex}
+use Rattle.edd_syntax.specs.Rows.{of_kind}
+
+-- the attributes of an item of a kind
+abbrev pub attributes_of_kind : Kind → Item Target → Option (List (Attribute Target))
+attributes_of_kind k i = if same_kind (kind_of_item i.sort) k then Some i.attributes else None
+
+-- the attributes of each item of a kind
+abbrev pub attributes_of_items : Kind → List (Item Target) → List (List (Attribute Target))
+attributes_of_items k items = map (λ i. i.attributes) (of_kind k items)
 
 -- the attributes of the item at a place
 abbrev pub attributes_at_place : List (Item Target) → ℕ → Option (List (Attribute Target))

@@ -2,9 +2,9 @@ use Rattle.std.proofs.Common.{◌≡◌, ◌∙◌, ap, map, sym, Some}
 use Rattle.std.specs.Prelude.{option_and_then, slice_get}
 use Rattle.std.proofs.lemmas.Option.{slice_get-get_or}
 use Rattle.edd_syntax.specs.ItemView.{item_of}
-use Rattle.edd_attrs.specs.Places.{attributes_at_place, places_of}
-use Rattle.edd_attrs.proofs.Places.{found_at_place}
-use Rattle.edd_attrs.proofs.index.attributes_by.Goals as goal
+use Rattle.edd_code.specs.Places.{attributes_at_place, places_of}
+use Rattle.edd_code.proofs.Places.{found_at_place}
+use Rattle.edd_code.proofs.index.attributes_by.Goals as goal
 
 pub returns : goal.returns
 returns c =

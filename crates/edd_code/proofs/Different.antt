@@ -6,8 +6,8 @@ use Rattle.std.specs.List.{Contains, list_any}
 use Rattle.std.proofs.lemmas.Slice.Eq.{bytes_eq-Decides}
 use Rattle.edd_syntax.specs.Words.{Variant, Words, Variants, Key}
 use Rattle.edd_syntax.specs.Strings.{same_variants, same_words, different}
-use Rattle.edd_attrs.specs.Code.{AreDifferent}
-use Rattle.edd_attrs.proofs.BothTests.{both_of}
+use Rattle.edd_code.specs.Tables.{AreDifferent}
+use Rattle.edd_code.proofs.BothTests.{both_of}
 
 -- ---- the test of strings
 

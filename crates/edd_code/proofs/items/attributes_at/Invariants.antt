@@ -1,8 +1,8 @@
 use Rattle.std.proofs.Common.{◌≡◌}
 use Rattle.edd_syntax.specs.ItemView.{item_of}
-use Rattle.edd_attrs.specs.Rows.{attributes_of_kind, attributes_of_items}
-use Rattle.edd_attrs.proofs.Picking.{picked_from, items_split}
-use Rattle.edd_attrs.proofs.items.attributes_at.Given as goal
+use Rattle.edd_code.specs.Places.{attributes_of_items, attributes_of_kind}
+use Rattle.edd_code.proofs.Picking.{picked_from, items_split}
+use Rattle.edd_code.proofs.items.attributes_at.Given as goal
 
 -- the item is the one that is left to count to
 abbrev pub invariant-loop-item : goal.invariant-loop-item

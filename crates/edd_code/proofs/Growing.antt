@@ -9,7 +9,7 @@ use Rattle.edd_syntax.specs.Words.{Words}
 use Rattle.edd_image.specs.Agreement.{IsString, string_of_table}
 use Rattle.edd_strings.specs.Strings.{Adds}
 use Rattle.edd_strings.proofs.Chaining.{get_or-default}
-use Rattle.edd_attrs.specs.Code.{AreDifferent, GrowsBy, Grows, Keeps, KeepsOptional, Overflows}
+use Rattle.edd_code.specs.Tables.{AreDifferent, GrowsBy, Grows, Keeps, KeepsOptional, Overflows}
 
 slice_get-append : {A : Type 0} (xs ys : List A) (n : ℕ) (x : A) → slice_get xs n ≡ Some x → slice_get (xs ++ ys) n ≡ Some x
 slice_get-append [] ys n x h = absurd cc

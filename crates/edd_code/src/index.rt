@@ -3,17 +3,12 @@
 ghost use Rattle.std.specs.Prelude.{◌≡◌, IfOk, OnOk, map, option_map, slice_get};
 ghost use Rattle.edd_syntax.specs.Item.{kind_of_item};
 ghost use Rattle.edd_syntax.specs.Numbers.{same_kind};
-ghost use Rattle.edd_syntax.specs.ItemView.{attribute_of, identification_of, item_of};
-ghost use Rattle.edd_syntax.specs.Resolved.{description};
-ghost use Rattle.edd_attrs.specs.Places.{ArePlaces, IsIndexOf, attributes_at_place, places_of, with_place};
-ghost use Rattle.edd_attrs.specs.Rows as rows;
-ghost use Rattle.edd_attrs.specs.Trees as trees;
-ghost use Rattle.edd_attrs.specs.Views as views;
+ghost use Rattle.edd_syntax.specs.ItemView.{attribute_of, item_of};
+ghost use Rattle.edd_code.specs.Places.{ArePlaces, IsIndexOf, attributes_at_place, attributes_of_items, places_of, with_place};
 
-use crate::items::{attributes_of, has_kind, tree_in};
-use crate::trees::Tree;
-use edd_syntax::item::{Attribute, Identification, Item};
-use edd_syntax::numbers::{AttrRef, Kind};
+use crate::items::{attributes_of, has_kind};
+use edd_syntax::item::{Attribute, Item};
+use edd_syntax::numbers::Kind;
 use edd_syntax::reference::Target;
 use std::alloc::{AllocError, Global};
 
@@ -91,9 +86,9 @@ fn at_place(items: &[Item<Target>], place: usize) -> Option<&[Attribute<Target>]
     Some(attributes_of(items.get(place)?))
 }
 
-// The attributes of an item by its number among those of its kind.
+/// The attributes of an item by its number among those of its kind, at once.
 #[tactic(auto, using(crate::proofs::Places::found_at_place))]
-fn attributes_by<'a>(
+pub fn attributes_by<'a>(
     index: &ItemIndex,
     items: &'a [Item<Target>],
     kind: Kind,
@@ -101,24 +96,8 @@ fn attributes_by<'a>(
 ) -> Option<&'a [Attribute<Target>]>
     requires { IsIndexOf (map (item_of (λ r. r)) items.now) index.now }
     ensures { option_map (λ a. map (attribute_of (λ r. r)) a.now) result
-        ≡ slice_get (rows.attributes_of_items kind (map (item_of (λ r. r)) items.now)) number }
+        ≡ slice_get (attributes_of_items kind (map (item_of (λ r. r)) items.now)) number }
 {
     let place = *index.places(kind).get(number as usize)?;
     at_place(items, place)
-}
-
-/// The tree of a row, if it is written, found by the index of the items.
-#[tactic(auto, unfolding(crate::specs::Trees::tree_at), using(crate::proofs::ItemTrees::tree_of_row))]
-pub fn tree_by<'a>(
-    index: &ItemIndex,
-    identification: Identification,
-    items: &'a [Item<Target>],
-    row: AttrRef,
-) -> Option<Tree<'a>>
-    requires { IsIndexOf (map (item_of (λ r. r)) items.now) index.now }
-    ensures { option_map views.tree_of result
-        ≡ trees.tree_at (description (identification_of identification) (map (item_of (λ r. r)) items.now)) row }
-{
-    let attributes = attributes_by(index, items, row.item.kind(), row.item.index())?;
-    tree_in(attributes, row.attr, row.sub)
 }

@@ -1,9 +1,9 @@
 use Rattle.std.proofs.Common.{◌∙◌, ap, arith, map, sym, Some}
 use Rattle.std.proofs.lemmas.Option.{slice_get-get_or}
 use Rattle.edd_syntax.specs.ItemView.{item_of}
-use Rattle.edd_attrs.specs.Places.{attributes_at_place}
-use Rattle.edd_attrs.proofs.Places.{next_place}
-use Rattle.edd_attrs.proofs.index.places_of_kind.Goals as goal
+use Rattle.edd_code.specs.Places.{attributes_at_place}
+use Rattle.edd_code.proofs.Places.{next_place}
+use Rattle.edd_code.proofs.index.places_of_kind.Goals as goal
 
 pub loop-place-preserved : goal.loop-place-preserved
 loop-place-preserved c =

@@ -1,0 +1,23 @@
+-- What writing a part of a unit comes to.
+use Rattle.std.specs.Prelude.{◌≡◌, ℕ, List, ◌++◌, length, Option}
+use Rattle.std.specs.List.{Contains}
+use Rattle.edd_syntax.specs.declared.numbers.StrNo.{StrNo}
+use Rattle.edd_syntax.specs.Words.{Words}
+use Rattle.edd_image.specs.Agreement.{string_of_table}
+use Rattle.edd_code.specs.Blocks.{Block, bytes_at}
+use Rattle.edd_code.specs.Tables.{AreDifferent, GrowsBy, number_in}
+
+-- The table grew by these strings alone, and the code by a block that is as `of` says, with strings by their numbers in the new
+-- table and in any that begins with it.
+pub record WritesBlock (old : List Words) (before : List ℕ) (strings : List Words) (of : (StrNo → Option Words) → Block → Type 0) (new : List Words) (after : List ℕ) : Type 0 where
+  pub table : GrowsBy old strings new
+  pub block : Block
+  pub written : after ≡ before ++ bytes_at (length before) block
+  pub is : (later : List Words) → of (string_of_table (new ++ later)) block
+
+-- The table grew by these strings alone and holds them, and the code by these bytes at the place behind it, with strings by their
+-- numbers in the new table and in any that begins with it.
+pub record WritesNumbered (old : List Words) (before : List ℕ) (strings : List Words) (bytes : (Words → StrNo) → (place : ℕ) → List ℕ) (new : List Words) (after : List ℕ) : Type 0 where
+  pub table : GrowsBy old strings new
+  pub holds : (w : Words) → Contains strings w → Contains new w
+  pub written : AreDifferent old → (later : List Words) → after ≡ before ++ bytes (number_in (new ++ later)) (length before)
