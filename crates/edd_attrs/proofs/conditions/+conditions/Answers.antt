@@ -154,7 +154,7 @@ write_select-returns-clause-ok g t c =
     carried c.write_bodies.result
     (select_written g.V.Element.strings g.V.Element.is_block c.args.table.now c.write_default.new.table c.write_bodies.new.table c.args.code.now c.write_expression.new.code c.open_cases.new.code c.put.new.code c.write_default.new.code
     c.write_bodies.new.code (expr_of (λ r. r) c.args.on.now) (map (arm_viewed g.V.Element.view) c.args.arms.now) c.in_ok-holes.holes.items
-    c.in_ok-write_expression.ensures c.in_ok-holes.ensures.code c.in_ok-holes.ensures.holes c.in_ok-put.ensures c.in_ok-write_default.ensures.ok) c.write_bodies.ensures.ok
+    c.in_ok-write_expression.ensures c.in_ok-holes.ensures.code c.in_ok-holes.ensures.holes c.in_ok-put.ensures.code c.in_ok-write_default.ensures.ok) c.write_bodies.ensures.ok
 
 pub write_select-returns-clause-too_many : goal.write_select-returns-clause-too_many
 write_select-returns-clause-too_many g t c h =

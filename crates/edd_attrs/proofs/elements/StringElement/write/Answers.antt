@@ -8,4 +8,4 @@ pub returns-clause-ok : goal.returns-clause-ok
 returns-clause-ok c =
     text_written c.args.table.now c.add_name.new.table c.args.code.now c.put.new.code (name_words (string_bytes c.args.self.now)) c.in_ok-number.number
     (subst (λ (bytes : List ℕ). GrowsBy c.args.table.now (name_words bytes ∷ []) c.add_name.new.table) c.deref.ensures c.in_ok-number.ensures.table)
-    (subst (λ (bytes : List ℕ). Keeps c.add_name.new.table (name_words bytes) c.in_ok-number.number) c.deref.ensures c.in_ok-number.ensures.number) c.in_ok-put.ensures
+    (subst (λ (bytes : List ℕ). Keeps c.add_name.new.table (name_words bytes) c.in_ok-number.number) c.deref.ensures c.in_ok-number.ensures.number) c.in_ok-put.ensures.code

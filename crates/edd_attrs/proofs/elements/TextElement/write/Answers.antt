@@ -5,4 +5,4 @@ use Rattle.edd_attrs.proofs.elements.TextElement.write.Goals as goal
 
 pub returns-clause-ok : goal.returns-clause-ok
 returns-clause-ok c =
-    text_written c.args.table.now c.add_text.new.table c.args.code.now c.put.new.code (words_of (text_of c.args.self.now)) c.in_ok-number.number c.in_ok-number.ensures.table c.in_ok-number.ensures.number c.in_ok-put.ensures
+    text_written c.args.table.now c.add_text.new.table c.args.code.now c.put.new.code (words_of (text_of c.args.self.now)) c.in_ok-number.number c.in_ok-number.ensures.table c.in_ok-number.ensures.number c.in_ok-put.ensures.code
