@@ -34,3 +34,14 @@ pub mod Places
 pub mod Different
 pub mod BothTests
 pub mod Picking
+pub mod Made
+pub mod TreeNodes
+pub mod UnitNodes
+pub mod FewNodes
+pub mod Numbers
+pub mod Numbered
+pub mod TextsHeld
+pub mod FewArguments
+pub mod Carried
+pub mod NumberedBlocks
+pub mod CallShapes

@@ -10,6 +10,7 @@ pub mod AttributeEffects
 pub mod Reports
 pub mod MethodEffects
 pub mod MethodExpressions
+pub mod Arguments
 pub mod Numbered
 pub mod MethodReads
 pub mod Tables

@@ -1,7 +1,9 @@
 -- What writing a part of a unit comes to.
-use Rattle.std.specs.Prelude.{◌≡◌, ℕ, List, ◌++◌, length, Option}
+use Rattle.std.specs.Prelude.{◌≡◌, ℕ, List, [], ◌++◌, length, Option}
 use Rattle.std.specs.List.{Contains}
 use Rattle.edd_syntax.specs.declared.numbers.StrNo.{StrNo}
+use Rattle.edd_syntax.specs.Strings.{strings_of_texts}
+use Rattle.edd_syntax.specs.Text.{Text}
 use Rattle.edd_syntax.specs.Words.{Words}
 use Rattle.edd_image.specs.Agreement.{string_of_table}
 use Rattle.edd_code.specs.Blocks.{Block, bytes_at}
@@ -21,3 +23,11 @@ pub record WritesNumbered (old : List Words) (before : List ℕ) (strings : List
   pub table : GrowsBy old strings new
   pub holds : (w : Words) → Contains strings w → Contains new w
   pub written : AreDifferent old → (later : List Words) → after ≡ before ++ bytes (number_in (new ++ later)) (length before)
+
+-- so do texts and a block
+abbrev pub WritesPart : (old : List Words) (before : List ℕ) (texts : List Text) (block : (Words → StrNo) → Block) (new : List Words) (after : List ℕ) → Type 0
+WritesPart old before texts block new after = WritesNumbered old before (strings_of_texts texts) (λ number place. bytes_at place (block number)) new after
+
+-- the table grew by the strings of these texts alone and holds them
+abbrev pub HoldsTexts : (old : List Words) (texts : List Text) (new : List Words) → Type 0
+HoldsTexts old texts new = WritesNumbered old [] (strings_of_texts texts) (λ number place. []) new []

@@ -14,7 +14,7 @@ use edd_syntax::reference::Target;
 use std::alloc::AllocError;
 
 #[tactic(auto, unfolding(crate::specs::Blocks::emitted, crate::specs::Blocks::bytes_of))]
-fn write_item(code: &mut Emitter, item: ItemNo) -> Result<(), AllocError>
+pub(crate) fn write_item(code: &mut Emitter, item: ItemNo) -> Result<(), AllocError>
     ensures { OnOk result (code.new ≡ code.old ++ bytes_at (length code.old) (item_block item)) }
 {
     match item {
@@ -36,7 +36,7 @@ fn write_read(code: &mut Emitter, from: Target) -> Result<(), AllocError>
 }
 
 #[tactic(auto, unfolding(crate::specs::Blocks::emitted, crate::specs::Blocks::bytes_of))]
-fn write_unary(code: &mut Emitter, op: UnaryOperator) -> Result<(), AllocError>
+pub(crate) fn write_unary(code: &mut Emitter, op: UnaryOperator) -> Result<(), AllocError>
     ensures { OnOk result (code.new ≡ code.old ++ bytes_at (length code.old) (unary_block op)) }
 {
     match op {
@@ -48,7 +48,7 @@ fn write_unary(code: &mut Emitter, op: UnaryOperator) -> Result<(), AllocError>
 }
 
 #[tactic(auto, unfolding(crate::specs::Blocks::emitted, crate::specs::Blocks::bytes_of))]
-fn write_truth(code: &mut Emitter) -> Result<(), AllocError>
+pub(crate) fn write_truth(code: &mut Emitter) -> Result<(), AllocError>
     ensures { OnOk result (code.new ≡ code.old ++ bytes_at (length code.old) truth_block) }
 {
     put(code, Instruction::Not)?;

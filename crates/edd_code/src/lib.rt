@@ -2,6 +2,7 @@
 //! where items stand.
 #![tactic(auto)]
 
+mod arguments;
 mod emit;
 mod expression;
 mod expression_laws;
@@ -10,7 +11,11 @@ mod index;
 mod items;
 mod laws;
 mod method_laws;
+mod requests;
+mod storing;
 mod strings;
+mod texts;
+mod value;
 
 pub use emit::{close, open, put};
 pub use expression::write_expression;
@@ -29,4 +34,6 @@ pub use method_laws::{
     method_expressions_are_short, method_expressions_are_spelled, method_expressions_flow,
     method_expressions_mean_their_values,
 };
+pub use storing::write_store;
 pub use strings::{add_name, add_optional, add_text};
+pub use value::write_value;

@@ -1,0 +1,109 @@
+//! The texts among the arguments of calls, added to the table of strings. A call whose arguments don't fit has no code for them.
+
+ghost use Rattle.std.specs.Prelude.{[], ◌∷◌, ◌++◌, IsErrOf, IsTrue, OnOk, map};
+ghost use Rattle.std.specs.List.{list_all};
+ghost use Rattle.edd_syntax.specs.Expression.{arguments_from};
+ghost use Rattle.edd_syntax.specs.Strings.{argument_texts, expr_texts, strings_of_texts};
+ghost use Rattle.edd_syntax.specs.TreeView.{argument_of, expr_of};
+ghost use Rattle.edd_syntax.specs.WellFormed.{is_text};
+ghost use Rattle.edd_code.specs.Tables.{Grows, Overflows};
+ghost use Rattle.edd_code.specs.Written.{HoldsTexts};
+
+use crate::fault::LowerFault;
+use crate::strings::add_text;
+use edd_strings::Table;
+use edd_syntax::expr::{Argument, Expr};
+use edd_syntax::reference::Target;
+use std::alloc::Global;
+
+// The texts in an expression.
+#[cycle(texts)]
+#[tactic(auto, using(crate::proofs::TextsHeld::holding))]
+fn add_texts(alloc: Global, table: &mut Table, e: &Expr<Target>) -> Result<(), LowerFault>
+    requires { IsTrue (list_all is_text (expr_texts (expr_of (λ r. r) e.now))) }
+    ensures ok { OnOk result (HoldsTexts table.old (expr_texts (expr_of (λ r. r) e.now)) table.new) }
+    ensures grows { Grows table.old table.new }
+    ensures too_many { IsErrOf result LowerFault.TooMany → Overflows table.old (strings_of_texts (expr_texts (expr_of (λ r. r) e.now))) }
+{
+    match e {
+        Expr::Literal(_) | Expr::Decimal { .. } | Expr::Reference(_) | Expr::Increment(_, _) => {
+            Ok(())
+        }
+        Expr::Parentheses(inner) => add_texts(alloc, table, inner),
+        Expr::Unary(_, operand) => add_texts(alloc, table, operand),
+        Expr::Binary(_, left, right) => add_both(alloc, table, left, right),
+        Expr::Compare(_, left, right) => add_both(alloc, table, left, right),
+        Expr::LogicalAnd(left, right) => add_both(alloc, table, left, right),
+        Expr::LogicalOr(left, right) => add_both(alloc, table, left, right),
+        Expr::Conditional(test, first, second) => {
+            add_texts(alloc, table, test)?;
+            add_both(alloc, table, first, second)?;
+            Ok(())
+        }
+        Expr::Assign(_, value) => add_texts(alloc, table, value),
+        Expr::CompoundAssign(_, _, value) => add_texts(alloc, table, value),
+        Expr::Call { arguments, .. } => add_argument_texts(alloc, table, arguments),
+    }
+}
+
+#[cycle(texts)]
+#[tactic(auto, using(crate::proofs::TextsHeld::holding))]
+fn add_both(
+    alloc: Global,
+    table: &mut Table,
+    left: &Expr<Target>,
+    right: &Expr<Target>,
+) -> Result<(), LowerFault>
+    requires left { IsTrue (list_all is_text (expr_texts (expr_of (λ r. r) left.now))) }
+    requires right { IsTrue (list_all is_text (expr_texts (expr_of (λ r. r) right.now))) }
+    ensures ok { OnOk result (HoldsTexts table.old (expr_texts (expr_of (λ r. r) left.now) ++ expr_texts (expr_of (λ r. r) right.now)) table.new) }
+    ensures grows { Grows table.old table.new }
+    ensures too_many { IsErrOf result LowerFault.TooMany
+        → Overflows table.old (strings_of_texts (expr_texts (expr_of (λ r. r) left.now) ++ expr_texts (expr_of (λ r. r) right.now))) }
+{
+    add_texts(alloc, table, left)?;
+    add_texts(alloc, table, right)
+}
+
+/// Adds the texts among these arguments, at any depth.
+#[cycle(texts)]
+#[tactic(auto, using(crate::proofs::TextsHeld::holding))]
+pub(crate) fn add_argument_texts(
+    alloc: Global,
+    table: &mut Table,
+    arguments: &[Argument<Target>],
+) -> Result<(), LowerFault>
+    requires { IsTrue (list_all is_text (argument_texts (arguments_from (map (argument_of (λ r. r)) arguments.now)))) }
+    ensures ok { OnOk result (HoldsTexts table.old (argument_texts (arguments_from (map (argument_of (λ r. r)) arguments.now))) table.new) }
+    ensures grows { Grows table.old table.new }
+    ensures too_many { IsErrOf result LowerFault.TooMany
+        → Overflows table.old (strings_of_texts (argument_texts (arguments_from (map (argument_of (λ r. r)) arguments.now)))) }
+{
+    for argument in arguments {
+        add_argument(alloc, table, argument)?;
+    }
+    Ok(())
+}
+
+// One text, or those in an expression.
+#[cycle(texts)]
+#[tactic(auto, using(crate::proofs::TextsHeld::holding))]
+fn add_argument(
+    alloc: Global,
+    table: &mut Table,
+    argument: &Argument<Target>,
+) -> Result<(), LowerFault>
+    requires { IsTrue (list_all is_text (argument_texts (arguments_from (argument_of (λ r. r) argument.now ∷ [])))) }
+    ensures ok { OnOk result (HoldsTexts table.old (argument_texts (arguments_from (argument_of (λ r. r) argument.now ∷ []))) table.new) }
+    ensures grows { Grows table.old table.new }
+    ensures too_many { IsErrOf result LowerFault.TooMany
+        → Overflows table.old (strings_of_texts (argument_texts (arguments_from (argument_of (λ r. r) argument.now ∷ [])))) }
+{
+    match argument {
+        Argument::Text(text) => {
+            add_text(alloc, table, text)?;
+            Ok(())
+        }
+        Argument::Value(e) => add_texts(alloc, table, e),
+    }
+}
