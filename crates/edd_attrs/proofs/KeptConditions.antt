@@ -9,7 +9,7 @@ use Rattle.edd_syntax.specs.Conditional.{Cond, Value, If, Select, Conds, Arms, N
 use Rattle.edd_syntax.specs.ResolvedTrees.{resolved_expr, resolved_cond, resolved_conds, resolved_arms}
 use Rattle.edd_syntax.specs.Size.{height, cond_height, conds_height, arms_height}
 use Rattle.edd_syntax.specs.WellFormed.{is_path, is_plain, is_label, is_pure_expr, is_cond, are_conds, are_arms, is_single, is_one, is_at_most_one, are_single_arms}
-use Rattle.edd_attrs.proofs.Made.{stays, made, made_of_two, made_of_three}
+use Rattle.edd_code.proofs.Made.{stays, made, made_of_two, made_of_three}
 use Rattle.edd_code.proofs.BothTests.{both_of, both_true}
 
 not_true : {A : Type 0} → false ≡ true → A

@@ -9,7 +9,6 @@ pub mod Carried
 pub mod Conditionals
 pub mod Parts
 pub mod TreeStrings
-pub mod Made
 pub mod KeptConditions
 pub mod GoodTrees
 pub mod CheckedTrees
@@ -22,9 +21,6 @@ pub mod ElementFacts
 pub mod HeldStrings
 pub mod SoundTrees
 pub mod MeaningTrees
-pub mod TreeNodes
-pub mod UnitNodes
-pub mod FewNodes
 pub mod NodeBounds
 pub mod LoweredRows
 pub mod InTrees

@@ -44,7 +44,7 @@ use Rattle.edd_attrs.specs.TreeBlocks.{elements, IsBlockOf}
 use Rattle.edd_code.proofs.Different.{fewer_different}
 use Rattle.edd_attrs.proofs.InTrees.{if_there}
 use Rattle.edd_attrs.proofs.Meanings.{unit_means}
-use Rattle.edd_attrs.proofs.FewNodes.{few_nodes}
+use Rattle.edd_code.proofs.FewNodes.{few_nodes}
 use Rattle.edd_attrs.proofs.NodeBounds.{few_at}
 use Rattle.edd_attrs.proofs.GoodTrees.{is_low, is_small, all_good, good_cond, good_enumerator, good_element, good_response, good_entry, good_member}
 use Rattle.edd_attrs.proofs.CheckedTrees.{reads_of, is_ruled, is_whole, no_breach, whole_when_checked}

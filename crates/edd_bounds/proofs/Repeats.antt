@@ -17,7 +17,7 @@ use Rattle.edd_syntax.specs.ResolvedTrees.{each, unchanged, resolved_expr, resol
 use Rattle.edd_syntax.specs.Resolved.{IsResolved, IsChecked}
 use Rattle.edd_syntax.proofs.WithinLimits.{each_keeps}
 use Rattle.edd_attrs.proofs.GoodTrees.{bind_some}
-use Rattle.edd_attrs.proofs.Made.{stays, made}
+use Rattle.edd_code.proofs.Made.{stays, made}
 
 -- ---- lists
 

@@ -5,7 +5,7 @@ use Rattle.edd_syntax.specs.declared.reference.Target.{Target}
 use Rattle.edd_syntax.specs.Item.{Description}
 use Rattle.edd_syntax.specs.Resolved.{IsChecked}
 use Rattle.edd_syntax.specs.Rows.{rows}
-use Rattle.edd_attrs.proofs.FewNodes.{few_nodes}
+use Rattle.edd_code.proofs.FewNodes.{few_nodes}
 use Rattle.edd_bounds.specs.RowContents.{limit_of_row}
 use Rattle.edd_bounds.proofs.RowLimits.{all_rows_limit}
 

@@ -22,7 +22,7 @@ abbrev pub OfBody : {R : Type 0} → (P : Body R → Type 0) → Attribute R →
 OfBody P (item.Definition body) = P body
 OfBody P _ = Unit {0}
 
-flat_parts : {A B : Type 0} (P : B → Type 0) (f : A → List B) (xs : List A) → AllByRecursion P (flat_map f xs) → AllByRecursion (λ x. AllByRecursion P (f x)) xs
+pub flat_parts : {A B : Type 0} (P : B → Type 0) (f : A → List B) (xs : List A) → AllByRecursion P (flat_map f xs) → AllByRecursion (λ x. AllByRecursion P (f x)) xs
 flat_parts P f [] h = tt
 flat_parts {A} {B} P f (x ∷ xs) h = let two = parted (f x) h in (two.0, flat_parts P f xs two.1)
   where

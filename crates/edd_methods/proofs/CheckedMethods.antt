@@ -10,11 +10,10 @@ use Rattle.edd_syntax.specs.declared.reference.Target.{Target}
 use Rattle.edd_syntax.specs.Execution.{body_of}
 use Rattle.edd_syntax.specs.Expression.{Expr}
 use Rattle.edd_syntax.specs.Item.{Description}
-use Rattle.edd_syntax.specs.Resolved.{IsChecked}
 use Rattle.edd_syntax.specs.Size.{body_nodes}
 use Rattle.edd_syntax.specs.Statement.{slots_in}
 use Rattle.edd_syntax.specs.Strings.{expr_texts}
-use Rattle.edd_syntax.specs.SubsetRules.{Placed, body_expressions, call_mismatches, mismatches, wrong_types}
+use Rattle.edd_syntax.specs.SubsetRules.{Placed, body_expressions, call_mismatches}
 use Rattle.edd_syntax.specs.Text as texts
 use Rattle.edd_syntax.specs.Words.{Words, words_of}
 use Rattle.edd_image.specs.declared.unit.Context.{Context}
@@ -25,7 +24,6 @@ use Rattle.edd_image.specs.Units.{IsValidUnit}
 use Rattle.edd_code.specs.Flow.{AreSpelled, all_straight}
 use Rattle.edd_code.specs.MethodExpressions.{method_block}
 use Rattle.edd_code.specs.Numbered.{HasNumbers, IsNumbered}
-use Rattle.edd_code.proofs.Fitting.{front_none}
 use Rattle.edd_code.proofs.MethodSizes.{is_short}
 use Rattle.edd_code.proofs.MethodSpelling.{method_stands}
 use Rattle.edd_methods.specs.MethodCode.{HasBlocks, method_code}
@@ -35,11 +33,9 @@ use Rattle.edd_methods.proofs.CodeSizes.{body_size}
 use Rattle.edd_methods.proofs.ResolvedSlots.{each_slot}
 use Rattle.edd_methods.proofs.TreeParts.{each_in_listed}
 use Rattle.edd_methods.specs.Statements.{size, unit_code}
-use Rattle.edd_methods.proofs.CheckedBodies.{body_fits}
+use Rattle.edd_methods.proofs.BodyFacts.{BodyFacts}
 use Rattle.edd_methods.proofs.MethodAgreement.{is_method_code}
-use Rattle.edd_methods.proofs.ResolvedBodies.{body_keeps}
 use Rattle.edd_methods.proofs.ResolvedExpressions.{any}
-use Rattle.edd_methods.proofs.ResolvedReferences.{body_refers, few_variables}
 use Rattle.edd_methods.proofs.ResolvedStatements.{ReferToExisting}
 
 -- what has a number of the table is a string that exists
@@ -65,20 +61,17 @@ all_stand context strings number long few variables slots (p ∷ ps) fit refer k
     let x = method_stands context variables (omega (arith, long, few)) slots number any p.is_statement e fit.0 refer.0 there in
     ((x.spelled, x.named), all_stand context strings number long few variables slots ps fit.1 refer.1 known.1)
 
-module _ (d : Description Target) (is : IsChecked d) (m : MethNo) (strings : List Words) (few : length strings ≤ 65536) (number : Words → StrNo)
+module _ (d : Description Target) (m : MethNo) (is : BodyFacts d m) (strings : List Words) (few : length strings ≤ 65536) (number : Words → StrNo)
     (known : AllByRecursion (λ p. HasNumbers (string_of_table strings) number p.expression) (body_expressions (body_of d m))) where
-  pub calls_fit : AllByRecursion (λ p. call_mismatches p.is_statement p.expression ≡ []) (body_expressions (body_of d m))
-  calls_fit = body_fits d (front_none (mismatches d) _ (front_none (wrong_types d) _ is.no_breach).1).0 m
-
   pub expressions_stand : AllByRecursion (λ p. Stands (method_context d strings (slots_in (body_of d m))) number p.expression) (body_expressions (body_of d m))
   expressions_stand =
-      let variables = few_variables d is.is_resolved in
-      let slots = (body_keeps d is.is_resolved m).0 in
-      let refer = body_refers d is.is_resolved (counts_of d.identification d.items (length strings)) refl m in
-      all_stand (method_context d strings (slots_in (body_of d m))) strings number refl few (omega (arith, variables)) (omega (arith, slots)) (body_expressions (body_of d m)) calls_fit refer known
+      let variables = is.few_variables in
+      let slots = is.few_slots in
+      let refer = is.refer (counts_of d.identification d.items (length strings)) refl in
+      all_stand (method_context d strings (slots_in (body_of d m))) strings number refl few (omega (arith, variables)) (omega (arith, slots)) (body_expressions (body_of d m)) is.fit refer known
 
   pub has_blocks : HasBlocks number (string_of_table strings) (body_of d m)
-  has_blocks = record { fit = calls_fit; known = known; spelled = each_spelled (body_expressions (body_of d m)) expressions_stand }
+  has_blocks = record { fit = is.fit; known = known; spelled = each_spelled (body_expressions (body_of d m)) expressions_stand }
     where
       each_spelled : (ps : List (Placed Target)) → AllByRecursion (λ p. Stands (method_context d strings (slots_in (body_of d m))) number p.expression) ps
           → AllByRecursion (λ p. (p.is_statement && is_abort_call p.expression) ≡ false → AreSpelled (method_block number p.expression)) ps
@@ -88,9 +81,7 @@ module _ (d : Description Target) (is : IsChecked d) (m : MethNo) (strings : Lis
   pub has_method_code : size (method_code number (body_of d m)) < 2 ^ 31
       → IsValidUnit (method_context d strings (slots_in (body_of d m))) (unit_code (method_code number (body_of d m)))
       → IsMethodCode d strings m (slots_in (body_of d m)) (unit_code (method_code number (body_of d m)))
-  has_method_code small valid =
-      let keeps = body_keeps d is.is_resolved m in
-      is_method_code d strings m number keeps.1 (omega (arith, keeps.0)) has_blocks small valid
+  has_method_code small valid = is_method_code d strings m number is.slots (omega (arith, is.few_slots)) has_blocks small valid
 
 -- ---- how long the code is
 
@@ -99,10 +90,9 @@ all_short : (number : Words → StrNo) (ps : List (Placed Target)) → AllByRecu
 all_short number [] fit = tt
 all_short number (p ∷ ps) fit = (λ _. is_short number p.is_statement p.expression fit.0, all_short number ps fit.1)
 
-pub code_is_short : (d : Description Target) → IsChecked d → (m : MethNo) (number : Words → StrNo) → size (method_code number (body_of d m)) ≤ 32 * body_nodes (body_of d m)
-code_is_short d is m number =
+pub code_is_short : (d : Description Target) (m : MethNo) → BodyFacts d m → (number : Words → StrNo) → size (method_code number (body_of d m)) ≤ 32 * body_nodes (body_of d m)
+code_is_short d m is number =
     let body = body_of d m in
-    let keeps = body_keeps d is.is_resolved m in
     body_size (method_block number) body
-    (each_in_listed (IsShort (method_block number)) body (each_slot (slots_in body) (2 ^ 8) (omega (arith, keeps.0)) body keeps.1)
-    (all_short number (body_expressions body) (body_fits d (front_none (mismatches d) _ (front_none (wrong_types d) _ is.no_breach).1).0 m)))
+    (each_in_listed (IsShort (method_block number)) body (each_slot (slots_in body) (2 ^ 8) (omega (arith, is.few_slots)) body is.slots)
+    (all_short number (body_expressions body) is.fit))

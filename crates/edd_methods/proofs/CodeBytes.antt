@@ -27,14 +27,14 @@ long_none = refl
 long_both : (is js : List Instruction) → long (is ++ js) ≡ long is + long js
 long_both is js = ap length (bytes_of-append is js) ∙ length-append (bytes_of is) (bytes_of js)
 
-part_long : (p out : ℕ) (part : Part) → long (part_emitted p out part) ≡ part_size part
+pub part_long : (p out : ℕ) (part : Part) → long (part_emitted p out part) ≡ part_size part
 part_long p out Missing = long_none
 part_long p out (Step b) = block_bytes.lengths p b
 part_long p out (Test b) =
     let leave = instruction.JumpIfZero (target out) in
     omega (arith, long_both (blocks.emitted p b) (leave ∷ []), block_bytes.lengths p b, long_more leave [], long_none)
 
-tests_long : (p : ℕ) (arms : Arms) → long (tests_emitted p arms) ≡ tests_size arms
+pub tests_long : (p : ℕ) (arms : Arms) → long (tests_emitted p arms) ≡ tests_size arms
 tests_long p Nil = long_none
 tests_long p (Statement first rest) = tests_long (p + size first) rest
 tests_long p (Case label rest) = omega (arith, long_more (instruction.Case label (target p)) (tests_emitted p rest), tests_long p rest)
@@ -113,7 +113,7 @@ mutual
   code_long p out back Continue = omega (arith, long_more (instruction.Jump (target back)) [], long_none)
   code_long p out back Finish = omega (arith, long_more instruction.End [], long_none)
 
-  arms_long : (p out back : ℕ) (arms : Arms) → length (bytes_of (arms_emitted p out back arms)) ≡ arms_size arms
+  pub arms_long : (p out back : ℕ) (arms : Arms) → length (bytes_of (arms_emitted p out back arms)) ≡ arms_size arms
   arms_long p out back Nil = long_none
   arms_long p out back (Statement first rest) =
       omega (arith, long_both (emitted p out back first) (arms_emitted (p + size first) out back rest), code_long p out back first, arms_long (p + size first) out back rest)

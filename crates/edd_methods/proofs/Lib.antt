@@ -35,3 +35,17 @@ pub mod CodePasses
 pub mod CodeUnits
 pub mod TreeFits
 pub mod ResolvedHeights
+pub mod FewNodes
+pub mod InsideLoops
+pub mod BodyFacts
+pub mod FoundBodies
+pub mod GoodTexts
+pub mod HeldNumbers
+pub mod LoweredMethods
+pub mod NumberedParts
+pub mod ClosedCode
+pub mod ClosedLoops
+pub mod WrittenPieces
+pub mod WrittenBodies
+pub mod WrittenStatements
+pub mod SlotCounts

@@ -6,3 +6,7 @@ pub mod TreeCode
 pub mod TreeExpressions
 pub mod StatementCode
 pub mod MethodCode
+pub mod LoweredMethods
+pub mod Writing
+pub mod LoopParts
+pub mod Labels

@@ -172,7 +172,7 @@ pub fn valid_code_is_the_methods()
 /// In a checked description, in whose table of strings the texts of a method have their numbers, the operands in the blocks of the
 /// method's expressions are in their ranges, and the variables, slots and strings that they name exist.
 pub fn checked_expressions_are_spelled()
-    ensures { (d : Description Target) → IsChecked d → (m : MethNo) → (strings : List Words) → length strings ≤ 65536 → (number : Words → StrNo)
+    ensures { (d : Description Target) → ∥ IsChecked d ∥₁ → (m : MethNo) → (strings : List Words) → length strings ≤ 65536 → (number : Words → StrNo)
         → AllByRecursion (λ p. HasNumbers (string_of_table strings) number p.expression) (body_expressions (body_of d m))
         → AllByRecursion (λ p. AreSpelled (method_block number p.expression)
         × (all_straight (names_exist (method_context d strings (slots_in (body_of d m)))) (method_block number p.expression) ≡ true))
@@ -181,7 +181,7 @@ pub fn checked_expressions_are_spelled()
 
 /// So the unit of a method's code is the method's where it is valid, for each method of a checked description.
 pub fn checked_methods_have_their_code()
-    ensures { (d : Description Target) → IsChecked d → (m : MethNo) → (strings : List Words) → length strings ≤ 65536 → (number : Words → StrNo)
+    ensures { (d : Description Target) → ∥ IsChecked d ∥₁ → (m : MethNo) → (strings : List Words) → length strings ≤ 65536 → (number : Words → StrNo)
         → AllByRecursion (λ p. HasNumbers (string_of_table strings) number p.expression) (body_expressions (body_of d m))
         → size (method_code number (body_of d m)) < 2 ^ 31
         → IsValidUnit (method_context d strings (slots_in (body_of d m))) (unit_code (method_code number (body_of d m)))
@@ -205,7 +205,7 @@ pub fn expressions_of_methods_are_low()
 /// The unit of the code of each method of a checked description is valid, where the texts of the method have their numbers in the table
 /// of strings.
 pub fn checked_code_is_valid()
-    ensures { (d : Description Target) → IsChecked d → (m : MethNo) → (strings : List Words) → length strings ≤ 65536 → (number : Words → StrNo)
+    ensures { (d : Description Target) → ∥ IsChecked d ∥₁ → (m : MethNo) → (strings : List Words) → length strings ≤ 65536 → (number : Words → StrNo)
         → AllByRecursion (λ p. HasNumbers (string_of_table strings) number p.expression) (body_expressions (body_of d m))
         → size (method_code number (body_of d m)) < 2 ^ 31
         → IsValidUnit (method_context d strings (slots_in (body_of d m))) (unit_code (method_code number (body_of d m))) }
@@ -213,7 +213,7 @@ pub fn checked_code_is_valid()
 
 /// So it is the method's.
 pub fn checked_code_is_the_methods()
-    ensures { (d : Description Target) → IsChecked d → (m : MethNo) → (strings : List Words) → length strings ≤ 65536 → (number : Words → StrNo)
+    ensures { (d : Description Target) → ∥ IsChecked d ∥₁ → (m : MethNo) → (strings : List Words) → length strings ≤ 65536 → (number : Words → StrNo)
         → AllByRecursion (λ p. HasNumbers (string_of_table strings) number p.expression) (body_expressions (body_of d m))
         → size (method_code number (body_of d m)) < 2 ^ 31
         → IsMethodCode d strings m (slots_in (body_of d m)) (unit_code (method_code number (body_of d m))) }
@@ -221,6 +221,6 @@ pub fn checked_code_is_the_methods()
 
 /// The code of each method of a checked description has at most 32 bytes for each node of its body.
 pub fn checked_methods_are_short()
-    ensures { (d : Description Target) → IsChecked d → (m : MethNo) → (number : Words → StrNo)
+    ensures { (d : Description Target) → ∥ IsChecked d ∥₁ → (m : MethNo) → (number : Words → StrNo)
         → size (method_code number (body_of d m)) ≤ 32 * body_nodes (body_of d m) }
 {}

@@ -1,7 +1,13 @@
 //! The code of methods, and its laws.
 #![tactic(auto)]
 
+mod labels;
 mod laws;
+mod loops;
+mod method;
+mod pieces;
+mod slots;
+mod statements;
 
 pub use laws::{
     bodies_are_followed, bodies_are_short, bodies_are_spelled, bodies_do_what_they_say,
@@ -13,3 +19,4 @@ pub use laws::{
     statements_do_what_they_say, units_follow_their_code, valid_answers_can_be_taken,
     valid_code_is_the_methods,
 };
+pub use method::{MethodCode, lower_indexed, lower_method};

@@ -1,5 +1,5 @@
-use Rattle.edd_attrs.proofs.FewNodes.{few_nodes}
-use Rattle.edd_attrs.proofs.UnitNodes.{unit_keeps}
+use Rattle.edd_code.proofs.FewNodes.{few_nodes}
+use Rattle.edd_code.proofs.UnitNodes.{unit_keeps}
 use Rattle.edd_bounds.proofs.laws.nodes_stay.Goals as goal
 
 pub returns-clause-same : goal.returns-clause-same

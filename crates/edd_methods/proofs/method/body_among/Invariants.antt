@@ -1,0 +1,12 @@
+use Rattle.std.proofs.Common.{◌≡◌, map}
+use Rattle.edd_syntax.specs.ItemView.{attribute_of}
+use Rattle.edd_syntax.specs.Statement.{body_from}
+use Rattle.edd_syntax.specs.TreeView.{part_of}
+use Rattle.std.specs.Borrow.{Bor}
+use Rattle.edd_syntax.specs.Execution.{body_in}
+use Rattle.std.proofs.Common.{drop}
+use Rattle.edd_methods.proofs.method.body_among.Given as goal
+
+-- the attributes so far are no body
+abbrev pub invariant-loop-attribute : goal.invariant-loop-attribute
+invariant-loop-attribute l = body_in (map (attribute_of (λ r. r)) (drop l.attribute-index l.attributes)) ≡ body_in (map (attribute_of (λ r. r)) l.attributes)

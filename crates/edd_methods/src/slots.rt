@@ -1,0 +1,55 @@
+//! How many slots a method has.
+
+ghost use Rattle.std.specs.Prelude.{◌≡◌, ◌≤◌, ◌∷◌, [], map};
+ghost use Rattle.edd_syntax.specs.Statement.{body_from, slots_in, slots_of};
+ghost use Rattle.edd_syntax.specs.TreeView.{part_of, stmt_of};
+
+use edd_syntax::reference::Target;
+use edd_syntax::stmt::{Part, Stmt};
+
+/// The declarators of a body, each of which has a slot.
+#[cycle(slots)]
+pub fn slots_in(body: &[Part<Target>]) -> u16
+    requires { slots_in (body_from (map (part_of (λ r. r)) body.now)) ≤ 64 }
+    ensures { result ≡ slots_in (body_from (map (part_of (λ r. r)) body.now)) }
+{
+    let mut slots = 0;
+    for part in body {
+        slots += slots_of_part(part);
+    }
+    slots
+}
+
+#[cycle(slots)]
+fn slots_of_part(part: &Part<Target>) -> u16
+    requires { slots_in (body_from (part_of (λ r. r) part.now ∷ [])) ≤ 64 }
+    ensures { result ≡ slots_in (body_from (part_of (λ r. r) part.now ∷ [])) }
+{
+    match part {
+        Part::Declare(declarators) => declarators.len() as u16,
+        Part::Statement(x) => slots_of(x),
+        Part::CaseLabel { .. } | Part::DefaultLabel { .. } => 0,
+    }
+}
+
+#[cycle(slots)]
+#[tactic(auto, unfolding(edd_syntax::specs::Statement::slots_of))]
+fn slots_of(x: &Stmt<Target>) -> u16
+    requires { slots_of (stmt_of (λ r. r) x.now) ≤ 64 }
+    ensures { result ≡ slots_of (stmt_of (λ r. r) x.now) }
+{
+    match x {
+        Stmt::Block(parts) => slots_in(parts),
+        Stmt::If(_, first) => slots_of(first),
+        Stmt::IfElse(_, first, otherwise) => slots_of(first) + slots_of(otherwise),
+        Stmt::While(_, body) => slots_of(body),
+        Stmt::Do(body, _) => slots_of(body),
+        Stmt::For { body, .. } => slots_of(body),
+        Stmt::Switch(_, parts) => slots_in(parts),
+        Stmt::Empty
+        | Stmt::Evaluate(_)
+        | Stmt::Break { .. }
+        | Stmt::Continue { .. }
+        | Stmt::Return => 0,
+    }
+}
