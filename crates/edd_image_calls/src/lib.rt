@@ -4,10 +4,16 @@
 #[cfg(test)]
 mod emitting;
 #[cfg(test)]
+mod hosts;
+#[cfg(test)]
 mod images;
 #[cfg(test)]
 mod loader;
 #[cfg(test)]
 mod machine;
+#[cfg(test)]
+mod sessions;
+#[cfg(test)]
+mod small;
 #[cfg(test)]
 mod worked;

@@ -1,8 +1,8 @@
 //! Values, what is read of attributes, and the steps of methods.
 
-ghost use Rattle.std.specs.Prelude.{◌≤◌};
 ghost use Rattle.edd_machine.specs.Running.{IsMachine};
 
+use crate::small::{INTEGER, Small, UNSIGNED, image_of};
 use crate::worked::LABEL;
 use edd_image::{Emitted, Record, Request, Status};
 use edd_loader::{Image, load};
@@ -11,66 +11,8 @@ use edd_machine::{
 };
 use edd_syntax::answer::Trap;
 use edd_syntax::numbers::{Attr, AttrRef, ItemNo, MethNo, StrNo, VarNo};
-use std::alloc::{AllocError, Global};
+use std::alloc::Global;
 use std::test::Fail;
-
-// The parts of a small image: rows of variables, how many methods there are, and attribute rows with their code. All names are
-// one letter.
-#[derive(Clone, Copy)]
-struct Small<'a> {
-    variables: &'a [[u8; 4]],
-    methods: u8,
-    rows: &'a [([u8; 6], &'a [u8])],
-}
-
-// The length of at most 4096 bytes.
-fn long(bytes: &[u8]) -> u32
-    ensures { result ≤ 4096 }
-{
-    bytes.len().min(4096) as u32
-}
-
-fn image_of(alloc: Global, small: Small) -> Result<Vec<u8>, AllocError> {
-    let mut rows = Vec::new(alloc);
-    let mut units = Vec::new(alloc);
-    let mut code = Vec::new(alloc);
-    let mut names = Vec::new(alloc);
-    for row in small.variables {
-        rows.extend_from_slice(row)?;
-    }
-    let variables = small.variables.len().min(16) as u8;
-    for name in 0..variables.min(16).wrapping_add(small.methods) {
-        rows.extend_from_slice(&u32::from(name).to_be_bytes())?;
-        rows.extend_from_slice(&[0, 1, 0, 0])?;
-        names.push(b'a')?;
-    }
-    for (key, unit) in small.rows {
-        units.extend_from_slice(key)?;
-        units.extend_from_slice(&[0, 0])?;
-        units.extend_from_slice(&long(&code).to_be_bytes())?;
-        units.extend_from_slice(&long(unit).to_be_bytes())?;
-        code.extend_from_slice(unit)?;
-    }
-    let count = small.rows.len().min(16) as u32;
-    let total = 56 + long(&rows) + long(&units) + long(&code) + long(&names);
-    let mut bytes = Vec::new(alloc);
-    bytes.extend_from_slice(&[0x45, 0x44, 0x49, 0x31, 0, 1, 0, 0])?;
-    bytes.extend_from_slice(&total.to_be_bytes())?;
-    bytes.extend_from_slice(&[0, 0, 0, 1, 0, 0, 0, 2, 0, 0, 0, 3, 0, 0, 0, 4])?;
-    bytes.extend_from_slice(&[0, variables, 0, 0, 0, 0, 0, 0, 0, small.methods, 0, 0])?;
-    for number in [count, long(&names), long(&code), 0] {
-        bytes.extend_from_slice(&number.to_be_bytes())?;
-    }
-    bytes.extend_from_slice(&rows)?;
-    bytes.extend_from_slice(&units)?;
-    bytes.extend_from_slice(&code)?;
-    bytes.extend_from_slice(&names)?;
-    Ok(bytes)
-}
-
-const INTEGER: u8 = 1;
-
-const UNSIGNED: u8 = 2;
 
 fn validity_of(variable: u16) -> AttrRef {
     AttrRef {

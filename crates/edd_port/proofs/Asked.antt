@@ -1,0 +1,118 @@
+-- Which requests a run makes that no answer meets.
+use Rattle.std.proofs.Common.{◌≡◌, ℕ, zero, suc, ℤ, Bool, true, false, List, [], ◌∷◌, ◌++◌, Option, Some, None, refl, sym, ap, subst, ◌∙◌, append-nil}
+use Rattle.std.specs.Prelude.{Result, Ok, Err, if◌then◌else◌, IfSome}
+use Rattle.std.specs.Ordering.{int_eq}
+use Rattle.edd_syntax.specs.declared.answer.Trap.{Trap}
+use Rattle.edd_image.specs.declared.instruction.Ask.{Ask}
+use Rattle.edd_image.specs.declared.instruction.Ask.TheVariants as ask
+use Rattle.edd_image.specs.declared.instruction.Instruction.{Instruction}
+use Rattle.edd_image.specs.declared.instruction.Instruction.TheVariants as instruction
+use Rattle.edd_image.specs.declared.records.Request.{Request}
+use Rattle.edd_image.specs.declared.records.Status.{Status}
+use Rattle.edd_image.specs.declared.records.Status.TheVariants as status
+use Rattle.edd_image.specs.Decoding.{◌>>=◌, instruction_at}
+use Rattle.edd_image.specs.Execution.{Outcome, request_in, execute}
+use Rattle.edd_image.specs.Steps.{State, Environment, Effect, go, on_top, on_two, push_or_trap, act_ask, act, if_running, step}
+use Rattle.edd_port.specs.Drives.{standing}
+use Rattle.edd_port.proofs.Cuts.{by_running}
+use Rattle.edd_port.proofs.Outcomes.{without_steps, at_rest, steps_on, gets_stuck}
+
+-- ---- one step
+
+-- what the effect emits is the request that stands behind it
+abbrev Emits : Option Effect → Type 0
+Emits o = IfSome o (λ e. request_in e.emitted ≡ standing e.state.status)
+
+top : (operands : List ℤ) (f : ℤ → List ℤ → Option Effect) → ((a : ℤ) (below : List ℤ) → Emits (f a below)) → Emits (on_top operands f)
+top [] f h = tt
+top (a ∷ below) f h = h a below
+
+two : (operands : List ℤ) (f : ℤ → ℤ → List ℤ → Option Effect) → ((a b : ℤ) (below : List ℤ) → Emits (f a b below)) → Emits (on_two operands f)
+two [] f h = tt
+two (b ∷ []) f h = tt
+two (b ∷ a ∷ below) f h = h a b below
+
+either : (test : Bool) (x y : Option Effect) → Emits x → Emits y → Emits (if test then x else y)
+either true x y h k = h
+either false x y h k = k
+
+module _ (s : State) (runs : s.status ≡ status.Running) where
+  -- nothing stands in a state that runs
+  none : [] ≡ standing s.status
+  none = ap standing (sym runs)
+
+  pushes : (next : ℕ) (below : List ℤ) (r : Result ℤ Trap) → Emits (push_or_trap s next below r)
+  pushes next below (Ok z) = none
+  pushes next below (Err why) = refl
+
+  asks : (request : Ask) (next : ℕ) → Emits (act_ask request next s)
+  asks (ask.PutMessage t) next = refl
+  asks (ask.Acknowledge t) next = refl
+  asks (ask.Delay t) next = top s.operands _ (λ a below. refl)
+  asks (ask.GetDevVarValue t v) next = refl
+  asks (ask.SelectFromList t u) next = refl
+  asks ask.SendCommand next = top s.operands _ (λ a below. refl)
+  asks ask.SendCommandTrans next = two s.operands _ (λ a b below. refl)
+  asks ask.SaveValues next = refl
+
+  acts : (env : Environment) (i : Instruction) (next : ℕ) → Emits (act env i next s)
+  unfolding act
+  acts env instruction.End next = refl
+  acts env (instruction.Push n) next = none
+  acts env (instruction.Variable v) next = none
+  acts env (instruction.Store v) next = top s.operands _ (λ a below. none)
+  acts env (instruction.GetLocal slot) next = none
+  acts env (instruction.SetLocal slot) next = top s.operands _ (λ a below. none)
+  acts env instruction.Pop next = top s.operands _ (λ a below. none)
+  acts env instruction.Duplicate next = top s.operands _ (λ a below. none)
+  acts env (instruction.Operate op) next = two s.operands _ (λ a b below. pushes next below _)
+  acts env (instruction.Compare op) next = two s.operands _ (λ a b below. none)
+  acts env instruction.Negate next = top s.operands _ (λ a below. none)
+  acts env instruction.Not next = top s.operands _ (λ a below. none)
+  acts env instruction.Complement next = top s.operands _ (λ a below. none)
+  acts env (instruction.Jump to) next = none
+  acts env (instruction.JumpIfZero to) next = top s.operands _ (λ a below. none)
+  acts env (instruction.JumpIfNotZero to) next = top s.operands _ (λ a below. none)
+  acts env (instruction.Case label to) next = top s.operands _ (λ a below. either (int_eq a label) (go s to below) (go s next s.operands) none none)
+  acts env (instruction.Text t) next = none
+  acts env instruction.Number next = top s.operands _ (λ a below. none)
+  acts env (instruction.Item item quals) next = none
+  acts env (instruction.DataConst n) next = none
+  acts env (instruction.DataVar v mask quals) next = none
+  acts env (instruction.Enumerator n text help) next = none
+  acts env (instruction.Response n class text) next = none
+  acts env (instruction.Member name item label help) next = none
+  acts env (instruction.Ask request) next = asks request next
+  acts env instruction.Abort next = refl
+
+  found : (env : Environment) (o : Option (Instruction × ℕ)) → Emits (o >>= λ x. act env x.0 x.1 s)
+  found env None = tt
+  found env (Some x) = acts env x.0 x.1
+
+  emits : (env : Environment) → Emits (step env s)
+  unfolding step
+  emits env = subst (λ (st : Status). Emits (if_running st (instruction_at s.unit.code s.place >>= λ x. act env x.0 x.1 s))) (sym runs) (found env (instruction_at s.unit.code s.place))
+
+  pub emits_what_stands : (env : Environment) (e : Effect) → step env s ≡ Some e → request_in e.emitted ≡ standing e.state.status
+  emits_what_stands env e is = subst (λ (o : Option Effect). Emits o) is (emits env)
+
+-- ---- a run without answers
+
+-- the request that stands and those that are made come to the one that stands at the end
+abbrev Leaves : State → Outcome → Type 0
+Leaves s o = standing s.status ++ o.requests ≡ standing o.state.status
+
+pub one_stands : (env : Environment) (n : ℕ) (s : State) → Leaves s (execute env n s [])
+one_stands env zero s = subst (λ (o : Outcome). Leaves s o) (sym (without_steps env s)) (append-nil (standing s.status))
+one_stands env (suc n) s =
+    by_running {P = λ (st : Status). s.status ≡ st → Leaves s (execute env (suc n) s [])} s.status
+    (λ runs. by_step (λ t. one_stands env n t) runs (step env s) refl)
+    (λ st never is. subst (λ (o : Outcome). Leaves s o) (sym (at_rest env (suc n) s (λ e. never (sym is ∙ e)))) (append-nil (standing s.status))) refl
+  where
+    by_step : ((t : State) → Leaves t (execute env n t [])) → s.status ≡ status.Running → (x : Option Effect) → step env s ≡ x → Leaves s (execute env (suc n) s [])
+    by_step more runs None is = subst (λ (o : Outcome). Leaves s o) (sym (gets_stuck env n s runs is)) (append-nil (standing s.status))
+    by_step more runs (Some e) is =
+        let o : Outcome = execute env n e.state [] in
+        let first : request_in e.emitted ≡ standing e.state.status = emits_what_stands s runs env e is in
+        subst (λ (x : Outcome). Leaves s x) (sym (steps_on env n s [] e runs is))
+        (ap (λ (st : Status). standing st ++ (request_in e.emitted ++ o.requests)) runs ∙ ap (λ (rs : List Request). rs ++ o.requests) first ∙ more e.state)

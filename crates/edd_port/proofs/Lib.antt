@@ -1,0 +1,11 @@
+pub mod Accepted
+pub mod Advancing
+pub mod Asked
+pub mod Cuts
+pub mod DriveEnds
+pub mod Drivings
+pub mod Openings
+pub mod Outcomes
+pub mod Playings
+pub mod Sets
+pub mod ShownTurns

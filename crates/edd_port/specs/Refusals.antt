@@ -1,0 +1,37 @@
+-- Why an answer is not taken.
+use Rattle.std.specs.Prelude.{ℤ, List, [], Option, Some, option_map, ⊤, FitsSigned}
+use Rattle.std.specs.Int.{w32}
+use Rattle.edd_syntax.specs.declared.numbers.VarNo.{VarNo}
+use Rattle.edd_syntax.specs.Answers.{Answer, Go, Abort, Change, SetFault, answer_fault}
+use Rattle.edd_syntax.specs.DeviceValues.{VariableType}
+use Rattle.edd_image.specs.declared.records.Status.{Status}
+use Rattle.edd_image.specs.declared.records.Status.TheVariants as status
+
+-- no request stands, or a set can't be made
+pub data Refusal : Type 0 where
+  NotAsking : Refusal
+  BadSet : SetFault → Refusal
+
+-- why an answer is not taken in a state of this status; of its sets the first that has a fault decides
+abbrev pub refusal : List VariableType → Status → Answer → Option Refusal
+refusal types status.Running answer = Some NotAsking
+refusal types (status.Asking r) answer = option_map BadSet (answer_fault types answer)
+refusal types status.Ended answer = Some NotAsking
+refusal types status.Aborted answer = Some NotAsking
+refusal types (status.Trapped why) answer = Some NotAsking
+
+-- ---- the sets of an answer
+
+-- a set that is written in an answer, as a change
+abbrev pub change_of : VarNo × ℤ → Change
+change_of set = record { variable = set.0; value = set.1 }
+
+-- the sets of an answer, none where the method ends
+abbrev pub sets_of : Answer → List Change
+sets_of (Go code sets) = sets
+sets_of Abort = []
+
+-- the code of an answer has 32 bits
+abbrev pub CodeFits : Answer → Type 0
+CodeFits (Go code sets) = FitsSigned w32 code
+CodeFits Abort = ⊤

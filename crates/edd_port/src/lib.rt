@@ -1,0 +1,19 @@
+//! Sessions: runs of a method that are advanced, asked and answered. Hosts answer them.
+#![tactic(auto)]
+
+mod answers;
+mod driving;
+mod fault;
+mod host;
+mod laws;
+mod playing;
+mod session;
+mod turn;
+
+pub use driving::drive;
+pub use fault::{AnswerFault, PlayFault, StartFault};
+pub use host::{Host, Reply};
+pub use laws::sessions_may_be_cut;
+pub use playing::{Ending, Transcript, play};
+pub use session::Session;
+pub use turn::{Drive, Turn};
