@@ -8,8 +8,8 @@ use Rattle.edd_syntax.specs.Accepted.{profile_breaches}
 use Rattle.edd_syntax.specs.Refusal.{TooMany, first_of}
 use Rattle.edd_syntax.specs.ResolvedTrees.{resolved_unit}
 use Rattle.edd_syntax.specs.Strings.{too_many_strings}
-use Rattle.edd_image.specs.Agreement.{AgreesOnData}
 use Rattle.edd_image.specs.Contents.{contents_in}
+use Rattle.edd_image.specs.MethodAgreement.{Agrees}
 use Rattle.edd_image.specs.Validity.{IsValid}
 use Rattle.edd_compiler.specs.declared.fault.Fault.{Fault}
 use Rattle.edd_compiler.specs.declared.fault.Fault.TheVariants as fault
@@ -19,7 +19,7 @@ use Rattle.edd_compiler.specs.Sources.{IsDescriptionOf}
 use Rattle.edd_compiler.proofs.Refused.{profile_decides}
 
 module _ (text : List ℕ) (d : Description Target) (of : IsDescriptionOf text d) where
-  pub is_image : (bytes : List ℕ) → IsValid bytes → AgreesOnData d (contents_in bytes) → too_many_strings d ≡ [] → IsImageOf text bytes
+  pub is_image : (bytes : List ℕ) → IsValid bytes → Agrees d (contents_in bytes) → too_many_strings d ≡ [] → IsImageOf text bytes
   is_image bytes valid agrees few = record {
     unit = of.0.is_resolved.unit;
     spelled = of.1;
@@ -40,7 +40,6 @@ module _ (text : List ℕ) (d : Description Target) (of : IsDescriptionOf text d
   explained (fault.Parse e) is = absurd is
   explained (fault.Name e) is = absurd is
   explained (fault.Type e) is = absurd is
-  explained fault.Method is = absurd is
   explained fault.TooManyStrings is = (
     of.0.is_resolved.unit,
     of.1,

@@ -1,60 +1,84 @@
 -- What the units of a description's rows make of its image.
-use Rattle.std.proofs.Common.{◌≡◌, refl, sym, ap, subst, ◌∙◌, ℕ, suc, ◌+◌, ◌<◌, ◌≤◌, List, [], ◌∷◌, ◌++◌, length, map, arith}
-use Rattle.std.specs.Prelude.{sum, if◌then◌else◌, nat_lt, ◌≢◌, OnOk, Result, Ok, Err}
+use Rattle.std.proofs.Common.{◌≡◌, refl, sym, subst, ℕ, suc, ◌+◌, ◌<◌, ◌≤◌, Bool, true, false, List, [], ◌∷◌, ◌++◌, length, map, arith}
+use Rattle.std.specs.Prelude.{sum, if◌then◌else◌, ⊤, nat_lt, ◌≢◌, OnOk, Result, Ok, Err}
 use Rattle.std.specs.List.{All, AllPairs, Contains, flat_map, sum_by}
 use Rattle.std.proofs.lemmas.List.{append-nil, length-append}
 use Rattle.std.proofs.lemmas.List.Sums.{sum-map, sum_by-cons}
 use Rattle.std.proofs.lemmas.Grind.{common_steps}
 use Rattle.edd_syntax.specs.declared.limits.Limit.TheVariants as limit
+use Rattle.edd_syntax.specs.declared.numbers.Attr.TheVariants as attr
 use Rattle.edd_syntax.specs.declared.numbers.AttrRef.{AttrRef}
+use Rattle.edd_syntax.specs.declared.numbers.ItemNo.TheVariants as items
+use Rattle.edd_syntax.specs.declared.numbers.MethNo.{MethNo}
 use Rattle.edd_syntax.specs.declared.reference.Target.{Target}
+use Rattle.edd_syntax.specs.Numbers.{same_attr}
 use Rattle.edd_syntax.specs.Refusal.{TooMany, refused_if}
 use Rattle.edd_syntax.specs.Rows.{rows}
 use Rattle.edd_syntax.specs.Strings.{different, too_many_strings, unit_strings}
 use Rattle.edd_syntax.specs.Words.{Words}
 use Rattle.edd_syntax.specs.Item.{Description}
 use Rattle.edd_image.specs.Agreement.{IsAttributeCode}
+use Rattle.edd_image.specs.MethodAgreement.{IsMethodCode}
 use Rattle.edd_assembly.specs.Assembly.{Lowered}
-use Rattle.edd_assembly.specs.LoweredUnits.{plain_row, IsUnitOf, AreUnitsOf}
-use Rattle.edd_attrs.specs.Sizes.{length_limit}
-use Rattle.edd_attrs.specs.Trees.{tree_at}
+use Rattle.edd_assembly.specs.LoweredUnits.{plain_row, IsBodyCode, IsMethodOf, IsUnitOf, AreUnitsOf}
 use Rattle.edd_bounds.specs.RowContents.{strings_of_row, limit_of_row}
-use Rattle.edd_attrs.specs.Sizes.{strings_at}
-use Rattle.edd_compiler.specs.Lowering.{IsNoBody, IsCodeOf, HasLowered, HasTooMany}
+use Rattle.edd_compiler.specs.Lowering.{IsCodeOf, IsRowCode, HasLowered, HasTooMany}
 
 -- ---- the units
-
-plain_rows : (units : List Lowered) → All (λ l. IsNoBody l.row) units → map plain_row units ≡ map (λ l. l.row) units
-plain_rows [] all = refl
-plain_rows (l ∷ rest) all =
-    ap (λ b. (if b then record l.row { sub = 0 } else l.row) ∷ map plain_row rest) (all 0 l (omega arith))
-    ∙ ap (λ rs. l.row ∷ rs) (plain_rows rest (λ k x h. all (suc k) x (omega arith)))
 
 both_within : (a b c e : ℕ) → a ≤ c → b ≤ e → a + b ≤ c + e
 both_within a b c e first second = omega arith
 
+module _ (d : Description Target) (table : List Words) (few : length table ≤ 65535) where
+  -- what the unit of a row is under the table itself
+  here_code : (l : Lowered) → IsCodeOf d table l → IsRowCode d table l
+  here_code l is = subst (λ t. IsRowCode d t l) (append-nil table) (is.means [] (subst (λ (t : List Words). length t ≤ 65535) (sym (append-nil table)) few))
+
+  module _ (bodies : (m : MethNo) (slots : ℕ) (code : List ℕ) → IsMethodCode d table m slots code → IsBodyCode d table slots code) where
+    unit_of_code : (l : Lowered) → IsCodeOf d table l → IsUnitOf d table l
+    unit_of_code l is = by_attribute (same_attr l.row.attr attr.Definition) (here_code l is)
+      where
+        by_attribute : (b : Bool)
+            → elim b as (λ _. Type 0) [ true ↦ (m : MethNo) × (l.row.item ≡ items.Method m) × IsMethodCode d table m l.row.sub l.code | false ↦ IsAttributeCode d table l.row l.code ]
+            → elim b as (λ _. Type 0) [ true ↦ IsBodyCode d table l.row.sub l.code | false ↦ IsAttributeCode d table l.row l.code ]
+        by_attribute true code = bodies code.0 l.row.sub l.code code.2
+        by_attribute false code = code
+
+    pub are_units : (units : List Lowered) → HasLowered d (rows d.items) table units → AreUnitsOf d table units
+    are_units units has = record { in_order = has.in_order; each = λ k x h. unit_of_code _ (has.each k x h) }
+
+  -- ---- the methods
+
+  method_of_code : (l : Lowered) → IsCodeOf d table l → IsMethodOf d table l
+  method_of_code l is = by_attribute (same_attr l.row.attr attr.Definition) (here_code l is)
+    where
+      by_attribute : (b : Bool)
+          → elim b as (λ _. Type 0) [ true ↦ (m : MethNo) × (l.row.item ≡ items.Method m) × IsMethodCode d table m l.row.sub l.code | false ↦ IsAttributeCode d table l.row l.code ]
+          → elim b as (λ _. Type 0) [ true ↦ (m : MethNo) × (l.row.item ≡ items.Method m) × IsMethodCode d table m l.row.sub l.code | false ↦ ⊤ ]
+      by_attribute true code = code
+      by_attribute false code = tt
+
+  pub are_methods : (units : List Lowered) → HasLowered d (rows d.items) table units → All (IsMethodOf d table) units
+  are_methods units has = λ k x h. method_of_code _ (has.each k x h)
+
+-- ---- the length of the code
+
 module _ (d : Description Target) (table : List Words) where
-  unit_of_code : (l : Lowered) → IsCodeOf d table l → IsUnitOf d table l
-  unit_of_code l is = rw (is.no_body, IsUnitOf) (subst (λ t. IsAttributeCode d t l.row l.code) (append-nil table) (is.means []))
+  -- the slots of a body make no difference
+  same_limit : (l : Lowered) → limit_of_row d (plain_row l) ≡ limit_of_row d l.row
+  same_limit l = here (same_attr l.row.attr attr.Definition) refl
+    where
+      here : (b : Bool) → same_attr l.row.attr attr.Definition ≡ b → limit_of_row d (if b then record l.row { sub = 0 } else l.row) ≡ limit_of_row d l.row
+      here true is = rw is refl
+      here false is = refl
 
-  pub are_units : (units : List Lowered) → HasLowered d (rows d.items) table units → AreUnitsOf d table units
-  are_units units has = record {
-    in_order = plain_rows units (λ k x h. (has.each k x h).no_body) ∙ has.in_order;
-    each = λ k x h. unit_of_code _ (has.each k x h);
-  }
-
-  -- ---- the length of the code
-
-  limit_of_code : (l : Lowered) → IsNoBody l.row → limit_of_row d l.row ≡ length_limit (tree_at d l.row)
-  limit_of_code l no_body = rw no_body refl
-
-  within_limits : (units : List Lowered) → All (IsCodeOf d table) units → length (flat_map (λ l. l.code) units) ≤ sum_by (limit_of_row d) (map (λ l. l.row) units)
+  within_limits : (units : List Lowered) → All (IsCodeOf d table) units → length (flat_map (λ l. l.code) units) ≤ sum_by (limit_of_row d) (map plain_row units)
   within_limits [] all = omega arith
-  within_limits (l ∷ rest) all = subst (λ n. length (l.code ++ flat_map (λ u. u.code) rest) ≤ n) (sym (sum_by-cons (limit_of_row d) l.row (map (λ u. u.row) rest)))
-      (subst (λ n. n ≤ limit_of_row d l.row + sum_by (limit_of_row d) (map (λ u. u.row) rest))
+  within_limits (l ∷ rest) all = subst (λ n. length (l.code ++ flat_map (λ u. u.code) rest) ≤ n) (sym (sum_by-cons (limit_of_row d) (plain_row l) (map plain_row rest)))
+      (subst (λ n. n ≤ limit_of_row d (plain_row l) + sum_by (limit_of_row d) (map plain_row rest))
       (sym (length-append l.code (flat_map (λ u. u.code) rest)))
-      (both_within (length l.code) (length (flat_map (λ u. u.code) rest)) (limit_of_row d l.row) (sum_by (limit_of_row d) (map (λ u. u.row) rest))
-      (subst (λ n. length l.code ≤ n) (sym (limit_of_code l (all 0 l (omega arith)).no_body)) (all 0 l (omega arith)).short)
+      (both_within (length l.code) (length (flat_map (λ u. u.code) rest)) (limit_of_row d (plain_row l)) (sum_by (limit_of_row d) (map plain_row rest))
+      (subst (λ n. length l.code ≤ n) (sym (same_limit l)) (all 0 l (omega arith)).short)
       (within_limits rest (λ k x h. all (suc k) x (omega arith)))))
 
   pub code_within : (units : List Lowered) → HasLowered d (rows d.items) table units → length (flat_map (λ l. l.code) units) ≤ sum (map (limit_of_row d) (rows d.items))
@@ -64,9 +88,6 @@ module _ (d : Description Target) (table : List Words) where
 -- ---- the strings
 
 module _ (d : Description Target) where
-  strings_of_attribute : (row : AttrRef) → IsNoBody row → strings_of_row d row ≡ strings_at d row
-  strings_of_attribute row no_body = rw no_body refl
-
   few : (n : ℕ) → n ≤ 65535 → refused_if (nat_lt 65535 n) (TooMany limit.Strings) ≡ []
   few n h = grind (arith, common_steps)
 
@@ -81,7 +102,7 @@ module _ (d : Description Target) where
     few_strings itself in_rows table units apart short has =
         let all_held = λ (w : Words) (there : Contains (unit_strings d) w).
         let found = in_rows w there in
-        has.holds found.0 found.1 w (subst (λ ws. Contains ws w) (strings_of_attribute found.0 (has.no_body found.0 found.1)) found.2) in
+        has.holds found.0 found.1 w found.2 in
         let least = within (unit_strings d) table all_held in
         let most = itself table apart in
         few (length (different (unit_strings d))) (omega arith)
@@ -91,7 +112,7 @@ module _ (d : Description Target) where
     too_many of_rows has =
         let all_held = λ (w : Words) (there : Contains has.0 w).
         let found = has.2 w there in
-        of_rows found.0 w (subst (λ ws. Contains ws w) (sym (strings_of_attribute found.0 found.1)) found.2) in
+        of_rows found.0 w found.1 in
         let least = within has.0 (unit_strings d) all_held in
         let over = has.1 in
         many (length (different (unit_strings d))) (omega arith)

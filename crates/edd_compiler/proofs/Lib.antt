@@ -1,7 +1,8 @@
 pub mod CompiledTexts
 pub mod ImageParts
 pub mod LoweredRows
-pub mod NoMethods
+pub mod PlainRows
+pub mod RowCodes
 pub mod Refused
 pub mod TextUnits
 pub mod WrittenImages

@@ -1,5 +1,5 @@
 -- The units of rows, one more at a time.
-use Rattle.std.proofs.Common.{◌≡◌, refl, sym, ap, subst, ◌∙◌, ℕ, ◌+◌, ◌<◌, inl, inr, List, [], ◌∷◌, ◌++◌, length, map, take, get_or, zero, suc, add-one, arith}
+use Rattle.std.proofs.Common.{◌≡◌, refl, sym, ap, subst, ◌∙◌, ℕ, ◌+◌, ◌<◌, ◌≤◌, inl, inr, List, [], ◌∷◌, ◌++◌, length, map, take, get_or, zero, suc, add-one, arith}
 use Rattle.std.specs.List.{All, Contains}
 use Rattle.std.proofs.Math.Logic.{⊎_elim}
 use Rattle.std.proofs.Math.Seq.{take-suc}
@@ -10,14 +10,14 @@ use Rattle.edd_syntax.specs.declared.reference.Target.{Target}
 use Rattle.edd_syntax.specs.Words.{Words}
 use Rattle.edd_syntax.specs.Item.{Description}
 use Rattle.edd_syntax.specs.Strings.{different}
-use Rattle.edd_image.specs.Agreement.{IsAttributeCode}
 use Rattle.edd_assembly.specs.Assembly.{Lowered}
 use Rattle.edd_code.specs.Tables.{Grows}
-use Rattle.edd_attrs.specs.Sizes.{strings_at}
+use Rattle.edd_assembly.specs.LoweredUnits.{plain_row}
+use Rattle.edd_bounds.specs.RowContents.{strings_of_row}
 use Rattle.edd_compiler.specs.declared.fault.Fault.{Fault}
 use Rattle.edd_compiler.specs.declared.fault.Fault.TheVariants as fault
 use Rattle.edd_compiler.specs.Faults.{IsOfLowering}
-use Rattle.edd_compiler.specs.Lowering.{IsNoBody, IsCodeOf, HasLowered, AddsRow, HasTooMany}
+use Rattle.edd_compiler.specs.Lowering.{IsCodeOf, IsRowCode, HasLowered, AddsRow, HasTooMany}
 
 first_rows : (all : List AttrRef) (i : ℕ) (row any : AttrRef) → i < length all → row ≡ get_or all i any → take (i + 1) all ≡ take i all ++ row ∷ []
 first_rows all i row any h is = ap (λ n. take n all) (add-one i) ∙ take-suc all i any h ∙ ap (λ r. take i all ++ r ∷ []) (sym is)
@@ -33,8 +33,9 @@ module _ (d : Description Target) where
   -- code stays the code of its row where the table grows
   code_stays : (old new : List Words) (l : Lowered) → Grows old new → IsCodeOf d old l → IsCodeOf d new l
   code_stays old new l grows is = record {
-    no_body = is.no_body;
-    means = λ more. subst (λ table. IsAttributeCode d table l.row l.code) (sym (ap (λ table. table ++ more) grows.1 ∙ append_assoc old grows.0 more)) (is.means (grows.0 ++ more));
+    means = λ more few.
+        let longer = ap (λ table. table ++ more) grows.1 ∙ append_assoc old grows.0 more in
+        subst (λ table. IsRowCode d table l) (sym longer) (is.means (grows.0 ++ more) (subst (λ (table : List Words). length table ≤ 65535) longer few));
     short = is.short;
   }
 
@@ -42,7 +43,6 @@ module _ (d : Description Target) where
   nothing_lowered rows table units no_rows no_table no_units = rw (no_rows, no_table, no_units) (record {
     in_order = refl;
     each = λ k x h. absurd (nothing_before k h);
-    no_body = λ row in_none. absurd (nothing_before in_none.0 in_none.1);
     holds = λ row in_none. absurd (nothing_before in_none.0 in_none.1);
     only = λ w in_none. absurd (nothing_before in_none.0 in_none.1);
   })
@@ -50,34 +50,24 @@ module _ (d : Description Target) where
   pub one_more : (rows : List AttrRef) (row : AttrRef) (old new : List Words) (before after : List Lowered)
       → HasLowered d rows old before → AddsRow d row old before new after → HasLowered d (rows ++ row ∷ []) new after
   one_more rows row old new before after has adds = record {
-    in_order = ap (map (λ l. l.row)) adds.pushed ∙ map_push (λ l. l.row) before adds.unit
-        ∙ ap (λ rs. rs ++ adds.unit.row ∷ []) has.in_order ∙ ap (λ r. rows ++ r ∷ []) adds.of_row;
+    in_order = ap (map plain_row) adds.pushed ∙ map_push plain_row before adds.unit
+        ∙ ap (λ rs. rs ++ plain_row adds.unit ∷ []) has.in_order ∙ ap (λ r. rows ++ r ∷ []) adds.of_row;
     each = subst (All (IsCodeOf d new)) (sym adds.pushed)
         (All-push (IsCodeOf d new) before adds.unit (λ k x h. code_stays old new _ adds.grown (has.each k x h)) adds.code);
-    no_body = λ r there. ⊎_elim
-        (λ before. has.no_body r before)
-        (λ last. subst IsNoBody (adds.of_row ∙ single row r last) adds.code.no_body)
-        (Contains-append_cases rows (row ∷ []) r there);
     holds = λ r there w of_row. (adds.strings w).1 (⊎_elim
         (λ before. inl (has.holds r before w of_row))
-        (λ last. inr (subst (λ x. Contains (strings_at d x) w) (sym (single row r last)) of_row))
+        (λ last. inr (subst (λ x. Contains (strings_of_row d x) w) (sym (single row r last)) of_row))
         (Contains-append_cases rows (row ∷ []) r there));
-    only = λ w there. ⊎_elim
-        (λ held. has.only w held)
-        (λ of_row. (row, subst IsNoBody adds.of_row adds.code.no_body, of_row))
-        ((adds.strings w).0 there);
+    only = λ w there. ⊎_elim (λ held. has.only w held) (λ of_row. (row, of_row)) ((adds.strings w).0 there);
   }
 
   -- strings of the rows so far and of the next
   pub too_many_at : (rows : List AttrRef) (table : List Words) (units : List Lowered) (row : AttrRef) → HasLowered d rows table units
-      → IsNoBody row × (65535 < length (different (table ++ strings_at d row))) → HasTooMany d
+      → 65535 < length (different (table ++ strings_of_row d row)) → HasTooMany d
   too_many_at rows table units row has over = (
-    table ++ strings_at d row,
-    over.1,
-    λ w there. ⊎_elim
-        (λ held. has.only w held)
-        (λ of_row. (row, over.0, of_row))
-        (Contains-append_cases table (strings_at d row) w there),
+    table ++ strings_of_row d row,
+    over,
+    λ w there. ⊎_elim (λ held. has.only w held) (λ of_row. (row, of_row)) (Contains-append_cases table (strings_of_row d row) w there),
   )
 
   -- the same in a loop over all rows
@@ -92,6 +82,5 @@ over_more (fault.Lex e) more is = is
 over_more (fault.Parse e) more is = is
 over_more (fault.Name e) more is = is
 over_more (fault.Type e) more is = is
-over_more fault.Method more is = is
 over_more fault.TooManyStrings more is = more is
 over_more fault.Memory more is = is

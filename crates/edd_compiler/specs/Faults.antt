@@ -1,5 +1,5 @@
 -- What the refusals of a text say of it.
-use Rattle.std.specs.Prelude.{List, ℕ, IfSome, ⊤}
+use Rattle.std.specs.Prelude.{List, ℕ, IsSomeAnd, ⊤}
 use Rattle.edd_syntax.specs.Reference.{Path}
 use Rattle.edd_syntax.specs.Item.{Description}
 use Rattle.edd_syntax.specs.Refusal.{TooMany}
@@ -10,7 +10,6 @@ use Rattle.edd_lexer.specs.Faults.{LexicalFault}
 use Rattle.edd_lexer.specs.Views.{fault_of}
 use Rattle.edd_token_reader.specs.declared.fault.ParseFault.{ParseFault}
 use Rattle.edd_token_reader.specs.declared.fault.ParseFault.TheVariants as parse
-use Rattle.edd_parser.specs.Views.{Says}
 use Rattle.edd_name_meanings.specs.declared.fault.NameFault.{NameFault}
 use Rattle.edd_name_meanings.specs.declared.fault.NameFault.TheVariants as name
 use Rattle.edd_name_meanings.specs.Faults.{refusal_of}
@@ -21,7 +20,7 @@ use Rattle.edd_code.specs.declared.fault.LowerFault.{LowerFault}
 use Rattle.edd_code.specs.declared.fault.LowerFault.TheVariants as lower
 use Rattle.edd_compiler.specs.declared.fault.Fault.{Fault}
 use Rattle.edd_compiler.specs.declared.fault.Fault.TheVariants as fault
-use Rattle.edd_compiler.specs.Sources.{IsUnitOf, HasMethod, IsRefused}
+use Rattle.edd_compiler.specs.Sources.{IsUnitOf, IsRefused}
 
 -- want of memory is one fault, whoever met it
 abbrev pub of_lex : LexFault → Fault
@@ -71,17 +70,16 @@ IsOfLowering over (fault.Lex e) = ⊥
 IsOfLowering over (fault.Parse e) = ⊥
 IsOfLowering over (fault.Name e) = ⊥
 IsOfLowering over (fault.Type e) = ⊥
-IsOfLowering over fault.Method = ⊥
 IsOfLowering over fault.TooManyStrings = over
 IsOfLowering over fault.Memory = ⊤
 
 -- A lexical fault is the text's. A syntax fault comes only where its tokens spell no unit. A broken rule is the first of a unit
--- that it spells. A method is one of a unit that it spells and that breaks no rule. Nothing is said of memory.
+-- that it spells. Nothing is said of memory, want of which is one fault, whoever met it.
 abbrev pub Explains : List ℕ → Fault → Type 0
-Explains text (fault.Lex e) = IfSome (fault_of e) (LexicalFault text)
-Explains text (fault.Parse e) = Says e ((unit : Description Path) → ¬ IsUnitOf text unit)
-Explains text (fault.Name e) = IfSome (refusal_of e) (IsRefused text)
-Explains text (fault.Type e) = IfSome (refusal_of_fault e) (IsRefused text)
-Explains text fault.Method = HasMethod text
+Explains text (fault.Lex e) = IsSomeAnd (fault_of e) (LexicalFault text)
+Explains text (fault.Parse parse.Memory) = ⊥
+Explains text (fault.Parse e) = (unit : Description Path) → ¬ IsUnitOf text unit
+Explains text (fault.Name e) = IsSomeAnd (refusal_of e) (IsRefused text)
+Explains text (fault.Type e) = IsSomeAnd (refusal_of_fault e) (IsRefused text)
 Explains text fault.TooManyStrings = IsRefused text (TooMany limit.Strings)
 Explains text fault.Memory = ⊤

@@ -3,15 +3,16 @@ use Rattle.std.specs.Prelude.{ℕ, List}
 use Rattle.edd_syntax.specs.Reference.{Path}
 use Rattle.edd_syntax.specs.Item.{Description}
 use Rattle.edd_syntax.specs.Accepted.{IsAccepted}
-use Rattle.edd_image.specs.Agreement.{AgreesOnData}
 use Rattle.edd_image.specs.Contents.{contents_in}
+use Rattle.edd_image.specs.MethodAgreement.{Agrees}
 use Rattle.edd_image.specs.Validity.{IsValid}
 use Rattle.edd_compiler.specs.Sources.{IsUnitOf}
 
--- The tokens of the text spell a unit that is accepted, and the bytes are a valid image that agrees on data with what it means.
+-- The tokens of the text spell a unit that is accepted, and the bytes are a valid image that says and does what the unit means:
+-- all that is read of it agrees, and every method runs alike.
 pub record IsImageOf (text bytes : List ℕ) : Type 0 where
   pub unit : Description Path
   pub spelled : IsUnitOf text unit
   pub accepted : IsAccepted unit
   pub valid : IsValid bytes
-  pub agrees : AgreesOnData accepted.resolved (contents_in bytes)
+  pub agrees : Agrees accepted.resolved (contents_in bytes)

@@ -1,11 +1,8 @@
 -- The unit that a text of the source spells, and the description that it stands for.
-use Rattle.std.specs.Prelude.{◌≡◌, ℕ, Bool, List, map, Some, IsTrue}
-use Rattle.std.specs.List.{list_any}
-use Rattle.edd_syntax.specs.declared.numbers.Kind.TheVariants as kind
+use Rattle.std.specs.Prelude.{◌≡◌, ℕ, List, map, Some}
 use Rattle.edd_syntax.specs.Reference.{Path}
 use Rattle.edd_syntax.specs.declared.reference.Target.{Target}
-use Rattle.edd_syntax.specs.Item.{kind_of_item, Item, Description}
-use Rattle.edd_syntax.specs.Numbers.{same_kind}
+use Rattle.edd_syntax.specs.Item.{Description}
 use Rattle.edd_syntax.specs.ItemGrammar.{Spells}
 use Rattle.edd_syntax.specs.Accepted.{refusal}
 use Rattle.edd_syntax.specs.Refusal.{Refusal}
@@ -19,13 +16,6 @@ IsUnitOf text unit = (lexemes : List Lexeme) × AreTokens text lexemes × Spells
 -- The text spells the unit that this description comes from, and no rule is broken, but perhaps the one on the number of strings.
 abbrev pub IsDescriptionOf : List ℕ → Description Target → Type 0
 IsDescriptionOf text d = (checked : IsChecked d) × IsUnitOf text checked.is_resolved.unit
-
-abbrev pub is_method : Item Target → Bool
-is_method i = same_kind (kind_of_item i.sort) kind.Method
-
--- the text stands for a description that has a method
-abbrev pub HasMethod : List ℕ → Type 0
-HasMethod text = (d : Description Target) × IsDescriptionOf text d × IsTrue (list_any is_method d.items)
 
 -- this is the first broken rule of a unit that the text spells
 abbrev pub IsRefused : List ℕ → Refusal → Type 0

@@ -1,13 +1,12 @@
 //! The compiler as one call.
 
-ghost use Rattle.std.specs.Prelude.{◌≡◌, ◌≤◌, ◌∷◌, [], false, IfErr, IfOk, OnOk, length, map};
-ghost use Rattle.std.specs.List.{list_any};
+ghost use Rattle.std.specs.Prelude.{◌≡◌, ◌≤◌, ◌∷◌, [], IfErr, IfOk, OnOk, length, map};
 ghost use Rattle.edd_syntax.specs.declared.limits.Limit.TheVariants as limit;
 ghost use Rattle.edd_syntax.specs.Refusal.{TooMany};
 ghost use Rattle.edd_syntax.specs.WordsView.{string_of};
 ghost use Rattle.edd_syntax.specs.Strings.{too_many_strings};
-ghost use Rattle.edd_image.specs.Agreement.{AgreesOnData};
 ghost use Rattle.edd_image.specs.Contents.{contents_in};
+ghost use Rattle.edd_image.specs.MethodAgreement.{Agrees};
 ghost use Rattle.edd_image.specs.Validity.{IsValid};
 ghost use Rattle.edd_syntax.specs.Rows.{rows};
 ghost use Rattle.edd_assembly.specs.Views.{lowered_of};
@@ -16,23 +15,23 @@ ghost use Rattle.edd_compiler.specs.declared.fault.Fault.TheVariants.{Memory};
 ghost use Rattle.edd_compiler.specs.Faults.{IsOfLowering, Explains};
 ghost use Rattle.edd_compiler.specs.Images.{IsImageOf};
 ghost use Rattle.edd_compiler.specs.Lowering.{HasLowered};
-ghost use Rattle.edd_compiler.specs.Sources.{is_method};
 
 use crate::fault::Fault;
 use crate::lowering::{Lowering, lower_rows};
-use crate::methods::has_method;
 use crate::source::checked_of;
-use edd_assembly::{assemble, sections_agree, sections_are_sound};
+use edd_assembly::{
+    assemble, method_code_is_body_code, methods_agree, sections_agree, sections_are_sound,
+};
 use edd_bounds::{code_is_short, different_strings_count, strings_stand_in_rows};
 use edd_image::{WriteFault, fields_are_parts, sound_parts_are_valid, write};
 use edd_syntax::checked::Checked;
 use std::alloc::Global;
 
-// The image of a description without methods, whose rows have this code.
+// The image of a description, whose rows have this code.
 fn write_image(alloc: Global, checked: &Checked, lowering: &Lowering) -> Result<Vec<u8>, Fault>
     requires lowered { HasLowered (unit_of checked.now) (rows (unit_of checked.now).items) lowering.now.table (map lowered_of lowering.now.units.items) }
     ensures valid { IfOk result (λ bytes. IsValid bytes.items) }
-    ensures agrees { IfOk result (λ bytes. AgreesOnData (unit_of checked.now) (contents_in bytes.items)) }
+    ensures agrees { IfOk result (λ bytes. Agrees (unit_of checked.now) (contents_in bytes.items)) }
     ensures few_strings { OnOk result (too_many_strings (unit_of checked.now) ≡ []) }
     ensures refused { IfErr result (λ e. e ≡ Memory) }
 {
@@ -40,6 +39,8 @@ fn write_image(alloc: Global, checked: &Checked, lowering: &Lowering) -> Result<
     strings_stand_in_rows();
     sections_are_sound();
     sections_agree();
+    methods_agree();
+    method_code_is_body_code();
     sound_parts_are_valid();
     fields_are_parts();
     code_is_short();
@@ -52,9 +53,8 @@ fn write_image(alloc: Global, checked: &Checked, lowering: &Lowering) -> Result<
     }
 }
 
-// The code of a description without methods, unless it has more strings than a table holds.
+// The code of a description, unless it has more strings than a table holds.
 fn lower(alloc: Global, checked: &Checked) -> Result<Lowering, Fault>
-    requires no_method { list_any is_method (unit_of checked.now).items ≡ false }
     ensures lowered { IfOk result (λ l. HasLowered (unit_of checked.now) (rows (unit_of checked.now).items) l.table (map lowered_of l.units.items)) }
     ensures refused { IfErr result (IsOfLowering (too_many_strings (unit_of checked.now) ≡ TooMany limit.Strings ∷ [])) }
 {
@@ -64,16 +64,14 @@ fn lower(alloc: Global, checked: &Checked) -> Result<Lowering, Fault>
     lower_rows(alloc, checked, &rows)
 }
 
-/// The bytes of the image of a text: a valid image, which agrees with the description that the text stands for. A description
-/// with a method is refused, since no image can say it yet.
+/// The bytes of the image of a text: a valid image, which says and does what the description says and does that the text stands for.
+/// A text that has no image is refused with its lexical fault, a syntax fault, or the first rule that it breaks; any text may be
+/// refused where memory is.
 pub fn compile(alloc: Global, text: &[u8]) -> Result<Vec<u8>, Fault>
     ensures image { IfOk result (λ bytes. IsImageOf text.now bytes.items) }
     ensures refused { IfErr result (Explains text.now) }
 {
     let checked = checked_of(alloc, text)?;
-    if has_method(&checked.items) {
-        return Err(Fault::Method);
-    }
     let lowering = lower(alloc, &checked)?;
     write_image(alloc, &checked, &lowering)
 }

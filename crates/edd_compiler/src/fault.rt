@@ -22,9 +22,6 @@ pub enum Fault {
     Name(NameFault),
     #[error("{0}")]
     Type(TypeFault),
-    /// The description has a method, which no image can say yet.
-    #[error("12 UNSUPPORTED METHOD")]
-    Method,
     /// More than 65,535 different strings.
     #[error("40 TOO_MANY strings")]
     TooManyStrings,

@@ -4,7 +4,6 @@
 mod compiling;
 mod fault;
 mod lowering;
-mod methods;
 mod source;
 
 pub use compiling::compile;

@@ -1,11 +1,11 @@
 use Rattle.std.proofs.Common.{subst, sym, ◌∙◌}
 use Rattle.std.specs.List.{All}
 use Rattle.edd_code.specs.Units.{unit_of}
-use Rattle.edd_compiler.specs.Lowering.{IsNoBody}
+use Rattle.edd_compiler.specs.Lowering.{IsPlain}
 use Rattle.edd_compiler.proofs.CompiledTexts.{of_bad}
 use Rattle.edd_compiler.proofs.ImageParts.{too_many}
 use Rattle.edd_compiler.proofs.LoweredRows.{over_more}
-use Rattle.edd_compiler.proofs.NoMethods.{no_bodies}
+use Rattle.edd_compiler.proofs.PlainRows.{rows_plain}
 use Rattle.edd_compiler.proofs.compiling.lower.Goals as goal
 
 pub returns-clause-refused : goal.returns-clause-refused
@@ -14,5 +14,4 @@ returns-clause-refused c = of_bad c.lower_rows.result c.lower_rows.ensures.refus
 
 pub lower_rows-requires : goal.lower_rows-requires
 lower_rows-requires c =
-    subst (All IsNoBody) (sym (c.deref.ensures.value ∙ c.in_ok-rows.ensures))
-    (no_bodies (unit_of c.args.checked.now) c.requires.no_method c.args.checked.now.checked)
+    subst (All IsPlain) (sym (c.deref.ensures.value ∙ c.in_ok-rows.ensures)) (rows_plain (unit_of c.args.checked.now) c.args.checked.now.checked)
