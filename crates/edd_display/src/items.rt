@@ -8,10 +8,11 @@ use crate::fault::ShowFault;
 use crate::lines::print;
 use crate::page::Page;
 use crate::records::push_records;
-use crate::words::type_word;
+use crate::words::{trap_word, type_word};
 use edd_image::{Counts, Record, VarKind};
 use edd_loader::Image;
 use edd_machine::{ReadFault, Values, attribute_of_device};
+use edd_syntax::answer::Trap;
 use edd_syntax::numbers::{ATTRIBUTES, Attr, AttrRef, ItemNo, KINDS, Kind};
 use std::alloc::Global;
 use std::fmt::Write as _;
@@ -22,7 +23,7 @@ use std::io::Write;
 enum Found {
     Nothing,
     Records(Vec<Record>),
-    Trap(&'static str),
+    Trap(Trap),
 }
 
 fn read(alloc: Global, page: &Page<'_>, row: AttrRef, values: &Values) -> Result<Found, ShowFault>
@@ -31,9 +32,9 @@ fn read(alloc: Global, page: &Page<'_>, row: AttrRef, values: &Values) -> Result
     match attribute_of_device(alloc, page.image, row, values) {
         Ok(records) => Ok(Found::Records(records)),
         Err(ReadFault::NoItem) => Ok(Found::Nothing),
-        Err(ReadFault::DivZero) => Ok(Found::Trap("DIV_ZERO")),
-        Err(ReadFault::DivOverflow) => Ok(Found::Trap("DIV_OVERFLOW")),
-        Err(ReadFault::BadShift) => Ok(Found::Trap("BAD_SHIFT")),
+        Err(ReadFault::DivZero) => Ok(Found::Trap(Trap::DivZero)),
+        Err(ReadFault::DivOverflow) => Ok(Found::Trap(Trap::DivOverflow)),
+        Err(ReadFault::BadShift) => Ok(Found::Trap(Trap::BadShift)),
         Err(ReadFault::WrongValues) => Err(ShowFault::WrongValues),
         Err(ReadFault::Memory) => Err(ShowFault::Memory),
     }
@@ -51,7 +52,10 @@ fn print_found<W: Write>(
     match found {
         Found::Nothing => {}
         Found::Records(records) => push_records(page, &mut line, &records)?,
-        Found::Trap(why) => write!(line, " fault {why}")?,
+        Found::Trap(why) => {
+            let word = trap_word(why);
+            write!(line, " fault {word}")?;
+        }
     }
     print(alloc, out, line.as_str())
 }

@@ -1,13 +1,16 @@
-//! What an image shows: its items and their attributes as lines, under the values of variables that a script sets.
+//! What an image shows: its items and their attributes as lines, under the values of variables that a script sets, and what its
+//! methods do.
 #![tactic(auto)]
 
 mod fault;
 mod items;
 mod lines;
 mod page;
+mod plays;
 mod records;
 mod words;
 
 pub use fault::ShowFault;
 pub use items::show;
 pub use lines::{print, print_text};
+pub use plays::show_play;

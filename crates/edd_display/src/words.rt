@@ -1,5 +1,6 @@
 //! The words that stand for numbers.
 
+use edd_syntax::answer::Trap;
 use edd_syntax::types::VarType;
 
 /// The word of a type.
@@ -9,6 +10,15 @@ pub fn type_word(of: VarType) -> &'static str {
         VarType::UnsignedInteger => "UNSIGNED_INTEGER",
         VarType::Enumerated => "ENUMERATED",
         VarType::BitEnumerated => "BIT_ENUMERATED",
+    }
+}
+
+/// The word of a trap.
+pub fn trap_word(trap: Trap) -> &'static str {
+    match trap {
+        Trap::DivZero => "DIV_ZERO",
+        Trap::DivOverflow => "DIV_OVERFLOW",
+        Trap::BadShift => "BAD_SHIFT",
     }
 }
 

@@ -4,6 +4,7 @@
 ghost use Rattle.std.specs.Prelude.{◌≤◌};
 
 mod files;
+mod playing;
 mod requests;
 mod script;
 

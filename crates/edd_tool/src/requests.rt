@@ -3,13 +3,15 @@
 ghost use Rattle.std.specs.Prelude.{◌≤◌};
 
 use crate::files::{FileFault, Files, read_all};
-use crate::script::{ScriptFault, set_values};
+use crate::playing::play_bytes;
+use crate::script::{self, ScriptFault};
 use crate::{COMMAND_LINE, DONE, FILE, MEMORY, REFUSED};
-use edd_command_line::{NoRequest, Request};
+use edd_command_line::{NoRequest, Request, Run};
 use edd_compiler::{Fault, compile};
 use edd_display::{ShowFault, print, print_text, show};
 use edd_loader::{Image, LoadFault, load};
 use edd_machine::{Values, ValuesFault};
+use edd_port::PlayFault;
 use std::alloc::Global;
 use std::io::Write;
 
@@ -23,6 +25,9 @@ pub enum Stop<'a> {
     NotLoaded(LoadFault),
     Script(ScriptFault),
     Values(ValuesFault),
+    /// The image has no method of this name.
+    NoMethod(&'a str),
+    Play(PlayFault),
     /// The output could not be written.
     Output,
     Memory,
@@ -70,6 +75,15 @@ impl From<ValuesFault> for Stop<'_> {
         match fault {
             ValuesFault::Memory => Stop::Memory,
             other => Stop::Values(other),
+        }
+    }
+}
+
+impl From<PlayFault> for Stop<'_> {
+    fn from(fault: PlayFault) -> Self {
+        match fault {
+            PlayFault::Memory => Stop::Memory,
+            other => Stop::Play(other),
         }
     }
 }
@@ -131,8 +145,8 @@ fn show_under<'a, W: Write>(
     language: &str,
     out: &mut W,
 ) -> Result<(), Stop<'a>> {
-    let numbers = set_values(alloc, image, script)?;
-    let values = Values::new(alloc, image, &numbers)?;
+    let script = script::parse(alloc, image, script)?;
+    let values = Values::new(alloc, image, &script.values)?;
     show(alloc, image, &values, language, out)?;
     Ok(())
 }
@@ -175,6 +189,31 @@ fn show_file<'a, F: Files, W: Write>(
     show_bytes(alloc, &bytes, &script, language, out)
 }
 
+fn play_file<'a, F: Files, W: Write>(
+    alloc: Global,
+    image: &'a str,
+    run: Run<'a>,
+    files: &mut F,
+    out: &mut W,
+) -> Result<(), Stop<'a>> {
+    let bytes = read(alloc, files, image)?;
+    let script = read(alloc, files, run.script)?;
+    play_bytes(alloc, &bytes, &script, run, out)
+}
+
+fn try_source<'a, F: Files, W: Write>(
+    alloc: Global,
+    source: &'a str,
+    run: Run<'a>,
+    files: &mut F,
+    out: &mut W,
+) -> Result<(), Stop<'a>> {
+    let text = read(alloc, files, source)?;
+    let script = read(alloc, files, run.script)?;
+    let bytes = compile(alloc, &text)?;
+    play_bytes(alloc, &bytes, &script, run, out)
+}
+
 /// Does what the words of the command line ask for. All files are read before anything else is done.
 pub fn answer<'a, F: Files, W: Write>(
     alloc: Global,
@@ -194,6 +233,8 @@ pub fn answer<'a, F: Files, W: Write>(
             script,
             language,
         } => show_file(alloc, image, script, language, files, out),
+        Request::Play { image, run } => play_file(alloc, image, run, files, out),
+        Request::Try { source, run } => try_source(alloc, source, run, files, out),
     }
 }
 
@@ -206,6 +247,8 @@ pub fn report<W: Write>(alloc: Global, stop: &Stop<'_>, out: &mut W) -> Result<(
         Stop::NotLoaded(fault) => print(alloc, out, format_args!("refused {fault}")),
         Stop::Script(fault) => print(alloc, out, format_args!("refused {fault}")),
         Stop::Values(fault) => print(alloc, out, format_args!("refused {fault}")),
+        Stop::NoMethod(name) => print(alloc, out, format_args!("refused 301 NO_METHOD {name}")),
+        Stop::Play(fault) => print(alloc, out, format_args!("refused {fault}")),
         Stop::Output => Err(ShowFault::Output),
         Stop::Memory => Err(ShowFault::Memory),
     }
@@ -218,7 +261,12 @@ pub fn status(stop: &Stop<'_>) -> u8
     match stop {
         Stop::Help(_) => DONE,
         Stop::CommandLine(_) => COMMAND_LINE,
-        Stop::NotCompiled(_) | Stop::NotLoaded(_) | Stop::Script(_) | Stop::Values(_) => REFUSED,
+        Stop::NotCompiled(_)
+        | Stop::NotLoaded(_)
+        | Stop::Script(_)
+        | Stop::Values(_)
+        | Stop::NoMethod(_)
+        | Stop::Play(_) => REFUSED,
         Stop::File(_) | Stop::Output => FILE,
         Stop::Memory => MEMORY,
     }

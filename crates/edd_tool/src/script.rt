@@ -1,6 +1,7 @@
 //! The script of a run: the values of variables, and the answers to the requests of a method.
 
 use edd_loader::Image;
+use edd_syntax::answer::Answer;
 use edd_syntax::numbers::{ItemNo, VarNo};
 use std::alloc::{AllocError, AllocFailed, Global};
 use thiserror::Error;
@@ -57,49 +58,60 @@ fn setting<'a>(
     Some((variable(image, name?)?, number(value?)?))
 }
 
-// `answer CODE NAME=N ..`, where the code and each setting are well-formed.
-fn is_answer(image: &Image, line: &str) -> bool {
+// `answer CODE NAME=N ..`
+fn answer_of(alloc: Global, image: &Image, line: &str) -> Result<Option<Answer>, AllocError> {
     let mut words = line.split(' ').filter(|word| !word.is_empty()).skip(1);
-    let Some(first) = words.next() else {
-        return false;
+    let Some(code) = words.next().and_then(code) else {
+        return Ok(None);
     };
-    if code(first).is_none() {
-        return false;
-    }
+    let mut sets = Vec::new(alloc);
     for word in words {
         let Some((name, value)) = word.split_once('=') else {
-            return false;
+            return Ok(None);
         };
-        if setting(image, Some(name), Some(value)).is_none() {
-            return false;
-        }
+        let Some(set) = setting(image, Some(name), Some(value)) else {
+            return Ok(None);
+        };
+        sets.push(set)?;
     }
-    true
+    Ok(Some(Answer::Go { code, sets }))
 }
 
 // A line of a script.
+#[derive(Drop)]
 enum Line {
     Set(VarNo, i64),
-    /// An answer, an abort or nothing.
-    Other,
+    Answer(Answer),
+    Blank,
 }
 
-fn line_of(image: &Image, text: &str) -> Option<Line> {
+// `set NAME N`
+fn set_of(image: &Image, line: &str) -> Option<Line> {
+    let mut words = line.split(' ').filter(|word| !word.is_empty()).skip(1);
+    let (variable, value) = setting(image, words.next(), words.next())?;
+    match words.next() {
+        None => Some(Line::Set(variable, value)),
+        Some(_) => None,
+    }
+}
+
+// `abort`
+fn abort_of(line: &str) -> Option<Line> {
+    let mut words = line.split(' ').filter(|word| !word.is_empty()).skip(1);
+    match words.next() {
+        None => Some(Line::Answer(Answer::Abort)),
+        Some(_) => None,
+    }
+}
+
+fn line_of(alloc: Global, image: &Image, text: &str) -> Result<Option<Line>, AllocError> {
     let mut words = text.split(' ').filter(|word| !word.is_empty());
-    let Some(first) = words.next() else {
-        return Some(Line::Other);
-    };
-    match first {
-        "set" => {
-            let (variable, value) = setting(image, words.next(), words.next())?;
-            match words.next() {
-                None => Some(Line::Set(variable, value)),
-                Some(_) => None,
-            }
-        }
-        "answer" if is_answer(image, text) => Some(Line::Other),
-        "abort" if words.next().is_none() => Some(Line::Other),
-        _ => None,
+    match words.next() {
+        None => Ok(Some(Line::Blank)),
+        Some("set") => Ok(set_of(image, text)),
+        Some("answer") => Ok(answer_of(alloc, image, text)?.map(Line::Answer)),
+        Some("abort") => Ok(abort_of(text)),
+        Some(_) => Ok(None),
     }
 }
 
@@ -112,26 +124,55 @@ fn text_of(bytes: &[u8]) -> Option<&str> {
     }
 }
 
-fn parse_line(image: &Image, bytes: &[u8]) -> Option<Line> {
-    line_of(image, text_of(bytes)?)
+fn parse_line(alloc: Global, image: &Image, bytes: &[u8]) -> Result<Option<Line>, AllocError> {
+    match text_of(bytes) {
+        Some(text) => line_of(alloc, image, text),
+        None => Ok(None),
+    }
 }
 
-/// The values that a script sets, by the numbers of the variables; 0 where it sets none. The last setting of a variable counts.
-pub fn set_values(alloc: Global, image: &Image, script: &[u8]) -> Result<Vec<i64>, ScriptFault> {
-    let count = usize::from(image.counts().variables);
-    let mut values = Vec::with_capacity(alloc, count)?;
-    values.resize(count, 0)?;
-    for (before, bytes) in script.split_inclusive(|byte| *byte == b'\n').enumerate() {
-        let line = before.saturating_add(1);
-        match parse_line(image, bytes) {
-            None => return Err(ScriptFault::Line { line }),
-            Some(Line::Set(variable, value)) => {
-                if let Some(place) = values.get_mut(usize::from(variable.0)) {
+/// What a script says: the values of all variables by their numbers, 0 where it sets none, and the answers in their order.
+#[derive(Drop)]
+pub struct Script {
+    pub values: Vec<i64>,
+    pub answers: Vec<Answer>,
+}
+
+impl Script {
+    fn new(alloc: Global, image: &Image) -> Result<Script, AllocError> {
+        let count = usize::from(image.counts().variables);
+        let mut values = Vec::with_capacity(alloc, count)?;
+        values.resize(count, 0)?;
+        Ok(Script {
+            values,
+            answers: Vec::new(alloc),
+        })
+    }
+
+    // The last setting of a variable counts.
+    fn add(&mut self, line: Line) -> Result<(), AllocError> {
+        match line {
+            Line::Set(variable, value) => {
+                if let Some(place) = self.values.get_mut(usize::from(variable.0)) {
                     *place = value;
                 }
             }
-            Some(Line::Other) => {}
+            Line::Answer(answer) => self.answers.push(answer)?,
+            Line::Blank => {}
+        }
+        Ok(())
+    }
+}
+
+/// Reads a script for an image, by whose names it sets variables.
+pub fn parse(alloc: Global, image: &Image, script: &[u8]) -> Result<Script, ScriptFault> {
+    let mut made = Script::new(alloc, image)?;
+    for (before, bytes) in script.split_inclusive(|byte| *byte == b'\n').enumerate() {
+        let line = before.saturating_add(1);
+        match parse_line(alloc, image, bytes)? {
+            None => return Err(ScriptFault::Line { line }),
+            Some(read) => made.add(read)?,
         }
     }
-    Ok(values)
+    Ok(made)
 }
