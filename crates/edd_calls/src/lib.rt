@@ -1,4 +1,4 @@
-//! The compiler's calls, and those on attributes, tried on worked examples.
+//! The compiler's calls, those on attributes, and methods of texts, tried on worked examples.
 #![tactic(auto)]
 
 #[cfg(test)]
@@ -7,3 +7,5 @@ mod attributes;
 mod compiler;
 #[cfg(test)]
 mod descriptions;
+#[cfg(test)]
+mod methods;
