@@ -13,7 +13,7 @@ use edd_display::ShowFault;
 pub use files::{FileFault, Files};
 use requests::Stop;
 use std::alloc::Global;
-use std::io::Write;
+use std::io::{BufWriter, Write};
 
 /// The exit statuses.
 const DONE: u8 = 0;
@@ -26,14 +26,39 @@ const FILE: u8 = 3;
 
 const MEMORY: u8 = 4;
 
+/// How many bytes of lines are held back. What most commands print is one write then, so that a reader that closes early, as
+/// `head`, doesn't change how the program ends.
+const HELD_BACK: usize = 65_536;
+
 /// Runs the program `edd` on the words of its command line, the program's name first. Prints to `out`, and answers the exit
 /// status.
 pub fn run<F: Files, W: Write>(alloc: Global, words: &[String], files: &mut F, out: &mut W) -> u8
     ensures { result ≤ 4 }
 {
-    match requests::answer(alloc, words, files, out) {
+    match print_lines(alloc, words, files, out) {
         Ok(()) => DONE,
         Err(stop) => stopped(alloc, &stop, out),
+    }
+}
+
+// All lines are written before the answer, but where a write failed: after that none is tried.
+fn print_lines<'a, F: Files, W: Write>(
+    alloc: Global,
+    words: &'a [String],
+    files: &mut F,
+    out: &mut W,
+) -> Result<(), Stop<'a>> {
+    let Ok(mut lines) = BufWriter::with_capacity(alloc, HELD_BACK, out) else {
+        return Err(Stop::Memory);
+    };
+    let answer = requests::answer(alloc, words, files, &mut lines);
+    let is_written = !matches!(answer, Err(Stop::Output)) && lines.flush().is_ok();
+    // Taken apart, since a buffer that is dropped tries once more to write what it holds.
+    let (_, _) = lines.into_parts();
+    if is_written {
+        answer
+    } else {
+        Err(Stop::Output)
     }
 }
 

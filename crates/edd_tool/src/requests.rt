@@ -9,6 +9,7 @@ use crate::{COMMAND_LINE, DONE, FILE, MEMORY, REFUSED};
 use edd_command_line::{NoRequest, Request, Run};
 use edd_compiler::{Fault, compile};
 use edd_display::{ShowFault, print, print_text, show};
+use edd_explanations::explain;
 use edd_loader::{Image, LoadFault, load};
 use edd_machine::{Values, ValuesFault};
 use edd_port::PlayFault;
@@ -28,6 +29,8 @@ pub enum Stop<'a> {
     /// The image has no method of this name.
     NoMethod(&'a str),
     Play(PlayFault),
+    /// Nothing is refused with this number.
+    NoRefusal(u32),
     /// The output could not be written.
     Output,
     Memory,
@@ -214,6 +217,23 @@ fn try_source<'a, F: Files, W: Write>(
     play_bytes(alloc, &bytes, &script, run, out)
 }
 
+fn print_explanation<'a, W: Write>(
+    alloc: Global,
+    number: u32,
+    out: &mut W,
+) -> Result<(), Stop<'a>> {
+    let Some(explanation) = explain(number) else {
+        return Err(Stop::NoRefusal(number));
+    };
+    print(
+        alloc,
+        out,
+        format_args!("{} {}\n", explanation.number, explanation.name),
+    )?;
+    print_text(out, explanation.text)?;
+    Ok(())
+}
+
 /// Does what the words of the command line ask for. All files are read before anything else is done.
 pub fn answer<'a, F: Files, W: Write>(
     alloc: Global,
@@ -235,6 +255,7 @@ pub fn answer<'a, F: Files, W: Write>(
         } => show_file(alloc, image, script, language, files, out),
         Request::Play { image, run } => play_file(alloc, image, run, files, out),
         Request::Try { source, run } => try_source(alloc, source, run, files, out),
+        Request::Explain { number } => print_explanation(alloc, number, out),
     }
 }
 
@@ -249,6 +270,13 @@ pub fn report<W: Write>(alloc: Global, stop: &Stop<'_>, out: &mut W) -> Result<(
         Stop::Values(fault) => print(alloc, out, format_args!("refused {fault}")),
         Stop::NoMethod(name) => print(alloc, out, format_args!("refused 301 NO_METHOD {name}")),
         Stop::Play(fault) => print(alloc, out, format_args!("refused {fault}")),
+        Stop::NoRefusal(number) => {
+            print(
+                alloc,
+                out,
+                format_args!("error: nothing is refused with the number {number}"),
+            )
+        }
         Stop::Output => Err(ShowFault::Output),
         Stop::Memory => Err(ShowFault::Memory),
     }
@@ -260,7 +288,7 @@ pub fn status(stop: &Stop<'_>) -> u8
 {
     match stop {
         Stop::Help(_) => DONE,
-        Stop::CommandLine(_) => COMMAND_LINE,
+        Stop::CommandLine(_) | Stop::NoRefusal(_) => COMMAND_LINE,
         Stop::NotCompiled(_)
         | Stop::NotLoaded(_)
         | Stop::Script(_)

@@ -1,0 +1,75 @@
+//! Why an image is not valid.
+
+use crate::Explanation;
+
+pub const EXPLANATIONS: [Explanation; 11] = [
+    Explanation {
+        number: 101,
+        name: "SHORT",
+        text: r#"There are fewer than 56 bytes, so not even a header.
+"#,
+    },
+    Explanation {
+        number: 102,
+        name: "MAGIC",
+        text: r#"The first four bytes are not EDI1: the file is no image.
+"#,
+    },
+    Explanation {
+        number: 103,
+        name: "VERSION",
+        text: r#"The version is one that this program does not know. It knows version 1.
+"#,
+    },
+    Explanation {
+        number: 104,
+        name: "LENGTH",
+        text: r#"The length that the header names is not that of the file, the sections do not end there,
+or there is too much code. A copy that was cut off looks so.
+"#,
+    },
+    Explanation {
+        number: 105,
+        name: "ROW",
+        text: r#"A row of a variable, a name, an attribute or a string is wrong: its type, size, kind or
+item does not exist, rows do not rise, or parts leave gaps.
+"#,
+    },
+    Explanation {
+        number: 106,
+        name: "NAME",
+        text: r#"The name of an item is no name of the language.
+"#,
+    },
+    Explanation {
+        number: 107,
+        name: "TEXT",
+        text: r#"A string is no string: a text is not UTF-8, or a code is none.
+"#,
+    },
+    Explanation {
+        number: 108,
+        name: "INSTRUCTION",
+        text: r#"The code of an attribute or a method is not a row of whole instructions that may stand in
+it.
+"#,
+    },
+    Explanation {
+        number: 109,
+        name: "JUMP",
+        text: r#"A jump leads to no instruction, or back in an attribute.
+"#,
+    },
+    Explanation {
+        number: 110,
+        name: "DEPTH",
+        text: r#"An instruction would find too few operands or too many.
+"#,
+    },
+    Explanation {
+        number: 111,
+        name: "REFERENCE",
+        text: r#"An instruction names a variable, a string, an item or a local that does not exist.
+"#,
+    },
+];

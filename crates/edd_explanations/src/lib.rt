@@ -1,0 +1,44 @@
+//! What each refusal means, which the program `edd` explains by its number.
+#![tactic(auto)]
+
+ghost use Rattle.std.specs.Prelude.{◌≡◌, IfSome};
+
+mod grammar;
+mod image;
+mod rules;
+mod text;
+mod values;
+
+/// A refusal: what it says, what leads to it, and what helps.
+#[derive(Clone, Copy)]
+pub struct Explanation {
+    /// The number that is printed.
+    pub number: u32,
+    /// The word that is printed after the number.
+    pub name: &'static str,
+    /// Lines in plain English. Examples are indented by four blanks. The last line ends.
+    pub text: &'static str,
+}
+
+/// All explanations, by their numbers, in the groups in which they are told.
+const GROUPS: [&[Explanation]; 5] = [
+    &text::EXPLANATIONS,
+    &grammar::EXPLANATIONS,
+    &rules::EXPLANATIONS,
+    &image::EXPLANATIONS,
+    &values::EXPLANATIONS,
+];
+
+/// The explanation of a number, or none where nothing is refused with it.
+pub fn explain(number: u32) -> Option<&'static Explanation>
+    ensures sound { IfSome result (λ found. found.now.number ≡ number) }
+{
+    for group in GROUPS {
+        for one in group {
+            if one.number == number {
+                return Some(one);
+            }
+        }
+    }
+    None
+}
