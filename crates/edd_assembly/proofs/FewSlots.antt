@@ -114,11 +114,9 @@ locals_in (item.Definition body) = slots_in body
 locals_in _ = 0
 
 keeps_locals : (unit : Description Path) (sort : ItemKind) (a : Attribute Path) (b : Attribute Target) → resolved_attribute unit sort a ≡ Some b → locals_in b ≡ locals_in a
-keeps_locals unit sort (item.Label c) b h = through locals_in 0 (resolved_cond (at_attribute unit) unchanged c) _ b h (λ x is k. it_is locals_in 0 (item.Label x) b k refl)
-keeps_locals unit sort (item.Help c) b h = through locals_in 0 (resolved_cond (at_attribute unit) unchanged c) _ b h (λ x is k. it_is locals_in 0 (item.Help x) b k refl)
+keeps_locals unit sort (item.OneText which c) b h = through locals_in 0 (resolved_cond (at_attribute unit) unchanged c) _ b h (λ x is k. it_is locals_in 0 (item.OneText which x) b k refl)
 keeps_locals unit sort (item.Class words) b h = it_is locals_in 0 (item.Class words) b h refl
 keeps_locals unit sort (item.Handling c) b h = through locals_in 0 (resolved_cond (at_attribute unit) unchanged c) _ b h (λ x is k. it_is locals_in 0 (item.Handling x) b k refl)
-keeps_locals unit sort (item.ConstantUnit c) b h = through locals_in 0 (resolved_cond (at_attribute unit) unchanged c) _ b h (λ x is k. it_is locals_in 0 (item.ConstantUnit x) b k refl)
 keeps_locals unit sort (item.Validity c) b h = through locals_in 0 (resolved_cond (at_attribute unit) unchanged c) _ b h (λ x is k. it_is locals_in 0 (item.Validity x) b k refl)
 keeps_locals unit sort (item.TypeOf word parts) b h = through locals_in 0 (each (resolved_type_part unit) parts) _ b h (λ x is k. it_is locals_in 0 (item.TypeOf word x) b k refl)
 keeps_locals unit sort (item.Number n) b h = it_is locals_in 0 (item.Number n) b h refl
@@ -141,11 +139,9 @@ same_sums f g same (x ∷ xs) = sum_from (0 + f x) (map f xs) ∙ omega (arith, 
 
 module _ {R : Type 0} (sort : ItemKind) (name : Name) where
   of_one : (a : Attribute R) → locals_of (record { sort = sort; name = name; attributes = a ∷ [] }) ≡ sum (map locals_in (a ∷ []))
-  of_one (item.Label c) = refl
-  of_one (item.Help c) = refl
+  of_one (item.OneText which c) = refl
   of_one (item.Class words) = refl
   of_one (item.Handling c) = refl
-  of_one (item.ConstantUnit c) = refl
   of_one (item.Validity c) = refl
   of_one (item.TypeOf word parts) = refl
   of_one (item.Number n) = refl
@@ -164,11 +160,9 @@ module _ {R : Type 0} (sort : ItemKind) (name : Name) where
 first_body : (attributes : List (Attribute Target)) → slots_in (body_in attributes) ≤ sum (map locals_in attributes)
 unfolding slots_of
 first_body [] = omega arith
-first_body (item.Label c ∷ rest) = first_body rest
-first_body (item.Help c ∷ rest) = first_body rest
+first_body (item.OneText which c ∷ rest) = first_body rest
 first_body (item.Class words ∷ rest) = first_body rest
 first_body (item.Handling c ∷ rest) = first_body rest
-first_body (item.ConstantUnit c ∷ rest) = first_body rest
 first_body (item.Validity c ∷ rest) = first_body rest
 first_body (item.TypeOf word parts ∷ rest) = first_body rest
 first_body (item.Number n ∷ rest) = first_body rest

@@ -15,7 +15,7 @@ use Rattle.edd_syntax.specs.declared.numbers.Attr.TheVariants as attr
 use Rattle.edd_syntax.specs.Item as item
 use Rattle.edd_syntax.specs.Item.{ItemKind, kind_of_item, Attribute, Item, Description}
 use Rattle.edd_syntax.specs.Names.{is_name}
-use Rattle.edd_syntax.specs.Numbers.{has_attr, same_kind}
+use Rattle.edd_syntax.specs.Numbers.{has_attr, same_kind, text_attr}
 use Rattle.edd_syntax.specs.Resolution.{member_kinds}
 use Rattle.edd_syntax.specs.ResolvedTrees.{◌>>=◌, each, unchanged, resolved_cond, resolved_conds, resolved_body, at_attribute, resolved_entry, resolved_member, resolved_type_part, resolved_transaction_part, resolved_attribute, resolved_item, resolved_unit}
 use Rattle.edd_syntax.specs.WellFormed.{are_items, is_item, is_path, is_plain, belongs_to, stands_in, is_attribute}
@@ -52,11 +52,9 @@ made test (Some x) make b v same h = sym (at_some test v (make x) b h) ∙ same 
 
 module _ (k : Kind) where
   keeps_belonging : (unit : Description Path) (sort : ItemKind) (a : Attribute Path) (b : Attribute Target) → resolved_attribute unit sort a ≡ Some b → belongs_to k b ≡ belongs_to k a
-  keeps_belonging unit sort (item.Label c) b h = made (belongs_to k) (resolved_cond (at_attribute unit) unchanged c) item.Label b (has_attr k attr.Label) (λ x. refl) h
-  keeps_belonging unit sort (item.Help c) b h = made (belongs_to k) (resolved_cond (at_attribute unit) unchanged c) item.Help b (has_attr k attr.Help) (λ x. refl) h
+  keeps_belonging unit sort (item.OneText which c) b h = made (belongs_to k) (resolved_cond (at_attribute unit) unchanged c) (item.OneText which) b (has_attr k (text_attr which)) (λ x. refl) h
   keeps_belonging unit sort (item.Class words) b h = sym (at_some (belongs_to k) false (item.Class words) b h)
   keeps_belonging unit sort (item.Handling c) b h = made (belongs_to k) (resolved_cond (at_attribute unit) unchanged c) item.Handling b (has_attr k attr.Handling) (λ x. refl) h
-  keeps_belonging unit sort (item.ConstantUnit c) b h = made (belongs_to k) (resolved_cond (at_attribute unit) unchanged c) item.ConstantUnit b (has_attr k attr.ConstantUnit) (λ x. refl) h
   keeps_belonging unit sort (item.Validity c) b h = made (belongs_to k) (resolved_cond (at_attribute unit) unchanged c) item.Validity b (has_attr k attr.Validity) (λ x. refl) h
   keeps_belonging unit sort (item.TypeOf word parts) b h = made (belongs_to k) (each (resolved_type_part unit) parts) (item.TypeOf word) b (same_kind k kind.Variable) (λ x. refl) h
   keeps_belonging unit sort (item.Number n) b h = sym (at_some (belongs_to k) false (item.Number n) b h)

@@ -6,10 +6,10 @@ use Rattle.std.proofs.lemmas.Option.{same_Some}
 use Rattle.edd_syntax.specs.declared.numbers.Kind.{Kind}
 use Rattle.edd_syntax.specs.declared.numbers.Kind.TheVariants as kind
 use Rattle.edd_syntax.specs.declared.numbers.Attr.{Attr}
-use Rattle.edd_syntax.specs.declared.numbers.Attr.TheVariants as attr
 use Rattle.edd_syntax.specs.declared.numbers.ItemNo.{ItemNo}
 use Rattle.edd_syntax.specs.declared.numbers.ItemNo.TheVariants as items
 use Rattle.edd_syntax.specs.Numbers.{kind_number, kind_of, index_of, item_number, attr_number, attr_from_number, same_kind, same_attr, item_from_numbers}
+use Rattle.edd_syntax.proofs.EveryAttribute.{every_attr}
 
 abbrev kind_at : ℕ → Kind
 kind_at n =
@@ -30,27 +30,7 @@ pub same_kinds : (k j : Kind) → same_kind k j ≡ true → k ≡ j
 same_kinds k j h = sym (kind_again k) ∙ ap kind_at (eqb-true (kind_number k) (kind_number j) h) ∙ kind_again j
 
 pub attr_again : (a : Attr) → attr_from_number (attr_number a) ≡ Some a
-attr_again attr.Label = refl
-attr_again attr.Help = refl
-attr_again attr.Class = refl
-attr_again attr.Handling = refl
-attr_again attr.ConstantUnit = refl
-attr_again attr.Validity = refl
-attr_again attr.DefaultValue = refl
-attr_again attr.MinValue = refl
-attr_again attr.MaxValue = refl
-attr_again attr.DisplayFormat = refl
-attr_again attr.EditFormat = refl
-attr_again attr.Enumerators = refl
-attr_again attr.Number = refl
-attr_again attr.Operation = refl
-attr_again attr.Transaction = refl
-attr_again attr.Request = refl
-attr_again attr.Reply = refl
-attr_again attr.ResponseCodes = refl
-attr_again attr.Items = refl
-attr_again attr.Members = refl
-attr_again attr.Definition = refl
+attr_again = every_attr (λ a. attr_from_number (attr_number a)) Some refl
 
 pub same_attrs : (a b : Attr) → same_attr a b ≡ true → a ≡ b
 same_attrs a b h = same_Some a b (sym (attr_again a) ∙ ap attr_from_number (eqb-true (attr_number a) (attr_number b) h) ∙ attr_again b)

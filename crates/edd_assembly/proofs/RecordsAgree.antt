@@ -11,6 +11,7 @@ use Rattle.edd_syntax.specs.Words.{Words}
 use Rattle.edd_syntax.specs.AttributeValue.{Trapping, ◌>>=◌}
 use Rattle.edd_syntax.specs.Attributes as source
 use Rattle.edd_syntax.specs.Attributes.{or_default}
+use Rattle.edd_syntax.proofs.EveryAttribute.{every_attr}
 use Rattle.edd_image.specs.declared.records.Record.{Record}
 use Rattle.edd_image.specs.Contents.{Span, part, fields_of_string}
 use Rattle.edd_image.specs.Decoding as decoding
@@ -71,50 +72,12 @@ module _ (f g : StrNo → Option Words) (kept : (n : StrNo) (w : Words) → f n 
   -- ---- a reading, which has the default where nothing is given
 
   pub default_same : (a : Attr) → SameRecords g (or_default a []) (default_records a)
-  default_same attr.Label = record {}
-  default_same attr.Help = record {}
-  default_same attr.Class = record {}
   default_same attr.Handling = (refl, record {})
-  default_same attr.ConstantUnit = record {}
   default_same attr.Validity = (refl, record {})
-  default_same attr.DefaultValue = record {}
-  default_same attr.MinValue = record {}
-  default_same attr.MaxValue = record {}
-  default_same attr.DisplayFormat = record {}
-  default_same attr.EditFormat = record {}
-  default_same attr.Enumerators = record {}
-  default_same attr.Number = record {}
-  default_same attr.Operation = record {}
-  default_same attr.Transaction = record {}
-  default_same attr.Request = record {}
-  default_same attr.Reply = record {}
-  default_same attr.ResponseCodes = record {}
-  default_same attr.Items = record {}
-  default_same attr.Members = record {}
-  default_same attr.Definition = record {}
+  default_same a = record {}
 
   no_default : (a : Attr) (x : source.Record) (xs : List source.Record) → or_default a (x ∷ xs) ≡ x ∷ xs
-  no_default attr.Label x xs = refl
-  no_default attr.Help x xs = refl
-  no_default attr.Class x xs = refl
-  no_default attr.Handling x xs = refl
-  no_default attr.ConstantUnit x xs = refl
-  no_default attr.Validity x xs = refl
-  no_default attr.DefaultValue x xs = refl
-  no_default attr.MinValue x xs = refl
-  no_default attr.MaxValue x xs = refl
-  no_default attr.DisplayFormat x xs = refl
-  no_default attr.EditFormat x xs = refl
-  no_default attr.Enumerators x xs = refl
-  no_default attr.Number x xs = refl
-  no_default attr.Operation x xs = refl
-  no_default attr.Transaction x xs = refl
-  no_default attr.Request x xs = refl
-  no_default attr.Reply x xs = refl
-  no_default attr.ResponseCodes x xs = refl
-  no_default attr.Items x xs = refl
-  no_default attr.Members x xs = refl
-  no_default attr.Definition x xs = refl
+  no_default a x xs = every_attr (λ b. or_default b (x ∷ xs)) (λ b. x ∷ xs) refl a
 
   records_agree : (a : Attr) (xs : List source.Record) (given : Result (List Record) Trap) (rs : List Record) → given ≡ Ok rs → SameRecords f xs rs → SameReading g (source.Gives (Ok (or_default a xs))) (reading_of a given)
   records_agree a [] given [] is same = (default_records a, ap (reading_of a) is, default_same a)

@@ -8,13 +8,13 @@ use Rattle.std.proofs.lemmas.List.Folds.{list_any-append}
 use Rattle.edd_syntax.specs.declared.numbers.Kind.{Kind}
 use Rattle.edd_syntax.specs.declared.numbers.Kind.TheVariants as kind
 use Rattle.edd_syntax.specs.declared.numbers.Attr.{Attr}
-use Rattle.edd_syntax.specs.declared.numbers.Attr.TheVariants as attr
 use Rattle.edd_syntax.specs.declared.numbers.AttrRef.{AttrRef}
 use Rattle.edd_syntax.specs.declared.reference.Target.{Target}
 use Rattle.edd_syntax.specs.Item.{Attribute, Item}
 use Rattle.edd_syntax.specs.NameRules.{kinds}
 use Rattle.edd_syntax.specs.Numbers.{kind_number, kind_of, index_of, item_number, attr_number, same_kind, same_attr}
 use Rattle.edd_syntax.specs.Rows.{positions, rows_at, item_rows, rows_from, of_kind, rows_of_attr, rows_of_kind, attributes_in_order, rows}
+use Rattle.edd_syntax.proofs.EveryAttribute.{every_attr}
 use Rattle.edd_image.specs.Reading.{is_row_of}
 use Rattle.edd_assembly.proofs.KnownByNumber.{same_kinds, same_attrs, numbered_kind, numbered_index}
 use Rattle.edd_assembly.proofs.RowsRise.{key}
@@ -114,27 +114,7 @@ every_kind kind.Collection = refl
 every_kind kind.Method = refl
 
 every_attribute : (a : Attr) → list_any (same_attr a) attributes_in_order ≡ true
-every_attribute attr.Label = refl
-every_attribute attr.Help = refl
-every_attribute attr.Class = refl
-every_attribute attr.Handling = refl
-every_attribute attr.ConstantUnit = refl
-every_attribute attr.Validity = refl
-every_attribute attr.DefaultValue = refl
-every_attribute attr.MinValue = refl
-every_attribute attr.MaxValue = refl
-every_attribute attr.DisplayFormat = refl
-every_attribute attr.EditFormat = refl
-every_attribute attr.Enumerators = refl
-every_attribute attr.Number = refl
-every_attribute attr.Operation = refl
-every_attribute attr.Transaction = refl
-every_attribute attr.Request = refl
-every_attribute attr.Reply = refl
-every_attribute attr.ResponseCodes = refl
-every_attribute attr.Items = refl
-every_attribute attr.Members = refl
-every_attribute attr.Definition = refl
+every_attribute = every_attr (λ a. list_any (same_attr a) attributes_in_order) (λ a. true) refl
 
 module _ (items : List (Item Target)) (ref : AttrRef) where
   abbrev any_row : List AttrRef → Bool

@@ -15,7 +15,7 @@ use Rattle.edd_syntax.specs.Item as item
 use Rattle.edd_syntax.specs.Item.{kind_of_item, TypePart, Attribute, Item, Identification}
 use Rattle.edd_syntax.specs.NameRules.{kinds}
 use Rattle.edd_syntax.specs.Names.{is_name}
-use Rattle.edd_syntax.specs.Numbers.{kind_of, item_number, has_attr, same_kind, same_attr}
+use Rattle.edd_syntax.specs.Numbers.{kind_of, item_number, has_attr, same_kind, same_attr, text_attr}
 use Rattle.edd_syntax.specs.Resolution.{count_of}
 use Rattle.edd_syntax.specs.Attributes.{is_of_transaction}
 use Rattle.edd_syntax.specs.Rows.{part_attr, stands_for, is_written, transaction_positions, positions, rows_at, item_rows, rows_from, of_kind, rows_of_attr, rows_of_kind, attributes_in_order, rows}
@@ -54,11 +54,9 @@ module _ (k : Kind) (a : Attr) where
 
   written_has : (w : Attribute Target) → belongs_to k w ≡ true → stands_for a w ≡ true → has_attr k a ≡ true
   unfolding stands_for
-  written_has (item.Label c) h is = same attr.Label h is
-  written_has (item.Help c) h is = same attr.Help h is
+  written_has (item.OneText which c) h is = same (text_attr which) h is
   written_has (item.Class words) h is = same attr.Class h is
   written_has (item.Handling c) h is = same attr.Handling h is
-  written_has (item.ConstantUnit c) h is = same attr.ConstantUnit h is
   written_has (item.Validity c) h is = same attr.Validity h is
   written_has (item.TypeOf word parts) h is = parts_have parts h is
   written_has (item.Number n) h is = same attr.Number h is

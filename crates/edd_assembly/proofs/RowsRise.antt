@@ -52,24 +52,7 @@ not_body : (a : Attr) → is_of_transaction a ≡ true → same_attr a attr.Defi
 not_body attr.Transaction h = refl
 not_body attr.Request h = refl
 not_body attr.Reply h = refl
-not_body attr.Label h = absurd (false≢true h)
-not_body attr.Help h = absurd (false≢true h)
-not_body attr.Class h = absurd (false≢true h)
-not_body attr.Handling h = absurd (false≢true h)
-not_body attr.ConstantUnit h = absurd (false≢true h)
-not_body attr.Validity h = absurd (false≢true h)
-not_body attr.DefaultValue h = absurd (false≢true h)
-not_body attr.MinValue h = absurd (false≢true h)
-not_body attr.MaxValue h = absurd (false≢true h)
-not_body attr.DisplayFormat h = absurd (false≢true h)
-not_body attr.EditFormat h = absurd (false≢true h)
-not_body attr.Enumerators h = absurd (false≢true h)
-not_body attr.Number h = absurd (false≢true h)
-not_body attr.Operation h = absurd (false≢true h)
-not_body attr.ResponseCodes h = absurd (false≢true h)
-not_body attr.Items h = absurd (false≢true h)
-not_body attr.Members h = absurd (false≢true h)
-not_body attr.Definition h = absurd (false≢true h)
+not_body a h = absurd (false≢true h)
 
 abbrev IsOf : Kind → Attr → AttributeFields → Type 0
 IsOf k a f = (f.kind ≡ kind_number k) × (f.attribute ≡ attr_number a)
@@ -116,11 +99,9 @@ module _ (slots : AttrRef → ℕ) where
   -- ---- the positions of transactions ascend
 
   position_step : (next : ℕ) (x : Attribute Target) (rest : List (Attribute Target)) → (transaction_positions next (x ∷ rest) ≡ next ∷ transaction_positions (suc next) rest) ⊎ (transaction_positions next (x ∷ rest) ≡ transaction_positions next rest)
-  position_step next (item.Label c) rest = inr refl
-  position_step next (item.Help c) rest = inr refl
+  position_step next (item.OneText which c) rest = inr refl
   position_step next (item.Class words) rest = inr refl
   position_step next (item.Handling c) rest = inr refl
-  position_step next (item.ConstantUnit c) rest = inr refl
   position_step next (item.Validity c) rest = inr refl
   position_step next (item.TypeOf word parts) rest = inr refl
   position_step next (item.Number n) rest = inr refl

@@ -44,11 +44,9 @@ one_to_four size h = grind (arith, common_steps)
 
 small : (name : Name) (attributes : List (Attribute Target)) → flat_map (type_breaches name) (flat_map types_in attributes) ≡ [] → IsTrue (is_within 1 4 (written_type attributes).size)
 small name [] h = refl
-small name (item.Label c ∷ rest) h = small name rest h
-small name (item.Help c ∷ rest) h = small name rest h
+small name (item.OneText which c ∷ rest) h = small name rest h
 small name (item.Class words ∷ rest) h = small name rest h
 small name (item.Handling c ∷ rest) h = small name rest h
-small name (item.ConstantUnit c ∷ rest) h = small name rest h
 small name (item.Validity c ∷ rest) h = small name rest h
 small name (item.TypeOf (item.Known type None) parts ∷ rest) h = refl
 small name (item.TypeOf (item.Known type (Some size)) parts ∷ rest) h = one_to_four size (no_refusal (size == 0 || nat_lt 4 size) (BadSize name) (no_front _ _ h))

@@ -10,7 +10,7 @@ use Rattle.edd_syntax.specs.Conditional.{Nil}
 use Rattle.edd_syntax.specs.Item as item
 use Rattle.edd_syntax.specs.Item.{TypePart, Attribute}
 use Rattle.edd_syntax.specs.Words.{name_words}
-use Rattle.edd_syntax.specs.Numbers.{attr_number, same_attr}
+use Rattle.edd_syntax.specs.Numbers.{attr_number, same_attr, text_attr}
 use Rattle.edd_syntax.specs.Device.{Environment}
 use Rattle.edd_syntax.specs.AttributeValue.{all_chosen}
 use Rattle.edd_syntax.specs.Attributes.{Meaning, Named, Words, Number, constant, each, entry, enumerator, response, member, one, list, texts, expressions, elements, of_parts, of_attribute, of_attributes, transactions, meaning_of, handling_number, operation_number, bit}
@@ -66,11 +66,9 @@ module _ (env : Environment) (a : Attr) (d : List ℤ) where
 
   gives_nothing : (w : Attribute Target) (rest : List Named) → stands_for a w ≡ false → meaning_of a rest d ≡ Ok [] → meaning_of a (of_attribute env w ++ rest) d ≡ Ok []
   unfolding stands_for
-  gives_nothing (item.Label c) rest h others = passed attr.Label (texts env c) rest (or_parts (same_attr a attr.Label) false h).0 ∙ others
-  gives_nothing (item.Help c) rest h others = passed attr.Help (texts env c) rest (or_parts (same_attr a attr.Help) false h).0 ∙ others
+  gives_nothing (item.OneText which c) rest h others = passed (text_attr which) (texts env c) rest (or_parts (same_attr a (text_attr which)) false h).0 ∙ others
   gives_nothing (item.Class names) rest h others = passed attr.Class (constant (map (λ n. Words (name_words n)) names)) rest (or_parts (same_attr a attr.Class) false h).0 ∙ others
   gives_nothing (item.Handling c) rest h others = passed attr.Handling (one env (λ v. Number (pos (handling_number v))) c) rest (or_parts (same_attr a attr.Handling) false h).0 ∙ others
-  gives_nothing (item.ConstantUnit c) rest h others = passed attr.ConstantUnit (texts env c) rest (or_parts (same_attr a attr.ConstantUnit) false h).0 ∙ others
   gives_nothing (item.Validity c) rest h others = passed attr.Validity (one env (λ valid. Number (pos (bit valid))) c) rest (or_parts (same_attr a attr.Validity) false h).0 ∙ others
   gives_nothing (item.TypeOf word parts) rest h others = type_gives_nothing parts rest h others
   gives_nothing (item.Number n) rest h others = passed attr.Number (constant (Number (pos n) ∷ [])) rest (or_parts (same_attr a attr.Number) false h).0 ∙ others

@@ -1,6 +1,7 @@
 -- Each method of a checked description has a body.
 use Rattle.std.proofs.Common.{◌≡◌, refl, sym, ap, ◌∙◌, subst, ℕ, zero, suc, Bool, true, false, not, List, [], ◌∷◌, map, Some}
 use Rattle.std.specs.Prelude.{◌||◌, filter, slice_get, if◌then◌else◌, codes}
+use Rattle.std.specs.Str.{bytes_eq}
 use Rattle.std.specs.List.{flat_map, list_all, list_any}
 use Rattle.std.proofs.lemmas.Option.{none-some, same_Some}
 use Rattle.std.proofs.lemmas.Bool.{and_parts, and_from, or_right}
@@ -11,16 +12,18 @@ use Rattle.edd_syntax.specs.declared.reference.Target.{Target}
 use Rattle.edd_syntax.specs.declared.numbers.Kind.{Kind}
 use Rattle.edd_syntax.specs.declared.numbers.Kind.TheVariants as kind
 use Rattle.edd_syntax.specs.declared.numbers.Attr.TheVariants as attr
+use Rattle.edd_syntax.specs.declared.numbers.TextAttribute.{TextAttribute}
 use Rattle.edd_syntax.specs.Text.{Name}
 use Rattle.edd_syntax.specs.Item as item
 use Rattle.edd_syntax.specs.Item.{ItemKind, kind_of_item, TypePart, Attribute, Item, Description}
 use Rattle.edd_syntax.specs.NameRules.{attribute_word, required_words, missing_words, too_many, duplicate_names, duplicate_attributes, missing_attributes}
-use Rattle.edd_syntax.specs.Numbers.{same_kind, same_attr}
+use Rattle.edd_syntax.specs.Numbers.{same_kind, same_attr, attr_word, text_attr}
 use Rattle.edd_syntax.specs.Refusal.{MissingAttribute, is_name_in}
 use Rattle.edd_syntax.specs.Resolution.{member_kinds}
 use Rattle.edd_syntax.specs.ResolvedTrees.{each, unchanged, resolved_cond, resolved_conds, resolved_body, at_attribute, resolved_entry, resolved_member, resolved_type_part, resolved_transaction_part, resolved_attribute, resolved_item, resolved_unit}
 use Rattle.edd_syntax.specs.Resolved.{IsChecked}
 use Rattle.edd_syntax.specs.Rows.{part_attr, stands_for, is_written, of_kind}
+use Rattle.edd_syntax.proofs.EveryAttribute.{every_text}
 use Rattle.edd_syntax.proofs.WithinLimits.{each_keeps}
 use Rattle.edd_assembly.proofs.ItemForms.{bind_some, at_some, all_mapped, made}
 use Rattle.edd_assembly.proofs.RowsAmong.{any_mapped}
@@ -41,14 +44,17 @@ no_body_in_parts (item.DisplayFormat c ∷ rest) = no_body_in_parts rest
 no_body_in_parts (item.EditFormat c ∷ rest) = no_body_in_parts rest
 no_body_in_parts (item.Element c ∷ rest) = no_body_in_parts rest
 
+other_word : (which : TextAttribute) → bytes_eq (attr_word (text_attr which)) (codes "DEFINITION") ≡ false
+other_word = every_text (λ t. bytes_eq (attr_word (text_attr t)) (codes "DEFINITION")) (λ t. false) refl
+
 written : {R : Type 0} (attributes : List (Attribute R)) → is_name_in (map attribute_word attributes) (codes "DEFINITION") ≡ true → is_written attr.Definition attributes ≡ true
 unfolding stands_for
 written [] h = h
-written (item.Label c ∷ rest) h = written rest h
-written (item.Help c ∷ rest) h = written rest h
+written (item.OneText which c ∷ rest) h =
+    or_right (stands_for attr.Definition (item.OneText which c)) (is_written attr.Definition rest)
+    (written rest (ap (λ b. b || is_name_in (map attribute_word rest) (codes "DEFINITION")) (sym (other_word which)) ∙ h))
 written (item.Class words ∷ rest) h = written rest h
 written (item.Handling c ∷ rest) h = written rest h
-written (item.ConstantUnit c ∷ rest) h = written rest h
 written (item.Validity c ∷ rest) h = written rest h
 written (item.TypeOf word parts ∷ rest) h = or_right (stands_for attr.Definition (item.TypeOf word parts)) (is_written attr.Definition rest) (written rest h)
 written (item.Number n ∷ rest) h = written rest h
@@ -92,11 +98,9 @@ is_body a = stands_for attr.Definition a
 
 keeps_body : (unit : Description Path) (sort : ItemKind) (a : Attribute Path) (b : Attribute Target) → resolved_attribute unit sort a ≡ Some b → is_body b ≡ is_body a
 unfolding stands_for
-keeps_body unit sort (item.Label c) b h = made is_body (resolved_cond (at_attribute unit) unchanged c) item.Label b false (λ x. refl) h
-keeps_body unit sort (item.Help c) b h = made is_body (resolved_cond (at_attribute unit) unchanged c) item.Help b false (λ x. refl) h
+keeps_body unit sort (item.OneText which c) b h = made is_body (resolved_cond (at_attribute unit) unchanged c) (item.OneText which) b _ (λ x. refl) h
 keeps_body unit sort (item.Class words) b h = sym (at_some is_body false (item.Class words) b h)
 keeps_body unit sort (item.Handling c) b h = made is_body (resolved_cond (at_attribute unit) unchanged c) item.Handling b false (λ x. refl) h
-keeps_body unit sort (item.ConstantUnit c) b h = made is_body (resolved_cond (at_attribute unit) unchanged c) item.ConstantUnit b false (λ x. refl) h
 keeps_body unit sort (item.Validity c) b h = made is_body (resolved_cond (at_attribute unit) unchanged c) item.Validity b false (λ x. refl) h
 keeps_body unit sort (item.TypeOf word parts) b h = made is_body (each (resolved_type_part unit) parts) (item.TypeOf word) b false no_body_in_parts h ∙ sym (no_body_in_parts parts)
 keeps_body unit sort (item.Number n) b h = sym (at_some is_body false (item.Number n) b h)

@@ -7,9 +7,9 @@ use Rattle.edd_syntax.specs.declared.reference.Target.{Target}
 use Rattle.edd_syntax.specs.Conditional.{Conds, Arm, NoArms, ConsArm, Case, Default, arms_from}
 use Rattle.edd_syntax.specs.SubsetRules.{values_of}
 use Rattle.edd_syntax.specs.Words.{Words}
+use Rattle.edd_image.specs.declared.instruction.Instruction.TheVariants as instruction
 use Rattle.edd_image.specs.Agreement.{string_of_table}
-use Rattle.edd_image.specs.Layout.{u32}
-use Rattle.edd_image.specs.Spelling.{i64}
+use Rattle.edd_image.specs.Spelling.{spelling}
 use Rattle.edd_code.specs.Blocks.{Block, Match, bytes_at}
 use Rattle.edd_code.specs.Closing.{closed}
 use Rattle.edd_code.proofs.Closing.{match_closed, closed_length}
@@ -26,8 +26,8 @@ use Rattle.edd_attrs.proofs.Loops.{later_on, dropped, flat_take, flat_drop, flat
 -- code with a body behind it has those bytes more that its jump and its body have
 pub with_body_length : (before : List ℕ) (hole : ℕ) (body : Block) → hole + 4 ≤ length before → length before ≤ length (with_body before hole body)
 with_body_length before hole body inside =
-    let jumped : List ℕ = before ++ (0x30 ∷ u32 0) in
-    let l1 : length jumped ≡ length before + 5 = length-append before (0x30 ∷ u32 0) in
+    let jumped : List ℕ = before ++ spelling (instruction.Jump 0) in
+    let l1 : length jumped ≡ length before + 5 = length-append before (spelling (instruction.Jump 0)) in
     let l2 = closed_length jumped hole (omega arith) in
     let opened : List ℕ = closed jumped hole in
     let l3 = length-append opened (bytes_at (length opened) body) in
@@ -35,11 +35,11 @@ with_body_length before hole body inside =
     omega (arith, l1, l2, l3, l4)
 
 -- behind the header of its CASE and the rest, the code with a body is that of a match
-pub body_matches : (front before : List ℕ) (label : ℤ) (body rest : Block) → before ≡ (front ++ (0x33 ∷ (i64 label ++ u32 0))) ++ bytes_at (length (front ++ (0x33 ∷ (i64 label ++ u32 0)))) rest
+pub body_matches : (front before : List ℕ) (label : ℤ) (body rest : Block) → before ≡ (front ++ spelling (instruction.Case label 0)) ++ bytes_at (length (front ++ spelling (instruction.Case label 0))) rest
     → with_body before (length front + 9) body ≡ front ++ bytes_at (length front) (Match label body rest)
 body_matches front before label body rest is =
-    let c1 : List ℕ = front ++ (0x33 ∷ (i64 label ++ u32 0)) in
-    let c3 : List ℕ = before ++ (0x30 ∷ u32 0) in
+    let c1 : List ℕ = front ++ spelling (instruction.Case label 0) in
+    let c3 : List ℕ = before ++ spelling (instruction.Jump 0) in
     let c4 : List ℕ = closed c3 (length front + 9) in
     match_closed front c1 before c3 c4 (c4 ++ bytes_at (length c4) body) label body rest refl is refl refl refl
 

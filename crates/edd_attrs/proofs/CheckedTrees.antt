@@ -130,11 +130,9 @@ alone : {b : Bool} → b ≡ true → ((b && true) && true) ≡ true
 alone h = rw h refl
 
 attribute_ruled : (a : Attribute Target) → attribute_data_breaches a ≡ [] → repeated_cases a ≡ [] → throughout is_ruled a ≡ true
-attribute_ruled (item.Label c) h k = alone (none_is (cond_defaults c) k)
-attribute_ruled (item.Help c) h k = alone (none_is (cond_defaults c) k)
+attribute_ruled (item.OneText which c) h k = alone (none_is (cond_defaults c) k)
 attribute_ruled (item.Class words) h k = refl
 attribute_ruled (item.Handling c) h k = alone (none_is (cond_defaults c) k)
-attribute_ruled (item.ConstantUnit c) h k = alone (none_is (cond_defaults c) k)
 attribute_ruled (item.Validity c) h k = alone (none_is (cond_defaults c) k)
 attribute_ruled (item.TypeOf word parts) h k = rw (type_parts_ruled parts k) refl
 attribute_ruled (item.Number n) h k = refl

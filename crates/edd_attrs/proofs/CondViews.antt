@@ -13,8 +13,8 @@ use Rattle.edd_syntax.specs.ItemView.{cond_of, conds_of, arm_of}
 use Rattle.edd_syntax.specs.Size.{cond_nodes, conds_nodes, arms_nodes, leaf}
 use Rattle.edd_syntax.specs.TreeView.{expr_of}
 use Rattle.edd_syntax.proofs.CondRows.{of_value, of_if, of_select, of_case, of_default}
-use Rattle.edd_image.specs.Layout.{u32}
-use Rattle.edd_image.specs.Spelling.{i64}
+use Rattle.edd_image.specs.declared.instruction.Instruction.TheVariants as instruction
+use Rattle.edd_image.specs.Spelling.{spelling}
 use Rattle.edd_attrs.specs.Writing.{default_of, header, hole_of}
 
 module _ {V W : Type 0} (view : V → W) where
@@ -54,7 +54,7 @@ module _ {V W : Type 0} (view : V → W) where
 
   -- ---- the code of an arm's own
 
-  pub case_header : (x : code_arm.Arm Target V) (label : ℤ) (v : Vec (code.Cond Target V) Global) → x ≡ a.Case label v → header (arm_viewed x) ≡ 0x33 ∷ (i64 label ++ u32 0)
+  pub case_header : (x : code_arm.Arm Target V) (label : ℤ) (v : Vec (code.Cond Target V) Global) → x ≡ a.Case label v → header (arm_viewed x) ≡ spelling (instruction.Case label 0)
   case_header x label v is = ap header (case_is x label v v.items is refl)
 
   pub default_header : (x : code_arm.Arm Target V) (line : ℕ) (v : Vec (code.Cond Target V) Global) → x ≡ a.Default line v → header (arm_viewed x) ≡ []

@@ -10,7 +10,6 @@ use Rattle.edd_syntax.specs.SubsetRules.{values_of}
 use Rattle.edd_syntax.specs.Words.{Words}
 use Rattle.edd_image.specs.declared.instruction.Instruction.TheVariants as instruction
 use Rattle.edd_image.specs.Agreement.{string_of_table}
-use Rattle.edd_image.specs.Layout.{u32}
 use Rattle.edd_image.specs.Spelling.{spelling}
 use Rattle.edd_code.specs.Blocks.{Block, Nothing, Straight, Then, Either, bytes_at}
 use Rattle.edd_code.specs.Closing.{closed}
@@ -32,9 +31,9 @@ module _ {V : Type 0} (strings : V → List Words) (is_block : (StrNo → Option
   if_strings e first otherwise = flat_map-append strings (values_of first) (values_of otherwise)
 
   pub if_written : (old mid new : List Words) (before c0 c1 c2 c3 c4 c5 after : List ℕ) (e : Expr Target) (first otherwise : Conds Target V) (hole end : ℕ)
-      → c0 ≡ before ++ bytes_at (length before) (expression_block e) → c1 ≡ c0 ++ (0x31 ∷ u32 0) → hole ≡ length c0 + 1
+      → c0 ≡ before ++ bytes_at (length before) (expression_block e) → c1 ≡ c0 ++ spelling (instruction.JumpIfZero 0) → hole ≡ length c0 + 1
       → WritesBlock old c1 (conds_strings strings first) (λ numbered b. IsCondsBlock (is_block numbered) first b) mid c2
-      → c3 ≡ c2 ++ (0x30 ∷ u32 0) → end ≡ length c2 + 1 → c4 ≡ closed c3 hole
+      → c3 ≡ c2 ++ spelling (instruction.Jump 0) → end ≡ length c2 + 1 → c4 ≡ closed c3 hole
       → WritesBlock mid c4 (conds_strings strings otherwise) (λ numbered b. IsCondsBlock (is_block numbered) otherwise b) new c5 → after ≡ closed c5 end
       → WritesBlock old before (cond_strings strings (If e first otherwise)) (λ numbered b. IsCondBlock (is_block numbered) (If e first otherwise) b) new after
   if_written old mid new before c0 c1 c2 c3 c4 c5 after e first otherwise hole end test jump at x over at' shut y last = record {

@@ -292,11 +292,9 @@ module _ (unit : Description Path) (reads : Target → Bool)
   alone h = rw h refl
 
   attribute_good : (sort : ItemKind) (a : Attribute Path) (b : Attribute Target) → is_attribute is_path is_plain a ≡ true → is_low (attribute_height a) ≡ true → resolved_attribute unit sort a ≡ Some b → good_attribute b ≡ true
-  attribute_good sort (item.Label c) b h l e = let x = bind_some (resolved_cond at unchanged c) (λ c'. Some (item.Label c')) b e in along_some good_attribute (item.Label x.0) b x.2 (alone (one_good is_text c x.0 h l x.1))
-  attribute_good sort (item.Help c) b h l e = let x = bind_some (resolved_cond at unchanged c) (λ c'. Some (item.Help c')) b e in along_some good_attribute (item.Help x.0) b x.2 (alone (one_good is_text c x.0 h l x.1))
+  attribute_good sort (item.OneText which c) b h l e = let x = bind_some (resolved_cond at unchanged c) (λ c'. Some (item.OneText which c')) b e in along_some good_attribute (item.OneText which x.0) b x.2 (alone (one_good is_text c x.0 h l x.1))
   attribute_good sort (item.Class words) b h l e = along_some good_attribute (item.Class words) b e refl
   attribute_good sort (item.Handling c) b h l e = let x = bind_some (resolved_cond at unchanged c) (λ c'. Some (item.Handling c')) b e in along_some good_attribute (item.Handling x.0) b x.2 (alone (one_good any_value c x.0 h l x.1))
-  attribute_good sort (item.ConstantUnit c) b h l e = let x = bind_some (resolved_cond at unchanged c) (λ c'. Some (item.ConstantUnit c')) b e in along_some good_attribute (item.ConstantUnit x.0) b x.2 (alone (one_good is_text c x.0 h l x.1))
   attribute_good sort (item.Validity c) b h l e = let x = bind_some (resolved_cond at unchanged c) (λ c'. Some (item.Validity c')) b e in along_some good_attribute (item.Validity x.0) b x.2 (alone (one_good any_value c x.0 h l x.1))
   attribute_good sort (item.TypeOf word parts) b h l e =
       let x = bind_some (each (resolved_type_part unit) parts) (λ parts'. Some (item.TypeOf word parts')) b e in

@@ -41,11 +41,9 @@ filtered p q (x ∷ xs) h =
 -- the trees of a transaction
 abbrev pub inside : Attribute Target → List Named
 inside (item.Transaction number parts) = trees_of_transaction number parts
-inside (item.Label c) = []
-inside (item.Help c) = []
+inside (item.OneText which c) = []
 inside (item.Class words) = []
 inside (item.Handling c) = []
-inside (item.ConstantUnit c) = []
 inside (item.Validity c) = []
 inside (item.TypeOf word parts) = []
 inside (item.Number n) = []
@@ -91,11 +89,9 @@ module _ (p : Tree → Bool) where
 
   transactions_have : (attributes : List (Attribute Target)) → list_all throughout attributes ≡ true → list_all (list_all named) (transaction_trees attributes) ≡ true
   transactions_have [] h = refl
-  transactions_have (item.Label c ∷ rest) h = (more (item.Label c) rest (transactions_have rest) h).1
-  transactions_have (item.Help c ∷ rest) h = (more (item.Help c) rest (transactions_have rest) h).1
+  transactions_have (item.OneText which c ∷ rest) h = (more (item.OneText which c) rest (transactions_have rest) h).1
   transactions_have (item.Class names ∷ rest) h = (more (item.Class names) rest (transactions_have rest) h).1
   transactions_have (item.Handling c ∷ rest) h = (more (item.Handling c) rest (transactions_have rest) h).1
-  transactions_have (item.ConstantUnit c ∷ rest) h = (more (item.ConstantUnit c) rest (transactions_have rest) h).1
   transactions_have (item.Validity c ∷ rest) h = (more (item.Validity c) rest (transactions_have rest) h).1
   transactions_have (item.TypeOf word parts ∷ rest) h = (more (item.TypeOf word parts) rest (transactions_have rest) h).1
   transactions_have (item.Number n ∷ rest) h = (more (item.Number n) rest (transactions_have rest) h).1

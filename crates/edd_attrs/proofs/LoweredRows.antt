@@ -161,7 +161,7 @@ module _ (unit : Description Target) (checked : ∥ IsChecked unit ∥₁) (row 
       valid : (later : List Words) → IsValidUnit (attribute_context unit (new ++ later)) code
       valid later =
           subst (λ (bs : List ℕ). IsValidUnit (attribute_context unit (new ++ later)) bs) (sym lowered.is_unit)
-          (unit_is_valid (attribute_context unit (new ++ later)) b refl refl sound.spelled sound.flows sound.even small (still_exist unit new later b sound.exist))
+          (unit_is_valid (attribute_context unit (new ++ later)) b sound.spelled sound.flows sound.even small (still_exist unit new later b sound.exist))
 
       means_in : (later : List Words) (values : List ℤ) → (t : Trapping (List source.Record)) → SameOutcome (string_of_table (new ++ later)) t (does (record { types = (environment unit).variables }) values b [])
           → (n : ℕ) × (given : Result (List Record) Trap)

@@ -51,11 +51,9 @@ module _ (env : Environment) where
       ∙ sym (map-append named (trees_of_part p) (trees_of_parts rest))
 
   attribute_means : (a : Attribute Target) → of_attribute env a ≡ map named (trees_of_attribute a)
-  attribute_means (item.Label c) = refl
-  attribute_means (item.Help c) = refl
+  attribute_means (item.OneText which c) = refl
   attribute_means (item.Class names) = refl
   attribute_means (item.Handling c) = refl
-  attribute_means (item.ConstantUnit c) = refl
   attribute_means (item.Validity c) = refl
   attribute_means (item.TypeOf word parts) = ap (λ (xs : List source.Named). named (attr.Enumerators, Enumerators parts) ∷ xs) (parts_mean parts)
   attribute_means (item.Number n) = refl
@@ -84,11 +82,9 @@ module _ (env : Environment) where
 
   transactions_mean : (attributes : List (Attribute Target)) → transactions env attributes ≡ map (map named) (transaction_trees attributes)
   transactions_mean [] = refl
-  transactions_mean (item.Label c ∷ rest) = transactions_mean rest
-  transactions_mean (item.Help c ∷ rest) = transactions_mean rest
+  transactions_mean (item.OneText which c ∷ rest) = transactions_mean rest
   transactions_mean (item.Class names ∷ rest) = transactions_mean rest
   transactions_mean (item.Handling c ∷ rest) = transactions_mean rest
-  transactions_mean (item.ConstantUnit c ∷ rest) = transactions_mean rest
   transactions_mean (item.Validity c ∷ rest) = transactions_mean rest
   transactions_mean (item.TypeOf word parts ∷ rest) = transactions_mean rest
   transactions_mean (item.Number n ∷ rest) = transactions_mean rest

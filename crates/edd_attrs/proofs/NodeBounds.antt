@@ -70,11 +70,9 @@ single n t h = rw (within n t h) refl
 
 attribute_within : (n : ℕ) (a : Attribute Target) → attribute_nodes a ≤ n → throughout (is_within n) a ≡ true
 unfolding tree_nodes
-attribute_within n (item.Label c) h = single n (trees.Texts c) h
-attribute_within n (item.Help c) h = single n (trees.Texts c) h
+attribute_within n (item.OneText which c) h = single n (trees.Texts c) h
 attribute_within n (item.Class words) h = single n (trees.Class words) h
 attribute_within n (item.Handling c) h = single n (trees.Handling c) h
-attribute_within n (item.ConstantUnit c) h = single n (trees.Texts c) h
 attribute_within n (item.Validity c) h = single n (trees.Validity c) h
 attribute_within n (item.TypeOf word parts) h =
     both_true (both_true (within n (trees.Enumerators parts) (omega (arith, h, elements_fewer parts))) (parts_within n parts (omega (arith, h)))) refl

@@ -8,11 +8,9 @@ use Rattle.edd_attrs.specs.Trees.{transaction_trees}
 use Rattle.edd_attrs.specs.Rows.{transaction_in}
 
 pub transactions_split : (y : Attribute Target) (ys : List (Attribute Target)) → transaction_trees (y ∷ ys) ≡ option_to_list (transaction_in y) ++ transaction_trees ys
-transactions_split (item.Label c) ys = refl
-transactions_split (item.Help c) ys = refl
+transactions_split (item.OneText which c) ys = refl
 transactions_split (item.Class words) ys = refl
 transactions_split (item.Handling c) ys = refl
-transactions_split (item.ConstantUnit c) ys = refl
 transactions_split (item.Validity c) ys = refl
 transactions_split (item.TypeOf word parts) ys = refl
 transactions_split (item.Number n) ys = refl

@@ -108,11 +108,9 @@ module _ (test : Words → Bool) where
 
   attribute_passes : (a : Attribute Target) → list_all test (attribute_strings a) ≡ true → throughout passes a ≡ true
   unfolding tree_strings
-  attribute_passes (item.Label c) h = alone h
-  attribute_passes (item.Help c) h = alone h
+  attribute_passes (item.OneText which c) h = alone h
   attribute_passes (item.Class words) h = alone h
   attribute_passes (item.Handling c) h = refl
-  attribute_passes (item.ConstantUnit c) h = alone h
   attribute_passes (item.Validity c) h = refl
   attribute_passes (item.TypeOf word parts) h = both_true (both_true (elements_pass parts h) (options_pass parts h)) refl
   attribute_passes (item.Number n) h = refl

@@ -11,11 +11,9 @@ trees_of_transaction number parts = (attr.Transaction, Transaction number) ∷ m
 
 abbrev pub transaction_in : Attribute Target → Option (List Named)
 transaction_in (item.Transaction number parts) = Some (trees_of_transaction number parts)
-transaction_in (item.Label c) = None
-transaction_in (item.Help c) = None
+transaction_in (item.OneText which c) = None
 transaction_in (item.Class words) = None
 transaction_in (item.Handling c) = None
-transaction_in (item.ConstantUnit c) = None
 transaction_in (item.Validity c) = None
 transaction_in (item.TypeOf word parts) = None
 transaction_in (item.Number n) = None

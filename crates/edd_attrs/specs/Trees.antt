@@ -11,7 +11,7 @@ use Rattle.edd_syntax.specs.Expression.{Expr}
 use Rattle.edd_syntax.specs.Conditional.{Cond, Conds}
 use Rattle.edd_syntax.specs.Item as item
 use Rattle.edd_syntax.specs.Item.{DataItem, MenuEntry, TypePart, TransactionPart, Attribute, Item, Description}
-use Rattle.edd_syntax.specs.Numbers.{same_attr}
+use Rattle.edd_syntax.specs.Numbers.{same_attr, text_attr}
 use Rattle.edd_syntax.specs.Device.{item_at}
 use Rattle.edd_syntax.specs.Attributes.{is_of_transaction}
 
@@ -49,11 +49,9 @@ trees_of_parts (p ∷ rest) = trees_of_part p ++ trees_of_parts rest
 
 -- the trees that one written attribute stands for; a TYPE stands for its list of enumerators, which may be empty, and its options
 abbrev pub trees_of_attribute : Attribute Target → List Named
-trees_of_attribute (item.Label c) = (attr.Label, Texts c) ∷ []
-trees_of_attribute (item.Help c) = (attr.Help, Texts c) ∷ []
+trees_of_attribute (item.OneText which c) = (text_attr which, Texts c) ∷ []
 trees_of_attribute (item.Class names) = (attr.Class, Class names) ∷ []
 trees_of_attribute (item.Handling c) = (attr.Handling, Handling c) ∷ []
-trees_of_attribute (item.ConstantUnit c) = (attr.ConstantUnit, Texts c) ∷ []
 trees_of_attribute (item.Validity c) = (attr.Validity, Validity c) ∷ []
 trees_of_attribute (item.TypeOf word parts) = (attr.Enumerators, Enumerators parts) ∷ trees_of_parts parts
 trees_of_attribute (item.Number n) = (attr.Number, Number n) ∷ []

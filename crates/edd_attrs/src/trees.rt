@@ -63,11 +63,9 @@ fn tree_of<'a>(attribute: &'a Attribute<Target>, attr: Attr) -> Option<Tree<'a>>
     ensures { option_map views.tree_of result ≡ trees.first_tree attr (trees.trees_of_attribute (attribute_of (λ r. r) attribute.now)) }
 {
     let (of, tree) = match attribute {
-        Attribute::Label(c) => (Attr::Label, Tree::Texts(c)),
-        Attribute::Help(c) => (Attr::Help, Tree::Texts(c)),
+        Attribute::OneText(which, c) => (which.attr(), Tree::Texts(c)),
         Attribute::Class(names) => (Attr::Class, Tree::Class(names)),
         Attribute::Handling(c) => (Attr::Handling, Tree::Handling(c)),
-        Attribute::ConstantUnit(c) => (Attr::ConstantUnit, Tree::Texts(c)),
         Attribute::Validity(c) => (Attr::Validity, Tree::Validity(c)),
         Attribute::TypeOf { parts, .. } => {
             if attr != Attr::Enumerators {

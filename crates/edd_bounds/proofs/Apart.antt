@@ -1,47 +1,37 @@
 -- An attribute that is written stands for no attribute that an earlier one stands for.
 use Rattle.std.proofs.Common.{◌≡◌, refl, sym, ap, ◌∙◌, inl, inr, Bool, true, false, List, [], ◌∷◌, ◌++◌, map, Option, Some}
-use Rattle.std.specs.Prelude.{codes, if◌then◌else◌}
+use Rattle.std.specs.Prelude.{codes, ◌&&◌, if◌then◌else◌}
 use Rattle.std.specs.Str.{bytes_eq}
 use Rattle.std.specs.List.{list_all, list_any}
 use Rattle.std.proofs.lemmas.Bool.{false≢true, and_parts, or_cases, or_parts}
 use Rattle.std.proofs.lemmas.Slice.Eq.{bytes_eq-Decides}
 use Rattle.edd_syntax.specs.declared.numbers.Attr.{Attr}
 use Rattle.edd_syntax.specs.declared.numbers.Attr.TheVariants as attr
+use Rattle.edd_syntax.specs.declared.numbers.TextAttribute.{TextAttribute}
 use Rattle.edd_syntax.specs.declared.reference.Target.{Target}
 use Rattle.edd_syntax.specs.Text.{Name}
 use Rattle.edd_syntax.specs.Item as item
 use Rattle.edd_syntax.specs.Item.{TypePart, Attribute}
-use Rattle.edd_syntax.specs.Numbers.{same_attr}
+use Rattle.edd_syntax.specs.Numbers.{same_attr, attr_word, text_attr}
 use Rattle.edd_syntax.specs.Refusal.{is_name_in, repeated}
 use Rattle.edd_syntax.specs.NameRules.{is_transaction, attribute_word, repeated_words_inside, repeated_words}
 use Rattle.edd_syntax.specs.Rows.{part_attr, written_attrs, stands_for, is_written}
+use Rattle.edd_syntax.proofs.EveryAttribute.{every_text}
 use Rattle.edd_attrs.specs.Trees.{Tree, Named, trees_of_parts, trees_of_attribute, trees_of, first_tree}
 use Rattle.edd_assembly.proofs.KnownByNumber.{same_attrs}
 use Rattle.edd_bounds.proofs.Repeats.{no_front, no_rest}
 
 -- the word under which an attribute is written
 abbrev pub word_of : Attr → Name
-word_of attr.Label = codes "LABEL"
-word_of attr.Help = codes "HELP"
-word_of attr.Class = codes "CLASS"
-word_of attr.Handling = codes "HANDLING"
-word_of attr.ConstantUnit = codes "CONSTANT_UNIT"
-word_of attr.Validity = codes "VALIDITY"
 word_of attr.DefaultValue = codes "TYPE"
 word_of attr.MinValue = codes "TYPE"
 word_of attr.MaxValue = codes "TYPE"
 word_of attr.DisplayFormat = codes "TYPE"
 word_of attr.EditFormat = codes "TYPE"
 word_of attr.Enumerators = codes "TYPE"
-word_of attr.Number = codes "NUMBER"
-word_of attr.Operation = codes "OPERATION"
-word_of attr.Transaction = codes "TRANSACTION"
 word_of attr.Request = codes "TRANSACTION"
 word_of attr.Reply = codes "TRANSACTION"
-word_of attr.ResponseCodes = codes "RESPONSE_CODES"
-word_of attr.Items = codes "ITEMS"
-word_of attr.Members = codes "MEMBERS"
-word_of attr.Definition = codes "DEFINITION"
+word_of a = attr_word a
 
 pub same_name : (n : Name) → bytes_eq n n ≡ true
 same_name n = (bytes_eq-Decides n n).1 refl
@@ -66,12 +56,13 @@ parts_under (item.DisplayFormat c ∷ ps) = parts_under ps
 parts_under (item.EditFormat c ∷ ps) = parts_under ps
 parts_under (item.Element c ∷ ps) = parts_under ps
 
+under_its_word : (which : TextAttribute) → (bytes_eq (attr_word (text_attr which)) (word_of (text_attr which)) && true) ≡ true
+under_its_word = every_text (λ t. bytes_eq (attr_word (text_attr t)) (word_of (text_attr t)) && true) (λ t. true) refl
+
 written_under : (a : Attribute Target) → list_all (λ b. bytes_eq (attribute_word a) (word_of b)) (written_attrs a) ≡ true
-written_under (item.Label c) = refl
-written_under (item.Help c) = refl
+written_under (item.OneText which c) = under_its_word which
 written_under (item.Class words) = refl
 written_under (item.Handling c) = refl
-written_under (item.ConstantUnit c) = refl
 written_under (item.Validity c) = refl
 written_under (item.TypeOf word parts) = parts_under parts
 written_under (item.Number n) = refl
@@ -92,11 +83,9 @@ trees_of_parts_under (item.EditFormat c ∷ ps) = trees_of_parts_under ps
 trees_of_parts_under (item.Element c ∷ ps) = trees_of_parts_under ps
 
 trees_under : (a : Attribute Target) → list_all (λ x. bytes_eq (attribute_word a) (word_of x.0)) (trees_of_attribute a) ≡ true
-trees_under (item.Label c) = refl
-trees_under (item.Help c) = refl
+trees_under (item.OneText which c) = under_its_word which
 trees_under (item.Class words) = refl
 trees_under (item.Handling c) = refl
-trees_under (item.ConstantUnit c) = refl
 trees_under (item.Validity c) = refl
 trees_under (item.TypeOf word parts) = trees_of_parts_under parts
 trees_under (item.Number n) = refl

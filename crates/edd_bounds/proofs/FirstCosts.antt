@@ -25,26 +25,7 @@ only_at b n a = if same_attr b a then n else 0
 
 counted_once : (b : Attr) (n : ℕ) → total (only_at b n) attributes_in_order ≤ n
 counted_once attr.Label n = omega arith
-counted_once attr.Help n = omega arith
-counted_once attr.Class n = omega arith
-counted_once attr.Handling n = omega arith
-counted_once attr.ConstantUnit n = omega arith
-counted_once attr.Validity n = omega arith
-counted_once attr.DefaultValue n = omega arith
-counted_once attr.MinValue n = omega arith
-counted_once attr.MaxValue n = omega arith
-counted_once attr.DisplayFormat n = omega arith
-counted_once attr.EditFormat n = omega arith
-counted_once attr.Enumerators n = omega arith
-counted_once attr.Number n = omega arith
-counted_once attr.Operation n = omega arith
-counted_once attr.Transaction n = omega arith
-counted_once attr.Request n = omega arith
-counted_once attr.Reply n = omega arith
-counted_once attr.ResponseCodes n = omega arith
-counted_once attr.Items n = omega arith
-counted_once attr.Members n = omega arith
-counted_once attr.Definition n = omega arith
+counted_once b n = omega arith
 
 abbrev pub first_cost : List Named → Attr → ℕ
 first_cost xs a = cost_of (first_tree a xs)

@@ -5,14 +5,16 @@ use Rattle.std.specs.List.{list_any}
 use Rattle.std.proofs.lemmas.Bool.{false≢true, or_cases, or_left, or_right, eq-eqb}
 use Rattle.edd_syntax.specs.declared.numbers.Attr.{Attr}
 use Rattle.edd_syntax.specs.declared.numbers.Attr.TheVariants as attr
+use Rattle.edd_syntax.specs.declared.numbers.TextAttribute.{TextAttribute}
 use Rattle.edd_syntax.specs.declared.reference.Target.{Target}
 use Rattle.edd_syntax.specs.Attributes.{is_of_transaction}
 use Rattle.edd_syntax.specs.Execution.{body_in}
 use Rattle.edd_syntax.specs.Item as item
 use Rattle.edd_syntax.specs.Item.{TypePart, TransactionPart, Attribute, Item}
-use Rattle.edd_syntax.specs.Numbers.{attr_number, same_attr}
+use Rattle.edd_syntax.specs.Numbers.{attr_number, same_attr, text_attr}
 use Rattle.edd_syntax.specs.Rows.{part_attr, stands_for, is_written, transaction_positions, positions, attributes_in_order}
 use Rattle.edd_syntax.specs.Size.{type_part_nodes, transaction_part_nodes, attribute_nodes, item_nodes}
+use Rattle.edd_syntax.proofs.EveryAttribute.{every_text}
 use Rattle.edd_attrs.specs.Trees as trees
 use Rattle.edd_attrs.specs.Trees.{Tree, Named, trees_of_part, trees_of_parts, trees_of_attribute, trees_of, tree_of_transaction_part, transaction_trees, first_tree, tree_in}
 use Rattle.edd_attrs.specs.Sizes.{element_nodes, tree_nodes, length_limit}
@@ -85,12 +87,18 @@ no_body_part (item.DisplayFormat c ∷ ps) = no_body_part ps
 no_body_part (item.EditFormat c ∷ ps) = no_body_part ps
 no_body_part (item.Element c ∷ ps) = no_body_part ps
 
+no_body_text : (which : TextAttribute) → (same_attr attr.Definition (text_attr which) || false) ≡ false
+no_body_text = every_text (λ t. same_attr attr.Definition (text_attr t) || false) (λ t. false) refl
+
 body_first : (ws : List (Attribute Target)) → is_written attr.Definition ws ≡ true → 32 * attribute_nodes (item.Definition (body_in ws)) ≤ total body_weight ws
 unfolding stands_for
 body_first [] h = absurd (false≢true h)
 body_first (item.Definition body ∷ rest) h = omega arith
 body_first (item.TypeOf word parts ∷ rest) h =
     let k : 32 * attribute_nodes (item.Definition (body_in rest)) ≤ total body_weight rest = body_first rest (ap (λ b. b || is_written attr.Definition rest) (sym (no_body_part parts)) ∙ h) in
+    omega (arith, k)
+body_first (item.OneText which c ∷ rest) h =
+    let k : 32 * attribute_nodes (item.Definition (body_in rest)) ≤ total body_weight rest = body_first rest (ap (λ b. b || is_written attr.Definition rest) (sym (no_body_text which)) ∙ h) in
     omega (arith, k)
 body_first (w ∷ rest) h =
     let k : 32 * attribute_nodes (item.Definition (body_in rest)) ≤ total body_weight rest = body_first rest h in
@@ -180,11 +188,9 @@ of_transactions ws =
 all_weigh : (ws : List (Attribute Target)) → weight (trees_of ws) + (of_transactions ws + total body_weight ws) ≤ 32 * total attribute_nodes ws
 unfolding length_limit tree_nodes
 all_weigh [] = omega arith
-all_weigh (item.Label c ∷ rest) = omega (arith, all_weigh rest)
-all_weigh (item.Help c ∷ rest) = omega (arith, all_weigh rest)
+all_weigh (item.OneText which c ∷ rest) = omega (arith, all_weigh rest)
 all_weigh (item.Class names ∷ rest) = omega (arith, all_weigh rest)
 all_weigh (item.Handling c ∷ rest) = omega (arith, all_weigh rest)
-all_weigh (item.ConstantUnit c ∷ rest) = omega (arith, all_weigh rest)
 all_weigh (item.Validity c ∷ rest) = omega (arith, all_weigh rest)
 all_weigh (item.TypeOf word parts ∷ rest) = omega (arith, all_weigh rest, total-append weight_of (trees_of_parts parts) (trees_of rest), parts_weigh parts)
 all_weigh (item.Number n ∷ rest) = omega (arith, all_weigh rest)

@@ -6,14 +6,17 @@ use Rattle.std.specs.List.{flat_map}
 use Rattle.std.proofs.lemmas.Bool.{false≢true, or_parts, or_right}
 use Rattle.edd_syntax.specs.declared.numbers.Attr.{Attr}
 use Rattle.edd_syntax.specs.declared.numbers.Attr.TheVariants as attr
+use Rattle.edd_syntax.specs.declared.numbers.TextAttribute.{TextAttribute}
+use Rattle.edd_syntax.specs.declared.numbers.TextAttribute.TheVariants as text
 use Rattle.edd_syntax.specs.declared.reference.Target.{Target}
-use Rattle.edd_syntax.specs.Text.{Name}
+use Rattle.edd_syntax.specs.Text.{Name, Text}
+use Rattle.edd_syntax.specs.Conditional.{Cond}
 use Rattle.edd_syntax.specs.Words.{Words}
 use Rattle.edd_syntax.specs.Attributes.{is_of_transaction}
 use Rattle.edd_syntax.specs.Execution.{body_in}
 use Rattle.edd_syntax.specs.Item as item
 use Rattle.edd_syntax.specs.Item.{TypeWord, TypePart, Attribute}
-use Rattle.edd_syntax.specs.Numbers.{same_attr}
+use Rattle.edd_syntax.specs.Numbers.{same_attr, text_attr}
 use Rattle.edd_syntax.specs.Strings.{attribute_strings}
 use Rattle.edd_syntax.specs.Refusal.{is_name_in, repeated}
 use Rattle.edd_syntax.specs.NameRules.{is_transaction, attribute_word, repeated_words_inside, repeated_words}
@@ -72,13 +75,16 @@ module _ (w : Words) where
     held = first_stays w attr.EditFormat (trees_of_parts parts) (trees_of rest) found.1;
   }
 
+  of_text : (which : TextAttribute) (c : Cond Target Text) (rest : List (Attribute Target)) → has w (attribute_strings (item.OneText which c)) ≡ true → Found (item.OneText which c ∷ rest)
+  unfolding tree_strings stands_for
+  of_text text.Label c rest h = record { attribute = attr.Label; plain = refl; written = refl; held = h }
+  of_text which c rest h = record { attribute = text_attr which; plain = refl; written = refl; held = h }
+
   of_first : (a : Attribute Target) (rest : List (Attribute Target)) → repeated_words_inside a ≡ [] → has w (attribute_strings a) ≡ true → Found (a ∷ rest)
   unfolding tree_strings stands_for
-  of_first (item.Label c) rest once h = record { attribute = attr.Label; plain = refl; written = refl; held = h }
-  of_first (item.Help c) rest once h = record { attribute = attr.Help; plain = refl; written = refl; held = h }
+  of_first (item.OneText which c) rest once h = of_text which c rest h
   of_first (item.Class words) rest once h = record { attribute = attr.Class; plain = refl; written = refl; held = h }
   of_first (item.Handling c) rest once h = absurd (false≢true h)
-  of_first (item.ConstantUnit c) rest once h = record { attribute = attr.ConstantUnit; plain = refl; written = refl; held = h }
   of_first (item.Validity c) rest once h = absurd (false≢true h)
   of_first (item.TypeOf word parts) rest once h = of_type word parts rest (in_parts w [] parts once h)
   of_first (item.Number n) rest once h = absurd (false≢true h)

@@ -71,11 +71,9 @@ module _ (unit : Description Path) where
   keeps_transaction_part (item.Reply all) q h = made transaction_part_word (resolved_conds (at_attribute unit) (resolved_data unit) all) item.Reply q _ (λ x is. refl) h
 
   keeps_shape : (sort : ItemKind) (a : Attribute Path) (b : Attribute Target) → resolved_attribute unit sort a ≡ Some b → shape b ≡ shape a
-  keeps_shape sort (item.Label c) b h = made shape (resolved_cond (at_attribute unit) unchanged c) item.Label b _ (λ x is. refl) h
-  keeps_shape sort (item.Help c) b h = made shape (resolved_cond (at_attribute unit) unchanged c) item.Help b _ (λ x is. refl) h
+  keeps_shape sort (item.OneText which c) b h = made shape (resolved_cond (at_attribute unit) unchanged c) (item.OneText which) b _ (λ x is. refl) h
   keeps_shape sort (item.Class words) b h = stays shape (item.Class words) b h
   keeps_shape sort (item.Handling c) b h = made shape (resolved_cond (at_attribute unit) unchanged c) item.Handling b _ (λ x is. refl) h
-  keeps_shape sort (item.ConstantUnit c) b h = made shape (resolved_cond (at_attribute unit) unchanged c) item.ConstantUnit b _ (λ x is. refl) h
   keeps_shape sort (item.Validity c) b h = made shape (resolved_cond (at_attribute unit) unchanged c) item.Validity b _ (λ x is. refl) h
   keeps_shape sort (item.TypeOf word parts) b h =
       made shape (each (resolved_type_part unit) parts) (item.TypeOf word) b _

@@ -82,11 +82,9 @@ module _ (w : Words) where
 
   in_attribute : (a : Attribute Target) → list_any tree_has (trees_of_attribute a) ≡ true → has w (attribute_strings a) ≡ true
   unfolding tree_strings
-  in_attribute (item.Label c) h = alone (attribute_strings (item.Label c)) h
-  in_attribute (item.Help c) h = alone (attribute_strings (item.Help c)) h
+  in_attribute (item.OneText which c) h = alone (attribute_strings (item.OneText which c)) h
   in_attribute (item.Class words) h = alone (attribute_strings {R = Target} (item.Class words)) h
   in_attribute (item.Handling c) h = h
-  in_attribute (item.ConstantUnit c) h = alone (attribute_strings (item.ConstantUnit c)) h
   in_attribute (item.Validity c) h = h
   in_attribute (item.TypeOf word parts) h = elim (or_cases (has w (tree_strings (trees.Enumerators parts))) (list_any tree_has (trees_of_parts parts)) h) [
     | inl e ↦ elements_in parts e

@@ -1,6 +1,7 @@
 -- What stands at the rows of a small description, worked out by hand.
 use Rattle.std.proofs.Common.{◌≡◌, refl, pos, List, [], ◌∷◌, map}
 use Rattle.std.specs.Prelude.{Some, None, codes}
+use Rattle.edd_syntax.specs.declared.numbers.TextAttribute.TheVariants as text_attribute
 use Rattle.edd_syntax.specs.declared.operators.Builtin.TheVariants as builtin
 use Rattle.edd_syntax.specs.declared.reference.Target.{Target}
 use Rattle.edd_syntax.specs.declared.reference.Target.TheVariants.{Function}
@@ -29,7 +30,7 @@ small = record {
   identification = record { manufacturer = 1; device_type = 2; device_revision = 3; dd_revision = 4 };
   items =
       item_with item.VariableItem (
-      item.Label (Value (texts.Key (codes "a")))
+      item.OneText text_attribute.Label (Value (texts.Key (codes "a")))
       ∷ item.TypeOf (item.Known var_type.Enumerated None) (
       item.Element (Value (record { value = pos 1; text = texts.Key (codes "b"); help = Some (texts.Key (codes "k")) }))
       ∷ item.DefaultValue (Value (Literal 5)) ∷ [])

@@ -1,9 +1,11 @@
--- The number of operands at each place of a block.
+-- The number of operands at each place of a block, in a unit of any version and sort.
 use Rattle.std.proofs.Common.{◌≡◌, sym, ap, ◌∙◌, ℕ, ◌+◌, ◌-◌, ◌<◌, ◌≤◌, Bool, true, false, arith}
 use Rattle.std.specs.Prelude.{nat_lt}
 use Rattle.std.proofs.lemmas.Bool.{lt-ltb, le-ltb}
+use Rattle.edd_image.specs.declared.unit.Sort.{Sort}
+use Rattle.edd_image.specs.declared.unit.Version.{Version}
 use Rattle.edd_code.specs.Blocks.{Block, Nothing, Straight, Then, WhenNotZero, WhenZero, Either, Match, size}
-use Rattle.edd_code.specs.Flow.{Flows, depth_after}
+use Rattle.edd_code.specs.Flow.{FlowsIn, depth_after}
 use Rattle.edd_code.proofs.Lines.{spelling_not_empty}
 
 -- this in front of a place, and that from there on
@@ -54,11 +56,12 @@ module _ (depth : ℕ → ℕ) where
   at_front p d (Either first otherwise) h = h.0
   at_front p d (Match label body rest) h = h.0
 
+module _ (version : Version) (sort : Sort) (depth : ℕ → ℕ) where
   abbrev Agrees : (p d : ℕ) → Block → Type 0
   Agrees p d b = (x : ℕ) → p ≤ x → x < p + size b → depth x ≡ depth_in b p d x
 
   -- a function that agrees inside and behind the block has its numbers
-  pub has_depths : (p d : ℕ) (b : Block) → Flows b d → Agrees p d b → depth (p + size b) ≡ depth_after b d → HasDepthsOf p d b
+  pub has_depths : (p d : ℕ) (b : Block) → FlowsIn version sort b d → Agrees p d b → depth (p + size b) ≡ depth_after b d → HasDepthsOf depth p d b
   has_depths p d Nothing flows agrees exit = ap depth (omega arith) ∙ exit
   has_depths p d (Straight i) flows agrees exit = agrees p (omega arith) (omega (arith, spelling_not_empty i))
   has_depths p d (Then first second) flows agrees exit =
@@ -68,7 +71,7 @@ module _ (depth : ℕ → ℕ) where
       (ap depth (omega arith) ∙ exit) in (
         has_depths p d first flows.0
             (λ x low high. agrees x low (omega (arith, high)) ∙ until_front m x (depth_in first p d x) (depth_in second m (depth_after first d) x) high)
-            (at_front m (depth_after first d) second behind),
+            (at_front depth m (depth_after first d) second behind),
         behind,
       )
   has_depths p d (WhenNotZero body) flows agrees exit = (

@@ -2,6 +2,7 @@
 use Rattle.std.proofs.Common.{◌≡◌, refl, sym, ap, ◌∙◌, ℕ, ◌+◌, ◌≤◌, ℤ, List, [], ◌∷◌, ◌++◌, length, take, drop, arith, append_assoc, length-append, length-drop}
 use Rattle.std.proofs.lemmas.List.{take_at, drop_at, length-take-le}
 use Rattle.edd_image.specs.declared.instruction.Instruction.{Instruction}
+use Rattle.edd_image.specs.declared.instruction.Instruction.TheVariants as instruction
 use Rattle.edd_image.specs.Layout.{u32}
 use Rattle.edd_image.specs.Spelling.{i64, spelling}
 use Rattle.edd_code.specs.Blocks.{Block, Nothing, Straight, Then, WhenNotZero, WhenZero, Either, Match, size, target, bytes_at}
@@ -42,74 +43,80 @@ closed_length code hole inside =
 
 -- ---- one part that a jump leads over
 
--- behind an opening whose target is still open, a part; then the target is closed
-part_closed : (front : List ℕ) (c1 c2 part : List ℕ) (hole : ℕ) → c1 ≡ front ++ u32 0 → c2 ≡ c1 ++ part → hole ≡ length front → closed c2 hole ≡ front ++ (u32 (target (length c2)) ++ part)
-part_closed front c1 c2 part hole one two at = closes c2 front (u32 0) part hole (two ∙ ap (λ code. code ++ part) one ∙ append_assoc front (u32 0) part) at refl
+-- behind code, a jump whose target is open, and a part; then the target is closed
+pub part_closed : (front c1 c2 part : List ℕ) (op : ℕ) → c1 ≡ front ++ (op ∷ u32 0) → c2 ≡ c1 ++ part → closed c2 (length front + 1) ≡ front ++ (op ∷ (u32 (target (length c2)) ++ part))
+part_closed front c1 c2 part op one two =
+    closes c2 (front ++ op ∷ []) (u32 0) part (length front + 1)
+    (two ∙ ap (λ code. code ++ part) one ∙ append_assoc front (op ∷ u32 0) part ∙ sym (append_assoc front (op ∷ []) (u32 0 ++ part)))
+    (omega (arith, length-append front (op ∷ []))) refl
+    ∙ append_assoc front (op ∷ []) (u32 (target (length c2)) ++ part)
 
--- an opening of one byte
-opened : (before : List ℕ) (byte : ℕ) (hollow : List ℕ) → before ++ (byte ∷ hollow) ≡ (before ++ byte ∷ []) ++ hollow
-opened before byte hollow = sym (append_assoc before (byte ∷ []) hollow)
-
-pub when_not_zero_closed : (before c1 c2 : List ℕ) (body : Block) → c1 ≡ before ++ (0x31 ∷ u32 0) → c2 ≡ c1 ++ bytes_at (length c1) body → closed c2 (length before + 1) ≡ before ++ bytes_at (length before) (WhenNotZero body)
+pub when_not_zero_closed : (before c1 c2 : List ℕ) (body : Block) → c1 ≡ before ++ spelling (instruction.JumpIfZero 0) → c2 ≡ c1 ++ bytes_at (length c1) body
+    → closed c2 (length before + 1) ≡ before ++ bytes_at (length before) (WhenNotZero body)
 when_not_zero_closed before c1 c2 body one two =
-    let l1 : length c1 ≡ length before + 5 = ap length one ∙ length-append before (0x31 ∷ u32 0) in
+    let l1 : length c1 ≡ length before + 5 = ap length one ∙ length-append before (spelling (instruction.JumpIfZero 0)) in
     let l2 : length c2 ≡ length before + (5 + size body) = ap length two ∙ omega (arith, length-append c1 (bytes_at (length c1) body), lengths (length c1) body) in
-    part_closed (before ++ 0x31 ∷ []) c1 c2 (bytes_at (length c1) body) (length before + 1) (one ∙ opened before 0x31 (u32 0)) two (omega (arith, length-append before (0x31 ∷ [])))
-    ∙ append_assoc before (0x31 ∷ []) (u32 (target (length c2)) ++ bytes_at (length c1) body)
-    ∙ ap (λ n. before ++ (0x31 ∷ (u32 (target n) ++ bytes_at (length c1) body))) l2
-    ∙ ap (λ place. before ++ (0x31 ∷ (u32 (target (length before + (5 + size body))) ++ bytes_at place body))) l1
+    part_closed before c1 c2 (bytes_at (length c1) body) _ one two
+    ∙ ap (λ n. before ++ (spelling (instruction.JumpIfZero (target n)) ++ bytes_at (length c1) body)) l2
+    ∙ ap (λ place. before ++ (spelling (instruction.JumpIfZero (target (length before + (5 + size body)))) ++ bytes_at place body)) l1
     ∙ ap (λ bytes. before ++ bytes) (sym (bytes_of_when_not_zero (length before) body))
 
-pub when_zero_closed : (before c1 c2 : List ℕ) (body : Block) → c1 ≡ before ++ (0x32 ∷ u32 0) → c2 ≡ c1 ++ bytes_at (length c1) body → closed c2 (length before + 1) ≡ before ++ bytes_at (length before) (WhenZero body)
+pub when_zero_closed : (before c1 c2 : List ℕ) (body : Block) → c1 ≡ before ++ spelling (instruction.JumpIfNotZero 0) → c2 ≡ c1 ++ bytes_at (length c1) body
+    → closed c2 (length before + 1) ≡ before ++ bytes_at (length before) (WhenZero body)
 when_zero_closed before c1 c2 body one two =
-    let l1 : length c1 ≡ length before + 5 = ap length one ∙ length-append before (0x32 ∷ u32 0) in
+    let l1 : length c1 ≡ length before + 5 = ap length one ∙ length-append before (spelling (instruction.JumpIfNotZero 0)) in
     let l2 : length c2 ≡ length before + (5 + size body) = ap length two ∙ omega (arith, length-append c1 (bytes_at (length c1) body), lengths (length c1) body) in
-    part_closed (before ++ 0x32 ∷ []) c1 c2 (bytes_at (length c1) body) (length before + 1) (one ∙ opened before 0x32 (u32 0)) two (omega (arith, length-append before (0x32 ∷ [])))
-    ∙ append_assoc before (0x32 ∷ []) (u32 (target (length c2)) ++ bytes_at (length c1) body)
-    ∙ ap (λ n. before ++ (0x32 ∷ (u32 (target n) ++ bytes_at (length c1) body))) l2
-    ∙ ap (λ place. before ++ (0x32 ∷ (u32 (target (length before + (5 + size body))) ++ bytes_at place body))) l1
+    part_closed before c1 c2 (bytes_at (length c1) body) _ one two
+    ∙ ap (λ n. before ++ (spelling (instruction.JumpIfNotZero (target n)) ++ bytes_at (length c1) body)) l2
+    ∙ ap (λ place. before ++ (spelling (instruction.JumpIfNotZero (target (length before + (5 + size body)))) ++ bytes_at place body)) l1
     ∙ ap (λ bytes. before ++ bytes) (sym (bytes_of_when_zero (length before) body))
 
 -- ---- two parts, with a jump over the second between them
 
 -- the first target is closed behind the jump, the second behind the second part
-parts_closed : (front c1 c2 c3 c4 c5 x y : List ℕ) (hole : ℕ) → c1 ≡ front ++ u32 0 → c2 ≡ c1 ++ x → c3 ≡ c2 ++ (0x30 ∷ u32 0) → hole ≡ length front → c4 ≡ closed c3 hole → c5 ≡ c4 ++ y →
-    closed c5 (length c2 + 1) ≡ front ++ (u32 (target (length c3)) ++ (x ++ (0x30 ∷ (u32 (target (length c5)) ++ y))))
-parts_closed front c1 c2 c3 c4 c5 x y hole one two three at four five =
-    let third : c3 ≡ front ++ (u32 0 ++ (x ++ (0x30 ∷ u32 0))) =
-    three ∙ ap (λ code. code ++ (0x30 ∷ u32 0)) (two ∙ ap (λ code. code ++ x) one) ∙ simp append_assoc in
-    let fourth : c4 ≡ front ++ (u32 (target (length c3)) ++ (x ++ (0x30 ∷ u32 0))) =
-    four ∙ closes c3 front (u32 0) (x ++ (0x30 ∷ u32 0)) hole third at refl in
-    let start : List ℕ = (front ++ (u32 (target (length c3)) ++ x)) ++ 0x30 ∷ [] in
+parts_closed : (front c1 c2 c3 c4 c5 x y : List ℕ) (skip hole : ℕ) → c1 ≡ front ++ u32 0 → c2 ≡ c1 ++ x → c3 ≡ c2 ++ (skip ∷ u32 0) → hole ≡ length front → c4 ≡ closed c3 hole → c5 ≡ c4 ++ y
+    → closed c5 (length c2 + 1) ≡ front ++ (u32 (target (length c3)) ++ (x ++ (skip ∷ (u32 (target (length c5)) ++ y))))
+parts_closed front c1 c2 c3 c4 c5 x y skip hole one two three at four five =
+    let third : c3 ≡ front ++ (u32 0 ++ (x ++ (skip ∷ u32 0))) =
+    three ∙ ap (λ code. code ++ (skip ∷ u32 0)) (two ∙ ap (λ code. code ++ x) one) ∙ simp append_assoc in
+    let fourth : c4 ≡ front ++ (u32 (target (length c3)) ++ (x ++ (skip ∷ u32 0))) =
+    four ∙ closes c3 front (u32 0) (x ++ (skip ∷ u32 0)) hole third at refl in
+    let start : List ℕ = (front ++ (u32 (target (length c3)) ++ x)) ++ skip ∷ [] in
     let fifth : c5 ≡ start ++ (u32 0 ++ y) = five ∙ ap (λ code. code ++ y) fourth ∙ simp append_assoc in
     let second : length c2 ≡ length front + (4 + length x) =
     ap length (two ∙ ap (λ code. code ++ x) one) ∙ omega (arith, length-append (front ++ u32 0) x, length-append front (u32 0)) in
     let place : length c2 + 1 ≡ length start =
-    omega (arith, length-append (front ++ (u32 (target (length c3)) ++ x)) (0x30 ∷ []), length-append front (u32 (target (length c3)) ++ x), second) in
+    omega (arith, length-append (front ++ (u32 (target (length c3)) ++ x)) (skip ∷ []), length-append front (u32 (target (length c3)) ++ x), second) in
     closes c5 start (u32 0) y (length c2 + 1) fifth place refl ∙ simp append_assoc
 
-pub either_closed : (before c1 c2 c3 c4 c5 : List ℕ) (first otherwise : Block) → c1 ≡ before ++ (0x31 ∷ u32 0) → c2 ≡ c1 ++ bytes_at (length c1) first → c3 ≡ c2 ++ (0x30 ∷ u32 0)
+-- the same behind an opening of one byte and a label, which may be empty
+behind_label : (before c1 c2 c3 c4 c5 label x y : List ℕ) (op skip hole : ℕ) → c1 ≡ before ++ (op ∷ (label ++ u32 0)) → c2 ≡ c1 ++ x → c3 ≡ c2 ++ (skip ∷ u32 0)
+    → hole ≡ length before + (1 + length label) → c4 ≡ closed c3 hole → c5 ≡ c4 ++ y
+    → closed c5 (length c2 + 1) ≡ before ++ (op ∷ (label ++ (u32 (target (length c3)) ++ (x ++ (skip ∷ (u32 (target (length c5)) ++ y))))))
+behind_label before c1 c2 c3 c4 c5 label x y op skip hole one two three at four five =
+    parts_closed (before ++ (op ∷ label)) c1 c2 c3 c4 c5 x y skip hole (one ∙ sym (append_assoc before (op ∷ label) (u32 0))) two three (omega (arith, at, length-append before (op ∷ label))) four five
+    ∙ append_assoc before (op ∷ label) _
+
+pub either_closed : (before c1 c2 c3 c4 c5 : List ℕ) (first otherwise : Block) → c1 ≡ before ++ spelling (instruction.JumpIfZero 0) → c2 ≡ c1 ++ bytes_at (length c1) first → c3 ≡ c2 ++ spelling (instruction.Jump 0)
     → c4 ≡ closed c3 (length before + 1) → c5 ≡ c4 ++ bytes_at (length c4) otherwise → closed c5 (length c2 + 1) ≡ before ++ bytes_at (length before) (Either first otherwise)
 either_closed before c1 c2 c3 c4 c5 first otherwise one two three four five =
     let p = length before in
-    let l1 : length c1 ≡ p + 5 = ap length one ∙ length-append before (0x31 ∷ u32 0) in
+    let l1 : length c1 ≡ p + 5 = ap length one ∙ length-append before (spelling (instruction.JumpIfZero 0)) in
     let l2 : length c2 ≡ p + (5 + size first) = ap length two ∙ omega (arith, length-append c1 (bytes_at (length c1) first), lengths (length c1) first) in
-    let l3 : length c3 ≡ p + (5 + (size first + 5)) = ap length three ∙ omega (arith, length-append c2 (0x30 ∷ u32 0)) in
+    let l3 : length c3 ≡ p + (5 + (size first + 5)) = ap length three ∙ omega (arith, length-append c2 (spelling (instruction.Jump 0))) in
     let l4 : length c4 ≡ p + (5 + (size first + 5)) = ap length four ∙ omega (arith, closed_length c3 (length before + 1) (omega arith)) in
     let l5 : length c5 ≡ p + (5 + (size first + (5 + size otherwise))) = ap length five ∙ omega (arith, length-append c4 (bytes_at (length c4) otherwise), lengths (length c4) otherwise) in
-    parts_closed (before ++ 0x31 ∷ []) c1 c2 c3 c4 c5 (bytes_at (length c1) first) (bytes_at (length c4) otherwise) (length before + 1) (one ∙ opened before 0x31 (u32 0)) two three (omega (arith, length-append before (0x31 ∷ []))) four five
-    ∙ append_assoc before (0x31 ∷ []) _
+    behind_label before c1 c2 c3 c4 c5 [] (bytes_at (length c1) first) (bytes_at (length c4) otherwise) _ _ (length before + 1) one two three refl four five
     ∙ rw (l1, l3, l4, l5) (ap (λ bytes. before ++ bytes) (sym (bytes_of_either p first otherwise)))
 
-pub match_closed : (before c1 c2 c3 c4 c5 : List ℕ) (label : ℤ) (body rest : Block) → c1 ≡ before ++ (0x33 ∷ (i64 label ++ u32 0)) → c2 ≡ c1 ++ bytes_at (length c1) rest → c3 ≡ c2 ++ (0x30 ∷ u32 0)
+pub match_closed : (before c1 c2 c3 c4 c5 : List ℕ) (label : ℤ) (body rest : Block) → c1 ≡ before ++ spelling (instruction.Case label 0) → c2 ≡ c1 ++ bytes_at (length c1) rest → c3 ≡ c2 ++ spelling (instruction.Jump 0)
     → c4 ≡ closed c3 (length before + 9) → c5 ≡ c4 ++ bytes_at (length c4) body → closed c5 (length c2 + 1) ≡ before ++ bytes_at (length before) (Match label body rest)
 match_closed before c1 c2 c3 c4 c5 label body rest one two three four five =
     let p = length before in
-    let l1 : length c1 ≡ p + 13 = ap length one ∙ length-append before (0x33 ∷ (i64 label ++ u32 0)) in
+    let l1 : length c1 ≡ p + 13 = ap length one ∙ length-append before (spelling (instruction.Case label 0)) in
     let l2 : length c2 ≡ p + (13 + size rest) = ap length two ∙ omega (arith, length-append c1 (bytes_at (length c1) rest), lengths (length c1) rest) in
-    let l3 : length c3 ≡ p + (13 + (size rest + 5)) = ap length three ∙ omega (arith, length-append c2 (0x30 ∷ u32 0)) in
+    let l3 : length c3 ≡ p + (13 + (size rest + 5)) = ap length three ∙ omega (arith, length-append c2 (spelling (instruction.Jump 0))) in
     let l4 : length c4 ≡ p + (13 + (size rest + 5)) = ap length four ∙ omega (arith, closed_length c3 (length before + 9) (omega arith)) in
     let l5 : length c5 ≡ p + (13 + (size rest + (5 + size body))) = ap length five ∙ omega (arith, length-append c4 (bytes_at (length c4) body), lengths (length c4) body) in
-    parts_closed (before ++ (0x33 ∷ i64 label)) c1 c2 c3 c4 c5 (bytes_at (length c1) rest) (bytes_at (length c4) body) (length before + 9) (one ∙ sym (append_assoc before (0x33 ∷ i64 label) (u32 0))) two three (omega (arith, length-append before (0x33 ∷ i64 label))) four five
-    ∙ append_assoc before (0x33 ∷ i64 label) _
+    behind_label before c1 c2 c3 c4 c5 (i64 label) (bytes_at (length c1) rest) (bytes_at (length c4) body) _ _ (length before + 9) one two three refl four five
     ∙ rw (l1, l3, l4, l5) (ap (λ bytes. before ++ bytes) (sym (bytes_of_match p label body rest)))

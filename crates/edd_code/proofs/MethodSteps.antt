@@ -15,7 +15,7 @@ use Rattle.edd_image.specs.declared.instruction.Instruction.{Instruction}
 use Rattle.edd_image.specs.Decoding.{instruction_at}
 use Rattle.edd_image.specs.Steps.{State, Environment, Effect, act, step}
 use Rattle.edd_image.specs.Execution as image
-use Rattle.edd_image.specs.Execution.{Outcome, OutOfSteps, Meeting, nothing_met, meet, closed, go_on, request_in, preceded, stepped, execute}
+use Rattle.edd_image.specs.Execution.{Outcome, OutOfSteps, Meeting, nothing_met, meet, closed, go_on, request_in, preceded, stepped, unchanged, execute_following, execute}
 use Rattle.edd_code.specs.BlockEffects.{Goes}
 use Rattle.edd_code.specs.Reports.{at, worded, behind, report}
 use Rattle.edd_code.specs.MethodEffects.{pushed, CanBeTaken, stopped, Comes}
@@ -58,9 +58,9 @@ over_now text s t answers ending =
     ∙ ap (λ (cs : List Change). record { requests = map Some s.requests; changes = cs; values = t.values; answers = answers; ending = ending }) (append-nil s.changes)
 
 -- a state that is over has nothing more
-is_over : (env : Environment) (k : ℕ) (t : State) (answers : List Answer) (ending : image.Ending) → meet env t answers ≡ nothing_met t answers (Some ending)
+is_over : (env : Environment) (k : ℕ) (t : State) (answers : List Answer) (ending : image.Ending) → meet unchanged env t answers ≡ nothing_met t answers (Some ending)
     → execute env k t answers ≡ record { requests = []; changes = []; state = t; answers = answers; ending = ending; steps = 0 }
-unfolding execute
+unfolding execute execute_following
 is_over env zero t answers ending is = ap (λ (m : Meeting). closed m (unwrap_or m.ending OutOfSteps)) is
 is_over env (suc k) t answers ending is = ap (λ (m : Meeting). go_on m m.ending (step env m.state) (λ e. execute env k e.state m.answers)) is
 
@@ -75,7 +75,7 @@ module _ (text : StrNo → Option Words) (env : Environment) (code : List ℕ) w
   -- it is done, and the run goes on
   one_step : (p : ℕ) (operands : List ℤ) (s : source.State) (e : Effect) → Acts p operands s e → (k : ℕ)
       → execute env (suc k) (at code p operands s) s.answers ≡ stepped (preceded (request_in e.emitted) e.changes (execute env k e.state s.answers))
-  unfolding execute step
+  unfolding execute execute_following step
   one_step p operands s e h k = rw (h.stands, h.acts) refl
 
   -- ---- a step that goes on

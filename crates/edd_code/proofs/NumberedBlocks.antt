@@ -13,7 +13,6 @@ use Rattle.edd_image.specs.declared.instruction.Ask.{Ask}
 use Rattle.edd_image.specs.declared.instruction.Ask.TheVariants as ask
 use Rattle.edd_image.specs.declared.instruction.Instruction.{Instruction}
 use Rattle.edd_image.specs.declared.instruction.Instruction.TheVariants as instruction
-use Rattle.edd_image.specs.Layout.{u32}
 use Rattle.edd_image.specs.Spelling.{spelling}
 use Rattle.edd_code.specs.Arguments.{alone_block}
 use Rattle.edd_code.specs.Expressions.{no_value}
@@ -50,11 +49,11 @@ module _ {old new : List Words} where
       → WritesPart old before ts (λ number. Then a (b number)) new after
   plain_then before between after ts a b is w = part_written w (λ number one. goes_on before between after a (b number) is one)
 
-  pub when_not_zero_part : (before c1 c2 after : List ℕ) (hole : ℕ) (ts : List texts.Text) (body : Numbered) → c1 ≡ before ++ (0x31 ∷ u32 0) → hole ≡ length before + 1 → WritesPart old c1 ts body new c2 → after ≡ closed c2 hole
+  pub when_not_zero_part : (before c1 c2 after : List ℕ) (hole : ℕ) (ts : List texts.Text) (body : Numbered) → c1 ≡ before ++ spelling (instruction.JumpIfZero 0) → hole ≡ length before + 1 → WritesPart old c1 ts body new c2 → after ≡ closed c2 hole
       → WritesPart old before ts (λ number. WhenNotZero (body number)) new after
   when_not_zero_part before c1 c2 after hole ts body opened at w is = part_written w (λ number one. is ∙ ap (closed c2) at ∙ when_not_zero_closed before c1 c2 (body number) opened one)
 
-  pub when_zero_part : (before c1 c2 after : List ℕ) (hole : ℕ) (ts : List texts.Text) (body : Numbered) → c1 ≡ before ++ (0x32 ∷ u32 0) → hole ≡ length before + 1 → WritesPart old c1 ts body new c2 → after ≡ closed c2 hole
+  pub when_zero_part : (before c1 c2 after : List ℕ) (hole : ℕ) (ts : List texts.Text) (body : Numbered) → c1 ≡ before ++ spelling (instruction.JumpIfNotZero 0) → hole ≡ length before + 1 → WritesPart old c1 ts body new c2 → after ≡ closed c2 hole
       → WritesPart old before ts (λ number. WhenZero (body number)) new after
   when_zero_part before c1 c2 after hole ts body opened at w is = part_written w (λ number one. is ∙ ap (closed c2) at ∙ when_zero_closed before c1 c2 (body number) opened one)
 
@@ -80,7 +79,7 @@ module _ {old mid new : List Words} where
   then_part before between after ts us a b v w = strings_listed (texts_listed ts us) (parts_written v w (λ number one two. goes_on before between after (a number) (b number) one two))
 
   pub either_part : (before c1 c2 c3 c4 c5 after : List ℕ) (hole end : ℕ) (ts us : List texts.Text) (first otherwise : Numbered)
-      → c1 ≡ before ++ (0x31 ∷ u32 0) → hole ≡ length before + 1 → WritesPart old c1 ts first mid c2 → c3 ≡ c2 ++ (0x30 ∷ u32 0) → end ≡ length c2 + 1 → c4 ≡ closed c3 hole
+      → c1 ≡ before ++ spelling (instruction.JumpIfZero 0) → hole ≡ length before + 1 → WritesPart old c1 ts first mid c2 → c3 ≡ c2 ++ spelling (instruction.Jump 0) → end ≡ length c2 + 1 → c4 ≡ closed c3 hole
       → WritesPart mid c4 us otherwise new c5 → after ≡ closed c5 end → WritesPart old before (ts ++ us) (λ number. Either (first number) (otherwise number)) new after
   either_part before c1 c2 c3 c4 c5 after hole end ts us first otherwise one at v three behind four w is =
       strings_listed (texts_listed ts us) (parts_written v w (λ number two five.
@@ -147,6 +146,6 @@ builtin_part {old} {new} {before} {after} f g a is w = subst (λ (h : Builtin). 
 pub longer_by : (before after bytes : List ℕ) → after ≡ before ++ bytes → length before ≤ length after
 longer_by before after bytes is = omega (arith, ap length is, length-append before bytes)
 
--- the four bytes behind an opening lie inside what is longer
-pub opened_inside : (before c1 c2 : List ℕ) (byte hole : ℕ) → c1 ≡ before ++ (byte ∷ u32 0) → hole ≡ length before + 1 → length c1 ≤ length c2 → hole + 4 ≤ length c2
-opened_inside before c1 c2 byte hole one at longer = omega (arith, at, longer, ap length one ∙ length-append before (byte ∷ u32 0))
+-- the four bytes behind the first of an opening lie inside what is longer
+pub opened_inside : (before c1 c2 opening : List ℕ) (hole : ℕ) → c1 ≡ before ++ opening → length opening ≡ 5 → hole ≡ length before + 1 → length c1 ≤ length c2 → hole + 4 ≤ length c2
+opened_inside before c1 c2 opening hole one five at longer = omega (arith, at, longer, five, ap length one ∙ length-append before opening)

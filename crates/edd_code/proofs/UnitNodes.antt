@@ -53,11 +53,9 @@ module _ (unit : Description Path) where
   single_keeps c x is = ap (λ n. 1 + n) (cond_keeps at unchanged leaf leaf (leaf_keeps unchanged) c x is)
 
   attribute_keeps : (sort : ItemKind) (a : Attribute Path) (b : Attribute Target) → resolved_attribute unit sort a ≡ Some b → attribute_nodes b ≡ attribute_nodes a
-  attribute_keeps sort (item.Label c) b h = made attribute_nodes (resolved_cond at unchanged c) item.Label b _ (λ x is. single_keeps c x is) h
-  attribute_keeps sort (item.Help c) b h = made attribute_nodes (resolved_cond at unchanged c) item.Help b _ (λ x is. single_keeps c x is) h
+  attribute_keeps sort (item.OneText which c) b h = made attribute_nodes (resolved_cond at unchanged c) (item.OneText which) b _ (λ x is. single_keeps c x is) h
   attribute_keeps sort (item.Class words) b h = stays attribute_nodes (item.Class words) b h
   attribute_keeps sort (item.Handling c) b h = made attribute_nodes (resolved_cond at unchanged c) item.Handling b _ (λ x is. single_keeps c x is) h
-  attribute_keeps sort (item.ConstantUnit c) b h = made attribute_nodes (resolved_cond at unchanged c) item.ConstantUnit b _ (λ x is. single_keeps c x is) h
   attribute_keeps sort (item.Validity c) b h = made attribute_nodes (resolved_cond at unchanged c) item.Validity b _ (λ x is. single_keeps c x is) h
   attribute_keeps sort (item.TypeOf word parts) b h =
       made attribute_nodes (each (resolved_type_part unit) parts) (item.TypeOf word) b _

@@ -7,14 +7,13 @@ ghost use Rattle.edd_syntax.specs.MethodState as source;
 ghost use Rattle.edd_syntax.specs.Words.{Words};
 ghost use Rattle.edd_image.specs.declared.records.Record.{Record};
 ghost use Rattle.edd_image.specs.declared.unit.Sort.TheVariants.{Attribute};
-ghost use Rattle.edd_image.specs.declared.unit.Version.TheVariants as version;
 ghost use Rattle.edd_image.specs.declared.unit.Context.{Context};
 ghost use Rattle.edd_image.specs.References.{names_exist};
 ghost use Rattle.edd_image.specs.Reading.{given_within};
 ghost use Rattle.edd_image.specs.Steps.{Environment, opening};
 ghost use Rattle.edd_image.specs.Units.{IsValidUnit};
 ghost use Rattle.edd_code.specs.Blocks.{Block, bytes_at, size, unit_code};
-ghost use Rattle.edd_code.specs.Flow.{AreSpelled, Flows, all_straight, depth_after};
+ghost use Rattle.edd_code.specs.Flow.{AreSpelled, Flows, FlowsIn, all_straight, depth_after};
 ghost use Rattle.edd_code.specs.Outcomes.{Goes, Traps, does};
 ghost use Rattle.edd_code.specs.AttributeEffects as attributes;
 ghost use Rattle.edd_code.specs.MethodEffects as methods;
@@ -25,10 +24,10 @@ pub fn sizes_are_lengths()
     ensures { (place : ℕ) (b : Block) → length (bytes_at place b) ≡ size b }
 {}
 
-/// The unit of a block that finds its operands and leaves none, and whose names exist, is a valid attribute unit.
+/// The unit of a block that finds its operands and leaves none, and whose names exist, is a valid unit of its version and sort.
 pub fn blocks_are_valid()
-    ensures { (context : Context) (b : Block) → context.version ≡ version.One → context.sort ≡ Attribute
-        → AreSpelled b → Flows b 0 → depth_after b 0 ≡ 0 → size b < 2 ^ 31 → all_straight (names_exist context) b ≡ true
+    ensures { (context : Context) (b : Block)
+        → AreSpelled b → FlowsIn context.version context.sort b 0 → depth_after b 0 ≡ 0 → size b < 2 ^ 31 → all_straight (names_exist context) b ≡ true
         → IsValidUnit context (unit_code b) }
 {}
 

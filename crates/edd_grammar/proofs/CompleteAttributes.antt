@@ -16,7 +16,7 @@ use Rattle.edd_grammar.specs.Reading.{at}
 use Rattle.edd_grammar.specs.ConditionalReading.{list_at, text_value}
 use Rattle.edd_grammar.specs.WordReading.{integer_at, at_close, more_names_at, names_at, closed, row_inside}
 use Rattle.edd_grammar.specs.ValueReading.{handling_value, truth_value, menu_entry_value}
-use Rattle.edd_grammar.specs.AttributeReading.{response_code_at, member_at, transaction_at, class_words_at, command_number_at, command_operation_at, attribute_at, begins_own, own_attribute_at}
+use Rattle.edd_grammar.specs.AttributeReading.{response_code_at, member_at, transaction_at, class_words_at, command_number_at, command_operation_at, other_attribute_at, attribute_at, begins_own, own_attribute_at}
 use Rattle.edd_grammar.proofs.Steps.{guard_some, at_is, expect_again}
 use Rattle.edd_grammar.proofs.Branches.{SoundOf}
 use Rattle.edd_grammar.proofs.SingleValues.{one_again, one_shorter}
@@ -48,13 +48,11 @@ names_shorter (n ∷ more) here rest h = omega (arith, ap length h.1, more_names
 -- ---- attributes
 
 pub attribute_again : (high : ℕ) (a : Attribute Path) (here rest : List Token) → AttributeHere a here rest → attribute_height a ≤ high → attribute_at high here ≡ Some (a, rest)
-unfolding attribute_at class_words_at names_at command_number_at command_operation_at transaction_at
-attribute_again high (item.Label c) here rest h low = rw (h.1, one_again leaf TextHere text_value text_values high c h.0 rest h.2 low) refl
-attribute_again high (item.Help c) here rest h low = rw (h.1, one_again leaf TextHere text_value text_values high c h.0 rest h.2 low) refl
+unfolding attribute_at other_attribute_at class_words_at names_at command_number_at command_operation_at transaction_at
+attribute_again high (item.OneText which c) here rest h low = rw (h.1.2, h.1.1, one_again leaf TextHere text_value text_values high c h.0 rest h.2 low) refl
 attribute_again high (item.Class []) here rest h low = absurd h.2
 attribute_again high (item.Class (n ∷ more)) here rest h low = rw (h.1, h.2.1, more_names_again more h.2.0 rest h.2.2, expect_again sign.Semicolon rest) refl
 attribute_again high (item.Handling c) here rest h low = rw (h.1, one_again leaf HandlingHere handling_value handling_values high c h.0 rest h.2 low) refl
-attribute_again high (item.ConstantUnit c) here rest h low = rw (h.1, one_again leaf TextHere text_value text_values high c h.0 rest h.2 low) refl
 attribute_again high (item.Validity c) here rest h low = rw (h.1, one_again leaf TruthHere truth_value truth_values high c h.0 rest h.2 low) refl
 attribute_again high (item.TypeOf type parts) here rest h low = rw (h.1, type_again high type parts h.0 rest h.2 low) refl
 attribute_again high (item.Number n) here rest h low = rw (h, expect_again sign.Semicolon rest) refl
@@ -73,11 +71,9 @@ attribute_again high (item.Members all) here rest h low =
 attribute_again high (item.Definition body) here rest h low = rw (h.1, expect_again sign.OpenBrace h.0, definition_again high body h.0 rest h.2 low) refl
 
 pub attribute_shorter : (a : Attribute Path) (here rest : List Token) → AttributeHere a here rest → length rest < length here
-attribute_shorter (item.Label c) here rest h = omega (arith, ap length h.1, one_shorter leaf TextHere text_value text_values c h.0 rest h.2)
-attribute_shorter (item.Help c) here rest h = omega (arith, ap length h.1, one_shorter leaf TextHere text_value text_values c h.0 rest h.2)
+attribute_shorter (item.OneText which c) here rest h = omega (arith, ap length h.1.2, one_shorter leaf TextHere text_value text_values c h.0 rest h.2)
 attribute_shorter (item.Class names) here rest h = omega (arith, ap length h.1, names_shorter names h.0 _ h.2)
 attribute_shorter (item.Handling c) here rest h = omega (arith, ap length h.1, one_shorter leaf HandlingHere handling_value handling_values c h.0 rest h.2)
-attribute_shorter (item.ConstantUnit c) here rest h = omega (arith, ap length h.1, one_shorter leaf TextHere text_value text_values c h.0 rest h.2)
 attribute_shorter (item.Validity c) here rest h = omega (arith, ap length h.1, one_shorter leaf TruthHere truth_value truth_values c h.0 rest h.2)
 attribute_shorter (item.TypeOf type parts) here rest h = omega (arith, ap length h.1, type_shorter type parts h.0 rest h.2)
 attribute_shorter (item.Number n) here rest h = omega (arith, ap length h)
@@ -98,11 +94,9 @@ record StartsAttribute (a : Attribute Path) (here : List Token) : Type 0 where
   pub belongs : (k : Kind) → begins_own k here ≡ belongs_to k a
 
 starts_attribute : (a : Attribute Path) (here rest : List Token) → AttributeHere a here rest → StartsAttribute a here
-starts_attribute (item.Label c) here rest h = rw h.1 (record { no_close = refl; no_semicolon = refl; belongs = λ k. refl })
-starts_attribute (item.Help c) here rest h = rw h.1 (record { no_close = refl; no_semicolon = refl; belongs = λ k. refl })
+starts_attribute (item.OneText which c) here rest h = rw h.1.2 (record { no_close = refl; no_semicolon = refl; belongs = λ k. rw h.1.1 refl })
 starts_attribute (item.Class names) here rest h = rw h.1 (record { no_close = refl; no_semicolon = refl; belongs = λ k. refl })
 starts_attribute (item.Handling c) here rest h = rw h.1 (record { no_close = refl; no_semicolon = refl; belongs = λ k. refl })
-starts_attribute (item.ConstantUnit c) here rest h = rw h.1 (record { no_close = refl; no_semicolon = refl; belongs = λ k. refl })
 starts_attribute (item.Validity c) here rest h = rw h.1 (record { no_close = refl; no_semicolon = refl; belongs = λ k. refl })
 starts_attribute (item.TypeOf type parts) here rest h = rw h.1 (record { no_close = refl; no_semicolon = refl; belongs = λ k. refl })
 starts_attribute (item.Number n) here rest h = rw h (record { no_close = refl; no_semicolon = refl; belongs = λ k. refl })

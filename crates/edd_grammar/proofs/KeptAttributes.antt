@@ -111,13 +111,11 @@ braced_kept : (w : Keyword) (here inside : List Token) → here ≡ Reserved w �
 braced_kept w here inside e k = kept_tail (Sign sign.OpenBrace) inside (kept_next (Reserved w) here (Sign sign.OpenBrace ∷ inside) e k).1
 
 pub attribute_kept : KeepsValues AttributeHere (is_attribute is_path is_plain)
-attribute_kept (item.Label c) here rest h k = single_kept word.Label TextHere is_text text_kept c here h.0 rest h.1 h.2 k
-attribute_kept (item.Help c) here rest h k = single_kept word.Help TextHere is_text text_kept c here h.0 rest h.1 h.2 k
+attribute_kept (item.OneText which c) here rest h k = single_kept h.1.0 TextHere is_text text_kept c here h.0 rest h.1.2 h.2 k
 attribute_kept (item.Class names) here rest h k =
     let all = names_kept (sign.Operator operator.And) names h.0 _ h.2 (kept_next (Reserved word.Class) here h.0 h.1 k).1 in
     (all.0, kept_tail (Sign sign.Semicolon) rest all.1)
 attribute_kept (item.Handling c) here rest h k = single_kept word.Handling HandlingHere any_value handling_kept c here h.0 rest h.1 h.2 k
-attribute_kept (item.ConstantUnit c) here rest h k = single_kept word.ConstantUnit TextHere is_text text_kept c here h.0 rest h.1 h.2 k
 attribute_kept (item.Validity c) here rest h k = single_kept word.Validity TruthHere any_value truth_kept c here h.0 rest h.1 h.2 k
 attribute_kept (item.TypeOf type parts) here rest h k = type_kept type parts h.0 rest h.2 (kept_next (Reserved word.Type) here h.0 h.1 k).1
 attribute_kept (item.Number n) here rest h k =

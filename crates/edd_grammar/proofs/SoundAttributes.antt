@@ -1,28 +1,28 @@
 -- Attributes that are read are spelled so.
-use Rattle.std.proofs.Common.{◌≡◌, ℕ, ◌≤◌, true, List, ◌∷◌, drop, Some, refl, ap, ◌∙◌, arith}
+use Rattle.std.proofs.Common.{◌≡◌, ℕ, ◌≤◌, true, List, ◌∷◌, drop, Option, Some, None, refl, ap, ◌∙◌, arith}
+use Rattle.std.proofs.lemmas.Option.{none-some}
+use Rattle.edd_syntax.specs.declared.numbers.TextAttribute.{TextAttribute}
 use Rattle.edd_syntax.specs.declared.operators.Operator.TheVariants as operator
-use Rattle.edd_syntax.specs.declared.symbols.Keyword.{Keyword}
 use Rattle.edd_syntax.specs.declared.symbols.Keyword.TheVariants as word
 use Rattle.edd_syntax.specs.declared.symbols.Symbol.TheVariants as sign
-use Rattle.edd_syntax.specs.Text as texts
 use Rattle.edd_syntax.specs.Text.{Name}
 use Rattle.edd_syntax.specs.Token.{Token, Reserved, Identifier, Integer, Sign}
 use Rattle.edd_syntax.specs.Reference.{Path}
-use Rattle.edd_syntax.specs.Conditional.{Cond}
 use Rattle.edd_syntax.specs.Item as item
 use Rattle.edd_syntax.specs.Item.{Attribute}
 use Rattle.edd_syntax.specs.Grammar.{TextHere}
 use Rattle.edd_syntax.specs.StatementGrammar.{OneHere, ListHere}
-use Rattle.edd_syntax.specs.ItemGrammar.{RowHere, MoreNamesHere, NamesHere, HandlingHere, TruthHere, OperationHere, MenuEntryHere, ResponseCodeHere, MemberHere, AttributeHere}
+use Rattle.edd_syntax.specs.ItemGrammar.{RowHere, MoreNamesHere, NamesHere, HandlingHere, TruthHere, OperationHere, MenuEntryHere, ResponseCodeHere, MemberHere, TextWordHere, AttributeHere}
 use Rattle.edd_syntax.specs.Size.{leaf, cond_height, conds_height, attribute_height}
-use Rattle.edd_grammar.specs.Reading.{◌>>=◌, expect, at_word, name_at}
+use Rattle.edd_grammar.specs.Reading.{◌>>=◌, on_option, Read, expect, at_word, name_at}
 use Rattle.edd_grammar.specs.ConditionalReading.{one_at, list_at, text_value}
 use Rattle.edd_grammar.specs.StatementReading.{definition_at}
 use Rattle.edd_grammar.specs.WordReading.{integer_at, number_at, more_names_at, names_at, closed, braced, row_inside}
 use Rattle.edd_grammar.specs.ValueReading.{operation_at, handling_value, truth_value, menu_entry_value}
 use Rattle.edd_grammar.specs.TypeReading.{type_at}
-use Rattle.edd_grammar.specs.AttributeReading.{response_code_at, member_at, transaction_part_at, transaction_at, class_words_at, command_number_at, command_operation_at, attribute_at}
+use Rattle.edd_grammar.specs.AttributeReading.{response_code_at, member_at, transaction_part_at, transaction_at, class_words_at, command_number_at, command_operation_at, text_here, other_attribute_at, attribute_at}
 use Rattle.edd_grammar.proofs.Steps.{bind_some, as_read, at_word_is, expect_is, name_is}
+use Rattle.edd_grammar.proofs.SignNumbers.{same_word_self}
 use Rattle.edd_grammar.proofs.Alternatives.{branch, expected, worded}
 use Rattle.edd_grammar.proofs.Branches.{SoundOf}
 use Rattle.edd_grammar.proofs.SingleValues.{one_sound}
@@ -50,15 +50,23 @@ names_sound here names rest x =
 
 -- ---- attributes by their words
 
+text_here_is : (which : TextAttribute) (here : List Token) → text_here here ≡ Some which → TextWordHere which here (drop 1 here)
+text_here_is which (Reserved w ∷ rest) e = (w, e, refl)
+text_here_is which _ e = absurd (none-some which e)
+
 module _ (high : ℕ) where
   abbrev Stands : List Token → Attribute Path → List Token → Type 0
   Stands here a rest = AttributeHere a here rest × (attribute_height a ≤ high)
 
-  text_attribute : (k : Keyword) (make : Cond Path texts.Text → Attribute Path) → ((c : Cond Path texts.Text) (here behind rest : List Token) → here ≡ Reserved k ∷ behind → OneHere TextHere c behind rest → AttributeHere (make c) here rest)
-      → ((c : Cond Path texts.Text) → cond_height leaf c ≤ high → attribute_height (make c) ≤ high)
-      → (here : List Token) (a : Attribute Path) (rest : List Token) → at_word k here ≡ true → ◌>>=◌ {B = Attribute Path × List Token} (one_at text_value high (drop 1 here)) (λ c. Some (make c.0, c.1)) ≡ Some (a, rest) → Stands here a rest
-  text_attribute k make spelled low here a rest t e =
-      worded AttributeHere attribute_height high k (OneHere TextHere) (cond_height leaf) (one_at text_value high) (one_sound leaf TextHere text_value text_value_sound high) make spelled low here a rest t e
+  -- a text behind its word
+  abbrev text_behind : List Token → TextAttribute → Read (Attribute Path)
+  text_behind here which = one_at text_value high (drop 1 here) >>= λ c. Some (item.OneText which c.0, c.1)
+
+  text_sound : (which : TextAttribute) (here : List Token) (a : Attribute Path) (rest : List Token) → text_here here ≡ Some which → text_behind here which ≡ Some (a, rest) → Stands here a rest
+  text_sound which here a rest is y =
+      let k = text_here_is which here is in
+      worded AttributeHere attribute_height high k.0 (OneHere TextHere) (cond_height leaf) (one_at text_value high) (one_sound leaf TextHere text_value text_value_sound high)
+      (item.OneText which) (λ c here behind rest e h. (behind, (k.0, k.1, e), h)) (λ c l. l) here a rest (ap (at_word k.0) k.2 ∙ same_word_self k.0) y
 
   class_sound : (here : List Token) (a : Attribute Path) (rest : List Token) → at_word word.Class here ≡ true → class_words_at (drop 1 here) ≡ Some (a, rest) → Stands here a rest
   unfolding class_words_at
@@ -102,35 +110,40 @@ module _ (high : ℕ) where
       as_read (Stands here) (item.Definition b.0.0) a b.0.1 rest b.2
       ((o.0, at_word_is word.Definition here t ∙ ap (λ u. Reserved word.Definition ∷ u) (expect_is sign.OpenBrace (drop 1 here) o.0 o.1), body.0), body.1)
 
-  pub attribute_sound : SoundOf AttributeHere attribute_height high (attribute_at high)
-  unfolding attribute_at
-  attribute_sound here a rest x =
-      branch (at_word word.Label here) _ _ _ x (λ t y. text_attribute word.Label item.Label (λ c here behind rest e h. (behind, e, h)) (λ c l. l) here a rest t y) (λ _ x1.
-      branch (at_word word.Help here) _ _ _ x1 (λ t y. text_attribute word.Help item.Help (λ c here behind rest e h. (behind, e, h)) (λ c l. l) here a rest t y) (λ _ x2.
-      branch (at_word word.Class here) _ _ _ x2 (λ t y. class_sound here a rest t y) (λ _ x3.
-      branch (at_word word.Handling here) _ _ _ x3
+  other_sound : SoundOf AttributeHere attribute_height high (other_attribute_at high)
+  unfolding other_attribute_at
+  other_sound here a rest x =
+      branch (at_word word.Class here) _ _ _ x (λ t y. class_sound here a rest t y) (λ _ x1.
+      branch (at_word word.Handling here) _ _ _ x1
       (λ t y. worded AttributeHere attribute_height high word.Handling (OneHere HandlingHere) (cond_height leaf) (one_at handling_value high) (one_sound leaf HandlingHere handling_value handling_value_sound high)
-      item.Handling (λ c here behind rest e h. (behind, e, h)) (λ c l. l) here a rest t y) (λ _ x4.
-      branch (at_word word.ConstantUnit here) _ _ _ x4 (λ t y. text_attribute word.ConstantUnit item.ConstantUnit (λ c here behind rest e h. (behind, e, h)) (λ c l. l) here a rest t y) (λ _ x5.
-      branch (at_word word.Validity here) _ _ _ x5
+      item.Handling (λ c here behind rest e h. (behind, e, h)) (λ c l. l) here a rest t y) (λ _ x2.
+      branch (at_word word.Validity here) _ _ _ x2
       (λ t y. worded AttributeHere attribute_height high word.Validity (OneHere TruthHere) (cond_height leaf) (one_at truth_value high) (one_sound leaf TruthHere truth_value truth_value_sound high)
-      item.Validity (λ c here behind rest e h. (behind, e, h)) (λ c l. l) here a rest t y) (λ _ x6.
-      branch (at_word word.Type here) _ _ _ x6
+      item.Validity (λ c here behind rest e h. (behind, e, h)) (λ c l. l) here a rest t y) (λ _ x3.
+      branch (at_word word.Type here) _ _ _ x3
       (λ t y. worded AttributeHere attribute_height high word.Type WrittenHere written_height (type_at high) (type_sound high)
-      (λ w. item.TypeOf w.0 w.1) (λ w here behind rest e h. (behind, e, h)) (λ w l. l) here a rest t y) (λ _ x7.
-      branch (at_word word.Number here) _ _ _ x7 (λ t y. command_number_sound here a rest t y) (λ _ x8.
-      branch (at_word word.Operation here) _ _ _ x8 (λ t y. command_operation_sound here a rest t y) (λ _ x9.
-      branch (at_word word.Transaction here) _ _ _ x9 (λ t y. transaction_sound here a rest t y) (λ _ x10.
-      branch (at_word word.ResponseCodes here) _ _ _ x10
+      (λ w. item.TypeOf w.0 w.1) (λ w here behind rest e h. (behind, e, h)) (λ w l. l) here a rest t y) (λ _ x4.
+      branch (at_word word.Number here) _ _ _ x4 (λ t y. command_number_sound here a rest t y) (λ _ x5.
+      branch (at_word word.Operation here) _ _ _ x5 (λ t y. command_operation_sound here a rest t y) (λ _ x6.
+      branch (at_word word.Transaction here) _ _ _ x6 (λ t y. transaction_sound here a rest t y) (λ _ x7.
+      branch (at_word word.ResponseCodes here) _ _ _ x7
       (λ t y. worded AttributeHere attribute_height high word.ResponseCodes (BracedHere (RowHere ResponseCodeHere)) (tallest leaf) (braced (row_inside response_code_at))
       (braced_sound (RowHere ResponseCodeHere) (tallest leaf) high (row_inside response_code_at) (row_inside_sound ResponseCodeHere leaf high response_code_at (response_code_sound high)))
-      item.ResponseCodes (λ v here behind rest e h. (h.0, e ∙ ap (λ u. Reserved word.ResponseCodes ∷ u) h.1, h.2)) (λ v l. omega arith) here a rest t y) (λ _ x11.
-      branch (at_word word.Items here) _ _ _ x11
+      item.ResponseCodes (λ v here behind rest e h. (h.0, e ∙ ap (λ u. Reserved word.ResponseCodes ∷ u) h.1, h.2)) (λ v l. omega arith) here a rest t y) (λ _ x8.
+      branch (at_word word.Items here) _ _ _ x8
       (λ t y. worded AttributeHere attribute_height high word.Items (BracedHere (ListHere MenuEntryHere)) (conds_height leaf) (braced (list_at menu_entry_value high))
       (braced_sound (ListHere MenuEntryHere) (conds_height leaf) high (list_at menu_entry_value high) (list_sound leaf MenuEntryHere menu_entry_value menu_entry_value_sound high))
-      item.Items (λ v here behind rest e h. (h.0, e ∙ ap (λ u. Reserved word.Items ∷ u) h.1, h.2)) (λ v l. l) here a rest t y) (λ _ x12.
-      branch (at_word word.Members here) _ _ _ x12
+      item.Items (λ v here behind rest e h. (h.0, e ∙ ap (λ u. Reserved word.Items ∷ u) h.1, h.2)) (λ v l. l) here a rest t y) (λ _ x9.
+      branch (at_word word.Members here) _ _ _ x9
       (λ t y. worded AttributeHere attribute_height high word.Members (BracedHere (RowHere MemberHere)) (tallest leaf) (braced (row_inside member_at))
       (braced_sound (RowHere MemberHere) (tallest leaf) high (row_inside member_at) (row_inside_sound MemberHere leaf high member_at (member_sound high)))
-      item.Members (λ v here behind rest e h. (h.0, e ∙ ap (λ u. Reserved word.Members ∷ u) h.1, h.2)) (λ v l. omega arith) here a rest t y) (λ _ x13.
-      branch (at_word word.Definition here) _ _ _ x13 (λ t y. definition_attribute_sound here a rest t y) (λ _ y. absurd cc))))))))))))))
+      item.Members (λ v here behind rest e h. (h.0, e ∙ ap (λ u. Reserved word.Members ∷ u) h.1, h.2)) (λ v l. omega arith) here a rest t y) (λ _ x10.
+      branch (at_word word.Definition here) _ _ _ x10 (λ t y. definition_attribute_sound here a rest t y) (λ _ y. absurd cc)))))))))))
+
+  pub attribute_sound : SoundOf AttributeHere attribute_height high (attribute_at high)
+  unfolding attribute_at
+  attribute_sound here a rest x = by_text (text_here here) refl x
+    where
+      by_text : (o : Option TextAttribute) → text_here here ≡ o → on_option o (other_attribute_at high here) (text_behind here) ≡ Some (a, rest) → Stands here a rest
+      by_text (Some which) is y = text_sound which here a rest is y
+      by_text None is y = other_sound here a rest y

@@ -1,6 +1,7 @@
 -- A worked unit with each sort of item, attribute, conditional and statement is spelled by its tokens.
 use Rattle.std.proofs.Common.{◌≡◌, Bool, true, false, List, [], ◌∷◌, Option, Some, None, codes, refl, sym, ◌∙◌}
 use Rattle.std.specs.Prelude.{pos, neg_ℤ}
+use Rattle.edd_syntax.specs.declared.numbers.TextAttribute.TheVariants as text_attribute
 use Rattle.edd_syntax.specs.declared.numbers.Kind.TheVariants as kind
 use Rattle.edd_syntax.specs.declared.types.VarType.TheVariants as var_type
 use Rattle.edd_syntax.specs.declared.types.Handling.TheVariants as handling
@@ -30,7 +31,7 @@ use Rattle.edd_grammar.specs.StatementReading.{declaration_at, case_label_at, pa
 use Rattle.edd_grammar.specs.WordReading.{expect_name, number_at, names_at, row_at, closed, braced, row_inside}
 use Rattle.edd_grammar.specs.ValueReading.{handling_behind, handling_at, truth_at, operation_at, some_text_at, optional_text_at, enumerator_at, allowed_at, some_qualifiers, qualifiers_at, mask_at, data_variable_at, data_item_at, menu_reference_at, menu_entry_at, handling_value, truth_value, enumerator_value, data_item_value, menu_entry_value}
 use Rattle.edd_grammar.specs.TypeReading.{size_at, type_part_at, type_parts_at, behind_other, known_type_at, other_type_at, type_at}
-use Rattle.edd_grammar.specs.AttributeReading.{class_at, response_code_at, member_at, transaction_part_at, transaction_at, class_words_at, command_number_at, command_operation_at, attribute_at, own_attribute_at}
+use Rattle.edd_grammar.specs.AttributeReading.{class_at, response_code_at, member_at, transaction_part_at, transaction_at, class_words_at, command_number_at, command_operation_at, other_attribute_at, attribute_at, own_attribute_at}
 use Rattle.edd_grammar.specs.UnitReading.{kind_at, sort_behind, attributes_at, item_at, numbered_at, identification_at, items_at, unit_at}
 use Rattle.edd_grammar.proofs.Units.{unit_sound}
 
@@ -236,7 +237,7 @@ menu_u = record {
   sort = item.MenuItem;
   name = codes "u";
   attributes =
-      item.Label (Value (Quoted (codes "m"))) ∷
+      item.OneText text_attribute.Label (Value (Quoted (codes "m"))) ∷
       item.Items (conds_from (
       Value (item.Text (Quoted (codes "t"))) ∷
       Value (item.Reference (named (codes "x")) (record { display_value = false; read_only = true; hidden = true; review = false })) ∷
@@ -293,7 +294,7 @@ the_unit = record {
 
 -- the unit that some tokens spell
 unfoldable pub worked : List Token → Option (Description Path)
-unfolding expect expect_word path_at path_behind key_at text_at postfix step_before argument_at some_arguments arguments_at named_at unary_behind parentheses_behind signed_at operand_at joined_at chain choice_at assign_at layer expr_at condition_at braces_at else_at case_at default_at arms_at if_at select_at cond_layer ended only one_at text_value expr_value elements_at listed element_at list_at value_at declarator_at some_declarators declarators_at declaration_at case_label_at part_at parts_at body_at method_else_at method_if_at while_at do_at optional_at for_at switch_at evaluate_at statement_layer statement_at definition_at expect_name number_at names_at row_at closed braced row_inside handling_behind handling_at truth_at operation_at some_text_at optional_text_at enumerator_at allowed_at some_qualifiers qualifiers_at mask_at data_variable_at data_item_at menu_reference_at menu_entry_at handling_value truth_value enumerator_value data_item_value menu_entry_value size_at type_part_at type_parts_at behind_other known_type_at other_type_at type_at class_at response_code_at member_at transaction_part_at transaction_at class_words_at command_number_at command_operation_at attribute_at own_attribute_at kind_at sort_behind attributes_at item_at numbered_at identification_at items_at unit_at
+unfolding expect expect_word path_at path_behind key_at text_at postfix step_before argument_at some_arguments arguments_at named_at unary_behind parentheses_behind signed_at operand_at joined_at chain choice_at assign_at layer expr_at condition_at braces_at else_at case_at default_at arms_at if_at select_at cond_layer ended only one_at text_value expr_value elements_at listed element_at list_at value_at declarator_at some_declarators declarators_at declaration_at case_label_at part_at parts_at body_at method_else_at method_if_at while_at do_at optional_at for_at switch_at evaluate_at statement_layer statement_at definition_at expect_name number_at names_at row_at closed braced row_inside handling_behind handling_at truth_at operation_at some_text_at optional_text_at enumerator_at allowed_at some_qualifiers qualifiers_at mask_at data_variable_at data_item_at menu_reference_at menu_entry_at handling_value truth_value enumerator_value data_item_value menu_entry_value size_at type_part_at type_parts_at behind_other known_type_at other_type_at type_at class_at response_code_at member_at transaction_part_at transaction_at class_words_at command_number_at command_operation_at other_attribute_at attribute_at own_attribute_at kind_at sort_behind attributes_at item_at numbered_at identification_at items_at unit_at
 worked tokens = unit_at tokens
 
 pub worked_is : (tokens : List Token) → worked tokens ≡ unit_at tokens

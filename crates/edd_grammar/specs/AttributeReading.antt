@@ -4,6 +4,7 @@ use Rattle.std.specs.Str.{bytes_eq}
 use Rattle.edd_syntax.specs.declared.numbers.Kind.{Kind}
 use Rattle.edd_syntax.specs.declared.numbers.Kind.TheVariants as kind
 use Rattle.edd_syntax.specs.declared.numbers.Attr.TheVariants as attr
+use Rattle.edd_syntax.specs.declared.numbers.TextAttribute.{TextAttribute}
 use Rattle.edd_syntax.specs.declared.types.ResponseClass.{ResponseClass}
 use Rattle.edd_syntax.specs.declared.types.ResponseClass.TheVariants as class
 use Rattle.edd_syntax.specs.declared.symbols.Keyword.{Keyword}
@@ -14,8 +15,8 @@ use Rattle.edd_syntax.specs.Token.{Token, Reserved}
 use Rattle.edd_syntax.specs.Reference.{Path}
 use Rattle.edd_syntax.specs.Item as item
 use Rattle.edd_syntax.specs.Item.{TransactionPart, Attribute}
-use Rattle.edd_syntax.specs.Numbers.{has_attr, same_kind}
-use Rattle.edd_grammar.specs.Reading.{◌>>=◌, Read, at, expect, at_word, name_at}
+use Rattle.edd_syntax.specs.Numbers.{has_attr, same_kind, text_attr, text_of_word}
+use Rattle.edd_grammar.specs.Reading.{◌>>=◌, on_option, Read, at, expect, at_word, name_at}
 use Rattle.edd_grammar.specs.ConditionalReading.{one_at, list_at, text_value}
 use Rattle.edd_grammar.specs.StatementReading.{definition_at}
 use Rattle.edd_grammar.specs.WordReading.{integer_at, number_at, names_at, closed, braced, row_inside}
@@ -103,14 +104,16 @@ command_operation_at here = do
   rest ← expect sign.Semicolon behind
   Some (item.Operation o, rest)
 
--- an attribute of at most this height
-unfoldable pub attribute_at : ℕ → List Token → Read (Attribute Path)
-attribute_at high here =
-    if at_word word.Label here then (one_at text_value high (drop 1 here) >>= λ c. Some (item.Label c.0, c.1))
-    else if at_word word.Help here then (one_at text_value high (drop 1 here) >>= λ c. Some (item.Help c.0, c.1))
-    else if at_word word.Class here then class_words_at (drop 1 here)
+-- the attribute that is one text and of which the word is next
+abbrev pub text_here : List Token → Option TextAttribute
+text_here (Reserved w ∷ rest) = text_of_word w
+text_here _ = None
+
+-- an attribute of at most this height that isn't one text
+unfoldable pub other_attribute_at : ℕ → List Token → Read (Attribute Path)
+other_attribute_at high here =
+    if at_word word.Class here then class_words_at (drop 1 here)
     else if at_word word.Handling here then (one_at handling_value high (drop 1 here) >>= λ c. Some (item.Handling c.0, c.1))
-    else if at_word word.ConstantUnit here then (one_at text_value high (drop 1 here) >>= λ c. Some (item.ConstantUnit c.0, c.1))
     else if at_word word.Validity here then (one_at truth_value high (drop 1 here) >>= λ c. Some (item.Validity c.0, c.1))
     else if at_word word.Type here then (type_at high (drop 1 here) >>= λ t. Some (item.TypeOf t.0.0 t.0.1, t.1))
     else if at_word word.Number here then command_number_at (drop 1 here)
@@ -124,23 +127,29 @@ attribute_at high here =
     then (expect sign.OpenBrace (drop 1 here) >>= λ inside. definition_at high inside >>= λ b. Some (item.Definition b.0, b.1))
     else None
 
+-- an attribute of at most this height
+unfoldable pub attribute_at : ℕ → List Token → Read (Attribute Path)
+attribute_at high here =
+    on_option (text_here here) (other_attribute_at high here) (λ which. one_at text_value high (drop 1 here) >>= λ c. Some (item.OneText which c.0, c.1))
+
+-- whether an item of this kind may have the attribute with this word, which isn't one text
+abbrev pub other_word_belongs : Kind → Keyword → Bool
+other_word_belongs k word.Class = has_attr k attr.Class
+other_word_belongs k word.Handling = has_attr k attr.Handling
+other_word_belongs k word.Validity = has_attr k attr.Validity
+other_word_belongs k word.Type = same_kind k kind.Variable
+other_word_belongs k word.Number = has_attr k attr.Number
+other_word_belongs k word.Operation = has_attr k attr.Operation
+other_word_belongs k word.Transaction = has_attr k attr.Transaction
+other_word_belongs k word.ResponseCodes = has_attr k attr.ResponseCodes
+other_word_belongs k word.Items = has_attr k attr.Items
+other_word_belongs k word.Members = has_attr k attr.Members
+other_word_belongs k word.Definition = has_attr k attr.Definition
+other_word_belongs k _ = false
+
 -- whether an item of this kind may have the attribute with this word
 abbrev pub word_belongs : Kind → Keyword → Bool
-word_belongs k word.Label = has_attr k attr.Label
-word_belongs k word.Help = has_attr k attr.Help
-word_belongs k word.Class = has_attr k attr.Class
-word_belongs k word.Handling = has_attr k attr.Handling
-word_belongs k word.ConstantUnit = has_attr k attr.ConstantUnit
-word_belongs k word.Validity = has_attr k attr.Validity
-word_belongs k word.Type = same_kind k kind.Variable
-word_belongs k word.Number = has_attr k attr.Number
-word_belongs k word.Operation = has_attr k attr.Operation
-word_belongs k word.Transaction = has_attr k attr.Transaction
-word_belongs k word.ResponseCodes = has_attr k attr.ResponseCodes
-word_belongs k word.Items = has_attr k attr.Items
-word_belongs k word.Members = has_attr k attr.Members
-word_belongs k word.Definition = has_attr k attr.Definition
-word_belongs k _ = false
+word_belongs k w = on_option (text_of_word w) (other_word_belongs k w) (λ which. has_attr k (text_attr which))
 
 -- whether the word of such an attribute is next
 abbrev pub begins_own : Kind → List Token → Bool

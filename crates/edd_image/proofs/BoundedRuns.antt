@@ -9,7 +9,7 @@ use Rattle.edd_image.specs.declared.records.Status.TheVariants as status
 use Rattle.edd_image.specs.declared.unit.Context.{Context}
 use Rattle.edd_image.specs.Units.{IsValidUnit}
 use Rattle.edd_image.specs.Steps.{RunningUnit, State, Environment, Effect, IsState, step}
-use Rattle.edd_image.specs.Execution.{Ending, OutOfSteps, Bad, Outcome, Meeting, IsGoodEnding, answered, nothing_met, after_answer, meet_by, meet, closed, request_in, preceded, stepped, go_on, execute}
+use Rattle.edd_image.specs.Execution.{Ending, OutOfSteps, Bad, Outcome, Meeting, IsGoodEnding, answered, nothing_met, after_answer, meet_by, meet, closed, request_in, preceded, stepped, go_on, unchanged, execute_following, execute}
 use Rattle.edd_image.proofs.AnsweredStates.{state_again}
 use Rattle.edd_image.proofs.NextStates.{next_in_unit}
 
@@ -35,18 +35,18 @@ module _ (context : Context) (env : Environment) where
     runs : m.ending ≡ None → m.state.status ≡ status.Running
 
   met_answer : (s : State) (r : Request) (a : Answer) (rest : List Answer) → s.status ≡ status.Asking r → IsState context env s → IsValidAnswer env.types a → ValidAnswers rest
-      → Met s.unit (after_answer (answered s a) rest)
+      → Met s.unit (after_answer unchanged (answered s a) rest)
   met_answer s r (Go code sets) rest asks is valid others = record { state = state_again context env s r (Go code sets) is asks valid; same = refl; answers = others; good = tt; runs = λ e. refl }
   met_answer s r Abort rest asks is valid others = record { state = state_again context env s r Abort is asks valid; same = refl; answers = others; good = tt; runs = λ e. absurd cc }
 
   over : (s : State) (answers : List Answer) (ending : Ending) → IsState context env s → ValidAnswers answers → IsGoodEnding ending → Met s.unit (nothing_met s answers (Some ending))
   over s answers ending is valid good = record { state = is; same = refl; answers = valid; good = good; runs = λ e. absurd cc }
 
-  met : (st : Status) (s : State) (answers : List Answer) → s.status ≡ st → IsState context env s → ValidAnswers answers → Met s.unit (meet_by env st s answers)
+  met : (st : Status) (s : State) (answers : List Answer) → s.status ≡ st → IsState context env s → ValidAnswers answers → Met s.unit (meet_by unchanged env st s answers)
   met status.Running s answers e is valid = record { state = is; same = refl; answers = valid; good = tt; runs = λ x. e }
   met (status.Asking r) s [] e is valid = over s [] Ending.Waiting is valid tt
   met (status.Asking r) s (a ∷ rest) e is valid =
-      subst (λ (fault : Option SetFault). Met s.unit (elim fault [ Some f ↦ nothing_met s (a ∷ rest) (Some (Bad f)) | None ↦ after_answer (answered s a) rest ]))
+      subst (λ (fault : Option SetFault). Met s.unit (elim fault [ Some f ↦ nothing_met s (a ∷ rest) (Some (Bad f)) | None ↦ after_answer unchanged (answered s a) rest ]))
       (sym (no_fault env a valid.0)) (met_answer s r a rest e is valid.0 valid.1)
   met status.Ended s answers e is valid = over s answers Ending.Ended is valid tt
   met status.Aborted s answers e is valid = over s answers Ending.Aborted is valid tt
@@ -81,9 +81,9 @@ module _ (context : Context) (env : Environment) where
       (behind effect.state.unit (request_in effect.emitted) _ (execute env n effect.state m.answers) rest))
 
   pub bounded : (n : ℕ) (s : State) (answers : List Answer) → IsValidUnit context s.unit.code → IsState context env s → ValidAnswers answers → Bounded s.unit (execute env n s answers)
-  unfolding execute
+  unfolding execute execute_following
   bounded zero s answers unit is valid =
-      let m = meet env s answers in stopped m s.unit m.ending refl (met s.status s answers refl is valid)
+      let m = meet unchanged env s answers in stopped m s.unit m.ending refl (met s.status s answers refl is valid)
   bounded (suc n) s answers unit is valid =
-      let m = meet env s answers in
+      let m = meet unchanged env s answers in
       go_on_bounded n s.unit unit (λ t more. bounded n t more) m m.ending refl (met s.status s answers refl is valid)

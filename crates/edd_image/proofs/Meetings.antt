@@ -6,17 +6,17 @@ use Rattle.edd_image.specs.declared.records.Request.{Request}
 use Rattle.edd_image.specs.declared.records.Status.{Status}
 use Rattle.edd_image.specs.declared.records.Status.TheVariants.{Running, Asking}
 use Rattle.edd_image.specs.Steps.{State, Environment, Effect, step}
-use Rattle.edd_image.specs.Execution.{Ending, Aborted, Waiting, OutOfSteps, Bad, Outcome, Meeting, answered, nothing_met, after_answer, meet_request, closed, request_in, preceded, go_on, execute}
+use Rattle.edd_image.specs.Execution.{Ending, Aborted, Waiting, OutOfSteps, Bad, Outcome, Meeting, answered, nothing_met, after_answer, meet_request, closed, request_in, preceded, go_on, unchanged, execute_following, execute}
 
 module _ (env : Environment) (s : State) (r : Request) where
   pub waits : (k : ℕ) → execute env k (record s { status = Asking r }) [] ≡ record { requests = []; changes = []; state = record s { status = Asking r }; answers = []; ending = Waiting; steps = 0 }
-  unfolding execute
+  unfolding execute execute_following
   waits zero = refl
   waits (suc k) = refl
 
   pub aborts : (k : ℕ) (rest : List Answer) → execute env k (record s { status = Asking r }) (Abort ∷ rest)
       ≡ record { requests = []; changes = []; state = (answered (record s { status = Asking r }) Abort).state; answers = rest; ending = Aborted; steps = 0 }
-  unfolding execute
+  unfolding execute execute_following
   aborts zero rest = refl
   aborts (suc k) rest = refl
 
@@ -32,15 +32,15 @@ module _ (env : Environment) (s : State) (r : Request) where
 
   -- an answer that can be taken is taken
   taken : (code : ℤ) (sets : List Change) (rest : List Answer) → answer_fault env.types (Go code sets) ≡ None
-      → meet_request env (record s { status = Asking r }) (Go code sets ∷ rest)
+      → meet_request unchanged env (record s { status = Asking r }) (Go code sets ∷ rest)
       ≡ record { changes = sets; state = record s { operands = code ∷ s.operands; values = values_set s.values sets; status = Running }; answers = rest; ending = None }
   taken code sets rest valid =
-      ap (λ (fault : Option SetFault). elim fault [ Some f ↦ nothing_met (record s { status = Asking r }) (Go code sets ∷ rest) (Some (Bad f)) | None ↦ after_answer (answered (record s { status = Asking r }) (Go code sets)) rest ]) valid
+      ap (λ (fault : Option SetFault). elim fault [ Some f ↦ nothing_met (record s { status = Asking r }) (Go code sets ∷ rest) (Some (Bad f)) | None ↦ after_answer unchanged (answered (record s { status = Asking r }) (Go code sets)) rest ]) valid
 
   pub goes_on : (k : ℕ) (code : ℤ) (sets : List Change) (rest : List Answer) → answer_fault env.types (Go code sets) ≡ None
       → execute env k (record s { status = Asking r }) (Go code sets ∷ rest)
       ≡ preceded [] sets (execute env k (record s { operands = code ∷ s.operands; values = values_set s.values sets; status = Running }) rest)
-  unfolding execute
+  unfolding execute execute_following
   goes_on zero code sets rest valid =
       ap (λ (m : Meeting). closed m (unwrap_or m.ending OutOfSteps)) (taken code sets rest valid)
       ∙ same_outcome sets (sets ++ []) _ rest _ (sym (append-nil sets))

@@ -135,24 +135,24 @@ stepping (suc n) o = stepped (stepping n o)
 
 module _ (k : ℕ) (values : List ℤ) (answers : List Answer) where
   machine_tests : image.execute env (suc (suc (suc (suc k)))) (at 0 [] values) answers ≡ stepping 4 (image.execute env k (at (if is_done values then 48 else 14) [] values) answers)
-  unfolding image.execute step act instruction_at instruction_from basic_from comparison_of unary_of jump_from number_from
+  unfolding image.execute image.execute_following step act instruction_at instruction_from basic_from comparison_of unary_of jump_from number_from
   machine_tests = refl
 
   machine_ends : image.execute env (suc k) (at 48 [] values) answers ≡ stepped (image.execute env k (over values) answers)
-  unfolding image.execute step act instruction_at instruction_from basic_from
+  unfolding image.execute image.execute_following step act instruction_at instruction_from basic_from
   machine_ends = refl
 
   machine_asks : image.execute env (suc k) (at 14 [] values) answers ≡ ask_step (image.execute env k (asks values) answers)
-  unfolding image.execute step act instruction_at instruction_from basic_from number_from byte_from ask_from ask_of
+  unfolding image.execute image.execute_following step act instruction_at instruction_from basic_from number_from byte_from ask_from ask_of
   machine_asks = refl
 
   machine_stores : (code : ℤ) → image.execute env (suc (suc (suc (suc (suc (suc (suc (suc (suc (suc k)))))))))) (at 20 (code ∷ []) values) answers
       ≡ stepping 10 (preceded [] (stored values) (image.execute env k (at 0 [] (after_turn values)) answers))
-  unfolding image.execute step act instruction_at instruction_from basic_from operator_of comparison_of unary_of jump_from number_from operate
+  unfolding image.execute image.execute_following step act instruction_at instruction_from basic_from operator_of comparison_of unary_of jump_from number_from operate
   machine_stores code = refl
 
 machine_over : (k : ℕ) (values : List ℤ) (answers : List Answer) → image.execute env k (over values) answers ≡ image.closed (image.nothing_met (over values) answers None) image.Ended
-unfolding image.execute
+unfolding image.execute image.execute_following
 machine_over zero values answers = refl
 machine_over (suc k) values answers = refl
 
@@ -233,7 +233,7 @@ module _ (string_numbered : StrNo → Option Words) (known : string_numbered (re
       })
 
   along : (n m : ℕ) (values : List ℤ) (asked : List source.Request) (changed : List Change) (answers : List Answer) → AllByRecursion (IsValidAnswer env.types) answers → Goes n m asked changed values answers
-  unfolding turns image.execute
+  unfolding turns image.execute image.execute_following
   along zero m values asked changed answers valid = (0, omega arith, record { more = []; requests = sym (append-nil asked); same = tt; changes = sym (append-nil changed); values = refl; answers = refl; ending = refl })
   along (suc n) m values asked changed answers valid = one_turn n m values asked changed answers valid (λ values' asked' changed' rest valid'. along n m values' asked' changed' rest valid') (is_done values) refl
 
@@ -366,12 +366,12 @@ unfolding contents_in rows_from number_at name_rows_start attribute_rows_start c
 exchanged_counts = refl
 
 exchanged_ends : (other_run exchanged_code body).ending ≡ image.Ended
-unfolding contents_in rows_from number_at name_rows_start attribute_rows_start code_start string_rows_start name_bytes_start string_bytes_start sections_end image.execute step act instruction_at instruction_from basic_from operator_of comparison_of unary_of jump_from number_from byte_from ask_from ask_of wrap store operate compare
+unfolding contents_in rows_from number_at name_rows_start attribute_rows_start code_start string_rows_start name_bytes_start string_bytes_start sections_end image.execute image.execute_following step act instruction_at instruction_from basic_from operator_of comparison_of unary_of jump_from number_from byte_from ask_from ask_of wrap store operate compare
 exchanged_ends = refl
 
 -- y is changed first
 exchanged_changes : (other_run exchanged_code body).changes ≡ record { variable = y; value = pos 2 } ∷ record { variable = x; value = pos 1 } ∷ []
-unfolding contents_in rows_from number_at name_rows_start attribute_rows_start code_start string_rows_start name_bytes_start string_bytes_start sections_end image.execute step act instruction_at instruction_from basic_from operator_of comparison_of unary_of jump_from number_from byte_from ask_from ask_of wrap store operate compare
+unfolding contents_in rows_from number_at name_rows_start attribute_rows_start code_start string_rows_start name_bytes_start string_bytes_start sections_end image.execute image.execute_following step act instruction_at instruction_from basic_from operator_of comparison_of unary_of jump_from number_from byte_from ask_from ask_of wrap store operate compare
 exchanged_changes = refl
 
 -- the variable of the first change
@@ -391,11 +391,11 @@ unfolding contents_in rows_from number_at name_rows_start attribute_rows_start c
 unasked_counts = refl
 
 unasked_ends : (other_run unasked_code body).ending ≡ image.Ended
-unfolding contents_in rows_from number_at name_rows_start attribute_rows_start code_start string_rows_start name_bytes_start string_bytes_start sections_end image.execute step act instruction_at instruction_from basic_from operator_of comparison_of unary_of jump_from number_from byte_from ask_from ask_of wrap store operate compare apply
+unfolding contents_in rows_from number_at name_rows_start attribute_rows_start code_start string_rows_start name_bytes_start string_bytes_start sections_end image.execute image.execute_following step act instruction_at instruction_from basic_from operator_of comparison_of unary_of jump_from number_from byte_from ask_from ask_of wrap store operate compare apply
 unasked_ends = refl
 
 unasked_requests : (other_run unasked_code body).requests ≡ []
-unfolding contents_in rows_from number_at name_rows_start attribute_rows_start code_start string_rows_start name_bytes_start string_bytes_start sections_end image.execute step act instruction_at instruction_from basic_from operator_of comparison_of unary_of jump_from number_from byte_from ask_from ask_of wrap store operate compare apply
+unfolding contents_in rows_from number_at name_rows_start attribute_rows_start code_start string_rows_start name_bytes_start string_bytes_start sections_end image.execute image.execute_following step act instruction_at instruction_from basic_from operator_of comparison_of unary_of jump_from number_from byte_from ask_from ask_of wrap store operate compare apply
 unasked_requests = refl
 
 pub not_unasked : AgreesOnMethods asking_unit (contents_in (image_with unasked_code)) → ⊥

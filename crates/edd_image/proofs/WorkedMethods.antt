@@ -54,7 +54,7 @@ abbrev in_steps : ℕ → List ℤ → List Answer → Outcome
 in_steps k values answers = record { requests = []; changes = []; state = looping values; answers = answers; ending = OutOfSteps; steps = k }
 
 machine_goes_on : (env : Environment) (k : ℕ) (values : List ℤ) (answers : List Answer) → image.execute env k (looping values) answers ≡ in_steps k values answers
-unfolding image.execute step act instruction_at instruction_from basic_from unary_of jump_from number_from
+unfolding image.execute image.execute_following step act instruction_at instruction_from basic_from unary_of jump_from number_from
 machine_goes_on env zero values answers = refl
 machine_goes_on env (suc k) values answers = ap (λ (o : Outcome). stepped (preceded [] [] o)) (machine_goes_on env k values answers)
 
@@ -115,7 +115,7 @@ unfolding contents_in rows_from number_at name_rows_start attribute_rows_start c
 end_found = refl
 
 ends : (image.execute (reading.environment_of (contents_in end_image)) 1 (reading.opening_of (contents_in end_image) body []) []).ending ≡ Ended
-unfolding image.execute step act instruction_at instruction_from basic_from contents_in rows_from number_at name_rows_start attribute_rows_start code_start string_rows_start name_bytes_start string_bytes_start sections_end
+unfolding image.execute image.execute_following step act instruction_at instruction_from basic_from contents_in rows_from number_at name_rows_start attribute_rows_start code_start string_rows_start name_bytes_start string_bytes_start sections_end
 ends = refl
 
 one_method_ends : (contents_in end_image).counts.methods ≡ 1

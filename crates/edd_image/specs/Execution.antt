@@ -1,5 +1,5 @@
 -- The event of an answer, and the run of at most so many steps under answers.
-use Rattle.std.specs.Prelude.{ℕ, zero, suc, ◌+◌, List, [], ◌∷◌, ◌++◌, Option, Some, None, unwrap_or, ⊤}
+use Rattle.std.specs.Prelude.{◌≡◌, ℕ, zero, suc, ◌+◌, List, [], ◌∷◌, ◌++◌, Option, Some, None, unwrap_or, ⊤}
 use Rattle.edd_syntax.specs.declared.answer.Trap.{Trap}
 use Rattle.edd_syntax.specs.Answers.{Change, Answer, Go, Abort, SetFault, answer_fault, values_set}
 use Rattle.edd_image.specs.declared.records.Request.{Request}
@@ -64,24 +64,28 @@ over_at status.Ended = Some Ended
 over_at status.Aborted = Some Aborted
 over_at (status.Trapped why) = Some (Trapped why)
 
--- behind an answer the run goes on or is over as the state says that it leads to
-abbrev pub after_answer : Effect → List Answer → Meeting
-after_answer e rest = record { changes = e.changes; state = e.state; answers = rest; ending = over_at e.state.status }
+-- nothing follows a step or an answer: the run goes on from the state that was reached
+abbrev pub unchanged : State → State
+unchanged s = s
+
+-- behind an answer, and what follows it, the run goes on or is over as the state says that they lead to
+abbrev pub after_answer : (follow : State → State) → Effect → List Answer → Meeting
+after_answer follow e rest = record { changes = e.changes; state = follow e.state; answers = rest; ending = over_at (follow e.state).status }
 
 -- the request that stands is met by the next answer; an answer that can't be taken stays the next, and the request stands
-abbrev pub meet_request : Environment → State → List Answer → Meeting
-meet_request env s [] = nothing_met s [] (Some Waiting)
-meet_request env s (answer ∷ rest) = elim (answer_fault env.types answer) [
+abbrev pub meet_request : (follow : State → State) → Environment → State → List Answer → Meeting
+meet_request follow env s [] = nothing_met s [] (Some Waiting)
+meet_request follow env s (answer ∷ rest) = elim (answer_fault env.types answer) [
   | Some fault ↦ nothing_met s (answer ∷ rest) (Some (Bad fault))
-  | None ↦ after_answer (answered s answer) rest
+  | None ↦ after_answer follow (answered s answer) rest
 ]
 
-abbrev pub meet_by : Environment → Status → State → List Answer → Meeting
-meet_by env (status.Asking r) s answers = meet_request env s answers
-meet_by env st s answers = nothing_met s answers (over_at st)
+abbrev pub meet_by : (follow : State → State) → Environment → Status → State → List Answer → Meeting
+meet_by follow env (status.Asking r) s answers = meet_request follow env s answers
+meet_by follow env st s answers = nothing_met s answers (over_at st)
 
-abbrev pub meet : Environment → State → List Answer → Meeting
-meet env s answers = meet_by env s.status s answers
+abbrev pub meet : (follow : State → State) → Environment → State → List Answer → Meeting
+meet follow env s answers = meet_by follow env s.status s answers
 
 -- the run is over where the meeting left it
 abbrev pub closed : Meeting → Ending → Outcome
@@ -106,12 +110,28 @@ go_on m (Some ending) x behind = closed m ending
 go_on m None None behind = closed m Stuck
 go_on m None (Some e) behind = stepped (preceded (request_in e.emitted) (m.changes ++ e.changes) (behind e))
 
--- At most n steps, each request met at once by the next answer, also one that stands at the start; an answer counts no step.
+-- At most n steps, each request met at once by the next answer, also one that stands at the start; an answer counts no step. From
+-- the state behind each step and each answer the run goes on at what `follow` makes of it.
+unfoldable pub execute_following : (follow : State → State) → Environment → (n : ℕ) → State → List Answer → Outcome
+execute_following follow env zero s answers = let m = meet follow env s answers in closed m (unwrap_or m.ending OutOfSteps)
+execute_following follow env (suc n) s answers =
+    let m = meet follow env s answers in
+    go_on m m.ending (step env m.state) (λ e. execute_following follow env n (follow e.state) m.answers)
+
+-- a run of one unit, where nothing follows
 unfoldable pub execute : Environment → (n : ℕ) → State → List Answer → Outcome
-execute env zero s answers = let m = meet env s answers in closed m (unwrap_or m.ending OutOfSteps)
-execute env (suc n) s answers = let m = meet env s answers in go_on m m.ending (step env m.state) (λ e. execute env n e.state m.answers)
+execute env n s answers = execute_following unchanged env n s answers
+
+-- what follows makes no request of its own
+abbrev pub AsksNothing : (State → State) → Type 0
+AsksNothing follow = (s : State) (r : Request) → (follow s).status ≡ status.Asking r → s.status ≡ status.Asking r
 
 -- an outcome that is out of steps, and at most n steps more from where it stopped
+abbrev pub resumed_following : (follow : State → State) → Environment → (n : ℕ) → Outcome → Outcome
+resumed_following follow env n o =
+    let rest = execute_following follow env n o.state o.answers in
+    record (preceded o.requests o.changes rest) { steps = o.steps + rest.steps }
+
 abbrev pub resumed : Environment → (n : ℕ) → Outcome → Outcome
 resumed env n o = let rest = execute env n o.state o.answers in record (preceded o.requests o.changes rest) { steps = o.steps + rest.steps }
 

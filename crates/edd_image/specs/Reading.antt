@@ -82,27 +82,9 @@ pub data Reading : Type 0 where
 
 -- HANDLING is READ and WRITE, VALIDITY is TRUE, and everything else is empty
 abbrev pub default_records : Attr → List Record
-default_records attr.Label = []
-default_records attr.Help = []
-default_records attr.Class = []
 default_records attr.Handling = records.Number (pos 3) ∷ []
-default_records attr.ConstantUnit = []
 default_records attr.Validity = records.Number (pos 1) ∷ []
-default_records attr.DefaultValue = []
-default_records attr.MinValue = []
-default_records attr.MaxValue = []
-default_records attr.DisplayFormat = []
-default_records attr.EditFormat = []
-default_records attr.Enumerators = []
-default_records attr.Number = []
-default_records attr.Operation = []
-default_records attr.Transaction = []
-default_records attr.Request = []
-default_records attr.Reply = []
-default_records attr.ResponseCodes = []
-default_records attr.Items = []
-default_records attr.Members = []
-default_records attr.Definition = []
+default_records _ = []
 
 -- an attribute whose unit gives no record is as if not written
 abbrev pub reading_of : Attr → Result (List Record) Trap → Reading

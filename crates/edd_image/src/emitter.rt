@@ -87,6 +87,7 @@ impl Emitter {
     pub fn finish(self) -> Vec<u8>
         ensures { result.items ≡ self }
     {
-        self.bytes
+        let Emitter { bytes } = self;
+        bytes
     }
 }

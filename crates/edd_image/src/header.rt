@@ -1,10 +1,12 @@
 //! The fields of the header, and where the sections start.
 
 ghost use Rattle.std.specs.Prelude.{◌≡◌, ◌≤◌, length};
+ghost use Rattle.edd_image.specs.Contents.{version_of};
 ghost use Rattle.edd_image.specs.Fields.{has_magic, version_number, header_zero, total_length, counts_in, attribute_count, names_length, code_length, strings_length, header_length, name_rows_start, attribute_rows_start, code_start, string_rows_start, name_bytes_start, string_bytes_start, sections_end};
 
 use crate::fields::{u8_at, u16_at, u32_at};
 use crate::parts::Counts;
+use crate::unit::Version;
 
 /// How many bytes the header has. The variable rows stand behind it.
 pub const HEADER_LENGTH: usize = 56;
@@ -20,12 +22,16 @@ pub fn has_magic(bytes: &[u8]) -> bool
         && u8_at(bytes, 3) == 0x31
 }
 
-/// The version of the layout.
-pub fn version_number(bytes: &[u8]) -> u16
+/// The version of the layout, where its number is known.
+pub fn version(bytes: &[u8]) -> Option<Version>
     requires { header_length ≤ length bytes.now }
-    ensures { result ≡ version_number bytes.now }
+    ensures { result ≡ version_of (version_number bytes.now) }
 {
-    u16_at(bytes, 4)
+    if u16_at(bytes, 4) == 1 {
+        Some(Version::One)
+    } else {
+        None
+    }
 }
 
 /// The zero behind the version.

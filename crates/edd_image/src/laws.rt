@@ -18,7 +18,7 @@ ghost use Rattle.edd_image.specs.declared.records.Status.TheVariants.{Running, A
 ghost use Rattle.edd_image.specs.declared.unit.Context.{Context};
 ghost use Rattle.edd_image.specs.Strings.{WordsFit, string_bytes, string_in};
 ghost use Rattle.edd_image.specs.Steps.{State, Environment, Effect, IsState, opening, step};
-ghost use Rattle.edd_image.specs.Execution.{Aborted, Waiting, OutOfSteps, IsGoodEnding, answered, closed, execute, nothing_met, preceded, resumed};
+ghost use Rattle.edd_image.specs.Execution.{Aborted, Waiting, OutOfSteps, IsGoodEnding, AsksNothing, answered, closed, execute, execute_following, nothing_met, preceded, resumed, resumed_following};
 ghost use Rattle.edd_syntax.specs.declared.numbers.StrNo.{StrNo};
 ghost use Rattle.edd_syntax.specs.Execution.{Transcript};
 ghost use Rattle.edd_image.specs.MethodAgreement.{SameOutcome, AgreesOnRuns};
@@ -78,9 +78,14 @@ pub fn answers_keep_the_state()
         → IsState context env (answered s answer).state }
 {}
 
-/// A run that is out of steps after `j` goes on for `k` more as if it had not been cut.
+/// A run that is out of steps after `j` goes on for `k` more as if it had not been cut. So does one in which something follows the
+/// steps and the answers, as long as that makes no request of its own.
 pub fn runs_may_be_cut()
-    ensures { (env : Environment) (j k : ℕ) (s : State) (answers : List Answer)
+    ensures following { (follow : State → State) → AsksNothing follow
+        → (env : Environment) (j k : ℕ) (s : State) (answers : List Answer)
+        → (execute_following follow env j s answers).ending ≡ OutOfSteps
+        → execute_following follow env (j + k) s answers ≡ resumed_following follow env k (execute_following follow env j s answers) }
+    ensures alone { (env : Environment) (j k : ℕ) (s : State) (answers : List Answer)
         → (execute env j s answers).ending ≡ OutOfSteps
         → execute env (j + k) s answers ≡ resumed env k (execute env j s answers) }
 {}

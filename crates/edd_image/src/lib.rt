@@ -26,7 +26,7 @@ pub use header::{
     HEADER_LENGTH, attribute_count, code_length, collection_count, command_count, counts,
     dd_revision, device_revision, device_type, has_magic, header_zero, manufacturer, menu_count,
     method_count, names_length, string_count, strings_length, total_length, variable_count,
-    version_number,
+    version,
 };
 pub use instruction::{Ask, Instruction, Jump};
 pub use laws::{

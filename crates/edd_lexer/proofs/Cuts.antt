@@ -29,7 +29,7 @@ gap_cut fresh here next rest (block_comment {body = body} e) =
     let found = close_cut body rest e in (47 ∷ 42 ∷ found.0, ap (λ (x : List ℕ). 47 ∷ 42 ∷ x) found.1)
 gap_cut fresh here next rest (mark {body = body} e) = (35 ∷ front in_line body, ap (λ (x : List ℕ). 35 ∷ x) (sym (front_behind in_line body)))
 
-pub token_cut : (here : List ℕ) (t : Token) (rest : List ℕ) → Stands here t rest → (bytes : List ℕ) × (here ≡ bytes ++ rest)
+unfoldable pub token_cut : (here : List ℕ) (t : Token) (rest : List ℕ) → Stands here t rest → (bytes : List ℕ) × (here ≡ bytes ++ rest)
 token_cut here t rest (word bytes whole name stop is) = (bytes, whole)
 token_cut here t rest (integer bytes n whole spelled fits free is) = (bytes, whole)
 token_cut here t rest (decimal bytes whole spelled free is) = (bytes, whole)

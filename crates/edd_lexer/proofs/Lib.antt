@@ -14,6 +14,7 @@ pub mod ReservedWords
 pub mod Values
 pub mod LineWord
 pub mod Steps
+pub mod Longest
 pub mod Loop
 pub mod Answered
 pub mod Keeping

@@ -1,4 +1,5 @@
 pub mod Bytes
+pub mod Longest
 pub mod Numbers
 pub mod Strings
 pub mod Signs

@@ -2,7 +2,7 @@
 use Rattle.std.specs.Prelude.{ℕ, ◌<◌, List, Option, Some, None, nat_le, if◌then◌else◌}
 use Rattle.std.specs.List.{AllByRecursion}
 use Rattle.edd_image.specs.declared.parts.Counts.{Counts}
-use Rattle.edd_image.specs.declared.unit.Version.TheVariants.{One}
+use Rattle.edd_image.specs.declared.unit.Version.{Version}
 use Rattle.edd_image.specs.declared.unit.Context.{Context}
 use Rattle.edd_image.specs.declared.rules.UnitRule.{UnitRule}
 use Rattle.edd_image.specs.declared.rules.Rule.TheVariants as rule
@@ -10,16 +10,18 @@ use Rattle.edd_image.specs.Contents.{AttributeFields, part}
 use Rattle.edd_image.specs.Units.{UnitKeeps}
 use Rattle.edd_image.specs.Validity.{fault_number, sort_of, slots_of}
 
-abbrev pub context_of : Counts → AttributeFields → Context
-context_of counts r = record { version = One; counts = counts; sort = sort_of r; slots = slots_of r }
+-- where the unit of a row stands, in an image of this version with these counts
+abbrev pub context_of : Version → Counts → AttributeFields → Context
+context_of version counts r = record { version = version; counts = counts; sort = sort_of r; slots = slots_of r }
 
 -- the unit of the row keeps the rule
-abbrev pub RowKeeps : Counts → List ℕ → UnitRule → AttributeFields → Type 0
-RowKeeps counts code which r = UnitKeeps (context_of counts r) (part r.span code) which
+abbrev pub RowKeeps : Version → Counts → List ℕ → UnitRule → AttributeFields → Type 0
+RowKeeps version counts code which r = UnitKeeps (context_of version counts r) (part r.span code) which
 
 -- the units of the rows keep each rule whose fault has a number below n
-abbrev pub RowsKeepBelow : Counts → List ℕ → List AttributeFields → ℕ → Type 0
-RowsKeepBelow counts code rows n = (earlier : UnitRule) → fault_number (rule.Unit earlier) < n → AllByRecursion (RowKeeps counts code earlier) rows
+abbrev pub RowsKeepBelow : Version → Counts → List ℕ → List AttributeFields → ℕ → Type 0
+RowsKeepBelow version counts code rows n =
+    (earlier : UnitRule) → fault_number (rule.Unit earlier) < n → AllByRecursion (RowKeeps version counts code earlier) rows
 
 -- the number below which no fault is found in units: past the last one, where there is none
 abbrev pub fault_bound : Option UnitRule → ℕ

@@ -7,8 +7,7 @@ ghost use Rattle.edd_image.specs.Validity.{BreaksFirst, lengths_agree};
 ghost use Rattle.edd_loader.specs.Rules.{KeepsBelow};
 
 use edd_image::{
-    CODE_LIMIT, HEADER_LENGTH, Rule, code_length, has_magic, sections_end, total_length,
-    version_number,
+    CODE_LIMIT, HEADER_LENGTH, Rule, code_length, has_magic, sections_end, total_length, version,
 };
 
 // Whether the lengths add up to the number of bytes, and the code is within its limit.
@@ -26,7 +25,7 @@ fn is_known(bytes: &[u8]) -> bool
     requires { header_length ≤ length bytes.now }
     ensures { result ≡ is_some (version_of (version_number bytes.now)) }
 {
-    version_number(bytes) == 1
+    version(bytes).is_some()
 }
 
 /// The first of the rules on the header that is broken, if one is.

@@ -1,9 +1,10 @@
 //! The rules on the units of an image.
 
-ghost use Rattle.std.specs.Prelude.{◌≡◌, ◌+◌, ◌*◌, ◌<◌, ◌≤◌, IfOk, IfSome, IsTrue, length};
+ghost use Rattle.std.specs.Prelude.{◌≡◌, ◌+◌, ◌*◌, ◌<◌, ◌≤◌, IfOk, IfSome, IsTrue, Some, is_some, length};
 ghost use Rattle.std.specs.List.{AllByRecursion, list_all};
 ghost use Rattle.edd_image.specs.declared.rules.Rule.TheVariants as rule;
-ghost use Rattle.edd_image.specs.Contents.{rows_from, attribute_fields, contents_in};
+ghost use Rattle.edd_image.specs.Contents.{rows_from, attribute_fields, contents_in, version_of};
+ghost use Rattle.edd_image.specs.Fields.{header_length, version_number};
 ghost use Rattle.edd_image.specs.Validity.{are_rows, fault_number, UnitsKeep};
 ghost use Rattle.edd_loader.specs.Sections.{AreSectionsOf, lies_within};
 ghost use Rattle.edd_loader.specs.UnitRows.{RowKeeps, RowsKeepBelow, context_of, fault_bound, first_of};
@@ -14,25 +15,25 @@ use crate::whole_unit::broken_in_unit;
 use edd_image::{
     ATTRIBUTE_ROW, Context, Counts, Sort, UnitRule, Version, attribute_count, attribute_length,
     attribute_number, attribute_rows_start, attribute_start, attribute_sub, code_length,
-    code_start, counts,
+    code_start, counts, version,
 };
 use std::alloc::{AllocError, Global};
 
 // Where the unit of an attribute row stands.
-fn context_of(bytes: &[u8], counts: Counts, row: usize) -> Context
+fn context_of(bytes: &[u8], version: Version, counts: Counts, row: usize) -> Context
     requires { row + ATTRIBUTE_ROW ≤ length bytes.now }
-    ensures { result ≡ context_of counts (attribute_fields bytes.now row) }
+    ensures { result ≡ context_of version counts (attribute_fields bytes.now row) }
 {
     if attribute_number(bytes, row) == DEFINITION {
         Context {
-            version: Version::One,
+            version,
             counts,
             sort: Sort::Method,
             slots: attribute_sub(bytes, row),
         }
     } else {
         Context {
-            version: Version::One,
+            version,
             counts,
             sort: Sort::Attribute,
             slots: 0,
@@ -60,14 +61,15 @@ fn broken_in_rows(
     alloc: Global,
     bytes: &[u8],
     code: &[u8],
+    version: Version,
     counts: Counts,
     start: usize,
     count: usize,
 ) -> Result<Option<UnitRule>, AllocError>
     requires room { start + ATTRIBUTE_ROW * count ≤ length bytes.now }
     requires within { IsTrue (list_all (λ r. lies_within (length code.now) r.span) (rows_from (attribute_fields bytes.now) 16 count start)) }
-    ensures kept { IfOk result (λ broken. RowsKeepBelow counts code.now (rows_from (attribute_fields bytes.now) 16 count start) (fault_bound broken)) }
-    ensures broken { IfOk result (λ broken. IfSome broken (λ which. ¬ AllByRecursion (RowKeeps counts code.now which) (rows_from (attribute_fields bytes.now) 16 count start))) }
+    ensures kept { IfOk result (λ broken. RowsKeepBelow version counts code.now (rows_from (attribute_fields bytes.now) 16 count start) (fault_bound broken)) }
+    ensures broken { IfOk result (λ broken. IfSome broken (λ which. ¬ AllByRecursion (RowKeeps version counts code.now which) (rows_from (attribute_fields bytes.now) 16 count start))) }
 {
     let mut broken = None;
     for index in 0..count {
@@ -75,16 +77,29 @@ fn broken_in_rows(
         let place = attribute_start(bytes, row) as usize;
         let size = attribute_length(bytes, row) as usize;
         let unit = part(code, place, size);
-        let context = context_of(bytes, counts, row);
+        let context = context_of(bytes, version, counts, row);
         let found = broken_in_unit(alloc, context, unit)?;
         broken = first_of(broken, found);
     }
     Ok(broken)
 }
 
+// The version, where it is known.
+fn known_version(bytes: &[u8]) -> Version
+    requires header { header_length ≤ length bytes.now }
+    requires known { IsTrue (is_some (version_of (version_number bytes.now))) }
+    ensures { version_of (version_number bytes.now) ≡ Some result }
+{
+    match version(bytes) {
+        Some(known) => known,
+        None => unreachable!(),
+    }
+}
+
 /// The first of the rules on units that one of the units breaks, if one does.
 pub fn broken_in_units(alloc: Global, bytes: &[u8]) -> Result<Option<UnitRule>, AllocError>
     requires sections { AreSectionsOf bytes.now }
+    requires version { IsTrue (is_some (version_of (version_number bytes.now))) }
     requires rows { IsTrue (are_rows (contents_in bytes.now)) }
     ensures kept { IfOk result (λ broken. (earlier : UnitRule) → fault_number (rule.Unit earlier) < fault_bound broken → UnitsKeep (contents_in bytes.now) earlier) }
     ensures broken { IfOk result (λ broken. IfSome broken (λ which. ¬ UnitsKeep (contents_in bytes.now) which)) }
@@ -94,5 +109,13 @@ pub fn broken_in_units(alloc: Global, bytes: &[u8]) -> Result<Option<UnitRule>, 
     let place = code_start(bytes);
     let size = code_length(bytes) as usize;
     let code = part(bytes, place, size);
-    broken_in_rows(alloc, bytes, code, counts(bytes), start, count)
+    broken_in_rows(
+        alloc,
+        bytes,
+        code,
+        known_version(bytes),
+        counts(bytes),
+        start,
+        count,
+    )
 }

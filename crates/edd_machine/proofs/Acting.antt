@@ -11,19 +11,17 @@ use Rattle.edd_syntax.specs.DeviceValues.{VariableType, type_at, AreDeviceValues
 use Rattle.edd_image.specs.declared.instruction.Instruction.{Instruction}
 use Rattle.edd_image.specs.declared.instruction.Instruction.TheVariants as instructions
 use Rattle.edd_image.specs.declared.parts.VarKind.{VarKind}
-use Rattle.edd_image.specs.declared.unit.Sort.TheVariants.{Attribute}
 use Rattle.edd_image.specs.declared.unit.Version.TheVariants.{One}
 use Rattle.edd_image.specs.declared.instruction.Ask.{Ask}
 use Rattle.edd_image.specs.Contents.{contents_in, fields_of_variable}
 use Rattle.edd_image.specs.References.{names_exist}
 use Rattle.edd_image.specs.Fields.{counts_in}
 use Rattle.edd_image.specs.Steps.{State, Environment, Effect, on_top, store_in, act, act_ask}
-use Rattle.edd_image.specs.Units.{is_allowed}
 use Rattle.edd_image.specs.Validity.{IsValid}
 use Rattle.edd_machine.specs.declared.machine.Machine.{Machine}
 use Rattle.edd_machine.specs.declared.outcome.Outcome.{Outcome}
 use Rattle.edd_machine.specs.declared.outcome.Outcome.TheVariants.{GoesOn, Gives, Ends, Traps}
-use Rattle.edd_machine.specs.Outcomes.{comes_to}
+use Rattle.edd_machine.specs.Outcomes.{IsShared, comes_to}
 use Rattle.edd_machine.specs.Running.{IsEffect, CanAct}
 use Rattle.edd_loader.specs.Lookups.{type_of_kind}
 use Rattle.edd_machine.specs.Types.{types_in}
@@ -50,32 +48,32 @@ pub effect_same : (o p : Option Effect) (b : List ℕ) (m : Machine) → o ≡ p
 effect_same o p b m e i = record { effect = i.effect; is = e ∙ i.is; state = i.state; emitted = i.emitted }
 
 -- the instructions that attributes have
-pub shared : (i : Instruction) → ((v : VarNo) → i ≡ instructions.Store v → ⊥) → ((n : ℕ) → i ≡ instructions.GetLocal n → ⊥) → ((n : ℕ) → i ≡ instructions.SetLocal n → ⊥) → ((r : Ask) → i ≡ instructions.Ask r → ⊥) → (i ≡ instructions.Abort → ⊥) → is_allowed One Attribute i ≡ true
-shared instructions.End a b c d e = refl
-shared (instructions.Push n) a b c d e = refl
-shared (instructions.Variable v) a b c d e = refl
+pub shared : (i : Instruction) → ((v : VarNo) → i ≡ instructions.Store v → ⊥) → ((n : ℕ) → i ≡ instructions.GetLocal n → ⊥) → ((n : ℕ) → i ≡ instructions.SetLocal n → ⊥) → ((r : Ask) → i ≡ instructions.Ask r → ⊥) → (i ≡ instructions.Abort → ⊥) → IsShared i
+shared instructions.End a b c d e = (One, refl)
+shared (instructions.Push n) a b c d e = (One, refl)
+shared (instructions.Variable v) a b c d e = (One, refl)
 shared (instructions.Store v) a b c d e = absurd (a v refl)
 shared (instructions.GetLocal slot) a b c d e = absurd (b slot refl)
 shared (instructions.SetLocal slot) a b c d e = absurd (c slot refl)
-shared instructions.Pop a b c d e = refl
-shared instructions.Duplicate a b c d e = refl
-shared (instructions.Operate op) a b c d e = refl
-shared (instructions.Compare op) a b c d e = refl
-shared instructions.Negate a b c d e = refl
-shared instructions.Not a b c d e = refl
-shared instructions.Complement a b c d e = refl
-shared (instructions.Jump to) a b c d e = refl
-shared (instructions.JumpIfZero to) a b c d e = refl
-shared (instructions.JumpIfNotZero to) a b c d e = refl
-shared (instructions.Case label to) a b c d e = refl
-shared (instructions.Text s) a b c d e = refl
-shared instructions.Number a b c d e = refl
-shared (instructions.Item item quals) a b c d e = refl
-shared (instructions.DataConst n) a b c d e = refl
-shared (instructions.DataVar v mask quals) a b c d e = refl
-shared (instructions.Enumerator n text help) a b c d e = refl
-shared (instructions.Response n class text) a b c d e = refl
-shared (instructions.Member name item label help) a b c d e = refl
+shared instructions.Pop a b c d e = (One, refl)
+shared instructions.Duplicate a b c d e = (One, refl)
+shared (instructions.Operate op) a b c d e = (One, refl)
+shared (instructions.Compare op) a b c d e = (One, refl)
+shared instructions.Negate a b c d e = (One, refl)
+shared instructions.Not a b c d e = (One, refl)
+shared instructions.Complement a b c d e = (One, refl)
+shared (instructions.Jump to) a b c d e = (One, refl)
+shared (instructions.JumpIfZero to) a b c d e = (One, refl)
+shared (instructions.JumpIfNotZero to) a b c d e = (One, refl)
+shared (instructions.Case label to) a b c d e = (One, refl)
+shared (instructions.Text s) a b c d e = (One, refl)
+shared instructions.Number a b c d e = (One, refl)
+shared (instructions.Item item quals) a b c d e = (One, refl)
+shared (instructions.DataConst n) a b c d e = (One, refl)
+shared (instructions.DataVar v mask quals) a b c d e = (One, refl)
+shared (instructions.Enumerator n text help) a b c d e = (One, refl)
+shared (instructions.Response n class text) a b c d e = (One, refl)
+shared (instructions.Member name item label help) a b c d e = (One, refl)
 shared (instructions.Ask request) a b c d e = absurd (d request refl)
 shared instructions.Abort a b c d e = absurd (e refl)
 

@@ -12,8 +12,6 @@ use Rattle.edd_image.specs.declared.records.Status.TheVariants.{Running, Asking,
 use Rattle.edd_image.specs.declared.records.Emitted.TheVariants as emitted
 use Rattle.edd_image.specs.declared.unit.Sort.{Sort}
 use Rattle.edd_image.specs.declared.unit.Sort.TheVariants.{Attribute, Method}
-use Rattle.edd_image.specs.declared.unit.Version.{Version}
-use Rattle.edd_image.specs.declared.unit.Version.TheVariants.{One}
 use Rattle.edd_image.specs.declared.unit.Way.{Way}
 use Rattle.edd_image.specs.Contents.{contents_in}
 use Rattle.edd_image.specs.Decoding.{instruction_at}
@@ -30,7 +28,7 @@ use Rattle.edd_machine.specs.declared.outcome.Outcome.{Outcome}
 use Rattle.edd_machine.specs.declared.outcome.Outcome.TheVariants.{GoesOn, Gives as GivesRecord, Ends, Traps}
 use Rattle.edd_machine.specs.Faults.{trap_of}
 use Rattle.edd_machine.specs.Given.{Gives, GivesFault}
-use Rattle.edd_machine.specs.Outcomes.{comes_to, Performs}
+use Rattle.edd_machine.specs.Outcomes.{IsShared, comes_to, Performs}
 use Rattle.edd_machine.specs.Running.{running_unit, code_at, IsUnitOf, IsStateIn, CanAct}
 use Rattle.edd_machine.proofs.Stepping.{step_is, can_act, state_again, valid_there, place_inside, instruction_there}
 use Rattle.edd_machine.proofs.UnitFacts.{facts}
@@ -109,10 +107,6 @@ module _ (b : List ℕ) (u : CodeUnit) (s : State) (valid : IsValid b) (is : IsS
       ] in
       omega (arith, place, ahead)
 
-one_version : (v : Version) (sort : Sort) (i : Instruction) → is_allowed v sort i ≡ true → sort ≡ Attribute → is_allowed One Attribute i ≡ true
-one_version One Attribute i h e = h
-one_version One Method i h e = absurd cc
-
 is_attribute : (b : List ℕ) (u : CodeUnit) (is : IsUnitOf b u) → u.sort ≡ Attribute → (unit_of (contents_in b) is.row).context.sort ≡ Attribute
 is_attribute b u is e = ap (λ (x : CodeUnit). x.sort) (sym is.unit) ∙ e
 
@@ -127,10 +121,11 @@ module _ (b : List ℕ) (u : CodeUnit) (values : List ℤ) (place : ℕ) (operan
     pub acts_there : CanAct b i (at_place b u values place operands)
     acts_there = can_act b u (at_place b u values place operands) valid is refl (i, next) there
 
-    pub is_shared : is_allowed One Attribute i ≡ true
+    pub is_shared : IsShared i
     is_shared =
         let f = facts (unit_of (contents_in b) is.unit.row).context (environment_of (contents_in b)) (at_place b u values place operands) (valid_there b u (at_place b u values place operands) valid is refl) is.state refl (i, next) there in
-        one_version (unit_of (contents_in b) is.unit.row).context.version (unit_of (contents_in b) is.unit.row).context.sort i f.allowed (is_attribute b u is.unit attribute)
+        let context = (unit_of (contents_in b) is.unit.row).context in
+        (context.version, subst (λ (sort : Sort). is_allowed context.version sort i ≡ true) (is_attribute b u is.unit attribute) f.allowed)
 
     pub next_ahead : place < next
     next_ahead = (instruction_inside (code_at b u) place (i, next) there).0

@@ -1,12 +1,19 @@
 -- What the instructions come to that units of both sorts have.
-use Rattle.std.specs.Prelude.{◌≡◌, ℕ, ℤ, List, [], Some}
+use Rattle.std.specs.Prelude.{◌≡◌, ℕ, ℤ, true, List, [], Some}
 use Rattle.edd_image.specs.declared.instruction.Instruction.{Instruction}
 use Rattle.edd_image.specs.declared.records.Status.TheVariants as status
 use Rattle.edd_image.specs.declared.records.Emitted.TheVariants as emitted
 use Rattle.edd_image.specs.declared.unit.Sort.{Sort}
+use Rattle.edd_image.specs.declared.unit.Sort.TheVariants.{Attribute}
+use Rattle.edd_image.specs.declared.unit.Version.{Version}
 use Rattle.edd_image.specs.Steps.{State, Environment, Effect, act}
+use Rattle.edd_image.specs.Units.{is_allowed}
 use Rattle.edd_machine.specs.declared.outcome.Outcome.{Outcome}
 use Rattle.edd_machine.specs.declared.outcome.Outcome.TheVariants.{GoesOn, Gives, Ends, Traps}
+
+-- attributes may have the instruction, in some version
+abbrev pub IsShared : Instruction → Type 0
+IsShared i = (version : Version) × (is_allowed version Attribute i ≡ true)
 
 -- a state in a unit of this sort with these operands and values
 abbrev pub over : Sort → (operands values : List ℤ) → State → State

@@ -5,11 +5,9 @@ ghost use Rattle.std.specs.List.{AllByRecursion};
 ghost use Rattle.edd_syntax.specs.declared.numbers.VarNo.{VarNo};
 ghost use Rattle.edd_image.specs.declared.instruction.Instruction.TheVariants as instructions;
 ghost use Rattle.edd_image.specs.declared.unit.Sort.{Sort};
-ghost use Rattle.edd_image.specs.declared.unit.Sort.TheVariants.{Attribute};
-ghost use Rattle.edd_image.specs.declared.unit.Version.TheVariants.{One};
 ghost use Rattle.edd_image.specs.Steps.{Fits};
-ghost use Rattle.edd_image.specs.Units.{takes, leaves, is_allowed};
-ghost use Rattle.edd_machine.specs.Outcomes.{Performs};
+ghost use Rattle.edd_image.specs.Units.{takes, leaves};
+ghost use Rattle.edd_machine.specs.Outcomes.{IsShared, Performs};
 
 use crate::arithmetic::{
     compare, complement, logical_not, negate, operate, wrapped, wrapped_constant,
@@ -205,7 +203,7 @@ pub fn perform(
     requires enough { takes instruction ≤ length operands.old }
     requires full { length operands.old ≤ 128 }
     requires room { IfSome (leaves instruction) (λ n. length operands.old - takes instruction + n ≤ 128) }
-    requires shared { is_allowed One Attribute instruction ≡ true }
+    requires shared { IsShared instruction }
     requires exists { (v : VarNo) → instruction ≡ instructions.Variable v → v.0 < length values.now }
     requires fit { AllByRecursion (Fits sort) operands.old }
     ensures { Performs sort values.now operands.old operands.new instruction next result }

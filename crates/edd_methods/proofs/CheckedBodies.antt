@@ -46,11 +46,9 @@ got P (y ∷ ys) (suc k) x h is = got P ys k x h.1 is
 module _ (P : Body Target → Type 0) (none : P Nil) where
   in_attributes : (xs : List (Attribute Target)) → AllByRecursion (OfBody P) xs → P (body_in xs)
   in_attributes [] h = none
-  in_attributes (item.Label c ∷ rest) h = in_attributes rest h.1
-  in_attributes (item.Help c ∷ rest) h = in_attributes rest h.1
+  in_attributes (item.OneText which c ∷ rest) h = in_attributes rest h.1
   in_attributes (item.Class words ∷ rest) h = in_attributes rest h.1
   in_attributes (item.Handling c ∷ rest) h = in_attributes rest h.1
-  in_attributes (item.ConstantUnit c ∷ rest) h = in_attributes rest h.1
   in_attributes (item.Validity c ∷ rest) h = in_attributes rest h.1
   in_attributes (item.TypeOf word parts ∷ rest) h = in_attributes rest h.1
   in_attributes (item.Number n ∷ rest) h = in_attributes rest h.1
@@ -82,11 +80,9 @@ fit_in (a ∷ rest) h = (one a h.0, fit_in rest h.1)
   where
     one : (a : Attribute Target) → CallsFit a → OfBody Fit a
     one (item.Definition body) h = h
-    one (item.Label c) h = tt
-    one (item.Help c) h = tt
+    one (item.OneText which c) h = tt
     one (item.Class words) h = tt
     one (item.Handling c) h = tt
-    one (item.ConstantUnit c) h = tt
     one (item.Validity c) h = tt
     one (item.TypeOf word parts) h = tt
     one (item.Number n) h = tt

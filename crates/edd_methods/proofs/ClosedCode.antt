@@ -1,14 +1,12 @@
 -- Code of statements that is written from its beginning to its end, whose jumps are closed later.
 use Rattle.std.proofs.Common.{◌≡◌, refl, sym, ap, ◌∙◌, ℕ, ◌+◌, List, [], ◌∷◌, ◌++◌, length, take, drop, arith, append_assoc, length-append}
-use Rattle.std.proofs.lemmas.List.{take_at, drop_at}
 use Rattle.edd_image.specs.declared.instruction.Instruction.{Instruction}
 use Rattle.edd_image.specs.declared.instruction.Instruction.TheVariants as instruction
-use Rattle.edd_image.specs.Layout.{u32}
 use Rattle.edd_image.specs.Spelling.{spelling}
 use Rattle.edd_code.specs.Blocks as blocks
 use Rattle.edd_code.specs.Blocks.{Block, target, bytes_of}
 use Rattle.edd_code.specs.Closing.{closed}
-use Rattle.edd_code.proofs.Closing.{closed_length}
+use Rattle.edd_code.proofs.Closing.{closed_length, part_closed}
 use Rattle.edd_code.proofs.Lines.{bytes_of-append}
 use Rattle.edd_code.proofs.BlockBytes as block_bytes
 use Rattle.edd_methods.specs.Statements.{Code, Plain, Then, Branch, size, emitted, bytes_at}
@@ -23,23 +21,6 @@ bytes_of_more i is = refl
 pub bytes_of_none : bytes_of [] ≡ []
 unfolding bytes_of
 bytes_of_none = refl
-
--- ---- open targets, closed
-
-closes : (code front hollow after : List ℕ) (hole : ℕ) → code ≡ front ++ (hollow ++ after) → hole ≡ length front → length hollow ≡ 4 → closed code hole ≡ front ++ (u32 (target (length code)) ++ after)
-closes code front hollow after hole is at four =
-    let kept : take hole code ≡ front = ap (take hole) is ∙ take_at front (hollow ++ after) hole (sym at) in
-    let cut : code ≡ (front ++ hollow) ++ after = is ∙ sym (append_assoc front hollow after) in
-    let left : drop (hole + 4) code ≡ after = ap (drop (hole + 4)) cut ∙ drop_at (front ++ hollow) after (hole + 4) (omega (arith, length-append front hollow)) in
-    rw (kept, left) refl
-
--- behind code, a jump whose target is open, and a part; then the target is closed
-pub part_closed : (front c1 c2 part : List ℕ) (op : ℕ) → c1 ≡ front ++ (op ∷ u32 0) → c2 ≡ c1 ++ part → closed c2 (length front + 1) ≡ front ++ (op ∷ (u32 (target (length c2)) ++ part))
-part_closed front c1 c2 part op one two =
-    closes c2 (front ++ op ∷ []) (u32 0) part (length front + 1)
-    (two ∙ ap (λ code. code ++ part) one ∙ append_assoc front (op ∷ u32 0) part ∙ sym (append_assoc front (op ∷ []) (u32 0 ++ part)))
-    (omega (arith, length-append front (op ∷ []))) refl
-    ∙ append_assoc front (op ∷ []) (u32 (target (length c2)) ++ part)
 
 -- ---- lengths
 
@@ -86,8 +67,8 @@ branch_is p out back test c d =
     ∙ ap (λ bytes. blocks.bytes_at p test ++ bytes) (bytes_of_more leave (one ++ (skip ∷ two))
     ∙ ap (λ bytes. spelling leave ++ bytes) (bytes_of-append one (skip ∷ two) ∙ ap (λ bytes. bytes_of one ++ bytes) (bytes_of_more skip two)))
 
-pub branch_written : (c0 c1 c2 c3 c4 c5 c6 : List ℕ) (out back : ℕ) (test : Block) (c d : Code) → c1 ≡ c0 ++ blocks.bytes_at (length c0) test → c2 ≡ c1 ++ (0x31 ∷ u32 0)
-    → c3 ≡ c2 ++ bytes_at (length c2) out back c → c4 ≡ c3 ++ (0x30 ∷ u32 0) → c5 ≡ closed c4 (length c1 + 1) → c6 ≡ c5 ++ bytes_at (length c5) out back d
+pub branch_written : (c0 c1 c2 c3 c4 c5 c6 : List ℕ) (out back : ℕ) (test : Block) (c d : Code) → c1 ≡ c0 ++ blocks.bytes_at (length c0) test → c2 ≡ c1 ++ spelling (instruction.JumpIfZero 0)
+    → c3 ≡ c2 ++ bytes_at (length c2) out back c → c4 ≡ c3 ++ spelling (instruction.Jump 0) → c5 ≡ closed c4 (length c1 + 1) → c6 ≡ c5 ++ bytes_at (length c5) out back d
     → closed c6 (length c3 + 1) ≡ c0 ++ bytes_at (length c0) out back (Branch test c d)
 branch_written c0 c1 c2 c3 c4 c5 c6 out back test c d one two three four five six =
     let p = length c0 in
@@ -95,20 +76,20 @@ branch_written c0 c1 c2 c3 c4 c5 c6 out back test c d one two three four five si
     let x = bytes_at (length c2) out back c in
     let y = bytes_at (length c5) out back d in
     let l1 : length c1 ≡ p + a = block_long c0 c1 test one in
-    let l2 : length c2 ≡ p + (a + 5) = longer c1 c2 (0x31 ∷ u32 0) two ∙ omega (arith, l1) in
+    let l2 : length c2 ≡ p + (a + 5) = longer c1 c2 (spelling (instruction.JumpIfZero 0)) two ∙ omega (arith, l1) in
     let l3 : length c3 ≡ p + (a + (5 + size c)) = code_longer c2 c3 out back c three ∙ omega (arith, l2) in
-    let l4 : length c4 ≡ p + (a + (5 + (size c + 5))) = longer c3 c4 (0x30 ∷ u32 0) four ∙ omega (arith, l3) in
+    let l4 : length c4 ≡ p + (a + (5 + (size c + 5))) = longer c3 c4 (spelling (instruction.Jump 0)) four ∙ omega (arith, l3) in
     let l5 : length c5 ≡ p + (a + (5 + (size c + 5))) = ap length five ∙ closed_length c4 (length c1 + 1) (omega (arith, l1, l4)) ∙ l4 in
     let l6 : length c6 ≡ p + (a + (5 + (size c + (5 + size d)))) = code_longer c5 c6 out back d six ∙ omega (arith, l5) in
     let t1 = target (length c4) in
-    let fifth : c5 ≡ c1 ++ (0x31 ∷ (u32 t1 ++ (x ++ (0x30 ∷ u32 0)))) =
-    five ∙ part_closed c1 c2 c4 (x ++ (0x30 ∷ u32 0)) 0x31 two (four ∙ ap (λ code. code ++ (0x30 ∷ u32 0)) three ∙ append_assoc c2 x (0x30 ∷ u32 0)) in
-    let front = c1 ++ (0x31 ∷ (u32 t1 ++ x)) in
-    let again : c5 ≡ front ++ (0x30 ∷ u32 0) = fifth ∙ ap (λ bytes. c1 ++ (0x31 ∷ bytes)) (sym (append_assoc (u32 t1) x (0x30 ∷ u32 0))) ∙ sym (append_assoc c1 (0x31 ∷ (u32 t1 ++ x)) (0x30 ∷ u32 0)) in
-    let at : length c3 ≡ length front = omega (arith, l3, l1, l2, length-append c1 (0x31 ∷ (u32 t1 ++ x)), length-append (u32 t1) x, code_long (length c2) out back c) in
-    ap (λ n. closed c6 (n + 1)) at ∙ part_closed front c5 c6 y 0x30 again six
-    ∙ append_assoc c1 (0x31 ∷ (u32 t1 ++ x)) (0x30 ∷ (u32 (target (length c6)) ++ y))
-    ∙ ap (λ bytes. c1 ++ (0x31 ∷ bytes)) (append_assoc (u32 t1) x (0x30 ∷ (u32 (target (length c6)) ++ y)))
-    ∙ ap (λ code. code ++ (0x31 ∷ (u32 t1 ++ (x ++ (0x30 ∷ (u32 (target (length c6)) ++ y)))))) one
+    let fifth : c5 ≡ c1 ++ (spelling (instruction.JumpIfZero t1) ++ (x ++ spelling (instruction.Jump 0))) =
+    five ∙ part_closed c1 c2 c4 (x ++ spelling (instruction.Jump 0)) _ two (four ∙ ap (λ code. code ++ spelling (instruction.Jump 0)) three ∙ append_assoc c2 x (spelling (instruction.Jump 0))) in
+    let front = c1 ++ (spelling (instruction.JumpIfZero t1) ++ x) in
+    let again : c5 ≡ front ++ spelling (instruction.Jump 0) = fifth ∙ ap (λ bytes. c1 ++ bytes) (sym (append_assoc (spelling (instruction.JumpIfZero t1)) x (spelling (instruction.Jump 0)))) ∙ sym (append_assoc c1 (spelling (instruction.JumpIfZero t1) ++ x) (spelling (instruction.Jump 0))) in
+    let at : length c3 ≡ length front = omega (arith, l3, l1, l2, length-append c1 (spelling (instruction.JumpIfZero t1) ++ x), length-append (spelling (instruction.JumpIfZero t1)) x, code_long (length c2) out back c) in
+    ap (λ n. closed c6 (n + 1)) at ∙ part_closed front c5 c6 y _ again six
+    ∙ append_assoc c1 (spelling (instruction.JumpIfZero t1) ++ x) (spelling (instruction.Jump (target (length c6))) ++ y)
+    ∙ ap (λ bytes. c1 ++ bytes) (append_assoc (spelling (instruction.JumpIfZero t1)) x (spelling (instruction.Jump (target (length c6))) ++ y))
+    ∙ ap (λ code. code ++ (spelling (instruction.JumpIfZero t1) ++ (x ++ (spelling (instruction.Jump (target (length c6))) ++ y)))) one
     ∙ append_assoc c0 (blocks.bytes_at p test) _
     ∙ rw (l2, l4, l5, l6) (ap (λ bytes. c0 ++ bytes) (sym (branch_is p out back test c d)))

@@ -5,17 +5,16 @@ use Rattle.std.proofs.Math.Nat.{mod-eq_of_lt}
 use Rattle.std.proofs.lemmas.List.{append-nil}
 use Rattle.edd_image.specs.declared.instruction.Instruction.{Instruction}
 use Rattle.edd_image.specs.declared.instruction.Instruction.TheVariants as instruction
-use Rattle.edd_image.specs.Layout.{u32}
 use Rattle.edd_image.specs.Spelling.{spelling}
 use Rattle.edd_code.specs.Blocks as blocks
 use Rattle.edd_code.specs.Blocks.{Block, target, bytes_of}
 use Rattle.edd_code.specs.Closing.{closed}
-use Rattle.edd_code.proofs.Closing.{closed_length}
+use Rattle.edd_code.proofs.Closing.{closed_length, part_closed}
 use Rattle.edd_code.proofs.Lines.{bytes_of-append}
 use Rattle.edd_methods.specs.Statements.{Part, Missing, Step, Test, Code, Plain, Then, Branch, Loop, Switch, Break, Continue, Finish, Arms, Nil, Statement, Case, Default, part_size, tests_size, size, arms_size, part_emitted, tests_emitted, default_place, emitted, arms_emitted, bytes_at}
 use Rattle.edd_methods.specs.Writing.{part_bytes, arms_bytes, cases_at, default_at, default_or, tests_of}
 use Rattle.edd_methods.proofs.CodeBytes.{part_long, tests_long, arms_long}
-use Rattle.edd_methods.proofs.ClosedCode.{bytes_of_more, bytes_of_none, part_closed, block_long, code_longer, longer}
+use Rattle.edd_methods.proofs.ClosedCode.{bytes_of_more, bytes_of_none, block_long, code_longer, longer}
 
 -- ---- a target of a target
 
@@ -78,14 +77,14 @@ loop_is p out back front again body =
 
 -- the bytes of its pieces, with the targets of the two jumps in front
 abbrev loop_bytes : (t u : ℕ) (x y z j : List ℕ) → List ℕ
-loop_bytes t u x y z j = (0x30 ∷ u32 t) ++ ((0x30 ∷ u32 u) ++ (x ++ (y ++ (z ++ j))))
+loop_bytes t u x y z j = spelling (instruction.Jump t) ++ (spelling (instruction.Jump u) ++ (x ++ (y ++ (z ++ j))))
 
 loop_same : {t u t' u' : ℕ} {x y z j x' y' z' j' : List ℕ} → t ≡ t' → u ≡ u' → x ≡ x' → y ≡ y' → z ≡ z' → j ≡ j' → loop_bytes t u x y z j ≡ loop_bytes t' u' x' y' z' j'
 loop_same {t} {u} {t'} {u'} {x} {y} {z} {j} {x'} {y'} {z'} {j'} et eu ex ey ez ej =
     ap (λ n. loop_bytes n u x y z j) et ∙ ap (λ n. loop_bytes t' n x y z j) eu ∙ ap (λ bs. loop_bytes t' u' bs y z j) ex
     ∙ ap (λ bs. loop_bytes t' u' x' bs z j) ey ∙ ap (λ bs. loop_bytes t' u' x' y' bs j) ez ∙ ap (λ bs. loop_bytes t' u' x' y' z' bs) ej
 
-pub loop_written : (c0 c1 c2 c3 c4 c5 c6 c7 : List ℕ) (out turn o b : ℕ) (front again : Part) (body : Code) → c1 ≡ c0 ++ (0x30 ∷ u32 0) → c2 ≡ c1 ++ (0x30 ∷ u32 0)
+pub loop_written : (c0 c1 c2 c3 c4 c5 c6 c7 : List ℕ) (out turn o b : ℕ) (front again : Part) (body : Code) → c1 ≡ c0 ++ spelling (instruction.Jump 0) → c2 ≡ c1 ++ spelling (instruction.Jump 0)
     → c3 ≡ c2 ++ part_bytes (length c2) out again → c4 ≡ closed c3 (length c0 + 1) → c5 ≡ c4 ++ part_bytes (length c4) out front
     → c6 ≡ c5 ++ bytes_at (length c5) out turn body → c7 ≡ c6 ++ spelling (instruction.Jump turn) → out ≡ target (length c1) → turn ≡ target (length c2)
     → closed c7 (length c1 + 1) ≡ c0 ++ bytes_at (length c0) o b (Loop front again body)
@@ -97,8 +96,8 @@ loop_written c0 c1 c2 c3 c4 c5 c6 c7 out turn o b front again body one two three
     let y = part_bytes (length c4) out front in
     let z = bytes_at (length c5) out turn body in
     let j = spelling (instruction.Jump turn) in
-    let l1 : length c1 ≡ p + 5 = longer c0 c1 (0x30 ∷ u32 0) one in
-    let l2 : length c2 ≡ p + 10 = longer c1 c2 (0x30 ∷ u32 0) two ∙ omega (arith, l1) in
+    let l1 : length c1 ≡ p + 5 = longer c0 c1 (spelling (instruction.Jump 0)) one in
+    let l2 : length c2 ≡ p + 10 = longer c1 c2 (spelling (instruction.Jump 0)) two ∙ omega (arith, l1) in
     let l3 : length c3 ≡ p + (10 + s) = longer c2 c3 x three ∙ omega (arith, l2, part_long (length c2) out again) in
     let l4 : length c4 ≡ p + (10 + s) = ap length four ∙ closed_length c3 (p + 1) (omega (arith, l3)) ∙ l3 in
     let l5 : length c5 ≡ p + (10 + (s + f)) = longer c4 c5 y five ∙ omega (arith, l4, part_long (length c4) out front) in
@@ -111,16 +110,16 @@ loop_written c0 c1 c2 c3 c4 c5 c6 c7 out turn o b front again body one two three
     let same_z : z ≡ bytes_at (p + (10 + (s + f))) (p + 5) (p + 10) body = ap (λ n. bytes_at n out turn body) l5 ∙ ap bytes_of (code_same (p + (10 + (s + f))) out (p + 5) turn (p + 10) body out_same turn_same) in
     let same_j : j ≡ spelling (instruction.Jump (target (p + 10))) = ap (λ t. spelling (instruction.Jump t)) (turn_is ∙ ap target l2) in
     let t3 = target (length c3) in
-    let head = c0 ++ (0x30 ∷ u32 t3) in
-    let fourth : c4 ≡ c0 ++ (0x30 ∷ (u32 t3 ++ ((0x30 ∷ u32 0) ++ x))) =
-    four ∙ part_closed c0 c1 c3 ((0x30 ∷ u32 0) ++ x) 0x30 one (three ∙ ap (λ code. code ++ x) two ∙ append_assoc c1 (0x30 ∷ u32 0) x) in
+    let head = c0 ++ spelling (instruction.Jump t3) in
+    let fourth : c4 ≡ c0 ++ (spelling (instruction.Jump t3) ++ (spelling (instruction.Jump 0) ++ x)) =
+    four ∙ part_closed c0 c1 c3 (spelling (instruction.Jump 0) ++ x) _ one (three ∙ ap (λ code. code ++ x) two ∙ append_assoc c1 (spelling (instruction.Jump 0)) x) in
     let tail = x ++ (y ++ (z ++ j)) in
-    let behind : c4 ≡ (head ++ (0x30 ∷ u32 0)) ++ x = fourth ∙ simp append_assoc in
-    let whole : c7 ≡ (head ++ (0x30 ∷ u32 0)) ++ tail =
+    let behind : c4 ≡ (head ++ spelling (instruction.Jump 0)) ++ x = fourth ∙ simp append_assoc in
+    let whole : c7 ≡ (head ++ spelling (instruction.Jump 0)) ++ tail =
     seven ∙ ap (λ code. code ++ j) (six ∙ ap (λ code. code ++ z) (five ∙ ap (λ code. code ++ y) behind)) ∙ simp append_assoc in
-    let at : length c1 ≡ length head = omega (arith, l1, length-append c0 (0x30 ∷ u32 t3)) in
-    ap (λ n. closed c7 (n + 1)) at ∙ part_closed head (head ++ (0x30 ∷ u32 0)) c7 tail 0x30 refl whole
-    ∙ append_assoc c0 (0x30 ∷ u32 t3) (0x30 ∷ (u32 (target (length c7)) ++ tail))
+    let at : length c1 ≡ length head = omega (arith, l1, length-append c0 (spelling (instruction.Jump t3))) in
+    ap (λ n. closed c7 (n + 1)) at ∙ part_closed head (head ++ spelling (instruction.Jump 0)) c7 tail _ refl whole
+    ∙ append_assoc c0 (spelling (instruction.Jump t3)) (spelling (instruction.Jump (target (length c7))) ++ tail)
     ∙ ap (λ bytes. c0 ++ bytes) (loop_same (ap target l3) (ap target l7) same_x same_y same_z same_j ∙ sym (loop_is p o b front again body))
 
 -- ---- a switch
@@ -163,7 +162,7 @@ default_is k n (Default rest) = refl
 
 -- the bytes of the pieces behind the value, with the targets of the two jumps in front
 abbrev switch_bytes : (t u : ℕ) (x e y d : List ℕ) → List ℕ
-switch_bytes t u x e y d = (0x30 ∷ u32 t) ++ ((0x30 ∷ u32 u) ++ (x ++ (e ++ (y ++ (spelling instruction.Pop ++ d)))))
+switch_bytes t u x e y d = spelling (instruction.Jump t) ++ (spelling (instruction.Jump u) ++ (x ++ (e ++ (y ++ (spelling instruction.Pop ++ d)))))
 
 switch_same : {t u t' u' : ℕ} {x e y d x' e' y' d' : List ℕ} → t ≡ t' → u ≡ u' → x ≡ x' → e ≡ e' → y ≡ y' → d ≡ d' → switch_bytes t u x e y d ≡ switch_bytes t' u' x' e' y' d'
 switch_same {t} {u} {t'} {u'} {x} {e} {y} {d} {x'} {e'} {y'} {d'} et eu ex ee ey ed =
@@ -171,7 +170,7 @@ switch_same {t} {u} {t'} {u'} {x} {e} {y} {d} {x'} {e'} {y'} {d'} et eu ex ee ey
     ∙ ap (λ bs. switch_bytes t' u' x' bs y d) ee ∙ ap (λ bs. switch_bytes t' u' x' e' bs d) ey ∙ ap (λ bs. switch_bytes t' u' x' e' y' bs) ed
 
 pub switch_written : (c0 c1 c2 c3 c4 c5 c6 c7 c8 c9 : List ℕ) (out o b : ℕ) (on : Block) (arms : Arms) (cases : List (ℤ × ℕ)) (default : Option ℕ)
-    → c1 ≡ c0 ++ blocks.bytes_at (length c0) on → c2 ≡ c1 ++ (0x30 ∷ u32 0) → c3 ≡ c2 ++ (0x30 ∷ u32 0) → c4 ≡ c3 ++ arms_bytes (length c3) out b arms
+    → c1 ≡ c0 ++ blocks.bytes_at (length c0) on → c2 ≡ c1 ++ spelling (instruction.Jump 0) → c3 ≡ c2 ++ spelling (instruction.Jump 0) → c4 ≡ c3 ++ arms_bytes (length c3) out b arms
     → c5 ≡ c4 ++ spelling (instruction.Jump out) → c6 ≡ closed c5 (length c1 + 1) → c7 ≡ c6 ++ tests_of cases → c8 ≡ c7 ++ spelling instruction.Pop
     → c9 ≡ c8 ++ spelling (instruction.Jump (default_or out default)) → out ≡ target (length c2) → cases ≡ cases_at (length c3) arms → default ≡ default_at (length c3) arms
     → closed c9 (length c2 + 1) ≡ c0 ++ bytes_at (length c0) o b (Switch on arms)
@@ -183,8 +182,8 @@ switch_written c0 c1 c2 c3 c4 c5 c6 c7 c8 c9 out o b on arms cases default one t
     let t = tests_of cases in
     let d = spelling (instruction.Jump (default_or out default)) in
     let l1 : length c1 ≡ p + a = block_long c0 c1 on one in
-    let l2 : length c2 ≡ p + (a + 5) = longer c1 c2 (0x30 ∷ u32 0) two ∙ omega (arith, l1) in
-    let l3 : length c3 ≡ p + (a + 10) = longer c2 c3 (0x30 ∷ u32 0) three ∙ omega (arith, l2) in
+    let l2 : length c2 ≡ p + (a + 5) = longer c1 c2 (spelling (instruction.Jump 0)) two ∙ omega (arith, l1) in
+    let l3 : length c3 ≡ p + (a + 10) = longer c2 c3 (spelling (instruction.Jump 0)) three ∙ omega (arith, l2) in
     let same_t : t ≡ bytes_of (tests_emitted (p + (a + 10)) arms) = ap tests_of (cases_are ∙ ap (λ n. cases_at n arms) l3) ∙ tests_are (p + (a + 10)) arms in
     let l4 : length c4 ≡ p + (a + (10 + arms_size arms)) = longer c3 c4 x four ∙ omega (arith, l3, arms_long (length c3) out b arms) in
     let l5 : length c5 ≡ p + (a + (10 + (arms_size arms + 5))) = longer c4 c5 e five ∙ omega (arith, l4) in
@@ -197,16 +196,16 @@ switch_written c0 c1 c2 c3 c4 c5 c6 c7 c8 c9 out o b on arms cases default one t
     let same_d : d ≡ spelling (instruction.Jump (target (default_place (p + (a + 10)) (p + (a + 5)) arms))) =
     ap (λ n. spelling (instruction.Jump n)) (ap (default_or out) (default_are ∙ ap (λ n. default_at n arms) l3) ∙ ap (λ n. default_or n (default_at (p + (a + 10)) arms)) (out_is ∙ ap target l2) ∙ default_is (p + (a + 10)) (p + (a + 5)) arms) in
     let t5 = target (length c5) in
-    let head = c1 ++ (0x30 ∷ u32 t5) in
-    let inner = (0x30 ∷ u32 0) ++ (x ++ e) in
-    let sixth : c6 ≡ c1 ++ (0x30 ∷ (u32 t5 ++ inner)) =
-    six ∙ part_closed c1 c2 c5 inner 0x30 two (five ∙ ap (λ code. code ++ e) (four ∙ ap (λ code. code ++ x) three) ∙ simp append_assoc) in
+    let head = c1 ++ spelling (instruction.Jump t5) in
+    let inner = spelling (instruction.Jump 0) ++ (x ++ e) in
+    let sixth : c6 ≡ c1 ++ (spelling (instruction.Jump t5) ++ inner) =
+    six ∙ part_closed c1 c2 c5 inner _ two (five ∙ ap (λ code. code ++ e) (four ∙ ap (λ code. code ++ x) three) ∙ simp append_assoc) in
     let tail = x ++ (e ++ (t ++ (spelling instruction.Pop ++ d))) in
-    let whole : c9 ≡ (head ++ (0x30 ∷ u32 0)) ++ tail =
+    let whole : c9 ≡ (head ++ spelling (instruction.Jump 0)) ++ tail =
     nine ∙ ap (λ code. code ++ d) (eight ∙ ap (λ code. code ++ spelling instruction.Pop) (seven ∙ ap (λ code. code ++ t) sixth)) ∙ simp append_assoc in
-    let at : length c2 ≡ length head = omega (arith, l1, l2, length-append c1 (0x30 ∷ u32 t5)) in
-    ap (λ n. closed c9 (n + 1)) at ∙ part_closed head (head ++ (0x30 ∷ u32 0)) c9 tail 0x30 refl whole
-    ∙ append_assoc c1 (0x30 ∷ u32 t5) (0x30 ∷ (u32 (target (length c9)) ++ tail))
-    ∙ ap (λ code. code ++ ((0x30 ∷ u32 t5) ++ (0x30 ∷ (u32 (target (length c9)) ++ tail)))) one
+    let at : length c2 ≡ length head = omega (arith, l1, l2, length-append c1 (spelling (instruction.Jump t5))) in
+    ap (λ n. closed c9 (n + 1)) at ∙ part_closed head (head ++ spelling (instruction.Jump 0)) c9 tail _ refl whole
+    ∙ append_assoc c1 (spelling (instruction.Jump t5)) (spelling (instruction.Jump (target (length c9))) ++ tail)
+    ∙ ap (λ code. code ++ (spelling (instruction.Jump t5) ++ (spelling (instruction.Jump (target (length c9))) ++ tail))) one
     ∙ append_assoc c0 (blocks.bytes_at p on) _
     ∙ ap (λ bytes. c0 ++ (blocks.bytes_at p on ++ bytes)) (switch_same (ap target l5) (ap target l9) same_x same_e same_t same_d) ∙ ap (λ bytes. c0 ++ bytes) (sym (switch_is p o b on arms))

@@ -5,10 +5,9 @@ use Rattle.edd_image.specs.declared.unit.Sort.TheVariants.{Method}
 use Rattle.edd_image.specs.declared.unit.Version.TheVariants.{One}
 use Rattle.edd_code.specs.Blocks as blocks
 use Rattle.edd_code.specs.Blocks.{Block, Straight}
-use Rattle.edd_code.proofs.BlockDepths.{until, until_front, until_behind, depth_in, HasDepthsOf, at_front}
+use Rattle.edd_code.proofs.BlockDepths.{until, until_front, until_behind, depth_in, HasDepthsOf, at_front, has_depths}
 use Rattle.edd_methods.specs.Statements.{Part, Missing, Step, Test, Code, Plain, Then, Branch, Loop, Switch, Break, Continue, Finish, Arms, Nil, Statement, Case, Default, part_size, tests_size, size, arms_size}
 use Rattle.edd_methods.specs.CodeFlow.{Rests, Gives, FitsPart, Fits, FitArms}
-use Rattle.edd_methods.proofs.DepthsOfBlocks.{has_depths}
 
 -- ---- one number for each place
 

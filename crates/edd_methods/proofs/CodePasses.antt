@@ -8,32 +8,22 @@ use Rattle.edd_image.specs.declared.instruction.Instruction.{Instruction}
 use Rattle.edd_image.specs.declared.instruction.Instruction.TheVariants as instruction
 use Rattle.edd_image.specs.declared.unit.Sort.TheVariants.{Method}
 use Rattle.edd_image.specs.declared.unit.Version.TheVariants.{One}
-use Rattle.edd_image.specs.Units.{leaves, jump, is_allowed}
-use Rattle.std.specs.Prelude.{is_some, is_none}
+use Rattle.edd_image.specs.Units.{is_allowed}
 use Rattle.edd_code.specs.Blocks as blocks
 use Rattle.edd_code.specs.Blocks.{Block, target}
-use Rattle.edd_code.specs.Flow.{FlowsIn, depth_after, all_straight}
-use Rattle.edd_code.proofs.BlockUnits.{HoldsOfJumps}
+use Rattle.edd_code.specs.Flow.{all_straight}
+use Rattle.edd_code.proofs.BlockUnits.{HoldsOfJumps, flows_allowed}
 use Rattle.edd_methods.specs.Statements.{Part, Missing, Step, Test, Code, Plain, Then, Branch, Loop, Switch, Break, Continue, Finish, Arms, Nil, Statement, Case, Default, part_size, size, part_emitted, tests_emitted, emitted, arms_emitted}
 use Rattle.edd_methods.specs.CodeFlow.{Rests, Gives, FitsPart, Fits, FitArms}
 
 -- ---- the blocks of methods have instructions that methods may have
 
-flows_allowed : (d : ℕ) (b : Block) → FlowsIn One Method b d → all_straight (is_allowed One Method) b ≡ true
-flows_allowed d blocks.Nothing h = refl
-flows_allowed d (blocks.Straight i) h = (and_parts (is_allowed One Method i) (is_some (leaves i) && is_none (jump i)) h.0).0
-flows_allowed d (blocks.Then first second) h = and_from _ _ (flows_allowed d first h.0) (flows_allowed (depth_after first d) second h.1)
-flows_allowed d (blocks.WhenNotZero body) h = flows_allowed (d - 1) body h.2
-flows_allowed d (blocks.WhenZero body) h = flows_allowed (d - 1) body h.2
-flows_allowed d (blocks.Either first otherwise) h = and_from _ _ (flows_allowed (d - 1) first h.2) (flows_allowed (d - 1) otherwise h.3)
-flows_allowed d (blocks.Match label body rest) h = and_from _ _ (flows_allowed (d - 1) body h.2) (flows_allowed d rest h.3)
-
 pub gives_allowed : (b : Block) → Gives b → all_straight (is_allowed One Method) b ≡ true
-gives_allowed b runs = flows_allowed 0 b runs.0
+gives_allowed b runs = flows_allowed One Method 0 b runs.0
 
 pub rests_allowed : (b : Block) → Rests b → all_straight (is_allowed One Method) b ≡ true
 rests_allowed b (inl is) = ap (all_straight (is_allowed One Method)) is
-rests_allowed b (inr runs) = flows_allowed 0 b runs.0
+rests_allowed b (inr runs) = flows_allowed One Method 0 b runs.0
 
 -- ---- what is emitted
 

@@ -10,7 +10,7 @@ use Rattle.edd_syntax.specs.MethodState.{State, Done, Stopped, Action, pure}
 use Rattle.edd_syntax.specs.Execution.{Completion, Normal, Breaks, Continues, Returns, next, left}
 use Rattle.edd_image.specs.declared.instruction.Instruction.TheVariants as instruction
 use Rattle.edd_image.specs.Steps.{Environment, act, go}
-use Rattle.edd_image.specs.Execution.{OutOfSteps, execute}
+use Rattle.edd_image.specs.Execution.{OutOfSteps, execute_following, execute}
 use Rattle.edd_code.specs.Blocks as blocks
 use Rattle.edd_code.proofs.BlockPlaces.{stand}
 use Rattle.edd_code.specs.Reports.{at, report}
@@ -73,7 +73,7 @@ module _ (text : StrNo → Option Words) (env : Environment) (code : List ℕ) w
 
   -- no step is left
   out_of_steps : (p : ℕ) (s : State) → report text env code 0 p [] s ≡ stopped source.OutOfTurns s
-  unfolding execute
+  unfolding execute execute_following
   out_of_steps p s = over_now text s (at code p [] s) s.answers OutOfSteps
 
   -- a part of a loop: the loop is left at `out`, or goes on behind it

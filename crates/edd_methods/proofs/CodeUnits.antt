@@ -16,12 +16,11 @@ use Rattle.edd_code.specs.Blocks.{bytes_of}
 use Rattle.edd_code.specs.Flow.{all_straight}
 use Rattle.edd_code.proofs.BlockBytes.{all_both}
 use Rattle.edd_code.proofs.BlockDepths.{until, until_front, until_behind}
-use Rattle.edd_code.proofs.BlockJumps.{starts}
+use Rattle.edd_code.proofs.BlockJumps.{IsSound, starts}
 use Rattle.edd_code.proofs.BlockPlaces.{stand}
-use Rattle.edd_code.proofs.BlockUnits.{HoldsOfJumps, all_weaker}
+use Rattle.edd_code.proofs.BlockUnits.{HoldsOfJumps, jumps_allowed, all_weaker}
 use Rattle.edd_code.proofs.Lines.{placed, bytes_of-append, instructions_are, end_is, all_placed}
 use Rattle.edd_methods.specs.Statements.{Code, size, emitted, bytes_at, unit_code, IsSpelledCode}
-use Rattle.edd_methods.proofs.BlockWays.{IsSound}
 use Rattle.edd_methods.proofs.CodeBytes.{code_spelled}
 use Rattle.edd_methods.proofs.CodeDepths.{code_depth, HasCode, code_has}
 use Rattle.edd_methods.specs.CodeFlow.{Rests, Gives, Fits}
@@ -95,7 +94,7 @@ module _ (c : Code) (small : size c < 2 ^ 31) where
         let long : length (unit_code c) ≡ length (bytes_at 0 (size c) (size c) c) + 1 = length-append (bytes_at 0 (size c) (size c) c) (spelling instruction.End) in
         let ends : end_of 0 (instructions (unit_code c)) ≡ length (unit_code c) = ap (end_of 0) listed_are ∙ end_is 0 (in_unit c) ∙ omega arith ∙ ap length (sym (unit_is c)) in
         let passes = fits_weaker Rests Gives (λ b. all_straight (is_allowed One Method) b ≡ true) (λ b. all_straight (is_allowed One Method) b ≡ true) rests_allowed gives_allowed c fits in
-        let allowed = in_unit_passes (is_allowed One Method) (record { jump = λ to. refl; zero = λ to. refl; not_zero = λ to. refl; label = λ z to. refl }) refl refl passes in
+        let allowed = in_unit_passes (is_allowed One Method) (jumps_allowed One Method) refl refl passes in
         all_true (lt-ltb 0 (length (unit_code c)) (omega (arith, long)))
         (grind (arith, nat_tests, ends))
         (ap (list_all (λ x. is_allowed context.version context.sort x.instruction)) listed_are ∙ rw (version, sort) allowed)

@@ -9,9 +9,8 @@ use Rattle.edd_code.specs.Blocks as blocks
 use Rattle.edd_code.specs.Blocks.{Block}
 use Rattle.edd_code.proofs.BlockPlaces.{stand, AllIn}
 use Rattle.edd_code.proofs.BlockDepths.{HasDepthsOf, at_front}
-use Rattle.edd_code.proofs.BlockJumps.{Inside, starts}
+use Rattle.edd_code.proofs.BlockJumps.{IsSound, Inside, leads_on, leads_near, not_fresh, starts, exit_fresh, sound_straight, sound_zero, sound_case, sound_jump, block_is_sound}
 use Rattle.edd_methods.specs.Statements.{Part, Missing, Step, Test, Code, Plain, Then, Branch, Loop, Switch, Break, Continue, Finish, Arms, Nil, Statement, Case, Default, part_size, tests_size, size, arms_size, default_place}
-use Rattle.edd_methods.proofs.BlockWays.{IsSound, leads_on, leads_near, not_fresh, exit_fresh, sound_straight, sound_zero, sound_case, sound_jump, block_is_sound}
 use Rattle.edd_methods.proofs.CodePlaces.{PartIn, TestsIn, CodeIn, ArmsIn}
 use Rattle.edd_methods.specs.CodeFlow.{Rests, Gives, FitsPart, Fits, FitArms}
 use Rattle.edd_methods.proofs.CodeDepths.{HasPart, HasOne, HasCode, HasArms, part_front, code_front, arms_front}

@@ -21,11 +21,9 @@ Few n body = body_nodes body ≤ n
 
 one_few : (n : ℕ) (a : Attribute Target) → attribute_nodes a ≤ n → OfBody (Few n) a
 one_few n (item.Definition body) h = omega (arith, h)
-one_few n (item.Label c) h = tt
-one_few n (item.Help c) h = tt
+one_few n (item.OneText which c) h = tt
 one_few n (item.Class words) h = tt
 one_few n (item.Handling c) h = tt
-one_few n (item.ConstantUnit c) h = tt
 one_few n (item.Validity c) h = tt
 one_few n (item.TypeOf word parts) h = tt
 one_few n (item.Number k) h = tt

@@ -13,11 +13,9 @@ use Rattle.edd_syntax.specs.SubsetRules.{bodies_in}
 
 here : (a : Attribute Target) (rest : List (Attribute Target)) (b : Body Target) → b ∷ [] ≡ bodies_in a → body_in (a ∷ rest) ≡ b
 here (item.Definition body) rest b h = let same = h in cc
-here (item.Label c) rest b h = absurd (cc h)
-here (item.Help c) rest b h = absurd (cc h)
+here (item.OneText which c) rest b h = absurd (cc h)
 here (item.Class words) rest b h = absurd (cc h)
 here (item.Handling c) rest b h = absurd (cc h)
-here (item.ConstantUnit c) rest b h = absurd (cc h)
 here (item.Validity c) rest b h = absurd (cc h)
 here (item.TypeOf word parts) rest b h = absurd (cc h)
 here (item.Number n) rest b h = absurd (cc h)
@@ -29,11 +27,9 @@ here (item.Members members) rest b h = absurd (cc h)
 
 passed : (a : Attribute Target) (rest : List (Attribute Target)) → [] ≡ bodies_in a → body_in (a ∷ rest) ≡ body_in rest
 passed (item.Definition body) rest h = absurd (cc h)
-passed (item.Label c) rest h = refl
-passed (item.Help c) rest h = refl
+passed (item.OneText which c) rest h = refl
 passed (item.Class words) rest h = refl
 passed (item.Handling c) rest h = refl
-passed (item.ConstantUnit c) rest h = refl
 passed (item.Validity c) rest h = refl
 passed (item.TypeOf word parts) rest h = refl
 passed (item.Number n) rest h = refl

@@ -36,11 +36,9 @@ inside_in (a ∷ rest) h =
   where
     one : (a : Attribute Target) → flat_map (breaks_outside_in false false) (bodies_in a) ≡ [] → OfBody Inside a
     one (item.Definition body) h = (front_none (breaks_outside_in false false body) [] h).0
-    one (item.Label c) h = tt
-    one (item.Help c) h = tt
+    one (item.OneText which c) h = tt
     one (item.Class words) h = tt
     one (item.Handling c) h = tt
-    one (item.ConstantUnit c) h = tt
     one (item.Validity c) h = tt
     one (item.TypeOf word parts) h = tt
     one (item.Number n) h = tt

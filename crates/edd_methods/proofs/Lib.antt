@@ -24,8 +24,6 @@ pub mod ResolvedReferences
 pub mod CheckedMethods
 pub mod MethodFits
 pub mod ValidMethods
-pub mod DepthsOfBlocks
-pub mod BlockWays
 pub mod CodeFlow
 pub mod CodeDepths
 pub mod CodeStarts

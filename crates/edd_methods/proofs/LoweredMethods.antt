@@ -29,7 +29,8 @@ use Rattle.edd_code.specs.Numbered.{HasNumbers}
 use Rattle.edd_code.specs.Places.{attributes_of_items}
 use Rattle.edd_code.specs.Tables.{AreDifferent, Overflows, number_in}
 use Rattle.edd_code.proofs.Different.{fewer_different}
-use Rattle.edd_methods.specs.LoweredMethods.{LowersBody, body_texts, found_body, strings_of_method}
+use Rattle.edd_methods.specs.LoweredMethods.{LowersBody, found_body, strings_of_method}
+use Rattle.edd_methods.specs.Writing.{body_texts}
 use Rattle.edd_methods.specs.MethodCode.{method_code}
 use Rattle.edd_methods.specs.StatementCode.{blocks_by}
 use Rattle.edd_methods.specs.Statements.{bytes_at, size, unit_code}

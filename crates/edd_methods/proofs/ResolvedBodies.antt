@@ -43,11 +43,9 @@ sum_cons f x xs = omega (arith, sum_more (0 + f x) (map f xs))
 
 few_in : (sort : ItemKind) (name : _) (xs : List (Attribute Path)) → locals_of (record { sort = sort; name = name; attributes = xs }) ≤ local_limit → AllByRecursion (OfBody HasFew) xs
 few_in sort name [] few = tt
-few_in sort name (item.Label c ∷ rest) few = (tt, few_in sort name rest few)
-few_in sort name (item.Help c ∷ rest) few = (tt, few_in sort name rest few)
+few_in sort name (item.OneText which c ∷ rest) few = (tt, few_in sort name rest few)
 few_in sort name (item.Class words ∷ rest) few = (tt, few_in sort name rest few)
 few_in sort name (item.Handling c ∷ rest) few = (tt, few_in sort name rest few)
-few_in sort name (item.ConstantUnit c ∷ rest) few = (tt, few_in sort name rest few)
 few_in sort name (item.Validity c ∷ rest) few = (tt, few_in sort name rest few)
 few_in sort name (item.TypeOf word parts ∷ rest) few = (tt, few_in sort name rest few)
 few_in sort name (item.Number n ∷ rest) few = (tt, few_in sort name rest few)

@@ -240,11 +240,9 @@ IsLow b = body_height b ≤ height_limit
 
 low_attribute : (a : Attribute Path) → attribute_height a ≤ height_limit → OfBody IsLow a
 low_attribute (item.Definition body) h = h
-low_attribute (item.Label c) h = tt
-low_attribute (item.Help c) h = tt
+low_attribute (item.OneText which c) h = tt
 low_attribute (item.Class words) h = tt
 low_attribute (item.Handling c) h = tt
-low_attribute (item.ConstantUnit c) h = tt
 low_attribute (item.Validity c) h = tt
 low_attribute (item.TypeOf word parts) h = tt
 low_attribute (item.Number n) h = tt

@@ -67,11 +67,9 @@ WellFormed b = is_body is_path is_plain false b ≡ true
 
 in_attribute : (a : Attribute Path) → is_attribute is_path is_plain a ≡ true → OfBody WellFormed a
 in_attribute (item.Definition body) is = is
-in_attribute (item.Label c) is = tt
-in_attribute (item.Help c) is = tt
+in_attribute (item.OneText which c) is = tt
 in_attribute (item.Class words) is = tt
 in_attribute (item.Handling c) is = tt
-in_attribute (item.ConstantUnit c) is = tt
 in_attribute (item.Validity c) is = tt
 in_attribute (item.TypeOf word parts) is = tt
 in_attribute (item.Number n) is = tt

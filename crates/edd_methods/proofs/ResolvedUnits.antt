@@ -32,11 +32,9 @@ plain_attribute Q x a none h = subst (OfBody Q) (same_Some x a h) none
 -- P holds of each written body, and with it Q of what the body means
 module _ (unit : Description Path) (P : Body Path → Type 0) (Q : Body Target → Type 0) (make : (b : Body Path) (b' : Body Target) → P b → resolved_body unit b [] 0 ≡ Some b' → Q b') where
   attribute_made : (sort : ItemKind) (x : Attribute Path) (a : Attribute Target) → OfBody P x → resolved_attribute unit sort x ≡ Some a → OfBody Q a
-  attribute_made sort (item.Label c) a holds h = no_body Q (resolved_cond (at_attribute unit) unchanged c) item.Label (λ _. tt) a h
-  attribute_made sort (item.Help c) a holds h = no_body Q (resolved_cond (at_attribute unit) unchanged c) item.Help (λ _. tt) a h
+  attribute_made sort (item.OneText which c) a holds h = no_body Q (resolved_cond (at_attribute unit) unchanged c) (item.OneText which) (λ _. tt) a h
   attribute_made sort (item.Class words) a holds h = plain_attribute Q (item.Class words) a tt h
   attribute_made sort (item.Handling c) a holds h = no_body Q (resolved_cond (at_attribute unit) unchanged c) item.Handling (λ _. tt) a h
-  attribute_made sort (item.ConstantUnit c) a holds h = no_body Q (resolved_cond (at_attribute unit) unchanged c) item.ConstantUnit (λ _. tt) a h
   attribute_made sort (item.Validity c) a holds h = no_body Q (resolved_cond (at_attribute unit) unchanged c) item.Validity (λ _. tt) a h
   attribute_made sort (item.TypeOf word parts) a holds h = no_body Q (each (resolved_type_part unit) parts) (item.TypeOf word) (λ _. tt) a h
   attribute_made sort (item.Number n) a holds h = plain_attribute Q (item.Number n) a tt h

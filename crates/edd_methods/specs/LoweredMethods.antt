@@ -1,29 +1,24 @@
 -- What lowering a method's body comes to.
 use Rattle.std.specs.Prelude.{◌≡◌, ℕ, List, ◌++◌, Option, Some, None}
-use Rattle.std.specs.List.{Contains, flat_map}
+use Rattle.std.specs.List.{Contains}
 use Rattle.edd_syntax.specs.declared.numbers.MethNo.{MethNo}
 use Rattle.edd_syntax.specs.declared.reference.Target.{Target}
 use Rattle.edd_syntax.specs.Execution.{body_in, body_of}
 use Rattle.edd_syntax.specs.Item.{Attribute, Description}
 use Rattle.edd_syntax.specs.Statement.{Body, Nil}
-use Rattle.edd_syntax.specs.Strings.{expr_texts, strings_of_texts}
-use Rattle.edd_syntax.specs.SubsetRules.{body_expressions}
-use Rattle.edd_syntax.specs.Text as texts
+use Rattle.edd_syntax.specs.Strings.{strings_of_texts}
 use Rattle.edd_syntax.specs.Words.{Words}
 use Rattle.edd_image.specs.declared.instruction.Instruction.TheVariants.{End}
 use Rattle.edd_image.specs.Spelling.{spelling}
 use Rattle.edd_code.specs.Tables.{AreDifferent, GrowsBy, number_in}
 use Rattle.edd_methods.specs.MethodCode.{method_code}
 use Rattle.edd_methods.specs.Statements.{bytes_at}
+use Rattle.edd_methods.specs.Writing.{body_texts}
 
 -- the body of a method with these attributes, if there is one
 abbrev pub found_body : Option (List (Attribute Target)) → Body Target
 found_body None = Nil
 found_body (Some attributes) = body_in attributes
-
--- the texts of a body are those of the calls in its expressions
-abbrev pub body_texts : Body Target → List texts.Text
-body_texts body = flat_map (λ p. expr_texts p.expression) (body_expressions body)
 
 -- the strings of a method's body
 abbrev pub strings_of_method : Description Target → MethNo → List Words

@@ -17,7 +17,8 @@ ghost use Rattle.edd_image.specs.MethodAgreement.{IsMethodCode};
 ghost use Rattle.edd_code.specs.Places.{IsIndexOf, attributes_of_items};
 ghost use Rattle.edd_code.specs.Tables.{Grows, Overflows};
 ghost use Rattle.edd_code.specs.Units.{unit_of};
-ghost use Rattle.edd_methods.specs.LoweredMethods.{LowersBody, body_texts, found_body, strings_of_method};
+ghost use Rattle.edd_methods.specs.LoweredMethods.{LowersBody, found_body, strings_of_method};
+ghost use Rattle.edd_methods.specs.Writing.{body_texts};
 
 use crate::slots::slots_in;
 use crate::statements::{Leads, write_body};

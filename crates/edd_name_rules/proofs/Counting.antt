@@ -23,11 +23,9 @@ pub items_split : {R : Type 0} (k : Kind) (i : Item R) (rest : List (Item R)) �
 items_split k i rest = length_if i (filter (λ i. same_kind (kind_of_item i.sort) k) rest) (same_kind (kind_of_item i.sort) k)
 
 pub transactions_split : {R : Type 0} (a : Attribute R) (rest : List (Attribute R)) → transactions_in (a ∷ rest) ≡ transactions_in (a ∷ []) + transactions_in rest
-transactions_split (item.Label c) rest = omega arith
-transactions_split (item.Help c) rest = omega arith
+transactions_split (item.OneText which c) rest = omega arith
 transactions_split (item.Class words) rest = omega arith
 transactions_split (item.Handling c) rest = omega arith
-transactions_split (item.ConstantUnit c) rest = omega arith
 transactions_split (item.Validity c) rest = omega arith
 transactions_split (item.TypeOf word parts) rest = omega arith
 transactions_split (item.Number n) rest = omega arith

@@ -30,11 +30,9 @@ regroup : {R : Type 0} (first b : List Name) (a : Attribute R) (rest : List (Att
 regroup first b a rest = sym (append_assoc first (repeated_words_inside a) (repeated_words (attribute_word a ∷ b) rest))
 
 pub words_step : {R : Type 0} (b : List Name) (a : Attribute R) (rest : List (Attribute R)) → repeated_words b (a ∷ rest) ≡ repeated_here b a ++ repeated_words ((attribute_word a ∷ []) ++ b) rest
-words_step {R} b (item.Label c) rest = regroup (repeated b (attribute_word {R = R} (item.Label c) ∷ [])) b (item.Label c) rest
-words_step {R} b (item.Help c) rest = regroup (repeated b (attribute_word {R = R} (item.Help c) ∷ [])) b (item.Help c) rest
+words_step {R} b (item.OneText which c) rest = regroup (repeated b (attribute_word {R = R} (item.OneText which c) ∷ [])) b (item.OneText which c) rest
 words_step {R} b (item.Class words) rest = regroup (repeated b (attribute_word {R = R} (item.Class words) ∷ [])) b (item.Class words) rest
 words_step {R} b (item.Handling c) rest = regroup (repeated b (attribute_word {R = R} (item.Handling c) ∷ [])) b (item.Handling c) rest
-words_step {R} b (item.ConstantUnit c) rest = regroup (repeated b (attribute_word {R = R} (item.ConstantUnit c) ∷ [])) b (item.ConstantUnit c) rest
 words_step {R} b (item.Validity c) rest = regroup (repeated b (attribute_word {R = R} (item.Validity c) ∷ [])) b (item.Validity c) rest
 words_step {R} b (item.TypeOf word parts) rest = regroup (repeated b (attribute_word {R = R} (item.TypeOf word parts) ∷ [])) b (item.TypeOf word parts) rest
 words_step {R} b (item.Number n) rest = regroup (repeated b (attribute_word {R = R} (item.Number n) ∷ [])) b (item.Number n) rest

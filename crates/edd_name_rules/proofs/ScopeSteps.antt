@@ -16,11 +16,9 @@ part_step b (CaseLabel label) rest = refl
 part_step b DefaultLabel rest = refl
 
 pub attribute_step : (b : List Name) (a : Attribute Path) (rest : List (Attribute Path)) → repeated_in_attributes b (a ∷ rest) ≡ attribute_repeats b a ++ repeated_in_attributes (names_of_attribute a ++ b) rest
-attribute_step b (item.Label c) rest = refl
-attribute_step b (item.Help c) rest = refl
+attribute_step b (item.OneText which c) rest = refl
 attribute_step b (item.Class words) rest = refl
 attribute_step b (item.Handling c) rest = refl
-attribute_step b (item.ConstantUnit c) rest = refl
 attribute_step b (item.Validity c) rest = refl
 attribute_step b (item.TypeOf word parts) rest = refl
 attribute_step b (item.Number n) rest = refl

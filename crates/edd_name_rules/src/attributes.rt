@@ -25,11 +25,9 @@ pub fn word_of(attribute: &Attribute<Path>) -> &'static str
     ensures { result.now ≡ attribute_word (attribute_of path_of attribute.now) }
 {
     match attribute {
-        Attribute::Label(_) => Attr::Label.word(),
-        Attribute::Help(_) => Attr::Help.word(),
+        Attribute::OneText(which, _) => which.attr().word(),
         Attribute::Class(_) => Attr::Class.word(),
         Attribute::Handling(_) => Attr::Handling.word(),
-        Attribute::ConstantUnit(_) => Attr::ConstantUnit.word(),
         Attribute::Validity(_) => Attr::Validity.word(),
         Attribute::TypeOf { .. } => Keyword::Type.spelling(),
         Attribute::Number(_) => Attr::Number.word(),

@@ -94,11 +94,9 @@ fn spend_attribute(attribute: &Attribute<Path>, budget: u32) -> Option<u32>
 {
     let left = budget.checked_sub(1)?;
     match attribute {
-        Attribute::Label(c) => spend_text(c, left),
-        Attribute::Help(c) => spend_text(c, left),
+        Attribute::OneText(_, c) => spend_text(c, left),
         Attribute::Class(words) => spend_count(words.len(), left),
         Attribute::Handling(c) => spend_cond(c, left),
-        Attribute::ConstantUnit(c) => spend_text(c, left),
         Attribute::Validity(c) => spend_cond(c, left),
         Attribute::TypeOf { parts, .. } => spend_type(parts, left),
         Attribute::Number(_) | Attribute::Operation(_) => Some(left),

@@ -122,11 +122,9 @@ module _ (unit : Description Path) where
       named of m.item.base (item_named unit m.item.base) m.item.members (and_both _ _ plain).1 fine.0
 
   attribute_names : (of : Kind) (a : Attribute Path) → IsTrue (is_attribute is_path is_plain a) → Every Fine (attribute_uses (CollectionItem of) a) → Every (Names of) (members_in a)
-  attribute_names of (item.Label c) good fine = tt
-  attribute_names of (item.Help c) good fine = tt
+  attribute_names of (item.OneText which c) good fine = tt
   attribute_names of (item.Class words) good fine = tt
   attribute_names of (item.Handling c) good fine = tt
-  attribute_names of (item.ConstantUnit c) good fine = tt
   attribute_names of (item.Validity c) good fine = tt
   attribute_names of (item.TypeOf word parts) good fine = tt
   attribute_names of (item.Number n) good fine = tt

@@ -86,13 +86,11 @@ fn copy_attribute(
 {
     let alloc = names.alloc;
     match attribute {
-        Attribute::Label(c) => made_of!(copy_cond(c, names), c => Attribute::Label(c)),
-        Attribute::Help(c) => made_of!(copy_cond(c, names), c => Attribute::Help(c)),
+        Attribute::OneText(which, c) =>
+            made_of!(copy_cond(c, names), c => Attribute::OneText(*which, c)),
         Attribute::Class(words) =>
             made_of!(copy_words(words, alloc), words => Attribute::Class(words)),
         Attribute::Handling(c) => made_of!(copy_cond(c, names), c => Attribute::Handling(c)),
-        Attribute::ConstantUnit(c) =>
-            made_of!(copy_cond(c, names), c => Attribute::ConstantUnit(c)),
         Attribute::Validity(c) => made_of!(copy_cond(c, names), c => Attribute::Validity(c)),
         Attribute::TypeOf { word, parts } => {
             let parts = copy_type_parts(parts, names)?;

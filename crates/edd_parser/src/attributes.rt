@@ -236,20 +236,25 @@ fn command_operation(cursor: &mut Cursor) -> Result<Attribute<Path>, ParseFault>
     Ok(Attribute::Operation(operation))
 }
 
-// Attributes that several kinds of items may have, and those of variables.
-#[tactic(auto, unfolding(edd_grammar::specs::AttributeReading::attribute_at, crate::specs::Items::command_attribute_at, crate::specs::Items::list_attribute_at))]
+// An attribute.
+#[tactic(auto, unfolding(edd_grammar::specs::AttributeReading::attribute_at))]
 fn attribute(cursor: &mut Cursor, high: u32) -> Result<Attribute<Path>, ParseFault>
     requires { high ≤ 100 }
     ensures { Gives attribute_view result cursor.new (reading.attribute_at high cursor.old) }
 {
-    if cursor.is_at_word(Keyword::Label) {
+    if let Some(which) = cursor.text_attribute() {
         cursor.skip();
-        return Ok(Attribute::Label(one(cursor, high)?));
+        return Ok(Attribute::OneText(which, one(cursor, high)?));
     }
-    if cursor.is_at_word(Keyword::Help) {
-        cursor.skip();
-        return Ok(Attribute::Help(one(cursor, high)?));
-    }
+    other_attribute(cursor, high)
+}
+
+// Attributes of variables and others that aren't one text.
+#[tactic(auto, unfolding(edd_grammar::specs::AttributeReading::other_attribute_at, crate::specs::Items::command_attribute_at, crate::specs::Items::list_attribute_at))]
+fn other_attribute(cursor: &mut Cursor, high: u32) -> Result<Attribute<Path>, ParseFault>
+    requires { high ≤ 100 }
+    ensures { Gives attribute_view result cursor.new (reading.other_attribute_at high cursor.old) }
+{
     if cursor.is_at_word(Keyword::Class) {
         cursor.skip();
         return class_words(cursor);
@@ -257,10 +262,6 @@ fn attribute(cursor: &mut Cursor, high: u32) -> Result<Attribute<Path>, ParseFau
     if cursor.is_at_word(Keyword::Handling) {
         cursor.skip();
         return Ok(Attribute::Handling(one(cursor, high)?));
-    }
-    if cursor.is_at_word(Keyword::ConstantUnit) {
-        cursor.skip();
-        return Ok(Attribute::ConstantUnit(one(cursor, high)?));
     }
     if cursor.is_at_word(Keyword::Validity) {
         cursor.skip();

@@ -6,7 +6,7 @@ ghost use Rattle.edd_syntax.specs.ItemView.{identification_of};
 ghost use Rattle.edd_grammar.specs.WordReading.{closed, row_inside};
 ghost use Rattle.edd_grammar.specs.AttributeReading.{own_attribute_at};
 ghost use Rattle.edd_grammar.specs.UnitReading as reading;
-ghost use Rattle.edd_token_reader.specs.Views.{Gives};
+ghost use Rattle.edd_token_reader.specs.Views.{Gives, Takes};
 ghost use Rattle.edd_parser.specs.Items.{attribute_view};
 ghost use Rattle.edd_parser.specs.Units.{sort_view, sort_at, item_view};
 
@@ -19,7 +19,7 @@ use edd_syntax::reference::Path;
 use edd_syntax::symbols::{Keyword, Symbol};
 use edd_token_reader::cursor::Cursor;
 use edd_token_reader::fault::ParseFault;
-use edd_token_reader::left_out::{expect_item_brace, misfit_item};
+use edd_token_reader::left_out::misfit_item;
 use edd_token_reader::words::{integer, skip_comma, skip_semicolons};
 
 /// What an item is; a collection has the kind of its members.
@@ -46,30 +46,50 @@ fn kind_of(sort: Sort) -> Kind
 
 // The kind whose word is next.
 #[tactic(auto, unfolding(edd_grammar::specs::UnitReading::kind_at))]
-fn item_kind(cursor: &mut Cursor) -> Result<Kind, ParseFault>
-    ensures { Gives (λ k. k) result cursor.new (reading.kind_at cursor.old) }
+fn kind_word(cursor: &mut Cursor) -> Option<Kind>
+    ensures { Takes (λ k. k) result cursor.old cursor.new (reading.kind_at cursor.old) }
 {
     if cursor.is_at_word(Keyword::Variable) {
         cursor.skip();
-        return Ok(Kind::Variable);
+        return Some(Kind::Variable);
     }
     if cursor.is_at_word(Keyword::Command) {
         cursor.skip();
-        return Ok(Kind::Command);
+        return Some(Kind::Command);
     }
     if cursor.is_at_word(Keyword::Menu) {
         cursor.skip();
-        return Ok(Kind::Menu);
+        return Some(Kind::Menu);
     }
     if cursor.is_at_word(Keyword::Collection) {
         cursor.skip();
-        return Ok(Kind::Collection);
+        return Some(Kind::Collection);
     }
     if cursor.is_at_word(Keyword::Method) {
         cursor.skip();
-        return Ok(Kind::Method);
+        return Some(Kind::Method);
     }
-    Err(misfit_item(cursor))
+    None
+}
+
+// The kind of an item, at its beginning.
+fn item_kind(cursor: &mut Cursor) -> Result<Kind, ParseFault>
+    ensures { Gives (λ k. k) result cursor.new (reading.kind_at cursor.old) }
+{
+    match kind_word(cursor) {
+        Some(kind_read) => Ok(kind_read),
+        None => Err(misfit_item(cursor)),
+    }
+}
+
+// The kind of a collection's members, behind OF.
+fn member_kind(cursor: &mut Cursor) -> Result<Kind, ParseFault>
+    ensures { Gives (λ k. k) result cursor.new (reading.kind_at cursor.old) }
+{
+    match kind_word(cursor) {
+        Some(kind_read) => Ok(kind_read),
+        None => Err(cursor.syntax()),
+    }
 }
 
 // Behind COLLECTION: OF and the kind of its members.
@@ -83,7 +103,7 @@ fn sort_behind(cursor: &mut Cursor, kind_read: Kind) -> Result<Sort, ParseFault>
         Kind::Menu => Ok(Sort::Menu),
         Kind::Collection => {
             cursor.expect_word(Keyword::Of)?;
-            Ok(Sort::Collection(item_kind(cursor)?))
+            Ok(Sort::Collection(member_kind(cursor)?))
         }
         Kind::Method => Ok(Sort::Method),
     }
@@ -128,7 +148,7 @@ fn attributes(
     requires { high ≤ 100 }
     ensures { Gives (λ v. map attribute_view v.items) result cursor.new (reading.attributes_at kind high cursor.old) }
 {
-    expect_item_brace(cursor)?;
+    cursor.expect(Symbol::OpenBrace)?;
     let all = attribute_row(cursor, kind, high)?;
     cursor.expect(Symbol::CloseBrace)?;
     Ok(all)

@@ -5,7 +5,7 @@ use Rattle.edd_syntax.specs.Answers.{Answer, Go, Abort, answer_fault}
 use Rattle.edd_image.specs.declared.records.Request.{Request}
 use Rattle.edd_image.specs.declared.records.Status.{Status}
 use Rattle.edd_image.specs.declared.records.Status.TheVariants as status
-use Rattle.edd_image.specs.Execution.{Ending, Stuck, OutOfSteps, Outcome, answered, nothing_met, meet_by, closed, request_in, preceded, stepped, go_on, execute, resumed}
+use Rattle.edd_image.specs.Execution.{Ending, Stuck, OutOfSteps, Outcome, answered, nothing_met, meet_by, closed, request_in, preceded, stepped, go_on, unchanged, execute_following, execute, resumed}
 use Rattle.edd_image.specs.Steps.{State, Environment, Effect, step}
 use Rattle.edd_image.proofs.Meetings.{aborted, going_on}
 use Rattle.edd_port.specs.Runs.{followed}
@@ -95,10 +95,10 @@ module _ (env : Environment) where
 -- a state that was aborted stays so
 aborted_stays : (env : Environment) (k : ℕ) (t : State) (rest : List Answer) → t.status ≡ status.Aborted
     → preceded [] [] (execute env k t rest) ≡ closed (nothing_met t rest None) Ending.Aborted
-unfolding execute
-aborted_stays env zero t rest is = ap (λ (st : Status). let m = meet_by env st t rest in preceded [] [] (closed m (unwrap_or m.ending OutOfSteps))) is
+unfolding execute execute_following
+aborted_stays env zero t rest is = ap (λ (st : Status). let m = meet_by unchanged env st t rest in preceded [] [] (closed m (unwrap_or m.ending OutOfSteps))) is
 aborted_stays env (suc n) t rest is =
-    ap (λ (st : Status). let m = meet_by env st t rest in preceded [] [] (go_on m m.ending (step env m.state) (λ e. execute env n e.state m.answers))) is
+    ap (λ (st : Status). let m = meet_by unchanged env st t rest in preceded [] [] (go_on m m.ending (step env m.state) (λ e. execute env n e.state m.answers))) is
 
 -- a request that stands is met by an answer that can be taken
 pub met : (env : Environment) (k : ℕ) (s : State) (r : Request) (answer : Answer) (rest : List Answer) → s.status ≡ status.Asking r → answer_fault env.types answer ≡ None

@@ -5,7 +5,7 @@ use Rattle.edd_syntax.specs.Answers.{Change, Answer}
 use Rattle.edd_image.specs.declared.records.Request.{Request}
 use Rattle.edd_image.specs.declared.records.Status.{Status}
 use Rattle.edd_image.specs.declared.records.Status.TheVariants as status
-use Rattle.edd_image.specs.Execution.{Ending, Stuck, OutOfSteps, Outcome, nothing_met, meet_by, closed, request_in, preceded, stepped, go_on, execute}
+use Rattle.edd_image.specs.Execution.{Ending, Stuck, OutOfSteps, Outcome, nothing_met, meet_by, closed, request_in, preceded, stepped, go_on, unchanged, execute_following, execute}
 use Rattle.edd_image.specs.Steps.{State, Environment, Effect, step}
 use Rattle.edd_port.specs.Runs.{followed}
 use Rattle.edd_port.specs.Turns.{turn_of, ending_of}
@@ -25,10 +25,10 @@ behind_nothing s ending rest = same_outcome refl refl (zero-add rest.steps)
 module _ (env : Environment) where
   -- without steps nothing is done
   pub without_steps : (s : State) → execute env zero s [] ≡ halted s (ending_of (turn_of s.status))
-  unfolding execute
+  unfolding execute execute_following
   without_steps s = by_status s.status
     where
-      by_status : (st : Status) → closed (meet_by env st s []) (unwrap_or (meet_by env st s []).ending OutOfSteps) ≡ halted s (ending_of (turn_of st))
+      by_status : (st : Status) → closed (meet_by unchanged env st s []) (unwrap_or (meet_by unchanged env st s []).ending OutOfSteps) ≡ halted s (ending_of (turn_of st))
       by_status status.Running = refl
       by_status (status.Asking r) = refl
       by_status status.Ended = refl
@@ -37,12 +37,12 @@ module _ (env : Environment) where
 
   -- nor in a state that doesn't run
   pub at_rest : (n : ℕ) (s : State) → (s.status ≡ status.Running → ⊥) → execute env n s [] ≡ halted s (ending_of (turn_of s.status))
-  unfolding execute
+  unfolding execute execute_following
   at_rest zero s never = without_steps s
   at_rest (suc n) s never = by_status s.status never
     where
       by_status : (st : Status) → (st ≡ status.Running → ⊥)
-          → (let m = meet_by env st s [] in go_on m m.ending (step env m.state) (λ e. execute env n e.state m.answers)) ≡ halted s (ending_of (turn_of st))
+          → (let m = meet_by unchanged env st s [] in go_on m m.ending (step env m.state) (λ e. execute env n e.state m.answers)) ≡ halted s (ending_of (turn_of st))
       by_status status.Running h = absurd (h refl)
       by_status (status.Asking r) h = refl
       by_status status.Ended h = refl
@@ -52,9 +52,9 @@ module _ (env : Environment) where
   -- a running state that has no answer to wait for makes its step, under all answers
   pub goes_on : (n : ℕ) (s : State) (answers : List Answer) → s.status ≡ status.Running
       → execute env (suc n) s answers ≡ go_on (nothing_met s answers None) None (step env s) (λ e. execute env n e.state answers)
-  unfolding execute
+  unfolding execute execute_following
   goes_on n s answers runs =
-      ap (λ (st : Status). let m = meet_by env st s answers in go_on m m.ending (step env m.state) (λ e. execute env n e.state m.answers)) runs
+      ap (λ (st : Status). let m = meet_by unchanged env st s answers in go_on m m.ending (step env m.state) (λ e. execute env n e.state m.answers)) runs
 
   pub steps_on : (n : ℕ) (s : State) (answers : List Answer) (e : Effect) → s.status ≡ status.Running → step env s ≡ Some e
       → execute env (suc n) s answers ≡ stepped (preceded (request_in e.emitted) e.changes (execute env n e.state answers))

@@ -5,7 +5,7 @@ use Rattle.edd_syntax.specs.Answers.{Answer, Change, SetFault, answer_fault}
 use Rattle.edd_image.specs.declared.records.Request.{Request}
 use Rattle.edd_image.specs.declared.records.Status.{Status}
 use Rattle.edd_image.specs.declared.records.Status.TheVariants as status
-use Rattle.edd_image.specs.Execution.{Ending, Bad, Outcome, Meeting, answered, nothing_met, after_answer, meet_by, closed, go_on, execute, OutOfSteps}
+use Rattle.edd_image.specs.Execution.{Ending, Bad, Outcome, Meeting, answered, nothing_met, after_answer, meet_by, closed, go_on, unchanged, execute_following, execute, OutOfSteps}
 use Rattle.edd_image.specs.Steps.{State, Environment, step}
 use Rattle.edd_port.specs.Drives.{Executes, standing}
 use Rattle.edd_port.specs.Plays.{under}
@@ -24,10 +24,10 @@ halted_with s answers ending = record { requests = []; changes = []; state = s; 
 -- a state that is over stays, whatever answers are left; so does one that runs without steps
 stays : (env : Environment) (n : ℕ) (s : State) (answers : List Answer) → (s.status ≡ status.Running → n ≡ 0) → ((q : Request) → s.status ≢ status.Asking q)
     → execute env n s answers ≡ halted_with s answers (ending_of (turn_of s.status))
-unfolding execute
+unfolding execute execute_following
 stays env zero s answers last never = by_status s.status never
   where
-    by_status : (st : Status) → ((q : Request) → st ≢ status.Asking q) → (let m = meet_by env st s answers in closed m (unwrap_or m.ending OutOfSteps)) ≡ halted_with s answers (ending_of (turn_of st))
+    by_status : (st : Status) → ((q : Request) → st ≢ status.Asking q) → (let m = meet_by unchanged env st s answers in closed m (unwrap_or m.ending OutOfSteps)) ≡ halted_with s answers (ending_of (turn_of st))
     by_status status.Running h = refl
     by_status (status.Asking r) h = absurd (h r refl)
     by_status status.Ended h = refl
@@ -36,7 +36,7 @@ stays env zero s answers last never = by_status s.status never
 stays env (suc n) s answers last never = by_status s.status (λ e. omega (arith, last e)) never
   where
     by_status : (st : Status) → (st ≡ status.Running → ⊥) → ((q : Request) → st ≢ status.Asking q)
-        → (let m = meet_by env st s answers in go_on m m.ending (step env m.state) (λ e. execute env n e.state m.answers)) ≡ halted_with s answers (ending_of (turn_of st))
+        → (let m = meet_by unchanged env st s answers in go_on m m.ending (step env m.state) (λ e. execute env n e.state m.answers)) ≡ halted_with s answers (ending_of (turn_of st))
     by_status status.Running k h = absurd (k refl)
     by_status (status.Asking r) k h = absurd (h r refl)
     by_status status.Ended k h = refl
@@ -46,15 +46,15 @@ stays env (suc n) s answers last never = by_status s.status (λ e. omega (arith,
 -- an answer that can't be taken ends the run with its fault
 bad_ends : (env : Environment) (n : ℕ) (s : State) (q : Request) (answer : Answer) (rest : List Answer) (fault : SetFault) → s.status ≡ status.Asking q
     → answer_fault env.types answer ≡ Some fault → (execute env n s (answer ∷ rest)).ending ≡ Bad fault
-unfolding execute
+unfolding execute execute_following
 bad_ends env zero s q answer rest fault asks bad =
     let all : List Answer = answer ∷ rest in
-    ap (λ (st : Status). Outcome.ending (let m = meet_by env st s all in closed m (unwrap_or m.ending OutOfSteps))) asks
-    ∙ ap (λ (f : Option SetFault). Outcome.ending (let m : Meeting = elim f [ Some f' ↦ nothing_met s all (Some (Bad f')) | None ↦ after_answer (answered s answer) rest ] in closed m (unwrap_or m.ending OutOfSteps))) bad
+    ap (λ (st : Status). Outcome.ending (let m = meet_by unchanged env st s all in closed m (unwrap_or m.ending OutOfSteps))) asks
+    ∙ ap (λ (f : Option SetFault). Outcome.ending (let m : Meeting = elim f [ Some f' ↦ nothing_met s all (Some (Bad f')) | None ↦ after_answer unchanged (answered s answer) rest ] in closed m (unwrap_or m.ending OutOfSteps))) bad
 bad_ends env (suc n) s q answer rest fault asks bad =
     let all : List Answer = answer ∷ rest in
-    ap (λ (st : Status). Outcome.ending (let m = meet_by env st s all in go_on m m.ending (step env m.state) (λ e. execute env n e.state m.answers))) asks
-    ∙ ap (λ (f : Option SetFault). Outcome.ending (let m : Meeting = elim f [ Some f' ↦ nothing_met s all (Some (Bad f')) | None ↦ after_answer (answered s answer) rest ] in
+    ap (λ (st : Status). Outcome.ending (let m = meet_by unchanged env st s all in go_on m m.ending (step env m.state) (λ e. execute env n e.state m.answers))) asks
+    ∙ ap (λ (f : Option SetFault). Outcome.ending (let m : Meeting = elim f [ Some f' ↦ nothing_met s all (Some (Bad f')) | None ↦ after_answer unchanged (answered s answer) rest ] in
     go_on m m.ending (step env m.state) (λ e. execute env n e.state m.answers))) bad
 
 -- ---- turns

@@ -370,7 +370,7 @@ fn lists_have_each_entry(rt: HostRuntime) -> Result<(), Fail> {
 }
 
 // An item on the second line, and its fault.
-const FAULTS: [(&str, &str); 24] = [
+const FAULTS: [(&str, &str); 32] = [
     ("FILE f { }", "12 UNSUPPORTED FILE"),
     ("ARRAY OF VARIABLE a { }", "12 UNSUPPORTED ARRAY"),
     ("RESPONSE_CODES r { }", "12 UNSUPPORTED RESPONSE_CODES"),
@@ -380,6 +380,17 @@ const FAULTS: [(&str, &str); 24] = [
     ),
     ("w LIKE VARIABLE v { }", "12 UNSUPPORTED LIKE"),
     ("VARIABLE v LIKE w { }", "12 UNSUPPORTED LIKE"),
+    ("VARIABLE v { CLASS A LIKE B; }", "12 UNSUPPORTED LIKE"),
+    ("VARIABLE v { CLASS A & B LIKE C; }", "12 UNSUPPORTED LIKE"),
+    (
+        "COLLECTION OF VARIABLE c { MEMBERS { m, x LIKE y; } }",
+        "12 UNSUPPORTED LIKE",
+    ),
+    (
+        "METHOD m { DEFINITION { x LIKE y; } }",
+        "12 UNSUPPORTED LIKE",
+    ),
+    ("COLLECTION OF FILE c { }", "10 SYNTAX line 2"),
     (
         "VARIABLE v { TYPE INTEGER { MIN_VALUE1 1; } }",
         "12 UNSUPPORTED MIN_VALUE1",
@@ -392,15 +403,14 @@ const FAULTS: [(&str, &str); 24] = [
         "VARIABLE v { TYPE INTEGER { SCALING_FACTOR 1; } }",
         "12 UNSUPPORTED SCALING_FACTOR",
     ),
-    (
-        "VARIABLE v { PRE_EDIT_ACTIONS { } }",
-        "12 UNSUPPORTED PRE_EDIT_ACTIONS",
-    ),
+    ("VARIABLE v { PRE_EDIT_ACTIONS { } }", "10 SYNTAX line 2"),
+    ("VALUE_ARRAY a { }", "10 SYNTAX line 2"),
     ("MENU m { STYLE WINDOW; }", "12 UNSUPPORTED STYLE"),
     (
         "MENU m { ITEMS { a (COLUMNBREAK) } }",
         "12 UNSUPPORTED COLUMNBREAK",
     ),
+    ("MENU m { ITEMS { x (float) } }", "12 UNSUPPORTED float"),
     (
         "METHOD m { DEFINITION { float x; } }",
         "12 UNSUPPORTED float",
@@ -409,6 +419,7 @@ const FAULTS: [(&str, &str); 24] = [
         "METHOD m { DEFINITION { if (x) goto y; } }",
         "12 UNSUPPORTED goto",
     ),
+    ("METHOD m { DEFINITION { signed x; } }", "10 SYNTAX line 2"),
     ("METHOD m { DEFINITION { x = char; } }", "10 SYNTAX line 2"),
     ("SOMETHING s { }", "10 SYNTAX line 2"),
     ("VARIABLE v { NUMBER 1; }", "10 SYNTAX line 2"),
@@ -459,6 +470,25 @@ fn long_sum(alloc: Global, count: usize) -> Result<String, AllocError> {
     Ok(text)
 }
 
+// A declaration on two lines, in so many blocks.
+fn deep_declaration(alloc: Global, blocks: usize) -> Result<String, AllocError> {
+    let mut text = description(alloc, &["METHOD m { DEFINITION { "])?;
+    for _ in 0..blocks {
+        text.push_str("{ ")?;
+    }
+    text.push_str("int\nx;")?;
+    for _ in 0..blocks {
+        text.push_str(" }")?;
+    }
+    text.push_str(" } }")?;
+    Ok(text)
+}
+
+fn declaration_answers(alloc: Global, blocks: usize, expected: &str) -> Result<bool, AllocError> {
+    let text = deep_declaration(alloc, blocks)?;
+    answers(alloc, text.as_str(), expected)
+}
+
 fn deep_answers(alloc: Global, pairs: usize, expected: &str) -> Result<bool, AllocError> {
     let text = deep(alloc, pairs)?;
     answers(alloc, text.as_str(), expected)
@@ -478,6 +508,13 @@ const DEPTHS: [(usize, &str); 3] = [
 // A sum of 99 numbers is 99 levels high, and its statement one more.
 const SUMS: [(usize, &str); 2] = [(99, "1"), (100, "11 TOO_DEEP line 101")];
 
+// A declaration is one level below its block, and its declarators are one more.
+const DECLARATIONS: [(usize, &str); 3] = [
+    (98, "1"),
+    (99, "11 TOO_DEEP line 3"),
+    (100, "11 TOO_DEEP line 2"),
+];
+
 #[test]
 fn trees_have_a_height(rt: HostRuntime) -> Result<(), Fail> {
     let alloc = rt.alloc();
@@ -486,6 +523,12 @@ fn trees_have_a_height(rt: HostRuntime) -> Result<(), Fail> {
     }
     for (count, expected) in SUMS {
         assert!(rt; sum_answers(alloc, count, expected)?, "{count} numbers");
+    }
+    for (blocks, expected) in DECLARATIONS {
+        assert!(rt;
+            declaration_answers(alloc, blocks, expected)?,
+            "{blocks} blocks"
+        );
     }
     Ok(())
 }

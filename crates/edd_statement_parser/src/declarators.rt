@@ -68,13 +68,16 @@ pub fn is_at_local_type(cursor: &Cursor) -> bool
     cursor.is_at_word(Keyword::Int) || cursor.is_at_word(Keyword::Long)
 }
 
-/// A declaration of at most this height behind its type.
+/// A declaration of at most this height behind its type. Its declarators are one level below the type's word.
 #[tactic(auto, using(crate::proofs::BodyLoops::declarations))]
 pub fn declaration(cursor: &mut Cursor, high: u32) -> Result<Vec<Declarator<Path>>, ParseFault>
     requires { high ≤ 100 }
     ensures { Gives (λ v. map declarator_view v.items) result cursor.new (declaration_at high cursor.old) }
 {
-    if high < 2 {
+    if high == 0 {
+        return Err(cursor.too_deep_taken());
+    }
+    if high == 1 {
         return Err(cursor.too_deep());
     }
     let all = declarators(cursor, high - 2)?;

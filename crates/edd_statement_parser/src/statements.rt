@@ -19,7 +19,7 @@ use edd_syntax::stmt::{Part, Stmt};
 use edd_syntax::symbols::{Keyword, Symbol};
 use edd_token_reader::cursor::Cursor;
 use edd_token_reader::fault::ParseFault;
-use edd_token_reader::left_out::{left_out_reserved, unsupported};
+use edd_token_reader::left_out::left_out_reserved;
 use edd_token_reader::operators::Place;
 use std::alloc::Global;
 
@@ -104,7 +104,7 @@ fn switch_head(cursor: &mut Cursor, high: u32) -> Result<Expr<Path>, ParseFault>
 // The fault at a line, by the word that is left out if there is one.
 fn wrong_word(alloc: Global, word: Option<&str>, line: u32) -> ParseFault {
     match word {
-        Some(word) => unsupported(alloc, word),
+        Some(word) => ParseFault::unsupported(alloc, word),
         None => ParseFault::Syntax { line },
     }
 }

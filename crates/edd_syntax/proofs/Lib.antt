@@ -1,6 +1,7 @@
 pub mod Appending
 pub mod Bits
 pub mod CondRows
+pub mod EveryAttribute
 pub mod FirstLaws
 pub mod KeptItems
 pub mod WithinLimits
@@ -19,3 +20,4 @@ pub mod WorkedRows
 pub mod WorkedRuns
 pub mod WorkedShapes
 pub mod WorkedTexts
+pub mod WrappedNumbers

@@ -21,11 +21,9 @@ module _ (number : ItemNo) (a : Attr) where
 
   pub positions_split : (next : ℕ) (x : Attribute Target) (xs : List (Attribute Target)) → positions_from next (x ∷ xs) ≡ (if is_transaction x then row_of next x else []) ++ positions_from (if is_transaction x then suc next else next) xs
   unfolding rows_at
-  positions_split next (item.Label c) xs = refl
-  positions_split next (item.Help c) xs = refl
+  positions_split next (item.OneText which c) xs = refl
   positions_split next (item.Class words) xs = refl
   positions_split next (item.Handling c) xs = refl
-  positions_split next (item.ConstantUnit c) xs = refl
   positions_split next (item.Validity c) xs = refl
   positions_split next (item.TypeOf word parts) xs = refl
   positions_split next (item.Number n) xs = refl

@@ -55,11 +55,9 @@ made None make b v same h = absurd (none-some b h)
 made (Some x) make b v same h = sym (at_some is_transaction v (make x) b h) ∙ same x
 
 keeps_transaction : (unit : Description Path) (sort : ItemKind) (a : Attribute Path) (b : Attribute Target) → resolved_attribute unit sort a ≡ Some b → is_transaction b ≡ is_transaction a
-keeps_transaction unit sort (item.Label c) b h = made (resolved_cond (at_attribute unit) unchanged c) item.Label b false (λ x. refl) h
-keeps_transaction unit sort (item.Help c) b h = made (resolved_cond (at_attribute unit) unchanged c) item.Help b false (λ x. refl) h
+keeps_transaction unit sort (item.OneText which c) b h = made (resolved_cond (at_attribute unit) unchanged c) (item.OneText which) b false (λ x. refl) h
 keeps_transaction unit sort (item.Class words) b h = sym (at_some is_transaction false (item.Class words) b h)
 keeps_transaction unit sort (item.Handling c) b h = made (resolved_cond (at_attribute unit) unchanged c) item.Handling b false (λ x. refl) h
-keeps_transaction unit sort (item.ConstantUnit c) b h = made (resolved_cond (at_attribute unit) unchanged c) item.ConstantUnit b false (λ x. refl) h
 keeps_transaction unit sort (item.Validity c) b h = made (resolved_cond (at_attribute unit) unchanged c) item.Validity b false (λ x. refl) h
 keeps_transaction unit sort (item.TypeOf word parts) b h = made (each (resolved_type_part unit) parts) (item.TypeOf word) b false (λ x. refl) h
 keeps_transaction unit sort (item.Number n) b h = sym (at_some is_transaction false (item.Number n) b h)

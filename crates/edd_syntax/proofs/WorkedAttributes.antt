@@ -3,6 +3,7 @@ use Rattle.std.proofs.Common.{◌≡◌, refl, ℕ, ℤ, pos, List, [], ◌∷�
 use Rattle.std.specs.Prelude.{true, false, Some, None, Ok, Err, codes}
 use Rattle.edd_syntax.specs.declared.numbers.VarNo.{VarNo}
 use Rattle.edd_syntax.specs.declared.numbers.Kind.TheVariants as kind
+use Rattle.edd_syntax.specs.declared.numbers.TextAttribute.TheVariants as text_attribute
 use Rattle.edd_syntax.specs.declared.numbers.ItemNo.{ItemNo}
 use Rattle.edd_syntax.specs.declared.numbers.ItemNo.TheVariants as item_no
 use Rattle.edd_syntax.specs.declared.numbers.Attr.{Attr}
@@ -22,7 +23,7 @@ use Rattle.edd_syntax.specs.Reference.{Target, Item}
 use Rattle.edd_syntax.specs.Expression.{Expr, Literal, Reference, Binary, Compare}
 use Rattle.edd_syntax.specs.Conditional.{Value, If, Select, Conds, Nil, Cons, NoArms, ConsArm, Case, Default}
 use Rattle.edd_syntax.specs.Item as item
-use Rattle.edd_syntax.specs.Item.{Attribute, Description, TypeOf, Known, Validity, Label, Items, Transaction, Reply, Request, Constant, Variable}
+use Rattle.edd_syntax.specs.Item.{Attribute, Description, TypeOf, Known, Validity, OneText, Items, Transaction, Reply, Request, Constant, Variable}
 use Rattle.edd_syntax.specs.TwosComplement.{wrap, operate, compare}
 use Rattle.edd_syntax.specs.Words.{Words, Variants, words_of, text_for, pieces, unescape, english}
 use Rattle.edd_syntax.specs.Words as words
@@ -229,7 +230,7 @@ abbrev enumerated : Description Target
 enumerated = of_items (record {
   sort = item.VariableItem;
   name = codes "s";
-  attributes = Label (Value (Quoted (codes "|en|A|de|B"))) ∷ item.Help (Value (Quoted (codes "|en|A|de|C"))) ∷
+  attributes = OneText text_attribute.Label (Value (Quoted (codes "|en|A|de|B"))) ∷ item.OneText text_attribute.Help (Value (Quoted (codes "|en|A|de|C"))) ∷
       TypeOf (Known var_type.Enumerated None)
       (item.Element (Value (record { value = pos 0; text = Quoted (codes "Off"); help = None })) ∷
       item.Element (Value (record { value = pos 1; text = texts.Key (codes "on"); help = None })) ∷ []) ∷ [];

@@ -1,6 +1,7 @@
 -- Worked examples of the grammar: what some tokens spell, and what they don't.
 use Rattle.std.proofs.Common.{◌≡◌, refl, sym, subst, List, [], ◌∷◌, inl, inr, arith}
 use Rattle.std.specs.Prelude.{Some, codes}
+use Rattle.edd_syntax.specs.declared.numbers.TextAttribute.TheVariants as text_attribute
 use Rattle.edd_syntax.specs.declared.types.VarType.TheVariants as var_type
 use Rattle.edd_syntax.specs.declared.operators.Operator.TheVariants as operator
 use Rattle.edd_syntax.specs.declared.symbols.Keyword.{Keyword}
@@ -13,7 +14,7 @@ use Rattle.edd_syntax.specs.Expression.{Expr, Literal, Reference, Binary, Condit
 use Rattle.edd_syntax.specs.Conditional.{Value}
 use Rattle.edd_syntax.specs.Statement.{Empty, If, IfElse}
 use Rattle.edd_syntax.specs.Item as item
-use Rattle.edd_syntax.specs.Item.{Description, Attribute, TypeOf, Known, Label}
+use Rattle.edd_syntax.specs.Item.{Description, Attribute, TypeOf, Known, OneText}
 use Rattle.edd_syntax.specs.Grammar.{InMethod, ExprHere}
 use Rattle.edd_syntax.specs.StatementGrammar.{StmtHere}
 use Rattle.edd_syntax.specs.ItemGrammar.{AttributeHere, Spells}
@@ -59,7 +60,7 @@ pressure_tokens =
     Reserved word.DeviceRevision ∷ Integer 3 ∷ Sign sign.Comma ∷ Reserved word.DdRevision ∷ Integer 4 ∷ variable_tokens
 
 abbrev the_label : Attribute Path
-the_label = Label (Value (Quoted (codes "|en|Pressure|de|Druck")))
+the_label = OneText text_attribute.Label (Value (Quoted (codes "|en|Pressure|de|Druck")))
 
 abbrev the_type : Attribute Path
 the_type = TypeOf (Known var_type.Integer (Some 2)) []
@@ -75,7 +76,7 @@ pressure_unit = record {
 }
 
 label_is_spelled : (rest : List Token) → AttributeHere the_label (label_tokens rest) rest
-label_is_spelled rest = (_, refl, (codes "|en|Pressure|de|Druck", [], refl, (_, refl, (refl, λ h. h))))
+label_is_spelled rest = (_, (word.Label, refl, refl), (codes "|en|Pressure|de|Druck", [], refl, (_, refl, (refl, λ h. h))))
 
 type_is_spelled : (rest : List Token) → AttributeHere the_type (type_tokens rest) rest
 type_is_spelled rest = (_, refl, (_, _, refl, refl, inl (refl, refl)))

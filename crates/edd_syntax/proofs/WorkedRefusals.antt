@@ -3,6 +3,7 @@ use Rattle.std.proofs.Common.{◌≡◌, refl, ap, ℕ, zero, suc, pos, negsuc, 
 use Rattle.std.specs.Prelude.{false, Some, None, codes, replicate}
 use Rattle.edd_syntax.specs.declared.limits.Limit.TheVariants as limit
 use Rattle.edd_syntax.specs.declared.numbers.Kind.TheVariants as kind
+use Rattle.edd_syntax.specs.declared.numbers.TextAttribute.TheVariants as text_attribute
 use Rattle.edd_syntax.specs.declared.types.VarType.TheVariants as var_type
 use Rattle.edd_syntax.specs.declared.types.Operation.TheVariants as operation
 use Rattle.edd_syntax.specs.declared.item.DataQualifiers.{DataQualifiers}
@@ -15,7 +16,7 @@ use Rattle.edd_syntax.specs.Conditional.{Value, If, Select, NoArms, ConsArm, Cas
 use Rattle.edd_syntax.specs.Statement as s
 use Rattle.edd_syntax.specs.Statement.{Part, body_from, Declare, Statement, CaseLabel, DefaultLabel, slots_of}
 use Rattle.edd_syntax.specs.Item as item
-use Rattle.edd_syntax.specs.Item.{Description, Attribute, TypeOf, Known, Other, Label, Validity, Members, Definition}
+use Rattle.edd_syntax.specs.Item.{Description, Attribute, TypeOf, Known, Other, OneText, Validity, Members, Definition}
 use Rattle.edd_syntax.specs.TwosComplement.{wrap}
 use Rattle.edd_syntax.specs.Words.{words_of, pieces, unescape}
 use Rattle.edd_syntax.specs.Size.{attribute_height}
@@ -64,7 +65,7 @@ abbrev calls : Name → List (Argument Path) → Expr Path
 calls name arguments = Call (named name) (arguments_from arguments)
 
 abbrev label : Name → Attribute Path
-label text = Label (Value (Quoted text))
+label text = OneText text_attribute.Label (Value (Quoted text))
 
 abbrev command : List (item.TransactionPart Path) → item.Item Path
 command parts = record { sort = item.CommandItem; name = codes "c"; attributes = item.Number 1 ∷ item.Operation operation.Read ∷ item.Transaction None parts ∷ [] }
@@ -197,7 +198,7 @@ unfolding resolved_unit resolved_stmt resolved_expr slots_of wrap
 labels_equal_as_32_bits = refl
 
 -- `SELECT (x) { CASE 1: "a"; CASE 1: "b"; }` has equal labels, which is allowed
-equal_labels_of_select : refusal (of_items (variable (codes "x") (integer ∷ Label (Select (Reference (named (codes "x")))
+equal_labels_of_select : refusal (of_items (variable (codes "x") (integer ∷ OneText text_attribute.Label (Select (Reference (named (codes "x")))
     (ConsArm (Case (pos 1) (cond.Cons (Value (Quoted (codes "a"))) cond.Nil)) (ConsArm (Case (pos 1) (cond.Cons (Value (Quoted (codes "b"))) cond.Nil)) NoArms))) ∷ []) ∷ [])) ≡ None
 unfolding resolved_unit resolved_cond resolved_expr words_of pieces unescape
 equal_labels_of_select = refl

@@ -2,6 +2,7 @@
 use Rattle.std.proofs.Common.{◌≡◌, refl, ℕ, ℤ, pos, negsuc, List, [], ◌∷◌}
 use Rattle.std.specs.Prelude.{true, false, Some, None, codes}
 use Rattle.edd_syntax.specs.declared.numbers.Kind.TheVariants as kind
+use Rattle.edd_syntax.specs.declared.numbers.TextAttribute.TheVariants as text_attribute
 use Rattle.edd_syntax.specs.declared.types.VarType.TheVariants as var_type
 use Rattle.edd_syntax.specs.declared.types.Operation.TheVariants as operation
 use Rattle.edd_syntax.specs.declared.types.ResponseClass.TheVariants as class
@@ -12,7 +13,7 @@ use Rattle.edd_syntax.specs.Conditional as cond
 use Rattle.edd_syntax.specs.Conditional.{Cond, Value, If}
 use Rattle.edd_syntax.specs.Statement.{Break, Part, body_from, Statement, CaseLabel, Switch, Block, Evaluate}
 use Rattle.edd_syntax.specs.Item as item
-use Rattle.edd_syntax.specs.Item.{Attribute, TypeOf, Known, Label, Class, Members, Definition}
+use Rattle.edd_syntax.specs.Item.{Attribute, TypeOf, Known, OneText, Class, Members, Definition}
 use Rattle.edd_syntax.specs.Words.{Variants, Key, are_words}
 use Rattle.edd_syntax.specs.DeviceValues.{VariableType}
 use Rattle.edd_syntax.specs.Answers.{Answer, Go, BadVariable, OutOfRange, answer_fault}
@@ -36,7 +37,7 @@ one = Literal 1
 abbrev integer : Attribute Path
 integer = TypeOf (Known var_type.Integer None) []
 
-variable_with_label : is_item is_path is_plain (item_with item.VariableItem (Label (text (codes "a")) ∷ integer ∷ [])) ≡ true
+variable_with_label : is_item is_path is_plain (item_with item.VariableItem (OneText text_attribute.Label (text (codes "a")) ∷ integer ∷ [])) ≡ true
 variable_with_label = refl
 
 -- ITEMS belongs to menus
@@ -44,11 +45,11 @@ no_items_in_a_variable : is_item is_path is_plain (item_with item.VariableItem (
 no_items_in_a_variable = refl
 
 -- `LABEL IF (1) { "a"; "b"; }`
-one_value_in_a_branch : is_item is_path is_plain (item_with item.MenuItem (Label (If one (cond.Cons (text (codes "a")) (cond.Cons (text (codes "b")) cond.Nil)) cond.Nil) ∷ [])) ≡ false
+one_value_in_a_branch : is_item is_path is_plain (item_with item.MenuItem (OneText text_attribute.Label (If one (cond.Cons (text (codes "a")) (cond.Cons (text (codes "b")) cond.Nil)) cond.Nil) ∷ [])) ≡ false
 one_value_in_a_branch = refl
 
 -- `x\q`
-escapes_are_escapes : is_item is_path is_plain (item_with item.MenuItem (Label (text (120 ∷ 92 ∷ 113 ∷ [])) ∷ [])) ≡ false
+escapes_are_escapes : is_item is_path is_plain (item_with item.MenuItem (OneText text_attribute.Label (text (120 ∷ 92 ∷ 113 ∷ [])) ∷ [])) ≡ false
 escapes_are_escapes = refl
 
 abbrev body : List (Part Path) → Attribute Path
@@ -94,7 +95,7 @@ no_such_variable = refl
 -- ---- nodes
 
 -- LABEL with its value, CLASS with two words, TYPE with a list of two enumerators: 2 + 3 + 4
-nodes_of_a_variable : item_nodes (item_with item.VariableItem (Label (text (codes "a")) ∷ Class (codes "A" ∷ codes "B" ∷ []) ∷
+nodes_of_a_variable : item_nodes (item_with item.VariableItem (OneText text_attribute.Label (text (codes "a")) ∷ Class (codes "A" ∷ codes "B" ∷ []) ∷
     TypeOf (Known var_type.Enumerated None) (item.Element (Value (record { value = pos 0; text = Quoted (codes "a"); help = None })) ∷ item.Element (Value (record { value = pos 1; text = Quoted (codes "b"); help = None })) ∷ []) ∷ [])) ≡ 9
 nodes_of_a_variable = refl
 

@@ -22,7 +22,7 @@ use Rattle.edd_syntax.specs.Item as item
 use Rattle.edd_syntax.specs.Item.{kind_of_item, MenuEntry, DataItem, TypePart, TransactionPart, Attribute, Description}
 use Rattle.edd_syntax.specs.Words as words
 use Rattle.edd_syntax.specs.Words.{words_of, name_words}
-use Rattle.edd_syntax.specs.Numbers.{has_attr, same_attr}
+use Rattle.edd_syntax.specs.Numbers.{has_attr, same_attr, text_attr}
 use Rattle.edd_syntax.specs.Device.{Environment, environment, item_at}
 use Rattle.edd_syntax.specs.AttributeValue.{Trapping, ◌>>=◌, value, chosen, all_chosen}
 
@@ -156,11 +156,9 @@ module _ (env : Environment) where
 
   -- the attributes that one written attribute stands for; transactions go by their position
   abbrev pub of_attribute : Attribute Target → List Named
-  of_attribute (item.Label c) = (attr.Label, texts c) ∷ []
-  of_attribute (item.Help c) = (attr.Help, texts c) ∷ []
+  of_attribute (item.OneText which c) = (text_attr which, texts c) ∷ []
   of_attribute (item.Class names) = (attr.Class, constant (map (λ n. Words (name_words n)) names)) ∷ []
   of_attribute (item.Handling c) = (attr.Handling, one (λ h. Number (pos (handling_number h))) c) ∷ []
-  of_attribute (item.ConstantUnit c) = (attr.ConstantUnit, texts c) ∷ []
   of_attribute (item.Validity c) = (attr.Validity, one (λ valid. Number (pos (bit valid))) c) ∷ []
   of_attribute (item.TypeOf word parts) = (attr.Enumerators, list enumerator (elements parts)) ∷ of_parts parts
   of_attribute (item.Number n) = (attr.Number, constant (Number (pos n) ∷ [])) ∷ []

@@ -2,6 +2,7 @@
 use Rattle.std.specs.Prelude.{ℕ, ℤ, Bool, List, Option}
 use Rattle.edd_syntax.specs.declared.numbers.Kind.{Kind}
 use Rattle.edd_syntax.specs.declared.numbers.Kind.TheVariants as kind
+use Rattle.edd_syntax.specs.declared.numbers.TextAttribute.{TextAttribute}
 use Rattle.edd_syntax.specs.declared.types.VarType.{VarType}
 use Rattle.edd_syntax.specs.declared.types.Handling as handling
 use Rattle.edd_syntax.specs.declared.types.Operation as operation
@@ -65,11 +66,9 @@ pub data TransactionPart (R : Type 0) : Type 0 where
 
 -- an attribute as written
 pub data Attribute (R : Type 0) : Type 0 where
-  Label : Cond R texts.Text → Attribute R
-  Help : Cond R texts.Text → Attribute R
+  OneText : TextAttribute → Cond R texts.Text → Attribute R
   Class : List Name → Attribute R
   Handling : Cond R handling.Handling → Attribute R
-  ConstantUnit : Cond R texts.Text → Attribute R
   Validity : Cond R Bool → Attribute R
   TypeOf : TypeWord → List (TypePart R) → Attribute R
   Number : ℕ → Attribute R

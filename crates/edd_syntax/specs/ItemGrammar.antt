@@ -4,6 +4,7 @@ use Rattle.std.specs.Prelude.{◌≡◌, ◌⊎◌, ℕ, zero, suc, nat_le, Bool
 use Rattle.std.specs.List.{list_all}
 use Rattle.edd_syntax.specs.declared.numbers.Kind.{Kind}
 use Rattle.edd_syntax.specs.declared.numbers.Kind.TheVariants as kind
+use Rattle.edd_syntax.specs.declared.numbers.TextAttribute.{TextAttribute}
 use Rattle.edd_syntax.specs.declared.types.VarType.{VarType}
 use Rattle.edd_syntax.specs.declared.types.VarType.TheVariants as var_type
 use Rattle.edd_syntax.specs.declared.types.Handling.{Handling}
@@ -29,6 +30,7 @@ use Rattle.edd_syntax.specs.Item as item
 use Rattle.edd_syntax.specs.Item.{ItemKind, VariableItem, CommandItem, MenuItem, CollectionItem, MethodItem, kind_of_item, TypePart, TransactionPart, Attribute, Item, Identification, Description}
 use Rattle.edd_syntax.specs.Size.{item_height, height_limit}
 use Rattle.edd_syntax.specs.WellFormed.{belongs_to}
+use Rattle.edd_syntax.specs.Numbers.{text_of_word}
 use Rattle.edd_syntax.specs.Refusal.{is_name_in}
 use Rattle.edd_syntax.specs.Grammar.{Next, NextSign, NextWord, OptionalSign, PathHere, PlainHere, TextHere, InAttribute, ExprHere}
 use Rattle.edd_syntax.specs.StatementGrammar.{LabelHere, OneHere, ListHere, ElementHere, BodyHere}
@@ -262,13 +264,15 @@ NumberHere (Some n) here rest = Next (Integer n) here rest
 
 -- ---- attributes
 
+-- the word of an attribute that is one text
+abbrev pub TextWordHere : TextAttribute → List Token → List Token → Type 0
+TextWordHere which here rest = (k : Keyword) × (text_of_word k ≡ Some which) × NextWord k here rest
+
 abbrev pub AttributeHere : Attribute Path → List Token → List Token → Type 0
-AttributeHere (item.Label c) here rest = (behind : List Token) × NextWord word.Label here behind × OneHere TextHere c behind rest
-AttributeHere (item.Help c) here rest = (behind : List Token) × NextWord word.Help here behind × OneHere TextHere c behind rest
+AttributeHere (item.OneText which c) here rest = (behind : List Token) × TextWordHere which here behind × OneHere TextHere c behind rest
 AttributeHere (item.Class names) here rest =
     (behind : List Token) × NextWord word.Class here behind × NamesHere (sign.Operator operator.And) names behind (Sign sign.Semicolon ∷ rest)
 AttributeHere (item.Handling c) here rest = (behind : List Token) × NextWord word.Handling here behind × OneHere HandlingHere c behind rest
-AttributeHere (item.ConstantUnit c) here rest = (behind : List Token) × NextWord word.ConstantUnit here behind × OneHere TextHere c behind rest
 AttributeHere (item.Validity c) here rest = (behind : List Token) × NextWord word.Validity here behind × OneHere TruthHere c behind rest
 AttributeHere (item.TypeOf type parts) here rest = (behind : List Token) × NextWord word.Type here behind × TypeHere type parts behind rest
 AttributeHere (item.Number n) here rest = here ≡ Reserved word.Number ∷ Integer n ∷ Sign sign.Semicolon ∷ rest

@@ -92,11 +92,9 @@ transaction_part_of f (transaction.Request all) = items.Request (conds_of f (dat
 transaction_part_of f (transaction.Reply all) = items.Reply (conds_of f (data_item_of f) all.items)
 
 abbrev pub attribute_of : {R S : Type 0} → (R → S) → Attribute R → items.Attribute S
-attribute_of f (attribute.Label c) = items.Label (cond_of f text_of c)
-attribute_of f (attribute.Help c) = items.Help (cond_of f text_of c)
+attribute_of f (attribute.OneText which c) = items.OneText which (cond_of f text_of c)
 attribute_of f (attribute.Class words) = items.Class (map string_bytes words.items)
 attribute_of f (attribute.Handling c) = items.Handling (cond_of f (λ h. h) c)
-attribute_of f (attribute.ConstantUnit c) = items.ConstantUnit (cond_of f text_of c)
 attribute_of f (attribute.Validity c) = items.Validity (cond_of f (λ b. b) c)
 attribute_of f (attribute.TypeOf word parts) = items.TypeOf (type_word_of word) (map (type_part_of f) parts.items)
 attribute_of f (attribute.Number n) = items.Number n

@@ -36,3 +36,4 @@ pub mod TwosComplement
 pub mod WellFormed
 pub mod Words
 pub mod WordsView
+pub mod WrappingLaw

@@ -11,7 +11,7 @@ use Rattle.edd_syntax.specs.declared.symbols.Keyword.TheVariants as keyword
 use Rattle.edd_syntax.specs.Text.{Name}
 use Rattle.edd_syntax.specs.Reference.{Path}
 use Rattle.edd_syntax.specs.Token.{spelling}
-use Rattle.edd_syntax.specs.Numbers.{same_kind, kind_of, attr_word}
+use Rattle.edd_syntax.specs.Numbers.{same_kind, kind_of, attr_word, text_attr}
 use Rattle.edd_syntax.specs.Statement as s
 use Rattle.edd_syntax.specs.Statement.{Declarator, Stmt, Body, Nil, Cons, Declare, Statement, CaseLabel, DefaultLabel, slots_in}
 use Rattle.edd_syntax.specs.Item as item
@@ -112,11 +112,9 @@ duplicate_names unit = map DuplicateName (repeated_in_items [] unit.items)
 -- ---- an attribute of an item, of a transaction or of a type's braces that stands there already
 
 abbrev pub attribute_word : {R : Type 0} → Attribute R → Name
-attribute_word (item.Label c) = attr_word attr.Label
-attribute_word (item.Help c) = attr_word attr.Help
+attribute_word (item.OneText which c) = attr_word (text_attr which)
 attribute_word (item.Class words) = attr_word attr.Class
 attribute_word (item.Handling c) = attr_word attr.Handling
-attribute_word (item.ConstantUnit c) = attr_word attr.ConstantUnit
 attribute_word (item.Validity c) = attr_word attr.Validity
 attribute_word (item.TypeOf word parts) = spelling keyword.Type
 attribute_word (item.Number n) = attr_word attr.Number

@@ -121,11 +121,9 @@ transaction_part_uses (item.Request all) = conds_uses data_uses all
 transaction_part_uses (item.Reply all) = conds_uses data_uses all
 
 abbrev pub attribute_uses : ItemKind → Attribute Path → List Use
-attribute_uses sort (item.Label c) = cond_uses no_uses c
-attribute_uses sort (item.Help c) = cond_uses no_uses c
+attribute_uses sort (item.OneText which c) = cond_uses no_uses c
 attribute_uses sort (item.Class words) = []
 attribute_uses sort (item.Handling c) = cond_uses no_uses c
-attribute_uses sort (item.ConstantUnit c) = cond_uses no_uses c
 attribute_uses sort (item.Validity c) = cond_uses no_uses c
 attribute_uses sort (item.TypeOf word parts) = flat_map type_part_uses parts
 attribute_uses sort (item.Number n) = []

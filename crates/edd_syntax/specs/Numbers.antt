@@ -1,6 +1,7 @@
 -- The numbers and the words of kinds and of attributes, and which kinds have which attributes.
 use Rattle.std.specs.Prelude.{ℕ, Bool, ◌==◌, if◌then◌else◌, List, [], ◌∷◌, Option, Some, None, codes}
 use Rattle.std.specs.List.{list_any}
+use Rattle.edd_syntax.specs.declared.symbols.Keyword.{Keyword}
 use Rattle.edd_syntax.specs.declared.symbols.Keyword.TheVariants as keyword
 use Rattle.edd_syntax.specs.declared.numbers.Kind.{Kind}
 use Rattle.edd_syntax.specs.declared.numbers.Kind.TheVariants.{Variable, Command, Menu, Collection, Method}
@@ -8,6 +9,8 @@ use Rattle.edd_syntax.specs.declared.numbers.ItemNo.{ItemNo}
 use Rattle.edd_syntax.specs.declared.numbers.ItemNo.TheVariants as item_no
 use Rattle.edd_syntax.specs.declared.numbers.Attr.{Attr}
 use Rattle.edd_syntax.specs.declared.numbers.Attr.TheVariants as attr
+use Rattle.edd_syntax.specs.declared.numbers.TextAttribute.{TextAttribute}
+use Rattle.edd_syntax.specs.declared.numbers.TextAttribute.TheVariants as text
 use Rattle.edd_syntax.specs.Text.{Name}
 use Rattle.edd_syntax.specs.Token.{spelling}
 
@@ -166,5 +169,19 @@ kinds_with attr.Items = Menu ∷ []
 kinds_with attr.Members = Collection ∷ []
 kinds_with attr.Definition = Method ∷ []
 
+-- the attribute that a text is
+abbrev pub text_attr : TextAttribute → Attr
+text_attr text.Label = attr.Label
+text_attr text.Help = attr.Help
+text_attr text.ConstantUnit = attr.ConstantUnit
+
+-- the attribute with this word, where it is one text
+abbrev pub text_of_word : Keyword → Option TextAttribute
+text_of_word keyword.Label = Some text.Label
+text_of_word keyword.Help = Some text.Help
+text_of_word keyword.ConstantUnit = Some text.ConstantUnit
+text_of_word _ = None
+
+-- whether items of the kind may have the attribute
 abbrev pub has_attr : Kind → Attr → Bool
 has_attr kind a = list_any (same_kind kind) (kinds_with a)

@@ -198,11 +198,9 @@ module _ (unit : Description Path) where
   resolved_transaction_part (item.Reply all) = do all' ← resolved_conds at_attribute resolved_data all; Some (item.Reply all')
 
   abbrev pub resolved_attribute : ItemKind → Attribute Path → Option (Attribute Target)
-  resolved_attribute sort (item.Label c) = do c' ← resolved_one c; Some (item.Label c')
-  resolved_attribute sort (item.Help c) = do c' ← resolved_one c; Some (item.Help c')
+  resolved_attribute sort (item.OneText which c) = do c' ← resolved_one c; Some (item.OneText which c')
   resolved_attribute sort (item.Class words) = Some (item.Class words)
   resolved_attribute sort (item.Handling c) = do c' ← resolved_one c; Some (item.Handling c')
-  resolved_attribute sort (item.ConstantUnit c) = do c' ← resolved_one c; Some (item.ConstantUnit c')
   resolved_attribute sort (item.Validity c) = do c' ← resolved_one c; Some (item.Validity c')
   resolved_attribute sort (item.TypeOf word parts) = do parts' ← each resolved_type_part parts; Some (item.TypeOf word parts')
   resolved_attribute sort (item.Number n) = Some (item.Number n)

@@ -8,7 +8,7 @@ use Rattle.edd_syntax.specs.declared.numbers.ItemNo.{ItemNo}
 use Rattle.edd_syntax.specs.declared.numbers.AttrRef.{AttrRef}
 use Rattle.edd_syntax.specs.Item as item
 use Rattle.edd_syntax.specs.Item.{kind_of_item, TypePart, Attribute, Item}
-use Rattle.edd_syntax.specs.Numbers.{same_kind, same_attr, item_number}
+use Rattle.edd_syntax.specs.Numbers.{same_kind, same_attr, item_number, text_attr}
 use Rattle.edd_syntax.specs.NameRules.{kinds}
 use Rattle.edd_syntax.specs.Attributes.{is_of_transaction}
 
@@ -28,11 +28,9 @@ part_stands_for a p = same_attr a (part_attr p)
 
 -- TYPE stands for what its braces hold; transactions go by their position
 abbrev pub written_attrs : {R : Type 0} → Attribute R → List Attr
-written_attrs (item.Label c) = attr.Label ∷ []
-written_attrs (item.Help c) = attr.Help ∷ []
+written_attrs (item.OneText which c) = text_attr which ∷ []
 written_attrs (item.Class words) = attr.Class ∷ []
 written_attrs (item.Handling c) = attr.Handling ∷ []
-written_attrs (item.ConstantUnit c) = attr.ConstantUnit ∷ []
 written_attrs (item.Validity c) = attr.Validity ∷ []
 written_attrs (item.TypeOf word parts) = map part_attr parts
 written_attrs (item.Number n) = attr.Number ∷ []

@@ -111,11 +111,9 @@ transaction_part_nodes (item.Reply all) = 1 + conds_nodes leaf all
 -- Each written attribute is a node, and so is each class word, response code and member. The elements of a type's list are
 -- together one more.
 abbrev pub attribute_nodes : {R : Type 0} → Attribute R → ℕ
-attribute_nodes (item.Label c) = 1 + cond_nodes leaf c
-attribute_nodes (item.Help c) = 1 + cond_nodes leaf c
+attribute_nodes (item.OneText which c) = 1 + cond_nodes leaf c
 attribute_nodes (item.Class words) = 1 + length words
 attribute_nodes (item.Handling c) = 1 + cond_nodes leaf c
-attribute_nodes (item.ConstantUnit c) = 1 + cond_nodes leaf c
 attribute_nodes (item.Validity c) = 1 + cond_nodes leaf c
 attribute_nodes (item.TypeOf word parts) = 1 + ((if list_any is_element parts then 1 else 0) + sum (map type_part_nodes parts))
 attribute_nodes (item.Number n) = 1
@@ -222,11 +220,9 @@ greatest_of (n ∷ rest) = max n (greatest_of rest)
 
 -- attributes and transactions themselves don't count
 abbrev pub attribute_height : {R : Type 0} → Attribute R → ℕ
-attribute_height (item.Label c) = cond_height leaf c
-attribute_height (item.Help c) = cond_height leaf c
+attribute_height (item.OneText which c) = cond_height leaf c
 attribute_height (item.Class words) = 0
 attribute_height (item.Handling c) = cond_height leaf c
-attribute_height (item.ConstantUnit c) = cond_height leaf c
 attribute_height (item.Validity c) = cond_height leaf c
 attribute_height (item.TypeOf word parts) = greatest_of (map type_part_height parts)
 attribute_height (item.Number n) = 0

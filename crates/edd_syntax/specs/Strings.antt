@@ -61,11 +61,9 @@ abbrev pub member_strings : {R : Type 0} → item.Member R → List Words
 member_strings m = name_words m.name ∷ strings_of_texts (optional_text m.label ++ optional_text m.help)
 
 abbrev pub attribute_strings : {R : Type 0} → Attribute R → List Words
-attribute_strings (item.Label c) = strings_of_texts (values_in c)
-attribute_strings (item.Help c) = strings_of_texts (values_in c)
+attribute_strings (item.OneText which c) = strings_of_texts (values_in c)
 attribute_strings (item.Class words) = map name_words words
 attribute_strings (item.Handling c) = []
-attribute_strings (item.ConstantUnit c) = strings_of_texts (values_in c)
 attribute_strings (item.Validity c) = []
 attribute_strings (item.TypeOf word parts) = strings_of_texts (flat_map type_part_texts parts)
 attribute_strings (item.Number n) = []

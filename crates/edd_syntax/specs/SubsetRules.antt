@@ -108,11 +108,9 @@ transaction_part_expressions (item.Request all) = conds_expressions no_expressio
 transaction_part_expressions (item.Reply all) = conds_expressions no_expressions all
 
 abbrev pub attribute_expressions : {R : Type 0} → Attribute R → List (Placed R)
-attribute_expressions (item.Label c) = cond_expressions no_expressions c
-attribute_expressions (item.Help c) = cond_expressions no_expressions c
+attribute_expressions (item.OneText which c) = cond_expressions no_expressions c
 attribute_expressions (item.Class words) = []
 attribute_expressions (item.Handling c) = cond_expressions no_expressions c
-attribute_expressions (item.ConstantUnit c) = cond_expressions no_expressions c
 attribute_expressions (item.Validity c) = cond_expressions no_expressions c
 attribute_expressions (item.TypeOf word parts) = flat_map type_part_expressions parts
 attribute_expressions (item.Number n) = []
@@ -389,11 +387,9 @@ transaction_part_defaults (item.Request all) = conds_defaults all
 transaction_part_defaults (item.Reply all) = conds_defaults all
 
 abbrev pub repeated_cases : Attribute Target → List Refusal
-repeated_cases (item.Label c) = cond_defaults c
-repeated_cases (item.Help c) = cond_defaults c
+repeated_cases (item.OneText which c) = cond_defaults c
 repeated_cases (item.Class words) = []
 repeated_cases (item.Handling c) = cond_defaults c
-repeated_cases (item.ConstantUnit c) = cond_defaults c
 repeated_cases (item.Validity c) = cond_defaults c
 repeated_cases (item.TypeOf word parts) = flat_map type_part_defaults parts
 repeated_cases (item.Number n) = []

@@ -17,7 +17,7 @@ use Rattle.edd_syntax.specs.Statement as s
 use Rattle.edd_syntax.specs.Statement.{Declarator, Stmt, Part, Body, Nil, Cons, Declare, Statement, CaseLabel, DefaultLabel}
 use Rattle.edd_syntax.specs.Item as item
 use Rattle.edd_syntax.specs.Item.{kind_of_item, TypePart, TransactionPart, Attribute, Item}
-use Rattle.edd_syntax.specs.Numbers.{has_attr, same_kind}
+use Rattle.edd_syntax.specs.Numbers.{has_attr, same_kind, text_attr}
 use Rattle.edd_syntax.specs.Words.{has_escapes}
 use Rattle.edd_syntax.specs.Size.{attribute_height, height_limit}
 
@@ -52,11 +52,9 @@ is_plain p = is_name p.base && not (is_not_empty p.members)
 
 -- an attribute of this kind of item
 abbrev pub belongs_to : {R : Type 0} → Kind → Attribute R → Bool
-belongs_to k (item.Label c) = has_attr k attr.Label
-belongs_to k (item.Help c) = has_attr k attr.Help
+belongs_to k (item.OneText which c) = has_attr k (text_attr which)
 belongs_to k (item.Class words) = has_attr k attr.Class
 belongs_to k (item.Handling c) = has_attr k attr.Handling
-belongs_to k (item.ConstantUnit c) = has_attr k attr.ConstantUnit
 belongs_to k (item.Validity c) = has_attr k attr.Validity
 belongs_to k (item.TypeOf word parts) = same_kind k kind.Variable
 belongs_to k (item.Number n) = has_attr k attr.Number
@@ -217,11 +215,9 @@ module _ {R : Type 0} (good plain : R → Bool) where
   is_transaction_part (item.Reply all) = are_conds is_data_item all
 
   abbrev pub is_attribute : Attribute R → Bool
-  is_attribute (item.Label c) = one is_text c
-  is_attribute (item.Help c) = one is_text c
+  is_attribute (item.OneText which c) = one is_text c
   is_attribute (item.Class words) = is_not_empty words && list_all is_name words
   is_attribute (item.Handling c) = one any_value c
-  is_attribute (item.ConstantUnit c) = one is_text c
   is_attribute (item.Validity c) = one any_value c
   is_attribute (item.TypeOf word parts) = is_type word parts
   is_attribute (item.Number n) = is_number n

@@ -2,7 +2,7 @@
 
 use crate::cond::Cond;
 use crate::expr::Expr;
-use crate::numbers::Kind;
+use crate::numbers::{Kind, TextAttribute};
 use crate::stmt::Part;
 use crate::text::Text;
 use crate::types::{Handling, Operation, ResponseClass, VarType};
@@ -101,11 +101,9 @@ pub enum TransactionPart<R> {
 /// An attribute as it is written.
 #[derive(Drop)]
 pub enum Attribute<R> {
-    Label(Cond<R, Text>),
-    Help(Cond<R, Text>),
+    OneText(TextAttribute, Cond<R, Text>),
     Class(Vec<String>),
     Handling(Cond<R, Handling>),
-    ConstantUnit(Cond<R, Text>),
     Validity(Cond<R, bool>),
     TypeOf {
         word: TypeWord,

@@ -1,6 +1,7 @@
 //! Laws of the meaning of the source.
 
 ghost use Rattle.edd_syntax.specs.MoreTurns.{StatementsStay, BodiesStay, RunsStay};
+ghost use Rattle.edd_syntax.specs.WrappingLaw.{WrappingKeepsTheNumber};
 
 /// What a statement comes to, other than for want of turns, stays where each loop has more turns.
 pub fn statements_stay()
@@ -12,4 +13,9 @@ pub fn statements_stay()
 pub fn runs_stay()
     ensures bodies { BodiesStay }
     ensures methods { RunsStay }
+{}
+
+/// A number that is wrapped to a width lies in the range of that width, a multiple of 2 to the power of the width from what it was.
+pub fn wrapping_keeps_the_number()
+    ensures { WrappingKeepsTheNumber }
 {}

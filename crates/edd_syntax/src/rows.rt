@@ -52,11 +52,9 @@ fn stands_for(attribute: &Attribute<Target>, attr: Attr) -> bool
     ensures { result ≡ order.stands_for attr (attribute_of (λ r. r) attribute.now) }
 {
     let written = match attribute {
-        Attribute::Label(_) => Attr::Label,
-        Attribute::Help(_) => Attr::Help,
+        Attribute::OneText(which, _) => which.attr(),
         Attribute::Class(_) => Attr::Class,
         Attribute::Handling(_) => Attr::Handling,
-        Attribute::ConstantUnit(_) => Attr::ConstantUnit,
         Attribute::Validity(_) => Attr::Validity,
         Attribute::TypeOf { parts, .. } => return has_part(parts, attr),
         Attribute::Number(_) => Attr::Number,

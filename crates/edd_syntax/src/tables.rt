@@ -6,7 +6,7 @@ ghost use Rattle.edd_syntax.specs.Numbers as numbers;
 ghost use Rattle.edd_syntax.specs.Resolution.{builtin_name};
 ghost use Rattle.edd_syntax.specs.SubsetRules.{parameters};
 
-use crate::numbers::{Attr, CmdNo, CollNo, ItemNo, Kind, MenuNo, MethNo, VarNo};
+use crate::numbers::{Attr, CmdNo, CollNo, ItemNo, Kind, MenuNo, MethNo, TextAttribute, VarNo};
 use crate::operators::{Builtin, Parameter};
 use crate::symbols::Keyword;
 
@@ -189,6 +189,31 @@ impl Attr {
         ensures { result ≡ attributes.is_of_transaction self }
     {
         matches!(self, Attr::Transaction | Attr::Request | Attr::Reply)
+    }
+}
+
+impl TextAttribute {
+    /// The attribute of an item that it is (EDDL, IEC 61804-3).
+    pub fn attr(self) -> Attr
+        ensures { result ≡ numbers.text_attr self }
+    {
+        match self {
+            TextAttribute::Label => Attr::Label,
+            TextAttribute::Help => Attr::Help,
+            TextAttribute::ConstantUnit => Attr::ConstantUnit,
+        }
+    }
+
+    /// The attribute with this word, where it is one text (EDDL, IEC 61804-3).
+    pub fn from_word(word: Keyword) -> Option<TextAttribute>
+        ensures { result ≡ numbers.text_of_word word }
+    {
+        match word {
+            Keyword::Label => Some(TextAttribute::Label),
+            Keyword::Help => Some(TextAttribute::Help),
+            Keyword::ConstantUnit => Some(TextAttribute::ConstantUnit),
+            _ => None,
+        }
     }
 }
 

@@ -7,15 +7,15 @@ ghost use Rattle.edd_grammar.specs.ExpressionReading.{operator_at, assignment_at
 ghost use Rattle.edd_token_reader.specs.Views.{piece_token, infix_view, assignment_view, Leaves, Takes};
 ghost use Rattle.edd_grammar.specs.WordReading.{integer_at, at_name, expect_name, at_end};
 ghost use Rattle.edd_token_reader.specs.Pieces.{member_at, string_at, further_name_at};
-ghost use Rattle.edd_grammar.specs.AttributeReading.{begins_own};
+ghost use Rattle.edd_grammar.specs.AttributeReading.{begins_own, text_here};
 
 use crate::belongs::word_belongs;
 use crate::fault::ParseFault;
 use crate::operators::{Assignment, Infix, assignment_of, behind_of, infix_of, row_of};
 use crate::piece::Piece;
 use crate::same::{same_sign, same_word};
-use edd_lexer::token::Token;
-use edd_syntax::numbers::Kind;
+use edd_lexer::token::{Token, TokenKind};
+use edd_syntax::numbers::{Kind, TextAttribute};
 use edd_syntax::operators::{IncrementOperator, Operator};
 use edd_syntax::symbols::{Keyword, Symbol};
 use std::alloc::Global;
@@ -55,29 +55,50 @@ impl<'a> Cursor<'a> {
         self.alloc
     }
 
-    // The line of the first of the last `left` tokens, or of the text's end.
-    fn line_of_last(&self, left: usize) -> u32 {
+    // The first of the last `left` tokens, if there are so many and not none.
+    fn first_of_last(&self, left: usize) -> Option<&'a Token> {
         if left > self.tokens.len() {
-            return self.last_line;
+            return None;
         }
-        match self.tokens.get(self.tokens.len() - left) {
+        self.tokens.get(self.tokens.len() - left)
+    }
+
+    // The token that was taken last.
+    fn taken(&self) -> Option<&'a Token> {
+        self.first_of_last(self.rest.len().saturating_add(1))
+    }
+
+    // The line of a token, or of the text's end.
+    fn line_of(&self, token: Option<&Token>) -> u32 {
+        match token {
             Some(token) => token.line,
             None => self.last_line,
         }
     }
 
+    // Whether the token that was taken last is a name.
+    fn has_taken_name(&self) -> bool {
+        match self.taken() {
+            Some(token) => matches!(token.kind, TokenKind::Name),
+            None => false,
+        }
+    }
+
     /// The line of the token that is next, or of the text's end.
     pub fn line(&self) -> u32 {
-        self.line_of_last(self.rest.len())
+        self.line_of(self.first_of_last(self.rest.len()))
     }
 
     /// The line of the token that was taken last.
     pub fn taken_line(&self) -> u32 {
-        self.line_of_last(self.rest.len().saturating_add(1))
+        self.line_of(self.taken())
     }
 
-    /// The fault where the next token fits nothing.
+    /// The fault where the next token fits nothing. LIKE behind a name would change another item, and is refused by its name.
     pub fn syntax(&self) -> ParseFault {
+        if self.has_taken_name() && self.is_at_name("LIKE") {
+            return ParseFault::unsupported(self.alloc, "LIKE");
+        }
         ParseFault::Syntax { line: self.line() }
     }
 
@@ -307,6 +328,16 @@ impl<'a> Cursor<'a> {
         match self.rest {
             [Piece::Keyword(word), ..] => word_belongs(kind, *word),
             _ => false,
+        }
+    }
+
+    /// The attribute that is one text and of which the word is next.
+    pub fn text_attribute(&self) -> Option<TextAttribute>
+        ensures { result ≡ text_here self.now }
+    {
+        match self.rest {
+            [Piece::Keyword(word), ..] => TextAttribute::from_word(*word),
+            _ => None,
         }
     }
 

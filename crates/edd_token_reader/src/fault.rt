@@ -3,7 +3,7 @@
 ghost use Rattle.std.specs.Prelude.{◌≡◌};
 ghost use Rattle.edd_token_reader.specs.declared.fault.ParseFault.TheVariants.{Memory};
 
-use std::alloc::{AllocError, AllocFailed};
+use std::alloc::{AllocError, AllocFailed, Global};
 use thiserror::Error;
 
 /// Why tokens were refused. It prints its number, its kind and its line, counted from 1, or the word.
@@ -17,6 +17,16 @@ pub enum ParseFault {
     Unsupported { word: String },
     #[error("no memory")]
     Memory,
+}
+
+impl ParseFault {
+    /// The refusal of a word that the profile leaves out.
+    pub fn unsupported(alloc: Global, word: &str) -> ParseFault {
+        match String::from_str(alloc, word) {
+            Ok(word) => ParseFault::Unsupported { word },
+            Err(_) => ParseFault::Memory,
+        }
+    }
 }
 
 impl From<AllocError> for ParseFault {

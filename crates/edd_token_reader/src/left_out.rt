@@ -8,10 +8,9 @@ use crate::cursor::Cursor;
 use crate::fault::ParseFault;
 use crate::piece::Piece;
 use edd_syntax::symbols::{Keyword, Symbol};
-use std::alloc::Global;
 
 // Words of items, attributes, qualifiers and types.
-const WORDS: [&str; 32] = [
+const WORDS: [&str; 26] = [
     "ARRAY",
     "AXIS",
     "BLOCK",
@@ -27,12 +26,6 @@ const WORDS: [&str; 32] = [
     "IMPORT",
     "LIKE",
     "LIST",
-    "POST_EDIT_ACTIONS",
-    "POST_READ_ACTIONS",
-    "POST_WRITE_ACTIONS",
-    "PRE_EDIT_ACTIONS",
-    "PRE_READ_ACTIONS",
-    "PRE_WRITE_ACTIONS",
     "PROGRAM",
     "RECORD",
     "REFRESH",
@@ -66,7 +59,6 @@ fn left_out_keyword(word: Keyword) -> Option<&'static str> {
         Keyword::Char => Some("char"),
         Keyword::Short => Some("short"),
         Keyword::Unsigned => Some("unsigned"),
-        Keyword::Signed => Some("signed"),
         Keyword::Float => Some("float"),
         Keyword::Double => Some("double"),
         Keyword::Goto => Some("goto"),
@@ -91,18 +83,10 @@ fn left_out<'a>(cursor: &Cursor<'a>) -> Option<&'a str> {
     }
 }
 
-/// The refusal of a word.
-pub fn unsupported(alloc: Global, word: &str) -> ParseFault {
-    match String::from_str(alloc, word) {
-        Ok(word) => ParseFault::Unsupported { word },
-        Err(_) => ParseFault::Memory,
-    }
-}
-
 /// The fault where an item, an attribute, a qualifier or a statement may begin and the next token fits nothing.
 pub fn misfit(cursor: &Cursor) -> ParseFault {
     match left_out(cursor) {
-        Some(word) => unsupported(cursor.alloc(), word),
+        Some(word) => ParseFault::unsupported(cursor.alloc(), word),
         None => cursor.syntax(),
     }
 }
@@ -110,7 +94,7 @@ pub fn misfit(cursor: &Cursor) -> ParseFault {
 /// The fault of a name that was taken as a qualifier and is none.
 pub fn misfit_name(cursor: &Cursor, name: &str) -> ParseFault {
     if is_left_out(name) {
-        return unsupported(cursor.alloc(), name);
+        return ParseFault::unsupported(cursor.alloc(), name);
     }
     cursor.syntax_taken()
 }
@@ -130,7 +114,7 @@ pub fn expect_brace(cursor: &mut Cursor) -> Result<(), ParseFault>
 /// The same where response codes may not stand either: among items and in a transaction.
 pub fn misfit_without_codes(cursor: &Cursor) -> ParseFault {
     if cursor.is_at_word(Keyword::ResponseCodes) {
-        return unsupported(cursor.alloc(), "RESPONSE_CODES");
+        return ParseFault::unsupported(cursor.alloc(), "RESPONSE_CODES");
     }
     misfit(cursor)
 }
@@ -141,22 +125,7 @@ pub fn misfit_item(cursor: &Cursor) -> ParseFault {
         cursor.peek(),
         cursor.peek_second(),
     ) {
-        return unsupported(cursor.alloc(), "LIKE");
+        return ParseFault::unsupported(cursor.alloc(), "LIKE");
     }
     misfit_without_codes(cursor)
-}
-
-/// The opening brace of an item, where LIKE may stand.
-#[tactic(auto, unfolding(edd_grammar::specs::Reading::expect))]
-pub fn expect_item_brace(cursor: &mut Cursor) -> Result<(), ParseFault>
-    ensures { Leaves result cursor.new (expect OpenBrace cursor.old) }
-{
-    if !cursor.is_at(Symbol::OpenBrace) {
-        if cursor.is_at_name("LIKE") {
-            return Err(unsupported(cursor.alloc(), "LIKE"));
-        }
-        return Err(cursor.syntax());
-    }
-    cursor.skip();
-    Ok(())
 }

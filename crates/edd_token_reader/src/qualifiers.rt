@@ -9,7 +9,7 @@ ghost use Rattle.edd_token_reader.specs.Qualifiers.{allowed_names, texts_of, men
 
 use crate::cursor::Cursor;
 use crate::fault::ParseFault;
-use crate::left_out::misfit_name;
+use crate::left_out::{misfit, misfit_name};
 use crate::words::skip_comma;
 use edd_syntax::item::{DataQualifiers, MenuQualifiers};
 use edd_syntax::symbols::Symbol;
@@ -39,7 +39,7 @@ fn allowed<'a>(cursor: &mut Cursor<'a>, kind: Qualified) -> Result<&'a str, Pars
     ensures { Gives (λ n. n.now) result cursor.new (reading.allowed_at (allowed_names kind) cursor.old) }
 {
     let Some(name) = cursor.name() else {
-        return Err(cursor.syntax());
+        return Err(misfit(cursor));
     };
     if !is_allowed(kind, name) {
         return Err(misfit_name(cursor, name));

@@ -81,11 +81,9 @@ module _ (b : Breach) (none : (had : Bool) → in_default b had ≡ []) (enumera
 
   pub in_attribute_expressions : (a : item.Attribute Target) → in_attribute b a ≡ flat_map (in_placed b) (attribute_expressions a)
   unfolding in_body in_expressions
-  in_attribute_expressions (item.Label c) = in_cond_expressions b none (in_nothing b) no_expressions (λ v. refl) c
-  in_attribute_expressions (item.Help c) = in_cond_expressions b none (in_nothing b) no_expressions (λ v. refl) c
+  in_attribute_expressions (item.OneText which c) = in_cond_expressions b none (in_nothing b) no_expressions (λ v. refl) c
   in_attribute_expressions (item.Class words) = refl
   in_attribute_expressions (item.Handling c) = in_cond_expressions b none (in_nothing b) no_expressions (λ v. refl) c
-  in_attribute_expressions (item.ConstantUnit c) = in_cond_expressions b none (in_nothing b) no_expressions (λ v. refl) c
   in_attribute_expressions (item.Validity c) = in_cond_expressions b none (in_nothing b) no_expressions (λ v. refl) c
   in_attribute_expressions (item.TypeOf word parts) = flat_map_same _ _ in_type_part_expressions parts ∙ flat_map_flat (in_placed b) type_part_expressions parts
   in_attribute_expressions (item.Number n) = refl
@@ -207,11 +205,9 @@ mutual
 
 -- in everything but a method's body
 pub defaults_in_attribute : (a : item.Attribute Target) → is_definition a ≡ false → in_attribute breach.Default a ≡ repeated_cases a
-defaults_in_attribute (item.Label c) other = defaults_in_cond c
-defaults_in_attribute (item.Help c) other = defaults_in_cond c
+defaults_in_attribute (item.OneText which c) other = defaults_in_cond c
 defaults_in_attribute (item.Class words) other = refl
 defaults_in_attribute (item.Handling c) other = defaults_in_cond c
-defaults_in_attribute (item.ConstantUnit c) other = defaults_in_cond c
 defaults_in_attribute (item.Validity c) other = defaults_in_cond c
 defaults_in_attribute (item.TypeOf word parts) other = flat_map_same (in_type_part breach.Default) type_part_defaults defaults_in_type_part parts
 defaults_in_attribute (item.Number n) other = refl

@@ -126,11 +126,9 @@ in_transaction_part b (item.Request all) = in_conds b (in_data_item b) all
 in_transaction_part b (item.Reply all) = in_conds b (in_data_item b) all
 
 abbrev pub in_attribute : Breach → item.Attribute Target → List Refusal
-in_attribute b (item.Label c) = in_cond b (in_nothing b) c
-in_attribute b (item.Help c) = in_cond b (in_nothing b) c
+in_attribute b (item.OneText which c) = in_cond b (in_nothing b) c
 in_attribute b (item.Class words) = []
 in_attribute b (item.Handling c) = in_cond b (in_nothing b) c
-in_attribute b (item.ConstantUnit c) = in_cond b (in_nothing b) c
 in_attribute b (item.Validity c) = in_cond b (in_nothing b) c
 in_attribute b (item.TypeOf word parts) = flat_map (in_type_part b) parts
 in_attribute b (item.Number n) = []

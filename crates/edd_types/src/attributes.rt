@@ -64,10 +64,8 @@ pub fn check_inside(attribute: &Attribute<Target>, breach: Breach) -> Result<(),
     ensures { found (refusal_of breach) result ≡ first_of (in_attribute breach (attribute_of (λ r. r) attribute.now)) }
 {
     match attribute {
-        Attribute::Label(c) => check_cond(c, breach),
-        Attribute::Help(c) => check_cond(c, breach),
+        Attribute::OneText(_, c) => check_cond(c, breach),
         Attribute::Handling(c) => check_cond(c, breach),
-        Attribute::ConstantUnit(c) => check_cond(c, breach),
         Attribute::Validity(c) => check_cond(c, breach),
         Attribute::TypeOf { parts, .. } => check_type_parts(parts, breach),
         Attribute::Transaction { parts, .. } => check_transaction(parts, breach),

@@ -1,4 +1,4 @@
-use Rattle.std.proofs.Common.{◌≡◌, ◌≤◌, length, ap, subst, sym, ◌∙◌, arith, true, [], ◌∷◌, ◌++◌, List, map}
+use Rattle.std.proofs.Common.{◌≡◌, ◌≤◌, length, ap, subst, sym, ◌∙◌, arith, true, [], ◌∷◌, ◌++◌, List, map, refl}
 use Rattle.std.specs.Prelude.{option_map}
 use Rattle.std.specs.Borrow.{Bor}
 use Rattle.std.specs.List.{list_all}
@@ -251,26 +251,26 @@ write_either-returns-in_err-write_value-2-clause-too_many t c h =
 
 pub write_and-close-requires : goal.write_and-close-requires
 write_and-close-requires t c =
-    opened_inside c.put.new.code c.open.new.code c.write_instead.new.code 0x31 c.in_ok-hole.hole c.in_ok-hole.ensures.code c.in_ok-hole.ensures.place c.in_ok-write_instead.ensures.longer
+    opened_inside c.put.new.code c.open.new.code c.write_instead.new.code _ c.in_ok-hole.hole c.in_ok-hole.ensures.code refl c.in_ok-hole.ensures.place c.in_ok-write_instead.ensures.longer
 
 pub write_and-returns-clause-longer : goal.write_and-returns-clause-longer
 write_and-returns-clause-longer t c =
     let one : length c.write_value.new.code ≤ length c.put.new.code = longer_by c.write_value.new.code c.put.new.code _ c.in_ok-put.ensures.code in
     let two : length c.put.new.code ≤ length c.open.new.code = longer_by c.put.new.code c.open.new.code _ c.in_ok-hole.ensures.code in
-    let inside = opened_inside c.put.new.code c.open.new.code c.write_instead.new.code 0x31 c.in_ok-hole.hole c.in_ok-hole.ensures.code c.in_ok-hole.ensures.place c.in_ok-write_instead.ensures.longer in
+    let inside = opened_inside c.put.new.code c.open.new.code c.write_instead.new.code _ c.in_ok-hole.hole c.in_ok-hole.ensures.code refl c.in_ok-hole.ensures.place c.in_ok-write_instead.ensures.longer in
     let same : length c.close.new.code ≡ length c.write_instead.new.code = ap length c.close.ensures ∙ closed_length c.write_instead.new.code c.in_ok-hole.hole inside in
     omega (arith, one, two, same, c.in_ok-write_value.ensures.longer, c.in_ok-write_instead.ensures.longer)
 
 pub write_or-close-requires : goal.write_or-close-requires
 write_or-close-requires t c =
-    opened_inside c.put.new.code c.open.new.code c.write_instead.new.code 0x32 c.in_ok-hole.hole c.in_ok-hole.ensures.code c.in_ok-hole.ensures.place c.in_ok-write_instead.ensures.longer
+    opened_inside c.put.new.code c.open.new.code c.write_instead.new.code _ c.in_ok-hole.hole c.in_ok-hole.ensures.code refl c.in_ok-hole.ensures.place c.in_ok-write_instead.ensures.longer
 
 pub write_or-returns-clause-longer : goal.write_or-returns-clause-longer
 write_or-returns-clause-longer t c =
     let truth : length c.write_value.new.code ≤ length c.write_truth.new.code = longer_by c.write_value.new.code c.write_truth.new.code _ c.in_ok-write_truth.ensures in
     let one : length c.write_truth.new.code ≤ length c.put.new.code = longer_by c.write_truth.new.code c.put.new.code _ c.in_ok-put.ensures.code in
     let two : length c.put.new.code ≤ length c.open.new.code = longer_by c.put.new.code c.open.new.code _ c.in_ok-hole.ensures.code in
-    let inside = opened_inside c.put.new.code c.open.new.code c.write_instead.new.code 0x32 c.in_ok-hole.hole c.in_ok-hole.ensures.code c.in_ok-hole.ensures.place c.in_ok-write_instead.ensures.longer in
+    let inside = opened_inside c.put.new.code c.open.new.code c.write_instead.new.code _ c.in_ok-hole.hole c.in_ok-hole.ensures.code refl c.in_ok-hole.ensures.place c.in_ok-write_instead.ensures.longer in
     let same : length c.close.new.code ≡ length c.write_instead.new.code = ap length c.close.ensures ∙ closed_length c.write_instead.new.code c.in_ok-hole.hole inside in
     omega (arith, one, two, same, c.in_ok-write_value.ensures.longer, c.in_ok-write_instead.ensures.longer)
 
@@ -278,27 +278,27 @@ pub write_either-close-requires : goal.write_either-close-requires
 write_either-close-requires t c =
     let two : length c.write_value.new.code ≤ length c.open-2.new.code = longer_by c.write_value.new.code c.open-2.new.code _ c.in_ok-end.ensures.code in
     let up : length c.open.new.code ≤ length c.open-2.new.code = omega (arith, two, c.in_ok-write_value.ensures.longer) in
-    let inside = opened_inside c.args.code.now c.open.new.code c.open-2.new.code 0x31 c.in_ok-otherwise.otherwise c.in_ok-otherwise.ensures.code c.in_ok-otherwise.ensures.place up in
+    let inside = opened_inside c.args.code.now c.open.new.code c.open-2.new.code _ c.in_ok-otherwise.otherwise c.in_ok-otherwise.ensures.code refl c.in_ok-otherwise.ensures.place up in
     inside
 
 pub write_either-close-requires-2 : goal.write_either-close-requires-2
 write_either-close-requires-2 t c =
     let two : length c.write_value.new.code ≤ length c.open-2.new.code = longer_by c.write_value.new.code c.open-2.new.code _ c.in_ok-end.ensures.code in
     let up : length c.open.new.code ≤ length c.open-2.new.code = omega (arith, two, c.in_ok-write_value.ensures.longer) in
-    let inside = opened_inside c.args.code.now c.open.new.code c.open-2.new.code 0x31 c.in_ok-otherwise.otherwise c.in_ok-otherwise.ensures.code c.in_ok-otherwise.ensures.place up in
+    let inside = opened_inside c.args.code.now c.open.new.code c.open-2.new.code _ c.in_ok-otherwise.otherwise c.in_ok-otherwise.ensures.code refl c.in_ok-otherwise.ensures.place up in
     let same : length c.close.new.code ≡ length c.open-2.new.code = ap length c.close.ensures ∙ closed_length c.open-2.new.code c.in_ok-otherwise.otherwise inside in
     let on : length c.open-2.new.code ≤ length c.write_value-2.new.code = omega (arith, same, c.in_ok-write_value-2.ensures.longer) in
-    let behind = opened_inside c.write_value.new.code c.open-2.new.code c.write_value-2.new.code 0x30 c.in_ok-end.end c.in_ok-end.ensures.code c.in_ok-end.ensures.place on in
+    let behind = opened_inside c.write_value.new.code c.open-2.new.code c.write_value-2.new.code _ c.in_ok-end.end c.in_ok-end.ensures.code refl c.in_ok-end.ensures.place on in
     behind
 
 pub write_either-returns-clause-longer : goal.write_either-returns-clause-longer
 write_either-returns-clause-longer t c =
     let two : length c.write_value.new.code ≤ length c.open-2.new.code = longer_by c.write_value.new.code c.open-2.new.code _ c.in_ok-end.ensures.code in
     let up : length c.open.new.code ≤ length c.open-2.new.code = omega (arith, two, c.in_ok-write_value.ensures.longer) in
-    let inside = opened_inside c.args.code.now c.open.new.code c.open-2.new.code 0x31 c.in_ok-otherwise.otherwise c.in_ok-otherwise.ensures.code c.in_ok-otherwise.ensures.place up in
+    let inside = opened_inside c.args.code.now c.open.new.code c.open-2.new.code _ c.in_ok-otherwise.otherwise c.in_ok-otherwise.ensures.code refl c.in_ok-otherwise.ensures.place up in
     let same : length c.close.new.code ≡ length c.open-2.new.code = ap length c.close.ensures ∙ closed_length c.open-2.new.code c.in_ok-otherwise.otherwise inside in
     let on : length c.open-2.new.code ≤ length c.write_value-2.new.code = omega (arith, same, c.in_ok-write_value-2.ensures.longer) in
-    let behind = opened_inside c.write_value.new.code c.open-2.new.code c.write_value-2.new.code 0x30 c.in_ok-end.end c.in_ok-end.ensures.code c.in_ok-end.ensures.place on in
+    let behind = opened_inside c.write_value.new.code c.open-2.new.code c.write_value-2.new.code _ c.in_ok-end.end c.in_ok-end.ensures.code refl c.in_ok-end.ensures.place on in
     let one : length c.args.code.now ≤ length c.open.new.code = longer_by c.args.code.now c.open.new.code _ c.in_ok-otherwise.ensures.code in
     let still : length c.close-2.new.code ≡ length c.write_value-2.new.code = ap length c.close-2.ensures ∙ closed_length c.write_value-2.new.code c.in_ok-end.end behind in
     omega (arith, one, up, on, still)

@@ -8,3 +8,6 @@ broken_in_units-requires-clause-sections c = sections_fill _ 108 (omega arith) c
 
 pub broken_in_units-requires-clause-rows : goal.broken_in_units-requires-clause-rows
 broken_in_units-requires-clause-rows c = c.requires rule.Row (omega arith)
+
+pub broken_in_units-requires-clause-version : goal.broken_in_units-requires-clause-version
+broken_in_units-requires-clause-version c = c.requires rule.Version (omega arith)

@@ -18,14 +18,14 @@ broken_in_rows-requires-clause-within c =
 
 pub returns-clause-kept : goal.returns-clause-kept
 returns-clause-kept c =
-    let same = are_units_of _ _ _ _ _ _ _ c.part-code.ensures c.code_start-place.ensures.start c.code_length-size.ensures c.counts.ensures c.attribute_rows_start-start.ensures.start c.attribute_count-count.ensures in
+    let same = are_units_of _ _ _ _ _ _ _ _ c.part-code.ensures c.code_start-place.ensures.start c.code_length-size.ensures c.known_version.ensures c.counts.ensures c.attribute_rows_start-start.ensures.start c.attribute_count-count.ensures in
     MatchResult-weaker c.broken_in_rows.result c.broken_in_rows.ensures.kept
-    (λ broken kept earlier lt. to_units (λ context unit. UnitKeeps context unit earlier) _ _ _ _ same (kept earlier lt))
+    (λ broken kept earlier lt. to_units (λ context unit. UnitKeeps context unit earlier) _ _ _ _ _ same (kept earlier lt))
     (λ _ t. t)
 
 pub returns-clause-broken : goal.returns-clause-broken
 returns-clause-broken c =
-    let same = are_units_of _ _ _ _ _ _ _ c.part-code.ensures c.code_start-place.ensures.start c.code_length-size.ensures c.counts.ensures c.attribute_rows_start-start.ensures.start c.attribute_count-count.ensures in
+    let same = are_units_of _ _ _ _ _ _ _ _ c.part-code.ensures c.code_start-place.ensures.start c.code_length-size.ensures c.known_version.ensures c.counts.ensures c.attribute_rows_start-start.ensures.start c.attribute_count-count.ensures in
     MatchResult-weaker c.broken_in_rows.result c.broken_in_rows.ensures.broken
-    (λ broken breaks. broken_of_more broken _ _ (λ which kept. from_units (λ context unit. UnitKeeps context unit which) _ _ _ _ same kept) breaks)
+    (λ broken breaks. broken_of_more broken _ _ (λ which kept. from_units (λ context unit. UnitKeeps context unit which) _ _ _ _ _ same kept) breaks)
     (λ _ t. t)

@@ -11,7 +11,8 @@ use Rattle.edd_image.specs.MethodAgreement.{IsMethodCode}
 use Rattle.edd_code.specs.declared.fault.LowerFault.TheVariants.{TooMany}
 use Rattle.edd_code.specs.Tables.{Overflows}
 use Rattle.edd_code.specs.Units.{unit_of}
-use Rattle.edd_methods.specs.LoweredMethods.{LowersBody, body_texts, found_body, strings_of_method}
+use Rattle.edd_methods.specs.LoweredMethods.{LowersBody, found_body, strings_of_method}
+use Rattle.edd_methods.specs.Writing.{body_texts}
 use Rattle.edd_methods.proofs.LoweredMethods.{body_is_found, fault_again, few_slots, lowered_is_code, lowered_is_short, lowered_strings, overflowing, texts_when_checked}
 use Rattle.edd_methods.proofs.method.lower_found.Goals as goal
 use Rattle.edd_methods.proofs.method.lower_found.Goals.{In-Ok, After-cut}
