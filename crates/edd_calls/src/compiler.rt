@@ -6,7 +6,7 @@ use edd_image::Record;
 use edd_loader::{Image, load};
 use edd_machine::{Values, attribute};
 use edd_syntax::item::Identification;
-use edd_syntax::numbers::{Attr, AttrRef, CmdNo, ItemNo, MenuNo, VarNo};
+use edd_syntax::numbers::{Attr, AttrRef, CmdNo, ItemNo, MenuNo, StrNo, VarNo};
 use edd_tool::{FileFault, Files, run};
 use std::alloc::{AllocError, Global};
 use std::io::{Error, ErrorKind, Read};
@@ -175,60 +175,77 @@ const EVERY_ATTRIBUTE: &str =
     MENU m { ITEMS { a, \"text\" } }
     COLLECTION OF VARIABLE k { MEMBERS { x, a; } }";
 
-// How many records each row gives.
-const COUNTS: [usize; 20] = [1, 1, 2, 1, 1, 1, 1, 1, 1, 1, 1, 2, 1, 1, 1, 2, 1, 1, 2, 1];
-
-// Attributes of `a` that are computed, and their values where each variable is 0.
-const COMPUTED: [(Attr, i64); 3] = [
-    (Attr::Validity, 0),
-    (Attr::MinValue, -1),
-    (Attr::MaxValue, 7),
+// What each row gives where each variable is 0. Strings are numbered as the rows come to name them.
+const RECORDS: [&[Record]; 20] = [
+    &[Record::Words(StrNo(0))],
+    &[Record::Words(StrNo(1))],
+    &[Record::Words(StrNo(2)), Record::Words(StrNo(3))],
+    &[Record::Number(1)],
+    &[Record::Words(StrNo(4))],
+    &[Record::Number(0)],
+    &[Record::Number(1)],
+    &[Record::Number(-1)],
+    &[Record::Number(7)],
+    &[Record::Words(StrNo(5))],
+    &[Record::Words(StrNo(6))],
+    &[
+        Record::Enumerator {
+            value: 0,
+            text: StrNo(7),
+            help: None,
+        },
+        Record::Enumerator {
+            value: 1,
+            text: StrNo(8),
+            help: None,
+        },
+    ],
+    &[Record::Number(3)],
+    &[Record::Number(2)],
+    &[Record::Number(9)],
+    &[
+        Record::DataConst(1),
+        Record::DataVar {
+            var: VarNo(0),
+            mask: 0,
+            quals: 0,
+        },
+    ],
+    &[Record::DataVar {
+        var: VarNo(0),
+        mask: 0,
+        quals: 1,
+    }],
+    &[Record::Response {
+        number: 0,
+        class: 0,
+        text: StrNo(9),
+    }],
+    &[
+        Record::Entry {
+            item: ItemNo::Variable(VarNo(0)),
+            quals: 0,
+        },
+        Record::Words(StrNo(10)),
+    ],
+    &[Record::Member {
+        name: StrNo(11),
+        item: ItemNo::Variable(VarNo(0)),
+        label: None,
+        help: None,
+    }],
 ];
 
-// Whether an attribute has so many records.
-fn has_records(
-    alloc: Global,
-    image: &Image,
-    values: &Values,
-    of: AttrRef,
-    count: usize,
-) -> Result<bool, Fail> {
-    let records = attribute(alloc, image, of, values)?;
-    Ok(records.len() == count)
-}
-
-// Whether an attribute of `a` is this number.
-fn is_computed(
-    alloc: Global,
-    image: &Image,
-    values: &Values,
-    attr: Attr,
-    number: i64,
-) -> Result<bool, Fail> {
-    let of = row(ItemNo::Variable(VarNo(0)), attr, 0);
-    let records = attribute(alloc, image, of, values)?;
-    Ok(records.as_slice() == [Record::Number(number)].as_slice())
-}
-
-// The first row with another number of records.
+// The first row that gives other records.
 fn first_other_row(
     alloc: Global,
     image: &Image,
     values: &Values,
     rows: &[AttrRef],
 ) -> Result<Option<usize>, Fail> {
-    for (at, (row, count)) in rows.iter().zip(COUNTS).enumerate() {
-        if !has_records(alloc, image, values, *row, count)? {
-            return Ok(Some(at));
-        }
-    }
-    Ok(None)
-}
-
-// The first computed attribute with another value.
-fn first_other_value(alloc: Global, image: &Image, values: &Values) -> Result<Option<usize>, Fail> {
-    for (at, (attr, number)) in COMPUTED.into_iter().enumerate() {
-        if !is_computed(alloc, image, values, attr, number)? {
+    for (at, (row, wanted)) in rows.iter().zip(RECORDS).enumerate() {
+        let records = attribute(alloc, image, *row, values)?;
+        if records.as_slice() != wanted {
             return Ok(Some(at));
         }
     }
@@ -245,12 +262,10 @@ fn loaded(alloc: Global, items: &str) -> Result<Image, Fail> {
 fn every_attribute_is_compiled_and_read(rt: HostRuntime) -> Result<(), Fail> {
     let alloc = rt.alloc();
     let rows = rows_of(alloc, EVERY_ATTRIBUTE)?;
-    assert_eq!(rt; rows.len(), COUNTS.len(), "rows");
+    assert_eq!(rt; rows.len(), RECORDS.len(), "rows");
     let image = loaded(alloc, EVERY_ATTRIBUTE)?;
     let values = Values::new(alloc, &image, &[0, 0])?;
     let other = first_other_row(alloc, &image, &values, &rows)?;
     assert_eq!(rt; other, None, "records");
-    let other = first_other_value(alloc, &image, &values)?;
-    assert_eq!(rt; other, None, "values");
     Ok(())
 }

@@ -1,0 +1,49 @@
+-- What the writing of a file changes.
+use Rattle.std.specs.Prelude.{◌≡◌, ℕ, List, ◌++◌, Option, Some, None, if◌then◌else◌}
+use Rattle.std.specs.Option.{option_map}
+use Rattle.std.specs.Str.{bytes_eq}
+use Rattle.edd_system.specs.declared.way.Identity.{Identity}
+use Rattle.edd_system.specs.declared.way.Standing.{Standing}
+use Rattle.edd_system.specs.declared.way.Way.{Way}
+use Rattle.edd_system.specs.declared.way.Way.TheVariants.{Beside, AsItIs, Refused}
+use Rattle.edd_system.specs.Ways.{IsWay}
+
+-- the plain files of a disk, and one that has no place yet
+pub record PlainFiles : Type 0 where
+  -- the place to which a name leads, its links followed
+  pub place : List ℕ → List ℕ
+  -- the bytes of the plain file at a place
+  pub bytes : List ℕ → Option (List ℕ)
+  -- the bytes of the new file, which stands beside a place
+  pub beside : Option (List ℕ)
+
+-- with a new file of these bytes
+abbrev pub with_beside : List ℕ → PlainFiles → PlainFiles
+with_beside bytes files = record files { beside = Some bytes }
+
+-- without a new file
+abbrev pub without_beside : PlainFiles → PlainFiles
+without_beside files = record files { beside = None }
+
+-- no new file stands beside a place
+abbrev pub HasNoneBeside : Option PlainFiles → Type 0
+HasNoneBeside files = option_map without_beside files ≡ files
+
+-- the new file has taken the place, and all others stand where they stood
+abbrev pub moved : List ℕ → PlainFiles → PlainFiles
+moved place files = record files { bytes = λ other. if bytes_eq other place then files.beside else files.bytes other; beside = None }
+
+-- the file at the place has these bytes, all others have what they had, and no new file is left
+abbrev pub replaced : List ℕ → List ℕ → PlainFiles → PlainFiles
+replaced place bytes files = moved place (with_beside bytes files)
+
+-- what became of the plain files and of what streams were given, where the bytes were written that way
+abbrev pub Wrote : Way → List ℕ → List ℕ → PlainFiles → Option PlainFiles → Option (List ℕ) → Option (List ℕ) → Type 0
+Wrote Beside place bytes files after given given_after = (after ≡ Some (replaced place bytes files)) × (given_after ≡ given)
+Wrote AsItIs place bytes files after given given_after = (after ≡ Some files) × (given_after ≡ option_map (λ before. before ++ bytes) given)
+Wrote Refused place bytes files after given given_after = ⊥
+
+-- the bytes were written under the name in the way that is right for what stands where it leads
+abbrev pub Saved : List Identity → List ℕ → List ℕ → (List ℕ → Standing) → PlainFiles → Option PlainFiles → Option (List ℕ) → Option (List ℕ) → Type 0
+Saved opened name bytes standing files after given given_after =
+    (way : Way) × IsWay (standing (files.place name)) opened way × Wrote way (files.place name) bytes files after given given_after
