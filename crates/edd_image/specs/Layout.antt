@@ -45,6 +45,7 @@ u32 n = to_be_bytes w32 n
 
 -- ---- rows
 
+-- the number that stands for a type (this profile)
 abbrev pub type_code : VarType → ℕ
 type_code Integer = 1
 type_code UnsignedInteger = 2

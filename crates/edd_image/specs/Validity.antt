@@ -19,6 +19,7 @@ use Rattle.edd_image.specs.declared.rules.UnitRule.TheVariants as unit_rule
 use Rattle.edd_image.specs.declared.rules.Rule.{Rule}
 use Rattle.edd_image.specs.declared.rules.Rule.TheVariants as rule
 use Rattle.edd_image.specs.References.{item_exists}
+use Rattle.edd_image.specs.Layout.{type_code}
 use Rattle.edd_image.specs.Fields.{header_length, has_magic, version_number, total_length, code_length, sections_end}
 use Rattle.edd_image.specs.Contents.{Span, part, VariableFields, AttributeFields, Contents, version_of, contents_in}
 use Rattle.edd_image.specs.Strings.{is_string}
@@ -40,13 +41,13 @@ abbrev pub fills : ℕ → List Span → (end : ℕ) → Bool
 fills place [] end = place == end
 fills place (x ∷ xs) end = x.start == place && fills (place + x.size) xs end
 
--- the type of a number
+-- the type that a number stands for (this profile)
 abbrev pub type_of : ℕ → Option VarType
 type_of n =
-    if n == 1 then Some var_type.Integer else
-    if n == 2 then Some var_type.UnsignedInteger else
-    if n == 3 then Some var_type.Enumerated else
-    if n == 4 then Some var_type.BitEnumerated else
+    if n == type_code var_type.Integer then Some var_type.Integer else
+    if n == type_code var_type.UnsignedInteger then Some var_type.UnsignedInteger else
+    if n == type_code var_type.Enumerated then Some var_type.Enumerated else
+    if n == type_code var_type.BitEnumerated then Some var_type.BitEnumerated else
     None
 
 abbrev pub is_variable_row : VariableFields → Bool

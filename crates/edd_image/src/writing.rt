@@ -3,10 +3,10 @@
 ghost use Rattle.std.specs.Prelude.{◌≡◌, ◌≤◌, ◌<◌, ◌++◌, ◌↔◌, OnOk, IfOk, IsOk, vec_len};
 ghost use Rattle.std.specs.List.{AllByRecursion, flat_map};
 ghost use Rattle.edd_image.specs.declared.writing.WriteFault.TheVariants.{Memory};
-ghost use Rattle.edd_image.specs.Layout.{sections_of, magic, lengths, layout_length, identification, counts, header, layout, type_code, variable_row, name_row, attribute_key, attribute_row, string_row, u16, u32, CountsFit, AreSections, NameFits, AttributeFits, StringFits};
+ghost use Rattle.edd_image.specs.Layout.{sections_of, magic, lengths, layout_length, identification, counts, header, layout, variable_row, name_row, attribute_key, attribute_row, string_row, u16, u32, CountsFit, AreSections, NameFits, AttributeFits, StringFits};
 
+use crate::numbers::type_code;
 use crate::parts::{AttributeRow, Counts, NameRow, Parts, StringRow, VarKind};
-use edd_syntax::types::VarType;
 use std::alloc::{AllocError, Global};
 
 /// Why an image could not be written.
@@ -28,17 +28,6 @@ impl From<AllocError> for WriteFault {
 
 /// The most bytes of code.
 pub const CODE_LIMIT: usize = 16_777_216;
-
-fn type_code(var_type: VarType) -> u8
-    ensures { result ≡ type_code var_type }
-{
-    match var_type {
-        VarType::Integer => 1,
-        VarType::UnsignedInteger => 2,
-        VarType::Enumerated => 3,
-        VarType::BitEnumerated => 4,
-    }
-}
 
 fn put_u16(out: &mut Vec<u8>, number: u16) -> Result<(), AllocError>
     ensures { OnOk result (out.new.items ≡ out.old.items ++ u16 number) }

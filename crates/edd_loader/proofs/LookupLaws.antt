@@ -89,26 +89,32 @@ pub name_row_at : (b : List ℕ) (place : ℕ) → place < item_count (counts_in
 unfolding contents_in
 name_row_at b place h = row_get (name_fields b) 8 (item_count (counts_in b)) (name_rows_start b) place h
 
--- the bytes of a name, however they were come by
-pub record IsNameAt (b names found : List ℕ) (place : ℕ) : Type 0 where
+-- what is found by a row of a section, however it was come by: the row, the section's bytes, and the row's part of them
+pub record IsFoundBy (b bytes found : List ℕ) (rows bytes_start bytes_length : List ℕ → ℕ) (start_of length_of : List ℕ → ℕ → ℕ) (place : ℕ) : Type 0 where
   pub row : ℕ
-  pub row_is : row ≡ name_rows_start b + 8 * place
+  pub row_is : row ≡ rows b + 8 * place
   pub start : ℕ
-  pub start_is : start ≡ name_bytes_start b
+  pub start_is : start ≡ bytes_start b
   pub size : ℕ
-  pub size_is : size ≡ names_length b
-  pub names_are : names ≡ part (record { start = start; size = size }) b
+  pub size_is : size ≡ bytes_length b
+  pub bytes_are : bytes ≡ part (record { start = start; size = size }) b
   pub from : ℕ
-  pub from_is : from ≡ name_start b row
+  pub from_is : from ≡ start_of b row
   pub long : ℕ
-  pub long_is : long ≡ name_length b row
-  pub found_is : found ≡ part (record { start = from; size = long }) names
+  pub long_is : long ≡ length_of b row
+  pub found_is : found ≡ part (record { start = from; size = long }) bytes
+
+abbrev pub IsNameAt : (b names found : List ℕ) (place : ℕ) → Type 0
+IsNameAt b names found place = IsFoundBy b names found name_rows_start name_bytes_start names_length name_start name_length place
+
+abbrev pub IsStringAt : (b strings found : List ℕ) (place : ℕ) → Type 0
+IsStringAt b strings found place = IsFoundBy b strings found string_rows_start string_bytes_start strings_length string_start string_length place
 
 found_in : (b names found : List ℕ) (place : ℕ) → IsNameAt b names found place → found ≡ part (name_fields b (name_rows_start b + 8 * place)).span (contents_in b).name_bytes
 unfolding contents_in
 found_in b names found place i =
     let row_is = i.row_is in
-    let names_same : names ≡ (contents_in b).name_bytes = i.names_are ∙ rw (i.start_is, i.size_is) refl in
+    let names_same : names ≡ (contents_in b).name_bytes = i.bytes_are ∙ rw (i.start_is, i.size_is) refl in
     i.found_is ∙ rw (i.from_is, i.long_is, names_same, row_is) refl
 
 pub name_value : (b names found : List ℕ) (place : ℕ) → place < item_count (counts_in b) → IsNameAt b names found place → name_in_row (contents_in b) place ≡ Some found
@@ -225,26 +231,11 @@ pub string_row_at : (b : List ℕ) (n : ℕ) → n < (counts_in b).strings → s
 unfolding contents_in
 string_row_at b n h = row_get (string_fields b) 8 (counts_in b).strings (string_rows_start b) n h
 
--- the bytes of a string, however they were come by
-pub record IsStringAt (b strings found : List ℕ) (place : ℕ) : Type 0 where
-  pub row : ℕ
-  pub row_is : row ≡ string_rows_start b + 8 * place
-  pub start : ℕ
-  pub start_is : start ≡ string_bytes_start b
-  pub size : ℕ
-  pub size_is : size ≡ strings_length b
-  pub strings_are : strings ≡ part (record { start = start; size = size }) b
-  pub from : ℕ
-  pub from_is : from ≡ string_start b row
-  pub long : ℕ
-  pub long_is : long ≡ string_length b row
-  pub found_is : found ≡ part (record { start = from; size = long }) strings
-
 string_found : (b strings found : List ℕ) (place : ℕ) → IsStringAt b strings found place → found ≡ part (string_fields b (string_rows_start b + 8 * place)) (contents_in b).string_bytes
 unfolding contents_in
 string_found b strings found place i =
     let row_is = i.row_is in
-    let same : strings ≡ (contents_in b).string_bytes = i.strings_are ∙ rw (i.start_is, i.size_is) refl in
+    let same : strings ≡ (contents_in b).string_bytes = i.bytes_are ∙ rw (i.start_is, i.size_is) refl in
     i.found_is ∙ rw (i.from_is, i.long_is, same, row_is) refl
 
 pub string_value : (b strings found : List ℕ) (place : ℕ) → place < (counts_in b).strings → IsStringAt b strings found place → string_in_row (contents_in b) place ≡ Some found

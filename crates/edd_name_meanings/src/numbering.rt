@@ -17,7 +17,7 @@ ghost use Rattle.edd_name_meanings.specs.Numbering.{at, if_named, count_in};
 use crate::fault::NameFault;
 use edd_name_rules::items::{kind_of, name_of};
 use edd_syntax::item::Item;
-use edd_syntax::numbers::{CmdNo, CollNo, ItemNo, Kind, MenuNo, MethNo, VarNo};
+use edd_syntax::numbers::{ItemNo, Kind};
 use edd_syntax::reference::Path;
 use std::alloc::Global;
 use std::collections::HashMap;
@@ -45,16 +45,16 @@ impl Counts {
         }
     }
 
-    // The number of the next item of a kind.
-    fn number(&self, kind: Kind) -> ItemNo
-        ensures { result ≡ item_number kind (count_in self.now kind) }
+    // How many items of a kind there were.
+    fn of(&self, kind: Kind) -> u16
+        ensures { result ≡ count_in self.now kind }
     {
         match kind {
-            Kind::Variable => ItemNo::Variable(VarNo(self.variables)),
-            Kind::Command => ItemNo::Command(CmdNo(self.commands)),
-            Kind::Menu => ItemNo::Menu(MenuNo(self.menus)),
-            Kind::Collection => ItemNo::Collection(CollNo(self.collections)),
-            Kind::Method => ItemNo::Method(MethNo(self.methods)),
+            Kind::Variable => self.variables,
+            Kind::Command => self.commands,
+            Kind::Menu => self.menus,
+            Kind::Collection => self.collections,
+            Kind::Method => self.methods,
         }
     }
 
@@ -104,7 +104,7 @@ fn number_item<'a>(
     ensures err { IfErr result (λ f. f ≡ NoMemory) }
 {
     let kind = kind_of(item);
-    put_first(numbers, name_of(item), counts.number(kind))?;
+    put_first(numbers, name_of(item), kind.item(counts.of(kind)))?;
     counts.count(kind);
     Ok(())
 }
