@@ -25,7 +25,6 @@ use edd_token_reader::operators::{
     Assignment, Infix, Place, before_of, in_method, loosest, row_of, unary_of,
 };
 use edd_token_reader::piece::Piece;
-use edd_token_reader::same::same_sign;
 use edd_token_reader::texts::{is_at_text, path, path_from, text};
 
 // A reference, and a step behind it.
@@ -212,7 +211,7 @@ fn signed(cursor: &mut Cursor, place: Place, high: u32, sign: Symbol) -> Result<
     ensures read { Gives (λ t. expr_view t.expr) result cursor.new (reading.signed_at (place_view place) (expr_at (place_view place) high) sign cursor.old) }
     ensures low { IfOk result (λ t. t.levels ≤ high + 1) }
 {
-    if same_sign(sign, Symbol::OpenParenthesis) {
+    if sign == Symbol::OpenParenthesis {
         let inner = up_to(cursor, place, high, Symbol::CloseParenthesis)?;
         return Ok(parentheses(inner));
     }

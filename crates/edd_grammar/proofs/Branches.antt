@@ -14,7 +14,7 @@ use Rattle.edd_syntax.specs.StatementGrammar.{BeginsWord, CaseHere, IsIf, NoElse
 use Rattle.edd_syntax.specs.Size.{cond_height, conds_height, arms_height}
 use Rattle.edd_grammar.specs.Reading.{Read, at, expect, at_word}
 use Rattle.edd_grammar.specs.ConditionalReading.{label_at, condition_at, braces_at, else_at, case_at, default_at, arms_at, if_at, select_at, cond_layer}
-use Rattle.edd_grammar.proofs.SignNumbers.{same_word_self}
+use Rattle.edd_grammar.proofs.SameSigns.{same_word_self}
 use Rattle.edd_grammar.proofs.Steps.{bind_some, guard_some, chosen, as_read, at_word_is, expect_is}
 use Rattle.edd_grammar.proofs.Labels.{label_sound, condition_sound}
 

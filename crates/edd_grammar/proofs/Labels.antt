@@ -14,7 +14,7 @@ use Rattle.edd_grammar.specs.Signs.{same_sign}
 use Rattle.edd_grammar.specs.Reading.{expect}
 use Rattle.edd_grammar.specs.ExpressionReading.{expr_at}
 use Rattle.edd_grammar.specs.ConditionalReading.{negative_at, label_at, condition_at}
-use Rattle.edd_grammar.proofs.SignNumbers.{same_sign_is}
+use Rattle.edd_grammar.proofs.SameSigns.{same_sign_is}
 use Rattle.edd_grammar.proofs.Steps.{bind_some, guard_some, as_read, expect_is, expect_again}
 use Rattle.edd_grammar.proofs.Shorter.{expr_shorter}
 use Rattle.edd_grammar.proofs.SoundExpressions.{expr_sound, loosest_le}

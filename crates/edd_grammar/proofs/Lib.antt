@@ -1,4 +1,4 @@
-pub mod SignNumbers
+pub mod SameSigns
 pub mod Steps
 pub mod Operators
 pub mod Texts

@@ -22,7 +22,7 @@ use Rattle.edd_grammar.specs.ValueReading.{operation_at, handling_value, truth_v
 use Rattle.edd_grammar.specs.TypeReading.{type_at}
 use Rattle.edd_grammar.specs.AttributeReading.{response_code_at, member_at, transaction_part_at, transaction_at, class_words_at, command_number_at, command_operation_at, text_here, other_attribute_at, attribute_at}
 use Rattle.edd_grammar.proofs.Steps.{bind_some, as_read, at_word_is, expect_is, name_is}
-use Rattle.edd_grammar.proofs.SignNumbers.{same_word_self}
+use Rattle.edd_grammar.proofs.SameSigns.{same_word_self}
 use Rattle.edd_grammar.proofs.Alternatives.{branch, expected, worded}
 use Rattle.edd_grammar.proofs.Branches.{SoundOf}
 use Rattle.edd_grammar.proofs.SingleValues.{one_sound}

@@ -18,7 +18,7 @@ use Rattle.edd_syntax.specs.Size.{height, argument_height}
 use Rattle.edd_grammar.specs.Signs.{infix_row, infix_tree, unary_of, before_of, behind_of, same_sign}
 use Rattle.edd_grammar.specs.Reading.{at, expect, path_at, is_text, text_at}
 use Rattle.edd_grammar.specs.ExpressionReading.{closing, step_before, is_method, operator_at, assignment_at, increment_at, Inner, argument_at, some_arguments, arguments_at, postfix, named_at, unary_behind, parentheses_behind, signed_at, operand_at, joined_at, chain, choice_at, assigned, as_path, assign_at, layer, expr_at}
-use Rattle.edd_grammar.proofs.SignNumbers.{same_sign_is}
+use Rattle.edd_grammar.proofs.SameSigns.{same_sign_is}
 use Rattle.edd_grammar.proofs.Steps.{option_cases, bind_some, guard_some, chosen, both_true, as_read, at_is, expect_is, le_is}
 use Rattle.edd_grammar.proofs.Operators.{method_is, infix_spelled, infix_height, operator_is, row_from, row_to, unary_is, before_spelled, behind_spelled, assignment_is, assignment_spelled, assignment_height, Ends, ends_before, ends_all, ends_tight}
 use Rattle.edd_grammar.proofs.Texts.{path_behind_sound, path_sound, text_sound}

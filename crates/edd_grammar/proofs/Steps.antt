@@ -7,7 +7,7 @@ use Rattle.edd_syntax.specs.declared.symbols.Symbol.{Symbol}
 use Rattle.edd_syntax.specs.Token.{Token, Reserved, Identifier, Integer, String, Sign}
 use Rattle.edd_syntax.specs.Token as token
 use Rattle.edd_grammar.specs.Reading.{◌>>=◌, on_option, at, expect, at_word, expect_word, name_at}
-use Rattle.edd_grammar.proofs.SignNumbers.{same_sign_is, same_sign_self, same_word_is, same_word_self}
+use Rattle.edd_grammar.proofs.SameSigns.{same_sign_is, same_sign_self, same_word_is, same_word_self}
 
 pub bind_some : {A B : Type 0} (o : Option A) (f : A → Option B) (y : B) → (o >>= f) ≡ Some y → (x : A) × (o ≡ Some x) × (f x ≡ Some y)
 bind_some (Some x) f y e = (x, refl, e)

@@ -1,5 +1,5 @@
 -- The bytes of names and strings are text where the whole is.
-use Rattle.std.proofs.Common.{◌≡◌, ℕ, zero, suc, ◌+◌, ◌-◌, ◌<◌, Bool, true, false, ◌&&◌, ◌==◌, List, [], ◌∷◌, ◌++◌, length, take, drop, map, get_or, All, Option, Some, refl, sym, ap, subst, ◌∙◌, inl, inr, append_assoc, length-append, arith}
+use Rattle.std.proofs.Common.{◌≡◌, ℕ, zero, suc, ◌+◌, ◌-◌, ◌<◌, Bool, true, false, ◌&&◌, List, [], ◌∷◌, ◌++◌, length, take, drop, map, get_or, All, refl, sym, ap, subst, ◌∙◌, inl, inr, append_assoc, length-append, arith}
 use Rattle.std.specs.Prelude.{IsUtf8, bytes_eq, slice_range, nat_lt, cond}
 use Rattle.std.specs.List.{list_all}
 use Rattle.std.specs.Str.{IsAscii}
@@ -13,17 +13,14 @@ use Rattle.edd_syntax.specs.Token as pure
 use Rattle.edd_lexer.specs.declared.token.Token as code
 use Rattle.edd_lexer.specs.declared.token.TokenKind.{TokenKind}
 use Rattle.edd_lexer.specs.declared.token.TokenKind.TheVariants as kind
-use Rattle.edd_lexer.specs.Bytes.{begins, front, in_line}
 use Rattle.edd_lexer.specs.Strings.{quote}
-use Rattle.edd_lexer.specs.Gaps.{Gap, blank, line_comment, block_comment, mark, behind_close}
-use Rattle.edd_lexer.specs.Signs.{symbol_bytes}
+use Rattle.edd_lexer.specs.Gaps.{Gap}
 use Rattle.edd_lexer.specs.Kept.{IsKept, IsLexeme}
 use Rattle.edd_lexer.specs.Tokens.{Lexeme, Stands, word, integer, decimal, string, sign, TokensFrom, nothing, behind_gap, behind_token, AreTokens, behind_byte_order_mark}
 use Rattle.edd_lexer.specs.Views.{token_of, lexeme_of}
 use Rattle.edd_lexer.proofs.Keeping.{tokens_kept}
 use Rattle.edd_lexer.proofs.Cuts.{gap_cut, token_cut}
-use Rattle.edd_lexer.proofs.Runs.{both, front_behind}
-use Rattle.edd_lexer.proofs.ByteTests.{next_here}
+use Rattle.edd_lexer.proofs.Runs.{both}
 use Rattle.edd_lexer.proofs.ReservedWords.{Tokened, word_tokened}
 use Rattle.edd_token_reader.specs.TokenTexts.{HasText, HasQuotes, IsReadable}
 

@@ -13,7 +13,6 @@ use crate::belongs::word_belongs;
 use crate::fault::ParseFault;
 use crate::operators::{Assignment, Infix, assignment_of, behind_of, infix_of, row_of};
 use crate::piece::Piece;
-use crate::same::{same_sign, same_word};
 use edd_lexer::token::{Token, TokenKind};
 use edd_syntax::numbers::{Kind, TextAttribute};
 use edd_syntax::operators::{IncrementOperator, Operator};
@@ -147,7 +146,7 @@ impl<'a> Cursor<'a> {
         ensures { result ≡ reading.at sign self.now }
     {
         match self.rest {
-            [Piece::Symbol(next), ..] => same_sign(sign, *next),
+            [Piece::Symbol(next), ..] => sign == *next,
             _ => false,
         }
     }
@@ -157,7 +156,7 @@ impl<'a> Cursor<'a> {
         ensures { result ≡ reading.at_word word self.now }
     {
         match self.rest {
-            [Piece::Keyword(next), ..] => same_word(word, *next),
+            [Piece::Keyword(next), ..] => word == *next,
             _ => false,
         }
     }

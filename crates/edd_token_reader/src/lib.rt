@@ -9,6 +9,5 @@ pub mod operators;
 pub mod piece;
 pub mod pieces;
 pub mod qualifiers;
-pub mod same;
 pub mod texts;
 pub mod words;
