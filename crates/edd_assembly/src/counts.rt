@@ -3,7 +3,6 @@
 ghost use Rattle.std.specs.Prelude.{◌≡◌, ◌≤◌, ◌∷◌, [], map, option_map, IsTrue, IfOk, OnOk, ◌++◌};
 ghost use Rattle.std.specs.List.{list_all};
 ghost use Rattle.edd_syntax.specs.Device as device;
-ghost use Rattle.edd_syntax.specs.Item.{kind_of_item};
 ghost use Rattle.edd_syntax.specs.ItemView.{item_of, attribute_of};
 ghost use Rattle.edd_syntax.specs.Numbers as numbers;
 ghost use Rattle.edd_syntax.specs.Resolution.{count_of};
@@ -16,24 +15,6 @@ use edd_syntax::reference::Target;
 use edd_syntax::types::VarType;
 use std::alloc::{AllocError, Global};
 
-fn kind_of(item: &Item<Target>) -> Kind
-    ensures { result ≡ kind_of_item (item_of (λ r. r) item.now).sort }
-{
-    match item {
-        Item::Variable(_) => Kind::Variable,
-        Item::Command(_) => Kind::Command,
-        Item::Menu(_) => Kind::Menu,
-        Item::Collection(_) => Kind::Collection,
-        Item::Method(_) => Kind::Method,
-    }
-}
-
-fn is_kind(item: &Item<Target>, kind: Kind) -> bool
-    ensures { result ≡ numbers.same_kind (kind_of_item (item_of (λ r. r) item.now).sort) kind }
-{
-    kind_of(item) == kind
-}
-
 /// How many items of a kind there are.
 pub fn count(items: &[Item<Target>], kind: Kind) -> u16
     requires { count_of kind (map (item_of (λ r. r)) items.now) ≤ 4096 }
@@ -41,7 +22,7 @@ pub fn count(items: &[Item<Target>], kind: Kind) -> u16
 {
     let mut number = 0;
     for item in items {
-        if is_kind(item, kind) {
+        if item.kind() == kind {
             number += 1;
         }
     }

@@ -2,7 +2,6 @@
 
 ghost use Rattle.std.specs.Prelude.{◌≡◌, ◌++◌, ◌∷◌, [], map, OnOk, IfOk, length, string_bytes};
 ghost use Rattle.std.specs.List.{flat_map};
-ghost use Rattle.edd_syntax.specs.Item.{kind_of_item};
 ghost use Rattle.edd_syntax.specs.ItemView.{item_of};
 ghost use Rattle.edd_syntax.specs.Numbers as numbers;
 ghost use Rattle.edd_assembly.specs.Assembly.{name_row_at, name_rows, names_of_kind, names_of_kinds, names_of};
@@ -51,9 +50,8 @@ impl NameSection {
         ensures bytes { OnOk result (self.new.bytes.items
             ≡ self.old.bytes.items ++ flat_map (λ n. n) (names_of_kind kind (item_of (λ r. r) item.now ∷ []))) }
     {
-        let (of, name) = kind_and_name(item);
-        if of == kind {
-            self.push(name)?;
+        if item.kind() == kind {
+            self.push(item.name())?;
         }
         Ok(())
     }
@@ -68,19 +66,6 @@ impl NameSection {
             self.push_if(item, kind)?;
         }
         Ok(())
-    }
-}
-
-fn kind_and_name(item: &Item<Target>) -> (Kind, &str)
-    ensures kind { result.0 ≡ kind_of_item (item_of (λ r. r) item.now).sort }
-    ensures name { result.1.now ≡ (item_of (λ r. r) item.now).name }
-{
-    match item {
-        Item::Variable(d) => (Kind::Variable, &d.name),
-        Item::Command(d) => (Kind::Command, &d.name),
-        Item::Menu(d) => (Kind::Menu, &d.name),
-        Item::Collection(d) => (Kind::Collection, &d.name),
-        Item::Method(d) => (Kind::Method, &d.name),
     }
 }
 

@@ -6,7 +6,6 @@ ghost use Rattle.edd_syntax.specs.Numbers.{same_kind};
 ghost use Rattle.edd_syntax.specs.ItemView.{attribute_of, item_of};
 ghost use Rattle.edd_code.specs.Places.{ArePlaces, IsIndexOf, attributes_at_place, attributes_of_items, places_of, with_place};
 
-use crate::items::{attributes_of, has_kind};
 use edd_syntax::item::{Attribute, Item};
 use edd_syntax::numbers::Kind;
 use edd_syntax::reference::Target;
@@ -31,7 +30,7 @@ fn add_place(
 ) -> Result<(), AllocError>
     ensures { OnOk result (places.new.items ≡ with_place (same_kind (kind_of_item (item_of (λ r. r) item.now).sort) kind) places.old.items place) }
 {
-    if has_kind(item, kind) {
+    if item.kind() == kind {
         places.push(place)?;
     }
     Ok(())
@@ -83,7 +82,7 @@ impl ItemIndex {
 fn at_place(items: &[Item<Target>], place: usize) -> Option<&[Attribute<Target>]>
     ensures { option_map (λ a. map (attribute_of (λ r. r)) a.now) result ≡ attributes_at_place (map (item_of (λ r. r)) items.now) place }
 {
-    Some(attributes_of(items.get(place)?))
+    Some(items.get(place)?.attributes())
 }
 
 /// The attributes of an item by its number among those of its kind, at once.

@@ -15,7 +15,6 @@ ghost use Rattle.edd_name_meanings.specs.declared.fault.NameFault.TheVariants.{N
 ghost use Rattle.edd_name_meanings.specs.Numbering.{at, if_named, count_in};
 
 use crate::fault::NameFault;
-use edd_name_rules::items::{kind_of, name_of};
 use edd_syntax::item::Item;
 use edd_syntax::numbers::{ItemNo, Kind};
 use edd_syntax::reference::Path;
@@ -103,8 +102,8 @@ fn number_item<'a>(
         ≡ count_in counts.old k + (if same_kind (kind_of_item (item_of path_of item.now).sort) k then 1 else 0)) }
     ensures err { IfErr result (λ f. f ≡ NoMemory) }
 {
-    let kind = kind_of(item);
-    put_first(numbers, name_of(item), kind.item(counts.of(kind)))?;
+    let kind = item.kind();
+    put_first(numbers, item.name(), kind.item(counts.of(kind)))?;
     counts.count(kind);
     Ok(())
 }

@@ -8,7 +8,6 @@ ghost use Rattle.edd_syntax.specs.Resolution.{count_of};
 ghost use Rattle.edd_syntax.specs.TreeView.{path_of};
 ghost use Rattle.edd_name_rules.specs.Spending.{spent, transactions_in};
 
-use crate::items::kind_of;
 use edd_syntax::item::{Attribute, Item};
 use edd_syntax::numbers::Kind;
 use edd_syntax::reference::Path;
@@ -28,7 +27,7 @@ pub fn spend_items(items: &[Item<Path>], kind: Kind, budget: u32) -> Option<u32>
 fn spend_item(item: &Item<Path>, kind: Kind, budget: u32) -> Option<u32>
     ensures { result ≡ spent budget (count_of kind (item_of path_of item.now ∷ [])) }
 {
-    if kind_of(item) == kind {
+    if item.kind() == kind {
         budget.checked_sub(1)
     } else {
         Some(budget)

@@ -6,7 +6,6 @@ mod attributes;
 mod conds;
 mod counts;
 pub mod fault;
-pub mod items;
 mod names;
 mod nodes;
 mod repeats;

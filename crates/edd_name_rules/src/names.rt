@@ -12,7 +12,6 @@ ghost use Rattle.edd_name_rules.specs.Scopes.{part_repeats, names_of_part, attri
 ghost use Rattle.edd_name_rules.specs.Seen.{HasSeen};
 
 use crate::fault::RuleFault;
-use crate::items::{attributes_of, name_of};
 use crate::seen::{Seen, note, note_declarators, note_members};
 use edd_syntax::item::{Attribute, Item};
 use edd_syntax::reference::Path;
@@ -140,8 +139,8 @@ fn check_item<'a>(item: &'a Item<Path>, seen: &mut Seen<'a>, alloc: Global) -> R
         → (None ≡ first_of (item_repeats b (item_of path_of item.now))) × HasSeen ((item_of path_of item.now).name ∷ b) seen.new) }
     ensures err { IfErr result (λ f. (b : List Name) → HasSeen b seen.old → IsDuplicate f (item_repeats b (item_of path_of item.now))) }
 {
-    note(seen, name_of(item), alloc)?;
-    check_attributes(attributes_of(item), alloc)
+    note(seen, item.name(), alloc)?;
+    check_attributes(item.attributes(), alloc)
 }
 
 fn check_items_in<'a>(

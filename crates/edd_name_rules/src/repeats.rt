@@ -9,7 +9,6 @@ ghost use Rattle.edd_syntax.specs.TreeView.{path_of};
 ghost use Rattle.edd_name_rules.specs.Walks.{repeated_here, is_transaction};
 
 use crate::attributes::{has_word, word_of};
-use crate::items::attributes_of;
 use edd_syntax::item::{Attribute, Item, TransactionPart, TypePart};
 use edd_syntax::numbers::Attr;
 use edd_syntax::reference::Path;
@@ -155,7 +154,7 @@ pub fn repeated_attribute(attributes: &[Attribute<Path>]) -> Option<&'static str
 fn repeated_in_item(item: &Item<Path>) -> Option<&'static str>
     ensures { option_map (λ w. w.now) result ≡ first_of (repeated_words [] (item_of path_of item.now).attributes) }
 {
-    repeated_attribute(attributes_of(item))
+    repeated_attribute(item.attributes())
 }
 
 /// The first word of an attribute that stands twice in an item, a transaction or a type's braces.

@@ -9,7 +9,6 @@ ghost use Rattle.edd_syntax.specs.TreeView.{path_of};
 ghost use Rattle.edd_name_rules.specs.Spending.{spent};
 
 use crate::conds::spend_cond;
-use crate::items::attributes_of;
 use crate::nodes::spend_parts;
 use crate::slots::spend_count;
 use crate::values::{spend_data, spend_entries, spend_enumerator, spend_text, spend_value};
@@ -121,7 +120,7 @@ fn spend_attributes(attributes: &[Attribute<Path>], budget: u32) -> Option<u32>
 fn spend_item(item: &Item<Path>, budget: u32) -> Option<u32>
     ensures { result ≡ spent budget (item_nodes (item_of path_of item.now)) }
 {
-    spend_attributes(attributes_of(item), budget)
+    spend_attributes(item.attributes(), budget)
 }
 
 fn spend_items(items: &[Item<Path>], budget: u32) -> Option<u32>

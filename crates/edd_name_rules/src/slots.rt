@@ -9,7 +9,6 @@ ghost use Rattle.edd_syntax.specs.TreeView.{path_of, stmt_of, part_of};
 ghost use Rattle.edd_name_rules.specs.Spending.{spent, locals_in};
 
 use crate::counts::spend_transactions;
-use crate::items::attributes_of;
 use edd_syntax::item::{Attribute, Item};
 use edd_syntax::reference::Path;
 use edd_syntax::stmt::{Part, Stmt};
@@ -108,7 +107,7 @@ pub fn has_too_many_locals(items: &[Item<Path>]) -> bool
 fn are_locals_over(item: &Item<Path>) -> bool
     ensures { result ≡ nat_lt local_limit (locals_of (item_of path_of item.now)) }
 {
-    spend_locals(attributes_of(item), 64).is_none()
+    spend_locals(item.attributes(), 64).is_none()
 }
 
 /// Whether an item has more than 4,096 transactions.
@@ -127,5 +126,5 @@ pub fn has_too_many_transactions(items: &[Item<Path>]) -> bool
 fn are_transactions_over(item: &Item<Path>) -> bool
     ensures { result ≡ nat_lt transaction_limit (transaction_count (item_of path_of item.now)) }
 {
-    spend_transactions(attributes_of(item), 4096).is_none()
+    spend_transactions(item.attributes(), 4096).is_none()
 }

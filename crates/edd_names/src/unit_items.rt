@@ -13,7 +13,6 @@ ghost use Rattle.edd_name_meanings.specs.Meanings.{Means, NoFault, FirstFault};
 use crate::fields::copy_attributes;
 use edd_name_meanings::directory::Names;
 use edd_name_meanings::fault::NameFault;
-use edd_name_rules::items::{attributes_of, name_of};
 use edd_syntax::item::{
     Attribute, CollectionDef, CommandDef, Item, MenuDef, MethodDef, VariableDef,
 };
@@ -45,8 +44,8 @@ fn copy_item(item: &Item<Path>, names: &Names) -> Result<Item<Target>, NameFault
     ensures ok { IfOk result (λ t. Means (unit_of names.now) (resolved_item (unit_of names.now) (item_of path_of item.now)) (item_of (λ r. r) t)) }
     ensures err { IfErr result (λ f. FirstFault f (unit_of names.now) (item_uses (item_of path_of item.now))) }
 {
-    let attributes = copy_attributes(attributes_of(item), names, item)?;
-    let name = String::from_str(names.alloc, name_of(item))?;
+    let attributes = copy_attributes(item.attributes(), names, item)?;
+    let name = String::from_str(names.alloc, item.name())?;
     Ok(like(item, name, attributes))
 }
 

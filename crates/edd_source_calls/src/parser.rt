@@ -187,11 +187,7 @@ fn statements_stand_in_statements(rt: HostRuntime) -> Result<(), Fail> {
 // The attributes of the first item.
 fn attributes(unit: &Unit) -> &[Attribute<Path>] {
     match unit.items.first() {
-        Some(Item::Variable(d)) => &d.attributes,
-        Some(Item::Command(d)) => &d.attributes,
-        Some(Item::Menu(d)) => &d.attributes,
-        Some(Item::Collection(d)) => &d.attributes,
-        Some(Item::Method(d)) => &d.attributes,
+        Some(item) => item.attributes(),
         None => &[],
     }
 }

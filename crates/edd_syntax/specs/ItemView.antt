@@ -28,6 +28,7 @@ use Rattle.edd_syntax.specs.Reference as references
 use Rattle.edd_syntax.specs.Conditional as pure
 use Rattle.edd_syntax.specs.Item as items
 use Rattle.edd_syntax.specs.Statement as statement
+use Rattle.edd_syntax.specs.Text.{Name}
 use Rattle.edd_syntax.specs.WordsView.{text_of}
 use Rattle.edd_syntax.specs.TreeView.{path_of, expr_of, part_of}
 
@@ -107,12 +108,30 @@ attribute_of f (attribute.Definition parts) = items.Definition (statement.body_f
 
 -- ---- items
 
+-- what an item is
+abbrev pub sort_of : {R : Type 0} → Item R → items.ItemKind
+sort_of (item.Variable d) = items.VariableItem
+sort_of (item.Command d) = items.CommandItem
+sort_of (item.Menu d) = items.MenuItem
+sort_of (item.Collection d) = items.CollectionItem d.of
+sort_of (item.Method d) = items.MethodItem
+
+abbrev pub name_of : {R : Type 0} → Item R → Name
+name_of (item.Variable d) = string_bytes d.name
+name_of (item.Command d) = string_bytes d.name
+name_of (item.Menu d) = string_bytes d.name
+name_of (item.Collection d) = string_bytes d.name
+name_of (item.Method d) = string_bytes d.name
+
+abbrev pub attributes_of : {R : Type 0} → Item R → List (Attribute R)
+attributes_of (item.Variable d) = d.attributes.items
+attributes_of (item.Command d) = d.attributes.items
+attributes_of (item.Menu d) = d.attributes.items
+attributes_of (item.Collection d) = d.attributes.items
+attributes_of (item.Method d) = d.attributes.items
+
 abbrev pub item_of : {R S : Type 0} → (R → S) → Item R → items.Item S
-item_of f (item.Variable d) = record { sort = items.VariableItem; name = string_bytes d.name; attributes = map (attribute_of f) d.attributes.items }
-item_of f (item.Command d) = record { sort = items.CommandItem; name = string_bytes d.name; attributes = map (attribute_of f) d.attributes.items }
-item_of f (item.Menu d) = record { sort = items.MenuItem; name = string_bytes d.name; attributes = map (attribute_of f) d.attributes.items }
-item_of f (item.Collection d) = record { sort = items.CollectionItem d.of; name = string_bytes d.name; attributes = map (attribute_of f) d.attributes.items }
-item_of f (item.Method d) = record { sort = items.MethodItem; name = string_bytes d.name; attributes = map (attribute_of f) d.attributes.items }
+item_of f i = record { sort = sort_of i; name = name_of i; attributes = map (attribute_of f) (attributes_of i) }
 
 abbrev pub identification_of : Identification → items.Identification
 identification_of i = record { manufacturer = i.manufacturer; device_type = i.device_type; device_revision = i.device_revision; dd_revision = i.dd_revision }

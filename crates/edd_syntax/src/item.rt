@@ -1,5 +1,9 @@
 //! Items and their attributes, over the type R of their references.
 
+ghost use Rattle.std.specs.Prelude.{◌≡◌};
+ghost use Rattle.edd_syntax.specs.Item.{kind_of_item};
+ghost use Rattle.edd_syntax.specs.ItemView.{sort_of, name_of, attributes_of};
+
 use crate::cond::Cond;
 use crate::expr::Expr;
 use crate::numbers::{Kind, TextAttribute};
@@ -160,6 +164,47 @@ pub enum Item<R> {
     Menu(MenuDef<R>),
     Collection(CollectionDef<R>),
     Method(MethodDef<R>),
+}
+
+impl<R> Item<R> {
+    /// What kind of item it is.
+    pub fn kind(&self) -> Kind
+        ensures { result ≡ kind_of_item (sort_of self.now) }
+    {
+        match self {
+            Item::Variable(_) => Kind::Variable,
+            Item::Command(_) => Kind::Command,
+            Item::Menu(_) => Kind::Menu,
+            Item::Collection(_) => Kind::Collection,
+            Item::Method(_) => Kind::Method,
+        }
+    }
+
+    /// The name under which others refer to it.
+    pub fn name(&self) -> &str
+        ensures { result.now ≡ name_of self.now }
+    {
+        match self {
+            Item::Variable(d) => &d.name,
+            Item::Command(d) => &d.name,
+            Item::Menu(d) => &d.name,
+            Item::Collection(d) => &d.name,
+            Item::Method(d) => &d.name,
+        }
+    }
+
+    /// The attributes, as they are written.
+    pub fn attributes(&self) -> &[Attribute<R>]
+        ensures { result.now ≡ attributes_of self.now }
+    {
+        match self {
+            Item::Variable(d) => &d.attributes,
+            Item::Command(d) => &d.attributes,
+            Item::Menu(d) => &d.attributes,
+            Item::Collection(d) => &d.attributes,
+            Item::Method(d) => &d.attributes,
+        }
+    }
 }
 
 /// Manufacturer, device type, device revision and revision of the description.

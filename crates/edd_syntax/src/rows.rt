@@ -79,20 +79,6 @@ fn is_written(attributes: &[Attribute<Target>], attr: Attr) -> bool
     false
 }
 
-// The kind and the attributes of an item.
-fn parts_of(item: &Item<Target>) -> (Kind, &[Attribute<Target>])
-    ensures kind { result.0 ≡ kind_of_item (item_of (λ r. r) item.now).sort }
-    ensures attributes { map (attribute_of (λ r. r)) result.1.now ≡ (item_of (λ r. r) item.now).attributes }
-{
-    match item {
-        Item::Variable(d) => (Kind::Variable, &d.attributes),
-        Item::Command(d) => (Kind::Command, &d.attributes),
-        Item::Menu(d) => (Kind::Menu, &d.attributes),
-        Item::Collection(d) => (Kind::Collection, &d.attributes),
-        Item::Method(d) => (Kind::Method, &d.attributes),
-    }
-}
-
 fn is_transaction(attribute: &Attribute<Target>) -> bool
     ensures { result ≡ rules.is_transaction (attribute_of (λ r. r) attribute.now) }
 {
@@ -153,9 +139,8 @@ fn push_items(
 {
     let mut number = 0;
     for item in items {
-        let (of, attributes) = parts_of(item);
-        if of == kind {
-            push_item(rows, attributes, kind.item(number), attr)?;
+        if item.kind() == kind {
+            push_item(rows, item.attributes(), kind.item(number), attr)?;
             number += 1;
         }
     }

@@ -108,18 +108,6 @@ fn check_attributes(
     Ok(None)
 }
 
-fn attributes_of(item: &Item<Target>) -> &[Attribute<Target>]
-    ensures { map (attribute_of (λ r. r)) result.now ≡ (item_of (λ r. r) item.now).attributes }
-{
-    match item {
-        Item::Variable(d) => &d.attributes,
-        Item::Command(d) => &d.attributes,
-        Item::Menu(d) => &d.attributes,
-        Item::Collection(d) => &d.attributes,
-        Item::Method(d) => &d.attributes,
-    }
-}
-
 /// The line of the first breach of a rule in items.
 pub fn check_items(
     items: &[Item<Target>],
@@ -129,7 +117,7 @@ pub fn check_items(
     ensures { IfOk result (λ line. found_at (why rule) line ≡ first_of (broken rule (map (item_of (λ r. r)) items.now))) }
 {
     for item in items {
-        if let Some(line) = check_attributes(attributes_of(item), rule, alloc)? {
+        if let Some(line) = check_attributes(item.attributes(), rule, alloc)? {
             return Ok(Some(line));
         }
     }

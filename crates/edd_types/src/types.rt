@@ -62,13 +62,7 @@ fn wrong_attributes<'a>(name: &'a str, attributes: &'a [Attribute<Target>]) -> O
 fn wrong_item(item: &Item<Target>) -> Option<WrongType>
     ensures { option_map refusal_of_wrong result ≡ first_of (in_items (item_of (λ r. r) item.now ∷ [])) }
 {
-    match item {
-        Item::Variable(d) => wrong_attributes(&d.name, &d.attributes),
-        Item::Command(d) => wrong_attributes(&d.name, &d.attributes),
-        Item::Menu(d) => wrong_attributes(&d.name, &d.attributes),
-        Item::Collection(d) => wrong_attributes(&d.name, &d.attributes),
-        Item::Method(d) => wrong_attributes(&d.name, &d.attributes),
-    }
+    wrong_attributes(item.name(), item.attributes())
 }
 
 /// The first variable of a type that the profile doesn't have.

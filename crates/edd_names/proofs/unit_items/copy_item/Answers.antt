@@ -1,4 +1,4 @@
-use Rattle.std.proofs.Common.{◌∙◌, map}
+use Rattle.std.proofs.Common.{◌∙◌, ap, map}
 use Rattle.edd_syntax.specs.ItemView.{attribute_of, item_of}
 use Rattle.edd_syntax.specs.TreeView.{path_of}
 use Rattle.edd_name_meanings.specs.Directory.{unit_of}
@@ -7,5 +7,5 @@ use Rattle.edd_names.proofs.unit_items.copy_item.Goals as goal
 
 pub returns-clause-ok : goal.returns-clause-ok
 returns-clause-ok c =
-    item_means (unit_of c.args.names.now) (item_of path_of c.args.item.now) (item_of (λ r. r) c.like.result) (map (attribute_of path_of) c.attributes_of.result.now) (map (attribute_of (λ r. r)) c.in_ok-attributes.attributes.items)
-    c.attributes_of.ensures c.in_ok-attributes.ensures.ok c.like.ensures.sort (c.like.ensures.name ∙ c.in_ok-name.ensures.ok ∙ c.name_of.ensures) c.like.ensures.attributes
+    item_means (unit_of c.args.names.now) (item_of path_of c.args.item.now) (item_of (λ r. r) c.like.result) (map (attribute_of path_of) c.attributes.result.now) (map (attribute_of (λ r. r)) c.in_ok-attributes.attributes.items)
+    (ap (map (attribute_of path_of)) c.attributes.ensures) c.in_ok-attributes.ensures.ok c.like.ensures.sort (c.like.ensures.name ∙ c.in_ok-name.ensures.ok ∙ c.name.ensures) c.like.ensures.attributes
