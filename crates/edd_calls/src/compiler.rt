@@ -1,15 +1,13 @@
-//! The compiler's calls, and the program over files and an output of its caller.
+//! The compiler's calls.
 
-use crate::descriptions::{IDENTIFICATION, described, row, text_of};
+use crate::descriptions::{described, row, text_of};
 use edd_compiler::{compile, unit_of};
 use edd_image::Record;
 use edd_loader::{Image, load};
 use edd_machine::{Values, attribute};
 use edd_syntax::item::Identification;
 use edd_syntax::numbers::{Attr, AttrRef, CmdNo, ItemNo, MenuNo, StrNo, VarNo};
-use edd_tool::{FileFault, Files, run};
 use std::alloc::{AllocError, Global};
-use std::io::{Error, ErrorKind, Read};
 use std::test::Fail;
 
 // The identification and the number of items of the unit.
@@ -56,63 +54,6 @@ fn a_text_comes_to_its_unit_or_its_fault(rt: HostRuntime) -> Result<(), Fail> {
     let alloc = rt.alloc();
     for (items, expected) in OUTCOMES {
         assert!(rt; comes_to(alloc, items, expected)?, "{items}");
-    }
-    Ok(())
-}
-
-// Gives at most three bytes a read, and fails after its bytes where it is broken.
-#[derive(Drop)]
-struct Dripping<'a> {
-    rest: &'a [u8],
-    is_broken: bool,
-}
-
-impl Read for Dripping<'_> {
-    fn read(&mut self, buf: &mut [u8]) -> std::io::Result<usize> {
-        if self.rest.is_empty() && self.is_broken {
-            return Err(Error::from(ErrorKind::Other));
-        }
-        let room = buf.len().min(3);
-        self.rest.read(&mut buf[..room])
-    }
-}
-
-// Every name is that of one file, which is the identification. Nothing is kept of what is saved.
-#[derive(Drop)]
-struct OneFile {
-    is_broken: bool,
-}
-
-impl Files for OneFile {
-    type Reader = Dripping<'static>;
-
-    fn open(&mut self, _name: &str) -> Result<Dripping<'static>, FileFault> {
-        Ok(Dripping {
-            rest: IDENTIFICATION.as_bytes(),
-            is_broken: self.is_broken,
-        })
-    }
-
-    fn save(&mut self, _name: &str, _bytes: &[u8]) -> Result<(), FileFault> {
-        Ok(())
-    }
-}
-
-// Whether the file's reading fails, the exit status, and what is printed.
-const READINGS: [(bool, u8, &str); 2] = [(false, 0, "image 56\n"), (true, 3, "file s\n")];
-
-#[test]
-fn a_file_is_read_to_its_end(rt: HostRuntime) -> Result<(), Fail> {
-    let alloc = rt.alloc();
-    let mut words = Vec::new(alloc);
-    for word in ["edd", "compile", "s", "i"] {
-        words.push(String::from_str(alloc, word)?)?;
-    }
-    for (is_broken, status, printed) in READINGS {
-        let mut out: Vec<u8> = Vec::new(alloc);
-        let answer = run(alloc, &words, &mut OneFile { is_broken }, &mut out);
-        assert_eq!(rt; answer, status, "broken: {is_broken}");
-        assert_eq!(rt; out.as_slice(), printed.as_bytes(), "broken: {is_broken}");
     }
     Ok(())
 }

@@ -8,4 +8,6 @@ mod compiler;
 #[cfg(test)]
 mod descriptions;
 #[cfg(test)]
+mod files;
+#[cfg(test)]
 mod methods;

@@ -1,4 +1,4 @@
-//! The calls on images, tried on worked examples: writing, loading, reading and running.
+//! The calls on images, tried on worked examples: writing, loading, reading, showing and running.
 #![tactic(auto)]
 
 #[cfg(test)]
@@ -15,5 +15,7 @@ mod machine;
 mod sessions;
 #[cfg(test)]
 mod small;
+#[cfg(test)]
+mod using;
 #[cfg(test)]
 mod worked;

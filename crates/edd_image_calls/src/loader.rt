@@ -1,5 +1,6 @@
 //! Images that are loaded, or refused with their fault.
 
+use crate::using::is_usable;
 use crate::worked::{LABEL, LOOP};
 use edd_image::VarKind;
 use edd_loader::{LoadFault, Text, load};
@@ -115,11 +116,12 @@ fn count_of(fault: LoadFault) -> usize {
     }
 }
 
-// Where the answer to these bytes is counted. An image has to give them back.
+// Where the answer to these bytes is counted. An image has to give them back, and to be shown and run.
 fn answer_to(alloc: Global, bytes: &[u8]) -> Result<usize, Fail> {
     match load(alloc, bytes) {
-        Ok(image) if image.bytes() == bytes => Ok(0),
-        Ok(_) => Err(Fail::from("other bytes")),
+        Ok(image) if image.bytes() != bytes => Err(Fail::from("other bytes")),
+        Ok(image) if is_usable(alloc, &image)? => Ok(0),
+        Ok(_) => Err(Fail::from("not shown or not run")),
         Err(fault) => Ok(count_of(fault)),
     }
 }
