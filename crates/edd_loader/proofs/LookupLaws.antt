@@ -96,7 +96,7 @@ part_of_part : (start size from long : ℕ) (b : List ℕ) → from + long ≤ s
 part_of_part start size from long b inside =
     let whole : size ≡ from + (size - from) = omega (arith, inside) in
     let cut : drop from (take size (drop start b)) ≡ take (size - from) (drop from (drop start b)) =
-        ap (λ (k : ℕ). drop from (take k (drop start b))) whole ∙ drop-take from (size - from) (drop start b) in
+    ap (λ (k : ℕ). drop from (take k (drop start b))) whole ∙ drop-take from (size - from) (drop start b) in
     let again : drop from (drop start b) ≡ drop (start + from) b = drop-drop from start b in
     let shorter : take long (take (size - from) (drop from (drop start b))) ≡ take long (drop from (drop start b)) = take-take long (size - from) _ (omega (arith, inside)) in
     sym (ap (take long) cut ∙ shorter ∙ ap (take long) again)
