@@ -41,12 +41,11 @@ fn walked(alloc: Global, context: Context, code: &[u8]) -> Result<Option<(Walk, 
     Ok(Some((walk, place)))
 }
 
-// Goes on from there to the end of the unit, unless that is no chain. The context is lent, since most units end where the first
-// walk does.
+// Goes on from there to the end of the unit, unless that is no chain.
 #[inline(never)]
-fn surveyed(context: &Context, code: &[u8], walk: Walk, place: usize) -> Option<Survey>
-    requires { IsWalkAt context.now code.now walk place }
-    ensures { MatchOption result (¬ UnitKeeps context.now code.now Chain) (IsSurveyOf context.now code.now) }
+fn surveyed(context: Context, code: &[u8], walk: Walk, place: usize) -> Option<Survey>
+    requires { IsWalkAt context code.now walk place }
+    ensures { MatchOption result (¬ UnitKeeps context code.now Chain) (IsSurveyOf context code.now) }
 {
     if code.is_empty() {
         return None;
@@ -58,7 +57,7 @@ fn surveyed(context: &Context, code: &[u8], walk: Walk, place: usize) -> Option<
             return None;
         };
         let depth = survey.arrive(place);
-        if !survey.take_on(*context, place, next, depth, instruction) {
+        if !survey.take_on(context, place, next, depth, instruction) {
             return None;
         }
         place = next;
@@ -77,7 +76,7 @@ pub fn broken_in_unit(
     let Some((walk, place)) = walked(alloc, context, code)? else {
         return Ok(Some(UnitRule::Chain));
     };
-    let Some(survey) = surveyed(&context, code, walk, place) else {
+    let Some(survey) = surveyed(context, code, walk, place) else {
         return Ok(Some(UnitRule::Chain));
     };
     if !survey.leads || survey.goes_on || !are_settled(&survey.marks) {

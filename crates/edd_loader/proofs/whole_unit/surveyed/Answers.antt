@@ -28,7 +28,7 @@ loop-place-preserved c =
     let same_names : there.names ≡ before.names = ap (λ (s : Survey). s.names) c.arrive-depth.ensures.others in
     let size : vec_len there.marks ≡ length c.args.code.now = rw same_marks (omega (arith, before.marks.ok, c.loop-place.invariant.walk.sized)) in
     record {
-      walk = walk_goes_on c.args.context.now c.args.code.now before.marks.items after.marks.items (brought before.goes_on before.depth) (brought after.goes_on after.depth) c.loop-place.place c.in-Some.next c.arrive-depth.result i before.leads before.agrees before.names after.leads after.agrees after.names there.agrees
+      walk = walk_goes_on c.args.context c.args.code.now before.marks.items after.marks.items (brought before.goes_on before.depth) (brought after.goes_on after.depth) c.loop-place.place c.in-Some.next c.arrive-depth.result i before.leads before.agrees before.names after.leads after.agrees after.names there.agrees
           c.loop-place.invariant.walk c.loop-place-test.true (sym c.decode.ensures.value ∙ c.in-Some.is) (sym c.take_on.ensures.allowed ∙ c.if-not-take_on.false) c.arrive-depth.ensures.depth c.arrive-depth.ensures.arrival
           (rw same_names at (taken.names refl)) (rw (size, same_leads) at (taken.leads refl)) (brings_some after.goes_on after.depth ∙ taken.goes_on refl) (λ leads. rw same_items at (taken.agrees refl leads)) (taken.brought refl) (brings_room after.goes_on after.depth (taken.room refl))
           (rw (size, same_items) at (taken.marks refl));
