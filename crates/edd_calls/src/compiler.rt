@@ -180,7 +180,7 @@ const RECORDS: [&[Record]; 20] = [
 // The first row that gives other records.
 fn first_other_row(
     alloc: Global,
-    image: &Image,
+    image: &Image<'_>,
     values: &Values,
     rows: &[AttrRef],
 ) -> Result<Option<usize>, Fail> {
@@ -193,18 +193,14 @@ fn first_other_row(
     Ok(None)
 }
 
-fn loaded(alloc: Global, items: &str) -> Result<Image, Fail> {
-    let text = text_of(alloc, items)?;
-    let bytes = compile(alloc, text.as_bytes())?;
-    Ok(load(alloc, &bytes)?)
-}
-
 #[test]
 fn every_attribute_is_compiled_and_read(rt: HostRuntime) -> Result<(), Fail> {
     let alloc = rt.alloc();
     let rows = rows_of(alloc, EVERY_ATTRIBUTE)?;
     assert_eq!(rt; rows.len(), RECORDS.len(), "rows");
-    let image = loaded(alloc, EVERY_ATTRIBUTE)?;
+    let text = text_of(alloc, EVERY_ATTRIBUTE)?;
+    let bytes = compile(alloc, text.as_bytes())?;
+    let image = load(alloc, &bytes)?;
     let values = Values::new(alloc, &image, &[0, 0])?;
     let other = first_other_row(alloc, &image, &values, &rows)?;
     assert_eq!(rt; other, None, "records");

@@ -11,13 +11,16 @@ use edd_syntax::numbers::{Attr, ItemNo, MethNo, StrNo, VarNo};
 use std::alloc::{AllocError, Global};
 use std::test::Fail;
 
-fn image_of(alloc: Global, items: &str) -> Result<Image, Fail> {
+fn compiled(alloc: Global, items: &str) -> Result<Vec<u8>, Fail> {
     let text = text_of(alloc, items)?;
-    let bytes = compile(alloc, text.as_bytes())?;
-    Ok(load(alloc, &bytes)?)
+    Ok(compile(alloc, text.as_bytes())?)
 }
 
-fn started<'i>(alloc: Global, image: &'i Image, numbers: &[i64]) -> Result<Session<'i>, Fail> {
+fn started<'i, 'b>(
+    alloc: Global,
+    image: &'i Image<'b>,
+    numbers: &[i64],
+) -> Result<Session<'i, 'b>, Fail> {
     let values = Values::new(alloc, image, numbers)?;
     match Session::start(image, MethNo(0), values) {
         Ok(session) => Ok(session),
@@ -49,7 +52,8 @@ const ADDS_AN_ANSWER: &str = "VARIABLE x { TYPE UNSIGNED_INTEGER (1); }
 #[test]
 fn a_request_is_answered_after_refused_answers(rt: HostRuntime) -> Result<(), Fail> {
     let alloc = rt.alloc();
-    let image = image_of(alloc, ADDS_AN_ANSWER)?;
+    let bytes = compiled(alloc, ADDS_AN_ANSWER)?;
+    let image = load(alloc, &bytes)?;
     let mut session = started(alloc, &image, &[250])?;
     let asks = Turn::Asks(Request::Acknowledge(StrNo(0)));
     assert_eq!(rt; session.advance(1000), asks);
@@ -76,7 +80,8 @@ fn a_request_is_answered_after_refused_answers(rt: HostRuntime) -> Result<(), Fa
 #[test]
 fn an_endless_loop_spends_each_budget(rt: HostRuntime) -> Result<(), Fail> {
     let alloc = rt.alloc();
-    let image = image_of(alloc, "METHOD m { DEFINITION { while (1) { } } }")?;
+    let bytes = compiled(alloc, "METHOD m { DEFINITION { while (1) { } } }")?;
+    let image = load(alloc, &bytes)?;
     let mut session = started(alloc, &image, &[])?;
     assert_eq!(rt; session.advance(0), Turn::Spent);
     assert_eq!(rt; session.taken(), 0);
@@ -91,7 +96,8 @@ fn played(
     numbers: &[i64],
     answers: &[Answer],
 ) -> Result<Result<Transcript, PlayFault>, Fail> {
-    let image = image_of(alloc, items)?;
+    let bytes = compiled(alloc, items)?;
+    let image = load(alloc, &bytes)?;
     let values = Values::new(alloc, &image, numbers)?;
     Ok(play(alloc, &image, MethNo(0), values, answers, 100_000))
 }
@@ -198,7 +204,7 @@ const UNSIGNED: &str =
     METHOD m { DEFINITION { iassign(u, -1); if (u == -1) PUT_MESSAGE(\"same\"); } }";
 
 // VALIDITY of variable 0 under a value.
-fn validity(alloc: Global, image: &Image, value: i64) -> Result<Vec<Record>, Fail> {
+fn validity(alloc: Global, image: &Image<'_>, value: i64) -> Result<Vec<Record>, Fail> {
     let values = Values::new(alloc, image, &[value])?;
     let of = row(ItemNo::Variable(VarNo(0)), Attr::Validity, 0);
     Ok(attribute(alloc, image, of, &values)?)
@@ -213,7 +219,8 @@ fn a_method_and_a_condition_read_one_variable_each_at_its_width(
     let made = played(alloc, UNSIGNED, &[0], &answers)??;
     assert_eq!(rt; made.requests.len(), 1);
     assert_eq!(rt; made.values.get(VarNo(0)), Some(4_294_967_295));
-    let image = image_of(alloc, UNSIGNED)?;
+    let bytes = compiled(alloc, UNSIGNED)?;
+    let image = load(alloc, &bytes)?;
     let above = validity(alloc, &image, 4_294_967_295)?;
     assert_eq!(rt; above.as_slice(), [Record::Number(1)].as_slice());
     let zero = validity(alloc, &image, 0)?;

@@ -26,7 +26,12 @@ enum Found {
     Trap(Trap),
 }
 
-fn read(alloc: Global, page: &Page<'_>, row: AttrRef, values: &Values) -> Result<Found, ShowFault>
+fn read(
+    alloc: Global,
+    page: &Page<'_, '_>,
+    row: AttrRef,
+    values: &Values,
+) -> Result<Found, ShowFault>
     requires { AreDeviceValues (types_in page.now.image.now) values.now.numbers.items }
 {
     match attribute_of_device(alloc, page.image, row, values) {
@@ -43,7 +48,7 @@ fn read(alloc: Global, page: &Page<'_>, row: AttrRef, values: &Values) -> Result
 // Prints a line that begins with this word.
 fn print_found<W: Write>(
     alloc: Global,
-    page: &Page<'_>,
+    page: &Page<'_, '_>,
     word: String,
     found: Found,
     out: &mut W,
@@ -63,7 +68,7 @@ fn print_found<W: Write>(
 // The line of an attribute, where it gives anything.
 fn print_attribute<W: Write>(
     alloc: Global,
-    page: &Page<'_>,
+    page: &Page<'_, '_>,
     values: &Values,
     row: AttrRef,
     out: &mut W,
@@ -86,7 +91,7 @@ fn print_attribute<W: Write>(
 // The three lines of a transaction, if there is one at this position.
 fn print_transaction<W: Write>(
     alloc: Global,
-    page: &Page<'_>,
+    page: &Page<'_, '_>,
     values: &Values,
     item: ItemNo,
     sub: u16,
@@ -111,7 +116,7 @@ fn print_transaction<W: Write>(
 
 fn print_transactions<W: Write>(
     alloc: Global,
-    page: &Page<'_>,
+    page: &Page<'_, '_>,
     values: &Values,
     item: ItemNo,
     out: &mut W,
@@ -129,7 +134,7 @@ fn print_transactions<W: Write>(
 // The line of an attribute. Those of transactions stand together, at the place of TRANSACTION.
 fn print_attribute_of<W: Write>(
     alloc: Global,
-    page: &Page<'_>,
+    page: &Page<'_, '_>,
     values: &Values,
     item: ItemNo,
     attr: Attr,
@@ -149,7 +154,7 @@ fn print_attribute_of<W: Write>(
 // The attributes that an item of this kind may have, by their numbers.
 fn print_attributes<W: Write>(
     alloc: Global,
-    page: &Page<'_>,
+    page: &Page<'_, '_>,
     values: &Values,
     kind: Kind,
     item: ItemNo,
@@ -168,7 +173,7 @@ fn print_attributes<W: Write>(
 // The first line of an item: a variable has its type and its size behind its name.
 fn print_head<W: Write>(
     alloc: Global,
-    page: &Page<'_>,
+    page: &Page<'_, '_>,
     kind: Kind,
     item: ItemNo,
     out: &mut W,
@@ -191,7 +196,7 @@ fn print_head<W: Write>(
 // with other values none gets past its first line.
 fn print_item<W: Write>(
     alloc: Global,
-    page: &Page<'_>,
+    page: &Page<'_, '_>,
     values: &Values,
     are_good: bool,
     kind: Kind,
@@ -220,7 +225,7 @@ fn count_of(counts: &Counts, kind: Kind) -> u16 {
 
 fn print_kind<W: Write>(
     alloc: Global,
-    page: &Page<'_>,
+    page: &Page<'_, '_>,
     values: &Values,
     are_good: bool,
     kind: Kind,
@@ -238,7 +243,7 @@ fn print_kind<W: Write>(
 /// Prints the identification, and each item by kind and number, with its attributes by theirs.
 pub fn show<W: Write>(
     alloc: Global,
-    image: &Image,
+    image: &Image<'_>,
     values: &Values,
     language: &str,
     out: &mut W,

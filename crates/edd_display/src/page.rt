@@ -7,9 +7,9 @@ use std::alloc::AllocError;
 
 /// An image, and the language of its texts.
 #[derive(Clone, Copy)]
-pub struct Page<'a> {
-    pub image: &'a Image,
-    pub language: &'a str,
+pub struct Page<'i, 'b> {
+    pub image: &'i Image<'b>,
+    pub language: &'i str,
 }
 
 // The text between quotes, with an escape for each character that would not stand there as it is.
@@ -36,9 +36,9 @@ fn push_key(line: &mut String, key: &str) -> Result<(), AllocError> {
     Ok(())
 }
 
-impl<'a> Page<'a> {
+impl<'i, 'b> Page<'i, 'b> {
     /// The name of an item. An image holds the name of each item that it names.
-    pub fn name(&self, item: ItemNo) -> &'a str {
+    pub fn name(&self, item: ItemNo) -> &'b str {
         self.image.name(item).unwrap_or("")
     }
 

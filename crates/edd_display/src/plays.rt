@@ -33,14 +33,18 @@ fn push_number(line: &mut String, number: i32) -> Result<(), ShowFault> {
     Ok(())
 }
 
-fn push_variable(page: &Page<'_>, line: &mut String, variable: VarNo) -> Result<(), ShowFault> {
+fn push_variable(page: &Page<'_, '_>, line: &mut String, variable: VarNo) -> Result<(), ShowFault> {
     line.push(' ')?;
     line.push_str(page.name(ItemNo::Variable(variable)))?;
     Ok(())
 }
 
 // The arguments in their order, each behind a blank.
-fn push_arguments(page: &Page<'_>, line: &mut String, request: Request) -> Result<(), ShowFault> {
+fn push_arguments(
+    page: &Page<'_, '_>,
+    line: &mut String,
+    request: Request,
+) -> Result<(), ShowFault> {
     match request {
         Request::PutMessage(text) | Request::Acknowledge(text) => {
             page.push_optional(line, Some(text))
@@ -68,7 +72,7 @@ fn push_arguments(page: &Page<'_>, line: &mut String, request: Request) -> Resul
 
 fn print_request<W: Write>(
     alloc: Global,
-    page: &Page<'_>,
+    page: &Page<'_, '_>,
     request: Request,
     out: &mut W,
 ) -> Result<(), ShowFault> {
@@ -80,7 +84,7 @@ fn print_request<W: Write>(
 
 fn print_requests<W: Write>(
     alloc: Global,
-    page: &Page<'_>,
+    page: &Page<'_, '_>,
     requests: &[Request],
     out: &mut W,
 ) -> Result<(), ShowFault> {
@@ -105,7 +109,7 @@ fn print_end<W: Write>(alloc: Global, ending: Ending, out: &mut W) -> Result<(),
 
 fn print_value<W: Write>(
     alloc: Global,
-    page: &Page<'_>,
+    page: &Page<'_, '_>,
     variable: VarNo,
     value: i64,
     out: &mut W,
@@ -116,7 +120,7 @@ fn print_value<W: Write>(
 
 fn print_values<W: Write>(
     alloc: Global,
-    page: &Page<'_>,
+    page: &Page<'_, '_>,
     values: &Values,
     out: &mut W,
 ) -> Result<(), ShowFault> {
@@ -132,7 +136,7 @@ fn print_values<W: Write>(
 /// Prints what a method did: a line for each request, one for its end, and one for the value of each variable.
 pub fn show_play<W: Write>(
     alloc: Global,
-    image: &Image,
+    image: &Image<'_>,
     play: &Transcript,
     language: &str,
     out: &mut W,

@@ -28,7 +28,7 @@ fn push_qualifiers(
 }
 
 fn push_entry(
-    page: &Page<'_>,
+    page: &Page<'_, '_>,
     line: &mut String,
     item: ItemNo,
     bits: u16,
@@ -38,7 +38,7 @@ fn push_entry(
 }
 
 fn push_data(
-    page: &Page<'_>,
+    page: &Page<'_, '_>,
     line: &mut String,
     item: ItemNo,
     mask: u32,
@@ -52,7 +52,7 @@ fn push_data(
 }
 
 fn push_enumerator(
-    page: &Page<'_>,
+    page: &Page<'_, '_>,
     line: &mut String,
     value: i64,
     text: StrNo,
@@ -66,7 +66,7 @@ fn push_enumerator(
 }
 
 fn push_response(
-    page: &Page<'_>,
+    page: &Page<'_, '_>,
     line: &mut String,
     number: u32,
     class: u8,
@@ -80,7 +80,7 @@ fn push_response(
 }
 
 fn push_member(
-    page: &Page<'_>,
+    page: &Page<'_, '_>,
     line: &mut String,
     name: StrNo,
     item: ItemNo,
@@ -102,7 +102,7 @@ fn push_number(line: &mut String, number: i64) -> Result<(), ShowFault> {
     Ok(())
 }
 
-fn push_record(page: &Page<'_>, line: &mut String, record: Record) -> Result<(), ShowFault> {
+fn push_record(page: &Page<'_, '_>, line: &mut String, record: Record) -> Result<(), ShowFault> {
     match record {
         Record::Words(string) => page.push_text(line, string),
         Record::Number(number) => push_number(line, number),
@@ -128,7 +128,7 @@ fn push_record(page: &Page<'_>, line: &mut String, record: Record) -> Result<(),
 
 /// Appends the records to a line, each behind a blank.
 pub fn push_records(
-    page: &Page<'_>,
+    page: &Page<'_, '_>,
     line: &mut String,
     records: &[Record],
 ) -> Result<(), ShowFault> {

@@ -304,6 +304,24 @@ fn looks_up(rt: HostRuntime) -> Result<(), Fail> {
     Ok(())
 }
 
+// The name of variable 0 and the text of string 0 in German, of an image that is gone when they are used.
+fn words_of(alloc: Global, bytes: &[u8]) -> Result<(Option<&str>, Option<Text<'_>>), LoadFault> {
+    let image = load(alloc, bytes)?;
+    let name = image.name(ItemNo::Variable(VarNo(0)));
+    Ok((name, image.text(StrNo(0), "de")))
+}
+
+#[test]
+fn names_and_texts_outlive_the_image(rt: HostRuntime) -> Result<(), Fail> {
+    let (name, text) = words_of(rt.alloc(), &LABEL)?;
+    assert_eq!(rt; name, str::from_utf8(&LABEL[96..97]).ok());
+    assert_eq!(rt;
+        text,
+        str::from_utf8(&LABEL[120..125]).ok().map(Text::Words)
+    );
+    Ok(())
+}
+
 #[test]
 fn a_key_gives_its_name(rt: HostRuntime) -> Result<(), Fail> {
     let alloc = rt.alloc();

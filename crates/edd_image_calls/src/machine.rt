@@ -24,7 +24,7 @@ fn validity_of(variable: u16) -> AttrRef {
 
 fn read(
     alloc: Global,
-    image: &Image,
+    image: &Image<'_>,
     attr: AttrRef,
     numbers: &[i64],
 ) -> Result<Result<Vec<Record>, ReadFault>, Fail> {
@@ -40,7 +40,8 @@ fn values_in_their_ranges(rt: HostRuntime) -> Result<(), Fail> {
         methods: 0,
         rows: &[],
     };
-    let image = load(alloc, &image_of(alloc, small)?)?;
+    let bytes = image_of(alloc, small)?;
+    let image = load(alloc, &bytes)?;
     assert_eq!(rt;
         Values::new(alloc, &image, &[]).err(),
         Some(ValuesFault::Count)
@@ -68,7 +69,8 @@ fn sets_of_an_answer(rt: HostRuntime) -> Result<(), Fail> {
         methods: 0,
         rows: &[],
     };
-    let image = load(alloc, &image_of(alloc, small)?)?;
+    let bytes = image_of(alloc, small)?;
+    let image = load(alloc, &bytes)?;
     assert_eq!(rt; set_fault(&image, VarNo(0), 127), None);
     assert_eq!(rt;
         set_fault(&image, VarNo(0), 128),
@@ -102,7 +104,8 @@ fn validity_by_values(rt: HostRuntime) -> Result<(), Fail> {
             ([1, 6, 0, 1, 0, 0], &BY_MODE),
         ],
     };
-    let image = load(alloc, &image_of(alloc, small)?)?;
+    let bytes = image_of(alloc, small)?;
+    let image = load(alloc, &bytes)?;
     for (u, want) in [(4_294_967_295, 1), (0, 0)] {
         let records = read(alloc, &image, validity_of(0), &[u, 1])??;
         assert_eq!(rt;
@@ -157,7 +160,7 @@ fn label_and_defaults(rt: HostRuntime) -> Result<(), Fail> {
     Ok(())
 }
 
-fn go_on(machine: &mut Machine, image: &Image)
+fn go_on(machine: &mut Machine, image: &Image<'_>)
     requires { IsMachine image.now machine.old }
     ensures { IsMachine image.now machine.new }
 {
@@ -168,7 +171,7 @@ fn go_on(machine: &mut Machine, image: &Image)
 }
 
 // The machine on the one method of an image, after at most so many steps.
-fn after(alloc: Global, image: &Image, numbers: &[i64], steps: u8) -> Result<Machine, Fail> {
+fn after(alloc: Global, image: &Image<'_>, numbers: &[i64], steps: u8) -> Result<Machine, Fail> {
     let values = Values::new(alloc, image, numbers)?;
     let Some(unit) = find_body(image, MethNo(0)) else {
         return Err(Fail::from("no body"));
@@ -219,7 +222,8 @@ fn steps_of_methods(rt: HostRuntime) -> Result<(), Fail> {
             methods: 1,
             rows: &[([5, 21, 0, 0, 0, 0], code)],
         };
-        let image = load(alloc, &image_of(alloc, small)?)?;
+        let bytes = image_of(alloc, small)?;
+        let image = load(alloc, &bytes)?;
         let machine = after(alloc, &image, &[9], 3)?;
         assert_eq!(rt; machine.place, place, "{code:?}");
         assert_eq!(rt; machine.values.get(VarNo(0)), Some(x), "{code:?}");

@@ -26,16 +26,16 @@ const ALL_STEPS: u64 = 40;
 
 const STEPS_TO_FIRST_COMMAND: u64 = 10;
 
-fn two_commands(alloc: Global) -> Result<Image, Fail> {
+fn two_commands(alloc: Global) -> Result<Vec<u8>, AllocError> {
     let small = Small {
         variables: &[[INTEGER, 1, 0, 0]],
         methods: 1,
         rows: &[([5, 21, 0, 0, 0, 1], &TWO_COMMANDS)],
     };
-    Ok(load(alloc, &image_of(alloc, small)?)?)
+    image_of(alloc, small)
 }
 
-fn start<'i>(alloc: Global, image: &'i Image, x: i64) -> Result<Session<'i>, Fail> {
+fn start<'i, 'b>(alloc: Global, image: &'i Image<'b>, x: i64) -> Result<Session<'i, 'b>, Fail> {
     let values = Values::new(alloc, image, &[x])?;
     match Session::start(image, MethNo(0), values) {
         Ok(session) => Ok(session),
@@ -58,7 +58,8 @@ fn setting(alloc: Global, code: i32, variable: u16, value: i64) -> Result<Answer
 
 #[test]
 fn no_budget_executes_nothing(rt: HostRuntime) -> Result<(), Fail> {
-    let image = two_commands(rt.alloc())?;
+    let bytes = two_commands(rt.alloc())?;
+    let image = load(rt.alloc(), &bytes)?;
     let mut session = start(rt.alloc(), &image, 5)?;
     assert_eq!(rt; session.advance(0), Turn::Spent);
     assert_eq!(rt; session.taken(), 0);
@@ -67,7 +68,8 @@ fn no_budget_executes_nothing(rt: HostRuntime) -> Result<(), Fail> {
 
 #[test]
 fn budgets_cut_a_run(rt: HostRuntime) -> Result<(), Fail> {
-    let image = two_commands(rt.alloc())?;
+    let bytes = two_commands(rt.alloc())?;
+    let image = load(rt.alloc(), &bytes)?;
     let mut session = start(rt.alloc(), &image, 5)?;
     let asks = Turn::Asks(Request::SendCommand(2));
     assert_eq!(rt; session.advance(9), Turn::Spent);
@@ -81,7 +83,8 @@ fn budgets_cut_a_run(rt: HostRuntime) -> Result<(), Fail> {
 #[test]
 fn a_refused_answer_changes_nothing(rt: HostRuntime) -> Result<(), Fail> {
     let alloc = rt.alloc();
-    let image = two_commands(alloc)?;
+    let bytes = two_commands(alloc)?;
+    let image = load(alloc, &bytes)?;
     let mut session = start(alloc, &image, 5)?;
     assert_eq!(rt;
         session.answer(&go(alloc, 1)).err(),
@@ -111,7 +114,8 @@ fn a_refused_answer_changes_nothing(rt: HostRuntime) -> Result<(), Fail> {
 #[test]
 fn a_script_drives(rt: HostRuntime) -> Result<(), Fail> {
     let alloc = rt.alloc();
-    let image = two_commands(alloc)?;
+    let bytes = two_commands(alloc)?;
+    let image = load(alloc, &bytes)?;
     let mut session = start(alloc, &image, 5)?;
     let answers = vec![in alloc; go(alloc, 20), go(alloc, 10)]?;
     let mut host = Script::new(alloc, answers);
@@ -128,7 +132,8 @@ fn a_script_drives(rt: HostRuntime) -> Result<(), Fail> {
 #[test]
 fn a_script_runs_out(rt: HostRuntime) -> Result<(), Fail> {
     let alloc = rt.alloc();
-    let image = two_commands(alloc)?;
+    let bytes = two_commands(alloc)?;
+    let image = load(alloc, &bytes)?;
     let mut session = start(alloc, &image, 5)?;
     let answers = vec![in alloc; go(alloc, 10)]?;
     let mut host = Script::new(alloc, answers);
@@ -142,7 +147,8 @@ fn a_script_runs_out(rt: HostRuntime) -> Result<(), Fail> {
 #[test]
 fn a_request_of_the_last_step_is_answered(rt: HostRuntime) -> Result<(), Fail> {
     let alloc = rt.alloc();
-    let image = two_commands(alloc)?;
+    let bytes = two_commands(alloc)?;
+    let image = load(alloc, &bytes)?;
     let mut session = start(alloc, &image, 5)?;
     let mut host = Device::new(alloc, 0);
     let end = drive(&mut session, &mut host, STEPS_TO_FIRST_COMMAND);
@@ -155,7 +161,8 @@ fn a_request_of_the_last_step_is_answered(rt: HostRuntime) -> Result<(), Fail> {
 #[test]
 fn a_device_that_fails_once_drives(rt: HostRuntime) -> Result<(), Fail> {
     let alloc = rt.alloc();
-    let image = two_commands(alloc)?;
+    let bytes = two_commands(alloc)?;
+    let image = load(alloc, &bytes)?;
     let mut session = start(alloc, &image, 5)?;
     let mut host = Device::new(alloc, 1);
     assert_eq!(rt; drive(&mut session, &mut host, 1000), Drive::HostFailed);
@@ -172,7 +179,8 @@ fn a_device_that_fails_once_drives(rt: HostRuntime) -> Result<(), Fail> {
 #[test]
 fn a_bad_answer_stops_a_drive(rt: HostRuntime) -> Result<(), Fail> {
     let alloc = rt.alloc();
-    let image = two_commands(alloc)?;
+    let bytes = two_commands(alloc)?;
+    let image = load(alloc, &bytes)?;
     let mut session = start(alloc, &image, 5)?;
     let answers = vec![in alloc; setting(alloc, 1, 0, 128)?]?;
     let mut host = Script::new(alloc, answers);
@@ -188,7 +196,8 @@ fn a_bad_answer_stops_a_drive(rt: HostRuntime) -> Result<(), Fail> {
 #[test]
 fn a_method_is_played(rt: HostRuntime) -> Result<(), Fail> {
     let alloc = rt.alloc();
-    let image = two_commands(alloc)?;
+    let bytes = two_commands(alloc)?;
+    let image = load(alloc, &bytes)?;
     let values = Values::new(alloc, &image, &[5])?;
     let answers = vec![in alloc; go(alloc, 10), go(alloc, 20)]?;
     let played = play(alloc, &image, MethNo(0), values, &answers, ALL_STEPS)?;
@@ -227,7 +236,8 @@ fn a_device_drives(rt: HostRuntime) -> Result<(), Fail> {
 #[test]
 fn no_method_and_wrong_values_are_refused(rt: HostRuntime) -> Result<(), Fail> {
     let alloc = rt.alloc();
-    let image = two_commands(alloc)?;
+    let bytes = two_commands(alloc)?;
+    let image = load(alloc, &bytes)?;
     let values = Values::new(alloc, &image, &[5])?;
     let mut values = match Session::start(&image, MethNo(1), values) {
         Ok(_) => return Err(Fail::from("started")),

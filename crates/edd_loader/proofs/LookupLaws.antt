@@ -1,8 +1,9 @@
 -- What a valid image has at a number.
-use Rattle.std.proofs.Common.{◌≡◌, ℕ, zero, suc, ◌+◌, ◌*◌, ◌<◌, ◌≤◌, Bool, true, false, cond, ◌&&◌, ◌⊎◌, nat_eq, nat_le, List, [], ◌∷◌, length, Option, Some, None, refl, sym, ap, subst, ◌∙◌, arith, inl, inr, mul-suc}
+use Rattle.std.proofs.Common.{◌≡◌, ℕ, zero, suc, ◌+◌, ◌-◌, ◌*◌, ◌<◌, ◌≤◌, Bool, true, false, cond, ◌&&◌, ◌⊎◌, nat_eq, nat_le, List, [], ◌∷◌, length, take, drop, Option, Some, None, refl, sym, ap, subst, ◌∙◌, arith, inl, inr, mul-suc}
 use Rattle.std.specs.Prelude.{option_map, is_some, slice_index}
 use Rattle.std.specs.List.{list_all, slice_get}
 use Rattle.std.specs.Str.{is_utf8, IsAscii}
+use Rattle.std.proofs.lemmas.List.{drop-take, take-take, drop-drop}
 use Rattle.std.proofs.lemmas.Bool.{and_parts, or_cases, cases_lt, leb-true, le-leb, lt-leb, eqb-true, ne_eqb, ltb-true}
 use Rattle.std.proofs.lemmas.Str.{IsUtf8-from_ascii, is_utf8-from_IsUtf8}
 use Rattle.edd_syntax.specs.declared.numbers.ItemNo.{ItemNo}
@@ -89,51 +90,61 @@ pub name_row_at : (b : List ℕ) (place : ℕ) → place < item_count (counts_in
 unfolding contents_in
 name_row_at b place h = row_get (name_fields b) 8 (item_count (counts_in b)) (name_rows_start b) place h
 
--- what is found by a row of a section, however it was come by: the row, the section's bytes, and the row's part of them
-pub record IsFoundBy (b bytes found : List ℕ) (rows bytes_start bytes_length : List ℕ → ℕ) (start_of length_of : List ℕ → ℕ → ℕ) (place : ℕ) : Type 0 where
+-- a part of a part, by its place among all bytes
+part_of_part : (start size from long : ℕ) (b : List ℕ) → from + long ≤ size
+    → part (record { start = start + from; size = long }) b ≡ part (record { start = from; size = long }) (part (record { start = start; size = size }) b)
+part_of_part start size from long b inside =
+    let whole : size ≡ from + (size - from) = omega (arith, inside) in
+    let cut : drop from (take size (drop start b)) ≡ take (size - from) (drop from (drop start b)) =
+    ap (λ (k : ℕ). drop from (take k (drop start b))) whole ∙ drop-take from (size - from) (drop start b) in
+    let again : drop from (drop start b) ≡ drop (start + from) b = drop-drop from start b in
+    let shorter : take long (take (size - from) (drop from (drop start b))) ≡ take long (drop from (drop start b)) = take-take long (size - from) _ (omega (arith, inside)) in
+    sym (ap (take long) cut ∙ shorter ∙ ap (take long) again)
+
+-- what is found by a row of a section, however it was come by: the row, the place among all bytes, and the part of them
+pub record IsFoundBy (b found : List ℕ) (rows bytes_start : List ℕ → ℕ) (start_of length_of : List ℕ → ℕ → ℕ) (place : ℕ) : Type 0 where
   pub row : ℕ
   pub row_is : row ≡ rows b + 8 * place
-  pub start : ℕ
-  pub start_is : start ≡ bytes_start b
-  pub size : ℕ
-  pub size_is : size ≡ bytes_length b
-  pub bytes_are : bytes ≡ part (record { start = start; size = size }) b
   pub from : ℕ
-  pub from_is : from ≡ start_of b row
+  pub from_is : from ≡ bytes_start b + start_of b row
   pub long : ℕ
   pub long_is : long ≡ length_of b row
-  pub found_is : found ≡ part (record { start = from; size = long }) bytes
+  pub found_is : found ≡ part (record { start = from; size = long }) b
 
-abbrev pub IsNameAt : (b names found : List ℕ) (place : ℕ) → Type 0
-IsNameAt b names found place = IsFoundBy b names found name_rows_start name_bytes_start names_length name_start name_length place
+abbrev pub IsNameAt : (b found : List ℕ) (place : ℕ) → Type 0
+IsNameAt b found place = IsFoundBy b found name_rows_start name_bytes_start name_start name_length place
 
-abbrev pub IsStringAt : (b strings found : List ℕ) (place : ℕ) → Type 0
-IsStringAt b strings found place = IsFoundBy b strings found string_rows_start string_bytes_start strings_length string_start string_length place
+abbrev pub IsStringAt : (b found : List ℕ) (place : ℕ) → Type 0
+IsStringAt b found place = IsFoundBy b found string_rows_start string_bytes_start string_start string_length place
 
-found_in : (b names found : List ℕ) (place : ℕ) → IsNameAt b names found place → found ≡ part (name_fields b (name_rows_start b + 8 * place)).span (contents_in b).name_bytes
+name_lies : (b : List ℕ) (place : ℕ) → IsValid b → place < item_count (counts_in b) → name_start b (name_rows_start b + 8 * place) + name_length b (name_rows_start b + 8 * place) ≤ names_length b
+name_lies b place valid h =
+    let row = name_rows_start b + 8 * place in
+    let lies = all_at (λ (r : NameFields). lies_within (names_length b) r.span) _ place _ (spans b (valid_sections b valid) (valid rule.Row)).names (row_get (name_fields b) 8 (item_count (counts_in b)) (name_rows_start b) place h) in
+    span_inside (name_start b row) (name_length b row) (names_length b) (name_fields b row).span refl refl lies
+
+found_in : (b found : List ℕ) (place : ℕ) → IsValid b → place < item_count (counts_in b) → IsNameAt b found place → found ≡ part (name_fields b (name_rows_start b + 8 * place)).span (contents_in b).name_bytes
 unfolding contents_in
-found_in b names found place i =
+found_in b found place valid h i =
     let row_is = i.row_is in
-    let names_same : names ≡ (contents_in b).name_bytes = i.bytes_are ∙ rw (i.start_is, i.size_is) refl in
-    i.found_is ∙ rw (i.from_is, i.long_is, names_same, row_is) refl
+    i.found_is ∙ rw (i.from_is, i.long_is, row_is) (part_of_part (name_bytes_start b) (names_length b) _ _ b (name_lies b place valid h))
 
-pub name_value : (b names found : List ℕ) (place : ℕ) → place < item_count (counts_in b) → IsNameAt b names found place → name_in_row (contents_in b) place ≡ Some found
-name_value b names found place h i =
+pub name_value : (b found : List ℕ) (place : ℕ) → IsValid b → place < item_count (counts_in b) → IsNameAt b found place → name_in_row (contents_in b) place ≡ Some found
+name_value b found place valid h i =
     ap (option_map (λ (r : NameFields). part r.span (contents_in b).name_bytes)) (name_row_at b place h)
-    ∙ ap Some (sym (found_in b names found place i))
+    ∙ ap Some (sym (found_in b found place valid h i))
 
-pub name_valid : (b names found : List ℕ) (place : ℕ) → IsValid b → place < item_count (counts_in b) → IsNameAt b names found place → is_utf8 found ≡ true
-name_valid b names found place valid h i =
+pub name_valid : (b found : List ℕ) (place : ℕ) → IsValid b → place < item_count (counts_in b) → IsNameAt b found place → is_utf8 found ≡ true
+name_valid b found place valid h i =
     let named = all_at (λ (r : NameFields). is_name (part r.span (contents_in b).name_bytes)) (contents_in b).names place _ (valid rule.Name) (name_row_at b place h) in
-    name_utf8 found (ap is_name (found_in b names found place i) ∙ named)
+    name_utf8 found (ap is_name (found_in b found place valid h i) ∙ named)
 
-pub name_inside : (b names : List ℕ) (place row start size from long : ℕ) → IsValid b → place < item_count (counts_in b) → row ≡ name_rows_start b + 8 * place → start ≡ name_bytes_start b → size ≡ names_length b → names ≡ part (record { start = start; size = size }) b → from ≡ name_start b row → long ≡ name_length b row
-    → from + long ≤ length names
-name_inside b names place row start size from long valid h r s z n f l =
-    let sections = valid_sections b valid in
-    let lengths : length names ≡ names_length b = ap length (n ∙ rw (s, z) refl) ∙ part_length (name_bytes_start b) (names_length b) b (rooms b sections).name_bytes in
-    let lies = all_at (λ (r : NameFields). lies_within (names_length b) r.span) _ place _ (spans b sections (valid rule.Row)).names (row_get (name_fields b) 8 (item_count (counts_in b)) (name_rows_start b) place h) in
-    rw lengths (span_inside from long (names_length b) (name_fields b (name_rows_start b + 8 * place)).span (f ∙ ap (name_start b) r) (l ∙ ap (name_length b) r) lies)
+pub name_inside : (b : List ℕ) (place row from long : ℕ) → IsValid b → place < item_count (counts_in b) → row ≡ name_rows_start b + 8 * place → from ≡ name_bytes_start b + name_start b row → long ≡ name_length b row
+    → from + long ≤ length b
+name_inside b place row from long valid h r f l =
+    let at : from ≡ name_bytes_start b + name_start b (name_rows_start b + 8 * place) = f ∙ ap (λ (k : ℕ). name_bytes_start b + name_start b k) r in
+    let size : long ≡ name_length b (name_rows_start b + 8 * place) = l ∙ ap (name_length b) r in
+    omega (arith, name_lies b place valid h, (rooms b (valid_sections b valid)).name_bytes, at, size)
 
 pub place_inside : (c : Counts) (item : ItemNo) → item_exists c item ≡ true → place_of_item c item < item_count c
 place_inside c (items.Variable n) h = omega (arith, ltb-true n.0 c.variables h)
@@ -231,29 +242,33 @@ pub string_row_at : (b : List ℕ) (n : ℕ) → n < (counts_in b).strings → s
 unfolding contents_in
 string_row_at b n h = row_get (string_fields b) 8 (counts_in b).strings (string_rows_start b) n h
 
-string_found : (b strings found : List ℕ) (place : ℕ) → IsStringAt b strings found place → found ≡ part (string_fields b (string_rows_start b + 8 * place)) (contents_in b).string_bytes
+string_lies : (b : List ℕ) (place : ℕ) → IsValid b → place < (counts_in b).strings → string_start b (string_rows_start b + 8 * place) + string_length b (string_rows_start b + 8 * place) ≤ strings_length b
+string_lies b place valid h =
+    let row = string_rows_start b + 8 * place in
+    let lies = all_at (lies_within (strings_length b)) _ place _ (spans b (valid_sections b valid) (valid rule.Row)).strings (row_get (string_fields b) 8 (counts_in b).strings (string_rows_start b) place h) in
+    span_inside (string_start b row) (string_length b row) (strings_length b) (string_fields b row) refl refl lies
+
+string_found : (b found : List ℕ) (place : ℕ) → IsValid b → place < (counts_in b).strings → IsStringAt b found place → found ≡ part (string_fields b (string_rows_start b + 8 * place)) (contents_in b).string_bytes
 unfolding contents_in
-string_found b strings found place i =
+string_found b found place valid h i =
     let row_is = i.row_is in
-    let same : strings ≡ (contents_in b).string_bytes = i.bytes_are ∙ rw (i.start_is, i.size_is) refl in
-    i.found_is ∙ rw (i.from_is, i.long_is, same, row_is) refl
+    i.found_is ∙ rw (i.from_is, i.long_is, row_is) (part_of_part (string_bytes_start b) (strings_length b) _ _ b (string_lies b place valid h))
 
-pub string_value : (b strings found : List ℕ) (place : ℕ) → place < (counts_in b).strings → IsStringAt b strings found place → string_in_row (contents_in b) place ≡ Some found
-string_value b strings found place h i =
+pub string_value : (b found : List ℕ) (place : ℕ) → IsValid b → place < (counts_in b).strings → IsStringAt b found place → string_in_row (contents_in b) place ≡ Some found
+string_value b found place valid h i =
     ap (option_map (λ (span : Span). part span (contents_in b).string_bytes)) (string_row_at b place h)
-    ∙ ap Some (sym (string_found b strings found place i))
+    ∙ ap Some (sym (string_found b found place valid h i))
 
-pub string_valid : (b strings found : List ℕ) (place : ℕ) → IsValid b → place < (counts_in b).strings → IsStringAt b strings found place → is_string found ≡ true
-string_valid b strings found place valid h i =
-    ap is_string (string_found b strings found place i) ∙ all_at (λ (span : Span). is_string (part span (contents_in b).string_bytes)) (contents_in b).strings place _ (valid rule.Text) (string_row_at b place h)
+pub string_valid : (b found : List ℕ) (place : ℕ) → IsValid b → place < (counts_in b).strings → IsStringAt b found place → is_string found ≡ true
+string_valid b found place valid h i =
+    ap is_string (string_found b found place valid h i) ∙ all_at (λ (span : Span). is_string (part span (contents_in b).string_bytes)) (contents_in b).strings place _ (valid rule.Text) (string_row_at b place h)
 
-pub string_inside : (b strings : List ℕ) (place row start size from long : ℕ) → IsValid b → place < (counts_in b).strings → row ≡ string_rows_start b + 8 * place → start ≡ string_bytes_start b → size ≡ strings_length b → strings ≡ part (record { start = start; size = size }) b → from ≡ string_start b row → long ≡ string_length b row
-    → from + long ≤ length strings
-string_inside b strings place row start size from long valid h r s z n f l =
-    let sections = valid_sections b valid in
-    let lengths : length strings ≡ strings_length b = ap length (n ∙ rw (s, z) refl) ∙ part_length (string_bytes_start b) (strings_length b) b (rooms b sections).string_bytes in
-    let lies = all_at (lies_within (strings_length b)) _ place _ (spans b sections (valid rule.Row)).strings (row_get (string_fields b) 8 (counts_in b).strings (string_rows_start b) place h) in
-    rw lengths (span_inside from long (strings_length b) (string_fields b (string_rows_start b + 8 * place)) (f ∙ ap (string_start b) r) (l ∙ ap (string_length b) r) lies)
+pub string_inside : (b : List ℕ) (place row from long : ℕ) → IsValid b → place < (counts_in b).strings → row ≡ string_rows_start b + 8 * place → from ≡ string_bytes_start b + string_start b row → long ≡ string_length b row
+    → from + long ≤ length b
+string_inside b place row from long valid h r f l =
+    let at : from ≡ string_bytes_start b + string_start b (string_rows_start b + 8 * place) = f ∙ ap (λ (k : ℕ). string_bytes_start b + string_start b k) r in
+    let size : long ≡ string_length b (string_rows_start b + 8 * place) = l ∙ ap (string_length b) r in
+    omega (arith, string_lies b place valid h, (rooms b (valid_sections b valid)).string_bytes, at, size)
 
 pub strings_past : (b : List ℕ) (k : ℕ) → (counts_in b).strings ≤ k → slice_get (contents_in b).strings k ≡ None
 unfolding contents_in

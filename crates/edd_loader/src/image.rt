@@ -11,37 +11,41 @@ ghost use Rattle.edd_image.specs.Fields.{counts_in};
 ghost use Rattle.edd_image.specs.Validity.{BreaksFirst, IsValid};
 ghost use Rattle.edd_loader.specs.Texts.{given, seen};
 ghost use Rattle.edd_loader.specs.Faults.{rule_of};
+ghost use Rattle.edd_loader.specs.Starts.{starts_in};
 
 use crate::checks::first_broken;
 use crate::fault::{LoadFault, fault_of};
 use crate::lookups::{as_text, find, name_at, place_of_item, string_at, variable_at};
+use crate::starts::{Starts, starts_in};
 use crate::texts::{Text, text_of};
 use edd_image::{Counts, VarKind, counts};
 use edd_syntax::numbers::{ItemNo, StrNo, VarNo};
 use std::alloc::Global;
 use std::marker::Model;
 
-/// A valid image. It owns its bytes, and contracts see it as them.
-#[derive(Drop)]
-pub struct Image {
-    bytes: Vec<u8>,
+/// A valid image in the bytes that it was lent, and where their sections start. Contracts see it as these bytes.
+#[derive(Clone, Drop)]
+pub struct Image<'b> {
+    bytes: &'b [u8],
+    starts: Starts,
 }
 
-impl Model for Image {
-    ghost use Rattle.std.specs.Prelude.{ℕ, List};
+impl<'b> Model for Image<'b> {
+    ghost use Rattle.std.specs.Prelude.{◌≡◌, ℕ, List};
     ghost use Rattle.edd_image.specs.Validity.{IsValid};
+    ghost use Rattle.edd_loader.specs.Starts.{starts_in};
 
     ghost Value = { List ℕ };
 
-    ghost view = { λ image. image.bytes.items };
+    ghost view = { λ image. image.bytes.now };
 
-    ghost invariant = { λ image. IsValid image.bytes.items };
+    ghost invariant = { λ image. IsValid image.bytes.now × (image.starts ≡ starts_in image.bytes.now) };
 }
 
-/// The image of these bytes, copied, if they are valid.
+/// The image in these bytes, if they are valid. It takes memory only for marks, while it looks at one unit.
 ///
 /// A fault other than `Memory` stands for the first rule that is broken, in the order of their numbers, over the whole image.
-pub fn load(alloc: Global, bytes: &[u8]) -> Result<Image, LoadFault>
+pub fn load<'b>(alloc: Global, bytes: &'b [u8]) -> Result<Image<'b>, LoadFault>
     ensures image { IfOk result (λ image. image ≡ bytes.now) }
     ensures valid { OnOk result (IsValid bytes.now) }
     ensures fault { IfErr result (λ fault. IfSome (rule_of fault) (BreaksFirst bytes.now)) }
@@ -49,25 +53,33 @@ pub fn load(alloc: Global, bytes: &[u8]) -> Result<Image, LoadFault>
     if let Some(rule) = first_broken(alloc, bytes)? {
         return Err(fault_of(rule));
     }
-    let mut copy = Vec::with_capacity(alloc, bytes.len())?;
-    copy.extend_from_slice(bytes)?;
-    Ok(Image { bytes: copy })
+    Ok(Image {
+        bytes,
+        starts: starts_in(bytes),
+    })
 }
 
-impl Image {
-    /// The bytes, as they were loaded.
-    pub fn bytes(&self) -> &[u8]
+impl<'b> Image<'b> {
+    /// The bytes, as they were lent.
+    pub fn bytes(&self) -> &'b [u8]
         ensures value { result.now ≡ self.now }
         ensures valid { IsValid self.now }
     {
-        self.bytes.as_slice()
+        self.bytes
+    }
+
+    /// Where the sections start.
+    pub fn starts(&self) -> Starts
+        ensures { result ≡ starts_in self.now }
+    {
+        self.starts
     }
 
     /// The identification and the numbers of variables, commands, menus, collections, methods and strings.
     pub fn counts(&self) -> Counts
         ensures { result ≡ counts_in self.now }
     {
-        counts(self.bytes())
+        counts(self.bytes)
     }
 
     /// The type and the size of a variable, if there is such a variable.
@@ -76,11 +88,11 @@ impl Image {
         ensures row { IfSome result (λ kind. slice_get (contents_in self.now).variables number.0 ≡ Some (fields_of_variable kind)) }
         ensures value { option_map type_of_kind result ≡ slice_get (environment_of (contents_in self.now)).types number.0 }
     {
-        variable_at(self.bytes(), number)
+        variable_at(self.bytes, number)
     }
 
     /// The name of an item, if there is such an item.
-    pub fn name(&self, item: ItemNo) -> Option<&str>
+    pub fn name(&self, item: ItemNo) -> Option<&'b str>
         ensures exists { is_some result ≡ item_exists (counts_in self.now) item }
         ensures value { option_map (λ name. name.now) result ≡ name_numbered (contents_in self.now) item }
     {
@@ -88,7 +100,8 @@ impl Image {
         if !counts.has_item(item) {
             return None;
         }
-        Some(as_text(name_at(self.bytes(), place_of_item(counts, item))))
+        let place = place_of_item(counts, item);
+        Some(as_text(name_at(self.bytes, self.starts, place)))
     }
 
     /// The first item with this name, in the order of kinds and numbers, if there is one.
@@ -98,19 +111,19 @@ impl Image {
         ensures first { IfSome result (IsFirstNamed (contents_in self.now) name.now) }
         ensures none { IfNone result ((item : ItemNo) → name_numbered (contents_in self.now) item ≢ Some name.now) }
     {
-        find(self.bytes(), name.as_bytes())
+        find(self.bytes, self.starts, name.as_bytes())
     }
 
     /// The text of a string for the language `code`, if there is such a string: of its variants the first of that code, else the
     /// first in English, else the first one, and of a key its name.
-    pub fn text(&self, string: StrNo, code: &str) -> Option<Text<'_>>
+    pub fn text(&self, string: StrNo, code: &str) -> Option<Text<'b>>
         ensures exists { is_some result ≡ string_exists (counts_in self.now) string }
         ensures value { option_map seen result ≡ option_map (λ words. given words code.now) (string_numbered (contents_in self.now) string) }
     {
         if !self.counts().has_string(string) {
             return None;
         }
-        let bytes = string_at(self.bytes(), string.0 as usize);
+        let bytes = string_at(self.bytes, self.starts, string.0 as usize);
         Some(text_of(bytes, code.as_bytes()))
     }
 }

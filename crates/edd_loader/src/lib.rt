@@ -13,6 +13,7 @@ mod names;
 mod rows;
 mod sections;
 mod spans;
+mod starts;
 mod survey;
 mod texts;
 mod units;
@@ -22,4 +23,5 @@ mod words;
 
 pub use fault::LoadFault;
 pub use image::{Image, load};
+pub use starts::Starts;
 pub use texts::Text;

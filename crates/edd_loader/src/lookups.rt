@@ -12,14 +12,14 @@ ghost use Rattle.edd_image.specs.Strings.{is_string};
 ghost use Rattle.edd_image.specs.Agreement.{name_numbered, place_of_item};
 ghost use Rattle.edd_image.specs.Reading.{environment_of};
 ghost use Rattle.edd_loader.specs.Lookups.{name_in_row, string_in_row, type_of_kind, IsFirstNamed};
+ghost use Rattle.edd_loader.specs.Starts.{starts_in};
 
 use crate::sections::item_count;
 use crate::spans::part;
+use crate::starts::Starts;
 use edd_image::{
-    Counts, HEADER_LENGTH, NAME_ROW, STRING_ROW, VARIABLE_ROW, VarKind, counts, name_bytes_start,
-    name_length, name_rows_start, name_start, names_length, string_bytes_start, string_length,
-    string_rows_start, string_start, strings_length, type_of, variable_count, variable_size,
-    variable_type,
+    Counts, HEADER_LENGTH, NAME_ROW, STRING_ROW, VARIABLE_ROW, VarKind, counts, name_length,
+    name_start, string_length, string_start, type_of, variable_count, variable_size, variable_type,
 };
 use edd_syntax::numbers::{CmdNo, CollNo, ItemNo, MenuNo, MethNo, VarNo};
 
@@ -64,19 +64,16 @@ pub fn item_at(counts: Counts, place: usize) -> ItemNo
 }
 
 /// The name that stands at a place.
-pub fn name_at(bytes: &[u8], place: usize) -> &[u8]
+pub fn name_at(bytes: &[u8], starts: Starts, place: usize) -> &[u8]
     requires valid { IsValid bytes.now }
+    requires starts { starts ≡ starts_in bytes.now }
     requires place { place < item_count (counts_in bytes.now) }
     ensures value { name_in_row (contents_in bytes.now) place ≡ Some result.now }
     ensures utf8 { IsTrue (is_utf8 result.now) }
 {
-    let row = name_rows_start(bytes) + NAME_ROW * place;
-    let start = name_bytes_start(bytes);
-    let size = names_length(bytes) as usize;
-    let names = part(bytes, start, size);
-    let from = name_start(bytes, row) as usize;
-    let length = name_length(bytes, row) as usize;
-    part(names, from, length)
+    let row = starts.name_rows + NAME_ROW * place;
+    let from = starts.names + name_start(bytes, row) as usize;
+    part(bytes, from, name_length(bytes, row) as usize)
 }
 
 /// Text from bytes that are UTF-8.
@@ -91,8 +88,9 @@ pub fn as_text(bytes: &[u8]) -> &str
 }
 
 /// The first item with this name, if there is one.
-pub fn find(bytes: &[u8], name: &[u8]) -> Option<ItemNo>
-    requires { IsValid bytes.now }
+pub fn find(bytes: &[u8], starts: Starts, name: &[u8]) -> Option<ItemNo>
+    requires valid { IsValid bytes.now }
+    requires starts { starts ≡ starts_in bytes.now }
     ensures exists { IfSome result (λ item. IsTrue (item_exists (counts_in bytes.now) item)) }
     ensures named { IfSome result (λ item. name_numbered (contents_in bytes.now) item ≡ Some name.now) }
     ensures first { IfSome result (IsFirstNamed (contents_in bytes.now) name.now) }
@@ -101,7 +99,7 @@ pub fn find(bytes: &[u8], name: &[u8]) -> Option<ItemNo>
     let counts = counts(bytes);
     let count = item_count(counts);
     for place in 0..count {
-        if name_at(bytes, place) == name {
+        if name_at(bytes, starts, place) == name {
             return Some(item_at(counts, place));
         }
     }
@@ -125,17 +123,14 @@ pub fn variable_at(bytes: &[u8], number: VarNo) -> Option<VarKind>
 }
 
 /// The bytes of the string of a number.
-pub fn string_at(bytes: &[u8], number: usize) -> &[u8]
+pub fn string_at(bytes: &[u8], starts: Starts, number: usize) -> &[u8]
     requires valid { IsValid bytes.now }
+    requires starts { starts ≡ starts_in bytes.now }
     requires number { number < (counts_in bytes.now).strings }
     ensures value { string_in_row (contents_in bytes.now) number ≡ Some result.now }
     ensures string { IsTrue (is_string result.now) }
 {
-    let row = string_rows_start(bytes) + STRING_ROW * number;
-    let start = string_bytes_start(bytes);
-    let size = strings_length(bytes) as usize;
-    let strings = part(bytes, start, size);
-    let from = string_start(bytes, row) as usize;
-    let length = string_length(bytes, row) as usize;
-    part(strings, from, length)
+    let row = starts.string_rows + STRING_ROW * number;
+    let from = starts.strings + string_start(bytes, row) as usize;
+    part(bytes, from, string_length(bytes, row) as usize)
 }

@@ -141,7 +141,7 @@ impl Machine {
 
     // Stores the topmost operand in a variable, and leaves what is read back.
     #[tactic(auto, unfolding(edd_image::specs::Steps::act))]
-    fn store(&mut self, image: &Image, variable: VarNo, next: usize)
+    fn store(&mut self, image: &Image<'_>, variable: VarNo, next: usize)
         requires enough { 1 ≤ length self.old.operands }
         requires valid { IsValid image.now }
         requires exists { variable.0 < (counts_in image.now).variables }
@@ -224,7 +224,7 @@ impl Machine {
 
     // The effect of an instruction that the rules on its unit let stand here.
     #[inline(always)]
-    fn execute(&mut self, image: &Image, instruction: Instruction, next: usize)
+    fn execute(&mut self, image: &Image<'_>, instruction: Instruction, next: usize)
         requires valid { IsValid image.now }
         requires ready { CanAct image.now instruction (state_of image.now self.old) }
         ensures unit { self.new.unit ≡ self.old.unit }
@@ -247,7 +247,7 @@ impl Machine {
 
     /// One step: the effect of the instruction at its place. A running state of a unit of the image has exactly one, and keeps
     /// what every state keeps. It takes no memory.
-    pub fn step(&mut self, image: &Image)
+    pub fn step(&mut self, image: &Image<'_>)
         requires machine { IsMachine image.now self.old }
         requires running { self.old.status ≡ Running }
         ensures step { StepsTo image.now self.old self.new }

@@ -67,7 +67,7 @@ fn or_default(alloc: Global, attr: Attr, records: Vec<Record>) -> Result<Vec<Rec
 // The records that the unit of an attribute gives, from its first byte to its end.
 fn run(
     alloc: Global,
-    image: &Image,
+    image: &Image<'_>,
     unit: CodeUnit,
     values: &[i64],
 ) -> Result<Vec<Record>, ReadFault>
@@ -103,7 +103,7 @@ fn run(
 /// has no row, or `sub` is not 0 elsewhere; else the trap of the unit; and `Memory` where memory for the records is refused.
 pub fn attribute_of_device(
     alloc: Global,
-    image: &Image,
+    image: &Image<'_>,
     attr: AttrRef,
     values: &Values,
 ) -> Result<Vec<Record>, ReadFault>
@@ -125,7 +125,7 @@ pub fn attribute_of_device(
 }
 
 // What a read comes to under values that are not those of a device of this description.
-fn fault_of_values(image: &Image, attr: AttrRef) -> ReadFault
+fn fault_of_values(image: &Image<'_>, attr: AttrRef) -> ReadFault
     ensures { (values : List ℤ) → (¬ AreDeviceValues (types_in image.now) values) → IsReadFault image.now attr values result }
 {
     let unit = find_attribute(image, attr);
@@ -142,7 +142,7 @@ fn fault_of_values(image: &Image, attr: AttrRef) -> ReadFault
 /// description.
 pub fn attribute(
     alloc: Global,
-    image: &Image,
+    image: &Image<'_>,
     attr: AttrRef,
     values: &Values,
 ) -> Result<Vec<Record>, ReadFault>

@@ -2,19 +2,20 @@
 
 ghost use Rattle.std.specs.Prelude.{◌≡◌, ℕ, ◌+◌, ◌*◌, ◌<◌, ◌≤◌, IfSome, length, option_map};
 ghost use Rattle.edd_image.specs.Contents.{attribute_fields, contents_in};
-ghost use Rattle.edd_image.specs.Fields.{attribute_count, header_length};
+ghost use Rattle.edd_image.specs.Fields.{attribute_count};
 ghost use Rattle.edd_image.specs.Reading.{row_of, body_of};
 ghost use Rattle.edd_image.specs.Validity.{IsValid};
 ghost use Rattle.edd_image.specs.declared.unit.Sort.TheVariants.{Method};
+ghost use Rattle.edd_loader.specs.Starts.{starts_in};
 ghost use Rattle.edd_machine.specs.Running.{unit_at, IsUnitOf};
 ghost use Rattle.edd_machine.specs.Ranks.{rank, rank_of, row_at, is_row};
 
 use crate::code_unit::CodeUnit;
 use edd_image::{
     ATTRIBUTE_ROW, Sort, attribute_count, attribute_item, attribute_kind, attribute_length,
-    attribute_number, attribute_rows_start, attribute_start, attribute_sub, code_start,
+    attribute_number, attribute_start, attribute_sub,
 };
-use edd_loader::Image;
+use edd_loader::{Image, Starts};
 use edd_syntax::numbers::{Attr, AttrRef, Kind, MethNo};
 
 // The number of DEFINITION, whose unit is a method's body.
@@ -64,12 +65,13 @@ fn first_from(bytes: &[u8], start: usize, count: usize, key: u64) -> usize
 }
 
 // The unit of a row.
-fn unit_of(bytes: &[u8], row: usize) -> CodeUnit
-    requires header { header_length ≤ length bytes.now }
+fn unit_of(bytes: &[u8], starts: Starts, row: usize) -> CodeUnit
+    requires valid { IsValid bytes.now }
+    requires starts { starts ≡ starts_in bytes.now }
     requires row { row + ATTRIBUTE_ROW ≤ length bytes.now }
     ensures { result ≡ unit_at bytes.now (attribute_fields bytes.now row) }
 {
-    let start = code_start(bytes) + attribute_start(bytes, row) as usize;
+    let start = starts.code + attribute_start(bytes, row) as usize;
     let size = attribute_length(bytes, row) as usize;
     if attribute_number(bytes, row) == DEFINITION {
         CodeUnit {
@@ -99,31 +101,32 @@ fn is_row_of(bytes: &[u8], row: usize, kind: u8, attribute: u8, item: u16) -> bo
 }
 
 // The number of the first row of an image that does not stand below the rank.
-fn first_row(bytes: &[u8], key: u64) -> usize
-    requires { IsValid bytes.now }
+fn first_row(bytes: &[u8], starts: Starts, key: u64) -> usize
+    requires valid { IsValid bytes.now }
+    requires starts { starts ≡ starts_in bytes.now }
     ensures end { result ≤ attribute_count bytes.now }
     ensures below { (i : ℕ) → i < result → rank_of (row_at bytes.now i) < key }
     ensures above { (i : ℕ) → result ≤ i → i < attribute_count bytes.now → key ≤ rank_of (row_at bytes.now i) }
 {
-    let start = attribute_rows_start(bytes);
     let count = attribute_count(bytes) as usize;
-    first_from(bytes, start, count, key)
+    first_from(bytes, starts.attribute_rows, count, key)
 }
 
 // Where the row of an attribute stands, if it has one.
-fn attribute_row(bytes: &[u8], attr: AttrRef) -> Option<usize>
-    requires { IsValid bytes.now }
+fn attribute_row(bytes: &[u8], starts: Starts, attr: AttrRef) -> Option<usize>
+    requires valid { IsValid bytes.now }
+    requires starts { starts ≡ starts_in bytes.now }
     ensures row { option_map (attribute_fields bytes.now) result ≡ row_of (contents_in bytes.now) attr }
     ensures inside { IfSome result (λ row. row + ATTRIBUTE_ROW ≤ length bytes.now) }
 {
     let kind = attr.item.kind().number();
     let attribute = attr.attr.number();
     let item = attr.item.index();
-    let first = first_row(bytes, rank(kind, attribute, item, attr.sub));
+    let first = first_row(bytes, starts, rank(kind, attribute, item, attr.sub));
     if first == attribute_count(bytes) as usize {
         return None;
     }
-    let row = attribute_rows_start(bytes) + ATTRIBUTE_ROW * first;
+    let row = starts.attribute_rows + ATTRIBUTE_ROW * first;
     if !is_row_of(bytes, row, kind, attribute, item) {
         return None;
     }
@@ -134,16 +137,17 @@ fn attribute_row(bytes: &[u8], attr: AttrRef) -> Option<usize>
 }
 
 // Where the row of a method's body stands, if it has one.
-fn body_row(bytes: &[u8], method: MethNo) -> Option<usize>
-    requires { IsValid bytes.now }
+fn body_row(bytes: &[u8], starts: Starts, method: MethNo) -> Option<usize>
+    requires valid { IsValid bytes.now }
+    requires starts { starts ≡ starts_in bytes.now }
     ensures row { option_map (attribute_fields bytes.now) result ≡ body_of (contents_in bytes.now) method }
     ensures inside { IfSome result (λ row. row + ATTRIBUTE_ROW ≤ length bytes.now) }
 {
-    let first = first_row(bytes, rank(METHOD, DEFINITION, method.0, 0));
+    let first = first_row(bytes, starts, rank(METHOD, DEFINITION, method.0, 0));
     if first == attribute_count(bytes) as usize {
         return None;
     }
-    let row = attribute_rows_start(bytes) + ATTRIBUTE_ROW * first;
+    let row = starts.attribute_rows + ATTRIBUTE_ROW * first;
     if !is_row_of(bytes, row, METHOD, DEFINITION, method.0) {
         return None;
     }
@@ -151,16 +155,17 @@ fn body_row(bytes: &[u8], method: MethNo) -> Option<usize>
 }
 
 /// The unit of an attribute, if it has a row.
-pub fn find_attribute(image: &Image, attr: AttrRef) -> Option<CodeUnit>
+pub fn find_attribute(image: &Image<'_>, attr: AttrRef) -> Option<CodeUnit>
     ensures { result ≡ option_map (unit_at image.now) (row_of (contents_in image.now) attr) }
 {
     let bytes = image.bytes();
-    let row = attribute_row(bytes, attr)?;
-    Some(unit_of(bytes, row))
+    let starts = image.starts();
+    let row = attribute_row(bytes, starts, attr)?;
+    Some(unit_of(bytes, starts, row))
 }
 
 /// The unit of a method's body, if it has a row: a `Machine` may be opened on it.
-pub fn find_body(image: &Image, method: MethNo) -> Option<CodeUnit>
+pub fn find_body(image: &Image<'_>, method: MethNo) -> Option<CodeUnit>
     ensures value { result ≡ option_map (unit_at image.now) (body_of (contents_in image.now) method) }
     ensures valid { IsValid image.now }
     ensures unit { IfSome result (IsUnitOf image.now) }
@@ -168,6 +173,7 @@ pub fn find_body(image: &Image, method: MethNo) -> Option<CodeUnit>
     ensures slots { IfSome result (λ unit. unit.slots ≤ 64) }
 {
     let bytes = image.bytes();
-    let row = body_row(bytes, method)?;
-    Some(unit_of(bytes, row))
+    let starts = image.starts();
+    let row = body_row(bytes, starts, method)?;
+    Some(unit_of(bytes, starts, row))
 }

@@ -25,7 +25,7 @@ impl Values {
     ///
     /// The fault is `Count` where there are not as many numbers as variables, `Range` where one of as many is out of its range,
     /// and `Memory` where the copy is refused.
-    pub fn new(alloc: Global, image: &Image, numbers: &[i64]) -> Result<Values, ValuesFault>
+    pub fn new(alloc: Global, image: &Image<'_>, numbers: &[i64]) -> Result<Values, ValuesFault>
         ensures numbers { IfOk result (λ values. values.numbers.items ≡ numbers.now) }
         ensures values { OnOk result (AreDeviceValues (types_in image.now) numbers.now) }
         ensures fault { IfErr result (λ fault. IsValuesFault fault (types_in image.now) numbers.now) }
@@ -49,7 +49,7 @@ impl Values {
     }
 
     /// Whether they are values of a device of this description.
-    pub fn are_of(&self, image: &Image) -> bool
+    pub fn are_of(&self, image: &Image<'_>) -> bool
         ensures { IsTrue result ↔ AreDeviceValues (types_in image.now) self.now.numbers.items }
     {
         are_values(image, self.numbers.as_slice())
@@ -57,7 +57,7 @@ impl Values {
 }
 
 /// Whether the numbers are values of a device of this description.
-pub fn are_values(image: &Image, numbers: &[i64]) -> bool
+pub fn are_values(image: &Image<'_>, numbers: &[i64]) -> bool
     ensures { IsTrue result ↔ AreDeviceValues (types_in image.now) numbers.now }
 {
     let bytes = image.bytes();

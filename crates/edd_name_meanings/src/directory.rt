@@ -14,15 +14,15 @@ use crate::members::Collection;
 use edd_syntax::item::{Identification, Item};
 use edd_syntax::numbers::ItemNo;
 use edd_syntax::reference::Path;
+use indexmap::IndexMap;
 use std::alloc::Global;
-use std::collections::HashMap;
 
 /// The items of a unit and the members of its collections by their names.
 #[derive(Drop)]
 pub struct Names<'a> {
     pub identification: Identification,
     pub items: &'a [Item<Path>],
-    pub numbers: HashMap<&'a str, ItemNo>,
+    pub numbers: IndexMap<&'a str, ItemNo>,
     pub collections: Vec<Collection<'a>>,
     pub alloc: Global,
     pub ghost numbered: { (q : Name) → at q numbers ≡ look_up q (numbered_names [] (named_items items.now)) },

@@ -22,19 +22,19 @@ use crate::numbering::put_first;
 use edd_syntax::item::{Attribute, CollectionDef, Item, Member};
 use edd_syntax::numbers::Kind;
 use edd_syntax::reference::Path;
+use indexmap::IndexMap;
 use std::alloc::Global;
-use std::collections::HashMap;
 
 /// The members of a collection by their names, with the kind after OF.
 #[derive(Drop)]
 pub struct Collection<'a> {
     pub of: Kind,
-    pub members: HashMap<&'a str, &'a Member<Path>>,
+    pub members: IndexMap<&'a str, &'a Member<Path>>,
 }
 
 // Of members of one name the first counts.
 fn add_members<'a>(
-    into: &mut HashMap<&'a str, &'a Member<Path>>,
+    into: &mut IndexMap<&'a str, &'a Member<Path>>,
     members: &'a [Member<Path>],
 ) -> Result<(), NameFault>
     ensures ok { OnOk result ((q : Name) → member_named q into.new
@@ -48,7 +48,7 @@ fn add_members<'a>(
 }
 
 fn add_attribute<'a>(
-    into: &mut HashMap<&'a str, &'a Member<Path>>,
+    into: &mut IndexMap<&'a str, &'a Member<Path>>,
     attribute: &'a Attribute<Path>,
 ) -> Result<(), NameFault>
     ensures ok { OnOk result ((q : Name) → member_named q into.new
@@ -62,7 +62,7 @@ fn add_attribute<'a>(
 }
 
 fn add_attributes<'a>(
-    into: &mut HashMap<&'a str, &'a Member<Path>>,
+    into: &mut IndexMap<&'a str, &'a Member<Path>>,
     attributes: &'a [Attribute<Path>],
 ) -> Result<(), NameFault>
     ensures ok { OnOk result ((q : Name) → member_named q into.new
@@ -82,7 +82,7 @@ fn one_collection<'a>(
     ensures ok { IfOk result (λ c. (q : Name) → found_in c q ≡ member_in (item_of path_of (item_kind.Collection def.now)) q) }
     ensures err { IfErr result (λ f. f ≡ NoMemory) }
 {
-    let mut members = HashMap::new(alloc);
+    let mut members = IndexMap::new(alloc);
     add_attributes(&mut members, &def.attributes)?;
     Ok(Collection {
         of: def.of,

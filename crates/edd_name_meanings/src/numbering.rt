@@ -18,8 +18,8 @@ use crate::fault::NameFault;
 use edd_syntax::item::Item;
 use edd_syntax::numbers::{ItemNo, Kind};
 use edd_syntax::reference::Path;
+use indexmap::IndexMap;
 use std::alloc::Global;
-use std::collections::HashMap;
 
 /// How many items of each kind there were.
 #[derive(Clone, Copy)]
@@ -74,7 +74,7 @@ impl Counts {
 
 /// Puts a value at a name, unless one stands there already.
 pub fn put_first<'a, V: Copy>(
-    map: &mut HashMap<&'a str, V>,
+    map: &mut IndexMap<&'a str, V>,
     name: &'a str,
     value: V,
 ) -> Result<(), NameFault>
@@ -91,7 +91,7 @@ pub fn put_first<'a, V: Copy>(
 // The number of one more item, and the counts behind it.
 fn number_item<'a>(
     item: &'a Item<Path>,
-    numbers: &mut HashMap<&'a str, ItemNo>,
+    numbers: &mut IndexMap<&'a str, ItemNo>,
     counts: &mut Counts,
 ) -> Result<(), NameFault>
     requires { count_in counts.old (kind_of_item (item_of path_of item.now).sort) < 65535 }
@@ -110,7 +110,7 @@ fn number_item<'a>(
 
 fn number_all<'a>(
     items: &'a [Item<Path>],
-    numbers: &mut HashMap<&'a str, ItemNo>,
+    numbers: &mut IndexMap<&'a str, ItemNo>,
 ) -> Result<(), NameFault>
     requires few { list_any (λ k. nat_lt item_limit (count_of k (map (item_of path_of) items.now))) kinds ≡ false }
     requires none { (q : Name) → at q numbers.old ≡ None }
@@ -128,12 +128,12 @@ fn number_all<'a>(
 pub fn number_items<'a>(
     items: &'a [Item<Path>],
     alloc: Global,
-) -> Result<HashMap<&'a str, ItemNo>, NameFault>
+) -> Result<IndexMap<&'a str, ItemNo>, NameFault>
     requires few { list_any (λ k. nat_lt item_limit (count_of k (map (item_of path_of) items.now))) kinds ≡ false }
     ensures ok { IfOk result (λ m. (q : Name) → at q m ≡ look_up q (numbered_names [] (map (item_of path_of) items.now))) }
     ensures err { IfErr result (λ f. f ≡ NoMemory) }
 {
-    let mut numbers = HashMap::new(alloc);
+    let mut numbers = IndexMap::new(alloc);
     number_all(items, &mut numbers)?;
     Ok(numbers)
 }

@@ -16,8 +16,8 @@ use crate::seen::{Seen, note, note_declarators, note_members};
 use edd_syntax::item::{Attribute, Item};
 use edd_syntax::reference::Path;
 use edd_syntax::stmt::{Part, Stmt};
+use indexmap::IndexMap;
 use std::alloc::Global;
-use std::collections::HashMap;
 
 /// No block inside a statement has two locals of one name.
 #[cycle(locals)]
@@ -51,7 +51,7 @@ pub fn check_block(parts: &[Part<Path>], alloc: Global) -> Result<(), RuleFault>
     ensures ok { OnOk result (None ≡ first_of (repeated_locals [] (body_from (map (part_of path_of) parts.now)))) }
     ensures err { IfErr result (λ f. IsDuplicate f (repeated_locals [] (body_from (map (part_of path_of) parts.now)))) }
 {
-    let mut block = HashMap::new(alloc);
+    let mut block = IndexMap::new(alloc);
     check_parts(parts, &mut block, alloc)
 }
 
@@ -129,7 +129,7 @@ pub fn check_attributes(attributes: &[Attribute<Path>], alloc: Global) -> Result
     ensures ok { OnOk result (None ≡ first_of (repeated_in_attributes [] (map (attribute_of path_of) attributes.now))) }
     ensures err { IfErr result (λ f. IsDuplicate f (repeated_in_attributes [] (map (attribute_of path_of) attributes.now))) }
 {
-    let mut members = HashMap::new(alloc);
+    let mut members = IndexMap::new(alloc);
     check_attributes_in(attributes, &mut members, alloc)
 }
 
@@ -164,6 +164,6 @@ pub fn check_names(items: &[Item<Path>], alloc: Global) -> Result<(), RuleFault>
     ensures ok { OnOk result (None ≡ first_of (repeated_in_items [] (map (item_of path_of) items.now))) }
     ensures err { IfErr result (λ f. IsDuplicate f (repeated_in_items [] (map (item_of path_of) items.now))) }
 {
-    let mut seen = HashMap::new(alloc);
+    let mut seen = IndexMap::new(alloc);
     check_items_in(items, &mut seen, alloc)
 }

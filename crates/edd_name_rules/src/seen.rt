@@ -13,11 +13,11 @@ use crate::fault::RuleFault;
 use edd_syntax::item::Member;
 use edd_syntax::reference::Path;
 use edd_syntax::stmt::Declarator;
+use indexmap::IndexMap;
 use std::alloc::Global;
-use std::collections::HashMap;
 
 /// Names of one scope, which must differ.
-pub type Seen<'a> = HashMap<&'a str, ()>;
+pub type Seen<'a> = IndexMap<&'a str, ()>;
 
 /// That a name stands twice, with a copy of it.
 #[tactic(auto, unfolding(crate::specs::Faults::IsFound))]

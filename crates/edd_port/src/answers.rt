@@ -18,7 +18,7 @@ use edd_syntax::answer::Answer;
 use edd_syntax::numbers::VarNo;
 
 // The fault of the first set that has one.
-fn fault_of_sets(image: &Image, sets: &[(VarNo, i64)]) -> Option<SetFault>
+fn fault_of_sets(image: &Image<'_>, sets: &[(VarNo, i64)]) -> Option<SetFault>
     ensures { option_map set_fault_of result ≡ sets_fault (types_in image.now) (map change_of sets.now) }
 {
     for set in sets {
@@ -30,7 +30,7 @@ fn fault_of_sets(image: &Image, sets: &[(VarNo, i64)]) -> Option<SetFault>
 }
 
 /// Why an answer is not taken in a state of this status, if it isn't.
-pub fn fault_of_answer(image: &Image, status: Status, answer: &Answer) -> Option<AnswerFault>
+pub fn fault_of_answer(image: &Image<'_>, status: Status, answer: &Answer) -> Option<AnswerFault>
     ensures { option_map answer_fault_of result ≡ refusal (types_in image.now) status (answer_of answer.now) }
 {
     if !matches!(status, Status::Asking(_)) {

@@ -14,7 +14,7 @@ use crate::turn::{Drive, Turn};
 use edd_image::Request;
 
 // Puts the request that stands to the host, and goes on if it gives a good answer.
-fn put<H: Host>(session: &mut Session<'_>, host: &mut H, request: Request) -> Option<Drive>
+fn put<H: Host>(session: &mut Session<'_, '_>, host: &mut H, request: Request) -> Option<Drive>
     requires { session.old.state.status ≡ Asking request }
     ensures taken { IfNone result ((pair : Pair) × Takes session.old pair session.new × (H.book host.new ≡ with_pair (H.book host.old) pair)) }
     ensures stops { IfSome result (λ end. Stops 0 session.old end (H.book host.old) (H.book host.new)) }
@@ -43,7 +43,7 @@ fn budget_of(left: u64) -> u32
 }
 
 /// Executes some of the instructions that are left, and answers how many are left then.
-pub fn execute_some(session: &mut Session<'_>, left: u64) -> u64
+pub fn execute_some(session: &mut Session<'_, '_>, left: u64) -> u64
     requires runs { session.old.state.status ≡ Running }
     requires some { 1 ≤ left }
     ensures { Executes left session.old result session.new }
@@ -53,7 +53,7 @@ pub fn execute_some(session: &mut Session<'_>, left: u64) -> u64
 }
 
 // One turn: the request that stands is put to the host, or instructions are executed, or the drive ends.
-fn go_on<H: Host>(session: &mut Session<'_>, host: &mut H, left: u64) -> Result<u64, Drive>
+fn go_on<H: Host>(session: &mut Session<'_, '_>, host: &mut H, left: u64) -> Result<u64, Drive>
     ensures on { IfOk result (λ fewer. GoesOn left session.old (H.book host.old) fewer session.new (H.book host.new)) }
     ensures stops { IfErr result (λ end. Stops left session.old end (H.book host.old) (H.book host.new)) }
     ensures kept { OnErr result (session.new ≡ session.old) }
@@ -78,7 +78,7 @@ fn go_on<H: Host>(session: &mut Session<'_>, host: &mut H, left: u64) -> Result<
 ///
 /// `Done(Spent)` comes where they were executed and the method goes on. After `Refused` no set of the host's last answer was
 /// made. It takes no memory.
-pub fn drive<H: Host>(session: &mut Session<'_>, host: &mut H, steps: u64) -> Drive
+pub fn drive<H: Host>(session: &mut Session<'_, '_>, host: &mut H, steps: u64) -> Drive
     ensures image { session.new.image ≡ session.old.image }
     ensures state { session.new.state ≡ (driven session.old steps (accepted result (added (H.book host.old) (H.book host.new)))).state }
     ensures taken { session.new.taken ≡ counted (session.old.taken

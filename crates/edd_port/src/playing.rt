@@ -42,7 +42,7 @@ pub struct Transcript {
 
 // Runs the session on under the answers, and notes its requests.
 fn play_on(
-    session: &mut Session<'_>,
+    session: &mut Session<'_, '_>,
     requests: &mut Vec<Request>,
     answers: &[Answer],
     steps: u64,
@@ -87,7 +87,7 @@ fn play_on(
 /// `Memory` where memory for the requests is refused.
 pub fn play(
     alloc: Global,
-    image: &Image,
+    image: &Image<'_>,
     method: MethNo,
     values: Values,
     answers: &[Answer],

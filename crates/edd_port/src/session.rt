@@ -24,14 +24,14 @@ use std::marker::Model;
 
 /// A run of a method of an image, at any point of it. Contracts see it as a `Run`.
 #[derive(Drop)]
-pub struct Session<'i> {
-    image: &'i Image,
+pub struct Session<'i, 'b> {
+    image: &'i Image<'b>,
     machine: Machine,
     // How many instructions were executed so far.
     taken: u64,
 }
 
-impl<'i> Model for Session<'i> {
+impl<'i, 'b> Model for Session<'i, 'b> {
     ghost use Rattle.edd_port.specs.Runs.{Run};
 
     ghost Value = { Run };
@@ -44,16 +44,16 @@ impl<'i> Model for Session<'i> {
     ghost invariant = { λ s. IsValid s.image.now × IsMachine s.image.now s.machine };
 }
 
-impl<'i> Session<'i> {
+impl<'i, 'b> Session<'i, 'b> {
     /// The run of a method at its start, under these values. After a refusal they are handed back.
     ///
     /// The fault is `NoItem` where there is no such method or it has no body, else `WrongValues` where the values are not those
     /// of a device of this description. It takes no memory.
     pub fn start(
-        image: &'i Image,
+        image: &'i Image<'b>,
         method: MethNo,
         values: Values,
-    ) -> Result<Session<'i>, (StartFault, Values)>
+    ) -> Result<Session<'i, 'b>, (StartFault, Values)>
         ensures image { IfOk result (λ session. session.image ≡ image.now) }
         ensures opens { IfOk result (λ session. OpensIn image.now method values.numbers.items session.state) }
         ensures taken { IfOk result (λ session. session.taken ≡ 0) }

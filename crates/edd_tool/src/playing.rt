@@ -11,7 +11,7 @@ use edd_syntax::numbers::{ItemNo, MethNo};
 use std::alloc::Global;
 use std::io::Write;
 
-fn method_named<'a>(image: &Image, name: &'a str) -> Result<MethNo, Stop<'a>> {
+fn method_named<'a>(image: &Image<'_>, name: &'a str) -> Result<MethNo, Stop<'a>> {
     match image.find(name) {
         Some(ItemNo::Method(number)) => Ok(number),
         _ => Err(Stop::NoMethod(name)),
@@ -21,7 +21,7 @@ fn method_named<'a>(image: &Image, name: &'a str) -> Result<MethNo, Stop<'a>> {
 // What the method does under the script.
 fn played<'a>(
     alloc: Global,
-    image: &Image,
+    image: &Image<'_>,
     script: &[u8],
     run: Run<'a>,
 ) -> Result<Transcript, Stop<'a>> {

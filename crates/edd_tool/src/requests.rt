@@ -143,7 +143,7 @@ fn write_image<'a, F: Files, W: Write>(
 
 fn show_under<'a, W: Write>(
     alloc: Global,
-    image: &Image,
+    image: &Image<'_>,
     script: &[u8],
     language: &str,
     out: &mut W,

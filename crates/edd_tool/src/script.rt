@@ -42,7 +42,7 @@ fn code(word: &str) -> Option<i32> {
     word.parse::<i32>().ok()
 }
 
-fn variable(image: &Image, name: &str) -> Option<VarNo> {
+fn variable(image: &Image<'_>, name: &str) -> Option<VarNo> {
     match image.find(name) {
         Some(ItemNo::Variable(number)) => Some(number),
         _ => None,
@@ -51,7 +51,7 @@ fn variable(image: &Image, name: &str) -> Option<VarNo> {
 
 // `NAME N`
 fn setting<'a>(
-    image: &Image,
+    image: &Image<'_>,
     name: Option<&'a str>,
     value: Option<&'a str>,
 ) -> Option<(VarNo, i64)> {
@@ -59,7 +59,7 @@ fn setting<'a>(
 }
 
 // `answer CODE NAME=N ..`
-fn answer_of(alloc: Global, image: &Image, line: &str) -> Result<Option<Answer>, AllocError> {
+fn answer_of(alloc: Global, image: &Image<'_>, line: &str) -> Result<Option<Answer>, AllocError> {
     let mut words = line.split(' ').filter(|word| !word.is_empty()).skip(1);
     let Some(code) = words.next().and_then(code) else {
         return Ok(None);
@@ -86,7 +86,7 @@ enum Line {
 }
 
 // `set NAME N`
-fn set_of(image: &Image, line: &str) -> Option<Line> {
+fn set_of(image: &Image<'_>, line: &str) -> Option<Line> {
     let mut words = line.split(' ').filter(|word| !word.is_empty()).skip(1);
     let (variable, value) = setting(image, words.next(), words.next())?;
     match words.next() {
@@ -104,7 +104,7 @@ fn abort_of(line: &str) -> Option<Line> {
     }
 }
 
-fn line_of(alloc: Global, image: &Image, text: &str) -> Result<Option<Line>, AllocError> {
+fn line_of(alloc: Global, image: &Image<'_>, text: &str) -> Result<Option<Line>, AllocError> {
     let mut words = text.split(' ').filter(|word| !word.is_empty());
     match words.next() {
         None => Ok(Some(Line::Blank)),
@@ -124,7 +124,7 @@ fn text_of(bytes: &[u8]) -> Option<&str> {
     }
 }
 
-fn parse_line(alloc: Global, image: &Image, bytes: &[u8]) -> Result<Option<Line>, AllocError> {
+fn parse_line(alloc: Global, image: &Image<'_>, bytes: &[u8]) -> Result<Option<Line>, AllocError> {
     match text_of(bytes) {
         Some(text) => line_of(alloc, image, text),
         None => Ok(None),
@@ -139,7 +139,7 @@ pub struct Script {
 }
 
 impl Script {
-    fn new(alloc: Global, image: &Image) -> Result<Script, AllocError> {
+    fn new(alloc: Global, image: &Image<'_>) -> Result<Script, AllocError> {
         let count = usize::from(image.counts().variables);
         let mut values = Vec::with_capacity(alloc, count)?;
         values.resize(count, 0)?;
@@ -165,7 +165,7 @@ impl Script {
 }
 
 /// Reads a script for an image, by whose names it sets variables.
-pub fn parse(alloc: Global, image: &Image, script: &[u8]) -> Result<Script, ScriptFault> {
+pub fn parse(alloc: Global, image: &Image<'_>, script: &[u8]) -> Result<Script, ScriptFault> {
     let mut made = Script::new(alloc, image)?;
     for (before, bytes) in script.split_inclusive(|byte| *byte == b'\n').enumerate() {
         let line = before.saturating_add(1);

@@ -9,7 +9,7 @@ use Rattle.edd_loader.proofs.RuleOrder.{has_header}
 use Rattle.edd_loader.proofs.lookups.find.Goals as goal
 
 pub counts-counts-requires : goal.counts-counts-requires
-counts-counts-requires c = has_header _ _ refl c.requires
+counts-counts-requires c = has_header _ _ refl c.requires.valid
 
 pub returns-clause-none : goal.returns-clause-none
 returns-clause-none c = λ item named.

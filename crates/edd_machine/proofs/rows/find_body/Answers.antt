@@ -2,13 +2,9 @@ use Rattle.std.proofs.Common.{◌≡◌, Some, ap, ◌∙◌}
 use Rattle.std.specs.Prelude.{option_map}
 use Rattle.edd_image.specs.Contents.{attribute_fields, contents_in}
 use Rattle.edd_image.specs.Reading.{body_of}
-use Rattle.edd_loader.proofs.RuleOrder.{has_header}
 use Rattle.edd_machine.specs.Running.{unit_at}
 use Rattle.edd_machine.proofs.BodyUnits.{is_body_unit}
 use Rattle.edd_machine.proofs.rows.find_body.Goals as goal
-
-pub unit_of-requires-clause-header : goal.unit_of-requires-clause-header
-unit_of-requires-clause-header c = has_header _ _ c.bytes-bytes.ensures.value c.bytes-bytes.ensures.valid
 
 pub returns-clause-unit : goal.returns-clause-unit
 returns-clause-unit c =

@@ -13,6 +13,6 @@ returns-then-not-has_item-clause-value c = no_name c.args.self.now c.args.item
 pub returns-clause-value : goal.returns-clause-value
 returns-clause-value c = sym (
     named_in_place c.args.self.now c.args.item (subst (λ counts. item_exists counts c.args.item ≡ true) c.counts-counts.ensures (sym c.has_item.ensures ∙ c.if-not-has_item.false))
-    ∙ ap (name_in_row (contents_in c.args.self.now)) (sym (c.place_of_item.ensures ∙ ap (λ counts. place_of_item counts c.args.item) c.counts-counts.ensures))
-    ∙ subst (λ b. name_in_row (contents_in b) c.place_of_item.result ≡ Some c.name_at.result.now) c.bytes.ensures.value c.name_at.ensures.value
+    ∙ ap (name_in_row (contents_in c.args.self.now)) (sym (c.place_of_item-place.ensures ∙ ap (λ counts. place_of_item counts c.args.item) c.counts-counts.ensures))
+    ∙ subst (λ b. name_in_row (contents_in b) c.place_of_item-place.result ≡ Some c.name_at.result.now) c.self.view_is c.name_at.ensures.value
     ∙ ap Some (sym c.as_text.ensures))
