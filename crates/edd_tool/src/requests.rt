@@ -9,6 +9,7 @@ use crate::{COMMAND_LINE, DONE, FILE, MEMORY, REFUSED};
 use edd_command_line::{NoRequest, Request, Run};
 use edd_compiler::{Fault, compile};
 use edd_display::{ShowFault, print, print_text, show};
+use edd_dump::dump;
 use edd_explanations::explain;
 use edd_loader::{Image, LoadFault, load};
 use edd_machine::{Values, ValuesFault};
@@ -217,6 +218,19 @@ fn try_source<'a, F: Files, W: Write>(
     play_bytes(alloc, &bytes, &script, run, out)
 }
 
+fn dump_file<'a, F: Files, W: Write>(
+    alloc: Global,
+    image: &'a str,
+    files: &mut F,
+    out: &mut W,
+) -> Result<(), Stop<'a>> {
+    let bytes = read(alloc, files, image)?;
+    match dump(alloc, &bytes, out)? {
+        Some(fault) => Err(Stop::from(fault)),
+        None => Ok(()),
+    }
+}
+
 fn print_explanation<'a, W: Write>(
     alloc: Global,
     number: u32,
@@ -255,6 +269,7 @@ pub fn answer<'a, F: Files, W: Write>(
         } => show_file(alloc, image, script, language, files, out),
         Request::Play { image, run } => play_file(alloc, image, run, files, out),
         Request::Try { source, run } => try_source(alloc, source, run, files, out),
+        Request::Dump { image } => dump_file(alloc, image, files, out),
         Request::Explain { number } => print_explanation(alloc, number, out),
     }
 }
