@@ -71,11 +71,7 @@ impl Outline {
         if is_sign(tokens, last, Symbol::OpenBrace) {
             return Some(last);
         }
-        let around = self.opened.get(last).copied().unwrap_or(None)?;
-        if is_sign(tokens, last, Symbol::CloseBrace) {
-            return Some(around);
-        }
-        Some(around)
+        self.opened.get(last).copied().unwrap_or(None)
     }
 
     /// The kind of the item right inside whose braces a token stands.

@@ -1,7 +1,7 @@
 //! What is said of a text that is refused.
 
 use edd_display::ShowFault;
-use std::alloc::{AllocError, Global};
+use std::alloc::Global;
 
 /// The bytes of a text from `start` up to `end`.
 #[derive(Clone, Copy, PartialEq, Eq, Debug)]

@@ -8,7 +8,7 @@ use crate::places::start_of_line;
 use edd_display::ShowFault;
 use edd_lexer::fault::LexFault;
 use edd_lexer::lex;
-use std::alloc::{AllocError, Global};
+use std::alloc::Global;
 
 /// What a piece of a text is, as far as it can be told from its first bytes.
 #[derive(Clone, Copy, PartialEq, Eq)]

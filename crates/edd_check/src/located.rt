@@ -8,7 +8,6 @@ use crate::words::span_of;
 use edd_compiler::{Fault, checked_of};
 use edd_display::ShowFault;
 use edd_lexer::token::Token;
-use edd_name_meanings::fault::NameFault;
 use edd_token_reader::fault::ParseFault;
 use edd_types::fault::TypeFault;
 use std::alloc::{AllocError, Global};

@@ -8,7 +8,7 @@ use crate::words::{is_sign, is_word, kind_word, span_of, word_of};
 use edd_display::{ShowFault, type_word};
 use edd_lexer::token::{Token, TokenKind};
 use edd_name_meanings::fault::NameFault;
-use edd_syntax::operators::{Builtin, Parameter};
+use edd_syntax::operators::{Builtin, Comparison, Parameter};
 use edd_syntax::symbols::{Keyword, Symbol};
 use edd_syntax::types::VarType;
 use edd_types::fault::TypeFault;
@@ -132,6 +132,23 @@ impl<'a> Source<'a> {
         let mut numbers = item.name..self.tokens.len();
         let word = numbers.find(|number| is_word(self.tokens, *number, Keyword::Type))?;
         Some(word.saturating_add(1))
+    }
+
+    // The token that a fault is on, where the one of its line is `number`: a mask of 0 stands behind its variable.
+    fn told_by(&self, number: usize, fault: &TypeFault) -> usize {
+        let is_name = match self.tokens.get(number) {
+            Some(token) => token.kind == TokenKind::Name,
+            None => false,
+        };
+        if !is_name || !matches!(fault, TypeFault::ConstRange { .. }) {
+            return number;
+        }
+        let less = Symbol::Comparison(Comparison::Less);
+        let mut numbers = number..self.tokens.len();
+        match numbers.find(|number| is_sign(self.tokens, *number, less)) {
+            Some(sign) => sign.saturating_add(1),
+            None => number,
+        }
     }
 
     // The name that is nearest to this one, of items, of functions, or of what else is declared.
@@ -324,7 +341,7 @@ fn of_line(
     let Some(number) = located(alloc, source.text, source.tokens, line)? else {
         return Ok(());
     };
-    found.place = source.span(number);
+    found.place = source.span(source.told_by(number, fault));
     let text = match fault {
         TypeFault::Mismatch { .. } => return mismatch(alloc, source, number, found),
         TypeFault::FloatValue { .. } => "numbers are whole: take a smaller unit",

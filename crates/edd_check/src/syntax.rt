@@ -4,29 +4,24 @@ use crate::declarations::Outline;
 use crate::diagnostic::{Diagnostic, Span};
 use crate::located::{located, tokens_on};
 use crate::trials::{Change, Misfit};
-use crate::words::{is_sign, item_kind, kind_word, span_of, text_in, word_of};
+use crate::words::{item_kind, kind_word, span_of, word_of};
 use edd_compiler::{Fault, unit_of};
 use edd_display::ShowFault;
-use edd_lexer::token::{Token, TokenKind};
+use edd_lexer::token::Token;
 use edd_syntax::numbers::{ATTRIBUTES, Attr, KINDS, Kind};
-use edd_syntax::symbols::{Keyword, Symbol};
 use edd_token_reader::fault::ParseFault;
 use std::alloc::Global;
-use std::fmt::Write as _;
 
 /// How many bytes of a token are shown.
 const MOST: usize = 40;
 
-/// How many places of a word that is left out are looked at.
-const MOST_PLACES: usize = 64;
-
-// A token as it is written, if that is short, else its beginning.
+// A token as it is written, if that is short.
 fn short<'a>(text: &'a [u8], token: &Token) -> &'a str {
     let word = word_of(text, token);
     if word.len() <= MOST {
         return word;
     }
-    "a long string"
+    "a long word or string"
 }
 
 // The place behind the last token.
@@ -149,13 +144,13 @@ fn help_misfit(
     let Some(token) = at.tokens.get(at.number) else {
         return Ok(());
     };
-    if let Some(change) = at.best_change(alloc)? {
-        return help_change(alloc, at, change, found);
-    }
     if let Some(earlier) = at.earlier() {
         if let Some(change) = earlier.best_word(alloc)? {
             return help_change(alloc, earlier, change, found);
         }
+    }
+    if let Some(change) = at.best_change(alloc)? {
+        return help_change(alloc, at, change, found);
     }
     let word = short(at.text, token);
     let text = format!(in alloc; "{word} fits nothing here")?;
@@ -196,23 +191,49 @@ fn is_left_out(alloc: Global, text: &[u8], end: usize, word: &str) -> Result<boo
     }
 }
 
-// The place at which a word is refused that is left out: the first up to which the text is.
+// The tokens that are this word.
+fn places_of<'a>(
+    alloc: Global,
+    text: &[u8],
+    tokens: &'a [Token],
+    word: &str,
+) -> Result<Vec<&'a Token>, ShowFault> {
+    let mut places = Vec::new(alloc);
+    for token in tokens {
+        if word_of(text, token) == word {
+            places.push(token)?;
+        }
+    }
+    Ok(places)
+}
+
+// The place at which a word is refused that is left out: the first up to whose end the text is. Up to an earlier one it ends too
+// early, and up to a later one it is refused at this one, so the half in which it stands is known from one look.
 fn place_left_out(
     alloc: Global,
     text: &[u8],
     tokens: &[Token],
     word: &str,
 ) -> Result<Option<Span>, ShowFault> {
-    let mut left = MOST_PLACES;
-    for token in tokens {
-        if word_of(text, token) == word && 0 < left {
-            left = left.saturating_sub(1);
-            if is_left_out(alloc, text, token.end as usize, word)? {
-                return Ok(Some(span_of(token)));
-            }
+    let places = places_of(alloc, text, tokens, word)?;
+    let mut low = 0;
+    let mut high = places.len();
+    for _ in 0..usize::BITS {
+        let half = high.saturating_sub(low) / 2;
+        let middle = half.saturating_add(low);
+        let Some(token) = places.get(middle) else {
+            break;
+        };
+        if high <= low {
+            break;
+        }
+        if is_left_out(alloc, text, token.end as usize, word)? {
+            high = middle;
+        } else {
+            low = middle.saturating_add(1);
         }
     }
-    Ok(None)
+    Ok(places.get(low).map(|token| span_of(*token)))
 }
 
 fn help_left_out(alloc: Global, word: &str, found: &mut Diagnostic) -> Result<(), ShowFault> {
