@@ -138,13 +138,32 @@ pub fn fault_of(alloc: Global, text: &[u8]) -> Option<Fault> {
     }
 }
 
-/// The token of a line at which the text is refused: its number, or nothing at the text's end.
+/// Where on its line a text is refused.
+#[derive(Clone, Copy)]
+pub enum Where {
+    /// At the token of this number.
+    Token(usize),
+    /// At the end of the text.
+    End,
+    /// On the line whose first token has this number. The second text would be too long.
+    Line(usize),
+}
+
+/// The place of a token, or of the first one of the line.
+pub fn place_on(tokens: &[Token], found: Where) -> Option<Span> {
+    match found {
+        Where::Token(number) | Where::Line(number) => tokens.get(number).map(span_of),
+        Where::End => None,
+    }
+}
+
+/// The token of a line at which the text is refused.
 pub fn located(
     alloc: Global,
     text: &[u8],
     tokens: &[Token],
     line: u32,
-) -> Result<Option<usize>, ShowFault> {
+) -> Result<Where, ShowFault> {
     let here = tokens_on(tokens, line);
     let spread = spread(alloc, text, tokens, here, None)?;
     let found = match fault_of(alloc, &spread) {
@@ -152,14 +171,14 @@ pub fn located(
         Some(fault) => line_of(&fault),
         None => None,
     };
-    let behind = match found {
-        Some(found) => found.saturating_sub(line) as usize,
-        None => 0,
+    let Some(found) = found else {
+        return Ok(Where::Line(here.first));
     };
+    let behind = found.saturating_sub(line) as usize;
     let number = here.first.saturating_add(behind);
     Ok(if number < here.behind {
-        Some(number)
+        Where::Token(number)
     } else {
-        None
+        Where::End
     })
 }

@@ -2,7 +2,7 @@
 
 use crate::declarations::{Declared, Outline, declares};
 use crate::diagnostic::{Diagnostic, Span};
-use crate::located::located;
+use crate::located::{Where, located, place_on};
 use crate::nearest::Nearest;
 use crate::words::{is_sign, is_word, kind_word, span_of, word_of};
 use edd_display::{ShowFault, type_word};
@@ -338,7 +338,9 @@ fn of_line(
     fault: &TypeFault,
     found: &mut Diagnostic,
 ) -> Result<(), ShowFault> {
-    let Some(number) = located(alloc, source.text, source.tokens, line)? else {
+    let at = located(alloc, source.text, source.tokens, line)?;
+    found.place = place_on(source.tokens, at);
+    let Where::Token(number) = at else {
         return Ok(());
     };
     found.place = source.span(source.told_by(number, fault));

@@ -2,7 +2,7 @@
 
 use crate::declarations::Outline;
 use crate::diagnostic::{Diagnostic, Span};
-use crate::located::{located, tokens_on};
+use crate::located::{Where, located, place_on, tokens_on};
 use crate::trials::{Change, Misfit};
 use crate::words::{item_kind, kind_word, span_of, word_of};
 use edd_compiler::{Fault, unit_of};
@@ -249,6 +249,32 @@ fn help_left_out(alloc: Global, word: &str, found: &mut Diagnostic) -> Result<()
     found.help(text)
 }
 
+// What is said where a token does not fit. Of a line alone nothing more is known.
+fn syntax(
+    alloc: Global,
+    text: &[u8],
+    tokens: &[Token],
+    line: u32,
+    found: &mut Diagnostic,
+) -> Result<(), ShowFault> {
+    let number = match located(alloc, text, tokens, line)? {
+        Where::Token(number) => number,
+        Where::End => tokens.len(),
+        Where::Line(number) => {
+            found.place = tokens.get(number).map(span_of);
+            return Ok(());
+        }
+    };
+    let line = tokens_on(tokens, line);
+    let at = Misfit {
+        text,
+        tokens,
+        line,
+        number,
+    };
+    misfit(alloc, at, found)
+}
+
 /// What is said of tokens that spell no unit.
 pub fn diagnostic(
     alloc: Global,
@@ -260,19 +286,10 @@ pub fn diagnostic(
     let mut found = Diagnostic::new(alloc, refusal);
     match fault {
         ParseFault::Syntax { line } => {
-            let number = located(alloc, text, tokens, *line)?;
-            let at = Misfit {
-                text,
-                tokens,
-                line: tokens_on(tokens, *line),
-                number: number.unwrap_or(tokens.len()),
-            };
-            misfit(alloc, at, &mut found)?;
+            syntax(alloc, text, tokens, *line, &mut found)?;
         }
         ParseFault::TooDeep { line } => {
-            if let Some(number) = located(alloc, text, tokens, *line)? {
-                found.place = tokens.get(number).map(span_of);
-            }
+            found.place = place_on(tokens, located(alloc, text, tokens, *line)?);
             let text = String::from_str(
                 alloc,
                 "more than 100 levels stand inside one another here: give a part to a name of its own",
