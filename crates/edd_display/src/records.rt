@@ -7,8 +7,8 @@ use edd_image::Record;
 use edd_syntax::numbers::{ItemNo, StrNo};
 use std::fmt::Write;
 
-// The words of the bits that are set, between parentheses; nothing where none is.
-fn push_qualifiers(
+/// The words of the bits that are set, between parentheses; nothing where none is.
+pub fn push_qualifiers(
     line: &mut String,
     bits: u16,
     words: &[(u16, &'static str)],

@@ -6,9 +6,11 @@ use crate::files::{FileFault, Files, read_all};
 use crate::playing::play_bytes;
 use crate::script::{self, ScriptFault};
 use crate::{COMMAND_LINE, DONE, FILE, MEMORY, REFUSED};
+use edd_check::check;
 use edd_command_line::{NoRequest, Request, Run};
 use edd_compiler::{Fault, compile};
 use edd_display::{ShowFault, print, print_text, show};
+use edd_dump::dump;
 use edd_explanations::explain;
 use edd_loader::{Image, LoadFault, load};
 use edd_machine::{Values, ValuesFault};
@@ -31,6 +33,8 @@ pub enum Stop<'a> {
     Play(PlayFault),
     /// Nothing is refused with this number.
     NoRefusal(u32),
+    /// A refusal that is printed already.
+    Shown,
     /// The output could not be written.
     Output,
     Memory,
@@ -217,6 +221,33 @@ fn try_source<'a, F: Files, W: Write>(
     play_bytes(alloc, &bytes, &script, run, out)
 }
 
+fn check_source<'a, F: Files, W: Write>(
+    alloc: Global,
+    source: &'a str,
+    files: &mut F,
+    out: &mut W,
+) -> Result<(), Stop<'a>> {
+    let text = read(alloc, files, source)?;
+    if check(alloc, source, &text, out)? {
+        Err(Stop::Shown)
+    } else {
+        Ok(())
+    }
+}
+
+fn dump_file<'a, F: Files, W: Write>(
+    alloc: Global,
+    image: &'a str,
+    files: &mut F,
+    out: &mut W,
+) -> Result<(), Stop<'a>> {
+    let bytes = read(alloc, files, image)?;
+    match dump(alloc, &bytes, out)? {
+        Some(fault) => Err(Stop::from(fault)),
+        None => Ok(()),
+    }
+}
+
 fn print_explanation<'a, W: Write>(
     alloc: Global,
     number: u32,
@@ -255,6 +286,8 @@ pub fn answer<'a, F: Files, W: Write>(
         } => show_file(alloc, image, script, language, files, out),
         Request::Play { image, run } => play_file(alloc, image, run, files, out),
         Request::Try { source, run } => try_source(alloc, source, run, files, out),
+        Request::Check { source } => check_source(alloc, source, files, out),
+        Request::Dump { image } => dump_file(alloc, image, files, out),
         Request::Explain { number } => print_explanation(alloc, number, out),
     }
 }
@@ -263,6 +296,7 @@ pub fn answer<'a, F: Files, W: Write>(
 pub fn report<W: Write>(alloc: Global, stop: &Stop<'_>, out: &mut W) -> Result<(), ShowFault> {
     match stop {
         Stop::Help(text) | Stop::CommandLine(text) => print_text(out, text),
+        Stop::Shown => Ok(()),
         Stop::File(name) => print(alloc, out, format_args!("file {name}")),
         Stop::NotCompiled(fault) => print(alloc, out, format_args!("refused {fault}")),
         Stop::NotLoaded(fault) => print(alloc, out, format_args!("refused {fault}")),
@@ -289,7 +323,8 @@ pub fn status(stop: &Stop<'_>) -> u8
     match stop {
         Stop::Help(_) => DONE,
         Stop::CommandLine(_) | Stop::NoRefusal(_) => COMMAND_LINE,
-        Stop::NotCompiled(_)
+        Stop::Shown
+        | Stop::NotCompiled(_)
         | Stop::NotLoaded(_)
         | Stop::Script(_)
         | Stop::Values(_)

@@ -1,0 +1,204 @@
+//! Which instruction breaks a rule on units.
+
+ghost use Rattle.std.specs.Prelude.{◌≡◌, ◌≤◌, length, vec_len, IfOk};
+
+use crate::sections::{RowFields, Sections, part};
+use crate::spots::Spot;
+use edd_image::{Context, Instruction, Sort, UnitRule, Version, Way, decode};
+use edd_syntax::numbers::Attr;
+use std::alloc::{AllocError, Global};
+
+/// The most operands.
+const MOST_OPERANDS: u8 = 128;
+
+// What is known of the places of a unit: where instructions start, and how many operands were brought to them.
+#[derive(Drop)]
+struct Places {
+    starts: Vec<bool>,
+    depths: Vec<Option<u8>>,
+}
+
+impl Places {
+    fn of(alloc: Global, code: &[u8]) -> Result<Places, AllocError> {
+        let mut starts = vec![in alloc; false; code.len()]?;
+        let depths = vec![in alloc; None; code.len()]?;
+        let mut place = 0;
+        while place < code.len() {
+            let Some((_, next)) = decode(code, place) else {
+                break;
+            };
+            if let Some(start) = starts.get_mut(place) {
+                *start = true;
+            }
+            place = next;
+        }
+        Ok(Places { starts, depths })
+    }
+
+    fn is_start(&self, place: usize) -> bool {
+        self.starts.get(place).copied().unwrap_or(false)
+    }
+
+    fn depth(&self, place: usize) -> Option<u8> {
+        self.depths.get(place).copied().unwrap_or(None)
+    }
+
+    // Notes how many operands a jump brings to a place where nothing is known yet.
+    fn note(&mut self, place: usize, depth: u8) {
+        if let Some(known) = self.depths.get_mut(place) {
+            if known.is_none() {
+                *known = Some(depth);
+            }
+        }
+    }
+}
+
+// An instruction, where it stands, what is behind it and how many operands are there.
+#[derive(Clone, Copy)]
+struct Standing {
+    instruction: Instruction,
+    place: usize,
+    next: usize,
+    depth: u8,
+}
+
+impl Standing {
+    // How many operands it leaves of those that it found.
+    fn rest(&self) -> u8 {
+        self.depth.saturating_sub(self.instruction.takes())
+    }
+
+    fn brought(&self, way: Way) -> u8 {
+        self.rest().saturating_add(way.leaves)
+    }
+
+    fn breaks_jump(&self, places: &Places, sort: Sort) -> bool {
+        let is_lost = match self.instruction.onward(self.next) {
+            Some(way) => !places.is_start(way.to),
+            None => false,
+        };
+        let is_wild = match self.instruction.jump() {
+            Some(way) => !places.is_start(way.to)
+                || (sort == Sort::Attribute && way.to <= self.place),
+            None => false,
+        };
+        is_lost || is_wild
+    }
+
+    fn breaks_depth(&self, places: &Places) -> bool {
+        let has_other = match places.depth(self.place) {
+            Some(known) => known != self.depth,
+            None => false,
+        };
+        let is_too_much = match self.instruction.onward(self.next) {
+            Some(way) => self.brought(way) > MOST_OPERANDS,
+            None => false,
+        };
+        let jumps_with_other = match self.instruction.jump() {
+            Some(way) => self.jumps_with_other(places, way.to),
+            None => false,
+        };
+        has_other || is_too_much || jumps_with_other || self.depth < self.instruction.takes()
+    }
+
+    fn jumps_with_other(&self, places: &Places, target: usize) -> bool {
+        if target == self.place {
+            return self.depth != self.rest();
+        }
+        match places.depth(target) {
+            Some(known) => known != self.rest(),
+            None => false,
+        }
+    }
+
+    fn breaks(&self, rule: UnitRule, places: &Places, context: Context) -> bool {
+        match rule {
+            UnitRule::Chain => !self.instruction.is_allowed(context.version, context.sort),
+            UnitRule::Jump => self.breaks_jump(places, context.sort),
+            UnitRule::Depth => self.breaks_depth(places),
+            UnitRule::Reference => !context.has_names(self.instruction),
+        }
+    }
+}
+
+// The depth at a place, where the instruction before brings `brought`, if it goes on.
+fn arrival(brought: Option<u8>, known: Option<u8>) -> u8 {
+    match (brought, known) {
+        (Some(depth), _) | (None, Some(depth)) => depth,
+        (None, None) => 0,
+    }
+}
+
+// The first place of a unit at which it breaks the rule, and how many operands are there.
+fn broken_place(
+    alloc: Global,
+    context: Context,
+    code: &[u8],
+    rule: UnitRule,
+) -> Result<Option<(usize, u8)>, AllocError> {
+    let mut places = Places::of(alloc, code)?;
+    let mut brought = Some(0);
+    let mut place = 0;
+    while place < code.len() {
+        let depth = arrival(brought, places.depth(place));
+        let Some((instruction, next)) = decode(code, place) else {
+            return Ok(Some((place, depth)));
+        };
+        let standing = Standing {
+            instruction,
+            place,
+            next,
+            depth,
+        };
+        if standing.breaks(rule, &places, context) {
+            return Ok(Some((place, depth)));
+        }
+        places.note(place, depth);
+        if let Some(way) = instruction.jump() {
+            places.note(way.to, standing.rest());
+        }
+        brought = match instruction.onward(next) {
+            Some(way) => Some(standing.brought(way)),
+            None => None,
+        };
+        place = next;
+    }
+    Ok(if code.is_empty() { Some((0, 0)) } else { None })
+}
+
+fn context_of(sections: &Sections<'_>, row: RowFields) -> Context {
+    let is_method = row.attribute == Attr::Definition.number();
+    Context {
+        version: Version::One,
+        counts: sections.counts,
+        sort: if is_method {
+            Sort::Method
+        } else {
+            Sort::Attribute
+        },
+        slots: if is_method { row.sub } else { 0 },
+    }
+}
+
+/// The first instruction that breaks the rule, if one does.
+pub fn broken_instruction(
+    alloc: Global,
+    sections: &Sections<'_>,
+    rule: UnitRule,
+) -> Result<Option<Spot>, AllocError> {
+    for number in 0..sections.row_count() {
+        let Some(row) = sections.row(number) else {
+            return Ok(None);
+        };
+        let code = part(sections.code, row.unit).unwrap_or(b"");
+        let context = context_of(sections, row);
+        if let Some((place, depth)) = broken_place(alloc, context, code, rule)? {
+            return Ok(Some(Spot::Instruction {
+                row: number,
+                place,
+                depth,
+            }));
+        }
+    }
+    Ok(None)
+}

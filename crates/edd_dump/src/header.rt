@@ -1,0 +1,239 @@
+//! The lines of the header and of the sections.
+
+ghost use Rattle.std.specs.Prelude.{◌≡◌, ◌≤◌, length};
+
+use edd_display::{ShowFault, print};
+use edd_image::{
+    HEADER_LENGTH, attribute_rows_start, code_start, name_bytes_start, name_rows_start,
+    sections_end, string_bytes_start, string_rows_start, u16_at, u32_at,
+};
+use std::alloc::Global;
+use std::io::Write;
+
+/// How many bytes a field of the header has.
+#[derive(Clone, Copy, PartialEq, Eq)]
+pub enum Width {
+    Two,
+    Four,
+}
+
+/// A field of the header: its name, its place and its width.
+#[derive(Clone, Copy)]
+pub struct Field {
+    pub name: &'static str,
+    pub place: usize,
+    pub width: Width,
+}
+
+/// The fields by their places.
+pub const FIELDS: [Field; 18] = [
+    Field {
+        name: "magic",
+        place: 0,
+        width: Width::Four,
+    },
+    Field {
+        name: "version",
+        place: 4,
+        width: Width::Two,
+    },
+    Field {
+        name: "zero",
+        place: 6,
+        width: Width::Two,
+    },
+    Field {
+        name: "length",
+        place: 8,
+        width: Width::Four,
+    },
+    Field {
+        name: "manufacturer",
+        place: 12,
+        width: Width::Four,
+    },
+    Field {
+        name: "device_type",
+        place: 16,
+        width: Width::Four,
+    },
+    Field {
+        name: "device_revision",
+        place: 20,
+        width: Width::Four,
+    },
+    Field {
+        name: "dd_revision",
+        place: 24,
+        width: Width::Four,
+    },
+    Field {
+        name: "variables",
+        place: 28,
+        width: Width::Two,
+    },
+    Field {
+        name: "commands",
+        place: 30,
+        width: Width::Two,
+    },
+    Field {
+        name: "menus",
+        place: 32,
+        width: Width::Two,
+    },
+    Field {
+        name: "collections",
+        place: 34,
+        width: Width::Two,
+    },
+    Field {
+        name: "methods",
+        place: 36,
+        width: Width::Two,
+    },
+    Field {
+        name: "strings",
+        place: 38,
+        width: Width::Two,
+    },
+    Field {
+        name: "attribute_rows",
+        place: 40,
+        width: Width::Four,
+    },
+    Field {
+        name: "name_bytes",
+        place: 44,
+        width: Width::Four,
+    },
+    Field {
+        name: "code",
+        place: 48,
+        width: Width::Four,
+    },
+    Field {
+        name: "string_bytes",
+        place: 52,
+        width: Width::Four,
+    },
+];
+
+/// The numbers of fields that rules are on.
+pub const MAGIC: usize = 0;
+
+pub const VERSION: usize = 1;
+
+pub const ZERO: usize = 2;
+
+pub const LENGTH: usize = 3;
+
+pub const ATTRIBUTE_ROWS: usize = 14;
+
+pub const CODE: usize = 16;
+
+/// The sections in their order.
+#[derive(Clone, Copy, PartialEq, Eq)]
+pub enum Section {
+    VariableRows,
+    NameRows,
+    AttributeRows,
+    Code,
+    StringRows,
+    NameBytes,
+    StringBytes,
+}
+
+const SECTIONS: [(Section, &str); 7] = [
+    (Section::VariableRows, "variable_rows"),
+    (Section::NameRows, "name_rows"),
+    (Section::AttributeRows, "attribute_rows"),
+    (Section::Code, "code"),
+    (Section::StringRows, "string_rows"),
+    (Section::NameBytes, "name_bytes"),
+    (Section::StringBytes, "string_bytes"),
+];
+
+/// Where a section starts, and where it ends. Without a whole header that is 0.
+pub fn bounds(bytes: &[u8], section: Section) -> (usize, usize) {
+    if bytes.len() < HEADER_LENGTH {
+        return (0, 0);
+    }
+    match section {
+        Section::VariableRows => (HEADER_LENGTH, name_rows_start(bytes)),
+        Section::NameRows => (name_rows_start(bytes), attribute_rows_start(bytes)),
+        Section::AttributeRows => (attribute_rows_start(bytes), code_start(bytes)),
+        Section::Code => (code_start(bytes), string_rows_start(bytes)),
+        Section::StringRows => (string_rows_start(bytes), name_bytes_start(bytes)),
+        Section::NameBytes => (name_bytes_start(bytes), string_bytes_start(bytes)),
+        Section::StringBytes => (string_bytes_start(bytes), sections_end(bytes)),
+    }
+}
+
+/// How many fields of the header are there as a whole, from the first one on.
+pub fn whole_fields(bytes: &[u8]) -> usize {
+    FIELDS
+        .iter()
+        .filter(|field| number_of(bytes, **field).is_some())
+        .count()
+}
+
+// The number in a field, where the bytes reach so far.
+fn number_of(bytes: &[u8], field: Field) -> Option<u32> {
+    let width = match field.width {
+        Width::Two => 2,
+        Width::Four => 4,
+    };
+    let end = field.place.checked_add(width)?;
+    if bytes.len() < end {
+        return None;
+    }
+    match field.width {
+        Width::Two => Some(u32::from(u16_at(bytes, field.place))),
+        Width::Four => Some(u32_at(bytes, field.place)),
+    }
+}
+
+// The first field has characters, and is shown as its bytes.
+fn print_field<W: Write>(
+    alloc: Global,
+    field: Field,
+    number: u32,
+    out: &mut W,
+) -> Result<(), ShowFault> {
+    let name = field.name;
+    if field.place == 0 {
+        let [a, b, c, d] = number.to_be_bytes();
+        return print(
+            alloc,
+            out,
+            format_args!("header {name} {a:02X} {b:02X} {c:02X} {d:02X}"),
+        );
+    }
+    print(alloc, out, format_args!("header {name} {number}"))
+}
+
+/// Prints the first fields of the header, as many as are asked for and are there.
+pub fn print_header<W: Write>(
+    alloc: Global,
+    bytes: &[u8],
+    count: usize,
+    out: &mut W,
+) -> Result<(), ShowFault> {
+    for field in FIELDS.iter().take(count) {
+        if let Some(number) = number_of(bytes, *field) {
+            print_field(alloc, *field, number, out)?;
+        }
+    }
+    Ok(())
+}
+
+/// Prints where each section starts and how many bytes it has.
+pub fn print_sections<W: Write>(alloc: Global, bytes: &[u8], out: &mut W) -> Result<(), ShowFault> {
+    for (section, name) in SECTIONS {
+        let (start, end) = bounds(bytes, section);
+        let length = end.saturating_sub(start);
+        print(alloc, out, format_args!("section {name} {start} {length}"))?;
+    }
+    Ok(())
+}

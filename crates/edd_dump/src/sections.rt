@@ -1,0 +1,243 @@
+//! The sections of bytes whose lengths add up.
+
+ghost use Rattle.std.specs.Prelude.{◌≡◌, ◌≤◌, IfSome, length};
+
+use edd_image::{
+    ATTRIBUTE_ROW, Counts, HEADER_LENGTH, NAME_ROW, STRING_ROW, VARIABLE_ROW, VarKind,
+    attribute_item, attribute_kind, attribute_length, attribute_number, attribute_rows_start,
+    attribute_start, attribute_sub, attribute_zero, code_start, counts, name_bytes_start,
+    name_length, name_rows_start, name_start, name_zero, sections_end, string_bytes_start,
+    string_length, string_rows_start, string_start, type_of, variable_size, variable_type,
+    variable_zero,
+};
+use edd_syntax::numbers::{Attr, ItemNo};
+
+/// How many bytes a name has at most.
+const LONGEST_NAME: usize = 255;
+
+/// The sections, each as its bytes.
+#[derive(Clone, Copy)]
+pub struct Sections<'a> {
+    pub counts: Counts,
+    pub variable_rows: &'a [u8],
+    pub name_rows: &'a [u8],
+    pub attribute_rows: &'a [u8],
+    pub code: &'a [u8],
+    pub string_rows: &'a [u8],
+    pub names: &'a [u8],
+    pub strings: &'a [u8],
+}
+
+/// A part of a section, and whether the zero beside it is 0.
+#[derive(Clone, Copy)]
+pub struct Span {
+    pub start: usize,
+    pub length: usize,
+    pub has_zero: bool,
+}
+
+/// The fields of a variable row, as they are.
+#[derive(Clone, Copy)]
+pub struct VariableFields {
+    pub kind: u8,
+    pub size: u8,
+    pub zero: u16,
+}
+
+/// The fields of an attribute row, as they are.
+#[derive(Clone, Copy)]
+pub struct RowFields {
+    pub kind: u8,
+    pub attribute: u8,
+    pub item: u16,
+    pub sub: u16,
+    pub unit: Span,
+}
+
+// The bytes from a place up to another, where they are there.
+fn between(bytes: &[u8], start: usize, end: usize) -> Option<&[u8]> {
+    if end < start || bytes.len() < end {
+        return None;
+    }
+    Some(&bytes[start..end])
+}
+
+// The row of a number, each row having this width.
+fn row_at(rows: &[u8], width: usize, number: usize) -> Option<&[u8]>
+    ensures { IfSome result (λ row. width ≤ length row.now) }
+{
+    let start = width.checked_mul(number)?;
+    let end = start.checked_add(width)?;
+    if rows.len() < end {
+        return None;
+    }
+    Some(&rows[start..end])
+}
+
+fn name_span(row: &[u8]) -> Span
+    requires { NAME_ROW ≤ length row.now }
+{
+    Span {
+        start: name_start(row, 0) as usize,
+        length: usize::from(name_length(row, 0)),
+        has_zero: name_zero(row, 0) == 0,
+    }
+}
+
+fn string_span(row: &[u8]) -> Span
+    requires { STRING_ROW ≤ length row.now }
+{
+    Span {
+        start: string_start(row, 0) as usize,
+        length: string_length(row, 0) as usize,
+        has_zero: true,
+    }
+}
+
+fn fields(row: &[u8]) -> RowFields
+    requires { ATTRIBUTE_ROW ≤ length row.now }
+{
+    RowFields {
+        kind: attribute_kind(row, 0),
+        attribute: attribute_number(row, 0),
+        item: attribute_item(row, 0),
+        sub: attribute_sub(row, 0),
+        unit: Span {
+            start: attribute_start(row, 0) as usize,
+            length: attribute_length(row, 0) as usize,
+            has_zero: attribute_zero(row, 0) == 0,
+        },
+    }
+}
+
+fn variable_fields(row: &[u8]) -> VariableFields
+    requires { VARIABLE_ROW ≤ length row.now }
+{
+    VariableFields {
+        kind: variable_type(row, 0),
+        size: variable_size(row, 0),
+        zero: variable_zero(row, 0),
+    }
+}
+
+/// The part of a section, where it lies inside.
+pub fn part(section: &[u8], span: Span) -> Option<&[u8]> {
+    let end = span.start.checked_add(span.length)?;
+    between(section, span.start, end)
+}
+
+impl<'a> Sections<'a> {
+    /// The sections, where there is a whole header and they lie inside the bytes.
+    pub fn of(bytes: &'a [u8]) -> Option<Sections<'a>> {
+        if bytes.len() < HEADER_LENGTH {
+            return None;
+        }
+        let names = name_rows_start(bytes);
+        let attributes = attribute_rows_start(bytes);
+        let code = code_start(bytes);
+        let strings = string_rows_start(bytes);
+        let name_bytes = name_bytes_start(bytes);
+        let string_bytes = string_bytes_start(bytes);
+        Some(Sections {
+            counts: counts(bytes),
+            variable_rows: between(bytes, HEADER_LENGTH, names)?,
+            name_rows: between(bytes, names, attributes)?,
+            attribute_rows: between(bytes, attributes, code)?,
+            code: between(bytes, code, strings)?,
+            string_rows: between(bytes, strings, name_bytes)?,
+            names: between(bytes, name_bytes, string_bytes)?,
+            strings: between(bytes, string_bytes, sections_end(bytes))?,
+        })
+    }
+
+    pub fn item_count(&self) -> usize {
+        self.name_rows.len() / NAME_ROW
+    }
+
+    pub fn row_count(&self) -> usize {
+        self.attribute_rows.len() / ATTRIBUTE_ROW
+    }
+
+    pub fn string_count(&self) -> usize {
+        usize::from(self.counts.strings)
+    }
+
+    /// The fields of a variable row.
+    pub fn variable_row(&self, number: usize) -> Option<VariableFields> {
+        let row = row_at(self.variable_rows, VARIABLE_ROW, number)?;
+        Some(variable_fields(row))
+    }
+
+    /// The type and the size of a variable, where its row is one.
+    pub fn variable(&self, number: usize) -> Option<VarKind> {
+        let VariableFields { kind, size, zero } = self.variable_row(number)?;
+        let var_type = type_of(kind)?;
+        if zero != 0 || size < 1 || 4 < size {
+            return None;
+        }
+        Some(VarKind { var_type, size })
+    }
+
+    /// Where the name of the item at a place stands, by kind and number.
+    pub fn name_span(&self, place: usize) -> Option<Span> {
+        Some(name_span(row_at(self.name_rows, NAME_ROW, place)?))
+    }
+
+    // The name of the item at a place, by kind and number, where it can be read. No longer one is
+    // looked at, since rows could name the same bytes again and again.
+    fn name_at(&self, place: usize) -> Option<&'a str> {
+        let span = self.name_span(place)?;
+        if LONGEST_NAME < span.length {
+            return None;
+        }
+        str::from_utf8(part(self.names, span)?).ok()
+    }
+
+    /// The name of an item, where there is such an item.
+    pub fn name(&self, item: ItemNo) -> Option<&'a str> {
+        if !self.counts.has_item(item) {
+            return None;
+        }
+        self.name_at(self.place_of(item))
+    }
+
+    // How many names stand before that of an item.
+    fn place_of(&self, item: ItemNo) -> usize {
+        let commands = usize::from(self.counts.variables);
+        let menus = commands + usize::from(self.counts.commands);
+        let collections = menus + usize::from(self.counts.menus);
+        let methods = collections + usize::from(self.counts.collections);
+        let before = match item {
+            ItemNo::Variable(_) => 0,
+            ItemNo::Command(_) => commands,
+            ItemNo::Menu(_) => menus,
+            ItemNo::Collection(_) => collections,
+            ItemNo::Method(_) => methods,
+        };
+        before + usize::from(item.index())
+    }
+
+    /// The fields of an attribute row.
+    pub fn row(&self, number: usize) -> Option<RowFields> {
+        Some(fields(row_at(self.attribute_rows, ATTRIBUTE_ROW, number)?))
+    }
+
+    /// Where a string stands.
+    pub fn string_span(&self, number: usize) -> Option<Span> {
+        Some(string_span(row_at(self.string_rows, STRING_ROW, number)?))
+    }
+
+    /// The bytes of a string.
+    pub fn string(&self, number: usize) -> Option<&'a [u8]> {
+        part(self.strings, self.string_span(number)?)
+    }
+}
+
+impl RowFields {
+    /// The item and the attribute, where there are such a kind and such an attribute.
+    pub fn names(&self) -> Option<(ItemNo, Attr)> {
+        let item = ItemNo::from_numbers(self.kind, self.item)?;
+        let attr = Attr::from_number(self.attribute)?;
+        Some((item, attr))
+    }
+}

@@ -1,0 +1,239 @@
+//! Where the fault of an image is.
+
+use crate::broken_rows::broken_row;
+use crate::broken_strings::{broken_name, broken_string};
+use crate::broken_units::broken_instruction;
+use crate::excerpts::Excerpts;
+use crate::header::{
+    ATTRIBUTE_ROWS, CODE, FIELDS, LENGTH, MAGIC, Section, VERSION, bounds, whole_fields,
+};
+use crate::instructions::Page;
+use crate::sections::{Sections, part};
+use edd_display::{ShowFault, print};
+use edd_image::{
+    ATTRIBUTE_ROW, CODE_LIMIT, HEADER_LENGTH, NAME_ROW, STRING_ROW, UnitRule, VARIABLE_ROW,
+    code_length, decode, total_length,
+};
+use edd_loader::LoadFault;
+use std::alloc::{AllocError, Global};
+use std::fmt::Write as _;
+use std::io::Write;
+
+/// Where a fault is. Numbers count from 0; a row of the number of all rows stands for the end of their section.
+#[derive(Clone, Copy)]
+pub enum Spot {
+    /// A field of the header, of which so many fields can be read.
+    Field { number: usize, readable: usize },
+    Variable(usize),
+    /// Items by kind and number.
+    NameRow(usize),
+    Row(usize),
+    StringRow(usize),
+    Name(usize),
+    String(usize),
+    /// A place in the unit of an attribute row, where there are `depth` operands.
+    Instruction { row: usize, place: usize, depth: u8 },
+}
+
+// Which of the lengths in the header is wrong: that of the whole, those of the sections, or that of the code.
+fn wrong_length(bytes: &[u8]) -> usize {
+    if bytes.len() < HEADER_LENGTH || total_length(bytes) as usize != bytes.len() {
+        return LENGTH;
+    }
+    if code_length(bytes) as usize > CODE_LIMIT {
+        return CODE;
+    }
+    ATTRIBUTE_ROWS
+}
+
+fn field(number: usize, readable: usize) -> Spot {
+    Spot::Field { number, readable }
+}
+
+fn rule_of(fault: LoadFault) -> UnitRule {
+    match fault {
+        LoadFault::Jump => UnitRule::Jump,
+        LoadFault::Depth => UnitRule::Depth,
+        LoadFault::Reference => UnitRule::Reference,
+        _ => UnitRule::Chain,
+    }
+}
+
+/// Where the bytes break the rule of this fault.
+pub fn spot_of(alloc: Global, bytes: &[u8], fault: LoadFault) -> Result<Spot, AllocError> {
+    let whole = whole_fields(bytes);
+    let nowhere = field(LENGTH, whole);
+    let Some(sections) = Sections::of(bytes) else {
+        return Ok(match fault {
+            LoadFault::Short => field(whole, whole),
+            LoadFault::Magic => field(MAGIC, 1),
+            LoadFault::Version => field(VERSION, 2),
+            _ => field(wrong_length(bytes), whole),
+        });
+    };
+    let found = match fault {
+        LoadFault::Short => Some(field(whole, whole)),
+        LoadFault::Magic => Some(field(MAGIC, 1)),
+        LoadFault::Version => Some(field(VERSION, 2)),
+        LoadFault::Length => Some(field(wrong_length(bytes), whole)),
+        LoadFault::Row => broken_row(bytes, &sections),
+        LoadFault::Name => broken_name(&sections),
+        LoadFault::Text => broken_string(&sections),
+        _ => broken_instruction(alloc, &sections, rule_of(fault))?,
+    };
+    Ok(found.unwrap_or(nowhere))
+}
+
+// The name of a field, or where the bytes end too early.
+fn print_field<W: Write>(
+    alloc: Global,
+    bytes: &[u8],
+    number: usize,
+    out: &mut W,
+) -> Result<(), ShowFault> {
+    if bytes.len() < HEADER_LENGTH {
+        return print(alloc, out, format_args!("fault {} header", bytes.len()));
+    }
+    match FIELDS.get(number) {
+        Some(field) => {
+            let (place, name) = (field.place, field.name);
+            print(alloc, out, format_args!("fault {place} header {name}"))
+        }
+        None => print(alloc, out, "fault 0 header"),
+    }
+}
+
+// The fields of a row, as they are. Behind the last row there are none.
+fn push_fields(sections: &Sections<'_>, line: &mut String, spot: Spot) -> Result<(), ShowFault> {
+    match spot {
+        Spot::Variable(number) => {
+            if let Some(row) = sections.variable_row(number) {
+                let (kind, size, zero) = (row.kind, row.size, row.zero);
+                write!(line, " type {kind} size {size} zero {zero}")?;
+            }
+        }
+        Spot::NameRow(number) | Spot::Name(number) => {
+            if let Some(span) = sections.name_span(number) {
+                write!(line, " start {} length {}", span.start, span.length)?;
+            }
+        }
+        Spot::Row(number) => {
+            if let Some(row) = sections.row(number) {
+                let (kind, attribute, item, sub) = (row.kind, row.attribute, row.item, row.sub);
+                write!(
+                    line,
+                    " kind {kind} attribute {attribute} item {item} sub {sub}"
+                )?;
+                write!(line, " start {} length {}", row.unit.start, row.unit.length)?;
+            }
+        }
+        Spot::StringRow(number) | Spot::String(number) => {
+            if let Some(span) = sections.string_span(number) {
+                write!(line, " start {} length {}", span.start, span.length)?;
+            }
+        }
+        Spot::Field { .. } | Spot::Instruction { .. } => {}
+    }
+    Ok(())
+}
+
+fn start_of(bytes: &[u8], section: Section) -> usize {
+    let (start, _) = bounds(bytes, section);
+    start
+}
+
+// Where a row of a section is, by the width of a row.
+fn row_place(bytes: &[u8], section: Section, width: usize, number: usize) -> usize {
+    start_of(bytes, section).saturating_add(width.saturating_mul(number))
+}
+
+// The place in the image, and what is there.
+fn place_of(bytes: &[u8], sections: &Sections<'_>, spot: Spot) -> (usize, &'static str, usize) {
+    match spot {
+        Spot::Variable(number) => {
+            let place = row_place(bytes, Section::VariableRows, VARIABLE_ROW, number);
+            (place, "variable_row", number)
+        }
+        Spot::NameRow(number) => {
+            let place = row_place(bytes, Section::NameRows, NAME_ROW, number);
+            (place, "name_row", number)
+        }
+        Spot::Row(number) => {
+            let place = row_place(bytes, Section::AttributeRows, ATTRIBUTE_ROW, number);
+            (place, "attribute_row", number)
+        }
+        Spot::StringRow(number) => {
+            let place = row_place(bytes, Section::StringRows, STRING_ROW, number);
+            (place, "string_row", number)
+        }
+        Spot::Name(number) => {
+            let start = sections.name_span(number).map_or(0, |span| span.start);
+            let place = start_of(bytes, Section::NameBytes).saturating_add(start);
+            (place, "name", number)
+        }
+        Spot::String(number) => {
+            let start = sections.string_span(number).map_or(0, |span| span.start);
+            let place = start_of(bytes, Section::StringBytes).saturating_add(start);
+            (place, "string", number)
+        }
+        Spot::Instruction { row, place, .. } => {
+            let start = sections.row(row).map_or(0, |row| row.unit.start);
+            let code = start_of(bytes, Section::Code);
+            (code.saturating_add(start).saturating_add(place), "row", row)
+        }
+        Spot::Field { number, .. } => (0, "header", number),
+    }
+}
+
+// The place in the unit, the number of operands, and the instruction, where one stands there.
+fn push_instruction(
+    alloc: Global,
+    sections: &Sections<'_>,
+    line: &mut String,
+    row: usize,
+    place: usize,
+    depth: u8,
+) -> Result<(), ShowFault> {
+    write!(line, " place {place} depth {depth} ")?;
+    let excerpts = Excerpts::of(alloc, sections)?;
+    let page = Page {
+        sections,
+        excerpts: &excerpts,
+    };
+    let unit = sections
+        .row(row)
+        .and_then(|row| part(sections.code, row.unit));
+    let code = unit.unwrap_or(b"");
+    if code.len() < place {
+        line.push_str("none")?;
+        return Ok(());
+    }
+    match decode(code, place) {
+        Some((instruction, _)) => page.push_instruction(line, instruction),
+        None => Ok(line.push_str("none")?),
+    }
+}
+
+/// Prints where the fault is: the place of the first byte that is wrong, and what should be there.
+pub fn print_spot<W: Write>(
+    alloc: Global,
+    bytes: &[u8],
+    spot: Spot,
+    out: &mut W,
+) -> Result<(), ShowFault> {
+    if let Spot::Field { number, .. } = spot {
+        return print_field(alloc, bytes, number, out);
+    }
+    let Some(sections) = Sections::of(bytes) else {
+        return Ok(());
+    };
+    let (place, word, number) = place_of(bytes, &sections, spot);
+    let mut line = format!(in alloc; "fault {place} {word} {number}")?;
+    match spot {
+        Spot::Instruction { row, place, depth } => {
+            push_instruction(alloc, &sections, &mut line, row, place, depth)?;
+        }
+        other => push_fields(&sections, &mut line, other)?,
+    }
+    print(alloc, out, line.as_str())
+}
