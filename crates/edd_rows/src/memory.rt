@@ -5,11 +5,12 @@ use std::cell::Cell;
 use std::io;
 use std::io::{Read, Write};
 
-/// How many further calls pass, and whether one has failed.
+/// How many further calls pass before one fails, whether that one has failed, and whether another was made after it.
 #[derive(Drop)]
 pub struct Passes {
     left: Cell<u32>,
     has_failed: Cell<bool>,
+    goes_on: Cell<bool>,
 }
 
 impl Passes {
@@ -17,11 +18,16 @@ impl Passes {
         Passes {
             left: Cell::new(count),
             has_failed: Cell::new(false),
+            goes_on: Cell::new(false),
         }
     }
 
-    /// Counts a call, and says whether it passes.
+    /// Counts a call, and says whether it passes. Those after the one that fails do.
     pub fn passes(&self) -> bool {
+        if self.has_failed.get() {
+            self.goes_on.set(true);
+            return true;
+        }
         match self.left.get().checked_sub(1) {
             Some(left) => self.left.set(left),
             None => self.has_failed.set(true),
@@ -31,6 +37,11 @@ impl Passes {
 
     pub fn has_failed(&self) -> bool {
         self.has_failed.get()
+    }
+
+    /// A call was made after the one that failed.
+    pub fn goes_on(&self) -> bool {
+        self.goes_on.get()
     }
 }
 

@@ -92,11 +92,15 @@ pub fn run(
     let MemoryFiles { saved, .. } = files;
     let has_no_file = opens.has_failed() || reads.has_failed() || saves.has_failed();
     let has_no_output = writes.has_failed();
+    let goes_on = opens.goes_on() || reads.goes_on() || saves.goes_on() || writes.goes_on();
     let printed = Printed {
         status,
         bytes,
         saved,
     };
+    if goes_on {
+        return Ok((Verdict::Other(printed), false));
+    }
     let is_last = !has_no_file && !has_no_output;
     Ok((judge(row, printed, has_no_file, has_no_output), is_last))
 }
