@@ -5,7 +5,7 @@ ghost use Rattle.edd_syntax.specs.Names.{is_name};
 ghost use Rattle.edd_syntax.specs.Words.{is_code};
 
 /// A text in one language. The code is two lower-case letters, two such pairs with a space between, or three digits.
-#[derive(Drop)]
+#[derive(PartialEq, Eq, Hash, Drop)]
 pub struct Variant {
     pub code: String,
     pub text: String,
@@ -13,14 +13,14 @@ pub struct Variant {
 }
 
 /// The name of a text of the dictionary.
-#[derive(Drop)]
+#[derive(PartialEq, Eq, Hash, Drop)]
 pub struct Key {
     pub name: String,
     pub ghost named: { IsTrue (is_name (string_bytes name)) },
 }
 
 /// A string of a description: one or more variants in the order of the source, or a key.
-#[derive(Drop)]
+#[derive(PartialEq, Eq, Hash, Drop)]
 pub enum Words {
     Variants { first: Variant, rest: Vec<Variant> },
     Key(Key),
