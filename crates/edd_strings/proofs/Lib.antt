@@ -1,4 +1,3 @@
-pub mod Chaining
 pub mod Numbering
 pub mod Pieces
 pub mod Sameness

@@ -1,14 +1,56 @@
--- Two lists of the same length are the same under f where they are so at each place.
-use Rattle.std.proofs.Common.{◌≡◌, ℕ, suc, ◌<◌, List, [], ◌∷◌, length, get_or, map, refl, sym, ap, ◌∙◌, arith}
-use Rattle.std.proofs.Math.ListN.{get_or-map}
+-- Strings that are the same by `==` stand for the same string, and only these.
+use Rattle.std.proofs.Common.{rules, ◌≡◌, Bool, true, List, [], ◌∷◌, map, refl, string_bytes}
+use Rattle.std.specs.Cmp.Lexicographic.{pointwise}
+use Rattle.edd_syntax.specs.WordsView.{string_of, variant_of}
+use Rattle.edd_syntax.specs.declared.words.Key.{Key}
+use Rattle.edd_syntax.specs.declared.words.Variant.{Variant}
+use Rattle.edd_syntax.specs.declared.words.Words.{Words}
+use Rattle.edd_syntax.specs.declared.words.Words.TheVariants as words
+use Rattle.edd_syntax.specs.contracts.words.KeyPartialEq.TheImpl as key_eq
+use Rattle.edd_syntax.specs.contracts.words.VariantPartialEq.TheImpl as variant_eq
+use Rattle.edd_syntax.specs.contracts.words.WordsPartialEq.TheImpl as words_eq
 
-pub map-pointwise : {X Y : Type 0} (f : X → Y) (xs ys : List X) → length xs ≡ length ys → ((k : ℕ) (d : X) → k < length xs → f (get_or xs k d) ≡ f (get_or ys k d)) → map f xs ≡ map f ys
-map-pointwise f [] [] e same = refl
-map-pointwise f [] (y ∷ ys) e same = absurd (omega arith)
-map-pointwise f (x ∷ xs) [] e same = absurd (omega arith)
-map-pointwise {X} {Y} f (x ∷ xs) (y ∷ ys) e same =
-    ap (λ (z : Y). z ∷ map f xs) (same 0 x (omega arith)) ∙ ap (λ (zs : List Y). f y ∷ zs) (map-pointwise f xs ys (omega arith) (λ k d below. same (suc k) d (omega arith)))
+abbrev pub same_words : Words → Words → Bool
+same_words = (words_eq.ghosts).eq
 
-pub same_at_place : {X Y : Type 0} (f : X → Y) (xs ys : List X) (n : ℕ) (x y : X) → x ≡ get_or xs n x → y ≡ get_or ys n x → map f xs ≡ map f ys → f x ≡ f y
-same_at_place {X} {Y} f xs ys n x y at_x at_y e =
-    ap f at_x ∙ sym (get_or-map f xs n x) ∙ ap (λ (zs : List Y). get_or zs n (f x)) e ∙ get_or-map f ys n x ∙ ap f (sym at_y)
+abbrev same_variant : Variant → Variant → Bool
+same_variant = (variant_eq.ghosts).eq
+
+abbrev same_key : Key → Key → Bool
+same_key = (key_eq.ghosts).eq
+
+same_variant_is : (a b : Variant) → same_variant a b ≡ true → variant_of a ≡ variant_of b
+same_variant_is a b e = search rules
+
+same_key_is : (a b : Key) → same_key a b ≡ true → string_bytes a.name ≡ string_bytes b.name
+same_key_is a b e = search rules
+
+same_variants_are : (xs ys : List Variant) → pointwise same_variant xs ys ≡ true → map variant_of xs ≡ map variant_of ys
+same_variants_are [] [] e = refl
+same_variants_are [] (y ∷ ys) e = absurd cc
+same_variants_are (x ∷ xs) [] e = absurd cc
+same_variants_are (x ∷ xs) (y ∷ ys) e = search (rules, same_variant_is, same_variants_are xs ys)
+
+pub same_words_are : (a b : Words) → same_words a b ≡ true → string_of a ≡ string_of b
+same_words_are (words.Variants first rest) (words.Variants other others) e = search (rules, same_variant_is, same_variants_are)
+same_words_are (words.Variants first rest) (words.Key other) e = absurd cc
+same_words_are (words.Key key) (words.Variants other others) e = absurd cc
+same_words_are (words.Key key) (words.Key other) e = search (rules, same_key_is)
+
+same_variant_when : (a b : Variant) → variant_of a ≡ variant_of b → same_variant a b ≡ true
+same_variant_when a b e = search rules
+
+same_key_when : (a b : Key) → string_bytes a.name ≡ string_bytes b.name → same_key a b ≡ true
+same_key_when a b e = search rules
+
+same_variants_when : (xs ys : List Variant) → map variant_of xs ≡ map variant_of ys → pointwise same_variant xs ys ≡ true
+same_variants_when [] [] e = refl
+same_variants_when [] (y ∷ ys) e = absurd cc
+same_variants_when (x ∷ xs) [] e = absurd cc
+same_variants_when (x ∷ xs) (y ∷ ys) e = search (rules, same_variant_when, same_variants_when xs ys)
+
+pub same_words_when : (a b : Words) → string_of a ≡ string_of b → same_words a b ≡ true
+same_words_when (words.Variants first rest) (words.Variants other others) e = search (rules, same_variant_when, same_variants_when)
+same_words_when (words.Variants first rest) (words.Key other) e = absurd cc
+same_words_when (words.Key key) (words.Variants other others) e = absurd cc
+same_words_when (words.Key key) (words.Key other) e = search (rules, same_key_when)

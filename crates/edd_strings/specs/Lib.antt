@@ -1,4 +1,2 @@
-pub mod Chains
-pub mod Hashing
 pub mod Parts
 pub mod Strings

@@ -4,11 +4,8 @@
 
 mod choice;
 mod codes;
-mod equality;
 mod escapes;
 mod fault;
-mod hashing;
-mod index;
 mod parts;
 mod source;
 mod table;

@@ -1,15 +1,15 @@
 //! The table of a description's strings: each different string once, by its number.
 
-ghost use Rattle.std.specs.Prelude.{◌≡◌, ◌≢◌, ◌↔◌, ◌≤◌, [], IfErr, IfOk, IsErrOf, IsTrue, OnErr, length, map, take};
+ghost use Rattle.std.specs.Prelude.{◌≡◌, ◌≢◌, ◌↔◌, ◌<◌, ◌≤◌, ◌⊎◌, [], IfErr, IfOk, IsErrOf, IsTrue, OnErr, length, map, take};
 ghost use Rattle.std.specs.List.{All, AllPairs, Contains};
 ghost use Rattle.edd_syntax.specs.Words.{are_words};
 ghost use Rattle.edd_syntax.specs.WordsView.{string_of};
 ghost use Rattle.edd_strings.specs.Strings.{Adds};
 
 use crate::fault::StringFault;
-use crate::index::Index;
 use edd_syntax::numbers::StrNo;
 use edd_syntax::words::Words;
+use indexmap::IndexSet;
 use std::alloc::Global;
 use std::marker::Model;
 
@@ -19,8 +19,7 @@ const MAX_STRINGS: usize = 65535;
 /// Different strings, by their numbers.
 #[derive(Drop)]
 pub struct Table {
-    strings: Vec<Words>,
-    index: Index,
+    strings: IndexSet<Words>,
 }
 
 impl Model for Table {
@@ -30,12 +29,11 @@ impl Model for Table {
 
     ghost Value = { List Words };
 
-    ghost use Rattle.edd_strings.specs.Chains.{IsIndexOf};
     ghost use Rattle.edd_strings.specs.Strings.{AreStrings};
 
-    ghost view = { λ t. map string_of t.strings.items };
+    ghost view = { λ t. map string_of t.strings.keys };
 
-    ghost invariant = { λ t. AreStrings (map string_of t.strings.items) × IsIndexOf (map string_of t.strings.items) t.index };
+    ghost invariant = { λ t. AreStrings (map string_of t.strings.keys) };
 }
 
 impl Table {
@@ -44,8 +42,7 @@ impl Table {
         ensures { result ≡ [] }
     {
         Table {
-            strings: Vec::new(alloc),
-            index: Index::new(alloc),
+            strings: IndexSet::new(alloc),
         }
     }
 
@@ -57,17 +54,19 @@ impl Table {
         ensures too_many { IsErrOf result StringFault.TooMany ↔ (¬ (Contains self.old (string_of words)) × (length self.old ≡ 65535)) }
         ensures no_escapes { result ≢ Err StringFault.BadEscape }
     {
-        if let Some(number) = self.index.find(&self.strings, &words) {
-            return Ok(StrNo(number));
-        }
-        let number = self.strings.len();
-        if number >= MAX_STRINGS {
+        if !self.has_room(&words) {
             return Err(StringFault::TooMany);
         }
-        self.strings.reserve(1)?;
-        self.index.push(&self.strings, &words)?;
-        self.strings.push(words).unwrap();
+        let (number, _) = self.strings.insert_full(words)?;
         Ok(StrNo(number as u16))
+    }
+
+    // Whether a string is held, or there is room for it.
+    #[tactic(auto, using(crate::proofs::Numbering::held, crate::proofs::Numbering::found))]
+    fn has_room(&self, words: &Words) -> bool
+        ensures { IsTrue result ↔ (length self.now < 65535) ⊎ Contains self.now (string_of words.now) }
+    {
+        self.strings.len() < MAX_STRINGS || self.strings.contains(words)
     }
 
     /// The strings by their numbers.
@@ -84,10 +83,6 @@ impl Table {
     pub fn cut(&mut self, count: u16)
         ensures { self.new ≡ take count self.old }
     {
-        while self.strings.len() > usize::from(count) {
-            let last = self.strings.len() - 1;
-            self.index.pop(&self.strings[last]);
-            self.strings.truncate(last);
-        }
+        self.strings.truncate(usize::from(count));
     }
 }

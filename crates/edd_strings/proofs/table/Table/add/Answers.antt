@@ -1,32 +1,20 @@
--- A string that is held is found, and a new one is put behind the others.
-use Rattle.std.proofs.Common.{◌≡◌, ◌<◌, ◌++◌, ◌∷◌, [], List, Some, ap, subst, sym, ◌∙◌, length, map, arith}
-use Rattle.std.proofs.lemmas.List.{length-map, map-append}
-use Rattle.std.specs.List.{Contains, slice_get}
+-- A set of strings takes one more as a table does.
+use Rattle.std.proofs.Common.{List, subst, map}
 use Rattle.edd_syntax.specs.Words.{Words}
 use Rattle.edd_syntax.specs.WordsView.{string_of}
-use Rattle.edd_strings.specs.Chains.{IsIndexOf}
-use Rattle.edd_strings.specs.Strings.{AreStrings}
-use Rattle.edd_strings.proofs.Numbering.{AreStrings-push, Contains-from_slice_get}
+use Rattle.edd_strings.specs.Strings.{Adds, AreStrings}
+use Rattle.edd_strings.proofs.Numbering.{Adds-inserted, AreStrings-added}
 use Rattle.edd_strings.proofs.table.Table.add.Goals as goal
 
-pub returns-in-Some-clause-too_many : goal.returns-in-Some-clause-too_many
-returns-in-Some-clause-too_many c =
-    let words = string_of c.args.words in
-    let value : c.args.self.now ≡ map string_of c.deref.result.now = sym (ap (map string_of) c.deref.ensures.value ∙ c.self.view_is) in
-    let held : slice_get c.args.self.now c.in-Some.number ≡ Some words = ap (λ (xs : List Words). slice_get xs c.in-Some.number) value ∙ c.in-Some.ensures in
-    (λ e. absurd (cc), λ h. absurd (h.0 (Contains-from_slice_get c.args.self.now c.in-Some.number words held)))
+adds : (c : goal.In_ok-number) → Adds c.args.self.now (string_of c.args.words) c.in_ok-number.number (map string_of c.insert_full.new.self.keys)
+adds c =
+    let (k, at, same) = c.in_ok-number.ensures.stored in
+    subst (λ (old : List Words). Adds old (string_of c.args.words) c.in_ok-number.number (map string_of c.insert_full.new.self.keys)) c.self.view_is
+    (Adds-inserted c.self.inside.strings.keys c.args.words c.in_ok-number.number c.insert_full.new.self.keys c.in_ok-number.ensures.keys c.in_ok-number.ensures.index k at same)
 
 pub invariant_of-self-2 : goal.invariant_of-self-2
-invariant_of-self-2 c =
-    let old = c.self.inside.strings.items in
-    let strings = map string_of old in
-    let words = string_of c.args.words in
-    let items = rw c.unwrap.ensures at c.push-2.ensures.items in
-    let pushed : c.push-2.new.self.items ≡ old ++ c.args.words ∷ [] = items ∙ ap (λ xs. xs ++ c.args.words ∷ []) c.in_ok-reserve.ensures.items in
-    let view : strings ++ words ∷ [] ≡ map string_of c.push-2.new.self.items = sym (ap (map string_of) pushed ∙ map-append string_of old (c.args.words ∷ [])) in
-    let indexed : map string_of c.deref-2.result.now ++ words ∷ [] ≡ map string_of c.push-2.new.self.items = ap (λ xs. map string_of xs ++ words ∷ []) (c.deref-2.ensures.value ∙ c.in_ok-reserve.ensures.items) ∙ view in
-    let room : length strings < 65535 = omega (arith, length-map old string_of, c.self.inside.strings.ok.0, c.len-number.ensures) in
-    let fresh : ¬ (Contains strings words) = subst (λ (xs : List Words). ¬ (Contains xs words)) (ap (map string_of) c.deref.ensures.value) c.in_default.ensures in (
-      subst (λ (xs : List Words). AreStrings xs) view (AreStrings-push strings words room fresh c.self.invariant.0),
-      subst (λ (xs : List Words). IsIndexOf xs c.push.new.self) indexed c.in_ok-push.ensures.ok,
-    )
+invariant_of-self-2 c = AreStrings-added c.args.self.now (string_of c.args.words) c.in_ok-number.number (map string_of c.insert_full.new.self.keys)
+    (subst AreStrings c.self.view_is c.self.invariant) (c.has_room.ensures.0 c.if-not-has_room.false) (adds c)
+
+pub returns-clause-ok : goal.returns-clause-ok
+returns-clause-ok c = adds c
