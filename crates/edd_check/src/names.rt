@@ -278,7 +278,7 @@ pub fn of_name(
             let text = String::from_str(alloc, "`edd explain 40` has the limits")?;
             found.help(text)?;
         }
-        NameFault::NoMemory => return Err(ShowFault::Memory),
+        NameFault::Memory => return Err(ShowFault::Memory),
     }
     Ok(found)
 }

@@ -32,7 +32,7 @@ module _ (text : List ℕ) (unit : Description Path) (spelled : IsUnitOf text un
   name_refused (name.MissingAttribute item word) is = (unit, spelled, broken_name_rule _ is)
   name_refused (name.UnknownName n) is = (unit, spelled, broken_name_rule _ is)
   name_refused (name.WrongKind n) is = (unit, spelled, broken_name_rule _ is)
-  name_refused name.NoMemory is = tt
+  name_refused name.Memory is = tt
 
   module _ (d : Description Target) (meanings : resolved_unit unit ≡ Some d) (no_breach : name_breaches unit ≡ []) where
     -- where no rule on names is broken, the rules of the profile decide

@@ -47,7 +47,7 @@ of_name (name.DuplicateAttribute word) = fault.Name (name.DuplicateAttribute wor
 of_name (name.MissingAttribute item word) = fault.Name (name.MissingAttribute item word)
 of_name (name.UnknownName n) = fault.Name (name.UnknownName n)
 of_name (name.WrongKind n) = fault.Name (name.WrongKind n)
-of_name name.NoMemory = fault.Memory
+of_name name.Memory = fault.Memory
 
 abbrev pub of_type : TypeFault → Fault
 of_type (type.FloatVariable variable) = fault.Type (type.FloatVariable variable)

@@ -56,7 +56,7 @@ impl From<NameFault> for Fault {
 
     fn from(fault: NameFault) -> Fault {
         match fault {
-            NameFault::NoMemory => Fault::Memory,
+            NameFault::Memory => Fault::Memory,
             other => Fault::Name(other),
         }
     }

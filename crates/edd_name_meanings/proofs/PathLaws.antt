@@ -3,7 +3,7 @@ use Rattle.std.proofs.Common.{◌≡◌, sym, ap, ◌∙◌, ℕ, ◌+◌, ◌<�
 use Rattle.std.specs.Prelude.{true, not, is_some, MatchOption, option_and_then, if◌then◌else◌}
 use Rattle.std.proofs.lemmas.Bool.{false≢true}
 use Rattle.std.proofs.lemmas.List.{at_drop_more}
-use Rattle.edd_name_meanings.specs.declared.places.Place.{Place}
+use Rattle.edd_name_meanings.specs.declared.path_steps.PathStep.{PathStep}
 use Rattle.edd_name_meanings.specs.Meanings.{AllMembersNamed, Means, item_among}
 use Rattle.edd_name_meanings.specs.Paths.{Reaches}
 use Rattle.edd_syntax.specs.declared.numbers.Kind.{Kind}
@@ -17,7 +17,7 @@ use Rattle.edd_syntax.specs.NameRules.{faults_along, is_kind_among}
 use Rattle.edd_syntax.specs.Refusal.{Refusal, WrongKind, refused_if, first_of}
 use Rattle.edd_syntax.specs.Resolution.{along}
 
-module _ (unit : Description Path) (allowed : List Kind) (all : List Refusal) (meant : Option ItemNo) (p : Place) where
+module _ (unit : Description Path) (allowed : List Kind) (all : List Refusal) (meant : Option ItemNo) (p : PathStep) where
   -- behind the last member nothing is found where the kind is allowed
   no_fault : (i : Option ItemNo) → is_kind_among allowed p.kind ≡ true → faults_along unit allowed p.name.now p.kind i [] ≡ all → None ≡ first_of all
   no_fault (Some i) is faults = ap (λ b. first_of (refused_if (not b) (WrongKind p.name.now))) (sym is) ∙ ap first_of faults
@@ -39,7 +39,7 @@ unfolding Means
 never_known unit meant x none = λ known. absurd (none known)
 
 -- the next member of a path
-pub at_member : {X : Type 0} (name : X → Name) (unit : Description Path) (allowed : List Kind) (all : List Refusal) (meant : Option ItemNo) (p : Place) (xs ys : List X) (i : ℕ) (x : X) (n : Name) → ys ≡ xs → i < length xs → x ≡ get_or ys i x → n ≡ name x → Reaches unit allowed all meant p (map name (drop i xs)) → Reaches unit allowed all meant p (n ∷ map name (drop (i + 1) xs))
+pub at_member : {X : Type 0} (name : X → Name) (unit : Description Path) (allowed : List Kind) (all : List Refusal) (meant : Option ItemNo) (p : PathStep) (xs ys : List X) (i : ℕ) (x : X) (n : Name) → ys ≡ xs → i < length xs → x ≡ get_or ys i x → n ≡ name x → Reaches unit allowed all meant p (map name (drop i xs)) → Reaches unit allowed all meant p (n ∷ map name (drop (i + 1) xs))
 at_member name unit allowed all meant p xs ys i x n same h is named r =
     subst (Reaches unit allowed all meant p)
     (at_drop_more (map name) xs i x h ∙ ap (λ y. name y ∷ map name (drop (i + 1) xs)) (sym (is ∙ ap (λ zs. get_or zs i x) same)) ∙ ap (λ m. m ∷ map name (drop (i + 1) xs)) (sym named))

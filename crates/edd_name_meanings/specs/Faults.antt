@@ -15,7 +15,7 @@ refusal_of (fault.DuplicateAttribute word) = Some (DuplicateAttribute word.now)
 refusal_of (fault.MissingAttribute item word) = Some (MissingAttribute (string_bytes item) word.now)
 refusal_of (fault.UnknownName name) = Some (UnknownName (string_bytes name))
 refusal_of (fault.WrongKind name) = Some (WrongKind (string_bytes name))
-refusal_of fault.NoMemory = None
+refusal_of fault.Memory = None
 
 -- a rule that the items break, among all faults
 abbrev pub of_rule : RuleFault → NameFault
@@ -23,7 +23,7 @@ of_rule (rule.TooMany limit) = fault.TooMany limit
 of_rule (rule.DuplicateName name) = fault.DuplicateName name
 of_rule (rule.DuplicateAttribute word) = fault.DuplicateAttribute word
 of_rule (rule.MissingAttribute item word) = fault.MissingAttribute item word
-of_rule rule.NoMemory = fault.NoMemory
+of_rule rule.Memory = fault.Memory
 
 -- the fault is what was found, unless memory was refused
 unfoldable pub IsFound : NameFault → Option Refusal → Type 0

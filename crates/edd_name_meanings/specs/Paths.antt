@@ -1,6 +1,6 @@
 -- How far along a path.
 use Rattle.std.specs.Prelude.{◌≡◌, true, List, Option, Some, is_some, option_and_then}
-use Rattle.edd_name_meanings.specs.declared.places.Place.{Place}
+use Rattle.edd_name_meanings.specs.declared.path_steps.PathStep.{PathStep}
 use Rattle.edd_name_meanings.specs.Meanings.{AllMembersNamed}
 use Rattle.edd_syntax.specs.declared.numbers.Kind.{Kind}
 use Rattle.edd_syntax.specs.declared.numbers.ItemNo.{ItemNo}
@@ -12,8 +12,8 @@ use Rattle.edd_syntax.specs.Numbers.{kind_of}
 use Rattle.edd_syntax.specs.Refusal.{Refusal}
 use Rattle.edd_syntax.specs.Resolution.{along}
 
--- at a place with these members before it, the path has these faults and means this item
-pub record Reaches (unit : Description Path) (allowed : List Kind) (all : List Refusal) (meant : Option ItemNo) (p : Place) (members : List Name) : Type 0 where
+-- at a step with these members after it, the path has these faults and means this item
+pub record Reaches (unit : Description Path) (allowed : List Kind) (all : List Refusal) (meant : Option ItemNo) (p : PathStep) (members : List Name) : Type 0 where
   pub faults : faults_along unit allowed p.name.now p.kind p.item members ≡ all
   pub item : option_and_then (λ j. along unit j members) p.item ≡ meant
   pub kind : (j : ItemNo) → p.item ≡ Some j → kind_of j ≡ p.kind

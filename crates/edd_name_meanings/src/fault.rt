@@ -33,7 +33,7 @@ pub enum NameFault {
     #[error("22 WRONG_KIND {0}")]
     WrongKind(String),
     #[error("no memory")]
-    NoMemory,
+    Memory,
 }
 
 // What there are too many of, as it is printed.
@@ -50,22 +50,22 @@ fn word_of(limit: &Limit) -> &'static str
 }
 
 impl From<AllocError> for NameFault {
-    ghost use Rattle.edd_name_meanings.specs.declared.fault.NameFault.TheVariants.{NoMemory};
+    ghost use Rattle.edd_name_meanings.specs.declared.fault.NameFault.TheVariants.{Memory};
 
-    ghost from_gives = { λ _ fault. fault ≡ NoMemory };
+    ghost from_gives = { λ _ fault. fault ≡ Memory };
 
     fn from(_error: AllocError) -> NameFault {
-        NameFault::NoMemory
+        NameFault::Memory
     }
 }
 
 impl<T: Drop> From<AllocFailed<T>> for NameFault {
-    ghost use Rattle.edd_name_meanings.specs.declared.fault.NameFault.TheVariants.{NoMemory};
+    ghost use Rattle.edd_name_meanings.specs.declared.fault.NameFault.TheVariants.{Memory};
 
-    ghost from_gives = { λ _ fault. fault ≡ NoMemory };
+    ghost from_gives = { λ _ fault. fault ≡ Memory };
 
     fn from(_error: AllocFailed<T>) -> NameFault {
-        NameFault::NoMemory
+        NameFault::Memory
     }
 }
 
@@ -83,7 +83,7 @@ impl From<RuleFault> for NameFault {
                 item,
                 word,
             },
-            RuleFault::NoMemory => NameFault::NoMemory,
+            RuleFault::Memory => NameFault::Memory,
         }
     }
 }

@@ -15,46 +15,46 @@ ghost use Rattle.edd_name_meanings.specs.Paths.{Reaches};
 
 use crate::directory::Names;
 use crate::fault::NameFault;
-use crate::places::{Place, is_among, place_of_member, wrong_kind};
+use crate::path_steps::{PathStep, is_among, step_to_member, wrong_kind};
 use edd_syntax::numbers::{ItemNo, Kind, VarNo};
 use edd_syntax::reference::{Path, Target};
 
-// The place of the next member, or none where the item is not known.
+// The step to the next member, or none where the item is not known.
 #[tactic(auto, unfolding(crate::specs::Meanings::AllMembersNamed))]
 fn step<'b>(
     names: &Names,
-    place: Place<'b>,
+    here: PathStep<'b>,
     member: &'b str,
-) -> Result<Option<Place<'b>>, NameFault>
-    requires { (j : ItemNo) → place.item ≡ Some j → kind_of j ≡ place.kind }
-    ensures ok { IfOk result (λ next. (allowed : List Kind) (all : List Refusal) (meant : Option ItemNo) (rest : List Name)
-        → Reaches (unit_of names.now) allowed all meant place.entry (member.now ∷ rest)
+) -> Result<Option<PathStep<'b>>, NameFault>
+    requires { (j : ItemNo) → here.item ≡ Some j → kind_of j ≡ here.kind }
+    ensures sound { IfOk result (λ next. (allowed : List Kind) (all : List Refusal) (meant : Option ItemNo) (rest : List Name)
+        → Reaches (unit_of names.now) allowed all meant here.entry (member.now ∷ rest)
         → MatchOption next ((None ≡ first_of all) × (AllMembersNamed (unit_of names.now) → ⊥)) (λ p. Reaches (unit_of names.now) allowed all meant p rest)) }
-    ensures err { IfErr result (λ f. (allowed : List Kind) (all : List Refusal) (meant : Option ItemNo) (rest : List Name)
-        → Reaches (unit_of names.now) allowed all meant place.entry (member.now ∷ rest) → IsFirst f all) }
+    ensures refused { IfErr result (λ f. (allowed : List Kind) (all : List Refusal) (meant : Option ItemNo) (rest : List Name)
+        → Reaches (unit_of names.now) allowed all meant here.entry (member.now ∷ rest) → IsFirst f all) }
 {
-    if place.kind != Kind::Collection {
-        return Err(wrong_kind(names.alloc, place.name));
+    if here.kind != Kind::Collection {
+        return Err(wrong_kind(names.alloc, here.name));
     }
-    match place.item {
+    match here.item {
         None => Ok(None),
-        Some(item) => Ok(Some(place_of_member(names, item, member)?)),
+        Some(item) => Ok(Some(step_to_member(names, item, member)?)),
     }
 }
 
-// What a reference means whose last member names nothing: its fault is the member's own, and is found at the member's place.
+// What a reference means whose last member names nothing: its fault is the member's own, and is found at that member.
 const UNKNOWN: Target = Target::Item(ItemNo::Variable(VarNo(0)));
 
 // The end of a path.
-fn arrive(names: &Names, allowed: &[Kind], place: Place) -> Result<Target, NameFault>
-    ensures ok { IfOk result (λ t. (all : List Refusal) (meant : Option ItemNo) → Reaches (unit_of names.now) allowed.now all meant place.entry []
+fn arrive(names: &Names, allowed: &[Kind], here: PathStep) -> Result<Target, NameFault>
+    ensures sound { IfOk result (λ t. (all : List Refusal) (meant : Option ItemNo) → Reaches (unit_of names.now) allowed.now all meant here.entry []
         → (None ≡ first_of all) × Means (unit_of names.now) (item_among allowed.now meant) t) }
-    ensures err { IfErr result (λ f. (all : List Refusal) (meant : Option ItemNo) → Reaches (unit_of names.now) allowed.now all meant place.entry [] → IsFirst f all) }
+    ensures refused { IfErr result (λ f. (all : List Refusal) (meant : Option ItemNo) → Reaches (unit_of names.now) allowed.now all meant here.entry [] → IsFirst f all) }
 {
-    if !is_among(allowed, place.kind) {
-        return Err(wrong_kind(names.alloc, place.name));
+    if !is_among(allowed, here.kind) {
+        return Err(wrong_kind(names.alloc, here.name));
     }
-    match place.item {
+    match here.item {
         Some(item) => Ok(Target::Item(item)),
         None => Ok(UNKNOWN),
     }
@@ -67,20 +67,20 @@ pub fn follow(
     path: &Path,
     from: ItemNo,
 ) -> Result<Target, NameFault>
-    ensures ok { IfOk result (λ t. (None ≡ first_of (faults_along (unit_of names.now) allowed.now (string_bytes path.now.base) (kind_of from) (Some from) (map string_bytes path.now.members.items)))
+    ensures sound { IfOk result (λ t. (None ≡ first_of (faults_along (unit_of names.now) allowed.now (string_bytes path.now.base) (kind_of from) (Some from) (map string_bytes path.now.members.items)))
         × Means (unit_of names.now) (item_among allowed.now (along (unit_of names.now) from (map string_bytes path.now.members.items))) t) }
-    ensures err { IfErr result (λ f. IsFirst f (faults_along (unit_of names.now) allowed.now (string_bytes path.now.base) (kind_of from) (Some from) (map string_bytes path.now.members.items))) }
+    ensures refused { IfErr result (λ f. IsFirst f (faults_along (unit_of names.now) allowed.now (string_bytes path.now.base) (kind_of from) (Some from) (map string_bytes path.now.members.items))) }
 {
-    let mut place = Place {
+    let mut here = PathStep {
         name: &path.base,
         kind: from.kind(),
         item: Some(from),
     };
     for member in &path.members {
-        match step(names, place, member)? {
-            Some(next) => place = next,
+        match step(names, here, member)? {
+            Some(next) => here = next,
             None => return Ok(UNKNOWN),
         }
     }
-    arrive(names, allowed, place)
+    arrive(names, allowed, here)
 }

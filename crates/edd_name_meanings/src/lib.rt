@@ -7,5 +7,5 @@ mod follow;
 mod lookups;
 pub mod members;
 pub mod numbering;
-mod places;
+mod path_steps;
 pub mod references;

@@ -7,7 +7,7 @@ ghost use Rattle.edd_syntax.specs.ItemView.{named_items, member_of};
 ghost use Rattle.edd_syntax.specs.NameRules.{item_limit, kinds};
 ghost use Rattle.edd_syntax.specs.Resolution.{count_of, item_named, member_at};
 ghost use Rattle.edd_syntax.specs.TreeView.{path_of};
-ghost use Rattle.edd_name_meanings.specs.declared.fault.NameFault.TheVariants.{NoMemory};
+ghost use Rattle.edd_name_meanings.specs.declared.fault.NameFault.TheVariants.{Memory};
 ghost use Rattle.edd_name_meanings.specs.Directory.{unit_of};
 
 use crate::directory::Names;
@@ -29,7 +29,7 @@ impl<'a> Names<'a> {
         requires few { list_any (λ k. nat_lt item_limit (count_of k (named_items items.now))) kinds ≡ false }
         ensures identification { IfOk result (λ n. n.identification ≡ identification) }
         ensures items { IfOk result (λ n. n.items.now ≡ items.now) }
-        ensures err { IfErr result (λ f. f ≡ NoMemory) }
+        ensures refused { IfErr result (λ f. f ≡ Memory) }
     {
         let numbers = number_items(items, alloc)?;
         let collections = collections(items, alloc)?;

@@ -14,7 +14,7 @@ ghost use Rattle.edd_syntax.specs.Reference as reference;
 ghost use Rattle.edd_syntax.specs.Resolution.{members_in, member_in};
 ghost use Rattle.edd_syntax.specs.Text.{Name};
 ghost use Rattle.edd_syntax.specs.TreeView.{path_of};
-ghost use Rattle.edd_name_meanings.specs.declared.fault.NameFault.TheVariants.{NoMemory};
+ghost use Rattle.edd_name_meanings.specs.declared.fault.NameFault.TheVariants.{Memory};
 ghost use Rattle.edd_name_meanings.specs.Members.{member_named, found_in, AreCollections};
 
 use crate::fault::NameFault;
@@ -37,9 +37,9 @@ fn add_members<'a>(
     into: &mut IndexMap<&'a str, &'a Member<Path>>,
     members: &'a [Member<Path>],
 ) -> Result<(), NameFault>
-    ensures ok { OnOk result ((q : Name) → member_named q into.new
+    ensures sound { OnOk result ((q : Name) → member_named q into.new
         ≡ option_or (member_named q into.old) (find (λ m. bytes_eq m.name q) (map (member_of path_of) members.now))) }
-    ensures err { IfErr result (λ f. f ≡ NoMemory) }
+    ensures refused { IfErr result (λ f. f ≡ Memory) }
 {
     for member in members {
         put_first(into, &member.name, member)?;
@@ -51,9 +51,9 @@ fn add_attribute<'a>(
     into: &mut IndexMap<&'a str, &'a Member<Path>>,
     attribute: &'a Attribute<Path>,
 ) -> Result<(), NameFault>
-    ensures ok { OnOk result ((q : Name) → member_named q into.new
+    ensures sound { OnOk result ((q : Name) → member_named q into.new
         ≡ option_or (member_named q into.old) (find (λ m. bytes_eq m.name q) (members_in (attribute_of path_of attribute.now)))) }
-    ensures err { IfErr result (λ f. f ≡ NoMemory) }
+    ensures refused { IfErr result (λ f. f ≡ Memory) }
 {
     match attribute {
         Attribute::Members(list) => add_members(into, list),
@@ -65,9 +65,9 @@ fn add_attributes<'a>(
     into: &mut IndexMap<&'a str, &'a Member<Path>>,
     attributes: &'a [Attribute<Path>],
 ) -> Result<(), NameFault>
-    ensures ok { OnOk result ((q : Name) → member_named q into.new
+    ensures sound { OnOk result ((q : Name) → member_named q into.new
         ≡ option_or (member_named q into.old) (find (λ m. bytes_eq m.name q) (flat_map members_in (map (attribute_of path_of) attributes.now)))) }
-    ensures err { IfErr result (λ f. f ≡ NoMemory) }
+    ensures refused { IfErr result (λ f. f ≡ Memory) }
 {
     for attribute in attributes {
         add_attribute(into, attribute)?;
@@ -79,8 +79,8 @@ fn one_collection<'a>(
     def: &'a CollectionDef<Path>,
     alloc: Global,
 ) -> Result<Collection<'a>, NameFault>
-    ensures ok { IfOk result (λ c. (q : Name) → found_in c q ≡ member_in (item_of path_of (item_kind.Collection def.now)) q) }
-    ensures err { IfErr result (λ f. f ≡ NoMemory) }
+    ensures sound { IfOk result (λ c. (q : Name) → found_in c q ≡ member_in (item_of path_of (item_kind.Collection def.now)) q) }
+    ensures refused { IfErr result (λ f. f ≡ Memory) }
 {
     let mut members = IndexMap::new(alloc);
     add_attributes(&mut members, &def.attributes)?;
@@ -96,9 +96,9 @@ fn add_collection<'a>(
     item: &'a Item<Path>,
     alloc: Global,
 ) -> Result<(), NameFault>
-    ensures ok { OnOk result ((is : List (pure.Item reference.Path)) → AreCollections all.old.items is
+    ensures sound { OnOk result ((is : List (pure.Item reference.Path)) → AreCollections all.old.items is
         → AreCollections all.new.items (is ++ filter (λ i. same_kind (kind_of_item i.sort) kind.Collection) (item_of path_of item.now ∷ []))) }
-    ensures err { IfErr result (λ f. f ≡ NoMemory) }
+    ensures refused { IfErr result (λ f. f ≡ Memory) }
 {
     match item {
         Item::Collection(def) => {
@@ -116,8 +116,8 @@ fn add_collections<'a>(
     alloc: Global,
 ) -> Result<(), NameFault>
     requires { all.old.items ≡ [] }
-    ensures ok { OnOk result (AreCollections all.new.items (filter (λ i. same_kind (kind_of_item i.sort) kind.Collection) (map (item_of path_of) items.now))) }
-    ensures err { IfErr result (λ f. f ≡ NoMemory) }
+    ensures sound { OnOk result (AreCollections all.new.items (filter (λ i. same_kind (kind_of_item i.sort) kind.Collection) (map (item_of path_of) items.now))) }
+    ensures refused { IfErr result (λ f. f ≡ Memory) }
 {
     for item in items {
         add_collection(all, item, alloc)?;
@@ -130,8 +130,8 @@ pub fn collections<'a>(
     items: &'a [Item<Path>],
     alloc: Global,
 ) -> Result<Vec<Collection<'a>>, NameFault>
-    ensures ok { IfOk result (λ all. AreCollections all.items (filter (λ i. same_kind (kind_of_item i.sort) kind.Collection) (map (item_of path_of) items.now))) }
-    ensures err { IfErr result (λ f. f ≡ NoMemory) }
+    ensures sound { IfOk result (λ all. AreCollections all.items (filter (λ i. same_kind (kind_of_item i.sort) kind.Collection) (map (item_of path_of) items.now))) }
+    ensures refused { IfErr result (λ f. f ≡ Memory) }
 {
     let mut all = Vec::new(alloc);
     add_collections(&mut all, items, alloc)?;

@@ -11,7 +11,7 @@ ghost use Rattle.edd_syntax.specs.Numbers.{item_number, same_kind};
 ghost use Rattle.edd_syntax.specs.Resolution.{count_of, look_up, numbered_names};
 ghost use Rattle.edd_syntax.specs.Text.{Name};
 ghost use Rattle.edd_syntax.specs.TreeView.{path_of};
-ghost use Rattle.edd_name_meanings.specs.declared.fault.NameFault.TheVariants.{NoMemory};
+ghost use Rattle.edd_name_meanings.specs.declared.fault.NameFault.TheVariants.{Memory};
 ghost use Rattle.edd_name_meanings.specs.Numbering.{at, if_named, count_in};
 
 use crate::fault::NameFault;
@@ -78,8 +78,8 @@ pub fn put_first<'a, V: Copy>(
     name: &'a str,
     value: V,
 ) -> Result<(), NameFault>
-    ensures ok { OnOk result ((q : Name) → at q map.new ≡ option_or (at q map.old) (if_named name.now q value)) }
-    ensures err { IfErr result (λ f. f ≡ NoMemory) }
+    ensures sound { OnOk result ((q : Name) → at q map.new ≡ option_or (at q map.old) (if_named name.now q value)) }
+    ensures refused { IfErr result (λ f. f ≡ Memory) }
 {
     if map.get(name).is_some() {
         return Ok(());
@@ -95,12 +95,12 @@ fn number_item<'a>(
     counts: &mut Counts,
 ) -> Result<(), NameFault>
     requires { count_in counts.old (kind_of_item (item_of path_of item.now).sort) < 65535 }
-    ensures ok { OnOk result ((q : Name) → at q numbers.new
+    ensures sound { OnOk result ((q : Name) → at q numbers.new
         ≡ option_or (at q numbers.old) (if_named (item_of path_of item.now).name q
         (item_number (kind_of_item (item_of path_of item.now).sort) (count_in counts.old (kind_of_item (item_of path_of item.now).sort))))) }
     ensures counted { OnOk result ((k : Kind) → count_in counts.new k
         ≡ count_in counts.old k + (if same_kind (kind_of_item (item_of path_of item.now).sort) k then 1 else 0)) }
-    ensures err { IfErr result (λ f. f ≡ NoMemory) }
+    ensures refused { IfErr result (λ f. f ≡ Memory) }
 {
     let kind = item.kind();
     put_first(numbers, item.name(), kind.item(counts.of(kind)))?;
@@ -114,8 +114,8 @@ fn number_all<'a>(
 ) -> Result<(), NameFault>
     requires few { list_any (λ k. nat_lt item_limit (count_of k (map (item_of path_of) items.now))) kinds ≡ false }
     requires none { (q : Name) → at q numbers.old ≡ None }
-    ensures ok { OnOk result ((q : Name) → at q numbers.new ≡ look_up q (numbered_names [] (map (item_of path_of) items.now))) }
-    ensures err { IfErr result (λ f. f ≡ NoMemory) }
+    ensures sound { OnOk result ((q : Name) → at q numbers.new ≡ look_up q (numbered_names [] (map (item_of path_of) items.now))) }
+    ensures refused { IfErr result (λ f. f ≡ Memory) }
 {
     let mut counts = Counts::none();
     for item in items {
@@ -130,8 +130,8 @@ pub fn number_items<'a>(
     alloc: Global,
 ) -> Result<IndexMap<&'a str, ItemNo>, NameFault>
     requires few { list_any (λ k. nat_lt item_limit (count_of k (map (item_of path_of) items.now))) kinds ≡ false }
-    ensures ok { IfOk result (λ m. (q : Name) → at q m ≡ look_up q (numbered_names [] (map (item_of path_of) items.now))) }
-    ensures err { IfErr result (λ f. f ≡ NoMemory) }
+    ensures sound { IfOk result (λ m. (q : Name) → at q m ≡ look_up q (numbered_names [] (map (item_of path_of) items.now))) }
+    ensures refused { IfErr result (λ f. f ≡ Memory) }
 {
     let mut numbers = IndexMap::new(alloc);
     number_all(items, &mut numbers)?;

@@ -14,7 +14,7 @@ ghost use Rattle.edd_name_meanings.specs.Meanings.{Means, NoFault, FirstFault, s
 use crate::directory::Names;
 use crate::fault::NameFault;
 use crate::follow::follow;
-use crate::places::{unknown_name, wrong_kind};
+use crate::path_steps::{unknown_name, wrong_kind};
 use edd_syntax::numbers::Kind;
 use edd_syntax::operators::Builtin;
 use edd_syntax::reference::{Path, Target};
@@ -40,8 +40,8 @@ pub fn find_local(scope: &[Local], name: &str) -> Option<u8>
 
 // The local of a slot, which has no members.
 fn refer_local(names: &Names, slot: u8, path: &Path) -> Result<Target, NameFault>
-    ensures ok { IfOk result (λ t. (None ≡ first_of (faults_of_local (path_of path.now) (path_of path.now).members)) × (local_meant slot (path_of path.now).members ≡ Some t)) }
-    ensures err { IfErr result (λ f. IsFirst f (faults_of_local (path_of path.now) (path_of path.now).members)) }
+    ensures sound { IfOk result (λ t. (None ≡ first_of (faults_of_local (path_of path.now) (path_of path.now).members)) × (local_meant slot (path_of path.now).members ≡ Some t)) }
+    ensures refused { IfErr result (λ f. IsFirst f (faults_of_local (path_of path.now) (path_of path.now).members)) }
 {
     if path.members.is_empty() {
         Ok(Target::Local(slot))
@@ -51,9 +51,9 @@ fn refer_local(names: &Names, slot: u8, path: &Path) -> Result<Target, NameFault
 }
 
 fn refer_item(names: &Names, kinds: &[Kind], path: &Path) -> Result<Target, NameFault>
-    ensures ok { IfOk result (λ t. (None ≡ first_of (faults_of_item (unit_of names.now) kinds.now (path_of path.now)))
+    ensures sound { IfOk result (λ t. (None ≡ first_of (faults_of_item (unit_of names.now) kinds.now (path_of path.now)))
         × Means (unit_of names.now) (item_meant (unit_of names.now) kinds.now (path_of path.now)) t) }
-    ensures err { IfErr result (λ f. IsFirst f (faults_of_item (unit_of names.now) kinds.now (path_of path.now))) }
+    ensures refused { IfErr result (λ f. IsFirst f (faults_of_item (unit_of names.now) kinds.now (path_of path.now))) }
 {
     match names.item(&path.base) {
         Some(item) => follow(names, kinds, path, item),
@@ -69,9 +69,9 @@ pub fn refer(
     kinds: &[Kind],
     path: &Path,
 ) -> Result<Target, NameFault>
-    ensures none { IfOk result (λ t. NoFault (unit_of names.now) (OfItem (scope_of scope.now) kinds.now (path_of path.now) ∷ [])) }
-    ensures ok { IfOk result (λ t. Means (unit_of names.now) (meaning (unit_of names.now) (scope_of scope.now) kinds.now (path_of path.now)) t) }
-    ensures err { IfErr result (λ f. FirstFault f (unit_of names.now) (OfItem (scope_of scope.now) kinds.now (path_of path.now) ∷ [])) }
+    ensures accepted { IfOk result (λ t. NoFault (unit_of names.now) (OfItem (scope_of scope.now) kinds.now (path_of path.now) ∷ [])) }
+    ensures sound { IfOk result (λ t. Means (unit_of names.now) (meaning (unit_of names.now) (scope_of scope.now) kinds.now (path_of path.now)) t) }
+    ensures refused { IfErr result (λ f. FirstFault f (unit_of names.now) (OfItem (scope_of scope.now) kinds.now (path_of path.now) ∷ [])) }
 {
     match find_local(scope, &path.base) {
         Some(slot) => refer_local(names, slot, path),
@@ -113,9 +113,9 @@ pub fn builtin(name: &str) -> Option<Builtin>
 /// What the name of a call means.
 #[tactic(auto, unfolding(crate::specs::Meanings::Means, crate::specs::Meanings::NoFault, crate::specs::Meanings::FirstFault, crate::specs::Meanings::faults_in))]
 pub fn refer_function(names: &Names, path: &Path) -> Result<Target, NameFault>
-    ensures none { IfOk result (λ t. NoFault (unit_of names.now) (OfFunction (path_of path.now) ∷ [])) }
-    ensures ok { IfOk result (λ t. Means (unit_of names.now) (function_meant (path_of path.now)) t) }
-    ensures err { IfErr result (λ f. FirstFault f (unit_of names.now) (OfFunction (path_of path.now) ∷ [])) }
+    ensures accepted { IfOk result (λ t. NoFault (unit_of names.now) (OfFunction (path_of path.now) ∷ [])) }
+    ensures sound { IfOk result (λ t. Means (unit_of names.now) (function_meant (path_of path.now)) t) }
+    ensures refused { IfErr result (λ f. FirstFault f (unit_of names.now) (OfFunction (path_of path.now) ∷ [])) }
 {
     match builtin(&path.base) {
         Some(function) => Ok(Target::Function(function)),

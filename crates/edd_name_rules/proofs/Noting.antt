@@ -10,7 +10,7 @@ use Rattle.std.proofs.lemmas.Map.Text.{hash_map_updates_str}
 use Rattle.edd_syntax.specs.Text.{Name}
 use Rattle.edd_syntax.specs.Refusal.{Refusal, DuplicateName, is_name_in, repeated, first_of}
 use Rattle.edd_name_rules.specs.declared.fault.RuleFault.{RuleFault}
-use Rattle.edd_name_rules.specs.declared.fault.RuleFault.TheVariants.{NoMemory}
+use Rattle.edd_name_rules.specs.declared.fault.RuleFault.TheVariants.{Memory}
 use Rattle.std.proofs.lemmas.Grind.{common_steps}
 use Rattle.edd_name_rules.specs.Faults.{refusal_of, Agrees, IsFound, IsDuplicate}
 use Rattle.edd_name_rules.specs.Seen.{HasSeen}
@@ -57,7 +57,7 @@ pub told_right : (r : Option Refusal) (xs ys : List Refusal) → None ≡ first_
 told_right r xs ys none h = subst (Agrees r) (sym (first_of-append_none xs ys none)) h
 
 -- memory that was refused is no breach
-pub memory_refused : (o : Option Refusal) → IsFound NoMemory o
+pub memory_refused : (o : Option Refusal) → IsFound Memory o
 unfolding IsFound
 memory_refused o = tt
 

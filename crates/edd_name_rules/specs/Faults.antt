@@ -11,7 +11,7 @@ refusal_of (fault.TooMany limit) = Some (TooMany limit)
 refusal_of (fault.DuplicateName name) = Some (DuplicateName (string_bytes name))
 refusal_of (fault.DuplicateAttribute word) = Some (DuplicateAttribute word.now)
 refusal_of (fault.MissingAttribute item word) = Some (MissingAttribute (string_bytes item) word.now)
-refusal_of fault.NoMemory = None
+refusal_of fault.Memory = None
 
 abbrev pub Agrees : (told found : Option Refusal) → Type 0
 Agrees (Some why) found = found ≡ Some why

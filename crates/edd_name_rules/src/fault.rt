@@ -17,25 +17,25 @@ pub enum RuleFault {
     DuplicateName(String),
     DuplicateAttribute(&'static str),
     MissingAttribute { item: String, word: &'static str },
-    NoMemory,
+    Memory,
 }
 
 impl From<AllocError> for RuleFault {
-    ghost use Rattle.edd_name_rules.specs.declared.fault.RuleFault.TheVariants.{NoMemory};
+    ghost use Rattle.edd_name_rules.specs.declared.fault.RuleFault.TheVariants.{Memory};
 
-    ghost from_gives = { λ _ fault. fault ≡ NoMemory };
+    ghost from_gives = { λ _ fault. fault ≡ Memory };
 
     fn from(_error: AllocError) -> RuleFault {
-        RuleFault::NoMemory
+        RuleFault::Memory
     }
 }
 
 impl<T: Drop> From<AllocFailed<T>> for RuleFault {
-    ghost use Rattle.edd_name_rules.specs.declared.fault.RuleFault.TheVariants.{NoMemory};
+    ghost use Rattle.edd_name_rules.specs.declared.fault.RuleFault.TheVariants.{Memory};
 
-    ghost from_gives = { λ _ fault. fault ≡ NoMemory };
+    ghost from_gives = { λ _ fault. fault ≡ Memory };
 
     fn from(_error: AllocFailed<T>) -> RuleFault {
-        RuleFault::NoMemory
+        RuleFault::Memory
     }
 }

@@ -23,8 +23,8 @@ use std::alloc::Global;
 #[cycle(locals)]
 #[tactic(auto, using(crate::proofs::Noting::duplicates))]
 pub fn check_inside(s: &Stmt<Path>, alloc: Global) -> Result<(), RuleFault>
-    ensures ok { OnOk result (None ≡ first_of (repeated_inside (stmt_of path_of s.now))) }
-    ensures err { IfErr result (λ f. IsDuplicate f (repeated_inside (stmt_of path_of s.now))) }
+    ensures sound { OnOk result (None ≡ first_of (repeated_inside (stmt_of path_of s.now))) }
+    ensures refused { IfErr result (λ f. IsDuplicate f (repeated_inside (stmt_of path_of s.now))) }
 {
     match s {
         Stmt::Empty
@@ -48,8 +48,8 @@ pub fn check_inside(s: &Stmt<Path>, alloc: Global) -> Result<(), RuleFault>
 /// A block has no two locals of one name, nor has a block inside it.
 #[cycle(locals)]
 pub fn check_block(parts: &[Part<Path>], alloc: Global) -> Result<(), RuleFault>
-    ensures ok { OnOk result (None ≡ first_of (repeated_locals [] (body_from (map (part_of path_of) parts.now)))) }
-    ensures err { IfErr result (λ f. IsDuplicate f (repeated_locals [] (body_from (map (part_of path_of) parts.now)))) }
+    ensures sound { OnOk result (None ≡ first_of (repeated_locals [] (body_from (map (part_of path_of) parts.now)))) }
+    ensures refused { IfErr result (λ f. IsDuplicate f (repeated_locals [] (body_from (map (part_of path_of) parts.now)))) }
 {
     let mut block = IndexMap::new(alloc);
     check_parts(parts, &mut block, alloc)
@@ -61,9 +61,9 @@ fn check_parts<'a>(
     block: &mut Seen<'a>,
     alloc: Global,
 ) -> Result<(), RuleFault>
-    ensures ok { OnOk result ((b : List Name) → HasSeen b block.old
+    ensures sound { OnOk result ((b : List Name) → HasSeen b block.old
         → None ≡ first_of (repeated_locals b (body_from (map (part_of path_of) parts.now)))) }
-    ensures err { IfErr result (λ f. (b : List Name) → HasSeen b block.old
+    ensures refused { IfErr result (λ f. (b : List Name) → HasSeen b block.old
         → IsDuplicate f (repeated_locals b (body_from (map (part_of path_of) parts.now)))) }
 {
     for part in parts {
@@ -78,9 +78,9 @@ fn check_part<'a>(
     block: &mut Seen<'a>,
     alloc: Global,
 ) -> Result<(), RuleFault>
-    ensures ok { OnOk result ((b : List Name) → HasSeen b block.old
+    ensures sound { OnOk result ((b : List Name) → HasSeen b block.old
         → (None ≡ first_of (part_repeats b (part_of path_of part.now))) × HasSeen (names_of_part (part_of path_of part.now) ++ b) block.new) }
-    ensures err { IfErr result (λ f. (b : List Name) → HasSeen b block.old → IsDuplicate f (part_repeats b (part_of path_of part.now))) }
+    ensures refused { IfErr result (λ f. (b : List Name) → HasSeen b block.old → IsDuplicate f (part_repeats b (part_of path_of part.now))) }
 {
     match part {
         Part::Declare(declarators) => note_declarators(block, declarators, alloc),
@@ -95,10 +95,10 @@ fn check_attribute<'a>(
     members: &mut Seen<'a>,
     alloc: Global,
 ) -> Result<(), RuleFault>
-    ensures ok { OnOk result ((b : List Name) → HasSeen b members.old
+    ensures sound { OnOk result ((b : List Name) → HasSeen b members.old
         → (None ≡ first_of (attribute_repeats b (attribute_of path_of attribute.now)))
         × HasSeen (names_of_attribute (attribute_of path_of attribute.now) ++ b) members.new) }
-    ensures err { IfErr result (λ f. (b : List Name) → HasSeen b members.old
+    ensures refused { IfErr result (λ f. (b : List Name) → HasSeen b members.old
         → IsDuplicate f (attribute_repeats b (attribute_of path_of attribute.now))) }
 {
     match attribute {
@@ -113,9 +113,9 @@ fn check_attributes_in<'a>(
     members: &mut Seen<'a>,
     alloc: Global,
 ) -> Result<(), RuleFault>
-    ensures ok { OnOk result ((b : List Name) → HasSeen b members.old
+    ensures sound { OnOk result ((b : List Name) → HasSeen b members.old
         → None ≡ first_of (repeated_in_attributes b (map (attribute_of path_of) attributes.now))) }
-    ensures err { IfErr result (λ f. (b : List Name) → HasSeen b members.old
+    ensures refused { IfErr result (λ f. (b : List Name) → HasSeen b members.old
         → IsDuplicate f (repeated_in_attributes b (map (attribute_of path_of) attributes.now))) }
 {
     for attribute in attributes {
@@ -126,8 +126,8 @@ fn check_attributes_in<'a>(
 
 /// No two members and no two locals of a block among these attributes of one item have one name.
 pub fn check_attributes(attributes: &[Attribute<Path>], alloc: Global) -> Result<(), RuleFault>
-    ensures ok { OnOk result (None ≡ first_of (repeated_in_attributes [] (map (attribute_of path_of) attributes.now))) }
-    ensures err { IfErr result (λ f. IsDuplicate f (repeated_in_attributes [] (map (attribute_of path_of) attributes.now))) }
+    ensures sound { OnOk result (None ≡ first_of (repeated_in_attributes [] (map (attribute_of path_of) attributes.now))) }
+    ensures refused { IfErr result (λ f. IsDuplicate f (repeated_in_attributes [] (map (attribute_of path_of) attributes.now))) }
 {
     let mut members = IndexMap::new(alloc);
     check_attributes_in(attributes, &mut members, alloc)
@@ -135,9 +135,9 @@ pub fn check_attributes(attributes: &[Attribute<Path>], alloc: Global) -> Result
 
 #[tactic(auto, using(crate::proofs::Noting::duplicates))]
 fn check_item<'a>(item: &'a Item<Path>, seen: &mut Seen<'a>, alloc: Global) -> Result<(), RuleFault>
-    ensures ok { OnOk result ((b : List Name) → HasSeen b seen.old
+    ensures sound { OnOk result ((b : List Name) → HasSeen b seen.old
         → (None ≡ first_of (item_repeats b (item_of path_of item.now))) × HasSeen ((item_of path_of item.now).name ∷ b) seen.new) }
-    ensures err { IfErr result (λ f. (b : List Name) → HasSeen b seen.old → IsDuplicate f (item_repeats b (item_of path_of item.now))) }
+    ensures refused { IfErr result (λ f. (b : List Name) → HasSeen b seen.old → IsDuplicate f (item_repeats b (item_of path_of item.now))) }
 {
     note(seen, item.name(), alloc)?;
     check_attributes(item.attributes(), alloc)
@@ -148,9 +148,9 @@ fn check_items_in<'a>(
     seen: &mut Seen<'a>,
     alloc: Global,
 ) -> Result<(), RuleFault>
-    ensures ok { OnOk result ((b : List Name) → HasSeen b seen.old
+    ensures sound { OnOk result ((b : List Name) → HasSeen b seen.old
         → None ≡ first_of (repeated_in_items b (map (item_of path_of) items.now))) }
-    ensures err { IfErr result (λ f. (b : List Name) → HasSeen b seen.old
+    ensures refused { IfErr result (λ f. (b : List Name) → HasSeen b seen.old
         → IsDuplicate f (repeated_in_items b (map (item_of path_of) items.now))) }
 {
     for item in items {
@@ -161,8 +161,8 @@ fn check_items_in<'a>(
 
 /// No two items, members of a collection or locals of a block have one name.
 pub fn check_names(items: &[Item<Path>], alloc: Global) -> Result<(), RuleFault>
-    ensures ok { OnOk result (None ≡ first_of (repeated_in_items [] (map (item_of path_of) items.now))) }
-    ensures err { IfErr result (λ f. IsDuplicate f (repeated_in_items [] (map (item_of path_of) items.now))) }
+    ensures sound { OnOk result (None ≡ first_of (repeated_in_items [] (map (item_of path_of) items.now))) }
+    ensures refused { IfErr result (λ f. IsDuplicate f (repeated_in_items [] (map (item_of path_of) items.now))) }
 {
     let mut seen = IndexMap::new(alloc);
     check_items_in(items, &mut seen, alloc)

@@ -22,8 +22,8 @@ use std::alloc::Global;
 /// There are not too many items, transactions, locals or nodes.
 #[tactic(auto, using(crate::proofs::RuleLaws::rules_in_order), unfolding(crate::specs::Faults::IsFound))]
 pub fn check_counts(items: &[Item<Path>]) -> Result<(), RuleFault>
-    ensures ok { OnOk result (None ≡ first_of (too_many (described (named_items items.now)))) }
-    ensures err { IfErr result (λ f. IsFirst f (too_many (described (named_items items.now)))) }
+    ensures sound { OnOk result (None ≡ first_of (too_many (described (named_items items.now)))) }
+    ensures refused { IfErr result (λ f. IsFirst f (too_many (described (named_items items.now)))) }
 {
     if has_too_many_items(items) {
         return Err(RuleFault::TooMany(Limit::Items));
@@ -43,8 +43,8 @@ pub fn check_counts(items: &[Item<Path>]) -> Result<(), RuleFault>
 /// No name stands twice.
 #[tactic(auto, using(crate::proofs::RuleLaws::rules_in_order), unfolding(crate::specs::Faults::IsFound))]
 pub fn check_duplicates(items: &[Item<Path>], alloc: Global) -> Result<(), RuleFault>
-    ensures ok { OnOk result (None ≡ first_of (duplicate_names (described (named_items items.now)))) }
-    ensures err { IfErr result (λ f. IsFirst f (duplicate_names (described (named_items items.now)))) }
+    ensures sound { OnOk result (None ≡ first_of (duplicate_names (described (named_items items.now)))) }
+    ensures refused { IfErr result (λ f. IsFirst f (duplicate_names (described (named_items items.now)))) }
 {
     check_names(items, alloc)
 }
@@ -52,8 +52,8 @@ pub fn check_duplicates(items: &[Item<Path>], alloc: Global) -> Result<(), RuleF
 /// No attribute stands twice.
 #[tactic(auto, using(crate::proofs::RuleLaws::rules_in_order), unfolding(crate::specs::Faults::IsFound))]
 pub fn check_repeats(items: &[Item<Path>]) -> Result<(), RuleFault>
-    ensures ok { OnOk result (None ≡ first_of (duplicate_attributes (described (named_items items.now)))) }
-    ensures err { IfErr result (λ f. IsFirst f (duplicate_attributes (described (named_items items.now)))) }
+    ensures sound { OnOk result (None ≡ first_of (duplicate_attributes (described (named_items items.now)))) }
+    ensures refused { IfErr result (λ f. IsFirst f (duplicate_attributes (described (named_items items.now)))) }
 {
     match repeated_in_items(items) {
         Some(word) => Err(RuleFault::DuplicateAttribute(word)),
@@ -68,15 +68,15 @@ fn missing(alloc: Global, item: &str, word: &'static str) -> RuleFault
 {
     match String::from_str(alloc, item) {
         Ok(item) => RuleFault::MissingAttribute { item, word },
-        Err(_) => RuleFault::NoMemory,
+        Err(_) => RuleFault::Memory,
     }
 }
 
 /// No item lacks an attribute that its kind needs.
 #[tactic(auto, using(crate::proofs::RuleLaws::rules_in_order), unfolding(crate::specs::Faults::IsFound))]
 pub fn check_attributes(items: &[Item<Path>], alloc: Global) -> Result<(), RuleFault>
-    ensures ok { OnOk result (None ≡ first_of (missing_attributes (described (named_items items.now)))) }
-    ensures err { IfErr result (λ f. IsFirst f (missing_attributes (described (named_items items.now)))) }
+    ensures sound { OnOk result (None ≡ first_of (missing_attributes (described (named_items items.now)))) }
+    ensures refused { IfErr result (λ f. IsFirst f (missing_attributes (described (named_items items.now)))) }
 {
     match missing_attribute(items) {
         Some(found) => Err(missing(alloc, found.item, found.word)),
@@ -88,9 +88,9 @@ pub fn check_attributes(items: &[Item<Path>], alloc: Global) -> Result<(), RuleF
 #[tactic(auto, using(crate::proofs::RuleLaws::rules_in_order))]
 pub fn check_rules(items: &[Item<Path>], alloc: Global) -> Result<(), RuleFault>
     ensures counted { OnOk result (None ≡ first_of (too_many (described (named_items items.now)))) }
-    ensures ok { OnOk result (None ≡ first_of (too_many (described (named_items items.now)) ++ (duplicate_names (described (named_items items.now))
+    ensures sound { OnOk result (None ≡ first_of (too_many (described (named_items items.now)) ++ (duplicate_names (described (named_items items.now))
         ++ (duplicate_attributes (described (named_items items.now)) ++ missing_attributes (described (named_items items.now)))))) }
-    ensures err { IfErr result (λ f. IsFirst f (too_many (described (named_items items.now)) ++ (duplicate_names (described (named_items items.now))
+    ensures refused { IfErr result (λ f. IsFirst f (too_many (described (named_items items.now)) ++ (duplicate_names (described (named_items items.now))
         ++ (duplicate_attributes (described (named_items items.now)) ++ missing_attributes (described (named_items items.now)))))) }
 {
     check_counts(items)?;

@@ -26,16 +26,16 @@ pub fn duplicate(alloc: Global, name: &str) -> RuleFault
 {
     match String::from_str(alloc, name) {
         Ok(name) => RuleFault::DuplicateName(name),
-        Err(_) => RuleFault::NoMemory,
+        Err(_) => RuleFault::Memory,
     }
 }
 
 /// One more name of a scope, which must not stand there yet.
 #[tactic(auto, unfolding(crate::specs::Faults::IsFound))]
 pub fn note<'a>(seen: &mut Seen<'a>, name: &'a str, alloc: Global) -> Result<(), RuleFault>
-    ensures ok { OnOk result ((before : List Name) → HasSeen before seen.old
+    ensures sound { OnOk result ((before : List Name) → HasSeen before seen.old
         → (None ≡ first_of (repeated before (name.now ∷ []))) × HasSeen (name.now ∷ before) seen.new) }
-    ensures err { IfErr result (λ f. (before : List Name) → HasSeen before seen.old → IsDuplicate f (repeated before (name.now ∷ []))) }
+    ensures refused { IfErr result (λ f. (before : List Name) → HasSeen before seen.old → IsDuplicate f (repeated before (name.now ∷ []))) }
 {
     match seen.insert(name, ())? {
         None => Ok(()),
@@ -49,10 +49,10 @@ pub fn note_declarators<'a>(
     declarators: &'a [Declarator<Path>],
     alloc: Global,
 ) -> Result<(), RuleFault>
-    ensures ok { OnOk result ((before : List Name) → HasSeen before seen.old
+    ensures sound { OnOk result ((before : List Name) → HasSeen before seen.old
         → (None ≡ first_of (repeated before (names_declared (map (declarator_of path_of) declarators.now))))
         × HasSeen (names_declared (map (declarator_of path_of) declarators.now) ++ before) seen.new) }
-    ensures err { IfErr result (λ f. (before : List Name) → HasSeen before seen.old
+    ensures refused { IfErr result (λ f. (before : List Name) → HasSeen before seen.old
         → IsDuplicate f (repeated before (names_declared (map (declarator_of path_of) declarators.now)))) }
 {
     for declarator in declarators {
@@ -67,10 +67,10 @@ pub fn note_members<'a>(
     members: &'a [Member<Path>],
     alloc: Global,
 ) -> Result<(), RuleFault>
-    ensures ok { OnOk result ((before : List Name) → HasSeen before seen.old
+    ensures sound { OnOk result ((before : List Name) → HasSeen before seen.old
         → (None ≡ first_of (repeated before (map (λ m. m.name) (map (member_of path_of) members.now))))
         × HasSeen (map (λ m. m.name) (map (member_of path_of) members.now) ++ before) seen.new) }
-    ensures err { IfErr result (λ f. (before : List Name) → HasSeen before seen.old
+    ensures refused { IfErr result (λ f. (before : List Name) → HasSeen before seen.old
         → IsDuplicate f (repeated before (map (λ m. m.name) (map (member_of path_of) members.now)))) }
 {
     for member in members {

@@ -57,7 +57,7 @@ rule_first (rule.TooMany limit) all h = h
 rule_first (rule.DuplicateName name) all h = h
 rule_first (rule.DuplicateAttribute word) all h = h
 rule_first (rule.MissingAttribute item word) all h = h
-rule_first rule.NoMemory all h = h
+rule_first rule.Memory all h = h
 
 module _ (unit : Description Path) where
   abbrev pub rules_before : List Refusal

@@ -2,7 +2,7 @@
 use Rattle.std.proofs.Common.{◌≡◌, refl, sym, ap, ◌∙◌, List, [], ◌∷◌, ◌++◌, None, Option, append_assoc, subst}
 use Rattle.std.proofs.lemmas.Grind.{flat_map-append}
 use Rattle.edd_name_meanings.specs.declared.fault.NameFault.{NameFault}
-use Rattle.edd_name_meanings.specs.declared.fault.NameFault.TheVariants.{NoMemory}
+use Rattle.edd_name_meanings.specs.declared.fault.NameFault.TheVariants.{Memory}
 use Rattle.edd_name_meanings.specs.Faults.{refusal_of, IsFound, IsFirst}
 use Rattle.edd_name_meanings.specs.Meanings.{faults_in, NoFault, FirstFault}
 use Rattle.edd_syntax.proofs.FirstLaws.{first_of-append_none}
@@ -22,7 +22,7 @@ unfolding IsFound
 first_right_of f xs ys none h = told_right (refusal_of f) xs ys none h
 
 -- memory that was refused is no breach
-pub memory_refused : (o : Option Refusal) → IsFound NoMemory o
+pub memory_refused : (o : Option Refusal) → IsFound Memory o
 unfolding IsFound
 memory_refused o = tt
 
@@ -65,7 +65,7 @@ module _ (unit : Description Path) where
   pub fault_behind_two : (f : NameFault) (us vs ws : List Use) → NoFault unit (us ++ vs) → FirstFault f unit ws → FirstFault f unit (us ++ (vs ++ ws))
   fault_behind_two f us vs ws none h = subst (FirstFault f unit) (append_assoc us vs ws) (fault_right f (us ++ vs) ws none h)
 
-  pub memory_fault : (us : List Use) → FirstFault NoMemory unit us
+  pub memory_fault : (us : List Use) → FirstFault Memory unit us
   unfolding FirstFault
   memory_fault us = memory_refused (first_of (faults_in unit us))
 

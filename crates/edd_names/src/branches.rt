@@ -39,9 +39,9 @@ pub trait Named {
 
     /// The value with the meaning of its names.
     fn copy(&self, names: &Names) -> Result<Self::Out, NameFault>
-        ensures none { IfOk result (λ t. NoFault (unit_of names.now) (uses (before self.now))) }
-        ensures ok { IfOk result (λ t. Means (unit_of names.now) (meant (unit_of names.now) (before self.now)) (after t)) }
-        ensures err { IfErr result (λ f. FirstFault f (unit_of names.now) (uses (before self.now))) };
+        ensures accepted { IfOk result (λ t. NoFault (unit_of names.now) (uses (before self.now))) }
+        ensures sound { IfOk result (λ t. Means (unit_of names.now) (meant (unit_of names.now) (before self.now)) (after t)) }
+        ensures refused { IfErr result (λ f. FirstFault f (unit_of names.now) (uses (before self.now))) };
 }
 
 /// A conditional with the meaning of its names.
@@ -51,10 +51,10 @@ pub fn copy_cond<V: Named>(
     c: &Cond<Path, V>,
     names: &Names,
 ) -> Result<Cond<Target, V::Out>, NameFault>
-    ensures none { IfOk result (λ t. NoFault (unit_of names.now) (cond_uses V.uses (cond_of path_of V.before c.now))) }
-    ensures ok { IfOk result (λ t. Means (unit_of names.now)
+    ensures accepted { IfOk result (λ t. NoFault (unit_of names.now) (cond_uses V.uses (cond_of path_of V.before c.now))) }
+    ensures sound { IfOk result (λ t. Means (unit_of names.now)
         (resolved_cond (at_attribute (unit_of names.now)) (V.meant (unit_of names.now)) (cond_of path_of V.before c.now)) (cond_of (λ r. r) V.after t)) }
-    ensures err { IfErr result (λ f. FirstFault f (unit_of names.now) (cond_uses V.uses (cond_of path_of V.before c.now))) }
+    ensures refused { IfErr result (λ f. FirstFault f (unit_of names.now) (cond_uses V.uses (cond_of path_of V.before c.now))) }
 {
     match c {
         Cond::Value(v) => made_of!(v.copy(names), v => Cond::Value(v)),
@@ -85,11 +85,11 @@ pub fn copy_conds<V: Named>(
     all: &[Cond<Path, V>],
     names: &Names,
 ) -> Result<Vec<Cond<Target, V::Out>>, NameFault>
-    ensures none { IfOk result (λ t. NoFault (unit_of names.now) (conds_uses V.uses (conds_from (map (cond_of path_of V.before) all.now)))) }
-    ensures ok { IfOk result (λ t. Means (unit_of names.now)
+    ensures accepted { IfOk result (λ t. NoFault (unit_of names.now) (conds_uses V.uses (conds_from (map (cond_of path_of V.before) all.now)))) }
+    ensures sound { IfOk result (λ t. Means (unit_of names.now)
         (resolved_conds (at_attribute (unit_of names.now)) (V.meant (unit_of names.now)) (conds_from (map (cond_of path_of V.before) all.now)))
         (conds_from (map (cond_of (λ r. r) V.after) t.items))) }
-    ensures err { IfErr result (λ f. FirstFault f (unit_of names.now) (conds_uses V.uses (conds_from (map (cond_of path_of V.before) all.now)))) }
+    ensures refused { IfErr result (λ f. FirstFault f (unit_of names.now) (conds_uses V.uses (conds_from (map (cond_of path_of V.before) all.now)))) }
 {
     let mut copies = Vec::new(names.alloc);
     add_conds(all, names, &mut copies)?;
@@ -104,11 +104,11 @@ fn add_conds<V: Named>(
     copies: &mut Vec<Cond<Target, V::Out>>,
 ) -> Result<(), NameFault>
     requires { copies.old.items ≡ [] }
-    ensures none { OnOk result (NoFault (unit_of names.now) (conds_uses V.uses (conds_from (map (cond_of path_of V.before) all.now)))) }
-    ensures ok { OnOk result (Means (unit_of names.now)
+    ensures accepted { OnOk result (NoFault (unit_of names.now) (conds_uses V.uses (conds_from (map (cond_of path_of V.before) all.now)))) }
+    ensures sound { OnOk result (Means (unit_of names.now)
         (resolved_conds (at_attribute (unit_of names.now)) (V.meant (unit_of names.now)) (conds_from (map (cond_of path_of V.before) all.now)))
         (conds_from (map (cond_of (λ r. r) V.after) copies.new.items))) }
-    ensures err { IfErr result (λ f. FirstFault f (unit_of names.now) (conds_uses V.uses (conds_from (map (cond_of path_of V.before) all.now)))) }
+    ensures refused { IfErr result (λ f. FirstFault f (unit_of names.now) (conds_uses V.uses (conds_from (map (cond_of path_of V.before) all.now)))) }
 {
     for c in all {
         copies.push(copy_cond(c, names)?)?;
@@ -122,11 +122,11 @@ fn copy_arms<V: Named>(
     arms: &[Arm<Path, V>],
     names: &Names,
 ) -> Result<Vec<Arm<Target, V::Out>>, NameFault>
-    ensures none { IfOk result (λ t. NoFault (unit_of names.now) (arms_uses V.uses (arms_from (map (arm_of path_of V.before) arms.now)))) }
-    ensures ok { IfOk result (λ t. Means (unit_of names.now)
+    ensures accepted { IfOk result (λ t. NoFault (unit_of names.now) (arms_uses V.uses (arms_from (map (arm_of path_of V.before) arms.now)))) }
+    ensures sound { IfOk result (λ t. Means (unit_of names.now)
         (resolved_arms (at_attribute (unit_of names.now)) (V.meant (unit_of names.now)) (arms_from (map (arm_of path_of V.before) arms.now)))
         (arms_from (map (arm_of (λ r. r) V.after) t.items))) }
-    ensures err { IfErr result (λ f. FirstFault f (unit_of names.now) (arms_uses V.uses (arms_from (map (arm_of path_of V.before) arms.now)))) }
+    ensures refused { IfErr result (λ f. FirstFault f (unit_of names.now) (arms_uses V.uses (arms_from (map (arm_of path_of V.before) arms.now)))) }
 {
     let mut copies = Vec::new(names.alloc);
     add_arms(arms, names, &mut copies)?;
@@ -141,11 +141,11 @@ fn add_arms<V: Named>(
     copies: &mut Vec<Arm<Target, V::Out>>,
 ) -> Result<(), NameFault>
     requires { copies.old.items ≡ [] }
-    ensures none { OnOk result (NoFault (unit_of names.now) (arms_uses V.uses (arms_from (map (arm_of path_of V.before) arms.now)))) }
-    ensures ok { OnOk result (Means (unit_of names.now)
+    ensures accepted { OnOk result (NoFault (unit_of names.now) (arms_uses V.uses (arms_from (map (arm_of path_of V.before) arms.now)))) }
+    ensures sound { OnOk result (Means (unit_of names.now)
         (resolved_arms (at_attribute (unit_of names.now)) (V.meant (unit_of names.now)) (arms_from (map (arm_of path_of V.before) arms.now)))
         (arms_from (map (arm_of (λ r. r) V.after) copies.new.items))) }
-    ensures err { IfErr result (λ f. FirstFault f (unit_of names.now) (arms_uses V.uses (arms_from (map (arm_of path_of V.before) arms.now)))) }
+    ensures refused { IfErr result (λ f. FirstFault f (unit_of names.now) (arms_uses V.uses (arms_from (map (arm_of path_of V.before) arms.now)))) }
 {
     for arm in arms {
         copies.push(copy_arm(arm, names)?)?;
@@ -156,10 +156,10 @@ fn add_arms<V: Named>(
 #[cycle(branches)]
 #[tactic(auto, using(crate::proofs::UseLaws::faults))]
 fn copy_arm<V: Named>(arm: &Arm<Path, V>, names: &Names) -> Result<Arm<Target, V::Out>, NameFault>
-    ensures none { IfOk result (λ t. NoFault (unit_of names.now) (arms_uses V.uses (arms_from (arm_of path_of V.before arm.now ∷ [])))) }
-    ensures ok { IfOk result (λ t. Means (unit_of names.now)
+    ensures accepted { IfOk result (λ t. NoFault (unit_of names.now) (arms_uses V.uses (arms_from (arm_of path_of V.before arm.now ∷ [])))) }
+    ensures sound { IfOk result (λ t. Means (unit_of names.now)
         (resolved_arm (at_attribute (unit_of names.now)) (V.meant (unit_of names.now)) (arm_of path_of V.before arm.now)) (arm_of (λ r. r) V.after t)) }
-    ensures err { IfErr result (λ f. FirstFault f (unit_of names.now) (arms_uses V.uses (arms_from (arm_of path_of V.before arm.now ∷ [])))) }
+    ensures refused { IfErr result (λ f. FirstFault f (unit_of names.now) (arms_uses V.uses (arms_from (arm_of path_of V.before arm.now ∷ [])))) }
 {
     match arm {
         Arm::Case { label, body } => {

@@ -8,7 +8,7 @@ ghost use Rattle.edd_syntax.specs.NameUses.{optional_uses, declarator_uses};
 ghost use Rattle.edd_syntax.specs.Resolution.{all_declared, declared};
 ghost use Rattle.edd_syntax.specs.ResolvedTrees.{at_scope, resolved_optional, resolved_declarators};
 ghost use Rattle.edd_syntax.specs.TreeView.{path_of, expr_of, declarator_of};
-ghost use Rattle.edd_name_meanings.specs.declared.fault.NameFault.TheVariants.{NoMemory};
+ghost use Rattle.edd_name_meanings.specs.declared.fault.NameFault.TheVariants.{Memory};
 ghost use Rattle.edd_name_meanings.specs.Directory.{unit_of};
 ghost use Rattle.edd_name_meanings.specs.Meanings.{Means, NoFault, FirstFault, scope_of};
 ghost use Rattle.edd_names.specs.ResolvedParts.{resolved_declarator};
@@ -29,10 +29,10 @@ pub fn copy_optional(
     names: &Names,
     scope: &[Local],
 ) -> Result<Option<Expr<Target>>, NameFault>
-    ensures none { IfOk result (λ t. NoFault (unit_of names.now) (optional_uses (scope_of scope.now) (option_map (expr_of path_of) e.now))) }
-    ensures ok { IfOk result (λ t. Means (unit_of names.now)
+    ensures accepted { IfOk result (λ t. NoFault (unit_of names.now) (optional_uses (scope_of scope.now) (option_map (expr_of path_of) e.now))) }
+    ensures sound { IfOk result (λ t. Means (unit_of names.now)
         (resolved_optional (at_scope (unit_of names.now) (scope_of scope.now)) (option_map (expr_of path_of) e.now)) (option_map (expr_of (λ r. r)) t)) }
-    ensures err { IfErr result (λ f. FirstFault f (unit_of names.now) (optional_uses (scope_of scope.now) (option_map (expr_of path_of) e.now))) }
+    ensures refused { IfErr result (λ f. FirstFault f (unit_of names.now) (optional_uses (scope_of scope.now) (option_map (expr_of path_of) e.now))) }
 {
     match e {
         Some(e) => made_of!(copy_expr(e, names, scope), e => Some(e)),
@@ -42,8 +42,8 @@ pub fn copy_optional(
 
 /// One more local, which hides those of its name.
 pub fn declare<'a>(scope: &mut Vec<Local<'a>>, place: &'a Path, slot: u8) -> Result<(), NameFault>
-    ensures ok { OnOk result (scope_of scope.new.items ≡ declared (path_of place.now) slot (scope_of scope.old.items)) }
-    ensures err { IfErr result (λ f. f ≡ NoMemory) }
+    ensures sound { OnOk result (scope_of scope.new.items ≡ declared (path_of place.now) slot (scope_of scope.old.items)) }
+    ensures refused { IfErr result (λ f. f ≡ Memory) }
 {
     scope.insert(
         0,
@@ -62,10 +62,10 @@ fn copy_declarator(
     scope: &[Local],
     slot: u8,
 ) -> Result<Declarator<Target>, NameFault>
-    ensures none { IfOk result (λ t. NoFault (unit_of names.now) (optional_uses (scope_of scope.now) (declarator_of path_of declarator.now).value)) }
-    ensures ok { IfOk result (λ t. Means (unit_of names.now)
+    ensures accepted { IfOk result (λ t. NoFault (unit_of names.now) (optional_uses (scope_of scope.now) (declarator_of path_of declarator.now).value)) }
+    ensures sound { IfOk result (λ t. Means (unit_of names.now)
         (resolved_declarator (unit_of names.now) (scope_of scope.now) slot (declarator_of path_of declarator.now)) (declarator_of (λ r. r) t)) }
-    ensures err { IfErr result (λ f. FirstFault f (unit_of names.now) (optional_uses (scope_of scope.now) (declarator_of path_of declarator.now).value)) }
+    ensures refused { IfErr result (λ f. FirstFault f (unit_of names.now) (optional_uses (scope_of scope.now) (declarator_of path_of declarator.now).value)) }
 {
     made_of!(copy_optional(&declarator.value, names, scope), value => Declarator {
         place: Target::Local(slot),
@@ -83,12 +83,12 @@ fn add_declarator<'a>(
     copies: &mut Vec<Declarator<Target>>,
 ) -> Result<(), NameFault>
     requires { next.old < 64 }
-    ensures none { OnOk result (NoFault (unit_of names.now) (optional_uses (scope_of scope.old.items) (declarator_of path_of declarator.now).value)) }
-    ensures ok { OnOk result ((z : Declarator Target) × (copies.new.items ≡ copies.old.items ++ z ∷ [])
+    ensures accepted { OnOk result (NoFault (unit_of names.now) (optional_uses (scope_of scope.old.items) (declarator_of path_of declarator.now).value)) }
+    ensures sound { OnOk result ((z : Declarator Target) × (copies.new.items ≡ copies.old.items ++ z ∷ [])
         × Means (unit_of names.now) (resolved_declarator (unit_of names.now) (scope_of scope.old.items) next.old (declarator_of path_of declarator.now)) (declarator_of (λ r. r) z)) }
     ensures scope { OnOk result (scope_of scope.new.items ≡ declared (declarator_of path_of declarator.now).place next.old (scope_of scope.old.items)) }
     ensures next { OnOk result (next.new ≡ next.old + 1) }
-    ensures err { IfErr result (λ f. FirstFault f (unit_of names.now) (optional_uses (scope_of scope.old.items) (declarator_of path_of declarator.now).value)) }
+    ensures refused { IfErr result (λ f. FirstFault f (unit_of names.now) (optional_uses (scope_of scope.old.items) (declarator_of path_of declarator.now).value)) }
 {
     let copy = copy_declarator(declarator, names, scope, *next)?;
     copies.push(copy)?;
@@ -108,12 +108,12 @@ pub fn add_declarators<'a>(
 ) -> Result<(), NameFault>
     requires room { next.old + length declarators.now ≤ 64 }
     requires empty { copies.old.items ≡ [] }
-    ensures none { OnOk result (NoFault (unit_of names.now) (declarator_uses (scope_of scope.old.items) next.old (map (declarator_of path_of) declarators.now))) }
-    ensures ok { OnOk result (Means (unit_of names.now)
+    ensures accepted { OnOk result (NoFault (unit_of names.now) (declarator_uses (scope_of scope.old.items) next.old (map (declarator_of path_of) declarators.now))) }
+    ensures sound { OnOk result (Means (unit_of names.now)
         (resolved_declarators (unit_of names.now) (scope_of scope.old.items) next.old (map (declarator_of path_of) declarators.now)) (map (declarator_of (λ r. r)) copies.new.items)) }
     ensures scope { OnOk result (scope_of scope.new.items ≡ all_declared (scope_of scope.old.items) next.old (map (declarator_of path_of) declarators.now)) }
     ensures next { OnOk result (next.new ≡ next.old + length declarators.now) }
-    ensures err { IfErr result (λ f. FirstFault f (unit_of names.now) (declarator_uses (scope_of scope.old.items) next.old (map (declarator_of path_of) declarators.now))) }
+    ensures refused { IfErr result (λ f. FirstFault f (unit_of names.now) (declarator_uses (scope_of scope.old.items) next.old (map (declarator_of path_of) declarators.now))) }
 {
     for declarator in declarators {
         add_declarator(declarator, names, scope, next, copies)?;

@@ -23,9 +23,9 @@ use edd_syntax::reference::{Path, Target};
 
 /// What a reference of an expression means, which is a variable or a local.
 pub fn refer_variable(names: &Names, scope: &[Local], path: &Path) -> Result<Target, NameFault>
-    ensures none { IfOk result (λ t. NoFault (unit_of names.now) (OfItem (scope_of scope.now) variable_kinds (path_of path.now) ∷ [])) }
-    ensures ok { IfOk result (λ t. Means (unit_of names.now) (meaning (unit_of names.now) (scope_of scope.now) variable_kinds (path_of path.now)) t) }
-    ensures err { IfErr result (λ f. FirstFault f (unit_of names.now) (OfItem (scope_of scope.now) variable_kinds (path_of path.now) ∷ [])) }
+    ensures accepted { IfOk result (λ t. NoFault (unit_of names.now) (OfItem (scope_of scope.now) variable_kinds (path_of path.now) ∷ [])) }
+    ensures sound { IfOk result (λ t. Means (unit_of names.now) (meaning (unit_of names.now) (scope_of scope.now) variable_kinds (path_of path.now)) t) }
+    ensures refused { IfErr result (λ f. FirstFault f (unit_of names.now) (OfItem (scope_of scope.now) variable_kinds (path_of path.now) ∷ [])) }
 {
     refer(names, scope, &[Kind::Variable], path)
 }
@@ -34,10 +34,10 @@ pub fn refer_variable(names: &Names, scope: &[Local], path: &Path) -> Result<Tar
 #[cycle(exprs)]
 #[tactic(auto, using(crate::proofs::UseLaws::faults), unfolding(edd_name_meanings::specs::Meanings::Means, edd_syntax::specs::ResolvedTrees::resolved_expr))]
 pub fn copy_expr(e: &Expr<Path>, names: &Names, scope: &[Local]) -> Result<Expr<Target>, NameFault>
-    ensures none { IfOk result (λ t. NoFault (unit_of names.now) (expr_uses (scope_of scope.now) (expr_of path_of e.now))) }
-    ensures ok { IfOk result (λ t. Means (unit_of names.now)
+    ensures accepted { IfOk result (λ t. NoFault (unit_of names.now) (expr_uses (scope_of scope.now) (expr_of path_of e.now))) }
+    ensures sound { IfOk result (λ t. Means (unit_of names.now)
         (resolved_expr (meaning (unit_of names.now) (scope_of scope.now) variable_kinds) (expr_of path_of e.now)) (expr_of (λ r. r) t)) }
-    ensures err { IfErr result (λ f. FirstFault f (unit_of names.now) (expr_uses (scope_of scope.now) (expr_of path_of e.now))) }
+    ensures refused { IfErr result (λ f. FirstFault f (unit_of names.now) (expr_uses (scope_of scope.now) (expr_of path_of e.now))) }
 {
     match e {
         Expr::Literal(value) => Ok(Expr::Literal(*value)),
@@ -117,10 +117,10 @@ fn copy_boxed(
     names: &Names,
     scope: &[Local],
 ) -> Result<Box<Expr<Target>>, NameFault>
-    ensures none { IfOk result (λ t. NoFault (unit_of names.now) (expr_uses (scope_of scope.now) (expr_of path_of e.now))) }
-    ensures ok { IfOk result (λ t. Means (unit_of names.now)
+    ensures accepted { IfOk result (λ t. NoFault (unit_of names.now) (expr_uses (scope_of scope.now) (expr_of path_of e.now))) }
+    ensures sound { IfOk result (λ t. Means (unit_of names.now)
         (resolved_expr (meaning (unit_of names.now) (scope_of scope.now) variable_kinds) (expr_of path_of e.now)) (expr_of (λ r. r) t.value)) }
-    ensures err { IfErr result (λ f. FirstFault f (unit_of names.now) (expr_uses (scope_of scope.now) (expr_of path_of e.now))) }
+    ensures refused { IfErr result (λ f. FirstFault f (unit_of names.now) (expr_uses (scope_of scope.now) (expr_of path_of e.now))) }
 {
     made_of!(copy_expr(e, names, scope), copy => Box::new(names.alloc, copy)?)
 }
@@ -134,12 +134,12 @@ fn copy_pair(
     names: &Names,
     scope: &[Local],
 ) -> Result<(Box<Expr<Target>>, Box<Expr<Target>>), NameFault>
-    ensures none { IfOk result (λ t. NoFault (unit_of names.now) (expr_uses (scope_of scope.now) (expr_of path_of left.now) ++ expr_uses (scope_of scope.now) (expr_of path_of right.now))) }
+    ensures accepted { IfOk result (λ t. NoFault (unit_of names.now) (expr_uses (scope_of scope.now) (expr_of path_of left.now) ++ expr_uses (scope_of scope.now) (expr_of path_of right.now))) }
     ensures left { IfOk result (λ t. Means (unit_of names.now)
         (resolved_expr (meaning (unit_of names.now) (scope_of scope.now) variable_kinds) (expr_of path_of left.now)) (expr_of (λ r. r) t.0.value)) }
     ensures right { IfOk result (λ t. Means (unit_of names.now)
         (resolved_expr (meaning (unit_of names.now) (scope_of scope.now) variable_kinds) (expr_of path_of right.now)) (expr_of (λ r. r) t.1.value)) }
-    ensures err { IfErr result (λ f. FirstFault f (unit_of names.now) (expr_uses (scope_of scope.now) (expr_of path_of left.now) ++ expr_uses (scope_of scope.now) (expr_of path_of right.now))) }
+    ensures refused { IfErr result (λ f. FirstFault f (unit_of names.now) (expr_uses (scope_of scope.now) (expr_of path_of left.now) ++ expr_uses (scope_of scope.now) (expr_of path_of right.now))) }
 {
     let left = copy_boxed(left, names, scope)?;
     made_of!(copy_boxed(right, names, scope), right => (left, right))
@@ -154,11 +154,11 @@ fn copy_assigned(
     names: &Names,
     scope: &[Local],
 ) -> Result<(Target, Box<Expr<Target>>), NameFault>
-    ensures none { IfOk result (λ t. NoFault (unit_of names.now) (OfItem (scope_of scope.now) variable_kinds (path_of to.now) ∷ expr_uses (scope_of scope.now) (expr_of path_of value.now))) }
+    ensures accepted { IfOk result (λ t. NoFault (unit_of names.now) (OfItem (scope_of scope.now) variable_kinds (path_of to.now) ∷ expr_uses (scope_of scope.now) (expr_of path_of value.now))) }
     ensures to { IfOk result (λ t. Means (unit_of names.now) (meaning (unit_of names.now) (scope_of scope.now) variable_kinds (path_of to.now)) t.0) }
     ensures value { IfOk result (λ t. Means (unit_of names.now)
         (resolved_expr (meaning (unit_of names.now) (scope_of scope.now) variable_kinds) (expr_of path_of value.now)) (expr_of (λ r. r) t.1.value)) }
-    ensures err { IfErr result (λ f. FirstFault f (unit_of names.now) (OfItem (scope_of scope.now) variable_kinds (path_of to.now) ∷ expr_uses (scope_of scope.now) (expr_of path_of value.now))) }
+    ensures refused { IfErr result (λ f. FirstFault f (unit_of names.now) (OfItem (scope_of scope.now) variable_kinds (path_of to.now) ∷ expr_uses (scope_of scope.now) (expr_of path_of value.now))) }
 {
     let to = refer_variable(names, scope, to)?;
     made_of!(copy_boxed(value, names, scope), value => (to, value))
@@ -173,12 +173,12 @@ fn copy_call(
     names: &Names,
     scope: &[Local],
 ) -> Result<(Target, Vec<Argument<Target>>), NameFault>
-    ensures none { IfOk result (λ t. NoFault (unit_of names.now) (OfFunction (path_of function.now) ∷ argument_uses (scope_of scope.now) (arguments_from (map (argument_of path_of) arguments.now)))) }
+    ensures accepted { IfOk result (λ t. NoFault (unit_of names.now) (OfFunction (path_of function.now) ∷ argument_uses (scope_of scope.now) (arguments_from (map (argument_of path_of) arguments.now)))) }
     ensures function { IfOk result (λ t. Means (unit_of names.now) (function_meant (path_of function.now)) t.0) }
     ensures arguments { IfOk result (λ t. Means (unit_of names.now)
         (resolved_arguments (meaning (unit_of names.now) (scope_of scope.now) variable_kinds) (arguments_from (map (argument_of path_of) arguments.now)))
         (arguments_from (map (argument_of (λ r. r)) t.1.items))) }
-    ensures err { IfErr result (λ f. FirstFault f (unit_of names.now) (OfFunction (path_of function.now) ∷ argument_uses (scope_of scope.now) (arguments_from (map (argument_of path_of) arguments.now)))) }
+    ensures refused { IfErr result (λ f. FirstFault f (unit_of names.now) (OfFunction (path_of function.now) ∷ argument_uses (scope_of scope.now) (arguments_from (map (argument_of path_of) arguments.now)))) }
 {
     let function = refer_function(names, function)?;
     made_of!(copy_arguments(arguments, names, scope), arguments => (function, arguments))
@@ -190,11 +190,11 @@ fn copy_arguments(
     names: &Names,
     scope: &[Local],
 ) -> Result<Vec<Argument<Target>>, NameFault>
-    ensures none { IfOk result (λ all. NoFault (unit_of names.now) (argument_uses (scope_of scope.now) (arguments_from (map (argument_of path_of) arguments.now)))) }
-    ensures ok { IfOk result (λ all. Means (unit_of names.now)
+    ensures accepted { IfOk result (λ all. NoFault (unit_of names.now) (argument_uses (scope_of scope.now) (arguments_from (map (argument_of path_of) arguments.now)))) }
+    ensures sound { IfOk result (λ all. Means (unit_of names.now)
         (resolved_arguments (meaning (unit_of names.now) (scope_of scope.now) variable_kinds) (arguments_from (map (argument_of path_of) arguments.now)))
         (arguments_from (map (argument_of (λ r. r)) all.items))) }
-    ensures err { IfErr result (λ f. FirstFault f (unit_of names.now) (argument_uses (scope_of scope.now) (arguments_from (map (argument_of path_of) arguments.now)))) }
+    ensures refused { IfErr result (λ f. FirstFault f (unit_of names.now) (argument_uses (scope_of scope.now) (arguments_from (map (argument_of path_of) arguments.now)))) }
 {
     let mut all = Vec::new(names.alloc);
     add_arguments(arguments, names, scope, &mut all)?;
@@ -209,11 +209,11 @@ fn add_arguments(
     all: &mut Vec<Argument<Target>>,
 ) -> Result<(), NameFault>
     requires { all.old.items ≡ [] }
-    ensures none { OnOk result (NoFault (unit_of names.now) (argument_uses (scope_of scope.now) (arguments_from (map (argument_of path_of) arguments.now)))) }
-    ensures ok { OnOk result (Means (unit_of names.now)
+    ensures accepted { OnOk result (NoFault (unit_of names.now) (argument_uses (scope_of scope.now) (arguments_from (map (argument_of path_of) arguments.now)))) }
+    ensures sound { OnOk result (Means (unit_of names.now)
         (resolved_arguments (meaning (unit_of names.now) (scope_of scope.now) variable_kinds) (arguments_from (map (argument_of path_of) arguments.now)))
         (arguments_from (map (argument_of (λ r. r)) all.new.items))) }
-    ensures err { IfErr result (λ f. FirstFault f (unit_of names.now) (argument_uses (scope_of scope.now) (arguments_from (map (argument_of path_of) arguments.now)))) }
+    ensures refused { IfErr result (λ f. FirstFault f (unit_of names.now) (argument_uses (scope_of scope.now) (arguments_from (map (argument_of path_of) arguments.now)))) }
 {
     for argument in arguments {
         add_argument(argument, names, scope, all)?;
@@ -229,10 +229,10 @@ fn add_argument(
     scope: &[Local],
     all: &mut Vec<Argument<Target>>,
 ) -> Result<(), NameFault>
-    ensures none { OnOk result (NoFault (unit_of names.now) (argument_uses (scope_of scope.now) (arguments_from (argument_of path_of argument.now ∷ [])))) }
-    ensures ok { OnOk result ((z : Argument Target) × (all.new.items ≡ all.old.items ++ z ∷ [])
+    ensures accepted { OnOk result (NoFault (unit_of names.now) (argument_uses (scope_of scope.now) (arguments_from (argument_of path_of argument.now ∷ [])))) }
+    ensures sound { OnOk result ((z : Argument Target) × (all.new.items ≡ all.old.items ++ z ∷ [])
         × Means (unit_of names.now) (resolved_argument (meaning (unit_of names.now) (scope_of scope.now) variable_kinds) (argument_of path_of argument.now)) (argument_of (λ r. r) z)) }
-    ensures err { IfErr result (λ f. FirstFault f (unit_of names.now) (argument_uses (scope_of scope.now) (arguments_from (argument_of path_of argument.now ∷ [])))) }
+    ensures refused { IfErr result (λ f. FirstFault f (unit_of names.now) (argument_uses (scope_of scope.now) (arguments_from (argument_of path_of argument.now ∷ [])))) }
 {
     let copy = copy_argument(argument, names, scope)?;
     all.push(copy)?;
@@ -246,10 +246,10 @@ fn copy_argument(
     names: &Names,
     scope: &[Local],
 ) -> Result<Argument<Target>, NameFault>
-    ensures none { IfOk result (λ t. NoFault (unit_of names.now) (argument_uses (scope_of scope.now) (arguments_from (argument_of path_of argument.now ∷ [])))) }
-    ensures ok { IfOk result (λ t. Means (unit_of names.now)
+    ensures accepted { IfOk result (λ t. NoFault (unit_of names.now) (argument_uses (scope_of scope.now) (arguments_from (argument_of path_of argument.now ∷ [])))) }
+    ensures sound { IfOk result (λ t. Means (unit_of names.now)
         (resolved_argument (meaning (unit_of names.now) (scope_of scope.now) variable_kinds) (argument_of path_of argument.now)) (argument_of (λ r. r) t)) }
-    ensures err { IfErr result (λ f. FirstFault f (unit_of names.now) (argument_uses (scope_of scope.now) (arguments_from (argument_of path_of argument.now ∷ [])))) }
+    ensures refused { IfErr result (λ f. FirstFault f (unit_of names.now) (argument_uses (scope_of scope.now) (arguments_from (argument_of path_of argument.now ∷ [])))) }
 {
     match argument {
         Argument::Text(text) =>

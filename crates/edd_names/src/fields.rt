@@ -8,7 +8,7 @@ ghost use Rattle.edd_syntax.specs.Resolution.{member_kinds};
 ghost use Rattle.edd_syntax.specs.ResolvedTrees.{each, resolved_attribute, resolved_body, resolved_member};
 ghost use Rattle.edd_syntax.specs.Statement.{body_from, slots_in};
 ghost use Rattle.edd_syntax.specs.TreeView.{path_of, part_of};
-ghost use Rattle.edd_name_meanings.specs.declared.fault.NameFault.TheVariants.{NoMemory};
+ghost use Rattle.edd_name_meanings.specs.declared.fault.NameFault.TheVariants.{Memory};
 ghost use Rattle.edd_name_meanings.specs.Directory.{unit_of};
 ghost use Rattle.edd_name_meanings.specs.Meanings.{Means, NoFault, FirstFault};
 ghost use Rattle.edd_names.specs.ResolvedParts.{member_uses};
@@ -27,8 +27,8 @@ use edd_syntax::stmt::Part;
 use std::alloc::Global;
 
 fn copy_type_word(word: &TypeWord, alloc: Global) -> Result<TypeWord, NameFault>
-    ensures ok { IfOk result (λ w. type_word_of w ≡ type_word_of word.now) }
-    ensures err { IfErr result (λ f. f ≡ NoMemory) }
+    ensures sound { IfOk result (λ w. type_word_of w ≡ type_word_of word.now) }
+    ensures refused { IfErr result (λ f. f ≡ Memory) }
 {
     match word {
         TypeWord::Known { kind, size } => Ok(TypeWord::Known {
@@ -43,10 +43,10 @@ fn copy_type_word(word: &TypeWord, alloc: Global) -> Result<TypeWord, NameFault>
 #[tactic(auto, using(crate::proofs::UseLaws::faults))]
 fn copy_definition(parts: &[Part<Path>], names: &Names) -> Result<Vec<Part<Target>>, NameFault>
     requires { slots_in (body_from (map (part_of path_of) parts.now)) ≤ 64 }
-    ensures none { IfOk result (λ t. NoFault (unit_of names.now) (body_uses (body_from (map (part_of path_of) parts.now)) [] 0)) }
-    ensures ok { IfOk result (λ t. Means (unit_of names.now)
+    ensures accepted { IfOk result (λ t. NoFault (unit_of names.now) (body_uses (body_from (map (part_of path_of) parts.now)) [] 0)) }
+    ensures sound { IfOk result (λ t. Means (unit_of names.now)
         (resolved_body (unit_of names.now) (body_from (map (part_of path_of) parts.now)) [] 0) (body_from (map (part_of (λ r. r)) t.items))) }
-    ensures err { IfErr result (λ f. FirstFault f (unit_of names.now) (body_uses (body_from (map (part_of path_of) parts.now)) [] 0)) }
+    ensures refused { IfErr result (λ f. FirstFault f (unit_of names.now) (body_uses (body_from (map (part_of path_of) parts.now)) [] 0)) }
 {
     let mut next = 0;
     copy_body(parts, names, &[], &mut next)
@@ -59,10 +59,10 @@ fn copy_members_of(
     members: &[Member<Path>],
     names: &Names,
 ) -> Result<Vec<Member<Target>>, NameFault>
-    ensures none { IfOk result (λ t. NoFault (unit_of names.now) (flat_map (member_uses (member_kinds (item_of path_of item.now).sort)) (map (member_of path_of) members.now))) }
-    ensures ok { IfOk result (λ t. Means (unit_of names.now)
+    ensures accepted { IfOk result (λ t. NoFault (unit_of names.now) (flat_map (member_uses (member_kinds (item_of path_of item.now).sort)) (map (member_of path_of) members.now))) }
+    ensures sound { IfOk result (λ t. Means (unit_of names.now)
         (each (resolved_member (unit_of names.now) (member_kinds (item_of path_of item.now).sort)) (map (member_of path_of) members.now)) (map (member_of (λ r. r)) t.items)) }
-    ensures err { IfErr result (λ f. FirstFault f (unit_of names.now) (flat_map (member_uses (member_kinds (item_of path_of item.now).sort)) (map (member_of path_of) members.now))) }
+    ensures refused { IfErr result (λ f. FirstFault f (unit_of names.now) (flat_map (member_uses (member_kinds (item_of path_of item.now).sort)) (map (member_of path_of) members.now))) }
 {
     match item {
         Item::Collection(d) => copy_members(members, names, &[d.of]),
@@ -79,10 +79,10 @@ fn copy_attribute(
     item: &Item<Path>,
 ) -> Result<Attribute<Target>, NameFault>
     requires { locals_in (attribute_of path_of attribute.now ∷ []) ≤ 64 }
-    ensures none { IfOk result (λ t. NoFault (unit_of names.now) (attribute_uses (item_of path_of item.now).sort (attribute_of path_of attribute.now))) }
-    ensures ok { IfOk result (λ t. Means (unit_of names.now)
+    ensures accepted { IfOk result (λ t. NoFault (unit_of names.now) (attribute_uses (item_of path_of item.now).sort (attribute_of path_of attribute.now))) }
+    ensures sound { IfOk result (λ t. Means (unit_of names.now)
         (resolved_attribute (unit_of names.now) (item_of path_of item.now).sort (attribute_of path_of attribute.now)) (attribute_of (λ r. r) t)) }
-    ensures err { IfErr result (λ f. FirstFault f (unit_of names.now) (attribute_uses (item_of path_of item.now).sort (attribute_of path_of attribute.now))) }
+    ensures refused { IfErr result (λ f. FirstFault f (unit_of names.now) (attribute_uses (item_of path_of item.now).sort (attribute_of path_of attribute.now))) }
 {
     let alloc = names.alloc;
     match attribute {
@@ -126,9 +126,9 @@ fn add_attributes(
 ) -> Result<(), NameFault>
     requires room { locals_in (map (attribute_of path_of) attributes.now) ≤ 64 }
     requires empty { copies.old.items ≡ [] }
-    ensures none { OnOk result (NoFault (unit_of names.now) (flat_map (attribute_uses (item_of path_of item.now).sort) (map (attribute_of path_of) attributes.now))) }
-    ensures ok { OnOk result (Means (unit_of names.now) (each (resolved_attribute (unit_of names.now) (item_of path_of item.now).sort) (map (attribute_of path_of) attributes.now)) (map (attribute_of (λ r. r)) copies.new.items)) }
-    ensures err { IfErr result (λ f. FirstFault f (unit_of names.now) (flat_map (attribute_uses (item_of path_of item.now).sort) (map (attribute_of path_of) attributes.now))) }
+    ensures accepted { OnOk result (NoFault (unit_of names.now) (flat_map (attribute_uses (item_of path_of item.now).sort) (map (attribute_of path_of) attributes.now))) }
+    ensures sound { OnOk result (Means (unit_of names.now) (each (resolved_attribute (unit_of names.now) (item_of path_of item.now).sort) (map (attribute_of path_of) attributes.now)) (map (attribute_of (λ r. r)) copies.new.items)) }
+    ensures refused { IfErr result (λ f. FirstFault f (unit_of names.now) (flat_map (attribute_uses (item_of path_of item.now).sort) (map (attribute_of path_of) attributes.now))) }
 {
     for attribute in attributes {
         copies.push(copy_attribute(attribute, names, item)?)?;
@@ -144,9 +144,9 @@ pub fn copy_attributes(
     item: &Item<Path>,
 ) -> Result<Vec<Attribute<Target>>, NameFault>
     requires { locals_in (map (attribute_of path_of) attributes.now) ≤ 64 }
-    ensures none { IfOk result (λ t. NoFault (unit_of names.now) (flat_map (attribute_uses (item_of path_of item.now).sort) (map (attribute_of path_of) attributes.now))) }
-    ensures ok { IfOk result (λ t. Means (unit_of names.now) (each (resolved_attribute (unit_of names.now) (item_of path_of item.now).sort) (map (attribute_of path_of) attributes.now)) (map (attribute_of (λ r. r)) t.items)) }
-    ensures err { IfErr result (λ f. FirstFault f (unit_of names.now) (flat_map (attribute_uses (item_of path_of item.now).sort) (map (attribute_of path_of) attributes.now))) }
+    ensures accepted { IfOk result (λ t. NoFault (unit_of names.now) (flat_map (attribute_uses (item_of path_of item.now).sort) (map (attribute_of path_of) attributes.now))) }
+    ensures sound { IfOk result (λ t. Means (unit_of names.now) (each (resolved_attribute (unit_of names.now) (item_of path_of item.now).sort) (map (attribute_of path_of) attributes.now)) (map (attribute_of (λ r. r)) t.items)) }
+    ensures refused { IfErr result (λ f. FirstFault f (unit_of names.now) (flat_map (attribute_uses (item_of path_of item.now).sort) (map (attribute_of path_of) attributes.now))) }
 {
     let mut copies = Vec::new(names.alloc);
     add_attributes(attributes, names, item, &mut copies)?;

@@ -22,9 +22,9 @@ use edd_syntax::reference::{Path, Target};
 
 #[tactic(auto, using(crate::proofs::UseLaws::faults), unfolding(edd_name_meanings::specs::Meanings::Means))]
 fn copy_type_part(type_part: &TypePart<Path>, names: &Names) -> Result<TypePart<Target>, NameFault>
-    ensures none { IfOk result (λ t. NoFault (unit_of names.now) (type_part_uses (type_part_of path_of type_part.now))) }
-    ensures ok { IfOk result (λ t. Means (unit_of names.now) (resolved_type_part (unit_of names.now) (type_part_of path_of type_part.now)) (type_part_of (λ r. r) t)) }
-    ensures err { IfErr result (λ f. FirstFault f (unit_of names.now) (type_part_uses (type_part_of path_of type_part.now))) }
+    ensures accepted { IfOk result (λ t. NoFault (unit_of names.now) (type_part_uses (type_part_of path_of type_part.now))) }
+    ensures sound { IfOk result (λ t. Means (unit_of names.now) (resolved_type_part (unit_of names.now) (type_part_of path_of type_part.now)) (type_part_of (λ r. r) t)) }
+    ensures refused { IfErr result (λ f. FirstFault f (unit_of names.now) (type_part_uses (type_part_of path_of type_part.now))) }
 {
     match type_part {
         TypePart::DefaultValue { line, value } => {
@@ -55,9 +55,9 @@ fn add_type_parts(
     copies: &mut Vec<TypePart<Target>>,
 ) -> Result<(), NameFault>
     requires { copies.old.items ≡ [] }
-    ensures none { OnOk result (NoFault (unit_of names.now) (flat_map type_part_uses (map (type_part_of path_of) type_parts.now))) }
-    ensures ok { OnOk result (Means (unit_of names.now) (each (resolved_type_part (unit_of names.now)) (map (type_part_of path_of) type_parts.now)) (map (type_part_of (λ r. r)) copies.new.items)) }
-    ensures err { IfErr result (λ f. FirstFault f (unit_of names.now) (flat_map type_part_uses (map (type_part_of path_of) type_parts.now))) }
+    ensures accepted { OnOk result (NoFault (unit_of names.now) (flat_map type_part_uses (map (type_part_of path_of) type_parts.now))) }
+    ensures sound { OnOk result (Means (unit_of names.now) (each (resolved_type_part (unit_of names.now)) (map (type_part_of path_of) type_parts.now)) (map (type_part_of (λ r. r)) copies.new.items)) }
+    ensures refused { IfErr result (λ f. FirstFault f (unit_of names.now) (flat_map type_part_uses (map (type_part_of path_of) type_parts.now))) }
 {
     for type_part in type_parts {
         copies.push(copy_type_part(type_part, names)?)?;
@@ -71,9 +71,9 @@ pub fn copy_type_parts(
     type_parts: &[TypePart<Path>],
     names: &Names,
 ) -> Result<Vec<TypePart<Target>>, NameFault>
-    ensures none { IfOk result (λ t. NoFault (unit_of names.now) (flat_map type_part_uses (map (type_part_of path_of) type_parts.now))) }
-    ensures ok { IfOk result (λ t. Means (unit_of names.now) (each (resolved_type_part (unit_of names.now)) (map (type_part_of path_of) type_parts.now)) (map (type_part_of (λ r. r)) t.items)) }
-    ensures err { IfErr result (λ f. FirstFault f (unit_of names.now) (flat_map type_part_uses (map (type_part_of path_of) type_parts.now))) }
+    ensures accepted { IfOk result (λ t. NoFault (unit_of names.now) (flat_map type_part_uses (map (type_part_of path_of) type_parts.now))) }
+    ensures sound { IfOk result (λ t. Means (unit_of names.now) (each (resolved_type_part (unit_of names.now)) (map (type_part_of path_of) type_parts.now)) (map (type_part_of (λ r. r)) t.items)) }
+    ensures refused { IfErr result (λ f. FirstFault f (unit_of names.now) (flat_map type_part_uses (map (type_part_of path_of) type_parts.now))) }
 {
     let mut copies = Vec::new(names.alloc);
     add_type_parts(type_parts, names, &mut copies)?;
@@ -85,9 +85,9 @@ fn copy_transaction_part(
     transaction_part: &TransactionPart<Path>,
     names: &Names,
 ) -> Result<TransactionPart<Target>, NameFault>
-    ensures none { IfOk result (λ t. NoFault (unit_of names.now) (transaction_part_uses (transaction_part_of path_of transaction_part.now))) }
-    ensures ok { IfOk result (λ t. Means (unit_of names.now) (resolved_transaction_part (unit_of names.now) (transaction_part_of path_of transaction_part.now)) (transaction_part_of (λ r. r) t)) }
-    ensures err { IfErr result (λ f. FirstFault f (unit_of names.now) (transaction_part_uses (transaction_part_of path_of transaction_part.now))) }
+    ensures accepted { IfOk result (λ t. NoFault (unit_of names.now) (transaction_part_uses (transaction_part_of path_of transaction_part.now))) }
+    ensures sound { IfOk result (λ t. Means (unit_of names.now) (resolved_transaction_part (unit_of names.now) (transaction_part_of path_of transaction_part.now)) (transaction_part_of (λ r. r) t)) }
+    ensures refused { IfErr result (λ f. FirstFault f (unit_of names.now) (transaction_part_uses (transaction_part_of path_of transaction_part.now))) }
 {
     match transaction_part {
         TransactionPart::Request(all) => {
@@ -106,9 +106,9 @@ fn add_transaction_parts(
     copies: &mut Vec<TransactionPart<Target>>,
 ) -> Result<(), NameFault>
     requires { copies.old.items ≡ [] }
-    ensures none { OnOk result (NoFault (unit_of names.now) (flat_map transaction_part_uses (map (transaction_part_of path_of) transaction_parts.now))) }
-    ensures ok { OnOk result (Means (unit_of names.now) (each (resolved_transaction_part (unit_of names.now)) (map (transaction_part_of path_of) transaction_parts.now)) (map (transaction_part_of (λ r. r)) copies.new.items)) }
-    ensures err { IfErr result (λ f. FirstFault f (unit_of names.now) (flat_map transaction_part_uses (map (transaction_part_of path_of) transaction_parts.now))) }
+    ensures accepted { OnOk result (NoFault (unit_of names.now) (flat_map transaction_part_uses (map (transaction_part_of path_of) transaction_parts.now))) }
+    ensures sound { OnOk result (Means (unit_of names.now) (each (resolved_transaction_part (unit_of names.now)) (map (transaction_part_of path_of) transaction_parts.now)) (map (transaction_part_of (λ r. r)) copies.new.items)) }
+    ensures refused { IfErr result (λ f. FirstFault f (unit_of names.now) (flat_map transaction_part_uses (map (transaction_part_of path_of) transaction_parts.now))) }
 {
     for transaction_part in transaction_parts {
         copies.push(copy_transaction_part(transaction_part, names)?)?;
@@ -122,9 +122,9 @@ pub fn copy_transaction_parts(
     transaction_parts: &[TransactionPart<Path>],
     names: &Names,
 ) -> Result<Vec<TransactionPart<Target>>, NameFault>
-    ensures none { IfOk result (λ t. NoFault (unit_of names.now) (flat_map transaction_part_uses (map (transaction_part_of path_of) transaction_parts.now))) }
-    ensures ok { IfOk result (λ t. Means (unit_of names.now) (each (resolved_transaction_part (unit_of names.now)) (map (transaction_part_of path_of) transaction_parts.now)) (map (transaction_part_of (λ r. r)) t.items)) }
-    ensures err { IfErr result (λ f. FirstFault f (unit_of names.now) (flat_map transaction_part_uses (map (transaction_part_of path_of) transaction_parts.now))) }
+    ensures accepted { IfOk result (λ t. NoFault (unit_of names.now) (flat_map transaction_part_uses (map (transaction_part_of path_of) transaction_parts.now))) }
+    ensures sound { IfOk result (λ t. Means (unit_of names.now) (each (resolved_transaction_part (unit_of names.now)) (map (transaction_part_of path_of) transaction_parts.now)) (map (transaction_part_of (λ r. r)) t.items)) }
+    ensures refused { IfErr result (λ f. FirstFault f (unit_of names.now) (flat_map transaction_part_uses (map (transaction_part_of path_of) transaction_parts.now))) }
 {
     let mut copies = Vec::new(names.alloc);
     add_transaction_parts(transaction_parts, names, &mut copies)?;
@@ -137,9 +137,9 @@ fn copy_member(
     names: &Names,
     kinds: &[Kind],
 ) -> Result<Member<Target>, NameFault>
-    ensures none { IfOk result (λ t. NoFault (unit_of names.now) ((member_uses kinds.now) (member_of path_of member.now))) }
-    ensures ok { IfOk result (λ t. Means (unit_of names.now) (resolved_member (unit_of names.now) kinds.now (member_of path_of member.now)) (member_of (λ r. r) t)) }
-    ensures err { IfErr result (λ f. FirstFault f (unit_of names.now) ((member_uses kinds.now) (member_of path_of member.now))) }
+    ensures accepted { IfOk result (λ t. NoFault (unit_of names.now) ((member_uses kinds.now) (member_of path_of member.now))) }
+    ensures sound { IfOk result (λ t. Means (unit_of names.now) (resolved_member (unit_of names.now) kinds.now (member_of path_of member.now)) (member_of (λ r. r) t)) }
+    ensures refused { IfErr result (λ f. FirstFault f (unit_of names.now) ((member_uses kinds.now) (member_of path_of member.now))) }
 {
     let item = refer(names, &[], kinds, &member.item)?;
     let name = String::from_str(names.alloc, &member.name)?;
@@ -160,9 +160,9 @@ fn add_members(
     copies: &mut Vec<Member<Target>>,
 ) -> Result<(), NameFault>
     requires { copies.old.items ≡ [] }
-    ensures none { OnOk result (NoFault (unit_of names.now) (flat_map (member_uses kinds.now) (map (member_of path_of) members.now))) }
-    ensures ok { OnOk result (Means (unit_of names.now) (each (resolved_member (unit_of names.now) kinds.now) (map (member_of path_of) members.now)) (map (member_of (λ r. r)) copies.new.items)) }
-    ensures err { IfErr result (λ f. FirstFault f (unit_of names.now) (flat_map (member_uses kinds.now) (map (member_of path_of) members.now))) }
+    ensures accepted { OnOk result (NoFault (unit_of names.now) (flat_map (member_uses kinds.now) (map (member_of path_of) members.now))) }
+    ensures sound { OnOk result (Means (unit_of names.now) (each (resolved_member (unit_of names.now) kinds.now) (map (member_of path_of) members.now)) (map (member_of (λ r. r)) copies.new.items)) }
+    ensures refused { IfErr result (λ f. FirstFault f (unit_of names.now) (flat_map (member_uses kinds.now) (map (member_of path_of) members.now))) }
 {
     for member in members {
         copies.push(copy_member(member, names, kinds)?)?;
@@ -177,9 +177,9 @@ pub fn copy_members(
     names: &Names,
     kinds: &[Kind],
 ) -> Result<Vec<Member<Target>>, NameFault>
-    ensures none { IfOk result (λ t. NoFault (unit_of names.now) (flat_map (member_uses kinds.now) (map (member_of path_of) members.now))) }
-    ensures ok { IfOk result (λ t. Means (unit_of names.now) (each (resolved_member (unit_of names.now) kinds.now) (map (member_of path_of) members.now)) (map (member_of (λ r. r)) t.items)) }
-    ensures err { IfErr result (λ f. FirstFault f (unit_of names.now) (flat_map (member_uses kinds.now) (map (member_of path_of) members.now))) }
+    ensures accepted { IfOk result (λ t. NoFault (unit_of names.now) (flat_map (member_uses kinds.now) (map (member_of path_of) members.now))) }
+    ensures sound { IfOk result (λ t. Means (unit_of names.now) (each (resolved_member (unit_of names.now) kinds.now) (map (member_of path_of) members.now)) (map (member_of (λ r. r)) t.items)) }
+    ensures refused { IfErr result (λ f. FirstFault f (unit_of names.now) (flat_map (member_uses kinds.now) (map (member_of path_of) members.now))) }
 {
     let mut copies = Vec::new(names.alloc);
     add_members(members, names, kinds, &mut copies)?;

@@ -27,9 +27,9 @@ fn resolve_uses(alloc: Global, names: &Names) -> Result<Resolved, NameFault>
     requires kept { None ≡ first_of (too_many (unit_of names.now) ++ (duplicate_names (unit_of names.now)
         ++ (duplicate_attributes (unit_of names.now) ++ missing_attributes (unit_of names.now)))) }
     requires well_formed { IsTrue (are_items (unit_of names.now).items) }
-    ensures ok { IfOk result (λ r. resolved_unit (unit_of names.now) ≡ Some (description (identification_of r.identification) (numbered_items r.items.value.items))) }
-    ensures none { IfOk result (λ r. name_breaches (unit_of names.now) ≡ []) }
-    ensures err { IfErr result (λ f. IsFirst f (name_breaches (unit_of names.now))) }
+    ensures sound { IfOk result (λ r. resolved_unit (unit_of names.now) ≡ Some (description (identification_of r.identification) (numbered_items r.items.value.items))) }
+    ensures accepted { IfOk result (λ r. name_breaches (unit_of names.now) ≡ []) }
+    ensures refused { IfErr result (λ f. IsFirst f (name_breaches (unit_of names.now))) }
 {
     let items = copy_items(names.items, names)?;
     Ok(Resolved::new(alloc, names.identification, items)?)
@@ -40,9 +40,9 @@ fn resolve_uses(alloc: Global, names: &Names) -> Result<Resolved, NameFault>
 /// stand twice (23), missing attributes (24), and on unknown names (21) and things of a wrong kind (22) in the order of the
 /// source.
 pub fn resolve(alloc: Global, unit: &Unit) -> Result<Resolved, NameFault>
-    ensures ok { IfOk result (λ r. resolved_unit (unit_view unit.now) ≡ Some (description (identification_of r.identification) (numbered_items r.items.value.items))) }
-    ensures none { IfOk result (λ r. name_breaches (unit_view unit.now) ≡ []) }
-    ensures err { IfErr result (λ f. IsFirst f (name_breaches (unit_view unit.now))) }
+    ensures sound { IfOk result (λ r. resolved_unit (unit_view unit.now) ≡ Some (description (identification_of r.identification) (numbered_items r.items.value.items))) }
+    ensures accepted { IfOk result (λ r. name_breaches (unit_view unit.now) ≡ []) }
+    ensures refused { IfErr result (λ f. IsFirst f (name_breaches (unit_view unit.now))) }
 {
     check_rules(&unit.items, alloc)?;
     let names = Names::new(alloc, unit.identification, &unit.items)?;

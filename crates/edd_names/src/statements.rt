@@ -7,7 +7,7 @@ ghost use Rattle.edd_syntax.specs.NameUses.{Use, expr_uses, optional_uses, stmt_
 ghost use Rattle.edd_syntax.specs.ResolvedTrees.{at_scope, resolved_expr, resolved_optional, resolved_stmt, resolved_body};
 ghost use Rattle.edd_syntax.specs.Statement.{body_from, slots_of, slots_in};
 ghost use Rattle.edd_syntax.specs.TreeView.{path_of, expr_of, stmt_of, part_of};
-ghost use Rattle.edd_name_meanings.specs.declared.fault.NameFault.TheVariants.{NoMemory};
+ghost use Rattle.edd_name_meanings.specs.declared.fault.NameFault.TheVariants.{Memory};
 ghost use Rattle.edd_name_meanings.specs.Directory.{unit_of};
 ghost use Rattle.edd_name_meanings.specs.Meanings.{Means, NoFault, FirstFault, scope_of};
 ghost use Rattle.edd_names.specs.ResolvedParts.{part_uses, resolved_part, scope_behind, next_behind};
@@ -25,8 +25,8 @@ use std::alloc::Global;
 
 // The locals that can be used in a block as it begins: those around it.
 fn inner_scope<'a>(scope: &[Local<'a>], alloc: Global) -> Result<Vec<Local<'a>>, NameFault>
-    ensures ok { IfOk result (λ v. v.items ≡ scope.now) }
-    ensures err { IfErr result (λ f. f ≡ NoMemory) }
+    ensures sound { IfOk result (λ v. v.items ≡ scope.now) }
+    ensures refused { IfErr result (λ f. f ≡ Memory) }
 {
     Ok(scope.to_vec(alloc)?)
 }
@@ -41,11 +41,11 @@ fn copy_stmt<'a>(
     next: &mut u8,
 ) -> Result<Stmt<Target>, NameFault>
     requires { next.old + slots_of (stmt_of path_of s.now) ≤ 64 }
-    ensures none { IfOk result (λ t. NoFault (unit_of names.now) (stmt_uses (stmt_of path_of s.now) (scope_of scope.now) next.old)) }
-    ensures ok { IfOk result (λ t. Means (unit_of names.now)
+    ensures accepted { IfOk result (λ t. NoFault (unit_of names.now) (stmt_uses (stmt_of path_of s.now) (scope_of scope.now) next.old)) }
+    ensures sound { IfOk result (λ t. Means (unit_of names.now)
         (resolved_stmt (unit_of names.now) (stmt_of path_of s.now) (scope_of scope.now) next.old) (stmt_of (λ r. r) t)) }
     ensures next { IfOk result (λ t. next.new ≡ next.old + slots_of (stmt_of path_of s.now)) }
-    ensures err { IfErr result (λ f. FirstFault f (unit_of names.now) (stmt_uses (stmt_of path_of s.now) (scope_of scope.now) next.old)) }
+    ensures refused { IfErr result (λ f. FirstFault f (unit_of names.now) (stmt_uses (stmt_of path_of s.now) (scope_of scope.now) next.old)) }
 {
     match s {
         Stmt::Empty => Ok(Stmt::Empty),
@@ -114,11 +114,11 @@ fn copy_boxed<'a>(
     next: &mut u8,
 ) -> Result<Box<Stmt<Target>>, NameFault>
     requires { next.old + slots_of (stmt_of path_of s.now) ≤ 64 }
-    ensures none { IfOk result (λ t. NoFault (unit_of names.now) (stmt_uses (stmt_of path_of s.now) (scope_of scope.now) next.old)) }
-    ensures ok { IfOk result (λ t. Means (unit_of names.now)
+    ensures accepted { IfOk result (λ t. NoFault (unit_of names.now) (stmt_uses (stmt_of path_of s.now) (scope_of scope.now) next.old)) }
+    ensures sound { IfOk result (λ t. Means (unit_of names.now)
         (resolved_stmt (unit_of names.now) (stmt_of path_of s.now) (scope_of scope.now) next.old) (stmt_of (λ r. r) t.value)) }
     ensures next { IfOk result (λ t. next.new ≡ next.old + slots_of (stmt_of path_of s.now)) }
-    ensures err { IfErr result (λ f. FirstFault f (unit_of names.now) (stmt_uses (stmt_of path_of s.now) (scope_of scope.now) next.old)) }
+    ensures refused { IfErr result (λ f. FirstFault f (unit_of names.now) (stmt_uses (stmt_of path_of s.now) (scope_of scope.now) next.old)) }
 {
     made_of!(copy_stmt(s, names, scope, next), copy => Box::new(names.alloc, copy)?)
 }
@@ -134,14 +134,14 @@ fn copy_guarded<'a>(
     next: &mut u8,
 ) -> Result<(Expr<Target>, Box<Stmt<Target>>), NameFault>
     requires { next.old + slots_of (stmt_of path_of body.now) ≤ 64 }
-    ensures none { IfOk result (λ t. NoFault (unit_of names.now)
+    ensures accepted { IfOk result (λ t. NoFault (unit_of names.now)
         (expr_uses (scope_of scope.now) (expr_of path_of condition.now) ++ stmt_uses (stmt_of path_of body.now) (scope_of scope.now) next.old)) }
     ensures condition { IfOk result (λ t. Means (unit_of names.now)
         (resolved_expr (at_scope (unit_of names.now) (scope_of scope.now)) (expr_of path_of condition.now)) (expr_of (λ r. r) t.0)) }
     ensures body { IfOk result (λ t. Means (unit_of names.now)
         (resolved_stmt (unit_of names.now) (stmt_of path_of body.now) (scope_of scope.now) next.old) (stmt_of (λ r. r) t.1.value)) }
     ensures next { IfOk result (λ t. next.new ≡ next.old + slots_of (stmt_of path_of body.now)) }
-    ensures err { IfErr result (λ f. FirstFault f (unit_of names.now)
+    ensures refused { IfErr result (λ f. FirstFault f (unit_of names.now)
         (expr_uses (scope_of scope.now) (expr_of path_of condition.now) ++ stmt_uses (stmt_of path_of body.now) (scope_of scope.now) next.old)) }
 {
     let condition = copy_expr(condition, names, scope)?;
@@ -160,7 +160,7 @@ fn copy_choice<'a>(
     next: &mut u8,
 ) -> Result<(Expr<Target>, Box<Stmt<Target>>, Box<Stmt<Target>>), NameFault>
     requires { next.old + (slots_of (stmt_of path_of first.now) + slots_of (stmt_of path_of otherwise.now)) ≤ 64 }
-    ensures none { IfOk result (λ t. NoFault (unit_of names.now)
+    ensures accepted { IfOk result (λ t. NoFault (unit_of names.now)
         (expr_uses (scope_of scope.now) (expr_of path_of condition.now) ++ (stmt_uses (stmt_of path_of first.now) (scope_of scope.now) next.old ++ stmt_uses (stmt_of path_of otherwise.now) (scope_of scope.now) (next.old + slots_of (stmt_of path_of first.now))))) }
     ensures condition { IfOk result (λ t. Means (unit_of names.now)
         (resolved_expr (at_scope (unit_of names.now) (scope_of scope.now)) (expr_of path_of condition.now)) (expr_of (λ r. r) t.0)) }
@@ -169,7 +169,7 @@ fn copy_choice<'a>(
     ensures otherwise { IfOk result (λ t. Means (unit_of names.now)
         (resolved_stmt (unit_of names.now) (stmt_of path_of otherwise.now) (scope_of scope.now) (next.old + slots_of (stmt_of path_of first.now))) (stmt_of (λ r. r) t.2.value)) }
     ensures next { IfOk result (λ t. next.new ≡ next.old + (slots_of (stmt_of path_of first.now) + slots_of (stmt_of path_of otherwise.now))) }
-    ensures err { IfErr result (λ f. FirstFault f (unit_of names.now)
+    ensures refused { IfErr result (λ f. FirstFault f (unit_of names.now)
         (expr_uses (scope_of scope.now) (expr_of path_of condition.now) ++ (stmt_uses (stmt_of path_of first.now) (scope_of scope.now) next.old ++ stmt_uses (stmt_of path_of otherwise.now) (scope_of scope.now) (next.old + slots_of (stmt_of path_of first.now))))) }
 {
     let (condition, first) = copy_guarded(condition, first, names, scope, next)?;
@@ -187,14 +187,14 @@ fn copy_repeated<'a>(
     next: &mut u8,
 ) -> Result<(Box<Stmt<Target>>, Expr<Target>), NameFault>
     requires { next.old + slots_of (stmt_of path_of body.now) ≤ 64 }
-    ensures none { IfOk result (λ t. NoFault (unit_of names.now)
+    ensures accepted { IfOk result (λ t. NoFault (unit_of names.now)
         (stmt_uses (stmt_of path_of body.now) (scope_of scope.now) next.old ++ expr_uses (scope_of scope.now) (expr_of path_of condition.now))) }
     ensures body { IfOk result (λ t. Means (unit_of names.now)
         (resolved_stmt (unit_of names.now) (stmt_of path_of body.now) (scope_of scope.now) next.old) (stmt_of (λ r. r) t.0.value)) }
     ensures condition { IfOk result (λ t. Means (unit_of names.now)
         (resolved_expr (at_scope (unit_of names.now) (scope_of scope.now)) (expr_of path_of condition.now)) (expr_of (λ r. r) t.1)) }
     ensures next { IfOk result (λ t. next.new ≡ next.old + slots_of (stmt_of path_of body.now)) }
-    ensures err { IfErr result (λ f. FirstFault f (unit_of names.now)
+    ensures refused { IfErr result (λ f. FirstFault f (unit_of names.now)
         (stmt_uses (stmt_of path_of body.now) (scope_of scope.now) next.old ++ expr_uses (scope_of scope.now) (expr_of path_of condition.now))) }
 {
     let body = copy_boxed(body, names, scope, next)?;
@@ -226,7 +226,7 @@ fn copy_head(
         (resolved_optional (at_scope (unit_of names.now) (scope_of scope.now)) (option_map (expr_of path_of) condition.now)) (option_map (expr_of (λ r. r)) t.1)) }
     ensures update { IfOk result (λ t. Means (unit_of names.now)
         (resolved_optional (at_scope (unit_of names.now) (scope_of scope.now)) (option_map (expr_of path_of) update.now)) (option_map (expr_of (λ r. r)) t.2)) }
-    ensures err { IfErr result (λ f. (rest : List Use) → FirstFault f (unit_of names.now)
+    ensures refused { IfErr result (λ f. (rest : List Use) → FirstFault f (unit_of names.now)
         (optional_uses (scope_of scope.now) (option_map (expr_of path_of) initial.now) ++ (optional_uses (scope_of scope.now) (option_map (expr_of path_of) condition.now) ++ (optional_uses (scope_of scope.now) (option_map (expr_of path_of) update.now) ++ rest)))) }
 {
     let initial = copy_optional(initial, names, scope)?;
@@ -247,7 +247,7 @@ fn copy_looped<'a>(
     next: &mut u8,
 ) -> Result<(Head, Box<Stmt<Target>>), NameFault>
     requires { next.old + slots_of (stmt_of path_of body.now) ≤ 64 }
-    ensures none { IfOk result (λ t. NoFault (unit_of names.now)
+    ensures accepted { IfOk result (λ t. NoFault (unit_of names.now)
         (optional_uses (scope_of scope.now) (option_map (expr_of path_of) initial.now) ++ (optional_uses (scope_of scope.now) (option_map (expr_of path_of) condition.now) ++ (optional_uses (scope_of scope.now) (option_map (expr_of path_of) update.now) ++ stmt_uses (stmt_of path_of body.now) (scope_of scope.now) next.old)))) }
     ensures initial { IfOk result (λ t. Means (unit_of names.now)
         (resolved_optional (at_scope (unit_of names.now) (scope_of scope.now)) (option_map (expr_of path_of) initial.now)) (option_map (expr_of (λ r. r)) t.0.0)) }
@@ -258,7 +258,7 @@ fn copy_looped<'a>(
     ensures body { IfOk result (λ t. Means (unit_of names.now)
         (resolved_stmt (unit_of names.now) (stmt_of path_of body.now) (scope_of scope.now) next.old) (stmt_of (λ r. r) t.1.value)) }
     ensures next { IfOk result (λ t. next.new ≡ next.old + slots_of (stmt_of path_of body.now)) }
-    ensures err { IfErr result (λ f. FirstFault f (unit_of names.now)
+    ensures refused { IfErr result (λ f. FirstFault f (unit_of names.now)
         (optional_uses (scope_of scope.now) (option_map (expr_of path_of) initial.now) ++ (optional_uses (scope_of scope.now) (option_map (expr_of path_of) condition.now) ++ (optional_uses (scope_of scope.now) (option_map (expr_of path_of) update.now) ++ stmt_uses (stmt_of path_of body.now) (scope_of scope.now) next.old)))) }
 {
     let head = copy_head(initial, condition, update, names, scope)?;
@@ -276,14 +276,14 @@ fn copy_switched<'a>(
     next: &mut u8,
 ) -> Result<(Expr<Target>, Vec<Part<Target>>), NameFault>
     requires { next.old + slots_in (body_from (map (part_of path_of) parts.now)) ≤ 64 }
-    ensures none { IfOk result (λ t. NoFault (unit_of names.now)
+    ensures accepted { IfOk result (λ t. NoFault (unit_of names.now)
         (expr_uses (scope_of scope.now) (expr_of path_of on.now) ++ body_uses (body_from (map (part_of path_of) parts.now)) (scope_of scope.now) next.old)) }
     ensures on { IfOk result (λ t. Means (unit_of names.now)
         (resolved_expr (at_scope (unit_of names.now) (scope_of scope.now)) (expr_of path_of on.now)) (expr_of (λ r. r) t.0)) }
     ensures parts { IfOk result (λ t. Means (unit_of names.now)
         (resolved_body (unit_of names.now) (body_from (map (part_of path_of) parts.now)) (scope_of scope.now) next.old) (body_from (map (part_of (λ r. r)) t.1.items))) }
     ensures next { IfOk result (λ t. next.new ≡ next.old + slots_in (body_from (map (part_of path_of) parts.now))) }
-    ensures err { IfErr result (λ f. FirstFault f (unit_of names.now)
+    ensures refused { IfErr result (λ f. FirstFault f (unit_of names.now)
         (expr_uses (scope_of scope.now) (expr_of path_of on.now) ++ body_uses (body_from (map (part_of path_of) parts.now)) (scope_of scope.now) next.old)) }
 {
     let on = copy_expr(on, names, scope)?;
@@ -300,11 +300,11 @@ pub fn copy_body<'a>(
     next: &mut u8,
 ) -> Result<Vec<Part<Target>>, NameFault>
     requires { next.old + slots_in (body_from (map (part_of path_of) parts.now)) ≤ 64 }
-    ensures none { IfOk result (λ t. NoFault (unit_of names.now) (body_uses (body_from (map (part_of path_of) parts.now)) (scope_of scope.now) next.old)) }
-    ensures ok { IfOk result (λ t. Means (unit_of names.now)
+    ensures accepted { IfOk result (λ t. NoFault (unit_of names.now) (body_uses (body_from (map (part_of path_of) parts.now)) (scope_of scope.now) next.old)) }
+    ensures sound { IfOk result (λ t. Means (unit_of names.now)
         (resolved_body (unit_of names.now) (body_from (map (part_of path_of) parts.now)) (scope_of scope.now) next.old) (body_from (map (part_of (λ r. r)) t.items))) }
     ensures next { IfOk result (λ t. next.new ≡ next.old + slots_in (body_from (map (part_of path_of) parts.now))) }
-    ensures err { IfErr result (λ f. FirstFault f (unit_of names.now) (body_uses (body_from (map (part_of path_of) parts.now)) (scope_of scope.now) next.old)) }
+    ensures refused { IfErr result (λ f. FirstFault f (unit_of names.now) (body_uses (body_from (map (part_of path_of) parts.now)) (scope_of scope.now) next.old)) }
 {
     let mut inner = inner_scope(scope, names.alloc)?;
     let mut copies = Vec::new(names.alloc);
@@ -323,11 +323,11 @@ fn add_parts<'a>(
 ) -> Result<(), NameFault>
     requires room { next.old + slots_in (body_from (map (part_of path_of) parts.now)) ≤ 64 }
     requires empty { copies.old.items ≡ [] }
-    ensures none { OnOk result (NoFault (unit_of names.now) (body_uses (body_from (map (part_of path_of) parts.now)) (scope_of scope.old.items) next.old)) }
-    ensures ok { OnOk result (Means (unit_of names.now)
+    ensures accepted { OnOk result (NoFault (unit_of names.now) (body_uses (body_from (map (part_of path_of) parts.now)) (scope_of scope.old.items) next.old)) }
+    ensures sound { OnOk result (Means (unit_of names.now)
         (resolved_body (unit_of names.now) (body_from (map (part_of path_of) parts.now)) (scope_of scope.old.items) next.old) (body_from (map (part_of (λ r. r)) copies.new.items))) }
     ensures next { OnOk result (next.new ≡ next.old + slots_in (body_from (map (part_of path_of) parts.now))) }
-    ensures err { IfErr result (λ f. FirstFault f (unit_of names.now) (body_uses (body_from (map (part_of path_of) parts.now)) (scope_of scope.old.items) next.old)) }
+    ensures refused { IfErr result (λ f. FirstFault f (unit_of names.now) (body_uses (body_from (map (part_of path_of) parts.now)) (scope_of scope.old.items) next.old)) }
 {
     for part in parts {
         copies.push(copy_part(part, names, scope, next)?)?;
@@ -345,11 +345,11 @@ fn copy_part<'a>(
     next: &mut u8,
 ) -> Result<Part<Target>, NameFault>
     requires { next.old + slots_in (body_from (part_of path_of part.now ∷ [])) ≤ 64 }
-    ensures none { IfOk result (λ t. NoFault (unit_of names.now) (part_uses (scope_of scope.old.items) next.old (part_of path_of part.now))) }
-    ensures ok { IfOk result (λ t. Means (unit_of names.now) (resolved_part (unit_of names.now) (scope_of scope.old.items) next.old (part_of path_of part.now)) (part_of (λ r. r) t)) }
+    ensures accepted { IfOk result (λ t. NoFault (unit_of names.now) (part_uses (scope_of scope.old.items) next.old (part_of path_of part.now))) }
+    ensures sound { IfOk result (λ t. Means (unit_of names.now) (resolved_part (unit_of names.now) (scope_of scope.old.items) next.old (part_of path_of part.now)) (part_of (λ r. r) t)) }
     ensures scope { IfOk result (λ t. scope_of scope.new.items ≡ scope_behind (scope_of scope.old.items) next.old (part_of path_of part.now)) }
     ensures next { IfOk result (λ t. next.new ≡ next_behind next.old (part_of path_of part.now)) }
-    ensures err { IfErr result (λ f. FirstFault f (unit_of names.now) (part_uses (scope_of scope.old.items) next.old (part_of path_of part.now))) }
+    ensures refused { IfErr result (λ f. FirstFault f (unit_of names.now) (part_uses (scope_of scope.old.items) next.old (part_of path_of part.now))) }
 {
     match part {
         Part::Declare(declarators) => {

@@ -3,7 +3,7 @@
 ghost use Rattle.std.specs.Prelude.{◌≡◌, [], IfErr, IfOk, OnOk, map, option_map, string_bytes};
 ghost use Rattle.edd_syntax.specs.ItemView.{response_code_of};
 ghost use Rattle.edd_syntax.specs.WordsView.{text_of};
-ghost use Rattle.edd_name_meanings.specs.declared.fault.NameFault.TheVariants.{NoMemory};
+ghost use Rattle.edd_name_meanings.specs.declared.fault.NameFault.TheVariants.{Memory};
 
 use edd_name_meanings::fault::NameFault;
 use edd_syntax::item::ResponseCode;
@@ -12,8 +12,8 @@ use std::alloc::Global;
 
 /// A copy of a text.
 pub fn copy_text(text: &Text, alloc: Global) -> Result<Text, NameFault>
-    ensures ok { IfOk result (λ t. text_of t ≡ text_of text.now) }
-    ensures err { IfErr result (λ f. f ≡ NoMemory) }
+    ensures sound { IfOk result (λ t. text_of t ≡ text_of text.now) }
+    ensures refused { IfErr result (λ f. f ≡ Memory) }
 {
     match text {
         Text::Quoted(raw) => Ok(Text::Quoted(String::from_str(alloc, raw)?)),
@@ -23,8 +23,8 @@ pub fn copy_text(text: &Text, alloc: Global) -> Result<Text, NameFault>
 
 /// A copy of a text that may be missing.
 pub fn copy_optional_text(text: &Option<Text>, alloc: Global) -> Result<Option<Text>, NameFault>
-    ensures ok { IfOk result (λ t. option_map text_of t ≡ option_map text_of text.now) }
-    ensures err { IfErr result (λ f. f ≡ NoMemory) }
+    ensures sound { IfOk result (λ t. option_map text_of t ≡ option_map text_of text.now) }
+    ensures refused { IfErr result (λ f. f ≡ Memory) }
 {
     match text {
         Some(text) => Ok(Some(copy_text(text, alloc)?)),
@@ -34,8 +34,8 @@ pub fn copy_optional_text(text: &Option<Text>, alloc: Global) -> Result<Option<T
 
 fn add_words(words: &[String], alloc: Global, copies: &mut Vec<String>) -> Result<(), NameFault>
     requires { copies.old.items ≡ [] }
-    ensures ok { OnOk result (map string_bytes copies.new.items ≡ map string_bytes words.now) }
-    ensures err { IfErr result (λ f. f ≡ NoMemory) }
+    ensures sound { OnOk result (map string_bytes copies.new.items ≡ map string_bytes words.now) }
+    ensures refused { IfErr result (λ f. f ≡ Memory) }
 {
     for word in words {
         copies.push(String::from_str(alloc, word)?)?;
@@ -45,8 +45,8 @@ fn add_words(words: &[String], alloc: Global, copies: &mut Vec<String>) -> Resul
 
 /// A copy of words.
 pub fn copy_words(words: &[String], alloc: Global) -> Result<Vec<String>, NameFault>
-    ensures ok { IfOk result (λ all. map string_bytes all.items ≡ map string_bytes words.now) }
-    ensures err { IfErr result (λ f. f ≡ NoMemory) }
+    ensures sound { IfOk result (λ all. map string_bytes all.items ≡ map string_bytes words.now) }
+    ensures refused { IfErr result (λ f. f ≡ Memory) }
 {
     let mut copies = Vec::new(alloc);
     add_words(words, alloc, &mut copies)?;
@@ -54,8 +54,8 @@ pub fn copy_words(words: &[String], alloc: Global) -> Result<Vec<String>, NameFa
 }
 
 fn copy_response(response: &ResponseCode, alloc: Global) -> Result<ResponseCode, NameFault>
-    ensures ok { IfOk result (λ r. response_code_of r ≡ response_code_of response.now) }
-    ensures err { IfErr result (λ f. f ≡ NoMemory) }
+    ensures sound { IfOk result (λ r. response_code_of r ≡ response_code_of response.now) }
+    ensures refused { IfErr result (λ f. f ≡ Memory) }
 {
     Ok(ResponseCode {
         number: response.number,
@@ -70,8 +70,8 @@ fn add_responses(
     copies: &mut Vec<ResponseCode>,
 ) -> Result<(), NameFault>
     requires { copies.old.items ≡ [] }
-    ensures ok { OnOk result (map response_code_of copies.new.items ≡ map response_code_of responses.now) }
-    ensures err { IfErr result (λ f. f ≡ NoMemory) }
+    ensures sound { OnOk result (map response_code_of copies.new.items ≡ map response_code_of responses.now) }
+    ensures refused { IfErr result (λ f. f ≡ Memory) }
 {
     for response in responses {
         copies.push(copy_response(response, alloc)?)?;
@@ -84,8 +84,8 @@ pub fn copy_responses(
     responses: &[ResponseCode],
     alloc: Global,
 ) -> Result<Vec<ResponseCode>, NameFault>
-    ensures ok { IfOk result (λ all. map response_code_of all.items ≡ map response_code_of responses.now) }
-    ensures err { IfErr result (λ f. f ≡ NoMemory) }
+    ensures sound { IfOk result (λ all. map response_code_of all.items ≡ map response_code_of responses.now) }
+    ensures refused { IfErr result (λ f. f ≡ Memory) }
 {
     let mut copies = Vec::new(alloc);
     add_responses(responses, alloc, &mut copies)?;

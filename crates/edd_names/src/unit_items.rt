@@ -40,9 +40,9 @@ fn like(item: &Item<Path>, name: String, attributes: Vec<Attribute<Target>>) -> 
 #[tactic(auto, using(crate::proofs::UseLaws::faults))]
 fn copy_item(item: &Item<Path>, names: &Names) -> Result<Item<Target>, NameFault>
     requires { nat_lt local_limit (locals_of (item_of path_of item.now)) ≡ false }
-    ensures none { IfOk result (λ t. NoFault (unit_of names.now) (item_uses (item_of path_of item.now))) }
-    ensures ok { IfOk result (λ t. Means (unit_of names.now) (resolved_item (unit_of names.now) (item_of path_of item.now)) (item_of (λ r. r) t)) }
-    ensures err { IfErr result (λ f. FirstFault f (unit_of names.now) (item_uses (item_of path_of item.now))) }
+    ensures accepted { IfOk result (λ t. NoFault (unit_of names.now) (item_uses (item_of path_of item.now))) }
+    ensures sound { IfOk result (λ t. Means (unit_of names.now) (resolved_item (unit_of names.now) (item_of path_of item.now)) (item_of (λ r. r) t)) }
+    ensures refused { IfErr result (λ f. FirstFault f (unit_of names.now) (item_uses (item_of path_of item.now))) }
 {
     let attributes = copy_attributes(item.attributes(), names, item)?;
     let name = String::from_str(names.alloc, item.name())?;
@@ -57,9 +57,9 @@ fn add_items(
 ) -> Result<(), NameFault>
     requires room { list_any (λ i. nat_lt local_limit (locals_of i)) (map (item_of path_of) items.now) ≡ false }
     requires empty { copies.old.items ≡ [] }
-    ensures none { OnOk result (NoFault (unit_of names.now) (flat_map item_uses (map (item_of path_of) items.now))) }
-    ensures ok { OnOk result (Means (unit_of names.now) (each (resolved_item (unit_of names.now)) (map (item_of path_of) items.now)) (map (item_of (λ r. r)) copies.new.items)) }
-    ensures err { IfErr result (λ f. FirstFault f (unit_of names.now) (flat_map item_uses (map (item_of path_of) items.now))) }
+    ensures accepted { OnOk result (NoFault (unit_of names.now) (flat_map item_uses (map (item_of path_of) items.now))) }
+    ensures sound { OnOk result (Means (unit_of names.now) (each (resolved_item (unit_of names.now)) (map (item_of path_of) items.now)) (map (item_of (λ r. r)) copies.new.items)) }
+    ensures refused { IfErr result (λ f. FirstFault f (unit_of names.now) (flat_map item_uses (map (item_of path_of) items.now))) }
 {
     for item in items {
         copies.push(copy_item(item, names)?)?;
@@ -71,9 +71,9 @@ fn add_items(
 #[tactic(auto, using(crate::proofs::UseLaws::faults))]
 pub fn copy_items(items: &[Item<Path>], names: &Names) -> Result<Vec<Item<Target>>, NameFault>
     requires { list_any (λ i. nat_lt local_limit (locals_of i)) (map (item_of path_of) items.now) ≡ false }
-    ensures none { IfOk result (λ t. NoFault (unit_of names.now) (flat_map item_uses (map (item_of path_of) items.now))) }
-    ensures ok { IfOk result (λ t. Means (unit_of names.now) (each (resolved_item (unit_of names.now)) (map (item_of path_of) items.now)) (map (item_of (λ r. r)) t.items)) }
-    ensures err { IfErr result (λ f. FirstFault f (unit_of names.now) (flat_map item_uses (map (item_of path_of) items.now))) }
+    ensures accepted { IfOk result (λ t. NoFault (unit_of names.now) (flat_map item_uses (map (item_of path_of) items.now))) }
+    ensures sound { IfOk result (λ t. Means (unit_of names.now) (each (resolved_item (unit_of names.now)) (map (item_of path_of) items.now)) (map (item_of (λ r. r)) t.items)) }
+    ensures refused { IfErr result (λ f. FirstFault f (unit_of names.now) (flat_map item_uses (map (item_of path_of) items.now))) }
 {
     let mut copies = Vec::new(names.alloc);
     add_items(items, names, &mut copies)?;

@@ -44,8 +44,8 @@ fn fault_of_rule(rule: Rule, line: u32) -> TypeFault
 }
 
 fn check_types(alloc: Global, items: &[Item<Target>]) -> Result<(), TypeFault>
-    ensures ok { OnOk result (None ≡ first_of (in_items (map (item_of (λ r. r)) items.now))) }
-    ensures err { IfErr result (IsFirstOf (in_items (map (item_of (λ r. r)) items.now))) }
+    ensures sound { OnOk result (None ≡ first_of (in_items (map (item_of (λ r. r)) items.now))) }
+    ensures refused { IfErr result (IsFirstOf (in_items (map (item_of (λ r. r)) items.now))) }
 {
     match wrong_type(items) {
         None => Ok(()),
@@ -54,8 +54,8 @@ fn check_types(alloc: Global, items: &[Item<Target>]) -> Result<(), TypeFault>
 }
 
 fn check_rule(alloc: Global, items: &[Item<Target>], rule: Rule) -> Result<(), TypeFault>
-    ensures ok { OnOk result (None ≡ first_of (broken rule (map (item_of (λ r. r)) items.now))) }
-    ensures err { IfErr result (IsFirstOf (broken rule (map (item_of (λ r. r)) items.now))) }
+    ensures sound { OnOk result (None ≡ first_of (broken rule (map (item_of (λ r. r)) items.now))) }
+    ensures refused { IfErr result (IsFirstOf (broken rule (map (item_of (λ r. r)) items.now))) }
 {
     match check_items(items, rule, alloc)? {
         None => Ok(()),
@@ -65,8 +65,8 @@ fn check_rule(alloc: Global, items: &[Item<Target>], rule: Rule) -> Result<(), T
 
 #[tactic(auto, using(edd_syntax::proofs::FirstLaws::firsts), unfolding(crate::specs::Rules::all_broken))]
 fn check_all(alloc: Global, items: &[Item<Target>]) -> Result<(), TypeFault>
-    ensures ok { OnOk result (None ≡ first_of (all_broken (map (item_of (λ r. r)) items.now))) }
-    ensures err { IfErr result (IsFirstOf (all_broken (map (item_of (λ r. r)) items.now))) }
+    ensures sound { OnOk result (None ≡ first_of (all_broken (map (item_of (λ r. r)) items.now))) }
+    ensures refused { IfErr result (IsFirstOf (all_broken (map (item_of (λ r. r)) items.now))) }
 {
     check_types(alloc, items)?;
     check_rule(alloc, items, Rule::Mismatch)?;

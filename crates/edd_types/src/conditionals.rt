@@ -8,14 +8,14 @@ ghost use Rattle.edd_types.specs.Breaches.{refusal_of, in_cond, in_conds, in_arm
 ghost use Rattle.edd_types.specs.Found.{found};
 
 use crate::breach::{Breach, check_expression};
-use crate::values::Value;
+use crate::values::CheckValue;
 use edd_syntax::cond::{Arm, Cond};
 use edd_syntax::reference::Target;
 
 /// The line of the first such breach in a single value.
 #[cycle(conditionals)]
 #[tactic(auto, using(crate::proofs::UnderConditions::walks))]
-pub fn check_cond<V: Value>(c: &Cond<Target, V>, breach: Breach) -> Result<(), u32>
+pub fn check_cond<V: CheckValue>(c: &Cond<Target, V>, breach: Breach) -> Result<(), u32>
     ensures { found (refusal_of breach) result ≡ first_of (in_cond breach (V.breaches breach) (cond_of (λ r. r) (λ v. v) c.now)) }
 {
     match c {
@@ -39,7 +39,7 @@ pub fn check_cond<V: Value>(c: &Cond<Target, V>, breach: Breach) -> Result<(), u
 /// The line of the first such breach in a list.
 #[cycle(conditionals)]
 #[tactic(auto, using(crate::proofs::UnderConditions::walks))]
-pub fn check_conds<V: Value>(all: &[Cond<Target, V>], breach: Breach) -> Result<(), u32>
+pub fn check_conds<V: CheckValue>(all: &[Cond<Target, V>], breach: Breach) -> Result<(), u32>
     ensures { found (refusal_of breach) result
         ≡ first_of (in_conds breach (V.breaches breach) (conds_from (map (cond_of (λ r. r) (λ v. v)) all.now))) }
 {
@@ -51,7 +51,7 @@ pub fn check_conds<V: Value>(all: &[Cond<Target, V>], breach: Breach) -> Result<
 
 #[cycle(conditionals)]
 #[tactic(auto, using(crate::proofs::UnderConditions::walks))]
-fn check_arms<V: Value>(arms: &[Arm<Target, V>], breach: Breach) -> Result<(), u32>
+fn check_arms<V: CheckValue>(arms: &[Arm<Target, V>], breach: Breach) -> Result<(), u32>
     ensures { found (refusal_of breach) result
         ≡ first_of (in_arms breach (V.breaches breach) false (arms_from (map (arm_of (λ r. r) (λ v. v)) arms.now))) }
 {
@@ -65,7 +65,7 @@ fn check_arms<V: Value>(arms: &[Arm<Target, V>], breach: Breach) -> Result<(), u
 
 #[cycle(conditionals)]
 #[tactic(auto, using(crate::proofs::UnderConditions::walks))]
-fn check_arm<V: Value>(arm: &Arm<Target, V>, breach: Breach, had: bool) -> Result<(), u32>
+fn check_arm<V: CheckValue>(arm: &Arm<Target, V>, breach: Breach, had: bool) -> Result<(), u32>
     ensures { found (refusal_of breach) result
         ≡ first_of (in_arm breach (V.breaches breach) had (arm_of (λ r. r) (λ v. v) arm.now)) }
 {

@@ -17,7 +17,7 @@ use edd_syntax::text::Text;
 use edd_syntax::types::Handling;
 
 /// A value that may have a breach in it.
-pub trait Value {
+pub trait CheckValue {
     ghost breaches: { Breach → Self → List Refusal };
 
     /// The line of the first such breach.
@@ -25,7 +25,7 @@ pub trait Value {
         ensures { found (refusal_of breach) result ≡ first_of (breaches breach self.now) };
 }
 
-impl Value for Text {
+impl CheckValue for Text {
     ghost breaches = { in_nothing };
 
     fn check_value(&self, _breach: Breach) -> Result<(), u32> {
@@ -33,7 +33,7 @@ impl Value for Text {
     }
 }
 
-impl Value for Handling {
+impl CheckValue for Handling {
     ghost breaches = { in_nothing };
 
     fn check_value(&self, _breach: Breach) -> Result<(), u32> {
@@ -41,7 +41,7 @@ impl Value for Handling {
     }
 }
 
-impl Value for bool {
+impl CheckValue for bool {
     ghost breaches = { in_nothing };
 
     fn check_value(&self, _breach: Breach) -> Result<(), u32> {
@@ -49,7 +49,7 @@ impl Value for bool {
     }
 }
 
-impl Value for MenuEntry<Target> {
+impl CheckValue for MenuEntry<Target> {
     ghost breaches = { in_nothing };
 
     fn check_value(&self, _breach: Breach) -> Result<(), u32> {
@@ -57,7 +57,7 @@ impl Value for MenuEntry<Target> {
     }
 }
 
-impl Value for Expr<Target> {
+impl CheckValue for Expr<Target> {
     ghost breaches = { λ b e. in_part b (expr_of (λ r. r) e) };
 
     fn check_value(&self, breach: Breach) -> Result<(), u32> {
@@ -65,7 +65,7 @@ impl Value for Expr<Target> {
     }
 }
 
-impl Value for Enumerator {
+impl CheckValue for Enumerator {
     ghost breaches = { λ b e. in_enumerator b (enumerator_of e) };
 
     fn check_value(&self, breach: Breach) -> Result<(), u32> {
@@ -76,7 +76,7 @@ impl Value for Enumerator {
     }
 }
 
-impl Value for DataItem<Target> {
+impl CheckValue for DataItem<Target> {
     ghost breaches = { λ b d. in_data_item b (data_item_of (λ r. r) d) };
 
     fn check_value(&self, breach: Breach) -> Result<(), u32> {

@@ -10,7 +10,7 @@ use Rattle.edd_compiler.proofs.source.checked_of.Goals as goal
 pub returns-in_err-resolved-clause-refused : goal.returns-in_err-resolved-clause-refused
 returns-in_err-resolved-clause-refused c =
     let p = err_from_is_err_and c.from_residual-in_err-resolved.result c.from_residual-in_err-resolved.ensures.1 in rw (p.1, p.2)
-    (name_refused c.args.text.now (unit_view c.in_ok-unit.unit) c.in_ok-unit.ensures.unit c.in_err-resolved.field-0.0 c.in_err-resolved.ensures.err)
+    (name_refused c.args.text.now (unit_view c.in_ok-unit.unit) c.in_ok-unit.ensures.unit c.in_err-resolved.field-0.0 c.in_err-resolved.ensures.refused)
 
 pub returns-clause-description : goal.returns-clause-description
 returns-clause-description c =
@@ -20,8 +20,8 @@ returns-clause-description c =
         is_resolved = record {
           unit = unit_view c.in_ok-unit.unit;
           well_formed = c.in_ok-unit.unit.kept;
-          meanings = c.in_ok-resolved.ensures.ok ∙ ap Some (sym same);
-          no_breach = c.in_ok-resolved.ensures.none;
+          meanings = c.in_ok-resolved.ensures.sound ∙ ap Some (sym same);
+          no_breach = c.in_ok-resolved.ensures.accepted;
         };
         no_breach = ap subset_breaches same ∙ c.in_ok-check.ensures.accepted;
       },

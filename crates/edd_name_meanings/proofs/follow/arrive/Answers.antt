@@ -3,8 +3,8 @@ use Rattle.edd_name_meanings.specs.Directory.{unit_of}
 use Rattle.edd_name_meanings.proofs.PathLaws.{arrives, unknown}
 use Rattle.edd_name_meanings.proofs.follow.arrive.Goals as goal
 
-pub returns-in-Some-clause-ok : goal.returns-in-Some-clause-ok
-returns-in-Some-clause-ok c = λ all meant r. arrives (unit_of c.args.names.now) c.args.allowed.now all meant c.args.place c.in-Some.item c.in-Some.is (sym c.is_among.ensures ∙ c.if-not-is_among.false) r
+pub returns-in-Some-clause-sound : goal.returns-in-Some-clause-sound
+returns-in-Some-clause-sound c = λ all meant r. arrives (unit_of c.args.names.now) c.args.allowed.now all meant c.args.here c.in-Some.item c.in-Some.is (sym c.is_among.ensures ∙ c.if-not-is_among.false) r
 
-pub returns-in-None-clause-ok : goal.returns-in-None-clause-ok
-returns-in-None-clause-ok c = λ all meant r. unknown (unit_of c.args.names.now) c.args.allowed.now all meant c.args.place _ c.in-None.is (sym c.is_among.ensures ∙ c.if-not-is_among.false) r
+pub returns-in-None-clause-sound : goal.returns-in-None-clause-sound
+returns-in-None-clause-sound c = λ all meant r. unknown (unit_of c.args.names.now) c.args.allowed.now all meant c.args.here _ c.in-None.is (sym c.is_among.ensures ∙ c.if-not-is_among.false) r

@@ -7,10 +7,10 @@ use Rattle.edd_name_meanings.specs.Directory.{unit_of}
 use Rattle.edd_name_meanings.specs.Paths.{Reaches}
 use Rattle.edd_name_meanings.proofs.follow.follow.Given as goal
 
--- at the place, the rest of the path has the faults and the meaning of the whole
+-- at this step, the rest of the path has the faults and the meaning of the whole
 abbrev pub invariant-loop-member : goal.invariant-loop-member
 invariant-loop-member l =
     Reaches (unit_of l.names) l.allowed
     (faults_along (unit_of l.names) l.allowed (string_bytes l.path.base) (kind_of l.fn.from) (Some l.fn.from) (map string_bytes l.path.members.items))
     (along (unit_of l.names) l.fn.from (map string_bytes l.path.members.items))
-    l.place (map string_bytes (drop l.member-index l.path.members.items))
+    l.here (map string_bytes (drop l.member-index l.path.members.items))

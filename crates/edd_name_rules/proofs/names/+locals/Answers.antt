@@ -21,32 +21,32 @@ check_parts-loop-part-init t c = λ b h. walked_at_start (part_of path_of) names
 pub check_parts-loop-part-preserved : goal.check_parts-loop-part-preserved
 check_parts-loop-part-preserved t c = λ b h.
     walked_more (part_of path_of) names_of_part part_repeats (λ b ps. repeated_locals b (body_from ps)) part_step b c.loop-part.block c.check_part.new.block c.loop-part.part-index c.args.parts.now c.part-item.result (omega arith) c.part-item.is
-    c.in_ok-check_part.ensures.ok (c.loop-part.invariant b h)
+    c.in_ok-check_part.ensures.sound (c.loop-part.invariant b h)
 
-pub check_parts-returns-in_err-check_part-clause-err : goal.check_parts-returns-in_err-check_part-clause-err
-check_parts-returns-in_err-check_part-clause-err t c =
+pub check_parts-returns-in_err-check_part-clause-refused : goal.check_parts-returns-in_err-check_part-clause-refused
+check_parts-returns-in_err-check_part-clause-refused t c =
     passed c.from_residual.result c.in_err-check_part.field-0.0 _ c.from_residual.ensures.1
     (λ b h. walked_stops (part_of path_of) names_of_part part_repeats (λ b ps. repeated_locals b (body_from ps)) part_step b c.in_err-check_part.field-0.0 c.loop-part.block c.loop-part.part-index c.args.parts.now c.part-item.result (omega arith) c.part-item.is
-    c.in_err-check_part.ensures.err (c.loop-part.invariant b h))
+    c.in_err-check_part.ensures.refused (c.loop-part.invariant b h))
 
-pub check_parts-returns-clause-ok : goal.check_parts-returns-clause-ok
-check_parts-returns-clause-ok t c = λ b h.
+pub check_parts-returns-clause-sound : goal.check_parts-returns-clause-sound
+check_parts-returns-clause-sound t c = λ b h.
     walked_at_end (part_of path_of) names_of_part part_repeats (λ b ps. repeated_locals b (body_from ps)) part_step b (λ b. refl) c.loop-part.block c.loop-part.part-index c.args.parts.now (drop_of_length-le c.args.parts.now (omega arith)) (c.loop-part.invariant b h)
 
-pub check_inside-returns-in-Block-clause-ok : goal.check_inside-returns-in-Block-clause-ok
-check_inside-returns-in-Block-clause-ok t c = subst (λ ns. OnOk c.check_block.result (None ≡ first_of ns)) (ap (λ xs. repeated_locals [] (body_from (map (part_of path_of) xs))) c.deref.ensures.value ∙ ap repeated_inside (sym (block_is path_of c.args.s.now _ c.in-Block.is))) c.check_block.ensures.ok
+pub check_inside-returns-in-Block-clause-sound : goal.check_inside-returns-in-Block-clause-sound
+check_inside-returns-in-Block-clause-sound t c = subst (λ ns. OnOk c.check_block.result (None ≡ first_of ns)) (ap (λ xs. repeated_locals [] (body_from (map (part_of path_of) xs))) c.deref.ensures.value ∙ ap repeated_inside (sym (block_is path_of c.args.s.now _ c.in-Block.is))) c.check_block.ensures.sound
 
-pub check_inside-returns-in-Block-clause-err : goal.check_inside-returns-in-Block-clause-err
-check_inside-returns-in-Block-clause-err t c = subst (λ ns. IfErr c.check_block.result (λ f. IsDuplicate f ns)) (ap (λ xs. repeated_locals [] (body_from (map (part_of path_of) xs))) c.deref.ensures.value ∙ ap repeated_inside (sym (block_is path_of c.args.s.now _ c.in-Block.is))) c.check_block.ensures.err
+pub check_inside-returns-in-Block-clause-refused : goal.check_inside-returns-in-Block-clause-refused
+check_inside-returns-in-Block-clause-refused t c = subst (λ ns. IfErr c.check_block.result (λ f. IsDuplicate f ns)) (ap (λ xs. repeated_locals [] (body_from (map (part_of path_of) xs))) c.deref.ensures.value ∙ ap repeated_inside (sym (block_is path_of c.args.s.now _ c.in-Block.is))) c.check_block.ensures.refused
 
-pub check_inside-returns-in-Switch-clause-ok : goal.check_inside-returns-in-Switch-clause-ok
-check_inside-returns-in-Switch-clause-ok t c = subst (λ ns. OnOk c.check_block-in-Switch.result (None ≡ first_of ns)) (ap (λ xs. repeated_locals [] (body_from (map (part_of path_of) xs))) c.deref-in-Switch.ensures.value ∙ ap repeated_inside (sym (switch_is path_of c.args.s.now _ _ c.in-Switch.is))) c.check_block-in-Switch.ensures.ok
+pub check_inside-returns-in-Switch-clause-sound : goal.check_inside-returns-in-Switch-clause-sound
+check_inside-returns-in-Switch-clause-sound t c = subst (λ ns. OnOk c.check_block-in-Switch.result (None ≡ first_of ns)) (ap (λ xs. repeated_locals [] (body_from (map (part_of path_of) xs))) c.deref-in-Switch.ensures.value ∙ ap repeated_inside (sym (switch_is path_of c.args.s.now _ _ c.in-Switch.is))) c.check_block-in-Switch.ensures.sound
 
-pub check_inside-returns-in-Switch-clause-err : goal.check_inside-returns-in-Switch-clause-err
-check_inside-returns-in-Switch-clause-err t c = subst (λ ns. IfErr c.check_block-in-Switch.result (λ f. IsDuplicate f ns)) (ap (λ xs. repeated_locals [] (body_from (map (part_of path_of) xs))) c.deref-in-Switch.ensures.value ∙ ap repeated_inside (sym (switch_is path_of c.args.s.now _ _ c.in-Switch.is))) c.check_block-in-Switch.ensures.err
+pub check_inside-returns-in-Switch-clause-refused : goal.check_inside-returns-in-Switch-clause-refused
+check_inside-returns-in-Switch-clause-refused t c = subst (λ ns. IfErr c.check_block-in-Switch.result (λ f. IsDuplicate f ns)) (ap (λ xs. repeated_locals [] (body_from (map (part_of path_of) xs))) c.deref-in-Switch.ensures.value ∙ ap repeated_inside (sym (switch_is path_of c.args.s.now _ _ c.in-Switch.is))) c.check_block-in-Switch.ensures.refused
 
-pub check_part-returns-in-Declare-clause-ok : goal.check_part-returns-in-Declare-clause-ok
-check_part-returns-in-Declare-clause-ok t c =
+pub check_part-returns-in-Declare-clause-sound : goal.check_part-returns-in-Declare-clause-sound
+check_part-returns-in-Declare-clause-sound t c =
     subst (λ p. OnOk c.note_declarators.result ((b : List Name) → HasSeen b c.args.block.now → (None ≡ first_of (part_repeats b p)) × HasSeen (names_of_part p ++ b) c.note_declarators.new.seen))
     (ap (λ xs. Declare (map (declarator_of path_of) xs)) c.deref.ensures.value ∙ ap (part_of path_of) (sym c.in-Declare.is))
-    c.note_declarators.ensures.ok
+    c.note_declarators.ensures.sound

@@ -19,22 +19,22 @@ add_declarator-requires c = let n = c.loop-declarator.invariant.2 in let r = c.r
 
 pub loop-declarator-preserved : goal.loop-declarator-preserved
 loop-declarator-preserved c = (
-  one_more (unit_of c.args.names.now) (declarator_of path_of) (declarator_of (λ r. r)) behind uses_here uses_from uses_split (meant_here (unit_of c.args.names.now)) (meant_from (unit_of c.args.names.now)) (λ ws. ws) (declarators_joined (unit_of c.args.names.now)) (scope_of c.args.scope.now.items, c.args.next.now) (scope_of c.loop-declarator.scope.items, c.loop-declarator.next) (scope_of c.add_declarator.new.scope.items, c.add_declarator.new.next) c.loop-declarator.declarator-index c.args.declarators.now c.declarator-item.result c.loop-declarator.copies.items c.add_declarator.new.copies.items c.in_ok-add_declarator.ensures.ok.0 (omega arith) c.declarator-item.is (ap (λ p. (p, c.add_declarator.new.next)) c.in_ok-add_declarator.ensures.scope ∙ ap (λ n. (declared (declarator_of path_of c.declarator-item.result).place c.loop-declarator.next (scope_of c.loop-declarator.scope.items), n)) c.in_ok-add_declarator.ensures.next)
-      c.in_ok-add_declarator.ensures.none c.in_ok-add_declarator.ensures.ok.2 c.in_ok-add_declarator.ensures.ok.1 c.loop-declarator.invariant.0,
+  one_more (unit_of c.args.names.now) (declarator_of path_of) (declarator_of (λ r. r)) behind uses_here uses_from uses_split (meant_here (unit_of c.args.names.now)) (meant_from (unit_of c.args.names.now)) (λ ws. ws) (declarators_joined (unit_of c.args.names.now)) (scope_of c.args.scope.now.items, c.args.next.now) (scope_of c.loop-declarator.scope.items, c.loop-declarator.next) (scope_of c.add_declarator.new.scope.items, c.add_declarator.new.next) c.loop-declarator.declarator-index c.args.declarators.now c.declarator-item.result c.loop-declarator.copies.items c.add_declarator.new.copies.items c.in_ok-add_declarator.ensures.sound.0 (omega arith) c.declarator-item.is (ap (λ p. (p, c.add_declarator.new.next)) c.in_ok-add_declarator.ensures.scope ∙ ap (λ n. (declared (declarator_of path_of c.declarator-item.result).place c.loop-declarator.next (scope_of c.loop-declarator.scope.items), n)) c.in_ok-add_declarator.ensures.next)
+      c.in_ok-add_declarator.ensures.accepted c.in_ok-add_declarator.ensures.sound.2 c.in_ok-add_declarator.ensures.sound.1 c.loop-declarator.invariant.0,
   declared_more (declarator_of path_of) (scope_of c.loop-declarator.scope.items, c.loop-declarator.next) (scope_of c.add_declarator.new.scope.items, c.add_declarator.new.next) c.loop-declarator.declarator-index c.args.declarators.now c.declarator-item.result _ (omega arith) c.declarator-item.is (ap (λ p. (p, c.add_declarator.new.next)) c.in_ok-add_declarator.ensures.scope ∙ ap (λ n. (declared (declarator_of path_of c.declarator-item.result).place c.loop-declarator.next (scope_of c.loop-declarator.scope.items), n)) c.in_ok-add_declarator.ensures.next) c.loop-declarator.invariant.1,
   (let n = c.loop-declarator.invariant.2 in let m = c.in_ok-add_declarator.ensures.next in omega (arith, n, m)),
 )
 
-pub returns-in_err-add_declarator-clause-err : goal.returns-in_err-add_declarator-clause-err
-returns-in_err-add_declarator-clause-err c =
+pub returns-in_err-add_declarator-clause-refused : goal.returns-in_err-add_declarator-clause-refused
+returns-in_err-add_declarator-clause-refused c =
     passed c.from_residual.result c.in_err-add_declarator.field-0.0 _ c.from_residual.ensures.1
-    (stops (unit_of c.args.names.now) (declarator_of path_of) (declarator_of (λ r. r)) behind uses_here uses_from uses_split (meant_here (unit_of c.args.names.now)) (meant_from (unit_of c.args.names.now)) (λ ws. ws) (declarators_joined (unit_of c.args.names.now)) (scope_of c.args.scope.now.items, c.args.next.now) (scope_of c.loop-declarator.scope.items, c.loop-declarator.next) c.loop-declarator.declarator-index c.args.declarators.now c.declarator-item.result c.loop-declarator.copies.items c.in_err-add_declarator.field-0.0 (omega arith) c.declarator-item.is c.in_err-add_declarator.ensures.err c.loop-declarator.invariant.0)
+    (stops (unit_of c.args.names.now) (declarator_of path_of) (declarator_of (λ r. r)) behind uses_here uses_from uses_split (meant_here (unit_of c.args.names.now)) (meant_from (unit_of c.args.names.now)) (λ ws. ws) (declarators_joined (unit_of c.args.names.now)) (scope_of c.args.scope.now.items, c.args.next.now) (scope_of c.loop-declarator.scope.items, c.loop-declarator.next) c.loop-declarator.declarator-index c.args.declarators.now c.declarator-item.result c.loop-declarator.copies.items c.in_err-add_declarator.field-0.0 (omega arith) c.declarator-item.is c.in_err-add_declarator.ensures.refused c.loop-declarator.invariant.0)
 
-pub returns-clause-none : goal.returns-clause-none
-returns-clause-none c = none_at_end (unit_of c.args.names.now) (declarator_of path_of) (declarator_of (λ r. r)) behind uses_here uses_from uses_split (meant_here (unit_of c.args.names.now)) (meant_from (unit_of c.args.names.now)) (λ ws. ws) (declarators_joined (unit_of c.args.names.now)) (scope_of c.args.scope.now.items, c.args.next.now) (λ s. no_use (unit_of c.args.names.now)) (scope_of c.loop-declarator.scope.items, c.loop-declarator.next) c.loop-declarator.declarator-index c.args.declarators.now c.loop-declarator.copies.items (drop_of_length-le c.args.declarators.now (omega arith)) c.loop-declarator.invariant.0
+pub returns-clause-accepted : goal.returns-clause-accepted
+returns-clause-accepted c = none_at_end (unit_of c.args.names.now) (declarator_of path_of) (declarator_of (λ r. r)) behind uses_here uses_from uses_split (meant_here (unit_of c.args.names.now)) (meant_from (unit_of c.args.names.now)) (λ ws. ws) (declarators_joined (unit_of c.args.names.now)) (scope_of c.args.scope.now.items, c.args.next.now) (λ s. no_use (unit_of c.args.names.now)) (scope_of c.loop-declarator.scope.items, c.loop-declarator.next) c.loop-declarator.declarator-index c.args.declarators.now c.loop-declarator.copies.items (drop_of_length-le c.args.declarators.now (omega arith)) c.loop-declarator.invariant.0
 
-pub returns-clause-ok : goal.returns-clause-ok
-returns-clause-ok c = meant_at_end (unit_of c.args.names.now) (declarator_of path_of) (declarator_of (λ r. r)) behind uses_here uses_from uses_split (meant_here (unit_of c.args.names.now)) (meant_from (unit_of c.args.names.now)) (λ ws. ws) (declarators_joined (unit_of c.args.names.now)) (scope_of c.args.scope.now.items, c.args.next.now) (λ s. refl) (scope_of c.loop-declarator.scope.items, c.loop-declarator.next) c.loop-declarator.declarator-index c.args.declarators.now c.loop-declarator.copies.items (drop_of_length-le c.args.declarators.now (omega arith)) c.loop-declarator.invariant.0
+pub returns-clause-sound : goal.returns-clause-sound
+returns-clause-sound c = meant_at_end (unit_of c.args.names.now) (declarator_of path_of) (declarator_of (λ r. r)) behind uses_here uses_from uses_split (meant_here (unit_of c.args.names.now)) (meant_from (unit_of c.args.names.now)) (λ ws. ws) (declarators_joined (unit_of c.args.names.now)) (scope_of c.args.scope.now.items, c.args.next.now) (λ s. refl) (scope_of c.loop-declarator.scope.items, c.loop-declarator.next) c.loop-declarator.declarator-index c.args.declarators.now c.loop-declarator.copies.items (drop_of_length-le c.args.declarators.now (omega arith)) c.loop-declarator.invariant.0
 
 pub returns-clause-scope : goal.returns-clause-scope
 returns-clause-scope c =

@@ -19,33 +19,33 @@ add_arguments-loop-argument-init t c = at_start (unit_of c.args.names.now) (argu
 
 pub add_arguments-loop-argument-preserved : goal.add_arguments-loop-argument-preserved
 add_arguments-loop-argument-preserved t c =
-    one_more (unit_of c.args.names.now) (argument_of path_of) (argument_of (λ r. r)) (λ xs. argument_uses (scope_of c.args.scope.now) (arguments_from xs)) (argument_uses_split (scope_of c.args.scope.now)) (resolved_argument (meaning (unit_of c.args.names.now) (scope_of c.args.scope.now) variable_kinds)) (λ xs. resolved_arguments (meaning (unit_of c.args.names.now) (scope_of c.args.scope.now) variable_kinds) (arguments_from xs)) arguments_from (arguments_joined (meaning (unit_of c.args.names.now) (scope_of c.args.scope.now) variable_kinds)) c.loop-argument.argument-index c.args.arguments.now c.argument-item.result c.loop-argument.all.items c.add_argument.new.all.items c.in_ok-add_argument.ensures.ok.0 (omega arith) c.argument-item.is
-    c.in_ok-add_argument.ensures.none c.in_ok-add_argument.ensures.ok.2 c.in_ok-add_argument.ensures.ok.1 c.loop-argument.invariant
+    one_more (unit_of c.args.names.now) (argument_of path_of) (argument_of (λ r. r)) (λ xs. argument_uses (scope_of c.args.scope.now) (arguments_from xs)) (argument_uses_split (scope_of c.args.scope.now)) (resolved_argument (meaning (unit_of c.args.names.now) (scope_of c.args.scope.now) variable_kinds)) (λ xs. resolved_arguments (meaning (unit_of c.args.names.now) (scope_of c.args.scope.now) variable_kinds) (arguments_from xs)) arguments_from (arguments_joined (meaning (unit_of c.args.names.now) (scope_of c.args.scope.now) variable_kinds)) c.loop-argument.argument-index c.args.arguments.now c.argument-item.result c.loop-argument.all.items c.add_argument.new.all.items c.in_ok-add_argument.ensures.sound.0 (omega arith) c.argument-item.is
+    c.in_ok-add_argument.ensures.accepted c.in_ok-add_argument.ensures.sound.2 c.in_ok-add_argument.ensures.sound.1 c.loop-argument.invariant
 
-pub add_arguments-returns-in_err-add_argument-clause-err : goal.add_arguments-returns-in_err-add_argument-clause-err
-add_arguments-returns-in_err-add_argument-clause-err t c =
+pub add_arguments-returns-in_err-add_argument-clause-refused : goal.add_arguments-returns-in_err-add_argument-clause-refused
+add_arguments-returns-in_err-add_argument-clause-refused t c =
     passed c.from_residual.result c.in_err-add_argument.field-0.0 _ c.from_residual.ensures.1
-    (stops (unit_of c.args.names.now) (argument_of path_of) (argument_of (λ r. r)) (λ xs. argument_uses (scope_of c.args.scope.now) (arguments_from xs)) (argument_uses_split (scope_of c.args.scope.now)) (resolved_argument (meaning (unit_of c.args.names.now) (scope_of c.args.scope.now) variable_kinds)) (λ xs. resolved_arguments (meaning (unit_of c.args.names.now) (scope_of c.args.scope.now) variable_kinds) (arguments_from xs)) arguments_from (arguments_joined (meaning (unit_of c.args.names.now) (scope_of c.args.scope.now) variable_kinds)) c.loop-argument.argument-index c.args.arguments.now c.argument-item.result c.loop-argument.all.items c.in_err-add_argument.field-0.0 (omega arith) c.argument-item.is c.in_err-add_argument.ensures.err c.loop-argument.invariant)
+    (stops (unit_of c.args.names.now) (argument_of path_of) (argument_of (λ r. r)) (λ xs. argument_uses (scope_of c.args.scope.now) (arguments_from xs)) (argument_uses_split (scope_of c.args.scope.now)) (resolved_argument (meaning (unit_of c.args.names.now) (scope_of c.args.scope.now) variable_kinds)) (λ xs. resolved_arguments (meaning (unit_of c.args.names.now) (scope_of c.args.scope.now) variable_kinds) (arguments_from xs)) arguments_from (arguments_joined (meaning (unit_of c.args.names.now) (scope_of c.args.scope.now) variable_kinds)) c.loop-argument.argument-index c.args.arguments.now c.argument-item.result c.loop-argument.all.items c.in_err-add_argument.field-0.0 (omega arith) c.argument-item.is c.in_err-add_argument.ensures.refused c.loop-argument.invariant)
 
-pub add_arguments-returns-clause-none : goal.add_arguments-returns-clause-none
-add_arguments-returns-clause-none t c =
+pub add_arguments-returns-clause-accepted : goal.add_arguments-returns-clause-accepted
+add_arguments-returns-clause-accepted t c =
     none_at_end (unit_of c.args.names.now) (argument_of path_of) (argument_of (λ r. r)) (λ xs. argument_uses (scope_of c.args.scope.now) (arguments_from xs)) (argument_uses_split (scope_of c.args.scope.now)) (resolved_argument (meaning (unit_of c.args.names.now) (scope_of c.args.scope.now) variable_kinds)) (λ xs. resolved_arguments (meaning (unit_of c.args.names.now) (scope_of c.args.scope.now) variable_kinds) (arguments_from xs)) arguments_from (arguments_joined (meaning (unit_of c.args.names.now) (scope_of c.args.scope.now) variable_kinds)) (no_use (unit_of c.args.names.now)) c.loop-argument.argument-index c.args.arguments.now c.loop-argument.all.items (drop_of_length-le c.args.arguments.now (omega arith)) c.loop-argument.invariant
 
-pub add_arguments-returns-clause-ok : goal.add_arguments-returns-clause-ok
-add_arguments-returns-clause-ok t c =
+pub add_arguments-returns-clause-sound : goal.add_arguments-returns-clause-sound
+add_arguments-returns-clause-sound t c =
     meant_at_end (unit_of c.args.names.now) (argument_of path_of) (argument_of (λ r. r)) (λ xs. argument_uses (scope_of c.args.scope.now) (arguments_from xs)) (argument_uses_split (scope_of c.args.scope.now)) (resolved_argument (meaning (unit_of c.args.names.now) (scope_of c.args.scope.now) variable_kinds)) (λ xs. resolved_arguments (meaning (unit_of c.args.names.now) (scope_of c.args.scope.now) variable_kinds) (arguments_from xs)) arguments_from (arguments_joined (meaning (unit_of c.args.names.now) (scope_of c.args.scope.now) variable_kinds)) (no_arguments (meaning (unit_of c.args.names.now) (scope_of c.args.scope.now) variable_kinds)) c.loop-argument.argument-index c.args.arguments.now c.loop-argument.all.items (drop_of_length-le c.args.arguments.now (omega arith)) c.loop-argument.invariant
 
-pub copy_expr-returns-in_err-function-in-Call-clause-err : goal.copy_expr-returns-in_err-function-in-Call-clause-err
-copy_expr-returns-in_err-function-in-Call-clause-err t c =
+pub copy_expr-returns-in_err-function-in-Call-clause-refused : goal.copy_expr-returns-in_err-function-in-Call-clause-refused
+copy_expr-returns-in_err-function-in-Call-clause-refused t c =
     passed c.from_residual-in_err-function-in-Call.result c.in_err-function-in-Call.field-0.0 _ c.from_residual-in_err-function-in-Call.ensures.1
-    (call_fault (unit_of c.args.names.now) c.args.e.now _ _ _ c.deref-in-Call.result.now c.in-Call.is c.deref-in-Call.ensures.value (scope_of c.args.scope.now) c.in_err-function-in-Call.field-0.0 c.in_err-function-in-Call.ensures.err)
+    (call_fault (unit_of c.args.names.now) c.args.e.now _ _ _ c.deref-in-Call.result.now c.in-Call.is c.deref-in-Call.ensures.value (scope_of c.args.scope.now) c.in_err-function-in-Call.field-0.0 c.in_err-function-in-Call.ensures.refused)
 
-pub copy_expr-returns-in_ok-function-in-Call-clause-none : goal.copy_expr-returns-in_ok-function-in-Call-clause-none
-copy_expr-returns-in_ok-function-in-Call-clause-none t c =
-    call_none (unit_of c.args.names.now) c.args.e.now _ _ _ c.deref-in-Call.result.now c.in-Call.is c.deref-in-Call.ensures.value (scope_of c.args.scope.now) c.in_ok-function-in-Call.ensures.none
+pub copy_expr-returns-in_ok-function-in-Call-clause-accepted : goal.copy_expr-returns-in_ok-function-in-Call-clause-accepted
+copy_expr-returns-in_ok-function-in-Call-clause-accepted t c =
+    call_none (unit_of c.args.names.now) c.args.e.now _ _ _ c.deref-in-Call.result.now c.in-Call.is c.deref-in-Call.ensures.value (scope_of c.args.scope.now) c.in_ok-function-in-Call.ensures.accepted
 
-pub copy_expr-returns-in_ok-function-in-Call-clause-ok : goal.copy_expr-returns-in_ok-function-in-Call-clause-ok
-copy_expr-returns-in_ok-function-in-Call-clause-ok t c =
+pub copy_expr-returns-in_ok-function-in-Call-clause-sound : goal.copy_expr-returns-in_ok-function-in-Call-clause-sound
+copy_expr-returns-in_ok-function-in-Call-clause-sound t c =
     call_means (unit_of c.args.names.now) c.args.e.now _ _ _ c.deref-in-Call.result.now c.in-Call.is c.deref-in-Call.ensures.value (meaning (unit_of c.args.names.now) (scope_of c.args.scope.now) variable_kinds) c.in_ok-function-in-Call.function c.in_ok-function-in-Call.arguments c.in_ok-function-in-Call.ensures.function c.in_ok-function-in-Call.ensures.arguments
 
 pub copy_expr-copy_call-requires : goal.copy_expr-copy_call-requires

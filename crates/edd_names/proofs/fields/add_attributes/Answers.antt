@@ -24,16 +24,16 @@ copy_attribute-requires c = let e = locals_within (attribute_of path_of) c.loop-
 pub loop-attribute-preserved : goal.loop-attribute-preserved
 loop-attribute-preserved c =
     one_more (unit_of c.args.names.now) (attribute_of path_of) (attribute_of (λ r. r)) (flat_map (attribute_uses (item_of path_of c.args.item.now).sort)) (flat_split (attribute_uses (item_of path_of c.args.item.now).sort)) (resolved_attribute (unit_of c.args.names.now) (item_of path_of c.args.item.now).sort) (each (resolved_attribute (unit_of c.args.names.now) (item_of path_of c.args.item.now).sort)) (λ ws. ws) (each_joined (resolved_attribute (unit_of c.args.names.now) (item_of path_of c.args.item.now).sort)) c.loop-attribute.attribute-index c.args.attributes.now c.attribute-item.result c.loop-attribute.copies.items c.push.new.self.items c.in_ok-copy_attribute.field-0 (omega arith) c.attribute-item.is
-    (subst (NoFault (unit_of c.args.names.now)) (sym (flat_one (attribute_uses (item_of path_of c.args.item.now).sort) (attribute_of path_of c.attribute-item.result))) c.in_ok-copy_attribute.ensures.none) c.in_ok-copy_attribute.ensures.ok c.in_ok-push.ensures.items c.loop-attribute.invariant
+    (subst (NoFault (unit_of c.args.names.now)) (sym (flat_one (attribute_uses (item_of path_of c.args.item.now).sort) (attribute_of path_of c.attribute-item.result))) c.in_ok-copy_attribute.ensures.accepted) c.in_ok-copy_attribute.ensures.sound c.in_ok-push.ensures.items c.loop-attribute.invariant
 
-pub returns-in_err-copy_attribute-clause-err : goal.returns-in_err-copy_attribute-clause-err
-returns-in_err-copy_attribute-clause-err c =
+pub returns-in_err-copy_attribute-clause-refused : goal.returns-in_err-copy_attribute-clause-refused
+returns-in_err-copy_attribute-clause-refused c =
     passed c.from_residual.result c.in_err-copy_attribute.field-0.0 _ c.from_residual.ensures.1
     (stops (unit_of c.args.names.now) (attribute_of path_of) (attribute_of (λ r. r)) (flat_map (attribute_uses (item_of path_of c.args.item.now).sort)) (flat_split (attribute_uses (item_of path_of c.args.item.now).sort)) (resolved_attribute (unit_of c.args.names.now) (item_of path_of c.args.item.now).sort) (each (resolved_attribute (unit_of c.args.names.now) (item_of path_of c.args.item.now).sort)) (λ ws. ws) (each_joined (resolved_attribute (unit_of c.args.names.now) (item_of path_of c.args.item.now).sort)) c.loop-attribute.attribute-index c.args.attributes.now c.attribute-item.result c.loop-attribute.copies.items c.in_err-copy_attribute.field-0.0 (omega arith) c.attribute-item.is
-    (subst (FirstFault c.in_err-copy_attribute.field-0.0 (unit_of c.args.names.now)) (sym (flat_one (attribute_uses (item_of path_of c.args.item.now).sort) (attribute_of path_of c.attribute-item.result))) c.in_err-copy_attribute.ensures.err) c.loop-attribute.invariant)
+    (subst (FirstFault c.in_err-copy_attribute.field-0.0 (unit_of c.args.names.now)) (sym (flat_one (attribute_uses (item_of path_of c.args.item.now).sort) (attribute_of path_of c.attribute-item.result))) c.in_err-copy_attribute.ensures.refused) c.loop-attribute.invariant)
 
-pub returns-clause-none : goal.returns-clause-none
-returns-clause-none c = none_at_end (unit_of c.args.names.now) (attribute_of path_of) (attribute_of (λ r. r)) (flat_map (attribute_uses (item_of path_of c.args.item.now).sort)) (flat_split (attribute_uses (item_of path_of c.args.item.now).sort)) (resolved_attribute (unit_of c.args.names.now) (item_of path_of c.args.item.now).sort) (each (resolved_attribute (unit_of c.args.names.now) (item_of path_of c.args.item.now).sort)) (λ ws. ws) (each_joined (resolved_attribute (unit_of c.args.names.now) (item_of path_of c.args.item.now).sort)) (no_use (unit_of c.args.names.now)) c.loop-attribute.attribute-index c.args.attributes.now c.loop-attribute.copies.items (drop_of_length-le c.args.attributes.now (omega arith)) c.loop-attribute.invariant
+pub returns-clause-accepted : goal.returns-clause-accepted
+returns-clause-accepted c = none_at_end (unit_of c.args.names.now) (attribute_of path_of) (attribute_of (λ r. r)) (flat_map (attribute_uses (item_of path_of c.args.item.now).sort)) (flat_split (attribute_uses (item_of path_of c.args.item.now).sort)) (resolved_attribute (unit_of c.args.names.now) (item_of path_of c.args.item.now).sort) (each (resolved_attribute (unit_of c.args.names.now) (item_of path_of c.args.item.now).sort)) (λ ws. ws) (each_joined (resolved_attribute (unit_of c.args.names.now) (item_of path_of c.args.item.now).sort)) (no_use (unit_of c.args.names.now)) c.loop-attribute.attribute-index c.args.attributes.now c.loop-attribute.copies.items (drop_of_length-le c.args.attributes.now (omega arith)) c.loop-attribute.invariant
 
-pub returns-clause-ok : goal.returns-clause-ok
-returns-clause-ok c = meant_at_end (unit_of c.args.names.now) (attribute_of path_of) (attribute_of (λ r. r)) (flat_map (attribute_uses (item_of path_of c.args.item.now).sort)) (flat_split (attribute_uses (item_of path_of c.args.item.now).sort)) (resolved_attribute (unit_of c.args.names.now) (item_of path_of c.args.item.now).sort) (each (resolved_attribute (unit_of c.args.names.now) (item_of path_of c.args.item.now).sort)) (λ ws. ws) (each_joined (resolved_attribute (unit_of c.args.names.now) (item_of path_of c.args.item.now).sort)) refl c.loop-attribute.attribute-index c.args.attributes.now c.loop-attribute.copies.items (drop_of_length-le c.args.attributes.now (omega arith)) c.loop-attribute.invariant
+pub returns-clause-sound : goal.returns-clause-sound
+returns-clause-sound c = meant_at_end (unit_of c.args.names.now) (attribute_of path_of) (attribute_of (λ r. r)) (flat_map (attribute_uses (item_of path_of c.args.item.now).sort)) (flat_split (attribute_uses (item_of path_of c.args.item.now).sort)) (resolved_attribute (unit_of c.args.names.now) (item_of path_of c.args.item.now).sort) (each (resolved_attribute (unit_of c.args.names.now) (item_of path_of c.args.item.now).sort)) (λ ws. ws) (each_joined (resolved_attribute (unit_of c.args.names.now) (item_of path_of c.args.item.now).sort)) refl c.loop-attribute.attribute-index c.args.attributes.now c.loop-attribute.copies.items (drop_of_length-le c.args.attributes.now (omega arith)) c.loop-attribute.invariant

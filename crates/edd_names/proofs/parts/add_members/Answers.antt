@@ -20,16 +20,16 @@ loop-member-init c = at_start (unit_of c.args.names.now) (member_of path_of) (me
 pub loop-member-preserved : goal.loop-member-preserved
 loop-member-preserved c =
     one_more (unit_of c.args.names.now) (member_of path_of) (member_of (λ r. r)) (flat_map (member_uses c.args.kinds.now)) (flat_split (member_uses c.args.kinds.now)) (resolved_member (unit_of c.args.names.now) c.args.kinds.now) (each (resolved_member (unit_of c.args.names.now) c.args.kinds.now)) (λ ws. ws) (each_joined (resolved_member (unit_of c.args.names.now) c.args.kinds.now)) c.loop-member.member-index c.args.members.now c.member-item.result c.loop-member.copies.items c.push.new.self.items c.in_ok-copy_member.field-0 (omega arith) c.member-item.is
-    (subst (NoFault (unit_of c.args.names.now)) (sym (flat_one (member_uses c.args.kinds.now) (member_of path_of c.member-item.result))) c.in_ok-copy_member.ensures.none) c.in_ok-copy_member.ensures.ok c.in_ok-push.ensures.items c.loop-member.invariant
+    (subst (NoFault (unit_of c.args.names.now)) (sym (flat_one (member_uses c.args.kinds.now) (member_of path_of c.member-item.result))) c.in_ok-copy_member.ensures.accepted) c.in_ok-copy_member.ensures.sound c.in_ok-push.ensures.items c.loop-member.invariant
 
-pub returns-in_err-copy_member-clause-err : goal.returns-in_err-copy_member-clause-err
-returns-in_err-copy_member-clause-err c =
+pub returns-in_err-copy_member-clause-refused : goal.returns-in_err-copy_member-clause-refused
+returns-in_err-copy_member-clause-refused c =
     passed c.from_residual.result c.in_err-copy_member.field-0.0 _ c.from_residual.ensures.1
     (stops (unit_of c.args.names.now) (member_of path_of) (member_of (λ r. r)) (flat_map (member_uses c.args.kinds.now)) (flat_split (member_uses c.args.kinds.now)) (resolved_member (unit_of c.args.names.now) c.args.kinds.now) (each (resolved_member (unit_of c.args.names.now) c.args.kinds.now)) (λ ws. ws) (each_joined (resolved_member (unit_of c.args.names.now) c.args.kinds.now)) c.loop-member.member-index c.args.members.now c.member-item.result c.loop-member.copies.items c.in_err-copy_member.field-0.0 (omega arith) c.member-item.is
-    (subst (FirstFault c.in_err-copy_member.field-0.0 (unit_of c.args.names.now)) (sym (flat_one (member_uses c.args.kinds.now) (member_of path_of c.member-item.result))) c.in_err-copy_member.ensures.err) c.loop-member.invariant)
+    (subst (FirstFault c.in_err-copy_member.field-0.0 (unit_of c.args.names.now)) (sym (flat_one (member_uses c.args.kinds.now) (member_of path_of c.member-item.result))) c.in_err-copy_member.ensures.refused) c.loop-member.invariant)
 
-pub returns-clause-none : goal.returns-clause-none
-returns-clause-none c = none_at_end (unit_of c.args.names.now) (member_of path_of) (member_of (λ r. r)) (flat_map (member_uses c.args.kinds.now)) (flat_split (member_uses c.args.kinds.now)) (resolved_member (unit_of c.args.names.now) c.args.kinds.now) (each (resolved_member (unit_of c.args.names.now) c.args.kinds.now)) (λ ws. ws) (each_joined (resolved_member (unit_of c.args.names.now) c.args.kinds.now)) (no_use (unit_of c.args.names.now)) c.loop-member.member-index c.args.members.now c.loop-member.copies.items (drop_of_length-le c.args.members.now (omega arith)) c.loop-member.invariant
+pub returns-clause-accepted : goal.returns-clause-accepted
+returns-clause-accepted c = none_at_end (unit_of c.args.names.now) (member_of path_of) (member_of (λ r. r)) (flat_map (member_uses c.args.kinds.now)) (flat_split (member_uses c.args.kinds.now)) (resolved_member (unit_of c.args.names.now) c.args.kinds.now) (each (resolved_member (unit_of c.args.names.now) c.args.kinds.now)) (λ ws. ws) (each_joined (resolved_member (unit_of c.args.names.now) c.args.kinds.now)) (no_use (unit_of c.args.names.now)) c.loop-member.member-index c.args.members.now c.loop-member.copies.items (drop_of_length-le c.args.members.now (omega arith)) c.loop-member.invariant
 
-pub returns-clause-ok : goal.returns-clause-ok
-returns-clause-ok c = meant_at_end (unit_of c.args.names.now) (member_of path_of) (member_of (λ r. r)) (flat_map (member_uses c.args.kinds.now)) (flat_split (member_uses c.args.kinds.now)) (resolved_member (unit_of c.args.names.now) c.args.kinds.now) (each (resolved_member (unit_of c.args.names.now) c.args.kinds.now)) (λ ws. ws) (each_joined (resolved_member (unit_of c.args.names.now) c.args.kinds.now)) refl c.loop-member.member-index c.args.members.now c.loop-member.copies.items (drop_of_length-le c.args.members.now (omega arith)) c.loop-member.invariant
+pub returns-clause-sound : goal.returns-clause-sound
+returns-clause-sound c = meant_at_end (unit_of c.args.names.now) (member_of path_of) (member_of (λ r. r)) (flat_map (member_uses c.args.kinds.now)) (flat_split (member_uses c.args.kinds.now)) (resolved_member (unit_of c.args.names.now) c.args.kinds.now) (each (resolved_member (unit_of c.args.names.now) c.args.kinds.now)) (λ ws. ws) (each_joined (resolved_member (unit_of c.args.names.now) c.args.kinds.now)) refl c.loop-member.member-index c.args.members.now c.loop-member.copies.items (drop_of_length-le c.args.members.now (omega arith)) c.loop-member.invariant

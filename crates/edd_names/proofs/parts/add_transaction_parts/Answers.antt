@@ -20,16 +20,16 @@ loop-transaction_part-init c = at_start (unit_of c.args.names.now) (transaction_
 pub loop-transaction_part-preserved : goal.loop-transaction_part-preserved
 loop-transaction_part-preserved c =
     one_more (unit_of c.args.names.now) (transaction_part_of path_of) (transaction_part_of (λ r. r)) (flat_map transaction_part_uses) (flat_split transaction_part_uses) (resolved_transaction_part (unit_of c.args.names.now)) (each (resolved_transaction_part (unit_of c.args.names.now))) (λ ws. ws) (each_joined (resolved_transaction_part (unit_of c.args.names.now))) c.loop-transaction_part.transaction_part-index c.args.transaction_parts.now c.transaction_part-item.result c.loop-transaction_part.copies.items c.push.new.self.items c.in_ok-copy_transaction_part.field-0 (omega arith) c.transaction_part-item.is
-    (subst (NoFault (unit_of c.args.names.now)) (sym (flat_one transaction_part_uses (transaction_part_of path_of c.transaction_part-item.result))) c.in_ok-copy_transaction_part.ensures.none) c.in_ok-copy_transaction_part.ensures.ok c.in_ok-push.ensures.items c.loop-transaction_part.invariant
+    (subst (NoFault (unit_of c.args.names.now)) (sym (flat_one transaction_part_uses (transaction_part_of path_of c.transaction_part-item.result))) c.in_ok-copy_transaction_part.ensures.accepted) c.in_ok-copy_transaction_part.ensures.sound c.in_ok-push.ensures.items c.loop-transaction_part.invariant
 
-pub returns-in_err-copy_transaction_part-clause-err : goal.returns-in_err-copy_transaction_part-clause-err
-returns-in_err-copy_transaction_part-clause-err c =
+pub returns-in_err-copy_transaction_part-clause-refused : goal.returns-in_err-copy_transaction_part-clause-refused
+returns-in_err-copy_transaction_part-clause-refused c =
     passed c.from_residual.result c.in_err-copy_transaction_part.field-0.0 _ c.from_residual.ensures.1
     (stops (unit_of c.args.names.now) (transaction_part_of path_of) (transaction_part_of (λ r. r)) (flat_map transaction_part_uses) (flat_split transaction_part_uses) (resolved_transaction_part (unit_of c.args.names.now)) (each (resolved_transaction_part (unit_of c.args.names.now))) (λ ws. ws) (each_joined (resolved_transaction_part (unit_of c.args.names.now))) c.loop-transaction_part.transaction_part-index c.args.transaction_parts.now c.transaction_part-item.result c.loop-transaction_part.copies.items c.in_err-copy_transaction_part.field-0.0 (omega arith) c.transaction_part-item.is
-    (subst (FirstFault c.in_err-copy_transaction_part.field-0.0 (unit_of c.args.names.now)) (sym (flat_one transaction_part_uses (transaction_part_of path_of c.transaction_part-item.result))) c.in_err-copy_transaction_part.ensures.err) c.loop-transaction_part.invariant)
+    (subst (FirstFault c.in_err-copy_transaction_part.field-0.0 (unit_of c.args.names.now)) (sym (flat_one transaction_part_uses (transaction_part_of path_of c.transaction_part-item.result))) c.in_err-copy_transaction_part.ensures.refused) c.loop-transaction_part.invariant)
 
-pub returns-clause-none : goal.returns-clause-none
-returns-clause-none c = none_at_end (unit_of c.args.names.now) (transaction_part_of path_of) (transaction_part_of (λ r. r)) (flat_map transaction_part_uses) (flat_split transaction_part_uses) (resolved_transaction_part (unit_of c.args.names.now)) (each (resolved_transaction_part (unit_of c.args.names.now))) (λ ws. ws) (each_joined (resolved_transaction_part (unit_of c.args.names.now))) (no_use (unit_of c.args.names.now)) c.loop-transaction_part.transaction_part-index c.args.transaction_parts.now c.loop-transaction_part.copies.items (drop_of_length-le c.args.transaction_parts.now (omega arith)) c.loop-transaction_part.invariant
+pub returns-clause-accepted : goal.returns-clause-accepted
+returns-clause-accepted c = none_at_end (unit_of c.args.names.now) (transaction_part_of path_of) (transaction_part_of (λ r. r)) (flat_map transaction_part_uses) (flat_split transaction_part_uses) (resolved_transaction_part (unit_of c.args.names.now)) (each (resolved_transaction_part (unit_of c.args.names.now))) (λ ws. ws) (each_joined (resolved_transaction_part (unit_of c.args.names.now))) (no_use (unit_of c.args.names.now)) c.loop-transaction_part.transaction_part-index c.args.transaction_parts.now c.loop-transaction_part.copies.items (drop_of_length-le c.args.transaction_parts.now (omega arith)) c.loop-transaction_part.invariant
 
-pub returns-clause-ok : goal.returns-clause-ok
-returns-clause-ok c = meant_at_end (unit_of c.args.names.now) (transaction_part_of path_of) (transaction_part_of (λ r. r)) (flat_map transaction_part_uses) (flat_split transaction_part_uses) (resolved_transaction_part (unit_of c.args.names.now)) (each (resolved_transaction_part (unit_of c.args.names.now))) (λ ws. ws) (each_joined (resolved_transaction_part (unit_of c.args.names.now))) refl c.loop-transaction_part.transaction_part-index c.args.transaction_parts.now c.loop-transaction_part.copies.items (drop_of_length-le c.args.transaction_parts.now (omega arith)) c.loop-transaction_part.invariant
+pub returns-clause-sound : goal.returns-clause-sound
+returns-clause-sound c = meant_at_end (unit_of c.args.names.now) (transaction_part_of path_of) (transaction_part_of (λ r. r)) (flat_map transaction_part_uses) (flat_split transaction_part_uses) (resolved_transaction_part (unit_of c.args.names.now)) (each (resolved_transaction_part (unit_of c.args.names.now))) (λ ws. ws) (each_joined (resolved_transaction_part (unit_of c.args.names.now))) refl c.loop-transaction_part.transaction_part-index c.args.transaction_parts.now c.loop-transaction_part.copies.items (drop_of_length-le c.args.transaction_parts.now (omega arith)) c.loop-transaction_part.invariant

@@ -20,16 +20,16 @@ loop-type_part-init c = at_start (unit_of c.args.names.now) (type_part_of path_o
 pub loop-type_part-preserved : goal.loop-type_part-preserved
 loop-type_part-preserved c =
     one_more (unit_of c.args.names.now) (type_part_of path_of) (type_part_of (λ r. r)) (flat_map type_part_uses) (flat_split type_part_uses) (resolved_type_part (unit_of c.args.names.now)) (each (resolved_type_part (unit_of c.args.names.now))) (λ ws. ws) (each_joined (resolved_type_part (unit_of c.args.names.now))) c.loop-type_part.type_part-index c.args.type_parts.now c.type_part-item.result c.loop-type_part.copies.items c.push.new.self.items c.in_ok-copy_type_part.field-0 (omega arith) c.type_part-item.is
-    (subst (NoFault (unit_of c.args.names.now)) (sym (flat_one type_part_uses (type_part_of path_of c.type_part-item.result))) c.in_ok-copy_type_part.ensures.none) c.in_ok-copy_type_part.ensures.ok c.in_ok-push.ensures.items c.loop-type_part.invariant
+    (subst (NoFault (unit_of c.args.names.now)) (sym (flat_one type_part_uses (type_part_of path_of c.type_part-item.result))) c.in_ok-copy_type_part.ensures.accepted) c.in_ok-copy_type_part.ensures.sound c.in_ok-push.ensures.items c.loop-type_part.invariant
 
-pub returns-in_err-copy_type_part-clause-err : goal.returns-in_err-copy_type_part-clause-err
-returns-in_err-copy_type_part-clause-err c =
+pub returns-in_err-copy_type_part-clause-refused : goal.returns-in_err-copy_type_part-clause-refused
+returns-in_err-copy_type_part-clause-refused c =
     passed c.from_residual.result c.in_err-copy_type_part.field-0.0 _ c.from_residual.ensures.1
     (stops (unit_of c.args.names.now) (type_part_of path_of) (type_part_of (λ r. r)) (flat_map type_part_uses) (flat_split type_part_uses) (resolved_type_part (unit_of c.args.names.now)) (each (resolved_type_part (unit_of c.args.names.now))) (λ ws. ws) (each_joined (resolved_type_part (unit_of c.args.names.now))) c.loop-type_part.type_part-index c.args.type_parts.now c.type_part-item.result c.loop-type_part.copies.items c.in_err-copy_type_part.field-0.0 (omega arith) c.type_part-item.is
-    (subst (FirstFault c.in_err-copy_type_part.field-0.0 (unit_of c.args.names.now)) (sym (flat_one type_part_uses (type_part_of path_of c.type_part-item.result))) c.in_err-copy_type_part.ensures.err) c.loop-type_part.invariant)
+    (subst (FirstFault c.in_err-copy_type_part.field-0.0 (unit_of c.args.names.now)) (sym (flat_one type_part_uses (type_part_of path_of c.type_part-item.result))) c.in_err-copy_type_part.ensures.refused) c.loop-type_part.invariant)
 
-pub returns-clause-none : goal.returns-clause-none
-returns-clause-none c = none_at_end (unit_of c.args.names.now) (type_part_of path_of) (type_part_of (λ r. r)) (flat_map type_part_uses) (flat_split type_part_uses) (resolved_type_part (unit_of c.args.names.now)) (each (resolved_type_part (unit_of c.args.names.now))) (λ ws. ws) (each_joined (resolved_type_part (unit_of c.args.names.now))) (no_use (unit_of c.args.names.now)) c.loop-type_part.type_part-index c.args.type_parts.now c.loop-type_part.copies.items (drop_of_length-le c.args.type_parts.now (omega arith)) c.loop-type_part.invariant
+pub returns-clause-accepted : goal.returns-clause-accepted
+returns-clause-accepted c = none_at_end (unit_of c.args.names.now) (type_part_of path_of) (type_part_of (λ r. r)) (flat_map type_part_uses) (flat_split type_part_uses) (resolved_type_part (unit_of c.args.names.now)) (each (resolved_type_part (unit_of c.args.names.now))) (λ ws. ws) (each_joined (resolved_type_part (unit_of c.args.names.now))) (no_use (unit_of c.args.names.now)) c.loop-type_part.type_part-index c.args.type_parts.now c.loop-type_part.copies.items (drop_of_length-le c.args.type_parts.now (omega arith)) c.loop-type_part.invariant
 
-pub returns-clause-ok : goal.returns-clause-ok
-returns-clause-ok c = meant_at_end (unit_of c.args.names.now) (type_part_of path_of) (type_part_of (λ r. r)) (flat_map type_part_uses) (flat_split type_part_uses) (resolved_type_part (unit_of c.args.names.now)) (each (resolved_type_part (unit_of c.args.names.now))) (λ ws. ws) (each_joined (resolved_type_part (unit_of c.args.names.now))) refl c.loop-type_part.type_part-index c.args.type_parts.now c.loop-type_part.copies.items (drop_of_length-le c.args.type_parts.now (omega arith)) c.loop-type_part.invariant
+pub returns-clause-sound : goal.returns-clause-sound
+returns-clause-sound c = meant_at_end (unit_of c.args.names.now) (type_part_of path_of) (type_part_of (λ r. r)) (flat_map type_part_uses) (flat_split type_part_uses) (resolved_type_part (unit_of c.args.names.now)) (each (resolved_type_part (unit_of c.args.names.now))) (λ ws. ws) (each_joined (resolved_type_part (unit_of c.args.names.now))) refl c.loop-type_part.type_part-index c.args.type_parts.now c.loop-type_part.copies.items (drop_of_length-le c.args.type_parts.now (omega arith)) c.loop-type_part.invariant

@@ -9,19 +9,19 @@ use Rattle.edd_names.proofs.resolving.resolve_uses.Goals as goal
 pub copy_items-requires : goal.copy_items-requires
 copy_items-requires c = few_locals (unit_of c.args.names.now).items c.requires.counted
 
-pub returns-in_err-items-clause-err : goal.returns-in_err-items-clause-err
-returns-in_err-items-clause-err c =
+pub returns-in_err-items-clause-refused : goal.returns-in_err-items-clause-refused
+returns-in_err-items-clause-refused c =
     passed c.from_residual.result c.in_err-items.field-0.0 _ c.from_residual.ensures.1
-    (fault_in_use (unit_of c.args.names.now) c.in_err-items.field-0.0 c.requires.kept c.in_err-items.ensures.err)
+    (fault_in_use (unit_of c.args.names.now) c.in_err-items.field-0.0 c.requires.kept c.in_err-items.ensures.refused)
 
 pub new-requires : goal.new-requires
-new-requires c = is_resolved (unit_of c.args.names.now) (numbered_items c.in_ok-items.items.items) c.requires.well_formed c.requires.kept c.in_ok-items.ensures.none c.in_ok-items.ensures.ok
+new-requires c = is_resolved (unit_of c.args.names.now) (numbered_items c.in_ok-items.items.items) c.requires.well_formed c.requires.kept c.in_ok-items.ensures.accepted c.in_ok-items.ensures.sound
 
-pub returns-clause-ok : goal.returns-clause-ok
-returns-clause-ok c =
-    meanings (unit_of c.args.names.now) (numbered_items c.in_ok-items.items.items) c.requires.well_formed c.in_ok-items.ensures.none c.in_ok-items.ensures.ok
+pub returns-clause-sound : goal.returns-clause-sound
+returns-clause-sound c =
+    meanings (unit_of c.args.names.now) (numbered_items c.in_ok-items.items.items) c.requires.well_formed c.in_ok-items.ensures.accepted c.in_ok-items.ensures.sound
     ∙ ap (λ i. Some (description (identification_of i) (numbered_items c.in_ok-items.items.items))) (sym c.in_ok-new.ensures.identification)
     ∙ ap (λ xs. Some (description (identification_of c.in_ok-new.field-0.identification) (numbered_items xs))) (sym c.in_ok-new.ensures.items)
 
-pub returns-clause-none : goal.returns-clause-none
-returns-clause-none c = no_breach (unit_of c.args.names.now) c.requires.kept c.in_ok-items.ensures.none
+pub returns-clause-accepted : goal.returns-clause-accepted
+returns-clause-accepted c = no_breach (unit_of c.args.names.now) c.requires.kept c.in_ok-items.ensures.accepted

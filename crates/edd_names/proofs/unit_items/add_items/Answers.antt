@@ -26,16 +26,16 @@ copy_item-requires c = none_of_any (λ i. nat_lt local_limit (locals_of i)) (ite
 pub loop-item-preserved : goal.loop-item-preserved
 loop-item-preserved c =
     one_more (unit_of c.args.names.now) (item_of path_of) (item_of (λ r. r)) (flat_map item_uses) (flat_split item_uses) (resolved_item (unit_of c.args.names.now)) (each (resolved_item (unit_of c.args.names.now))) (λ ws. ws) (each_joined (resolved_item (unit_of c.args.names.now))) c.loop-item.item-index c.args.items.now c.item-item.result c.loop-item.copies.items c.push.new.self.items c.in_ok-copy_item.field-0 (omega arith) c.item-item.is
-    (subst (NoFault (unit_of c.args.names.now)) (sym (flat_one item_uses (item_of path_of c.item-item.result))) c.in_ok-copy_item.ensures.none) c.in_ok-copy_item.ensures.ok c.in_ok-push.ensures.items c.loop-item.invariant
+    (subst (NoFault (unit_of c.args.names.now)) (sym (flat_one item_uses (item_of path_of c.item-item.result))) c.in_ok-copy_item.ensures.accepted) c.in_ok-copy_item.ensures.sound c.in_ok-push.ensures.items c.loop-item.invariant
 
-pub returns-in_err-copy_item-clause-err : goal.returns-in_err-copy_item-clause-err
-returns-in_err-copy_item-clause-err c =
+pub returns-in_err-copy_item-clause-refused : goal.returns-in_err-copy_item-clause-refused
+returns-in_err-copy_item-clause-refused c =
     passed c.from_residual.result c.in_err-copy_item.field-0.0 _ c.from_residual.ensures.1
     (stops (unit_of c.args.names.now) (item_of path_of) (item_of (λ r. r)) (flat_map item_uses) (flat_split item_uses) (resolved_item (unit_of c.args.names.now)) (each (resolved_item (unit_of c.args.names.now))) (λ ws. ws) (each_joined (resolved_item (unit_of c.args.names.now))) c.loop-item.item-index c.args.items.now c.item-item.result c.loop-item.copies.items c.in_err-copy_item.field-0.0 (omega arith) c.item-item.is
-    (subst (FirstFault c.in_err-copy_item.field-0.0 (unit_of c.args.names.now)) (sym (flat_one item_uses (item_of path_of c.item-item.result))) c.in_err-copy_item.ensures.err) c.loop-item.invariant)
+    (subst (FirstFault c.in_err-copy_item.field-0.0 (unit_of c.args.names.now)) (sym (flat_one item_uses (item_of path_of c.item-item.result))) c.in_err-copy_item.ensures.refused) c.loop-item.invariant)
 
-pub returns-clause-none : goal.returns-clause-none
-returns-clause-none c = none_at_end (unit_of c.args.names.now) (item_of path_of) (item_of (λ r. r)) (flat_map item_uses) (flat_split item_uses) (resolved_item (unit_of c.args.names.now)) (each (resolved_item (unit_of c.args.names.now))) (λ ws. ws) (each_joined (resolved_item (unit_of c.args.names.now))) (no_use (unit_of c.args.names.now)) c.loop-item.item-index c.args.items.now c.loop-item.copies.items (drop_of_length-le c.args.items.now (omega arith)) c.loop-item.invariant
+pub returns-clause-accepted : goal.returns-clause-accepted
+returns-clause-accepted c = none_at_end (unit_of c.args.names.now) (item_of path_of) (item_of (λ r. r)) (flat_map item_uses) (flat_split item_uses) (resolved_item (unit_of c.args.names.now)) (each (resolved_item (unit_of c.args.names.now))) (λ ws. ws) (each_joined (resolved_item (unit_of c.args.names.now))) (no_use (unit_of c.args.names.now)) c.loop-item.item-index c.args.items.now c.loop-item.copies.items (drop_of_length-le c.args.items.now (omega arith)) c.loop-item.invariant
 
-pub returns-clause-ok : goal.returns-clause-ok
-returns-clause-ok c = meant_at_end (unit_of c.args.names.now) (item_of path_of) (item_of (λ r. r)) (flat_map item_uses) (flat_split item_uses) (resolved_item (unit_of c.args.names.now)) (each (resolved_item (unit_of c.args.names.now))) (λ ws. ws) (each_joined (resolved_item (unit_of c.args.names.now))) refl c.loop-item.item-index c.args.items.now c.loop-item.copies.items (drop_of_length-le c.args.items.now (omega arith)) c.loop-item.invariant
+pub returns-clause-sound : goal.returns-clause-sound
+returns-clause-sound c = meant_at_end (unit_of c.args.names.now) (item_of path_of) (item_of (λ r. r)) (flat_map item_uses) (flat_split item_uses) (resolved_item (unit_of c.args.names.now)) (each (resolved_item (unit_of c.args.names.now))) (λ ws. ws) (each_joined (resolved_item (unit_of c.args.names.now))) refl c.loop-item.item-index c.args.items.now c.loop-item.copies.items (drop_of_length-le c.args.items.now (omega arith)) c.loop-item.invariant

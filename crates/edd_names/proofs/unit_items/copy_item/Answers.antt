@@ -5,7 +5,7 @@ use Rattle.edd_name_meanings.specs.Directory.{unit_of}
 use Rattle.edd_names.proofs.ItemSteps.{item_means}
 use Rattle.edd_names.proofs.unit_items.copy_item.Goals as goal
 
-pub returns-clause-ok : goal.returns-clause-ok
-returns-clause-ok c =
+pub returns-clause-sound : goal.returns-clause-sound
+returns-clause-sound c =
     item_means (unit_of c.args.names.now) (item_of path_of c.args.item.now) (item_of (λ r. r) c.like.result) (map (attribute_of path_of) c.attributes.result.now) (map (attribute_of (λ r. r)) c.in_ok-attributes.attributes.items)
-    (ap (map (attribute_of path_of)) c.attributes.ensures) c.in_ok-attributes.ensures.ok c.like.ensures.sort (c.like.ensures.name ∙ c.in_ok-name.ensures.ok ∙ c.name.ensures) c.like.ensures.attributes
+    (ap (map (attribute_of path_of)) c.attributes.ensures) c.in_ok-attributes.ensures.sound c.like.ensures.sort (c.like.ensures.name ∙ c.in_ok-name.ensures.ok ∙ c.name.ensures) c.like.ensures.attributes

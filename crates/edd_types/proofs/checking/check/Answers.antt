@@ -10,13 +10,13 @@ use Rattle.edd_types.proofs.checking.check.Goals as goal
 pub new-requires : goal.new-requires
 new-requires c = record {
   no_breach = sym (all_rules (identification_of c.args.resolved.now.identification) (numbered_items c.args.resolved.now.items.value.items))
-      ∙ nothing_is_first _ (c.in_ok-check_all.ensures.ok ∙ ap (λ xs. first_of (all_broken (map (item_of (λ r. r)) xs))) (c.deref-2.ensures.value ∙ ap (λ v. v.items) c.deref.ensures));
+      ∙ nothing_is_first _ (c.in_ok-check_all.ensures.sound ∙ ap (λ xs. first_of (all_broken (map (item_of (λ r. r)) xs))) (c.deref-2.ensures.value ∙ ap (λ v. v.items) c.deref.ensures));
 }
 
 pub returns-clause-accepted : goal.returns-clause-accepted
 returns-clause-accepted c =
     sym (all_rules (identification_of c.args.resolved.now.identification) (numbered_items c.args.resolved.now.items.value.items))
-    ∙ nothing_is_first _ (c.in_ok-check_all.ensures.ok ∙ ap (λ xs. first_of (all_broken (map (item_of (λ r. r)) xs))) (c.deref-2.ensures.value ∙ ap (λ v. v.items) c.deref.ensures))
+    ∙ nothing_is_first _ (c.in_ok-check_all.ensures.sound ∙ ap (λ xs. first_of (all_broken (map (item_of (λ r. r)) xs))) (c.deref-2.ensures.value ∙ ap (λ v. v.items) c.deref.ensures))
 
 pub returns-in_err-check_all-clause-refused : goal.returns-in_err-check_all-clause-refused
 returns-in_err-check_all-clause-refused c =
@@ -24,4 +24,4 @@ returns-in_err-check_all-clause-refused c =
     (subst (λ breaches. IsFirstOf breaches c.in_err-check_all.field-0.0)
     (ap (λ xs. all_broken (map (item_of (λ r. r)) xs)) (c.deref-2.ensures.value ∙ ap (λ v. v.items) c.deref.ensures)
     ∙ all_rules (identification_of c.args.resolved.now.identification) (numbered_items c.args.resolved.now.items.value.items))
-    c.in_err-check_all.ensures.err)
+    c.in_err-check_all.ensures.refused)

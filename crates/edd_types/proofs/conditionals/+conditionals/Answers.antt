@@ -18,13 +18,13 @@ check_arms-check_arm-requires g t c κs within = search (rules, arm_is_smaller)
 pub check_arms-returns-in_err-check_arm : goal.check_arms-returns-in_err-check_arm
 check_arms-returns-in_err-check_arm g t c =
     found_err (refusal_of c.args.breach) _ c.from_residual.ensures.0
-    ∙ stateful.stops_at (λ had xs. in_arms c.args.breach (g.V.Value.breaches c.args.breach) had (arms_from xs)) (in_arm c.args.breach (g.V.Value.breaches c.args.breach)) has_default (arm_of (λ r. r) (λ v. v)) (arms_split c.args.breach (g.V.Value.breaches c.args.breach))
+    ∙ stateful.stops_at (λ had xs. in_arms c.args.breach (g.V.CheckValue.breaches c.args.breach) had (arms_from xs)) (in_arm c.args.breach (g.V.CheckValue.breaches c.args.breach)) has_default (arm_of (λ r. r) (λ v. v)) (arms_split c.args.breach (g.V.CheckValue.breaches c.args.breach))
     c.loop-arm.had c.loop-arm.arm-index c.args.arms.now c.arm-item.result (refusal_of c.args.breach) _ (omega arith) c.arm-item.is c.in_err-check_arm.ensures c.loop-arm.invariant
 
 pub check_arms-loop-arm-preserved : goal.check_arms-loop-arm-preserved
 check_arms-loop-arm-preserved g t c =
-    ap (λ had. stateful.first_from (λ h xs. in_arms c.args.breach (g.V.Value.breaches c.args.breach) h (arms_from xs)) (in_arm c.args.breach (g.V.Value.breaches c.args.breach)) has_default (arm_of (λ r. r) (λ v. v)) (arms_split c.args.breach (g.V.Value.breaches c.args.breach)) had (c.loop-arm.arm-index + 1) c.args.arms.now) c.has_default-had.ensures
-    ∙ stateful.goes_on (λ had xs. in_arms c.args.breach (g.V.Value.breaches c.args.breach) had (arms_from xs)) (in_arm c.args.breach (g.V.Value.breaches c.args.breach)) has_default (arm_of (λ r. r) (λ v. v)) (arms_split c.args.breach (g.V.Value.breaches c.args.breach))
+    ap (λ had. stateful.first_from (λ h xs. in_arms c.args.breach (g.V.CheckValue.breaches c.args.breach) h (arms_from xs)) (in_arm c.args.breach (g.V.CheckValue.breaches c.args.breach)) has_default (arm_of (λ r. r) (λ v. v)) (arms_split c.args.breach (g.V.CheckValue.breaches c.args.breach)) had (c.loop-arm.arm-index + 1) c.args.arms.now) c.has_default-had.ensures
+    ∙ stateful.goes_on (λ had xs. in_arms c.args.breach (g.V.CheckValue.breaches c.args.breach) had (arms_from xs)) (in_arm c.args.breach (g.V.CheckValue.breaches c.args.breach)) has_default (arm_of (λ r. r) (λ v. v)) (arms_split c.args.breach (g.V.CheckValue.breaches c.args.breach))
     c.loop-arm.had c.loop-arm.arm-index c.args.arms.now c.arm-item.result _ (omega arith) c.arm-item.is c.in_ok-check_arm.ensures c.loop-arm.invariant
 
 pub check_conds-check_cond-requires : goal.check_conds-check_cond-requires
@@ -33,6 +33,6 @@ check_conds-check_cond-requires g t c κs within = search (rules, element_is_sma
 pub check_cond-returns-in_err-check_conds-in-If : goal.check_cond-returns-in_err-check_conds-in-If
 check_cond-returns-in_err-check_conds-in-If g t c =
     found_err (refusal_of c.args.breach) _ c.from_residual-in_err-check_conds-in-If.ensures.0
-    ∙ sym (first_of-append_some (in_conds c.args.breach (g.V.Value.breaches c.args.breach) (conds_from (map (cond_of (λ r. r) (λ v. v)) c.in-If.first.items))) _ _ (c.in_err-check_conds-in-If.ensures ∙ ap (λ xs. first_of (in_conds c.args.breach (g.V.Value.breaches c.args.breach) (conds_from (map (cond_of (λ r. r) (λ v. v)) xs)))) c.deref.ensures.value))
+    ∙ sym (first_of-append_some (in_conds c.args.breach (g.V.CheckValue.breaches c.args.breach) (conds_from (map (cond_of (λ r. r) (λ v. v)) c.in-If.first.items))) _ _ (c.in_err-check_conds-in-If.ensures ∙ ap (λ xs. first_of (in_conds c.args.breach (g.V.CheckValue.breaches c.args.breach) (conds_from (map (cond_of (λ r. r) (λ v. v)) xs)))) c.deref.ensures.value))
     ∙ sym (first_of-append_none (in_part c.args.breach (expr_of (λ r. r) c.in-If.condition)) _ c.in_ok-check_expression-in-If.ensures)
-    ∙ ap (λ x. first_of (in_cond c.args.breach (g.V.Value.breaches c.args.breach) x)) (sym (ap (cond_of (λ r. r) (λ v. v)) c.in-If.is ∙ of_if (λ r. r) (λ v. v) c.in-If.condition c.in-If.first c.in-If.otherwise))
+    ∙ ap (λ x. first_of (in_cond c.args.breach (g.V.CheckValue.breaches c.args.breach) x)) (sym (ap (cond_of (λ r. r) (λ v. v)) c.in-If.is ∙ of_if (λ r. r) (λ v. v) c.in-If.condition c.in-If.first c.in-If.otherwise))

@@ -24,11 +24,11 @@ decreases-check_arm g l = weight_of_arm (arm_of (λ r. r) (λ v. v) l.arm.now)
 -- the elements so far have no breach
 abbrev pub invariant-check_conds-loop-c : goal.invariant-check_conds-loop-c
 invariant-check_conds-loop-c g l =
-    stateless.first_from (λ xs. in_conds l.breach (g.V.Value.breaches l.breach) (conds_from xs)) (cond_of (λ r. r) (λ v. v)) (conds_split l.breach (g.V.Value.breaches l.breach)) l.c-index l.all
-    ≡ stateless.first_from (λ xs. in_conds l.breach (g.V.Value.breaches l.breach) (conds_from xs)) (cond_of (λ r. r) (λ v. v)) (conds_split l.breach (g.V.Value.breaches l.breach)) 0 l.all
+    stateless.first_from (λ xs. in_conds l.breach (g.V.CheckValue.breaches l.breach) (conds_from xs)) (cond_of (λ r. r) (λ v. v)) (conds_split l.breach (g.V.CheckValue.breaches l.breach)) l.c-index l.all
+    ≡ stateless.first_from (λ xs. in_conds l.breach (g.V.CheckValue.breaches l.breach) (conds_from xs)) (cond_of (λ r. r) (λ v. v)) (conds_split l.breach (g.V.CheckValue.breaches l.breach)) 0 l.all
 
 -- the arms so far have no breach
 abbrev pub invariant-check_arms-loop-arm : goal.invariant-check_arms-loop-arm
 invariant-check_arms-loop-arm g l =
-    stateful.first_from (λ had xs. in_arms l.breach (g.V.Value.breaches l.breach) had (arms_from xs)) (in_arm l.breach (g.V.Value.breaches l.breach)) has_default (arm_of (λ r. r) (λ v. v)) (arms_split l.breach (g.V.Value.breaches l.breach)) l.had l.arm-index l.arms
-    ≡ first_of (in_arms l.breach (g.V.Value.breaches l.breach) false (arms_from (map (arm_of (λ r. r) (λ v. v)) l.arms)))
+    stateful.first_from (λ had xs. in_arms l.breach (g.V.CheckValue.breaches l.breach) had (arms_from xs)) (in_arm l.breach (g.V.CheckValue.breaches l.breach)) has_default (arm_of (λ r. r) (λ v. v)) (arms_split l.breach (g.V.CheckValue.breaches l.breach)) l.had l.arm-index l.arms
+    ≡ first_of (in_arms l.breach (g.V.CheckValue.breaches l.breach) false (arms_from (map (arm_of (λ r. r) (λ v. v)) l.arms)))

@@ -7,7 +7,7 @@ use Rattle.edd_name_meanings.specs.Meanings.{FirstFault}
 use Rattle.edd_name_rules.proofs.Passing.{passed}
 use Rattle.edd_names.proofs.leaves.DataItemPathNamed.copy.Goals as goal
 
-pub returns-in_err-refer_variable-in-Variable-clause-err : goal.returns-in_err-refer_variable-in-Variable-clause-err
-returns-in_err-refer_variable-in-Variable-clause-err c =
+pub returns-in_err-refer_variable-in-Variable-clause-refused : goal.returns-in_err-refer_variable-in-Variable-clause-refused
+returns-in_err-refer_variable-in-Variable-clause-refused c =
     passed c.from_residual.result c.in_err-refer_variable-in-Variable.field-0.0 _ c.from_residual.ensures.1
-    (subst (λ d. FirstFault c.in_err-refer_variable-in-Variable.field-0.0 (unit_of c.args.names.now) (data_uses (data_item_of path_of d))) (sym c.in-Variable.is) c.in_err-refer_variable-in-Variable.ensures.err)
+    (subst (λ d. FirstFault c.in_err-refer_variable-in-Variable.field-0.0 (unit_of c.args.names.now) (data_uses (data_item_of path_of d))) (sym c.in-Variable.is) c.in_err-refer_variable-in-Variable.ensures.refused)

@@ -1,6 +1,6 @@
 use Rattle.std.proofs.Common.{◌≡◌, drop}
 use Rattle.edd_syntax.specs.NameRules.{is_kind_among}
-use Rattle.edd_name_meanings.proofs.places.is_among.Given as goal
+use Rattle.edd_name_meanings.proofs.path_steps.is_among.Given as goal
 
 -- the kinds so far are others
 abbrev pub invariant-loop-other : goal.invariant-loop-other

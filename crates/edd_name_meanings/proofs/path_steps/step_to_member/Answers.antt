@@ -4,10 +4,10 @@ use Rattle.edd_syntax.specs.ItemView.{member_of}
 use Rattle.edd_syntax.specs.TreeView.{path_of}
 use Rattle.edd_syntax.specs.Resolution.{item_named, of_kind}
 use Rattle.edd_name_meanings.specs.Directory.{unit_of}
-use Rattle.edd_name_meanings.proofs.places.place_of_member.Goals as goal
+use Rattle.edd_name_meanings.proofs.path_steps.step_to_member.Goals as goal
 
-pub returns-in-Some-clause-ok : goal.returns-in-Some-clause-ok
-returns-in-Some-clause-ok c = (
+pub returns-in-Some-clause-sound : goal.returns-in-Some-clause-sound
+returns-in-Some-clause-sound c = (
   (member_of path_of c.in-Some.found.now, c.in-Some.of),
   sym c.in-Some.ensures,
   refl,

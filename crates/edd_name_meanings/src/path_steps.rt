@@ -27,7 +27,7 @@ pub fn unknown_name(alloc: Global, name: &str) -> NameFault
 {
     match String::from_str(alloc, name) {
         Ok(name) => NameFault::UnknownName(name),
-        Err(_) => NameFault::NoMemory,
+        Err(_) => NameFault::Memory,
     }
 }
 
@@ -38,7 +38,7 @@ pub fn wrong_kind(alloc: Global, name: &str) -> NameFault
 {
     match String::from_str(alloc, name) {
         Ok(name) => NameFault::WrongKind(name),
-        Err(_) => NameFault::NoMemory,
+        Err(_) => NameFault::Memory,
     }
 }
 
@@ -55,7 +55,7 @@ pub fn is_among(allowed: &[Kind], kind: Kind) -> bool
 
 /// A name on the way along a path, the kind of what it names, and the item where that is known.
 #[derive(Clone, Copy)]
-pub struct Place<'a> {
+pub struct PathStep<'a> {
     pub name: &'a str,
     pub kind: Kind,
     pub item: Option<ItemNo>,
@@ -84,19 +84,19 @@ fn member_of_item<'a>(
     }
 }
 
-// The place of a member of a collection.
-pub fn place_of_member<'b>(
+// The step to a member of a collection.
+pub fn step_to_member<'b>(
     names: &Names,
     item: ItemNo,
     member: &'b str,
-) -> Result<Place<'b>, NameFault>
+) -> Result<PathStep<'b>, NameFault>
     requires { kind_of item ≡ kind.Collection }
-    ensures ok { IfOk result (λ p. (found : FoundMember) × (member_at (unit_of names.now) item member.now ≡ Some found)
+    ensures sound { IfOk result (λ p. (found : FoundMember) × (member_at (unit_of names.now) item member.now ≡ Some found)
         × (p.name.now ≡ member.now) × (p.kind ≡ found.1) × (p.item ≡ item_of_member (unit_of names.now) found)) }
-    ensures err { IfErr result (λ f. (member_at (unit_of names.now) item member.now ≡ None) × IsFound f (Some (UnknownName member.now))) }
+    ensures refused { IfErr result (λ f. (member_at (unit_of names.now) item member.now ≡ None) × IsFound f (Some (UnknownName member.now))) }
 {
     match member_of_item(names, item, member) {
-        Some((found, of)) => Ok(Place {
+        Some((found, of)) => Ok(PathStep {
             name: member,
             kind: of,
             item: item_of_kind(names.item(&found.item.base), of),
