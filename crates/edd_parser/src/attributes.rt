@@ -74,8 +74,8 @@ fn response_class(cursor: &mut Cursor) -> Result<ResponseClass, ParseFault>
 fn skip_response_end(cursor: &mut Cursor)
     ensures { cursor.new ≡ reading.behind_response cursor.old }
 {
-    if cursor.is_at(Symbol::Semicolon) || cursor.is_at(Symbol::Comma) {
-        cursor.skip();
+    if cursor.at(Symbol::Semicolon) || cursor.at(Symbol::Comma) {
+        cursor.bump();
     }
 }
 
@@ -152,12 +152,12 @@ fn transaction_part(cursor: &mut Cursor, high: u32) -> Result<TransactionPart<Pa
     requires { high ≤ 100 }
     ensures { Gives (λ p. transaction_part_of path_of p) result cursor.new (reading.transaction_part_at high cursor.old) }
 {
-    if cursor.is_at_word(Keyword::Request) {
-        cursor.skip();
+    if cursor.at_word(Keyword::Request) {
+        cursor.bump();
         return Ok(TransactionPart::Request(braced_list(cursor, high)?));
     }
-    if cursor.is_at_word(Keyword::Reply) {
-        cursor.skip();
+    if cursor.at_word(Keyword::Reply) {
+        cursor.bump();
         return Ok(TransactionPart::Reply(braced_list(cursor, high)?));
     }
     Err(misfit_without_codes(cursor))
@@ -243,7 +243,7 @@ fn attribute(cursor: &mut Cursor, high: u32) -> Result<Attribute<Path>, ParseFau
     ensures { Gives attribute_view result cursor.new (reading.attribute_at high cursor.old) }
 {
     if let Some(which) = cursor.text_attribute() {
-        cursor.skip();
+        cursor.bump();
         return Ok(Attribute::OneText(which, one(cursor, high)?));
     }
     other_attribute(cursor, high)
@@ -255,20 +255,20 @@ fn other_attribute(cursor: &mut Cursor, high: u32) -> Result<Attribute<Path>, Pa
     requires { high ≤ 100 }
     ensures { Gives attribute_view result cursor.new (reading.other_attribute_at high cursor.old) }
 {
-    if cursor.is_at_word(Keyword::Class) {
-        cursor.skip();
+    if cursor.at_word(Keyword::Class) {
+        cursor.bump();
         return class_words(cursor);
     }
-    if cursor.is_at_word(Keyword::Handling) {
-        cursor.skip();
+    if cursor.at_word(Keyword::Handling) {
+        cursor.bump();
         return Ok(Attribute::Handling(one(cursor, high)?));
     }
-    if cursor.is_at_word(Keyword::Validity) {
-        cursor.skip();
+    if cursor.at_word(Keyword::Validity) {
+        cursor.bump();
         return Ok(Attribute::Validity(one(cursor, high)?));
     }
-    if cursor.is_at_word(Keyword::Type) {
-        cursor.skip();
+    if cursor.at_word(Keyword::Type) {
+        cursor.bump();
         let written = written_type(cursor, high)?;
         return Ok(Attribute::TypeOf {
             word: written.word,
@@ -284,20 +284,20 @@ fn command_attribute(cursor: &mut Cursor, high: u32) -> Result<Attribute<Path>, 
     requires { high ≤ 100 }
     ensures { Gives attribute_view result cursor.new (views.command_attribute_at high cursor.old) }
 {
-    if cursor.is_at_word(Keyword::Number) {
-        cursor.skip();
+    if cursor.at_word(Keyword::Number) {
+        cursor.bump();
         return command_number(cursor);
     }
-    if cursor.is_at_word(Keyword::Operation) {
-        cursor.skip();
+    if cursor.at_word(Keyword::Operation) {
+        cursor.bump();
         return command_operation(cursor);
     }
-    if cursor.is_at_word(Keyword::Transaction) {
-        cursor.skip();
+    if cursor.at_word(Keyword::Transaction) {
+        cursor.bump();
         return transaction(cursor, high);
     }
-    if cursor.is_at_word(Keyword::ResponseCodes) {
-        cursor.skip();
+    if cursor.at_word(Keyword::ResponseCodes) {
+        cursor.bump();
         return Ok(Attribute::ResponseCodes(braced_row(cursor, 0)?));
     }
     list_attribute(cursor, high)
@@ -309,16 +309,16 @@ fn list_attribute(cursor: &mut Cursor, high: u32) -> Result<Attribute<Path>, Par
     requires { high ≤ 100 }
     ensures { Gives attribute_view result cursor.new (views.list_attribute_at high cursor.old) }
 {
-    if cursor.is_at_word(Keyword::Items) {
-        cursor.skip();
+    if cursor.at_word(Keyword::Items) {
+        cursor.bump();
         return Ok(Attribute::Items(braced_list(cursor, high)?));
     }
-    if cursor.is_at_word(Keyword::Members) {
-        cursor.skip();
+    if cursor.at_word(Keyword::Members) {
+        cursor.bump();
         return Ok(Attribute::Members(braced_row(cursor, 0)?));
     }
-    if cursor.is_at_word(Keyword::Definition) {
-        cursor.skip();
+    if cursor.at_word(Keyword::Definition) {
+        cursor.bump();
         cursor.expect(Symbol::OpenBrace)?;
         return Ok(Attribute::Definition(definition(cursor, high)?));
     }

@@ -49,24 +49,24 @@ fn kind_of(sort: Sort) -> Kind
 fn kind_word(cursor: &mut Cursor) -> Option<Kind>
     ensures { Takes (λ k. k) result cursor.old cursor.new (reading.kind_at cursor.old) }
 {
-    if cursor.is_at_word(Keyword::Variable) {
-        cursor.skip();
+    if cursor.at_word(Keyword::Variable) {
+        cursor.bump();
         return Some(Kind::Variable);
     }
-    if cursor.is_at_word(Keyword::Command) {
-        cursor.skip();
+    if cursor.at_word(Keyword::Command) {
+        cursor.bump();
         return Some(Kind::Command);
     }
-    if cursor.is_at_word(Keyword::Menu) {
-        cursor.skip();
+    if cursor.at_word(Keyword::Menu) {
+        cursor.bump();
         return Some(Kind::Menu);
     }
-    if cursor.is_at_word(Keyword::Collection) {
-        cursor.skip();
+    if cursor.at_word(Keyword::Collection) {
+        cursor.bump();
         return Some(Kind::Collection);
     }
-    if cursor.is_at_word(Keyword::Method) {
-        cursor.skip();
+    if cursor.at_word(Keyword::Method) {
+        cursor.bump();
         return Some(Kind::Method);
     }
     None
@@ -130,7 +130,7 @@ fn attribute_row(
 {
     let mut all = Vec::new(cursor.alloc());
     for _ in 0..cursor.places() {
-        if cursor.is_at(Symbol::CloseBrace) {
+        if cursor.at(Symbol::CloseBrace) {
             return Ok(all);
         }
         all.push(own_attribute(cursor, kind, high)?)?;

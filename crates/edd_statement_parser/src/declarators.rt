@@ -23,10 +23,10 @@ fn initial_value(cursor: &mut Cursor, high: u32) -> Result<Option<Expr<Path>>, P
     requires { high ≤ 100 }
     ensures { Gives (option_map expr_view) result cursor.new (reading.value_at high cursor.old) }
 {
-    if !cursor.is_at(Symbol::Equals) {
+    if !cursor.at(Symbol::Equals) {
         return Ok(None);
     }
-    cursor.skip();
+    cursor.bump();
     let value = expr(cursor, Place::Method, high, 1)?;
     Ok(Some(value.expr))
 }
@@ -53,10 +53,10 @@ pub fn declarators(cursor: &mut Cursor, high: u32) -> Result<Vec<Declarator<Path
     let mut all = Vec::new(cursor.alloc());
     for _ in 0..cursor.len() {
         all.push(declarator(cursor, high)?)?;
-        if !cursor.is_at(Symbol::Comma) {
+        if !cursor.at(Symbol::Comma) {
             return Ok(all);
         }
-        cursor.skip();
+        cursor.bump();
     }
     Err(cursor.syntax())
 }
@@ -65,7 +65,7 @@ pub fn declarators(cursor: &mut Cursor, high: u32) -> Result<Vec<Declarator<Path
 pub fn is_at_local_type(cursor: &Cursor) -> bool
     ensures { result ≡ at_local_type cursor.now }
 {
-    cursor.is_at_word(Keyword::Int) || cursor.is_at_word(Keyword::Long)
+    cursor.at_word(Keyword::Int) || cursor.at_word(Keyword::Long)
 }
 
 /// A declaration of at most this height behind its type. Its declarators are one level below the type's word.

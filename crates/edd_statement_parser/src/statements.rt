@@ -39,8 +39,8 @@ fn optional(cursor: &mut Cursor, high: u32, sign: Symbol) -> Result<Option<Expr<
     requires { high ≤ 100 }
     ensures { Gives (option_map expr_view) result cursor.new (reading.optional_at high (statement_at high) sign cursor.old) }
 {
-    if cursor.is_at(sign) {
-        cursor.skip();
+    if cursor.at(sign) {
+        cursor.bump();
         return Ok(None);
     }
     let e = expr(cursor, Place::Method, high, 1)?;
@@ -132,18 +132,18 @@ fn simple(cursor: &mut Cursor, high: u32) -> Result<Stmt<Path>, ParseFault>
     ensures { Gives stmt_view result cursor.new (simple_at high cursor.old) }
 {
     let line = cursor.line();
-    if cursor.is_at_word(Keyword::Break) {
-        cursor.skip();
+    if cursor.at_word(Keyword::Break) {
+        cursor.bump();
         cursor.expect(Symbol::Semicolon)?;
         return Ok(Stmt::Break { line });
     }
-    if cursor.is_at_word(Keyword::Continue) {
-        cursor.skip();
+    if cursor.at_word(Keyword::Continue) {
+        cursor.bump();
         cursor.expect(Symbol::Semicolon)?;
         return Ok(Stmt::Continue { line });
     }
-    if cursor.is_at_word(Keyword::Return) {
-        cursor.skip();
+    if cursor.at_word(Keyword::Return) {
+        cursor.bump();
         cursor.expect(Symbol::Semicolon)?;
         return Ok(Stmt::Return);
     }
@@ -180,32 +180,32 @@ fn layer(cursor: &mut Cursor, high: u32) -> Result<Stmt<Path>, ParseFault>
     requires { high < 100 }
     ensures { Gives stmt_view result cursor.new (reading.statement_layer high (statement_at high) cursor.old) }
 {
-    if cursor.is_at(Symbol::Semicolon) {
-        cursor.skip();
+    if cursor.at(Symbol::Semicolon) {
+        cursor.bump();
         return Ok(Stmt::Empty);
     }
-    if cursor.is_at(Symbol::OpenBrace) {
-        cursor.skip();
+    if cursor.at(Symbol::OpenBrace) {
+        cursor.bump();
         return Ok(block(body(cursor, high, false)?));
     }
-    if cursor.is_at_word(Keyword::MethodIf) {
-        cursor.skip();
+    if cursor.at_word(Keyword::MethodIf) {
+        cursor.bump();
         return if_behind(cursor, high);
     }
-    if cursor.is_at_word(Keyword::While) {
-        cursor.skip();
+    if cursor.at_word(Keyword::While) {
+        cursor.bump();
         return while_behind(cursor, high);
     }
-    if cursor.is_at_word(Keyword::Do) {
-        cursor.skip();
+    if cursor.at_word(Keyword::Do) {
+        cursor.bump();
         return do_behind(cursor, high);
     }
-    if cursor.is_at_word(Keyword::For) {
-        cursor.skip();
+    if cursor.at_word(Keyword::For) {
+        cursor.bump();
         return for_behind(cursor, high);
     }
-    if cursor.is_at_word(Keyword::Switch) {
-        cursor.skip();
+    if cursor.at_word(Keyword::Switch) {
+        cursor.bump();
         return switch_behind(cursor, high);
     }
     simple(cursor, high)
@@ -232,7 +232,7 @@ fn parts(cursor: &mut Cursor, high: u32, labels: bool) -> Result<Vec<Part<Path>>
 {
     let mut all = Vec::new(cursor.alloc());
     for _ in 0..cursor.places() {
-        if cursor.is_at(Symbol::CloseBrace) {
+        if cursor.at(Symbol::CloseBrace) {
             return Ok(all);
         }
         all.push(part(cursor, high, labels)?)?;
@@ -249,16 +249,16 @@ fn part(cursor: &mut Cursor, high: u32, labels: bool) -> Result<Part<Path>, Pars
 {
     let line = cursor.line();
     if is_at_local_type(cursor) {
-        cursor.skip();
+        cursor.bump();
         return Ok(Part::Declare(declaration(cursor, high)?));
     }
-    if labels && cursor.is_at_word(Keyword::MethodCase) {
-        cursor.skip();
+    if labels && cursor.at_word(Keyword::MethodCase) {
+        cursor.bump();
         let label = case_label(cursor)?;
         return Ok(Part::CaseLabel { line, label });
     }
-    if labels && cursor.is_at_word(Keyword::MethodDefault) {
-        cursor.skip();
+    if labels && cursor.at_word(Keyword::MethodDefault) {
+        cursor.bump();
         cursor.expect(Symbol::Colon)?;
         return Ok(Part::DefaultLabel { line });
     }
@@ -289,10 +289,10 @@ fn else_behind(
     requires { high < 100 }
     ensures { Gives stmt_view result cursor.new (reading.method_else_at high (statement_at high) (expr_view condition) (stmt_view first.value) cursor.old) }
 {
-    if !cursor.is_at_word(Keyword::MethodElse) {
+    if !cursor.at_word(Keyword::MethodElse) {
         return Ok(if_alone(condition, first));
     }
-    cursor.skip();
+    cursor.bump();
     let otherwise = child(cursor, high)?;
     Ok(if_else(condition, first, otherwise))
 }

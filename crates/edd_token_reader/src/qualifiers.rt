@@ -15,7 +15,7 @@ use edd_syntax::item::{DataQualifiers, MenuQualifiers};
 use edd_syntax::symbols::Symbol;
 
 /// What may have qualifiers.
-#[derive(Clone, Copy, PartialEq, Eq, Debug)]
+#[derive(Clone, Copy)]
 pub enum Qualified {
     Menu,
     Data,
@@ -59,8 +59,7 @@ fn some_qualifiers<'a>(
     let mut all = Vec::new(cursor.alloc());
     for _ in 0..most {
         all.push(allowed(cursor, kind)?)?;
-        if cursor.is_at(Symbol::CloseParenthesis) {
-            cursor.skip();
+        if cursor.eat(Symbol::CloseParenthesis) {
             return Ok(all);
         }
         skip_comma(cursor);
@@ -73,11 +72,11 @@ fn some_qualifiers<'a>(
 fn qualifiers<'a>(cursor: &mut Cursor<'a>, kind: Qualified) -> Result<Vec<&'a str>, ParseFault>
     ensures { Gives (λ v. texts_of v.items) result cursor.new (reading.qualifiers_at (allowed_names kind) cursor.old) }
 {
-    if !cursor.is_at(Symbol::OpenParenthesis) {
+    if !cursor.at(Symbol::OpenParenthesis) {
         return Ok(Vec::new(cursor.alloc()));
     }
     let most = cursor.len();
-    cursor.skip();
+    cursor.bump();
     some_qualifiers(cursor, kind, most)
 }
 
