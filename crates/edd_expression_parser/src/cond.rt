@@ -62,10 +62,9 @@ pub fn label(cursor: &mut Cursor) -> Result<i64, ParseFault>
     if let Some(n) = cursor.integer() {
         return Ok(i64::from(n));
     }
-    if !cursor.at(Symbol::Operator(Operator::Subtract)) {
+    if !cursor.eat(Symbol::Operator(Operator::Subtract)) {
         return Err(cursor.syntax());
     }
-    cursor.bump();
     negative(cursor)
 }
 
@@ -146,12 +145,10 @@ fn layer<V: Value>(cursor: &mut Cursor, form: Form, high: u32) -> Result<Cond<Pa
     requires { high < 100 }
     ensures { Gives (cond_view V.view) result cursor.new (conditionals.layer form V.read high cursor.old) }
 {
-    if cursor.at_word(Keyword::If) {
-        cursor.bump();
+    if cursor.eat_word(Keyword::If) {
         return if_behind(cursor, form, high);
     }
-    if cursor.at_word(Keyword::Select) {
-        cursor.bump();
+    if cursor.eat_word(Keyword::Select) {
         return select_behind(cursor, form, high);
     }
     Ok(Cond::Value(one_value(cursor, form, high)?))
@@ -189,10 +186,9 @@ fn otherwise<V: Value>(
     requires { high < 100 }
     ensures { Gives (λ v. conds_view V.view v.items) result cursor.new (conditionals.otherwise form V.read high cursor.old) }
 {
-    if !cursor.at_word(Keyword::Else) {
+    if !cursor.eat_word(Keyword::Else) {
         return Ok(Vec::new(cursor.alloc()));
     }
-    cursor.bump();
     if !cursor.at_word(Keyword::If) {
         return braces(cursor, form, high);
     }
@@ -301,17 +297,15 @@ fn arm<V: Value>(cursor: &mut Cursor, form: Form, high: u32) -> Result<Arm<Path,
     ensures { Gives (arm_view V.view) result cursor.new (conditionals.arm_at form V.read high cursor.old) }
 {
     let line = cursor.line();
-    if cursor.at_word(Keyword::Case) {
-        cursor.bump();
+    if cursor.eat_word(Keyword::Case) {
         let label = label(cursor)?;
         cursor.expect(Symbol::Colon)?;
         let body = branch(cursor, form, high)?;
         return Ok(Arm::Case { label, body });
     }
-    if !cursor.at_word(Keyword::Default) {
+    if !cursor.eat_word(Keyword::Default) {
         return Err(cursor.syntax());
     }
-    cursor.bump();
     cursor.expect(Symbol::Colon)?;
     let body = branch(cursor, form, high)?;
     Ok(Arm::Default { line, body })

@@ -255,8 +255,7 @@ fn arguments(cursor: &mut Cursor, place: Place, high: u32) -> Result<TallArgumen
     ensures read { Gives (λ a. listed a.arguments.items) result cursor.new (reading.arguments_at (place_view place) (expr_at (place_view place) high) cursor.old) }
     ensures low { IfOk result (λ a. a.levels ≤ high) }
 {
-    if cursor.at(Symbol::CloseParenthesis) {
-        cursor.bump();
+    if cursor.eat(Symbol::CloseParenthesis) {
         return Ok(no_arguments(cursor.alloc()));
     }
     some_arguments(cursor, place, high)
@@ -274,10 +273,9 @@ fn some_arguments(cursor: &mut Cursor, place: Place, high: u32) -> Result<TallAr
     for _ in 0..cursor.len() {
         let next = argument(cursor, place, high)?;
         all = with_argument(all, next)?;
-        if !cursor.at(Symbol::Comma) {
+        if !cursor.eat(Symbol::Comma) {
             return close(cursor, all);
         }
-        cursor.bump();
     }
     Err(cursor.syntax())
 }

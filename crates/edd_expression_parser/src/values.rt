@@ -124,10 +124,9 @@ impl Value for Enumerator {
 fn mask(cursor: &mut Cursor) -> Result<Option<u32>, ParseFault>
     ensures { Gives (λ m. m) result cursor.new (reading.mask_at cursor.old) }
 {
-    if !cursor.at(Symbol::Comparison(Comparison::Less)) {
+    if !cursor.eat(Symbol::Comparison(Comparison::Less)) {
         return Ok(None);
     }
-    cursor.bump();
     let mask = integer(cursor)?;
     cursor.expect(Symbol::Comparison(Comparison::Greater))?;
     Ok(Some(mask))

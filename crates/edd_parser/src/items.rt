@@ -49,24 +49,19 @@ fn kind_of(sort: Sort) -> Kind
 fn kind_word(cursor: &mut Cursor) -> Option<Kind>
     ensures { Takes (λ k. k) result cursor.old cursor.new (reading.kind_at cursor.old) }
 {
-    if cursor.at_word(Keyword::Variable) {
-        cursor.bump();
+    if cursor.eat_word(Keyword::Variable) {
         return Some(Kind::Variable);
     }
-    if cursor.at_word(Keyword::Command) {
-        cursor.bump();
+    if cursor.eat_word(Keyword::Command) {
         return Some(Kind::Command);
     }
-    if cursor.at_word(Keyword::Menu) {
-        cursor.bump();
+    if cursor.eat_word(Keyword::Menu) {
         return Some(Kind::Menu);
     }
-    if cursor.at_word(Keyword::Collection) {
-        cursor.bump();
+    if cursor.eat_word(Keyword::Collection) {
         return Some(Kind::Collection);
     }
-    if cursor.at_word(Keyword::Method) {
-        cursor.bump();
+    if cursor.eat_word(Keyword::Method) {
         return Some(Kind::Method);
     }
     None

@@ -23,10 +23,9 @@ fn initial_value(cursor: &mut Cursor, high: u32) -> Result<Option<Expr<Path>>, P
     requires { high ≤ 100 }
     ensures { Gives (option_map expr_view) result cursor.new (reading.value_at high cursor.old) }
 {
-    if !cursor.at(Symbol::Equals) {
+    if !cursor.eat(Symbol::Equals) {
         return Ok(None);
     }
-    cursor.bump();
     let value = expr(cursor, Place::Method, high, 1)?;
     Ok(Some(value.expr))
 }
@@ -53,10 +52,9 @@ pub fn declarators(cursor: &mut Cursor, high: u32) -> Result<Vec<Declarator<Path
     let mut all = Vec::new(cursor.alloc());
     for _ in 0..cursor.len() {
         all.push(declarator(cursor, high)?)?;
-        if !cursor.at(Symbol::Comma) {
+        if !cursor.eat(Symbol::Comma) {
             return Ok(all);
         }
-        cursor.bump();
     }
     Err(cursor.syntax())
 }

@@ -39,8 +39,7 @@ fn optional(cursor: &mut Cursor, high: u32, sign: Symbol) -> Result<Option<Expr<
     requires { high ≤ 100 }
     ensures { Gives (option_map expr_view) result cursor.new (reading.optional_at high (statement_at high) sign cursor.old) }
 {
-    if cursor.at(sign) {
-        cursor.bump();
+    if cursor.eat(sign) {
         return Ok(None);
     }
     let e = expr(cursor, Place::Method, high, 1)?;
@@ -132,18 +131,15 @@ fn simple(cursor: &mut Cursor, high: u32) -> Result<Stmt<Path>, ParseFault>
     ensures { Gives stmt_view result cursor.new (simple_at high cursor.old) }
 {
     let line = cursor.line();
-    if cursor.at_word(Keyword::Break) {
-        cursor.bump();
+    if cursor.eat_word(Keyword::Break) {
         cursor.expect(Symbol::Semicolon)?;
         return Ok(Stmt::Break { line });
     }
-    if cursor.at_word(Keyword::Continue) {
-        cursor.bump();
+    if cursor.eat_word(Keyword::Continue) {
         cursor.expect(Symbol::Semicolon)?;
         return Ok(Stmt::Continue { line });
     }
-    if cursor.at_word(Keyword::Return) {
-        cursor.bump();
+    if cursor.eat_word(Keyword::Return) {
         cursor.expect(Symbol::Semicolon)?;
         return Ok(Stmt::Return);
     }
@@ -180,32 +176,25 @@ fn layer(cursor: &mut Cursor, high: u32) -> Result<Stmt<Path>, ParseFault>
     requires { high < 100 }
     ensures { Gives stmt_view result cursor.new (reading.statement_layer high (statement_at high) cursor.old) }
 {
-    if cursor.at(Symbol::Semicolon) {
-        cursor.bump();
+    if cursor.eat(Symbol::Semicolon) {
         return Ok(Stmt::Empty);
     }
-    if cursor.at(Symbol::OpenBrace) {
-        cursor.bump();
+    if cursor.eat(Symbol::OpenBrace) {
         return Ok(block(body(cursor, high, false)?));
     }
-    if cursor.at_word(Keyword::MethodIf) {
-        cursor.bump();
+    if cursor.eat_word(Keyword::MethodIf) {
         return if_behind(cursor, high);
     }
-    if cursor.at_word(Keyword::While) {
-        cursor.bump();
+    if cursor.eat_word(Keyword::While) {
         return while_behind(cursor, high);
     }
-    if cursor.at_word(Keyword::Do) {
-        cursor.bump();
+    if cursor.eat_word(Keyword::Do) {
         return do_behind(cursor, high);
     }
-    if cursor.at_word(Keyword::For) {
-        cursor.bump();
+    if cursor.eat_word(Keyword::For) {
         return for_behind(cursor, high);
     }
-    if cursor.at_word(Keyword::Switch) {
-        cursor.bump();
+    if cursor.eat_word(Keyword::Switch) {
         return switch_behind(cursor, high);
     }
     simple(cursor, high)
@@ -289,10 +278,9 @@ fn else_behind(
     requires { high < 100 }
     ensures { Gives stmt_view result cursor.new (reading.method_else_at high (statement_at high) (expr_view condition) (stmt_view first.value) cursor.old) }
 {
-    if !cursor.at_word(Keyword::MethodElse) {
+    if !cursor.eat_word(Keyword::MethodElse) {
         return Ok(if_alone(condition, first));
     }
-    cursor.bump();
     let otherwise = child(cursor, high)?;
     Ok(if_else(condition, first, otherwise))
 }
