@@ -4,8 +4,8 @@ use Rattle.edd_parser.proofs.Parsed.{kept_tokens}
 use Rattle.edd_token_reader.proofs.TokenTexts.{tokens_readable}
 use Rattle.edd_parser.proofs.parser.read.Goals as goal
 
-pub new-requires : goal.new-requires
-new-requires c = tokens_readable c.args.text.now c.args.tokens.now c.requires
+pub new-cursor-requires : goal.new-cursor-requires
+new-cursor-requires c = tokens_readable c.args.text.now c.args.tokens.now c.requires
 
 -- the cursor's tokens are those of the text
 pub whole-requires : goal.whole-requires
