@@ -261,7 +261,7 @@ fn arguments(cursor: &mut Cursor, place: Place, high: u32) -> Result<TallArgumen
     some_arguments(cursor, place, high)
 }
 
-// One argument at least. Each takes a token or more.
+// One argument at least.
 #[cycle(expr)]
 #[tactic(auto, using(crate::proofs::Loops::lists))]
 fn some_arguments(cursor: &mut Cursor, place: Place, high: u32) -> Result<TallArguments, ParseFault>
@@ -270,14 +270,13 @@ fn some_arguments(cursor: &mut Cursor, place: Place, high: u32) -> Result<TallAr
     ensures low { IfOk result (λ a. a.levels ≤ high) }
 {
     let mut all = no_arguments(cursor.alloc());
-    for _ in 0..cursor.len() {
+    loop {
         let next = argument(cursor, place, high)?;
         all = with_argument(all, next)?;
         if !cursor.eat(Symbol::Comma) {
             return close(cursor, all);
         }
     }
-    Err(cursor.syntax())
 }
 
 // The right side of an operator, joined with its left side.

@@ -50,13 +50,12 @@ pub fn declarators(cursor: &mut Cursor, high: u32) -> Result<Vec<Declarator<Path
     ensures { Gives (λ v. map declarator_view v.items) result cursor.new (reading.declarators_at high cursor.old) }
 {
     let mut all = Vec::new(cursor.alloc());
-    for _ in 0..cursor.len() {
+    loop {
         all.push(declarator(cursor, high)?)?;
         if !cursor.eat(Symbol::Comma) {
             return Ok(all);
         }
     }
-    Err(cursor.syntax())
 }
 
 /// Whether `int` or `long` is next.

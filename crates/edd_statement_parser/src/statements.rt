@@ -220,13 +220,10 @@ fn parts(cursor: &mut Cursor, high: u32, labels: bool) -> Result<Vec<Part<Path>>
     ensures { Gives (λ v. body_view v.items) result cursor.new (reading.parts_at high (statement_at high) labels (length cursor.old + 1) cursor.old) }
 {
     let mut all = Vec::new(cursor.alloc());
-    for _ in 0..cursor.places() {
-        if cursor.at(Symbol::CloseBrace) {
-            return Ok(all);
-        }
+    while !cursor.at(Symbol::CloseBrace) {
         all.push(part(cursor, high, labels)?)?;
     }
-    Err(cursor.syntax())
+    Ok(all)
 }
 
 // A declaration, a label where labels may stand, or a statement.

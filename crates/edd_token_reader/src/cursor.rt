@@ -130,13 +130,6 @@ impl<'a> Cursor<'a> {
         }
     }
 
-    /// The number of tokens.
-    pub fn len(&self) -> usize
-        ensures { result ≡ length self.now }
-    {
-        self.rest.len()
-    }
-
     /// The number of places before, between and behind the tokens.
     pub fn places(&self) -> usize
         ensures { result ≡ length self.now + 1 }
@@ -155,14 +148,8 @@ impl<'a> Cursor<'a> {
     pub fn at(&self, sign: Symbol) -> bool
         ensures { result ≡ reading.at sign self.now }
     {
-        match self.rest {
-            [
-                Token {
-                    kind: TokenKind::Symbol(next),
-                    ..
-                },
-                ..
-            ] => sign == *next,
+        match self.peek() {
+            Some(TokenKind::Symbol(next)) => sign == next,
             _ => false,
         }
     }
@@ -171,14 +158,8 @@ impl<'a> Cursor<'a> {
     pub fn at_word(&self, word: Keyword) -> bool
         ensures { result ≡ reading.at_word word self.now }
     {
-        match self.rest {
-            [
-                Token {
-                    kind: TokenKind::Keyword(next),
-                    ..
-                },
-                ..
-            ] => word == *next,
+        match self.peek() {
+            Some(TokenKind::Keyword(next)) => word == next,
             _ => false,
         }
     }
@@ -187,16 +168,7 @@ impl<'a> Cursor<'a> {
     pub fn at_string(&self) -> bool
         ensures { result ≡ reading.is_string self.now }
     {
-        matches!(
-            self.rest,
-            [
-                Token {
-                    kind: TokenKind::String,
-                    ..
-                },
-                ..
-            ]
-        )
+        matches!(self.peek(), Some(TokenKind::String))
     }
 
     /// Takes the next token, and gives its kind.
@@ -345,19 +317,9 @@ impl<'a> Cursor<'a> {
     pub fn name(&mut self) -> Option<&'a str>
         ensures { Takes (λ n. n.now) result self.old self.new (reading.name_at self.old) }
     {
-        match self.rest {
-            [
-                first @ Token {
-                    kind: TokenKind::Name,
-                    ..
-                },
-                rest @ ..,
-            ] => {
-                self.rest = rest;
-                Some(name_in(self.text, first))
-            }
-            _ => None,
-        }
+        let name = self.peek_name()?;
+        self.bump();
+        Some(name)
     }
 
     /// The string that is next.
@@ -383,19 +345,11 @@ impl<'a> Cursor<'a> {
     pub fn integer(&mut self) -> Option<u32>
         ensures { Takes (λ n. n) result self.old self.new (integer_at self.old) }
     {
-        match self.rest {
-            [
-                Token {
-                    kind: TokenKind::Integer(n),
-                    ..
-                },
-                rest @ ..,
-            ] => {
-                self.rest = rest;
-                Some(*n)
-            }
-            _ => None,
-        }
+        let Some(TokenKind::Integer(n)) = self.peek() else {
+            return None;
+        };
+        self.bump();
+        Some(n)
     }
 
     /// The name of a member behind a dot.
@@ -448,14 +402,8 @@ impl<'a> Cursor<'a> {
     pub fn begins_own(&self, kind: Kind) -> bool
         ensures { result ≡ begins_own kind self.now }
     {
-        match self.rest {
-            [
-                Token {
-                    kind: TokenKind::Keyword(word),
-                    ..
-                },
-                ..
-            ] => word_belongs(kind, *word),
+        match self.peek() {
+            Some(TokenKind::Keyword(word)) => word_belongs(kind, word),
             _ => false,
         }
     }
@@ -464,14 +412,18 @@ impl<'a> Cursor<'a> {
     pub fn text_attribute(&self) -> Option<TextAttribute>
         ensures { result ≡ text_here self.now }
     {
-        match self.rest {
-            [
-                Token {
-                    kind: TokenKind::Keyword(word),
-                    ..
-                },
-                ..
-            ] => TextAttribute::from_word(*word),
+        match self.peek() {
+            Some(TokenKind::Keyword(word)) => TextAttribute::from_word(word),
+            _ => None,
+        }
+    }
+
+    // The sign that is next. It isn't taken.
+    fn peek_sign(&self) -> Option<Symbol>
+        ensures { result ≡ option_map (λ r. r.0) (reading.sign_at self.now) }
+    {
+        match self.peek() {
+            Some(TokenKind::Symbol(sign)) => Some(sign),
             _ => None,
         }
     }
@@ -480,62 +432,29 @@ impl<'a> Cursor<'a> {
     pub fn operator(&mut self, row: u32) -> Option<Infix>
         ensures { Takes infix_view result self.old self.new (operator_at row self.old) }
     {
-        match self.rest {
-            [
-                Token {
-                    kind: TokenKind::Symbol(sign),
-                    ..
-                },
-                rest @ ..,
-            ] => {
-                let op = infix_of(*sign)?;
-                if row_of(op) < row {
-                    return None;
-                }
-                self.rest = rest;
-                Some(op)
-            }
-            _ => None,
+        let op = infix_of(self.peek_sign()?)?;
+        if row_of(op) < row {
+            return None;
         }
+        self.bump();
+        Some(op)
     }
 
     /// The assignment that is next.
     pub fn assignment(&mut self) -> Option<Assignment>
         ensures { Takes assignment_view result self.old self.new (assignment_at self.old) }
     {
-        match self.rest {
-            [
-                Token {
-                    kind: TokenKind::Symbol(sign),
-                    ..
-                },
-                rest @ ..,
-            ] => {
-                let op = assignment_of(*sign)?;
-                self.rest = rest;
-                Some(op)
-            }
-            _ => None,
-        }
+        let op = assignment_of(self.peek_sign()?)?;
+        self.bump();
+        Some(op)
     }
 
     /// The step that is next.
     pub fn step(&mut self) -> Option<IncrementOperator>
         ensures { Takes (λ op. op) result self.old self.new (increment_at self.old) }
     {
-        match self.rest {
-            [
-                Token {
-                    kind: TokenKind::Symbol(sign),
-                    ..
-                },
-                rest @ ..,
-            ] => {
-                let op = behind_of(*sign)?;
-                self.rest = rest;
-                Some(op)
-            }
-            _ => None,
-        }
+        let op = behind_of(self.peek_sign()?)?;
+        self.bump();
+        Some(op)
     }
 }
