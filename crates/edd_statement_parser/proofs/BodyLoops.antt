@@ -9,7 +9,7 @@ use Rattle.edd_syntax.specs.declared.reference.Path as path
 use Rattle.edd_syntax.specs.Token.{Token}
 use Rattle.edd_syntax.specs.Reference.{Path}
 use Rattle.edd_syntax.specs.Expression.{Expr}
-use Rattle.edd_syntax.specs.Statement.{Declarator, Stmt, Part, Body, Nil, Cons}
+use Rattle.edd_syntax.specs.Statement.{Declarator, Part, Body, Nil, Cons}
 use Rattle.edd_syntax.specs.Grammar.{InMethod}
 use Rattle.edd_grammar.specs.Reading.{◌>>=◌, Read, at, at_word, expect, name_at}
 use Rattle.edd_grammar.specs.ConditionalReading.{label_at}

@@ -173,7 +173,8 @@ impl<'a> Cursor<'a> {
 
     /// Takes the next token, and gives its kind.
     pub fn next(&mut self) -> Option<TokenKind>
-        ensures { MatchOption result (self.old ≡ []) (λ kind. (bytes : List ℕ) × (self.old ≡ token_of kind bytes ∷ self.new)) }
+        ensures { MatchOption result (self.old ≡ [])
+            (λ kind. (bytes : List ℕ) × (self.old ≡ token_of kind bytes ∷ self.new)) }
     {
         match self.rest {
             [] => None,
@@ -186,7 +187,8 @@ impl<'a> Cursor<'a> {
 
     /// The kind of the token that is next.
     pub fn peek(&self) -> Option<TokenKind>
-        ensures { MatchOption result (self.now ≡ []) (λ kind. (bytes : List ℕ) × (self.now ≡ token_of kind bytes ∷ drop 1 self.now)) }
+        ensures { MatchOption result (self.now ≡ [])
+            (λ kind. (bytes : List ℕ) × (self.now ≡ token_of kind bytes ∷ drop 1 self.now)) }
     {
         match self.rest {
             [] => None,

@@ -50,7 +50,8 @@ fn allowed<'a>(cursor: &mut Cursor<'a>, kind: Qualified) -> Result<&'a str, Pars
 // One or more names, and the parenthesis behind them.
 #[tactic(auto, using(crate::proofs::QualifierLoops::names_read))]
 fn some_qualifiers<'a>(cursor: &mut Cursor<'a>, kind: Qualified) -> Result<Vec<&'a str>, ParseFault>
-    ensures { Gives (λ v. texts_of v.items) result cursor.new (reading.some_qualifiers (allowed_names kind) (length cursor.old + 1) cursor.old) }
+    ensures { Gives (λ v. texts_of v.items) result cursor.new
+        (reading.some_qualifiers (allowed_names kind) (length cursor.old + 1) cursor.old) }
 {
     let mut all = Vec::new(cursor.alloc());
     loop {

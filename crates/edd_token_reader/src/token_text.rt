@@ -1,6 +1,6 @@
 //! The text of names and strings.
 
-ghost use Rattle.std.specs.Prelude.{◌≡◌, ℕ, List, slice_range};
+ghost use Rattle.std.specs.Prelude.{◌≡◌, slice_range};
 ghost use Rattle.edd_syntax.specs.Token.{Identifier, String};
 ghost use Rattle.edd_lexer.specs.declared.token.TokenKind.TheVariants as kind;
 ghost use Rattle.edd_token_reader.specs.TokenTexts.{token_in, IsReadable};
