@@ -62,10 +62,9 @@ pub fn label(cursor: &mut Cursor) -> Result<i64, ParseFault>
     if let Some(n) = cursor.integer() {
         return Ok(i64::from(n));
     }
-    if !cursor.is_at(Symbol::Operator(Operator::Subtract)) {
+    if !cursor.eat(Symbol::Operator(Operator::Subtract)) {
         return Err(cursor.syntax());
     }
-    cursor.skip();
     negative(cursor)
 }
 
@@ -95,9 +94,9 @@ fn select_head(cursor: &mut Cursor, high: u32) -> Result<Expr<Path>, ParseFault>
 fn list_ends(cursor: &Cursor) -> bool
     ensures { result ≡ reading.list_ends cursor.now }
 {
-    cursor.is_at(Symbol::CloseBrace)
-        || cursor.is_at_word(Keyword::Case)
-        || cursor.is_at_word(Keyword::Default)
+    cursor.at(Symbol::CloseBrace)
+        || cursor.at_word(Keyword::Case)
+        || cursor.at_word(Keyword::Default)
 }
 
 // A value, with a semicolon behind a single one.
@@ -146,12 +145,10 @@ fn layer<V: Value>(cursor: &mut Cursor, form: Form, high: u32) -> Result<Cond<Pa
     requires { high < 100 }
     ensures { Gives (cond_view V.view) result cursor.new (conditionals.layer form V.read high cursor.old) }
 {
-    if cursor.is_at_word(Keyword::If) {
-        cursor.skip();
+    if cursor.eat_word(Keyword::If) {
         return if_behind(cursor, form, high);
     }
-    if cursor.is_at_word(Keyword::Select) {
-        cursor.skip();
+    if cursor.eat_word(Keyword::Select) {
         return select_behind(cursor, form, high);
     }
     Ok(Cond::Value(one_value(cursor, form, high)?))
@@ -189,11 +186,10 @@ fn otherwise<V: Value>(
     requires { high < 100 }
     ensures { Gives (λ v. conds_view V.view v.items) result cursor.new (conditionals.otherwise form V.read high cursor.old) }
 {
-    if !cursor.is_at_word(Keyword::Else) {
+    if !cursor.eat_word(Keyword::Else) {
         return Ok(Vec::new(cursor.alloc()));
     }
-    cursor.skip();
-    if !cursor.is_at_word(Keyword::If) {
+    if !cursor.at_word(Keyword::If) {
         return braces(cursor, form, high);
     }
     let inner = cond(cursor, form, high)?;
@@ -285,7 +281,7 @@ fn arms<V: Value>(
 {
     let mut all = Vec::new(cursor.alloc());
     for _ in 0..cursor.places() {
-        if cursor.is_at(Symbol::CloseBrace) {
+        if cursor.at(Symbol::CloseBrace) {
             return Ok(all);
         }
         all.push(arm(cursor, form, high)?)?;
@@ -301,17 +297,15 @@ fn arm<V: Value>(cursor: &mut Cursor, form: Form, high: u32) -> Result<Arm<Path,
     ensures { Gives (arm_view V.view) result cursor.new (conditionals.arm_at form V.read high cursor.old) }
 {
     let line = cursor.line();
-    if cursor.is_at_word(Keyword::Case) {
-        cursor.skip();
+    if cursor.eat_word(Keyword::Case) {
         let label = label(cursor)?;
         cursor.expect(Symbol::Colon)?;
         let body = branch(cursor, form, high)?;
         return Ok(Arm::Case { label, body });
     }
-    if !cursor.is_at_word(Keyword::Default) {
+    if !cursor.eat_word(Keyword::Default) {
         return Err(cursor.syntax());
     }
-    cursor.skip();
     cursor.expect(Symbol::Colon)?;
     let body = branch(cursor, form, high)?;
     Ok(Arm::Default { line, body })

@@ -15,6 +15,7 @@ use crate::trees::{
     Child, Tall, TallArgument, TallArguments, assigned, binary, boxed, call, choice_between,
     into_path, leaf, no_arguments, parentheses, unary_over, with_argument,
 };
+use edd_lexer::token::TokenKind;
 use edd_syntax::expr::{Argument, Expr};
 use edd_syntax::operators::{IncrementOperator, UnaryOperator};
 use edd_syntax::reference::Path;
@@ -24,8 +25,7 @@ use edd_token_reader::fault::ParseFault;
 use edd_token_reader::operators::{
     Assignment, Infix, Place, before_of, in_method, loosest, row_of, unary_of,
 };
-use edd_token_reader::piece::Piece;
-use edd_token_reader::texts::{is_at_text, path, path_from, text};
+use edd_token_reader::texts::{at_text, path, path_from, text};
 
 // A reference, and a step behind it.
 #[tactic(auto, unfolding(edd_grammar::specs::ExpressionReading::postfix))]
@@ -84,7 +84,7 @@ fn tested(cursor: &mut Cursor, high: u32, test: Tall) -> Result<Child, ParseFaul
     if test.levels > high {
         return Err(cursor.too_deep());
     }
-    cursor.skip();
+    cursor.bump();
     Ok(boxed(cursor.alloc(), test)?)
 }
 
@@ -149,14 +149,17 @@ fn operand(cursor: &mut Cursor, place: Place, high: u32) -> Result<Tall, ParseFa
     ensures low { IfOk result (λ t. t.levels ≤ high + 1) }
 {
     let line = cursor.line();
+    if let Some(name) = cursor.name() {
+        return named(cursor, place, high, line, name);
+    }
     match cursor.next() {
         None => Err(cursor.syntax()),
-        Some(Piece::Name(name)) => named(cursor, place, high, line, name),
-        Some(Piece::Integer(value)) => Ok(leaf(Expr::Literal(value))),
-        Some(Piece::Decimal) => Ok(leaf(Expr::Decimal { line })),
-        Some(Piece::String(_)) => Err(ParseFault::Syntax { line }),
-        Some(Piece::Keyword(_)) => Err(ParseFault::Syntax { line }),
-        Some(Piece::Symbol(sign)) => signed(cursor, place, high, sign),
+        Some(TokenKind::Integer(value)) => Ok(leaf(Expr::Literal(value))),
+        Some(TokenKind::Decimal) => Ok(leaf(Expr::Decimal { line })),
+        Some(TokenKind::Symbol(sign)) => signed(cursor, place, high, sign),
+        Some(TokenKind::Name | TokenKind::String | TokenKind::Keyword(_)) => {
+            Err(ParseFault::Syntax { line })
+        }
     }
 }
 
@@ -174,14 +177,14 @@ fn named(
     ensures read { Gives (λ t. expr_view t.expr) result cursor.new (reading.named_at (place_view place) (expr_at (place_view place) high) name.now cursor.old) }
     ensures low { IfOk result (λ t. t.levels ≤ high + 1) }
 {
-    if !cursor.is_at(Symbol::OpenParenthesis) {
+    if !cursor.at(Symbol::OpenParenthesis) {
         let to = path_from(cursor, name)?;
         return stepped(cursor, place, to);
     }
     if !in_method(place) {
         return Err(cursor.syntax());
     }
-    cursor.skip();
+    cursor.bump();
     let arguments = arguments(cursor, place, high)?;
     Ok(call(cursor.alloc(), line, name, arguments)?)
 }
@@ -231,7 +234,7 @@ fn argument(cursor: &mut Cursor, place: Place, high: u32) -> Result<TallArgument
     ensures read { Gives (λ a. argument_view a.argument) result cursor.new (reading.argument_at (place_view place) (expr_at (place_view place) high) cursor.old) }
     ensures low { IfOk result (λ a. a.levels ≤ high) }
 {
-    if is_at_text(cursor) {
+    if at_text(cursor) {
         return Ok(TallArgument {
             argument: Argument::Text(text(cursor)?),
             levels: 0,
@@ -252,14 +255,13 @@ fn arguments(cursor: &mut Cursor, place: Place, high: u32) -> Result<TallArgumen
     ensures read { Gives (λ a. listed a.arguments.items) result cursor.new (reading.arguments_at (place_view place) (expr_at (place_view place) high) cursor.old) }
     ensures low { IfOk result (λ a. a.levels ≤ high) }
 {
-    if cursor.is_at(Symbol::CloseParenthesis) {
-        cursor.skip();
+    if cursor.eat(Symbol::CloseParenthesis) {
         return Ok(no_arguments(cursor.alloc()));
     }
     some_arguments(cursor, place, high)
 }
 
-// One argument at least. Each takes a token or more.
+// One argument at least.
 #[cycle(expr)]
 #[tactic(auto, using(crate::proofs::Loops::lists))]
 fn some_arguments(cursor: &mut Cursor, place: Place, high: u32) -> Result<TallArguments, ParseFault>
@@ -268,15 +270,13 @@ fn some_arguments(cursor: &mut Cursor, place: Place, high: u32) -> Result<TallAr
     ensures low { IfOk result (λ a. a.levels ≤ high) }
 {
     let mut all = no_arguments(cursor.alloc());
-    for _ in 0..cursor.len() {
+    loop {
         let next = argument(cursor, place, high)?;
         all = with_argument(all, next)?;
-        if !cursor.is_at(Symbol::Comma) {
+        if !cursor.eat(Symbol::Comma) {
             return close(cursor, all);
         }
-        cursor.skip();
     }
-    Err(cursor.syntax())
 }
 
 // The right side of an operator, joined with its left side.
@@ -350,7 +350,7 @@ fn choice(
     ensures read { Gives (λ t. expr_view t.expr) result cursor.new (reading.choice_at (place_view place) (expr_at (place_view place) high) high row (expr_view test.expr) cursor.old) }
     ensures low { IfOk result (λ t. t.levels ≤ high + 1) }
 {
-    if row > 2 || !cursor.is_at(Symbol::Question) {
+    if row > 2 || !cursor.at(Symbol::Question) {
         return Ok(test);
     }
     let test = tested(cursor, high, test)?;

@@ -27,7 +27,7 @@ use edd_token_reader::fault::ParseFault;
 use edd_token_reader::left_out::expect_brace;
 use edd_token_reader::operators::Place;
 use edd_token_reader::qualifiers::{data_qualifiers, menu_qualifiers};
-use edd_token_reader::texts::{is_at_text, path, text};
+use edd_token_reader::texts::{at_text, path, text};
 use edd_token_reader::words::{handling, integer, optional_text, some_text, truth};
 
 impl Value for Text {
@@ -39,7 +39,7 @@ impl Value for Text {
 
     #[tactic(auto, unfolding(edd_grammar::specs::ConditionalReading::text_value))]
     fn read_value(cursor: &mut Cursor, _high: u32) -> Result<Text, ParseFault> {
-        if !is_at_text(cursor) {
+        if !at_text(cursor) {
             return Err(cursor.syntax());
         }
         text(cursor)
@@ -124,10 +124,9 @@ impl Value for Enumerator {
 fn mask(cursor: &mut Cursor) -> Result<Option<u32>, ParseFault>
     ensures { Gives (λ m. m) result cursor.new (reading.mask_at cursor.old) }
 {
-    if !cursor.is_at(Symbol::Comparison(Comparison::Less)) {
+    if !cursor.eat(Symbol::Comparison(Comparison::Less)) {
         return Ok(None);
     }
-    cursor.skip();
     let mask = integer(cursor)?;
     cursor.expect(Symbol::Comparison(Comparison::Greater))?;
     Ok(Some(mask))
@@ -188,7 +187,7 @@ fn menu_reference(cursor: &mut Cursor) -> Result<MenuEntry<Path>, ParseFault>
 fn menu_entry(cursor: &mut Cursor) -> Result<MenuEntry<Path>, ParseFault>
     ensures { Gives (λ e. entry_of path_of e) result cursor.new (reading.menu_entry_at cursor.old) }
 {
-    if is_at_text(cursor) {
+    if at_text(cursor) {
         return Ok(MenuEntry::Text(text(cursor)?));
     }
     menu_reference(cursor)

@@ -6,7 +6,7 @@ use Rattle.edd_syntax.specs.declared.symbols.Symbol.TheVariants as sign
 use Rattle.edd_syntax.specs.Text.{Name}
 use Rattle.edd_syntax.specs.Token.{Token, Identifier, Sign}
 use Rattle.edd_grammar.specs.WordReading.{more_names_at}
-use Rattle.edd_token_reader.specs.Pieces.{further_name_at}
+use Rattle.edd_token_reader.specs.SingleTokens.{further_name_at}
 
 pub one_more_name : (here rest : List Token) (n : Name) → further_name_at here ≡ Some (n, rest)
     → ((more_names_at here).0 ≡ n ∷ (more_names_at rest).0) × ((more_names_at here).1 ≡ (more_names_at rest).1)

@@ -74,8 +74,8 @@ fn response_class(cursor: &mut Cursor) -> Result<ResponseClass, ParseFault>
 fn skip_response_end(cursor: &mut Cursor)
     ensures { cursor.new ≡ reading.behind_response cursor.old }
 {
-    if cursor.is_at(Symbol::Semicolon) || cursor.is_at(Symbol::Comma) {
-        cursor.skip();
+    if cursor.at(Symbol::Semicolon) || cursor.at(Symbol::Comma) {
+        cursor.bump();
     }
 }
 
@@ -152,12 +152,10 @@ fn transaction_part(cursor: &mut Cursor, high: u32) -> Result<TransactionPart<Pa
     requires { high ≤ 100 }
     ensures { Gives (λ p. transaction_part_of path_of p) result cursor.new (reading.transaction_part_at high cursor.old) }
 {
-    if cursor.is_at_word(Keyword::Request) {
-        cursor.skip();
+    if cursor.eat_word(Keyword::Request) {
         return Ok(TransactionPart::Request(braced_list(cursor, high)?));
     }
-    if cursor.is_at_word(Keyword::Reply) {
-        cursor.skip();
+    if cursor.eat_word(Keyword::Reply) {
         return Ok(TransactionPart::Reply(braced_list(cursor, high)?));
     }
     Err(misfit_without_codes(cursor))
@@ -243,7 +241,7 @@ fn attribute(cursor: &mut Cursor, high: u32) -> Result<Attribute<Path>, ParseFau
     ensures { Gives attribute_view result cursor.new (reading.attribute_at high cursor.old) }
 {
     if let Some(which) = cursor.text_attribute() {
-        cursor.skip();
+        cursor.bump();
         return Ok(Attribute::OneText(which, one(cursor, high)?));
     }
     other_attribute(cursor, high)
@@ -255,20 +253,16 @@ fn other_attribute(cursor: &mut Cursor, high: u32) -> Result<Attribute<Path>, Pa
     requires { high ≤ 100 }
     ensures { Gives attribute_view result cursor.new (reading.other_attribute_at high cursor.old) }
 {
-    if cursor.is_at_word(Keyword::Class) {
-        cursor.skip();
+    if cursor.eat_word(Keyword::Class) {
         return class_words(cursor);
     }
-    if cursor.is_at_word(Keyword::Handling) {
-        cursor.skip();
+    if cursor.eat_word(Keyword::Handling) {
         return Ok(Attribute::Handling(one(cursor, high)?));
     }
-    if cursor.is_at_word(Keyword::Validity) {
-        cursor.skip();
+    if cursor.eat_word(Keyword::Validity) {
         return Ok(Attribute::Validity(one(cursor, high)?));
     }
-    if cursor.is_at_word(Keyword::Type) {
-        cursor.skip();
+    if cursor.eat_word(Keyword::Type) {
         let written = written_type(cursor, high)?;
         return Ok(Attribute::TypeOf {
             word: written.word,
@@ -284,20 +278,16 @@ fn command_attribute(cursor: &mut Cursor, high: u32) -> Result<Attribute<Path>, 
     requires { high ≤ 100 }
     ensures { Gives attribute_view result cursor.new (views.command_attribute_at high cursor.old) }
 {
-    if cursor.is_at_word(Keyword::Number) {
-        cursor.skip();
+    if cursor.eat_word(Keyword::Number) {
         return command_number(cursor);
     }
-    if cursor.is_at_word(Keyword::Operation) {
-        cursor.skip();
+    if cursor.eat_word(Keyword::Operation) {
         return command_operation(cursor);
     }
-    if cursor.is_at_word(Keyword::Transaction) {
-        cursor.skip();
+    if cursor.eat_word(Keyword::Transaction) {
         return transaction(cursor, high);
     }
-    if cursor.is_at_word(Keyword::ResponseCodes) {
-        cursor.skip();
+    if cursor.eat_word(Keyword::ResponseCodes) {
         return Ok(Attribute::ResponseCodes(braced_row(cursor, 0)?));
     }
     list_attribute(cursor, high)
@@ -309,16 +299,13 @@ fn list_attribute(cursor: &mut Cursor, high: u32) -> Result<Attribute<Path>, Par
     requires { high ≤ 100 }
     ensures { Gives attribute_view result cursor.new (views.list_attribute_at high cursor.old) }
 {
-    if cursor.is_at_word(Keyword::Items) {
-        cursor.skip();
+    if cursor.eat_word(Keyword::Items) {
         return Ok(Attribute::Items(braced_list(cursor, high)?));
     }
-    if cursor.is_at_word(Keyword::Members) {
-        cursor.skip();
+    if cursor.eat_word(Keyword::Members) {
         return Ok(Attribute::Members(braced_row(cursor, 0)?));
     }
-    if cursor.is_at_word(Keyword::Definition) {
-        cursor.skip();
+    if cursor.eat_word(Keyword::Definition) {
         cursor.expect(Symbol::OpenBrace)?;
         return Ok(Attribute::Definition(definition(cursor, high)?));
     }

@@ -49,24 +49,19 @@ fn kind_of(sort: Sort) -> Kind
 fn kind_word(cursor: &mut Cursor) -> Option<Kind>
     ensures { Takes (λ k. k) result cursor.old cursor.new (reading.kind_at cursor.old) }
 {
-    if cursor.is_at_word(Keyword::Variable) {
-        cursor.skip();
+    if cursor.eat_word(Keyword::Variable) {
         return Some(Kind::Variable);
     }
-    if cursor.is_at_word(Keyword::Command) {
-        cursor.skip();
+    if cursor.eat_word(Keyword::Command) {
         return Some(Kind::Command);
     }
-    if cursor.is_at_word(Keyword::Menu) {
-        cursor.skip();
+    if cursor.eat_word(Keyword::Menu) {
         return Some(Kind::Menu);
     }
-    if cursor.is_at_word(Keyword::Collection) {
-        cursor.skip();
+    if cursor.eat_word(Keyword::Collection) {
         return Some(Kind::Collection);
     }
-    if cursor.is_at_word(Keyword::Method) {
-        cursor.skip();
+    if cursor.eat_word(Keyword::Method) {
         return Some(Kind::Method);
     }
     None
@@ -119,7 +114,7 @@ fn item_sort(cursor: &mut Cursor) -> Result<Sort, ParseFault>
 }
 
 // The attributes up to the closing brace.
-#[tactic(auto, unfolding(edd_grammar::specs::WordReading::row_inside), using(crate::proofs::RowLoops::rows))]
+#[tactic(auto, unfolding(edd_grammar::specs::WordReading::row_inside), using(crate::proofs::RowLoops::attributes_read))]
 fn attribute_row(
     cursor: &mut Cursor,
     kind: Kind,
@@ -129,13 +124,10 @@ fn attribute_row(
     ensures { Gives (λ v. map attribute_view v.items) result cursor.new (row_inside (closed (own_attribute_at kind high)) cursor.old) }
 {
     let mut all = Vec::new(cursor.alloc());
-    for _ in 0..cursor.places() {
-        if cursor.is_at(Symbol::CloseBrace) {
-            return Ok(all);
-        }
+    while !cursor.at(Symbol::CloseBrace) {
         all.push(own_attribute(cursor, kind, high)?)?;
     }
-    Err(cursor.syntax())
+    Ok(all)
 }
 
 // The attributes in braces.
@@ -196,18 +188,15 @@ fn closed_item(cursor: &mut Cursor) -> Result<Item<Path>, ParseFault>
 }
 
 /// The items up to the end of the text.
-#[tactic(auto, unfolding(edd_grammar::specs::UnitReading::items_at), using(crate::proofs::RowLoops::rows))]
+#[tactic(auto, unfolding(edd_grammar::specs::UnitReading::items_at), using(crate::proofs::RowLoops::items_read))]
 pub fn items(cursor: &mut Cursor) -> Result<Vec<Item<Path>>, ParseFault>
     ensures { Gives (λ v. map item_view v.items) result cursor.new (reading.items_at cursor.old) }
 {
     let mut all = Vec::new(cursor.alloc());
-    for _ in 0..cursor.places() {
-        if cursor.is_empty() {
-            return Ok(all);
-        }
+    while !cursor.is_empty() {
         all.push(closed_item(cursor)?)?;
     }
-    Err(cursor.syntax())
+    Ok(all)
 }
 
 // `WORD number`

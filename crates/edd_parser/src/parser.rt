@@ -18,7 +18,6 @@ use edd_lexer::token::Token;
 use edd_syntax::unit::Unit;
 use edd_token_reader::cursor::Cursor;
 use edd_token_reader::fault::ParseFault;
-use edd_token_reader::pieces::pieces;
 use std::alloc::Global;
 
 // The line on which a text ends.
@@ -50,8 +49,7 @@ fn read(alloc: Global, text: &[u8], tokens: &[Token]) -> Result<Unit, ParseFault
     requires { AreTokens text.now (map (lexeme_of text.now) tokens.now) }
     ensures { Answers result (unit_at (tokens_in text.now tokens.now)) }
 {
-    let pieces = pieces(alloc, text, tokens)?;
-    let mut cursor = Cursor::new(alloc, &pieces, tokens, last_line(text));
+    let mut cursor = Cursor::new(alloc, text, tokens, last_line(text));
     whole(&mut cursor)
 }
 

@@ -32,7 +32,7 @@ fn row<T: Thing>(cursor: &mut Cursor, high: u32) -> Result<Vec<T>, ParseFault>
 {
     let mut all = Vec::new(cursor.alloc());
     for _ in 0..cursor.places() {
-        if cursor.is_at(Symbol::CloseBrace) {
+        if cursor.at(Symbol::CloseBrace) {
             return Ok(all);
         }
         all.push(T::read_thing(cursor, high)?)?;

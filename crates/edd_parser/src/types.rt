@@ -51,10 +51,9 @@ fn type_named(name: &str) -> Option<VarType>
 fn size(cursor: &mut Cursor) -> Result<Option<u32>, ParseFault>
     ensures { Gives (λ n. n) result cursor.new (reading.size_at cursor.old) }
 {
-    if !cursor.is_at(Symbol::OpenParenthesis) {
+    if !cursor.eat(Symbol::OpenParenthesis) {
         return Ok(None);
     }
-    cursor.skip();
     let size = integer(cursor)?;
     cursor.expect(Symbol::CloseParenthesis)?;
     Ok(Some(size))
@@ -67,28 +66,23 @@ fn type_part(cursor: &mut Cursor, high: u32) -> Result<TypePart<Path>, ParseFaul
     ensures { Gives (λ p. type_part_of path_of p) result cursor.new (reading.type_part_at high cursor.old) }
 {
     let line = cursor.line();
-    if cursor.is_at_word(Keyword::DefaultValue) {
-        cursor.skip();
+    if cursor.eat_word(Keyword::DefaultValue) {
         let value = one(cursor, high)?;
         return Ok(TypePart::DefaultValue { line, value });
     }
-    if cursor.is_at_word(Keyword::MinValue) {
-        cursor.skip();
+    if cursor.eat_word(Keyword::MinValue) {
         let value = one(cursor, high)?;
         return Ok(TypePart::MinValue { line, value });
     }
-    if cursor.is_at_word(Keyword::MaxValue) {
-        cursor.skip();
+    if cursor.eat_word(Keyword::MaxValue) {
         let value = one(cursor, high)?;
         return Ok(TypePart::MaxValue { line, value });
     }
-    if cursor.is_at_word(Keyword::DisplayFormat) {
-        cursor.skip();
+    if cursor.eat_word(Keyword::DisplayFormat) {
         let format = one(cursor, high)?;
         return Ok(TypePart::DisplayFormat { line, format });
     }
-    if cursor.is_at_word(Keyword::EditFormat) {
-        cursor.skip();
+    if cursor.eat_word(Keyword::EditFormat) {
         let format = one(cursor, high)?;
         return Ok(TypePart::EditFormat { line, format });
     }
@@ -115,8 +109,7 @@ fn type_parts(cursor: &mut Cursor, high: u32) -> Result<Vec<TypePart<Path>>, Par
     requires { high ≤ 100 }
     ensures { Gives (λ v. map (type_part_of path_of) v.items) result cursor.new (reading.type_parts_at high cursor.old) }
 {
-    if cursor.is_at(Symbol::Semicolon) {
-        cursor.skip();
+    if cursor.eat(Symbol::Semicolon) {
         return Ok(Vec::new(cursor.alloc()));
     }
     braced_row(cursor, high)
@@ -133,12 +126,12 @@ fn close_braces(cursor: &mut Cursor) -> Result<(), ParseFault>
         if cursor.is_empty() {
             return Err(cursor.syntax());
         }
-        if cursor.is_at(Symbol::OpenBrace) {
+        if cursor.at(Symbol::OpenBrace) {
             depth += 1;
-        } else if cursor.is_at(Symbol::CloseBrace) {
+        } else if cursor.at(Symbol::CloseBrace) {
             depth -= 1;
         }
-        cursor.skip();
+        cursor.bump();
     }
     let _places = places;
     Ok(())
@@ -150,18 +143,16 @@ fn other_end(cursor: &mut Cursor) -> Result<(), ParseFault>
     ensures { Leaves result cursor.new (reading.behind_other cursor.old) }
 {
     while !cursor.is_empty() {
-        if cursor.is_at(Symbol::Semicolon) {
-            cursor.skip();
+        if cursor.eat(Symbol::Semicolon) {
             return Ok(());
         }
-        if cursor.is_at(Symbol::OpenBrace) {
-            cursor.skip();
+        if cursor.eat(Symbol::OpenBrace) {
             return close_braces(cursor);
         }
-        if cursor.is_at(Symbol::CloseBrace) {
+        if cursor.at(Symbol::CloseBrace) {
             return Err(cursor.syntax());
         }
-        cursor.skip();
+        cursor.bump();
     }
     Err(cursor.syntax())
 }

@@ -23,10 +23,9 @@ fn initial_value(cursor: &mut Cursor, high: u32) -> Result<Option<Expr<Path>>, P
     requires { high ≤ 100 }
     ensures { Gives (option_map expr_view) result cursor.new (reading.value_at high cursor.old) }
 {
-    if !cursor.is_at(Symbol::Equals) {
+    if !cursor.eat(Symbol::Equals) {
         return Ok(None);
     }
-    cursor.skip();
     let value = expr(cursor, Place::Method, high, 1)?;
     Ok(Some(value.expr))
 }
@@ -51,21 +50,19 @@ pub fn declarators(cursor: &mut Cursor, high: u32) -> Result<Vec<Declarator<Path
     ensures { Gives (λ v. map declarator_view v.items) result cursor.new (reading.declarators_at high cursor.old) }
 {
     let mut all = Vec::new(cursor.alloc());
-    for _ in 0..cursor.len() {
+    loop {
         all.push(declarator(cursor, high)?)?;
-        if !cursor.is_at(Symbol::Comma) {
+        if !cursor.eat(Symbol::Comma) {
             return Ok(all);
         }
-        cursor.skip();
     }
-    Err(cursor.syntax())
 }
 
 /// Whether `int` or `long` is next.
 pub fn is_at_local_type(cursor: &Cursor) -> bool
     ensures { result ≡ at_local_type cursor.now }
 {
-    cursor.is_at_word(Keyword::Int) || cursor.is_at_word(Keyword::Long)
+    cursor.at_word(Keyword::Int) || cursor.at_word(Keyword::Long)
 }
 
 /// A declaration of at most this height behind its type. Its declarators are one level below the type's word.

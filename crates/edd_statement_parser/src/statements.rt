@@ -39,8 +39,7 @@ fn optional(cursor: &mut Cursor, high: u32, sign: Symbol) -> Result<Option<Expr<
     requires { high ≤ 100 }
     ensures { Gives (option_map expr_view) result cursor.new (reading.optional_at high (statement_at high) sign cursor.old) }
 {
-    if cursor.is_at(sign) {
-        cursor.skip();
+    if cursor.eat(sign) {
         return Ok(None);
     }
     let e = expr(cursor, Place::Method, high, 1)?;
@@ -132,18 +131,15 @@ fn simple(cursor: &mut Cursor, high: u32) -> Result<Stmt<Path>, ParseFault>
     ensures { Gives stmt_view result cursor.new (simple_at high cursor.old) }
 {
     let line = cursor.line();
-    if cursor.is_at_word(Keyword::Break) {
-        cursor.skip();
+    if cursor.eat_word(Keyword::Break) {
         cursor.expect(Symbol::Semicolon)?;
         return Ok(Stmt::Break { line });
     }
-    if cursor.is_at_word(Keyword::Continue) {
-        cursor.skip();
+    if cursor.eat_word(Keyword::Continue) {
         cursor.expect(Symbol::Semicolon)?;
         return Ok(Stmt::Continue { line });
     }
-    if cursor.is_at_word(Keyword::Return) {
-        cursor.skip();
+    if cursor.eat_word(Keyword::Return) {
         cursor.expect(Symbol::Semicolon)?;
         return Ok(Stmt::Return);
     }
@@ -180,32 +176,25 @@ fn layer(cursor: &mut Cursor, high: u32) -> Result<Stmt<Path>, ParseFault>
     requires { high < 100 }
     ensures { Gives stmt_view result cursor.new (reading.statement_layer high (statement_at high) cursor.old) }
 {
-    if cursor.is_at(Symbol::Semicolon) {
-        cursor.skip();
+    if cursor.eat(Symbol::Semicolon) {
         return Ok(Stmt::Empty);
     }
-    if cursor.is_at(Symbol::OpenBrace) {
-        cursor.skip();
+    if cursor.eat(Symbol::OpenBrace) {
         return Ok(block(body(cursor, high, false)?));
     }
-    if cursor.is_at_word(Keyword::MethodIf) {
-        cursor.skip();
+    if cursor.eat_word(Keyword::MethodIf) {
         return if_behind(cursor, high);
     }
-    if cursor.is_at_word(Keyword::While) {
-        cursor.skip();
+    if cursor.eat_word(Keyword::While) {
         return while_behind(cursor, high);
     }
-    if cursor.is_at_word(Keyword::Do) {
-        cursor.skip();
+    if cursor.eat_word(Keyword::Do) {
         return do_behind(cursor, high);
     }
-    if cursor.is_at_word(Keyword::For) {
-        cursor.skip();
+    if cursor.eat_word(Keyword::For) {
         return for_behind(cursor, high);
     }
-    if cursor.is_at_word(Keyword::Switch) {
-        cursor.skip();
+    if cursor.eat_word(Keyword::Switch) {
         return switch_behind(cursor, high);
     }
     simple(cursor, high)
@@ -231,13 +220,10 @@ fn parts(cursor: &mut Cursor, high: u32, labels: bool) -> Result<Vec<Part<Path>>
     ensures { Gives (λ v. body_view v.items) result cursor.new (reading.parts_at high (statement_at high) labels (length cursor.old + 1) cursor.old) }
 {
     let mut all = Vec::new(cursor.alloc());
-    for _ in 0..cursor.places() {
-        if cursor.is_at(Symbol::CloseBrace) {
-            return Ok(all);
-        }
+    while !cursor.at(Symbol::CloseBrace) {
         all.push(part(cursor, high, labels)?)?;
     }
-    Err(cursor.syntax())
+    Ok(all)
 }
 
 // A declaration, a label where labels may stand, or a statement.
@@ -249,16 +235,16 @@ fn part(cursor: &mut Cursor, high: u32, labels: bool) -> Result<Part<Path>, Pars
 {
     let line = cursor.line();
     if is_at_local_type(cursor) {
-        cursor.skip();
+        cursor.bump();
         return Ok(Part::Declare(declaration(cursor, high)?));
     }
-    if labels && cursor.is_at_word(Keyword::MethodCase) {
-        cursor.skip();
+    if labels && cursor.at_word(Keyword::MethodCase) {
+        cursor.bump();
         let label = case_label(cursor)?;
         return Ok(Part::CaseLabel { line, label });
     }
-    if labels && cursor.is_at_word(Keyword::MethodDefault) {
-        cursor.skip();
+    if labels && cursor.at_word(Keyword::MethodDefault) {
+        cursor.bump();
         cursor.expect(Symbol::Colon)?;
         return Ok(Part::DefaultLabel { line });
     }
@@ -289,10 +275,9 @@ fn else_behind(
     requires { high < 100 }
     ensures { Gives stmt_view result cursor.new (reading.method_else_at high (statement_at high) (expr_view condition) (stmt_view first.value) cursor.old) }
 {
-    if !cursor.is_at_word(Keyword::MethodElse) {
+    if !cursor.eat_word(Keyword::MethodElse) {
         return Ok(if_alone(condition, first));
     }
-    cursor.skip();
     let otherwise = child(cursor, high)?;
     Ok(if_else(condition, first, otherwise))
 }

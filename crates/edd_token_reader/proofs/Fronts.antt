@@ -1,6 +1,12 @@
 -- Lists that are read one thing after the other: what was read so far, and what reading goes on with.
 use Rattle.std.proofs.Common.{◌≡◌, List, [], ◌∷◌, ◌++◌, map, Some, None, refl, ap}
+use Rattle.edd_syntax.specs.Token.{Token}
 use Rattle.edd_grammar.specs.Reading.{◌>>=◌, Read}
+
+-- what reads on from the same thing in two ways reads the same if each way does behind that thing
+pub bind_same : {A B : Type 0} (found : Read A) (f g : A × List Token → Read B) → ((x : A × List Token) → found ≡ Some x → f x ≡ g x) → (found >>= f) ≡ (found >>= g)
+bind_same None f g same = refl
+bind_same (Some x) f g same = same x refl
 
 module _ {A L : Type 0} (add : A → L → L) where
   -- the things that were read, before others

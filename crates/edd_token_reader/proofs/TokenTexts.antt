@@ -1,5 +1,5 @@
 -- The bytes of names and strings are text where the whole is.
-use Rattle.std.proofs.Common.{◌≡◌, ℕ, zero, suc, ◌+◌, ◌-◌, ◌<◌, Bool, true, false, ◌&&◌, List, [], ◌∷◌, ◌++◌, length, take, drop, map, get_or, All, refl, sym, ap, subst, ◌∙◌, inl, inr, append_assoc, length-append, arith}
+use Rattle.std.proofs.Common.{◌≡◌, ℕ, zero, suc, ◌+◌, ◌-◌, ◌<◌, ◌≤◌, Bool, true, false, ◌&&◌, List, [], ◌∷◌, ◌++◌, length, take, drop, map, get_or, All, refl, sym, ap, subst, ◌∙◌, inl, inr, append_assoc, length-append, arith}
 use Rattle.std.specs.Prelude.{IsUtf8, bytes_eq, slice_range, nat_lt, cond}
 use Rattle.std.specs.List.{list_all}
 use Rattle.std.specs.Str.{IsAscii}
@@ -23,6 +23,20 @@ use Rattle.edd_lexer.proofs.Cuts.{gap_cut, token_cut}
 use Rattle.edd_lexer.proofs.Runs.{both}
 use Rattle.edd_lexer.proofs.ReservedWords.{Tokened, word_tokened}
 use Rattle.edd_token_reader.specs.TokenTexts.{HasText, HasQuotes, IsReadable}
+
+-- ---- the text of one token
+
+pub name_is_text : (text : List ℕ) (t : code.Token) → IsReadable text t → t.kind ≡ kind.Name → IsUtf8 (slice_range text t.start t.end)
+name_is_text text t readable e =
+    let P : TokenKind → Type 0 = λ k. HasText (token_of k (slice_range text t.start t.end)) in subst P e readable.text_is
+
+pub string_is_text : (text : List ℕ) (t : code.Token) → IsReadable text t → t.kind ≡ kind.String
+    → IsUtf8 (slice_range (slice_range text t.start t.end) 1 (length (slice_range text t.start t.end) - 1))
+string_is_text text t readable e =
+    let P : TokenKind → Type 0 = λ k. HasText (token_of k (slice_range text t.start t.end)) in subst P e readable.text_is
+
+pub string_has_quotes : (text : List ℕ) (t : code.Token) → IsReadable text t → t.kind ≡ kind.String → 2 ≤ t.end - t.start
+string_has_quotes text t readable e = let P : TokenKind → Type 0 = λ k. HasQuotes k (t.end - t.start) in subst P e readable.quotes
 
 -- ---- cutting a text at quotes
 

@@ -1,4 +1,4 @@
-pub mod Pieces
+pub mod SingleTokens
 pub mod Qualifiers
 pub mod Views
 pub mod TokenTexts

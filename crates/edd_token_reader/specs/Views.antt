@@ -4,8 +4,6 @@ use Rattle.edd_syntax.specs.Token as pure
 use Rattle.edd_syntax.specs.Grammar as grammar
 use Rattle.edd_grammar.specs.Reading.{Read}
 use Rattle.edd_grammar.specs.Signs as signs
-use Rattle.edd_token_reader.specs.declared.piece.Piece.{Piece}
-use Rattle.edd_token_reader.specs.declared.piece.Piece.TheVariants as piece
 use Rattle.edd_token_reader.specs.declared.operators.Place.{Place}
 use Rattle.edd_token_reader.specs.declared.operators.Place.TheVariants as place
 use Rattle.edd_token_reader.specs.declared.operators.Infix.{Infix}
@@ -14,14 +12,6 @@ use Rattle.edd_token_reader.specs.declared.operators.Assignment.{Assignment}
 use Rattle.edd_token_reader.specs.declared.operators.Assignment.TheVariants as assignment
 use Rattle.edd_token_reader.specs.declared.fault.ParseFault.{ParseFault}
 use Rattle.edd_token_reader.specs.declared.fault.ParseFault.TheVariants as fault
-
-abbrev pub piece_token : Piece → pure.Token
-piece_token (piece.Keyword k) = pure.Reserved k
-piece_token (piece.Name n) = pure.Identifier n.now
-piece_token (piece.Integer n) = pure.Integer n
-piece_token piece.Decimal = pure.Decimal
-piece_token (piece.String s) = pure.String s.now
-piece_token (piece.Symbol s) = pure.Sign s
 
 abbrev pub place_view : Place → grammar.Place
 place_view place.Attribute = grammar.InAttribute

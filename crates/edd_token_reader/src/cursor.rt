@@ -1,18 +1,19 @@
 //! The tokens that are still to be read.
 
-ghost use Rattle.std.specs.Prelude.{◌≡◌, ◌+◌, List, [], ◌∷◌, map, drop, length, MatchOption, None, Some, Bool, true, false};
-ghost use Rattle.edd_syntax.specs.Token.{Token};
+ghost use Rattle.std.specs.Prelude.{◌≡◌, ◌+◌, ℕ, All, List, [], ◌∷◌, drop, length, MatchOption, option_map, None, Some, Bool, true, false, if◌then◌else◌};
 ghost use Rattle.edd_grammar.specs.Reading as reading;
 ghost use Rattle.edd_grammar.specs.ExpressionReading.{operator_at, assignment_at, increment_at};
-ghost use Rattle.edd_token_reader.specs.Views.{piece_token, infix_view, assignment_view, Leaves, Takes};
+ghost use Rattle.edd_lexer.specs.Views.{token_of};
+ghost use Rattle.edd_token_reader.specs.TokenTexts.{tokens_in, IsReadable};
+ghost use Rattle.edd_token_reader.specs.Views.{infix_view, assignment_view, Leaves, Takes};
 ghost use Rattle.edd_grammar.specs.WordReading.{integer_at, at_name, expect_name, at_end};
-ghost use Rattle.edd_token_reader.specs.Pieces.{member_at, string_at, further_name_at};
+ghost use Rattle.edd_token_reader.specs.SingleTokens.{member_at, string_at, further_name_at};
 ghost use Rattle.edd_grammar.specs.AttributeReading.{begins_own, text_here};
 
 use crate::belongs::word_belongs;
 use crate::fault::ParseFault;
 use crate::operators::{Assignment, Infix, assignment_of, behind_of, infix_of, row_of};
-use crate::piece::Piece;
+use crate::token_text::{name_in, string_in};
 use edd_lexer::token::{Token, TokenKind};
 use edd_syntax::numbers::{Kind, TextAttribute};
 use edd_syntax::operators::{IncrementOperator, Operator};
@@ -20,30 +21,39 @@ use edd_syntax::symbols::{Keyword, Symbol};
 use std::alloc::Global;
 use std::marker::Model;
 
-/// What is left of the tokens.
+/// What is left of a text's tokens. A name or a string is cut out of the text when it is taken.
 #[derive(Drop)]
 pub struct Cursor<'a> {
     alloc: Global,
-    rest: &'a [Piece<'a>],
+    text: &'a [u8],
+    rest: &'a [Token],
     /// All tokens, for their lines.
     tokens: &'a [Token],
     last_line: u32,
 }
 
 impl<'a> Model for Cursor<'a> {
+    ghost use Rattle.std.specs.Prelude.{All, List};
+    ghost use Rattle.edd_syntax.specs.Token.{Token};
+    ghost use Rattle.edd_token_reader.specs.TokenTexts.{tokens_in, IsReadable};
+
     ghost Value = { List Token };
 
-    ghost view = { λ c. map piece_token c.rest.now };
+    ghost view = { λ c. tokens_in c.text.now c.rest.now };
+
+    ghost invariant = { λ c. All (IsReadable c.text.now) c.rest.now };
 }
 
 impl<'a> Cursor<'a> {
-    /// At the first token. The pieces are those of the tokens; the last line is that of the text's end.
-    pub fn new(alloc: Global, pieces: &'a [Piece<'a>], tokens: &'a [Token], last_line: u32) -> Self
-        ensures { result ≡ map piece_token pieces.now }
+    /// At the first token of a text. The last line is that of the text's end.
+    pub fn new(alloc: Global, text: &'a [u8], tokens: &'a [Token], last_line: u32) -> Self
+        requires { All (IsReadable text.now) tokens.now }
+        ensures { result ≡ tokens_in text.now tokens.now }
     {
         Cursor {
             alloc,
-            rest: pieces,
+            text,
+            rest: tokens,
             tokens,
             last_line,
         }
@@ -95,7 +105,7 @@ impl<'a> Cursor<'a> {
 
     /// The fault where the next token fits nothing. LIKE behind a name would change another item, and is refused by its name.
     pub fn syntax(&self) -> ParseFault {
-        if self.has_taken_name() && self.is_at_name("LIKE") {
+        if self.has_taken_name() && self.at_name("LIKE") {
             return ParseFault::unsupported(self.alloc, "LIKE");
         }
         ParseFault::Syntax { line: self.line() }
@@ -120,13 +130,6 @@ impl<'a> Cursor<'a> {
         }
     }
 
-    /// The number of tokens.
-    pub fn len(&self) -> usize
-        ensures { result ≡ length self.now }
-    {
-        self.rest.len()
-    }
-
     /// The number of places before, between and behind the tokens.
     pub fn places(&self) -> usize
         ensures { result ≡ length self.now + 1 }
@@ -142,67 +145,95 @@ impl<'a> Cursor<'a> {
     }
 
     /// Whether this sign is next.
-    pub fn is_at(&self, sign: Symbol) -> bool
+    pub fn at(&self, sign: Symbol) -> bool
         ensures { result ≡ reading.at sign self.now }
     {
-        match self.rest {
-            [Piece::Symbol(next), ..] => sign == *next,
+        match self.peek() {
+            Some(TokenKind::Symbol(next)) => sign == next,
             _ => false,
         }
     }
 
     /// Whether this word is next.
-    pub fn is_at_word(&self, word: Keyword) -> bool
+    pub fn at_word(&self, word: Keyword) -> bool
         ensures { result ≡ reading.at_word word self.now }
     {
-        match self.rest {
-            [Piece::Keyword(next), ..] => word == *next,
+        match self.peek() {
+            Some(TokenKind::Keyword(next)) => word == next,
             _ => false,
         }
     }
 
     /// Whether a string is next.
-    pub fn is_at_string(&self) -> bool
+    pub fn at_string(&self) -> bool
         ensures { result ≡ reading.is_string self.now }
     {
-        matches!(self.rest, [Piece::String(_), ..])
+        matches!(self.peek(), Some(TokenKind::String))
     }
 
-    /// Takes the next token.
-    pub fn next(&mut self) -> Option<Piece<'a>>
-        ensures { MatchOption result (self.old ≡ []) (λ p. self.old ≡ piece_token p ∷ self.new) }
+    /// Takes the next token, and gives its kind.
+    pub fn next(&mut self) -> Option<TokenKind>
+        ensures { MatchOption result (self.old ≡ [])
+            (λ kind. (bytes : List ℕ) × (self.old ≡ token_of kind bytes ∷ self.new)) }
     {
         match self.rest {
             [] => None,
             [first, rest @ ..] => {
                 self.rest = rest;
-                Some(*first)
+                Some(first.kind)
             }
         }
     }
 
-    /// The token that is next.
-    pub fn peek(&self) -> Option<Piece<'a>>
-        ensures { MatchOption result (self.now ≡ []) (λ p. self.now ≡ piece_token p ∷ drop 1 self.now) }
+    /// The kind of the token that is next.
+    pub fn peek(&self) -> Option<TokenKind>
+        ensures { MatchOption result (self.now ≡ [])
+            (λ kind. (bytes : List ℕ) × (self.now ≡ token_of kind bytes ∷ drop 1 self.now)) }
     {
         match self.rest {
             [] => None,
-            [first, ..] => Some(*first),
+            [first, ..] => Some(first.kind),
         }
     }
 
-    /// The token behind the next one.
-    pub fn peek_second(&self) -> Option<Piece<'a>> {
-        self.rest.get(1).copied()
+    /// The name that is next. It isn't taken.
+    pub fn peek_name(&self) -> Option<&'a str>
+        ensures { option_map (λ n. n.now) result ≡ option_map (λ r. r.0) (reading.name_at self.now) }
+    {
+        match self.rest {
+            [
+                first @ Token {
+                    kind: TokenKind::Name,
+                    ..
+                },
+                ..
+            ] => Some(name_in(self.text, first)),
+            _ => None,
+        }
+    }
+
+    /// The name behind the next token.
+    pub fn peek_second_name(&self) -> Option<&'a str> {
+        match self.rest {
+            [
+                _,
+                second @ Token {
+                    kind: TokenKind::Name,
+                    ..
+                },
+                ..
+            ] => Some(name_in(self.text, second)),
+            _ => None,
+        }
     }
 
     /// Whether this name is next.
-    pub fn is_at_name(&self, name: &str) -> bool
+    pub fn at_name(&self, name: &str) -> bool
         ensures { result ≡ at_name name.now self.now }
     {
-        match self.rest {
-            [Piece::Name(next), ..] => *next == name,
-            _ => false,
+        match self.peek_name() {
+            Some(next) => next == name,
+            None => false,
         }
     }
 
@@ -211,15 +242,14 @@ impl<'a> Cursor<'a> {
     pub fn expect_name(&mut self, name: &str) -> Result<(), ParseFault>
         ensures { Leaves result self.new (expect_name name.now self.old) }
     {
-        if !self.is_at_name(name) {
+        if !self.eat_name(name) {
             return Err(self.syntax());
         }
-        self.skip();
         Ok(())
     }
 
     /// Behind the next token, if there is one.
-    pub fn skip(&mut self)
+    pub fn bump(&mut self)
         ensures { self.new ≡ drop 1 self.old }
     {
         if let [_, rest @ ..] = self.rest {
@@ -227,15 +257,50 @@ impl<'a> Cursor<'a> {
         }
     }
 
+    /// Takes this sign, if it is next.
+    pub fn eat(&mut self, sign: Symbol) -> bool
+        ensures at { result ≡ reading.at sign self.old }
+        ensures left { self.new ≡ (if result then drop 1 self.old else self.old) }
+    {
+        let next = self.at(sign);
+        if next {
+            self.bump();
+        }
+        next
+    }
+
+    /// Takes this word, if it is next.
+    pub fn eat_word(&mut self, word: Keyword) -> bool
+        ensures at { result ≡ reading.at_word word self.old }
+        ensures left { self.new ≡ (if result then drop 1 self.old else self.old) }
+    {
+        let next = self.at_word(word);
+        if next {
+            self.bump();
+        }
+        next
+    }
+
+    /// Takes this name, if it is next.
+    pub fn eat_name(&mut self, name: &str) -> bool
+        ensures at { result ≡ at_name name.now self.old }
+        ensures left { self.new ≡ (if result then drop 1 self.old else self.old) }
+    {
+        let next = self.at_name(name);
+        if next {
+            self.bump();
+        }
+        next
+    }
+
     /// Behind this sign, which has to be next.
     #[tactic(auto, unfolding(edd_grammar::specs::Reading::expect))]
     pub fn expect(&mut self, sign: Symbol) -> Result<(), ParseFault>
         ensures { Leaves result self.new (reading.expect sign self.old) }
     {
-        if !self.is_at(sign) {
+        if !self.eat(sign) {
             return Err(self.syntax());
         }
-        self.skip();
         Ok(())
     }
 
@@ -244,10 +309,9 @@ impl<'a> Cursor<'a> {
     pub fn expect_word(&mut self, word: Keyword) -> Result<(), ParseFault>
         ensures { Leaves result self.new (reading.expect_word word self.old) }
     {
-        if !self.is_at_word(word) {
+        if !self.eat_word(word) {
             return Err(self.syntax());
         }
-        self.skip();
         Ok(())
     }
 
@@ -255,13 +319,9 @@ impl<'a> Cursor<'a> {
     pub fn name(&mut self) -> Option<&'a str>
         ensures { Takes (λ n. n.now) result self.old self.new (reading.name_at self.old) }
     {
-        match self.rest {
-            [Piece::Name(name), rest @ ..] => {
-                self.rest = rest;
-                Some(name)
-            }
-            _ => None,
-        }
+        let name = self.peek_name()?;
+        self.bump();
+        Some(name)
     }
 
     /// The string that is next.
@@ -269,9 +329,15 @@ impl<'a> Cursor<'a> {
         ensures { Takes (λ n. n.now) result self.old self.new (string_at self.old) }
     {
         match self.rest {
-            [Piece::String(text), rest @ ..] => {
+            [
+                first @ Token {
+                    kind: TokenKind::String,
+                    ..
+                },
+                rest @ ..,
+            ] => {
                 self.rest = rest;
-                Some(text)
+                Some(string_in(self.text, first))
             }
             _ => None,
         }
@@ -281,13 +347,11 @@ impl<'a> Cursor<'a> {
     pub fn integer(&mut self) -> Option<u32>
         ensures { Takes (λ n. n) result self.old self.new (integer_at self.old) }
     {
-        match self.rest {
-            [Piece::Integer(n), rest @ ..] => {
-                self.rest = rest;
-                Some(*n)
-            }
-            _ => None,
-        }
+        let Some(TokenKind::Integer(n)) = self.peek() else {
+            return None;
+        };
+        self.bump();
+        Some(n)
     }
 
     /// The name of a member behind a dot.
@@ -295,9 +359,19 @@ impl<'a> Cursor<'a> {
         ensures { Takes (λ n. n.now) result self.old self.new (member_at self.old) }
     {
         match self.rest {
-            [Piece::Symbol(Symbol::Dot), Piece::Name(name), rest @ ..] => {
+            [
+                Token {
+                    kind: TokenKind::Symbol(Symbol::Dot),
+                    ..
+                },
+                second @ Token {
+                    kind: TokenKind::Name,
+                    ..
+                },
+                rest @ ..,
+            ] => {
                 self.rest = rest;
-                Some(name)
+                Some(name_in(self.text, second))
             }
             _ => None,
         }
@@ -309,12 +383,18 @@ impl<'a> Cursor<'a> {
     {
         match self.rest {
             [
-                Piece::Symbol(Symbol::Operator(Operator::And)),
-                Piece::Name(name),
+                Token {
+                    kind: TokenKind::Symbol(Symbol::Operator(Operator::And)),
+                    ..
+                },
+                second @ Token {
+                    kind: TokenKind::Name,
+                    ..
+                },
                 rest @ ..,
             ] => {
                 self.rest = rest;
-                Some(name)
+                Some(name_in(self.text, second))
             }
             _ => None,
         }
@@ -324,8 +404,8 @@ impl<'a> Cursor<'a> {
     pub fn begins_own(&self, kind: Kind) -> bool
         ensures { result ≡ begins_own kind self.now }
     {
-        match self.rest {
-            [Piece::Keyword(word), ..] => word_belongs(kind, *word),
+        match self.peek() {
+            Some(TokenKind::Keyword(word)) => word_belongs(kind, word),
             _ => false,
         }
     }
@@ -334,8 +414,18 @@ impl<'a> Cursor<'a> {
     pub fn text_attribute(&self) -> Option<TextAttribute>
         ensures { result ≡ text_here self.now }
     {
-        match self.rest {
-            [Piece::Keyword(word), ..] => TextAttribute::from_word(*word),
+        match self.peek() {
+            Some(TokenKind::Keyword(word)) => TextAttribute::from_word(word),
+            _ => None,
+        }
+    }
+
+    // The sign that is next. It isn't taken.
+    fn peek_sign(&self) -> Option<Symbol>
+        ensures { result ≡ option_map (λ r. r.0) (reading.sign_at self.now) }
+    {
+        match self.peek() {
+            Some(TokenKind::Symbol(sign)) => Some(sign),
             _ => None,
         }
     }
@@ -344,44 +434,29 @@ impl<'a> Cursor<'a> {
     pub fn operator(&mut self, row: u32) -> Option<Infix>
         ensures { Takes infix_view result self.old self.new (operator_at row self.old) }
     {
-        match self.rest {
-            [Piece::Symbol(sign), rest @ ..] => {
-                let op = infix_of(*sign)?;
-                if row_of(op) < row {
-                    return None;
-                }
-                self.rest = rest;
-                Some(op)
-            }
-            _ => None,
+        let op = infix_of(self.peek_sign()?)?;
+        if row_of(op) < row {
+            return None;
         }
+        self.bump();
+        Some(op)
     }
 
     /// The assignment that is next.
     pub fn assignment(&mut self) -> Option<Assignment>
         ensures { Takes assignment_view result self.old self.new (assignment_at self.old) }
     {
-        match self.rest {
-            [Piece::Symbol(sign), rest @ ..] => {
-                let op = assignment_of(*sign)?;
-                self.rest = rest;
-                Some(op)
-            }
-            _ => None,
-        }
+        let op = assignment_of(self.peek_sign()?)?;
+        self.bump();
+        Some(op)
     }
 
     /// The step that is next.
     pub fn step(&mut self) -> Option<IncrementOperator>
         ensures { Takes (λ op. op) result self.old self.new (increment_at self.old) }
     {
-        match self.rest {
-            [Piece::Symbol(sign), rest @ ..] => {
-                let op = behind_of(*sign)?;
-                self.rest = rest;
-                Some(op)
-            }
-            _ => None,
-        }
+        let op = behind_of(self.peek_sign()?)?;
+        self.bump();
+        Some(op)
     }
 }

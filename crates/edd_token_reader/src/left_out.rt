@@ -6,7 +6,7 @@ ghost use Rattle.edd_token_reader.specs.Views.{Leaves};
 
 use crate::cursor::Cursor;
 use crate::fault::ParseFault;
-use crate::piece::Piece;
+use edd_lexer::token::TokenKind;
 use edd_syntax::symbols::{Keyword, Symbol};
 
 // Words of items, attributes, qualifiers and types.
@@ -69,17 +69,17 @@ fn left_out_keyword(word: Keyword) -> Option<&'static str> {
 /// The reserved word that is next, if no rule has it.
 pub fn left_out_reserved(cursor: &Cursor) -> Option<&'static str> {
     match cursor.peek() {
-        Some(Piece::Keyword(word)) => left_out_keyword(word),
+        Some(TokenKind::Keyword(word)) => left_out_keyword(word),
         _ => None,
     }
 }
 
 // The word that is next, if it is left out.
 fn left_out<'a>(cursor: &Cursor<'a>) -> Option<&'a str> {
-    match cursor.peek() {
-        Some(Piece::Name(word)) if is_left_out(word) => Some(word),
-        Some(Piece::Keyword(word)) => left_out_keyword(word),
-        _ => None,
+    match cursor.peek_name() {
+        Some(word) if is_left_out(word) => Some(word),
+        Some(_) => None,
+        None => left_out_reserved(cursor),
     }
 }
 
@@ -104,16 +104,15 @@ pub fn misfit_name(cursor: &Cursor, name: &str) -> ParseFault {
 pub fn expect_brace(cursor: &mut Cursor) -> Result<(), ParseFault>
     ensures { Leaves result cursor.new (expect OpenBrace cursor.old) }
 {
-    if !cursor.is_at(Symbol::OpenBrace) {
+    if !cursor.eat(Symbol::OpenBrace) {
         return Err(misfit(cursor));
     }
-    cursor.skip();
     Ok(())
 }
 
 /// The same where response codes may not stand either: among items and in a transaction.
 pub fn misfit_without_codes(cursor: &Cursor) -> ParseFault {
-    if cursor.is_at_word(Keyword::ResponseCodes) {
+    if cursor.at_word(Keyword::ResponseCodes) {
         return ParseFault::unsupported(cursor.alloc(), "RESPONSE_CODES");
     }
     misfit(cursor)
@@ -121,10 +120,7 @@ pub fn misfit_without_codes(cursor: &Cursor) -> ParseFault {
 
 /// The same among items, where LIKE may stand behind a name.
 pub fn misfit_item(cursor: &Cursor) -> ParseFault {
-    if let (Some(Piece::Name(_)), Some(Piece::Name("LIKE"))) = (
-        cursor.peek(),
-        cursor.peek_second(),
-    ) {
+    if let (Some(_), Some("LIKE")) = (cursor.peek_name(), cursor.peek_second_name()) {
         return ParseFault::unsupported(cursor.alloc(), "LIKE");
     }
     misfit_without_codes(cursor)

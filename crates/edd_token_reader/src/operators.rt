@@ -10,14 +10,14 @@ use edd_syntax::operators::{Comparison, IncrementOperator, Operator, UnaryOperat
 use edd_syntax::symbols::Symbol;
 
 /// Where an expression stands: only in a method may it assign, step and call.
-#[derive(Clone, Copy, PartialEq, Eq, Debug)]
+#[derive(Clone, Copy)]
 pub enum Place {
     Attribute,
     Method,
 }
 
 /// An operator between two operands.
-#[derive(Clone, Copy, PartialEq, Eq, Debug)]
+#[derive(Clone, Copy)]
 pub enum Infix {
     Plain(Operator),
     Comparing(Comparison),
@@ -26,7 +26,7 @@ pub enum Infix {
 }
 
 /// `=`, or an operator and `=` behind it.
-#[derive(Clone, Copy, PartialEq, Eq, Debug)]
+#[derive(Clone, Copy)]
 pub enum Assignment {
     Simple,
     Compound(Operator),

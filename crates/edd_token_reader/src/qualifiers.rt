@@ -1,6 +1,6 @@
 //! Qualifiers of data items and of entries of menus.
 
-ghost use Rattle.std.specs.Prelude.{◌≡◌, ◌≤◌, List, map};
+ghost use Rattle.std.specs.Prelude.{◌≡◌, ◌≤◌, ◌+◌, List, length, map};
 ghost use Rattle.edd_syntax.specs.Refusal.{is_name_in};
 ghost use Rattle.edd_syntax.specs.ItemGrammar as grammar;
 ghost use Rattle.edd_grammar.specs.ValueReading as reading;
@@ -15,7 +15,7 @@ use edd_syntax::item::{DataQualifiers, MenuQualifiers};
 use edd_syntax::symbols::Symbol;
 
 /// What may have qualifiers.
-#[derive(Clone, Copy, PartialEq, Eq, Debug)]
+#[derive(Clone, Copy)]
 pub enum Qualified {
     Menu,
     Data,
@@ -47,38 +47,31 @@ fn allowed<'a>(cursor: &mut Cursor<'a>, kind: Qualified) -> Result<&'a str, Pars
     Ok(name)
 }
 
-// One or more names, at most so many, and the parenthesis behind them.
-#[tactic(auto, using(crate::proofs::QualifierLoops::qualifiers_read))]
-fn some_qualifiers<'a>(
-    cursor: &mut Cursor<'a>,
-    kind: Qualified,
-    most: usize,
-) -> Result<Vec<&'a str>, ParseFault>
-    ensures { Gives (λ v. texts_of v.items) result cursor.new (reading.some_qualifiers (allowed_names kind) most cursor.old) }
+// One or more names, and the parenthesis behind them.
+#[tactic(auto, using(crate::proofs::QualifierLoops::names_read))]
+fn some_qualifiers<'a>(cursor: &mut Cursor<'a>, kind: Qualified) -> Result<Vec<&'a str>, ParseFault>
+    ensures { Gives (λ v. texts_of v.items) result cursor.new
+        (reading.some_qualifiers (allowed_names kind) (length cursor.old + 1) cursor.old) }
 {
     let mut all = Vec::new(cursor.alloc());
-    for _ in 0..most {
+    loop {
         all.push(allowed(cursor, kind)?)?;
-        if cursor.is_at(Symbol::CloseParenthesis) {
-            cursor.skip();
+        if cursor.eat(Symbol::CloseParenthesis) {
             return Ok(all);
         }
         skip_comma(cursor);
     }
-    Err(cursor.syntax())
 }
 
 /// Qualifiers in parentheses, or none.
-#[tactic(auto, unfolding(edd_grammar::specs::ValueReading::qualifiers_at))]
+#[tactic(auto, unfolding(edd_grammar::specs::ValueReading::qualifiers_at), using(crate::proofs::QualifierLoops::names_opened))]
 fn qualifiers<'a>(cursor: &mut Cursor<'a>, kind: Qualified) -> Result<Vec<&'a str>, ParseFault>
     ensures { Gives (λ v. texts_of v.items) result cursor.new (reading.qualifiers_at (allowed_names kind) cursor.old) }
 {
-    if !cursor.is_at(Symbol::OpenParenthesis) {
+    if !cursor.eat(Symbol::OpenParenthesis) {
         return Ok(Vec::new(cursor.alloc()));
     }
-    let most = cursor.len();
-    cursor.skip();
-    some_qualifiers(cursor, kind, most)
+    some_qualifiers(cursor, kind)
 }
 
 fn is_in(names: &[&str], word: &str) -> bool

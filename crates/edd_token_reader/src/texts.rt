@@ -67,10 +67,10 @@ fn key(cursor: &mut Cursor) -> Result<Text, ParseFault>
 }
 
 /// Whether a text is next.
-pub fn is_at_text(cursor: &Cursor) -> bool
+pub fn at_text(cursor: &Cursor) -> bool
     ensures { result ≡ is_text cursor.now }
 {
-    cursor.is_at_string() || cursor.is_at(Symbol::OpenBracket)
+    cursor.at_string() || cursor.at(Symbol::OpenBracket)
 }
 
 /// A text, where one is next.
@@ -78,9 +78,9 @@ pub fn is_at_text(cursor: &Cursor) -> bool
 pub fn text(cursor: &mut Cursor) -> Result<Text, ParseFault>
     ensures { Gives text_of result cursor.new (text_at cursor.old) }
 {
-    if cursor.is_at_string() {
+    if cursor.at_string() {
         return Ok(Text::Quoted(strings(cursor)?));
     }
-    cursor.skip();
+    cursor.bump();
     key(cursor)
 }

@@ -12,7 +12,7 @@ ghost use Rattle.std.specs.Prelude.{option_map};
 
 use crate::cursor::Cursor;
 use crate::fault::ParseFault;
-use crate::texts::{is_at_text, text};
+use crate::texts::{at_text, text};
 use edd_syntax::operators::Operator;
 use edd_syntax::symbols::{Keyword, Symbol};
 use edd_syntax::text::Text;
@@ -23,10 +23,9 @@ use edd_syntax::types::{Handling, Operation};
 fn handling_behind(cursor: &mut Cursor, one: Handling, other: &str) -> Result<Handling, ParseFault>
     ensures { Gives (λ h. h) result cursor.new (reading.handling_behind one other.now cursor.old) }
 {
-    if !cursor.is_at(Symbol::Operator(Operator::And)) {
+    if !cursor.eat(Symbol::Operator(Operator::And)) {
         return Ok(one);
     }
-    cursor.skip();
     cursor.expect_name(other)?;
     Ok(Handling::ReadWrite)
 }
@@ -36,12 +35,10 @@ fn handling_behind(cursor: &mut Cursor, one: Handling, other: &str) -> Result<Ha
 pub fn handling(cursor: &mut Cursor) -> Result<Handling, ParseFault>
     ensures { Gives (λ h. h) result cursor.new (reading.handling_at cursor.old) }
 {
-    if cursor.is_at_name("READ") {
-        cursor.skip();
+    if cursor.eat_name("READ") {
         return handling_behind(cursor, Handling::Read, "WRITE");
     }
-    if cursor.is_at_name("WRITE") {
-        cursor.skip();
+    if cursor.eat_name("WRITE") {
         return handling_behind(cursor, Handling::Write, "READ");
     }
     Err(cursor.syntax())
@@ -52,12 +49,10 @@ pub fn handling(cursor: &mut Cursor) -> Result<Handling, ParseFault>
 pub fn truth(cursor: &mut Cursor) -> Result<bool, ParseFault>
     ensures { Gives (λ b. b) result cursor.new (reading.truth_at cursor.old) }
 {
-    if cursor.is_at_name("TRUE") {
-        cursor.skip();
+    if cursor.eat_name("TRUE") {
         return Ok(true);
     }
-    if cursor.is_at_name("FALSE") {
-        cursor.skip();
+    if cursor.eat_name("FALSE") {
         return Ok(false);
     }
     Err(cursor.syntax())
@@ -68,16 +63,13 @@ pub fn truth(cursor: &mut Cursor) -> Result<bool, ParseFault>
 pub fn operation(cursor: &mut Cursor) -> Result<Operation, ParseFault>
     ensures { Gives (λ o. o) result cursor.new (reading.operation_at cursor.old) }
 {
-    if cursor.is_at_name("READ") {
-        cursor.skip();
+    if cursor.eat_name("READ") {
         return Ok(Operation::Read);
     }
-    if cursor.is_at_name("WRITE") {
-        cursor.skip();
+    if cursor.eat_name("WRITE") {
         return Ok(Operation::Write);
     }
-    if cursor.is_at_word(Keyword::Command) {
-        cursor.skip();
+    if cursor.eat_word(Keyword::Command) {
         return Ok(Operation::Command);
     }
     Err(cursor.syntax())
@@ -88,7 +80,7 @@ pub fn operation(cursor: &mut Cursor) -> Result<Operation, ParseFault>
 pub fn some_text(cursor: &mut Cursor) -> Result<Text, ParseFault>
     ensures { Gives text_of result cursor.new (reading.some_text_at cursor.old) }
 {
-    if !is_at_text(cursor) {
+    if !at_text(cursor) {
         return Err(cursor.syntax());
     }
     text(cursor)
@@ -99,10 +91,9 @@ pub fn some_text(cursor: &mut Cursor) -> Result<Text, ParseFault>
 pub fn optional_text(cursor: &mut Cursor) -> Result<Option<Text>, ParseFault>
     ensures { Gives (option_map text_of) result cursor.new (reading.optional_text_at cursor.old) }
 {
-    if !cursor.is_at(Symbol::Comma) {
+    if !cursor.eat(Symbol::Comma) {
         return Ok(None);
     }
-    cursor.skip();
     Ok(Some(some_text(cursor)?))
 }
 
@@ -128,16 +119,12 @@ pub fn number(cursor: &mut Cursor) -> Result<Option<u32>, ParseFault>
 pub fn skip_semicolons(cursor: &mut Cursor)
     ensures { cursor.new ≡ words.skip_semicolons cursor.old }
 {
-    while cursor.is_at(Symbol::Semicolon) {
-        cursor.skip();
-    }
+    while cursor.eat(Symbol::Semicolon) {}
 }
 
 /// Behind a comma, if one is next.
 pub fn skip_comma(cursor: &mut Cursor)
     ensures { cursor.new ≡ conditionals.skip_comma cursor.old }
 {
-    if cursor.is_at(Symbol::Comma) {
-        cursor.skip();
-    }
+    cursor.eat(Symbol::Comma);
 }

@@ -2,10 +2,10 @@ use Rattle.std.proofs.Common.{◌≡◌, ℕ, ◌+◌, ◌-◌, ◌*◌, ◌≤�
 use Rattle.edd_syntax.specs.Token.{Token}
 use Rattle.edd_syntax.specs.Reference.{Path}
 use Rattle.edd_syntax.specs.Expression.{Expr}
-use Rattle.edd_grammar.specs.ExpressionReading.{expr_at, chain, some_arguments}
+use Rattle.edd_grammar.specs.ExpressionReading.{expr_at, chain}
 use Rattle.edd_token_reader.specs.Views.{place_view}
 use Rattle.edd_expression_parser.specs.Expressions.{expr_view}
-use Rattle.edd_expression_parser.proofs.Loops.{with_front}
+use Rattle.edd_expression_parser.proofs.Loops.{with_front, arguments_here}
 use Rattle.edd_expression_parser.proofs.expr.+expr.Given as goal
 
 abbrev pub decreases-expr : goal.decreases-expr
@@ -58,7 +58,10 @@ invariant-chain-loop l =
     let read = λ (n : ℕ) (left : Expr Path) (here : List Token). chain (place_view l.place) (expr_at (place_view l.place) l.high) l.high l.row n left here in
     (l.left.levels ≤ l.high + 1) × (read (l.high + 1 - l.counter) (expr_view l.left.expr) l.cursor ≡ read (l.high + 1) (expr_view l.fn.first.expr) l.fn.cursor)
 
-abbrev pub invariant-some_arguments-loop : goal.invariant-some_arguments-loop
-invariant-some_arguments-loop l =
-    let read = λ (n : ℕ) (here : List Token). some_arguments (place_view l.place) (expr_at (place_view l.place) l.high) n here in
-    (l.all.levels ≤ l.high) × (with_front l.all.arguments.items (read (length l.fn.cursor - l.counter) l.cursor) ≡ read (length l.fn.cursor) l.fn.cursor)
+abbrev pub invariant-some_arguments-loop-all : goal.invariant-some_arguments-loop-all
+invariant-some_arguments-loop-all l =
+    let read = arguments_here (place_view l.place) l.high in
+    (l.all.levels ≤ l.high) × (with_front l.all.arguments.items (read l.cursor) ≡ read l.fn.cursor)
+
+abbrev pub decreases-some_arguments-loop-all : goal.decreases-some_arguments-loop-all
+decreases-some_arguments-loop-all l = length l.cursor

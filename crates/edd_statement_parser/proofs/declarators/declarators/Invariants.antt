@@ -1,8 +1,9 @@
-use Rattle.std.proofs.Common.{◌≡◌, ◌-◌, length}
-use Rattle.edd_grammar.specs.DeclarationReading.{some_declarators}
-use Rattle.edd_statement_parser.proofs.BodyLoops.{with_declarators}
+use Rattle.std.proofs.Common.{◌≡◌, length}
+use Rattle.edd_statement_parser.proofs.BodyLoops.{with_declarators, declarators_here}
 use Rattle.edd_statement_parser.proofs.declarators.declarators.Given as goal
 
-abbrev pub invariant-loop : goal.invariant-loop
-invariant-loop l =
-    with_declarators l.all.items (some_declarators l.high (length l.fn.cursor - l.counter) l.cursor) ≡ some_declarators l.high (length l.fn.cursor) l.fn.cursor
+abbrev pub invariant-loop-all : goal.invariant-loop-all
+invariant-loop-all l = with_declarators l.all.items (declarators_here l.high l.cursor) ≡ declarators_here l.high l.fn.cursor
+
+abbrev pub decreases-loop-all : goal.decreases-loop-all
+decreases-loop-all l = length l.cursor

@@ -1,7 +1,5 @@
-use Rattle.std.proofs.Common.{◌≡◌, ℕ, ◌+◌, ◌-◌, ◌*◌, List, length}
-use Rattle.edd_syntax.specs.Token.{Token}
-use Rattle.edd_grammar.specs.StatementReading.{statement_at, parts_at}
-use Rattle.edd_statement_parser.proofs.BodyLoops.{with_parts}
+use Rattle.std.proofs.Common.{◌≡◌, ◌+◌, ◌*◌, length}
+use Rattle.edd_statement_parser.proofs.BodyLoops.{with_parts, parts_here}
 use Rattle.edd_statement_parser.proofs.statements.+statement.Given as goal
 
 abbrev pub decreases-statement : goal.decreases-statement
@@ -40,7 +38,8 @@ decreases-do_behind l = 8 * l.high + 2
 abbrev pub decreases-for_behind : goal.decreases-for_behind
 decreases-for_behind l = 8 * l.high + 2
 
-abbrev pub invariant-parts-loop : goal.invariant-parts-loop
-invariant-parts-loop l =
-    let read = λ (n : ℕ) (here : List Token). parts_at l.high (statement_at l.high) l.labels n here in
-    with_parts l.all.items (read (length l.fn.cursor + 1 - l.counter) l.cursor) ≡ read (length l.fn.cursor + 1) l.fn.cursor
+abbrev pub invariant-parts-loop-all : goal.invariant-parts-loop-all
+invariant-parts-loop-all l = with_parts l.all.items (parts_here l.high l.labels l.cursor) ≡ parts_here l.high l.labels l.fn.cursor
+
+abbrev pub decreases-parts-loop-all : goal.decreases-parts-loop-all
+decreases-parts-loop-all l = length l.cursor
