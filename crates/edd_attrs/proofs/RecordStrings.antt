@@ -8,7 +8,7 @@ use Rattle.edd_syntax.specs.Words.{Words}
 use Rattle.edd_syntax.specs.Attributes as source
 use Rattle.edd_image.specs.declared.records.Record.{Record}
 use Rattle.edd_image.specs.Agreement.{SameRecord, IsString, IsOptionalString, string_of_table}
-use Rattle.edd_strings.proofs.Numbering.{Contains-from_slice_get}
+use Rattle.std.proofs.lemmas.Option.{get_or_from_slice_get, slice_get_within}
 use Rattle.edd_attrs.specs.Records.{strings_of_record}
 
 contains_cases : {X : Type 0} (x : X) (xs : List X) (w : X) → Contains (x ∷ xs) w → (x ≡ w) ⊎ Contains xs w
@@ -17,7 +17,7 @@ contains_cases x xs w (suc k, below, is) = inr (k, omega arith, is)
 
 module _ (strings : List Words) where
   string_held : (w : Words) (s : StrNo) → IsString (string_of_table strings) w s → Contains strings w
-  string_held w s is = Contains-from_slice_get strings s.0 w is
+  string_held w s is = (s.0, slice_get_within strings s.0 w is, get_or_from_slice_get strings s.0 w w is)
 
   one_held : (w : Words) (s : StrNo) → IsString (string_of_table strings) w s → (v : Words) → Contains (w ∷ []) v → Contains strings v
   one_held w s is v held = elim (contains_cases w [] v held) [

@@ -1,14 +1,13 @@
 -- Tables of strings that grow, in one step and in several.
 use Rattle.std.proofs.Common.{◌≡◌, ◌≢◌, refl, sym, ap, subst, ◌∙◌, ℕ, zero, suc, inl, inr, List, [], ◌∷◌, ◌++◌, length, Option, Some, None, arith, append_assoc, length-append}
 use Rattle.std.specs.List.{Contains, slice_get}
-use Rattle.std.proofs.lemmas.List.{append-nil}
+use Rattle.std.proofs.lemmas.List.{append-nil, get_or_default}
 use Rattle.std.proofs.lemmas.List.Elements.{Contains-append_left, Contains-append_right, Contains-append_cases}
 use Rattle.std.proofs.lemmas.List.Quantifiers.{all_pairs_push}
 use Rattle.edd_syntax.specs.declared.numbers.StrNo.{StrNo}
 use Rattle.edd_syntax.specs.Words.{Words}
 use Rattle.edd_image.specs.Agreement.{IsString, string_of_table}
 use Rattle.edd_strings.specs.Strings.{Adds}
-use Rattle.edd_strings.proofs.Chaining.{get_or-default}
 use Rattle.edd_code.specs.Tables.{AreDifferent, GrowsBy, Grows, Keeps, KeepsOptional, Overflows}
 
 slice_get-append : {A : Type 0} (xs ys : List A) (n : ℕ) (x : A) → slice_get xs n ≡ Some x → slice_get (xs ++ ys) n ≡ Some x
@@ -45,7 +44,7 @@ adds_one old new w n (inr h) room = record {
   more = w ∷ [];
   grown = h.2;
   only = λ v c. c;
-  different = λ d. subst AreDifferent (sym h.2) (all_pairs_push (λ s t. s ≢ t) old w d (λ k e below same. h.0 (k, below, get_or-default old k w e below ∙ same)));
+  different = λ d. subst AreDifferent (sym h.2) (all_pairs_push (λ s t. s ≢ t) old w d (λ k e below same. h.0 (k, below, get_or_default old k w e below ∙ same)));
   few = λ le. let ne : ¬ (length old ≡ 65535) = λ e. room (h.0, e) in omega (arith, le, ne, ap length h.2, length-append old (w ∷ []));
 }
 
@@ -58,7 +57,7 @@ pub adding_overflows : (old : List Words) (w : Words) → (¬ (Contains old w)) 
 adding_overflows old w h = record {
   held = λ d. (
     old ++ w ∷ [],
-    all_pairs_push (λ s t. s ≢ t) old w d (λ k e below same. h.0 (k, below, get_or-default old k w e below ∙ same)),
+    all_pairs_push (λ s t. s ≢ t) old w d (λ k e below same. h.0 (k, below, get_or_default old k w e below ∙ same)),
     omega (arith, h.1, length-append old (w ∷ [])),
     λ v c. c,
   );
