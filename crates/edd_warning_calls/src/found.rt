@@ -6,6 +6,8 @@ use edd_parser::parse;
 use edd_types::check;
 use edd_warnings::{Warning, warnings};
 use std::alloc::{AllocError, Global};
+use std::process::Abort;
+use std::test::Fail;
 
 const HEAD: &str = "MANUFACTURER 1 DEVICE_TYPE 2 DEVICE_REVISION 3 DD_REVISION 4\n";
 
@@ -37,9 +39,9 @@ fn push(alloc: Global, line: &mut String, warning: &Warning) -> Result<(), Alloc
     Ok(())
 }
 
-/// Each warning of a description as its line, its word, its lint, and the line and the word of its
-/// other place, with semicolons between. Its items begin on line 2.
-pub fn found(alloc: Global, items: &str) -> Result<String, AllocError> {
+// Each warning of a description as its line, its word, its lint, and the line and the word of its
+// other place, with semicolons between. Its items begin on line 2.
+fn found(alloc: Global, items: &str) -> Result<String, AllocError> {
     let mut text = String::from_str(alloc, HEAD)?;
     text.push_str(items)?;
     let mut line = String::new(alloc);
@@ -55,14 +57,8 @@ pub fn found(alloc: Global, items: &str) -> Result<String, AllocError> {
     Ok(line)
 }
 
-/// Whether a description has these warnings.
-pub fn has(alloc: Global, items: &str, expected: &str) -> Result<bool, AllocError> {
-    let line = found(alloc, items)?;
-    Ok(line.as_str() == expected)
-}
-
-/// The message of the first warning.
-pub fn message(alloc: Global, items: &str) -> Result<String, AllocError> {
+// The message of the first warning.
+fn message(alloc: Global, items: &str) -> Result<String, AllocError> {
     let mut text = String::from_str(alloc, HEAD)?;
     text.push_str(items)?;
     if let Some(warnings) = warnings_of(alloc, text.as_bytes()) {
@@ -71,4 +67,39 @@ pub fn message(alloc: Global, items: &str) -> Result<String, AllocError> {
         }
     }
     Ok(String::new(alloc))
+}
+
+// The items of a row, between what stands before and behind those of each row.
+fn joined(alloc: Global, before: &str, items: &str, behind: &str) -> Result<String, AllocError> {
+    let mut text = String::from_str(alloc, before)?;
+    text.push_str(items)?;
+    text.push_str(behind)?;
+    Ok(text)
+}
+
+/// Checks that the items of each row have the warnings that the row says.
+pub fn check_rows(
+    rt: &impl Abort,
+    alloc: Global,
+    rows: &str,
+    before: &str,
+    behind: &str,
+) -> Result<(), Fail> {
+    for row in rows.split('@').skip(1) {
+        let (expected, items) = row.split_once('\n').ok_or("a row has items")?;
+        let text = joined(alloc, before, items, behind)?;
+        let line = found(alloc, text.as_str())?;
+        assert!(rt; line.as_str() == expected.trim(), "{items}: {line}");
+    }
+    Ok(())
+}
+
+/// Checks that the first warning of the items of each row has the message that the row says.
+pub fn check_messages(rt: &impl Abort, alloc: Global, rows: &str) -> Result<(), Fail> {
+    for row in rows.split('@').skip(1) {
+        let (expected, items) = row.split_once('\n').ok_or("a row has items")?;
+        let said = message(alloc, items)?;
+        assert!(rt; said.as_str() == expected.trim(), "{items}: {said}");
+    }
+    Ok(())
 }
