@@ -1,0 +1,96 @@
+//! Words of CLASS that EDDL does not have.
+
+use crate::lint::Lint;
+use crate::places::{Mark, mark_of};
+use crate::warning::Findings;
+use edd_lexer::token::{Token, TokenKind};
+use edd_syntax::symbols::{Keyword, Symbol};
+use std::alloc::{AllocError, Global};
+use strsim::levenshtein;
+
+/// The classes of variables and methods.
+const CLASSES: [&str; 31] = [
+    "ALARM",
+    "ANALOG_INPUT",
+    "ANALOG_OUTPUT",
+    "COMPUTATION",
+    "CONSTANT",
+    "CONTAINED",
+    "CORRECTION",
+    "DEVICE",
+    "DIAGNOSTIC",
+    "DIGITAL_INPUT",
+    "DIGITAL_OUTPUT",
+    "DISCRETE",
+    "DISCRETE_INPUT",
+    "DISCRETE_OUTPUT",
+    "DYNAMIC",
+    "FACTORY",
+    "FREQUENCY_INPUT",
+    "FREQUENCY_OUTPUT",
+    "HART",
+    "INPUT",
+    "LOCAL",
+    "LOCAL_DISPLAY",
+    "MAINTENANCE",
+    "OPERATE",
+    "OPTIONAL",
+    "OUTPUT",
+    "SERVICE",
+    "SPECIALIST",
+    "TEMPORARY",
+    "TUNE",
+    "USER_INTERFACE",
+];
+
+/// The longest word that is compared, in bytes, so that long words take no long time.
+const LONGEST: usize = 32;
+
+// The class that differs from a word in one or two letters, the nearest first.
+fn nearest(alloc: Global, word: &str) -> Result<Option<&'static str>, AllocError> {
+    let mut found = None;
+    let mut fewest = 3;
+    if LONGEST < word.len() {
+        return Ok(None);
+    }
+    for class in CLASSES {
+        let edits = levenshtein(alloc, class, word)?;
+        if edits < fewest {
+            fewest = edits;
+            found = Some(class);
+        }
+    }
+    Ok(found)
+}
+
+fn check_class(word: &str, at: Mark<'_>, findings: &mut Findings) -> Result<(), AllocError> {
+    if CLASSES.contains(&word) {
+        return Ok(());
+    }
+    let message = match nearest(findings.alloc, word)? {
+        Some(near) => format!(in findings.alloc; "{word} is no class: {near} may be meant")?,
+        None => format!(in findings.alloc; "{word} is no class")?,
+    };
+    findings.add(Lint::UnknownClass, at, message)
+}
+
+/// The words of each CLASS.
+pub fn check_classes(
+    text: &[u8],
+    tokens: &[Token],
+    findings: &mut Findings,
+) -> Result<(), AllocError> {
+    let mut is_inside = false;
+    for token in tokens {
+        match token.kind {
+            TokenKind::Keyword(Keyword::Class) => is_inside = true,
+            TokenKind::Symbol(Symbol::Semicolon) => is_inside = false,
+            TokenKind::Name if is_inside => {
+                let at = mark_of(text, token);
+                check_class(at.word.unwrap_or(""), at, findings)?;
+            }
+            _ => {}
+        }
+    }
+    Ok(())
+}

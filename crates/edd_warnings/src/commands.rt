@@ -1,0 +1,66 @@
+//! Numbers that a command or two commands have twice.
+
+use crate::lint::Lint;
+use crate::places::Places;
+use crate::repeats::Numbers;
+use crate::warning::Findings;
+use edd_lexer::token::TokenKind;
+use edd_syntax::item::{Attribute, ResponseCode};
+use edd_syntax::reference::Target;
+use edd_syntax::symbols::Keyword;
+use std::alloc::{AllocError, Global};
+
+/// The numbers of commands so far.
+pub fn command_numbers<'a>(alloc: Global) -> Numbers<'a> {
+    Numbers::new(alloc, Lint::RepeatedCommandNumber, "the command number")
+}
+
+fn check_codes(
+    codes: &[ResponseCode],
+    places: &mut Places<'_>,
+    findings: &mut Findings,
+) -> Result<(), AllocError> {
+    let mut list = Numbers::new(
+        findings.alloc,
+        Lint::RepeatedResponseCode,
+        "the response code",
+    );
+    places.to_word(Keyword::ResponseCodes);
+    for code in codes {
+        let at = places.to(TokenKind::Integer(code.number));
+        list.add(i64::from(code.number), at, findings)?;
+    }
+    Ok(())
+}
+
+/// The attributes of a command, whose number is added to those of the others.
+pub fn check_command<'a>(
+    attributes: &[Attribute<Target>],
+    places: Places<'a>,
+    commands: &mut Numbers<'a>,
+    findings: &mut Findings,
+) -> Result<(), AllocError> {
+    let mut places = places;
+    let mut transactions = Numbers::new(
+        findings.alloc,
+        Lint::RepeatedTransactionNumber,
+        "the transaction number",
+    );
+    for attribute in attributes {
+        match attribute {
+            Attribute::Number(number) => {
+                let at = places.to_word(Keyword::Number);
+                commands.add(i64::from(*number), at, findings)?;
+            }
+            Attribute::Transaction { number, .. } => {
+                let at = places.to_word(Keyword::Transaction);
+                if let Some(number) = number {
+                    transactions.add(i64::from(*number), at, findings)?;
+                }
+            }
+            Attribute::ResponseCodes(codes) => check_codes(codes, &mut places, findings)?,
+            _ => {}
+        }
+    }
+    Ok(())
+}

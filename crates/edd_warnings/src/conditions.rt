@@ -1,0 +1,197 @@
+//! Conditions that never change, and labels that a SELECT has twice.
+
+use crate::constants::{Known, Width, evaluate};
+use crate::expressions::{Walk, check_expression};
+use crate::lint::Lint;
+use crate::places::{Mark, Places};
+use crate::repeats::Numbers;
+use crate::steps::{Step, push_cond, push_conds};
+use crate::warning::Findings;
+use edd_syntax::cond::Cond;
+use edd_syntax::expr::Expr;
+use edd_syntax::item::{Attribute, DataItem, Enumerator, MenuEntry, TransactionPart, TypePart};
+use edd_syntax::reference::Target;
+use edd_syntax::symbols::Keyword;
+use edd_syntax::text::Text;
+use edd_syntax::types::Handling;
+use std::alloc::AllocError;
+
+/// A condition, or what is selected on, with a warning where it never changes.
+pub fn check_condition(
+    e: &Expr<Target>,
+    at: Mark<'_>,
+    walk: &mut Walk<'_>,
+    findings: &mut Findings,
+) -> Result<(), AllocError> {
+    if let Known::Number(number) = evaluate(e, walk.width) {
+        let message = format!(in findings.alloc; "this condition is always {number}")?;
+        findings.add(Lint::ConstantCondition, at, message)?;
+    }
+    check_expression(e, false, walk, findings)
+}
+
+// A value that stands under conditions.
+trait Value {
+    // Looks at the expressions in it. Most values have none.
+    fn check_value(
+        &self,
+        _walk: &mut Walk<'_>,
+        _findings: &mut Findings,
+    ) -> Result<(), AllocError> {
+        Ok(())
+    }
+}
+
+impl Value for Text {}
+
+impl Value for Handling {}
+
+impl Value for bool {}
+
+impl Value for Enumerator {}
+
+impl Value for MenuEntry<Target> {}
+
+impl Value for DataItem<Target> {}
+
+impl Value for Expr<Target> {
+    fn check_value(&self, walk: &mut Walk<'_>, findings: &mut Findings) -> Result<(), AllocError> {
+        check_expression(self, false, walk, findings)
+    }
+}
+
+// One step of a conditional. `selects` has the labels of each SELECT that is open.
+fn check_step<'a, V: Value>(
+    step: &Step<'_, V>,
+    selects: &mut Vec<Numbers<'a>>,
+    walk: &mut Walk<'a>,
+    findings: &mut Findings,
+) -> Result<(), AllocError> {
+    match step {
+        Step::Value(value) => value.check_value(walk, findings),
+        Step::If(condition) => {
+            let at = walk.places.to_word(Keyword::If);
+            check_condition(condition, at, walk, findings)
+        }
+        Step::Select(on) => {
+            let at = walk.places.to_word(Keyword::Select);
+            let labels = Numbers::new(findings.alloc, Lint::RepeatedCase, "the CASE");
+            selects.push(labels)?;
+            check_condition(on, at, walk, findings)
+        }
+        Step::Case(label) => {
+            let at = walk.places.to_word(Keyword::Case);
+            match selects.last_mut() {
+                Some(labels) => labels.add(*label, at, findings),
+                None => Ok(()),
+            }
+        }
+        Step::EndOfSelect => {
+            selects.pop();
+            Ok(())
+        }
+    }
+}
+
+fn check_steps<V: Value>(
+    steps: &[Step<'_, V>],
+    walk: &mut Walk<'_>,
+    findings: &mut Findings,
+) -> Result<(), AllocError> {
+    let mut selects = Vec::new(findings.alloc);
+    for step in steps {
+        check_step(step, &mut selects, walk, findings)?;
+    }
+    Ok(())
+}
+
+fn check_cond<V: Value>(
+    c: &Cond<Target, V>,
+    walk: &mut Walk<'_>,
+    findings: &mut Findings,
+) -> Result<(), AllocError> {
+    let mut steps = Vec::new(findings.alloc);
+    push_cond(c, &mut steps)?;
+    check_steps(&steps, walk, findings)
+}
+
+fn check_conds<V: Value>(
+    all: &[Cond<Target, V>],
+    walk: &mut Walk<'_>,
+    findings: &mut Findings,
+) -> Result<(), AllocError> {
+    let mut steps = Vec::new(findings.alloc);
+    push_conds(all, &mut steps)?;
+    check_steps(&steps, walk, findings)
+}
+
+fn check_type_part(
+    part: &TypePart<Target>,
+    walk: &mut Walk<'_>,
+    findings: &mut Findings,
+) -> Result<(), AllocError> {
+    match part {
+        TypePart::DefaultValue { value, .. }
+        | TypePart::MinValue { value, .. }
+        | TypePart::MaxValue { value, .. } => check_cond(value, walk, findings),
+        TypePart::DisplayFormat { format, .. } | TypePart::EditFormat { format, .. } => {
+            check_cond(format, walk, findings)
+        }
+        TypePart::Element(c) => check_cond(c, walk, findings),
+    }
+}
+
+fn check_transaction_part(
+    part: &TransactionPart<Target>,
+    walk: &mut Walk<'_>,
+    findings: &mut Findings,
+) -> Result<(), AllocError> {
+    match part {
+        TransactionPart::Request(items) | TransactionPart::Reply(items) => {
+            check_conds(items, walk, findings)
+        }
+    }
+}
+
+fn check_attribute(
+    attribute: &Attribute<Target>,
+    walk: &mut Walk<'_>,
+    findings: &mut Findings,
+) -> Result<(), AllocError> {
+    match attribute {
+        Attribute::OneText(_, text) => check_cond(text, walk, findings)?,
+        Attribute::Handling(handling) => check_cond(handling, walk, findings)?,
+        Attribute::Validity(validity) => check_cond(validity, walk, findings)?,
+        Attribute::TypeOf { parts, .. } => {
+            for part in parts {
+                check_type_part(part, walk, findings)?;
+            }
+        }
+        Attribute::Transaction { parts, .. } => {
+            for part in parts {
+                check_transaction_part(part, walk, findings)?;
+            }
+        }
+        Attribute::Items(entries) => check_conds(entries, walk, findings)?,
+        Attribute::Class(_)
+        | Attribute::Number(_)
+        | Attribute::Operation(_)
+        | Attribute::ResponseCodes(_)
+        | Attribute::Members(_)
+        | Attribute::Definition(_) => {}
+    }
+    Ok(())
+}
+
+/// The conditionals of an item's attributes.
+pub fn check_conditionals(
+    attributes: &[Attribute<Target>],
+    places: Places<'_>,
+    findings: &mut Findings,
+) -> Result<(), AllocError> {
+    let mut walk = Walk::new(findings.alloc, places, Width::Attribute);
+    for attribute in attributes {
+        check_attribute(attribute, &mut walk, findings)?;
+    }
+    Ok(())
+}

@@ -1,0 +1,99 @@
+//! Enumerators that the variable can't hold, or that one list has twice.
+
+use crate::lint::Lint;
+use crate::places::Places;
+use crate::repeats::Numbers;
+use crate::variables::{Range, check_range};
+use crate::warning::Findings;
+use edd_lexer::token::TokenKind;
+use edd_syntax::cond::{Arm, Cond};
+use edd_syntax::item::{Enumerator, TypePart};
+use edd_syntax::reference::Target;
+use std::alloc::{AllocError, Global};
+
+fn new_list<'a>(alloc: Global) -> Numbers<'a> {
+    Numbers::new(alloc, Lint::RepeatedEnumerator, "the enumerator")
+}
+
+fn check_enumerator<'a>(
+    enumerator: &Enumerator,
+    range: Range,
+    places: &mut Places<'a>,
+    list: &mut Numbers<'a>,
+    findings: &mut Findings,
+) -> Result<(), AllocError> {
+    let written = u32::try_from(enumerator.value.unsigned_abs()).unwrap_or(u32::MAX);
+    let at = places.to_on(enumerator.line, TokenKind::Integer(written));
+    check_range(range, "the enumerator", enumerator.value, at, findings)?;
+    list.add(enumerator.value, at, findings)
+}
+
+// An element of a list. The lists of its branches are lists of their own.
+#[cycle(enumerators)]
+fn check_element<'a>(
+    c: &Cond<Target, Enumerator>,
+    range: Range,
+    places: &mut Places<'a>,
+    list: &mut Numbers<'a>,
+    findings: &mut Findings,
+) -> Result<(), AllocError> {
+    match c {
+        Cond::Value(enumerator) => check_enumerator(enumerator, range, places, list, findings),
+        Cond::If {
+            first,
+            otherwise,
+            ..
+        } => {
+            check_list(first, range, places, findings)?;
+            check_list(otherwise, range, places, findings)
+        }
+        Cond::Select { arms, .. } => check_arms(arms, range, places, findings),
+    }
+}
+
+#[cycle(enumerators)]
+fn check_list<'a>(
+    elements: &[Cond<Target, Enumerator>],
+    range: Range,
+    places: &mut Places<'a>,
+    findings: &mut Findings,
+) -> Result<(), AllocError> {
+    let mut list = new_list(findings.alloc);
+    for c in elements {
+        check_element(c, range, places, &mut list, findings)?;
+    }
+    Ok(())
+}
+
+#[cycle(enumerators)]
+fn check_arms<'a>(
+    arms: &[Arm<Target, Enumerator>],
+    range: Range,
+    places: &mut Places<'a>,
+    findings: &mut Findings,
+) -> Result<(), AllocError> {
+    for arm in arms {
+        match arm {
+            Arm::Case { body, .. } | Arm::Default { body, .. } => {
+                check_list(body, range, places, findings)?;
+            }
+        }
+    }
+    Ok(())
+}
+
+/// The enumerators of a type.
+pub fn check_enumerators<'a>(
+    parts: &[TypePart<Target>],
+    range: Range,
+    places: &mut Places<'a>,
+    findings: &mut Findings,
+) -> Result<(), AllocError> {
+    let mut list = new_list(findings.alloc);
+    for part in parts {
+        if let TypePart::Element(c) = part {
+            check_element(c, range, places, &mut list, findings)?;
+        }
+    }
+    Ok(())
+}

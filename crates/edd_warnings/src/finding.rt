@@ -1,0 +1,65 @@
+//! All warnings of a description.
+
+use crate::classes::check_classes;
+use crate::commands::{check_command, command_numbers};
+use crate::conditions::check_conditionals;
+use crate::languages::check_texts;
+use crate::menus::check_menus;
+use crate::methods::check_method;
+use crate::places::{Places, items_of};
+use crate::repeats::Numbers;
+use crate::unused::check_uses;
+use crate::variables::check_type;
+use crate::warning::{Findings, Warning};
+use edd_lexer::token::Token;
+use edd_syntax::checked::Checked;
+use edd_syntax::item::Item;
+use edd_syntax::reference::Target;
+use std::alloc::{AllocError, Global};
+
+// The attributes of one item.
+fn check_item<'a>(
+    item: &Item<Target>,
+    text: &'a [u8],
+    tokens: &'a [Token],
+    commands: &mut Numbers<'a>,
+    findings: &mut Findings,
+) -> Result<(), AllocError> {
+    let mut places = Places::new(text, tokens);
+    check_conditionals(item.attributes(), places, findings)?;
+    match item {
+        Item::Variable(variable) => {
+            for attribute in &variable.attributes {
+                check_type(attribute, &mut places, findings)?;
+            }
+        }
+        Item::Command(command) => {
+            check_command(&command.attributes, places, commands, findings)?;
+        }
+        Item::Method(method) => check_method(&method.attributes, text, tokens, findings)?,
+        Item::Menu(_) | Item::Collection(_) => {}
+    }
+    Ok(())
+}
+
+/// The warnings of a description, by their lines, and on one line in the order of the lints. `text`
+/// and `tokens` are those that it was made of: they say where things stand. Fails only where memory
+/// is out.
+pub fn warnings(
+    alloc: Global,
+    text: &[u8],
+    tokens: &[Token],
+    checked: &Checked,
+) -> Result<Vec<Warning>, AllocError> {
+    let mut findings = Findings::new(alloc);
+    let items = items_of(alloc, tokens)?;
+    let mut commands = command_numbers(alloc);
+    for (item, own) in checked.items.iter().zip(&items) {
+        check_item(item, text, own, &mut commands, &mut findings)?;
+    }
+    check_classes(text, tokens, &mut findings)?;
+    check_texts(text, tokens, &mut findings)?;
+    check_menus(text, &checked.items, &items, &mut findings)?;
+    check_uses(text, tokens, &checked.items, &items, &mut findings)?;
+    findings.sorted()
+}

@@ -1,0 +1,224 @@
+//! Menus that contain themselves.
+
+use crate::lint::Lint;
+use crate::places::{Mark, Places};
+use crate::unused::name_of_item;
+use crate::warning::Findings;
+use edd_lexer::token::Token;
+use edd_syntax::cond::{Arm, Cond};
+use edd_syntax::item::{Attribute, Item, MenuEntry};
+use edd_syntax::numbers::{ItemNo, Kind};
+use edd_syntax::reference::Target;
+use std::alloc::{AllocError, Global};
+
+/// How far the walk has come with a menu.
+#[derive(Clone, Copy, PartialEq, Eq)]
+enum State {
+    New,
+    /// The walk is inside.
+    Open,
+    /// The same, and that the menu contains itself is said.
+    Said,
+    Done,
+}
+
+/// A menu, with the menus that are among its entries.
+#[derive(Drop)]
+struct Menu<'a> {
+    name: Mark<'a>,
+    inner: Vec<usize>,
+    state: State,
+    /// How many of the inner menus are passed.
+    passed: usize,
+}
+
+#[cycle(entries)]
+fn push_inner(
+    c: &Cond<Target, MenuEntry<Target>>,
+    inner: &mut Vec<usize>,
+) -> Result<(), AllocError> {
+    match c {
+        Cond::Value(MenuEntry::Text(_)) => Ok(()),
+        Cond::Value(MenuEntry::Reference { to, .. }) => {
+            if let Target::Item(ItemNo::Menu(number)) = *to {
+                inner.push(usize::from(number.0))?;
+            }
+            Ok(())
+        }
+        Cond::If {
+            first,
+            otherwise,
+            ..
+        } => {
+            push_list(first, inner)?;
+            push_list(otherwise, inner)
+        }
+        Cond::Select { arms, .. } => push_arms(arms, inner),
+    }
+}
+
+#[cycle(entries)]
+fn push_list(
+    entries: &[Cond<Target, MenuEntry<Target>>],
+    inner: &mut Vec<usize>,
+) -> Result<(), AllocError> {
+    for c in entries {
+        push_inner(c, inner)?;
+    }
+    Ok(())
+}
+
+#[cycle(entries)]
+fn push_arms(
+    arms: &[Arm<Target, MenuEntry<Target>>],
+    inner: &mut Vec<usize>,
+) -> Result<(), AllocError> {
+    for arm in arms {
+        match arm {
+            Arm::Case { body, .. } | Arm::Default { body, .. } => push_list(body, inner)?,
+        }
+    }
+    Ok(())
+}
+
+// A menu that the walk has not come to.
+fn menu_of<'a>(
+    alloc: Global,
+    attributes: &[Attribute<Target>],
+    places: Places<'a>,
+) -> Result<Menu<'a>, AllocError> {
+    let mut places = places;
+    let name = name_of_item(Kind::Menu, &mut places);
+    let mut inner = Vec::new(alloc);
+    for attribute in attributes {
+        if let Attribute::Items(entries) = attribute {
+            push_list(entries, &mut inner)?;
+        }
+    }
+    Ok(Menu {
+        name,
+        inner,
+        state: State::New,
+        passed: 0,
+    })
+}
+
+// The menus by their numbers.
+fn menus_of<'a>(
+    alloc: Global,
+    text: &'a [u8],
+    items: &[Item<Target>],
+    item_tokens: &[&'a [Token]],
+) -> Result<Vec<Menu<'a>>, AllocError> {
+    let mut menus = Vec::new(alloc);
+    for (item, own) in items.iter().zip(item_tokens) {
+        if let Item::Menu(menu) = item {
+            menus.push(menu_of(alloc, &menu.attributes, Places::new(text, own))?)?;
+        }
+    }
+    Ok(menus)
+}
+
+// The next inner menu that is not passed; without one the menu is done.
+fn next_inner(menu: &mut Menu<'_>) -> Option<usize> {
+    let next = menu.inner.get(menu.passed).copied();
+    menu.passed = menu.passed.saturating_add(1);
+    if next.is_none() {
+        menu.state = State::Done;
+    }
+    next
+}
+
+// Goes from a menu to one of its entries: into it, where it is new.
+fn enter(
+    menus: &mut [Menu<'_>],
+    open: &mut Vec<usize>,
+    from: usize,
+    to: usize,
+    findings: &mut Findings,
+) -> Result<(), AllocError> {
+    let Some(by) = menus.get(from) else {
+        return Ok(());
+    };
+    let by = by.name;
+    let Some(menu) = menus.get_mut(to) else {
+        return Ok(());
+    };
+    match menu.state {
+        State::New => {
+            menu.state = State::Open;
+            open.push(to)?;
+        }
+        State::Open => {
+            menu.state = State::Said;
+            let name = menu.name.word.unwrap_or("");
+            let message = format!(in findings.alloc; "the menu {name} contains itself")?;
+            let at = menu.name;
+            findings.add_beside(Lint::CyclicMenu, at, message, by)?;
+        }
+        State::Said | State::Done => {}
+    }
+    Ok(())
+}
+
+// One step of the walk from the innermost menu that is open. Says whether one was.
+fn step(
+    menus: &mut [Menu<'_>],
+    open: &mut Vec<usize>,
+    findings: &mut Findings,
+) -> Result<bool, AllocError> {
+    let Some(from) = open.last().copied() else {
+        return Ok(false);
+    };
+    let next = match menus.get_mut(from) {
+        Some(menu) => next_inner(menu),
+        None => None,
+    };
+    match next {
+        Some(to) => enter(menus, open, from, to, findings)?,
+        None => {
+            open.pop();
+        }
+    }
+    Ok(true)
+}
+
+// The walk from a menu that is new. Each step passes an entry or ends a menu.
+fn walk_from(
+    menus: &mut [Menu<'_>],
+    open: &mut Vec<usize>,
+    steps: usize,
+    findings: &mut Findings,
+) -> Result<(), AllocError> {
+    for _ in 0..steps {
+        if !step(menus, open, findings)? {
+            break;
+        }
+    }
+    Ok(())
+}
+
+/// The menus of a description. Each menu and each entry is passed once.
+pub fn check_menus<'a>(
+    text: &'a [u8],
+    items: &[Item<Target>],
+    item_tokens: &[&'a [Token]],
+    findings: &mut Findings,
+) -> Result<(), AllocError> {
+    let mut menus = menus_of(findings.alloc, text, items, item_tokens)?;
+    let mut steps = menus.len();
+    for menu in &menus {
+        steps = steps.saturating_add(menu.inner.len());
+    }
+    let mut open = Vec::new(findings.alloc);
+    for number in 0..menus.len() {
+        if let Some(menu) = menus.get_mut(number) {
+            if menu.state == State::New {
+                menu.state = State::Open;
+                open.push(number)?;
+            }
+        }
+        walk_from(&mut menus, &mut open, steps, findings)?;
+    }
+    Ok(())
+}

@@ -1,0 +1,111 @@
+//! The tokens of an item, gone through in the order of the source, which is that of the trees.
+
+use edd_lexer::token::{Token, TokenKind};
+use edd_syntax::symbols::{Keyword, Symbol};
+use std::alloc::{AllocError, Global};
+
+/// A token by its line and its text. Without a text it is the first token of the line.
+#[derive(Clone, Copy)]
+pub struct Mark<'a> {
+    pub line: u32,
+    pub word: Option<&'a str>,
+}
+
+/// A token as it is written.
+pub fn word_of<'a>(text: &'a [u8], token: &Token) -> &'a str {
+    let start = token.start as usize;
+    let end = token.end as usize;
+    if end < start || text.len() < end {
+        return "";
+    }
+    str::from_utf8(&text[start..end]).unwrap_or("")
+}
+
+/// The place of a token.
+pub fn mark_of<'a>(text: &'a [u8], token: &Token) -> Mark<'a> {
+    Mark {
+        line: token.line,
+        word: Some(word_of(text, token)),
+    }
+}
+
+/// The tokens of each item, in the order of the source. Those of the first item have the head of
+/// the description before them.
+pub fn items_of<'a>(alloc: Global, tokens: &'a [Token]) -> Result<Vec<&'a [Token]>, AllocError> {
+    let mut items = Vec::new(alloc);
+    let mut start = 0;
+    let mut depth = 0usize;
+    for (number, token) in tokens.iter().enumerate() {
+        if token.kind == TokenKind::Symbol(Symbol::OpenBrace) {
+            depth = depth.saturating_add(1);
+        }
+        if token.kind == TokenKind::Symbol(Symbol::CloseBrace) {
+            depth = depth.saturating_sub(1);
+            if depth == 0 && start <= number {
+                items.push(&tokens[start..number + 1])?;
+                start = number + 1;
+            }
+        }
+    }
+    Ok(items)
+}
+
+/// The tokens of an item that are not passed yet.
+#[derive(Clone, Copy)]
+pub struct Places<'a> {
+    text: &'a [u8],
+    rest: &'a [Token],
+    last: Mark<'a>,
+}
+
+impl<'a> Places<'a> {
+    /// All tokens of an item.
+    pub fn new(text: &'a [u8], tokens: &'a [Token]) -> Places<'a> {
+        let last = match tokens.first() {
+            Some(token) => mark_of(text, token),
+            None => Mark {
+                line: 1,
+                word: None,
+            },
+        };
+        Places {
+            text,
+            rest: tokens,
+            last,
+        }
+    }
+
+    /// Passes the next token of this kind, and gives its place.
+    pub fn to(&mut self, kind: TokenKind) -> Mark<'a> {
+        let rest = self.rest;
+        for (number, token) in rest.iter().enumerate() {
+            if token.kind == kind {
+                self.rest = &rest[number + 1..];
+                self.last = mark_of(self.text, token);
+                return self.last;
+            }
+        }
+        self.last
+    }
+
+    /// The same of a reserved word.
+    pub fn to_word(&mut self, word: Keyword) -> Mark<'a> {
+        self.to(TokenKind::Keyword(word))
+    }
+
+    /// Passes the next token of this kind that stands on a line, and gives its place.
+    pub fn to_on(&mut self, line: u32, kind: TokenKind) -> Mark<'a> {
+        let rest = self.rest;
+        for (number, token) in rest.iter().enumerate() {
+            if line < token.line {
+                break;
+            }
+            if token.line == line && token.kind == kind {
+                self.rest = &rest[number + 1..];
+                self.last = mark_of(self.text, token);
+                return self.last;
+            }
+        }
+        Mark { line, word: None }
+    }
+}

@@ -1,0 +1,85 @@
+//! Variables and collections that nothing refers to.
+
+use crate::lint::Lint;
+use crate::places::{Mark, Places, word_of};
+use crate::warning::Findings;
+use edd_lexer::token::{Token, TokenKind};
+use edd_syntax::item::Item;
+use edd_syntax::numbers::Kind;
+use edd_syntax::reference::Target;
+use edd_syntax::symbols::Keyword;
+use std::alloc::{AllocError, Global};
+use std::collections::BTreeMap;
+
+fn keyword_of(kind: Kind) -> Keyword {
+    match kind {
+        Kind::Variable => Keyword::Variable,
+        Kind::Command => Keyword::Command,
+        Kind::Menu => Keyword::Menu,
+        Kind::Collection => Keyword::Collection,
+        Kind::Method => Keyword::Method,
+    }
+}
+
+/// Passes the name of an item at its declaration, and gives its place.
+pub fn name_of_item<'a>(kind: Kind, places: &mut Places<'a>) -> Mark<'a> {
+    places.to_word(keyword_of(kind));
+    places.to(TokenKind::Name)
+}
+
+// How often each name stands in a text.
+fn uses_of<'a>(
+    alloc: Global,
+    text: &'a [u8],
+    tokens: &[Token],
+) -> Result<BTreeMap<&'a str, u32>, AllocError> {
+    let mut uses = BTreeMap::new(alloc);
+    for token in tokens {
+        if token.kind == TokenKind::Name {
+            let count = uses.entry(word_of(text, token))?.or_insert(0u32);
+            *count = count.saturating_add(1);
+        }
+    }
+    Ok(uses)
+}
+
+// Whether an item is one that others use: hosts come to the other kinds by themselves.
+fn is_for_others(kind: Kind) -> bool {
+    matches!(kind, Kind::Variable | Kind::Collection)
+}
+
+fn check_item<'a>(
+    item: &'a Item<Target>,
+    places: Places<'a>,
+    uses: &BTreeMap<&'a str, u32>,
+    findings: &mut Findings,
+) -> Result<(), AllocError> {
+    let name = item.name();
+    let used = uses.get(&name).copied().unwrap_or(0);
+    if !is_for_others(item.kind()) || 1 < used {
+        return Ok(());
+    }
+    let mut places = places;
+    let at = name_of_item(item.kind(), &mut places);
+    let message = format!(in findings.alloc; "nothing refers to {name}")?;
+    findings.add(Lint::UnusedItem, at, message)
+}
+
+/// The items whose names stand nowhere but at their declarations. A description of variables alone
+/// has no place to use them.
+pub fn check_uses<'a>(
+    text: &'a [u8],
+    tokens: &'a [Token],
+    items: &'a [Item<Target>],
+    item_tokens: &[&'a [Token]],
+    findings: &mut Findings,
+) -> Result<(), AllocError> {
+    if items.iter().all(|item| item.kind() == Kind::Variable) {
+        return Ok(());
+    }
+    let uses = uses_of(findings.alloc, text, tokens)?;
+    for (item, own) in items.iter().zip(item_tokens) {
+        check_item(item, Places::new(text, own), &uses, findings)?;
+    }
+    Ok(())
+}

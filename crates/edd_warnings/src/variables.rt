@@ -1,0 +1,256 @@
+//! What is surely not meant in the type of a variable: values that it can't hold, and limits.
+
+use crate::constants::{Known, Width, evaluate};
+use crate::enumerators::check_enumerators;
+use crate::lint::Lint;
+use crate::places::{Mark, Places};
+use crate::warning::Findings;
+use edd_syntax::cond::{Arm, Cond};
+use edd_syntax::expr::Expr;
+use edd_syntax::item::{Attribute, TypePart, TypeWord};
+use edd_syntax::numbers::Attr;
+use edd_syntax::reference::Target;
+use edd_syntax::types::VarType;
+use std::alloc::AllocError;
+
+/// The numbers from `low` to `high`, with both ends.
+#[derive(Clone, Copy)]
+pub struct Range {
+    low: i64,
+    high: i64,
+}
+
+impl Range {
+    // What a variable of a type and a size in octets can hold.
+    fn of(kind: VarType, size: Option<u32>) -> Range {
+        let count: i64 = match size {
+            None | Some(1) => 256,
+            Some(2) => 65_536,
+            Some(3) => 16_777_216,
+            Some(_) => 4_294_967_296,
+        };
+        match kind {
+            VarType::Integer => Range {
+                low: -(count / 2),
+                high: count / 2 - 1,
+            },
+            VarType::UnsignedInteger | VarType::Enumerated | VarType::BitEnumerated => Range {
+                low: 0,
+                high: count - 1,
+            },
+        }
+    }
+
+    fn holds(self, number: i64) -> bool {
+        self.low <= number && number <= self.high
+    }
+}
+
+/// A warning where a number is outside of the range of its variable.
+pub fn check_range(
+    range: Range,
+    what: &str,
+    number: i64,
+    at: Mark<'_>,
+    findings: &mut Findings,
+) -> Result<(), AllocError> {
+    if range.holds(number) {
+        return Ok(());
+    }
+    let Range { low, high } = range;
+    let alloc = findings.alloc;
+    let message = format!(in alloc; "{what} {number} is outside of the type's {low} to {high}")?;
+    findings.add(Lint::ValueOutOfRange, at, message)
+}
+
+// An option of a type with its place.
+#[derive(Clone, Copy)]
+struct Placed<'a> {
+    what: &'a str,
+    at: Mark<'a>,
+}
+
+fn option_at<'a>(attr: Attr, line: u32) -> Placed<'a> {
+    let what = attr.word();
+    let at = Mark {
+        line,
+        word: Some(what),
+    };
+    Placed { what, at }
+}
+
+// The constants of an option, in all its branches.
+#[cycle(constants)]
+fn check_constants(
+    c: &Cond<Target, Expr<Target>>,
+    range: Range,
+    option: Placed<'_>,
+    findings: &mut Findings,
+) -> Result<(), AllocError> {
+    match c {
+        Cond::Value(e) => match evaluate(e, Width::Attribute) {
+            Known::Number(n) => check_range(range, option.what, n, option.at, findings),
+            Known::Traps(_) | Known::Nothing => Ok(()),
+        },
+        Cond::If {
+            first,
+            otherwise,
+            ..
+        } => {
+            check_branch(first, range, option, findings)?;
+            check_branch(otherwise, range, option, findings)
+        }
+        Cond::Select { arms, .. } => check_arms(arms, range, option, findings),
+    }
+}
+
+#[cycle(constants)]
+fn check_branch(
+    branch: &[Cond<Target, Expr<Target>>],
+    range: Range,
+    option: Placed<'_>,
+    findings: &mut Findings,
+) -> Result<(), AllocError> {
+    for c in branch {
+        check_constants(c, range, option, findings)?;
+    }
+    Ok(())
+}
+
+#[cycle(constants)]
+fn check_arms(
+    arms: &[Arm<Target, Expr<Target>>],
+    range: Range,
+    option: Placed<'_>,
+    findings: &mut Findings,
+) -> Result<(), AllocError> {
+    for arm in arms {
+        match arm {
+            Arm::Case { body, .. } | Arm::Default { body, .. } => {
+                check_branch(body, range, option, findings)?;
+            }
+        }
+    }
+    Ok(())
+}
+
+// An option that is one constant, with its place.
+#[derive(Clone, Copy)]
+struct Constant {
+    number: i64,
+    line: u32,
+}
+
+// The options of a type that are one constant each.
+#[derive(Clone, Copy)]
+struct Options {
+    default: Option<Constant>,
+    least: Option<Constant>,
+    greatest: Option<Constant>,
+}
+
+fn constant_of(c: &Cond<Target, Expr<Target>>, line: u32) -> Option<Constant> {
+    let Cond::Value(e) = c else {
+        return None;
+    };
+    match evaluate(e, Width::Attribute) {
+        Known::Number(number) => Some(Constant { number, line }),
+        Known::Traps(_) | Known::Nothing => None,
+    }
+}
+
+fn options_of(parts: &[TypePart<Target>]) -> Options {
+    let mut options = Options {
+        default: None,
+        least: None,
+        greatest: None,
+    };
+    for part in parts {
+        match part {
+            TypePart::DefaultValue { line, value } => options.default = constant_of(value, *line),
+            TypePart::MinValue { line, value } => options.least = constant_of(value, *line),
+            TypePart::MaxValue { line, value } => options.greatest = constant_of(value, *line),
+            TypePart::DisplayFormat { .. } | TypePart::EditFormat { .. } | TypePart::Element(_) =>
+                {}
+        }
+    }
+    options
+}
+
+// Two constants that are in the wrong order, where both are there.
+fn crossed(low: Option<Constant>, high: Option<Constant>) -> Option<(Constant, Constant)> {
+    match (low, high) {
+        (Some(low), Some(high)) if high.number < low.number => Some((low, high)),
+        _ => None,
+    }
+}
+
+fn check_limits(options: Options, findings: &mut Findings) -> Result<(), AllocError> {
+    let Some((least, greatest)) = crossed(options.least, options.greatest) else {
+        return Ok(());
+    };
+    let (low, high) = (least.number, greatest.number);
+    let at = option_at(Attr::MinValue, least.line).at;
+    let other = option_at(Attr::MaxValue, greatest.line).at;
+    let message = format!(in findings.alloc; "MIN_VALUE {low} is over MAX_VALUE {high}")?;
+    findings.add_beside(Lint::LimitsCrossed, at, message, other)
+}
+
+fn check_default(options: Options, findings: &mut Findings) -> Result<(), AllocError> {
+    if let Some((least, default)) = crossed(options.least, options.default) {
+        let (low, number) = (least.number, default.number);
+        let at = option_at(Attr::DefaultValue, default.line).at;
+        let other = option_at(Attr::MinValue, least.line).at;
+        let alloc = findings.alloc;
+        let message = format!(in alloc; "DEFAULT_VALUE {number} is below MIN_VALUE {low}")?;
+        findings.add_beside(Lint::DefaultOutsideLimits, at, message, other)?;
+    }
+    if let Some((default, greatest)) = crossed(options.default, options.greatest) {
+        let (number, high) = (default.number, greatest.number);
+        let at = option_at(Attr::DefaultValue, default.line).at;
+        let other = option_at(Attr::MaxValue, greatest.line).at;
+        let alloc = findings.alloc;
+        let message = format!(in alloc; "DEFAULT_VALUE {number} is over MAX_VALUE {high}")?;
+        findings.add_beside(Lint::DefaultOutsideLimits, at, message, other)?;
+    }
+    Ok(())
+}
+
+// A warning on each constant of an option that is outside of the range.
+fn check_option(
+    part: &TypePart<Target>,
+    range: Range,
+    findings: &mut Findings,
+) -> Result<(), AllocError> {
+    let (attr, line, value) = match part {
+        TypePart::DefaultValue { line, value } => (Attr::DefaultValue, *line, value),
+        TypePart::MinValue { line, value } => (Attr::MinValue, *line, value),
+        TypePart::MaxValue { line, value } => (Attr::MaxValue, *line, value),
+        TypePart::DisplayFormat { .. } | TypePart::EditFormat { .. } | TypePart::Element(_) => {
+            return Ok(());
+        }
+    };
+    check_constants(value, range, option_at(attr, line), findings)
+}
+
+/// The type of a variable, among its attributes.
+pub fn check_type(
+    attribute: &Attribute<Target>,
+    places: &mut Places<'_>,
+    findings: &mut Findings,
+) -> Result<(), AllocError> {
+    let Attribute::TypeOf { word, parts } = attribute else {
+        return Ok(());
+    };
+    let TypeWord::Known { kind, size } = word else {
+        return Ok(());
+    };
+    let range = Range::of(*kind, *size);
+    for part in parts {
+        check_option(part, range, findings)?;
+    }
+    let options = options_of(parts);
+    check_limits(options, findings)?;
+    check_default(options, findings)?;
+    check_enumerators(parts, range, places, findings)
+}

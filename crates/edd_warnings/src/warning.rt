@@ -1,0 +1,92 @@
+//! Warnings, and how they are gathered.
+
+use crate::lint::Lint;
+use crate::places::Mark;
+use std::alloc::{AllocError, Global};
+
+/// A token by its line and its text. Without a text it is the first token of the line.
+#[derive(Drop)]
+pub struct Spot {
+    pub line: u32,
+    pub word: Option<String>,
+}
+
+/// Something that is in the language and surely not meant.
+#[derive(Drop)]
+pub struct Warning {
+    pub lint: Lint,
+    /// The line on which the token stands that the warning points at, counted from 1.
+    pub line: u32,
+    /// The text of that token. Without one it is the first token of the line.
+    pub word: Option<String>,
+    /// One line of plain words.
+    pub message: String,
+    /// The place of what is in conflict with it, if there is one.
+    pub other: Option<Spot>,
+}
+
+// The owned text of a word.
+fn owned(alloc: Global, word: Option<&str>) -> Result<Option<String>, AllocError> {
+    match word {
+        Some(word) => Ok(Some(String::from_str(alloc, word)?)),
+        None => Ok(None),
+    }
+}
+
+/// The warnings so far.
+#[derive(Drop)]
+pub struct Findings {
+    pub alloc: Global,
+    warnings: Vec<Warning>,
+}
+
+impl Findings {
+    pub fn new(alloc: Global) -> Findings {
+        Findings {
+            alloc,
+            warnings: Vec::new(alloc),
+        }
+    }
+
+    /// Adds a warning.
+    pub fn add(&mut self, lint: Lint, at: Mark<'_>, message: String) -> Result<(), AllocError> {
+        self.warnings.push(Warning {
+            lint,
+            line: at.line,
+            word: owned(self.alloc, at.word)?,
+            message,
+            other: None,
+        })?;
+        Ok(())
+    }
+
+    /// Adds a warning that speaks of two places.
+    pub fn add_beside(
+        &mut self,
+        lint: Lint,
+        at: Mark<'_>,
+        message: String,
+        other: Mark<'_>,
+    ) -> Result<(), AllocError> {
+        let spot = Spot {
+            line: other.line,
+            word: owned(self.alloc, other.word)?,
+        };
+        self.warnings.push(Warning {
+            lint,
+            line: at.line,
+            word: owned(self.alloc, at.word)?,
+            message,
+            other: Some(spot),
+        })?;
+        Ok(())
+    }
+
+    /// The warnings by their lines, and on one line in the order of the lints.
+    pub fn sorted(self) -> Result<Vec<Warning>, AllocError> {
+        let Findings { warnings, .. } = self;
+        let mut warnings = warnings;
+        warnings.sort_by_key(|warning| (warning.line, warning.lint as u8))?;
+        Ok(warnings)
+    }
+}
