@@ -1,0 +1,143 @@
+//! Expressions.
+
+use edd_lexer::token::TokenKind;
+use edd_name_meanings::references::builtin;
+use edd_syntax::expr::{Argument, Expr};
+use edd_syntax::numbers::Kind;
+use edd_syntax::operators::{Builtin, Parameter};
+use edd_syntax::reference::Path;
+use edd_trails::breach::Rule;
+use edd_trails::paths::Meaning;
+use edd_trails::walk::{VARIABLES, Walk};
+use std::alloc::AllocError;
+
+// Whether an argument may be a variable of the device; one that has no meaning may.
+fn may_be_variable<'a>(walk: &Walk<'a>, argument: &'a Argument<Path>) -> bool {
+    match argument {
+        Argument::Value(Expr::Reference(path)) => match walk.meaning(path, &VARIABLES) {
+            Meaning::Local => false,
+            Meaning::Item(kind) => kind == Kind::Variable,
+            Meaning::Unjudged | Meaning::Broken(_, _) => true,
+        },
+        _ => false,
+    }
+}
+
+fn may_fit<'a>(walk: &Walk<'a>, parameter: Parameter, argument: &'a Argument<Path>) -> bool {
+    let is_text = matches!(argument, Argument::Text(_));
+    match parameter {
+        Parameter::Text => is_text,
+        Parameter::Number => !is_text,
+        Parameter::DeviceVariable => may_be_variable(walk, argument),
+    }
+}
+
+// Whether a call may be right: its arguments in number and kind, and an abort as a statement.
+fn may_be_call<'a>(
+    walk: &Walk<'a>,
+    function: Builtin,
+    arguments: &'a [Argument<Path>],
+    is_statement: bool,
+) -> bool {
+    let parameters = function.parameters();
+    let is_abort = matches!(function, Builtin::Abort | Builtin::ProcessAbort);
+    if parameters.len() != arguments.len() || (is_abort && !is_statement) {
+        return false;
+    }
+    for (parameter, argument) in parameters.iter().zip(arguments) {
+        if !may_fit(walk, *parameter, argument) {
+            return false;
+        }
+    }
+    true
+}
+
+// The name of a function, and whether it takes the arguments.
+fn walk_function<'a>(
+    walk: &mut Walk<'a>,
+    function: &'a Path,
+    arguments: &'a [Argument<Path>],
+    is_statement: bool,
+    line: u32,
+) -> Result<(), AllocError> {
+    let name = function.base.as_str();
+    let place = walk.trail.name(name);
+    match builtin(name) {
+        None => walk.note(Rule::UnknownName(name), place),
+        Some(known) => {
+            if may_be_call(walk, known, arguments, is_statement) {
+                return Ok(());
+            }
+            walk.note(Rule::Mismatch(line), place)
+        }
+    }
+}
+
+/// Walks over an expression, which may be a whole statement.
+#[cycle(expressions)]
+pub fn walk_expr<'a>(
+    e: &'a Expr<Path>,
+    is_statement: bool,
+    walk: &mut Walk<'a>,
+) -> Result<(), AllocError> {
+    match e {
+        Expr::Literal(_) => Ok(()),
+        Expr::Decimal { line } => {
+            let place = walk.trail.token_on(TokenKind::Decimal, *line);
+            walk.note(Rule::FloatValue(*line), place)
+        }
+        Expr::Reference(path) | Expr::Increment(_, path) => walk.refer(path, &VARIABLES),
+        Expr::Parentheses(inner) | Expr::Unary(_, inner) => walk_expr(inner, false, walk),
+        Expr::Binary(_, a, b)
+        | Expr::Compare(_, a, b)
+        | Expr::LogicalAnd(a, b)
+        | Expr::LogicalOr(a, b) => {
+            walk_expr(a, false, walk)?;
+            walk_expr(b, false, walk)
+        }
+        Expr::Conditional(test, a, b) => {
+            walk_expr(test, false, walk)?;
+            walk_expr(a, false, walk)?;
+            walk_expr(b, false, walk)
+        }
+        Expr::Assign(to, value) | Expr::CompoundAssign(_, to, value) => {
+            walk.refer(to, &VARIABLES)?;
+            walk_expr(value, false, walk)
+        }
+        Expr::Call {
+            line,
+            function,
+            arguments,
+        } => {
+            walk_function(walk, function, arguments, is_statement, *line)?;
+            walk_arguments(arguments, walk)
+        }
+    }
+}
+
+#[cycle(expressions)]
+fn walk_arguments<'a>(
+    arguments: &'a [Argument<Path>],
+    walk: &mut Walk<'a>,
+) -> Result<(), AllocError> {
+    for argument in arguments {
+        walk_argument(argument, walk)?;
+    }
+    Ok(())
+}
+
+#[cycle(expressions)]
+fn walk_argument<'a>(argument: &'a Argument<Path>, walk: &mut Walk<'a>) -> Result<(), AllocError> {
+    match argument {
+        Argument::Text(_) => Ok(()),
+        Argument::Value(e) => walk_expr(e, false, walk),
+    }
+}
+
+/// Walks over an expression that may be missing.
+pub fn walk_optional<'a>(e: &'a Option<Expr<Path>>, walk: &mut Walk<'a>) -> Result<(), AllocError> {
+    match e {
+        None => Ok(()),
+        Some(e) => walk_expr(e, false, walk),
+    }
+}

@@ -1,0 +1,191 @@
+//! Items, and all breaches of a description.
+
+use crate::attributes::{Members, walk_attribute};
+use edd_lexer::token::Token;
+use edd_syntax::item::{Attribute, Item};
+use edd_syntax::limits::Limit;
+use edd_syntax::numbers::{Attr, Kind};
+use edd_syntax::reference::Path;
+use edd_syntax::symbols::Keyword;
+use edd_trails::breach::{Breach, RANKS, Rank, Rule};
+use edd_trails::directory::Directory;
+use edd_trails::locals::Locals;
+use edd_trails::trail::Trail;
+use edd_trails::walk::{Walk, Words, has_word};
+use indexmap::IndexMap;
+use std::alloc::{AllocError, Global};
+
+const MOST_ITEMS: usize = 4096;
+
+const MOST_TRANSACTIONS: usize = 4096;
+
+const MOST_LOCALS: usize = 64;
+
+const KINDS: [Kind; 5] = [
+    Kind::Variable,
+    Kind::Command,
+    Kind::Menu,
+    Kind::Collection,
+    Kind::Method,
+];
+
+/// The word with which an item of a kind begins.
+fn keyword_of(kind: Kind) -> Keyword {
+    match kind {
+        Kind::Variable => Keyword::Variable,
+        Kind::Command => Keyword::Command,
+        Kind::Menu => Keyword::Menu,
+        Kind::Collection => Keyword::Collection,
+        Kind::Method => Keyword::Method,
+    }
+}
+
+// The attributes that an item of a kind needs.
+fn needed(kind: Kind) -> [Option<&'static str>; 3] {
+    match kind {
+        Kind::Variable => [Some(Keyword::Type.spelling()), None, None],
+        Kind::Command => [
+            Some(Attr::Number.word()),
+            Some(Attr::Operation.word()),
+            Some(Attr::Transaction.word()),
+        ],
+        Kind::Menu => [Some(Attr::Items.word()), None, None],
+        Kind::Collection => [Some(Attr::Members.word()), None, None],
+        Kind::Method => [Some(Attr::Definition.word()), None, None],
+    }
+}
+
+fn note_missing<'a>(
+    item: &'a Item<Path>,
+    words: &Words,
+    place: Option<usize>,
+    walk: &mut Walk<'a>,
+) -> Result<(), AllocError> {
+    for needed in needed(item.kind()) {
+        if let Some(word) = needed {
+            if !has_word(words, word) {
+                let item = item.name();
+                walk.note(Rule::MissingAttribute { item, word }, place)?;
+            }
+        }
+    }
+    Ok(())
+}
+
+// The attributes of an item; the answer is their words.
+fn walk_attributes<'a>(item: &'a Item<Path>, walk: &mut Walk<'a>) -> Result<Words, AllocError> {
+    let mut words: Words = Vec::new(walk.alloc);
+    let mut members: Members<'a> = IndexMap::new(walk.alloc);
+    for attribute in item.attributes() {
+        walk_attribute(item, attribute, &mut words, &mut members, walk)?;
+    }
+    Ok(words)
+}
+
+fn has_too_many_transactions(item: &Item<Path>) -> bool {
+    let attributes = item.attributes().iter();
+    let of_transactions = attributes.filter(|a| matches!(a, Attribute::Transaction { .. }));
+    MOST_TRANSACTIONS < of_transactions.count()
+}
+
+/// What there are too many of.
+#[derive(Clone, Copy)]
+struct TooMany {
+    transactions: bool,
+    locals: bool,
+}
+
+fn walk_item<'a>(
+    item: &'a Item<Path>,
+    names: &mut IndexMap<&'a str, Option<usize>>,
+    too_many: &mut TooMany,
+    walk: &mut Walk<'a>,
+) -> Result<(), AllocError> {
+    walk.trail.word(keyword_of(item.kind()));
+    let name = item.name();
+    let place = walk.trail.name(name);
+    match names.get(name).copied() {
+        Some(earlier) => walk.note_clash(Rule::DuplicateName(name), place, earlier)?,
+        None => {
+            names.insert(name, place)?;
+        }
+    }
+    walk.declared = 0;
+    let words = walk_attributes(item, walk)?;
+    note_missing(item, &words, place, walk)?;
+    too_many.locals = too_many.locals || MOST_LOCALS < walk.declared;
+    too_many.transactions = too_many.transactions || has_too_many_transactions(item);
+    Ok(())
+}
+
+fn has_too_many_of(items: &[Item<Path>], kind: Kind) -> bool {
+    MOST_ITEMS < items.iter().filter(|item| item.kind() == kind).count()
+}
+
+fn note_counts<'a>(
+    items: &'a [Item<Path>],
+    too_many: TooMany,
+    walk: &mut Walk<'a>,
+) -> Result<(), AllocError> {
+    if KINDS.iter().any(|kind| has_too_many_of(items, *kind)) {
+        walk.note(Rule::TooMany(Limit::Items), None)?;
+    }
+    if too_many.transactions {
+        walk.note(Rule::TooMany(Limit::Transactions), None)?;
+    }
+    if too_many.locals {
+        walk.note(Rule::TooMany(Limit::Locals), None)?;
+    }
+    Ok(())
+}
+
+fn push_ranked<'a>(
+    all: &mut Vec<Breach<'a>>,
+    found: &[Breach<'a>],
+    rank: Rank,
+) -> Result<(), AllocError> {
+    for breach in found {
+        if breach.rule.rank() == rank {
+            all.push(*breach)?;
+        }
+    }
+    Ok(())
+}
+
+// The breaches rule by rule.
+fn in_order<'a>(alloc: Global, found: &[Breach<'a>]) -> Result<Vec<Breach<'a>>, AllocError> {
+    let mut all = Vec::new(alloc);
+    for rank in RANKS {
+        push_ranked(&mut all, found, rank)?;
+    }
+    Ok(all)
+}
+
+/// All breaches of the items of a text with these tokens, in the order of the rules, and for each
+/// rule in that of the source. That there are too many nodes or strings is not among them. What
+/// follows from another breach alone is left out.
+pub fn breaches<'a>(
+    alloc: Global,
+    text: &'a [u8],
+    tokens: &'a [Token],
+    items: &'a [Item<Path>],
+) -> Result<Vec<Breach<'a>>, AllocError> {
+    let mut walk = Walk {
+        alloc,
+        directory: Directory::new(alloc, items)?,
+        locals: Locals::new(alloc),
+        declared: 0,
+        trail: Trail::new(text, tokens),
+        found: Vec::new(alloc),
+    };
+    let mut names = IndexMap::new(alloc);
+    let mut too_many = TooMany {
+        transactions: false,
+        locals: false,
+    };
+    for item in items {
+        walk_item(item, &mut names, &mut too_many, &mut walk)?;
+    }
+    note_counts(items, too_many, &mut walk)?;
+    in_order(alloc, &walk.found)
+}
