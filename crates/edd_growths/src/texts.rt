@@ -1,0 +1,47 @@
+//! The calls on a text and on strings.
+
+use crate::stop::Stop;
+use edd_lexer::lex;
+use edd_strings::{Table, split};
+use edd_syntax::words::{Variant, Words};
+
+/// Where the tokens of a text stand.
+pub fn print_tokens(rt: HostRuntime) -> Result<(), Stop> {
+    for token in &lex(rt.alloc(), b"x 0x1F")? {
+        println!(rt; "lex: {} to {}", token.start, token.end)?;
+    }
+    Ok(())
+}
+
+/// The variants of strings, and the numbers that a table gives them.
+pub fn print_numbers(rt: HostRuntime) -> Result<(), Stop> {
+    let mut table = Table::new(rt.alloc());
+    for raw in ["a |de|b", "a |de|b", ""] {
+        let words = split(rt.alloc(), raw)?;
+        print_words(rt, &words)?;
+        let number = table.add(words)?;
+        println!(rt; "add: {}", number.0)?;
+    }
+    Ok(())
+}
+
+fn print_words(rt: HostRuntime, words: &Words) -> Result<(), Stop> {
+    match words {
+        Words::Variants { first, rest } => {
+            print_variant(rt, first)?;
+            for variant in rest {
+                print_variant(rt, variant)?;
+            }
+            Ok(())
+        }
+        Words::Key(key) => {
+            println!(rt; "split: [{}]", key.name)?;
+            Ok(())
+        }
+    }
+}
+
+fn print_variant(rt: HostRuntime, variant: &Variant) -> Result<(), Stop> {
+    println!(rt; "split: {} \"{}\"", variant.code, variant.text)?;
+    Ok(())
+}
