@@ -1,9 +1,9 @@
 //! Words of CLASS that EDDL does not have.
 
-use crate::lint::Lint;
-use crate::places::{Mark, mark_of};
-use crate::warning::Findings;
 use edd_lexer::token::{Token, TokenKind};
+use edd_lints::lint::Lint;
+use edd_lints::places::{Mark, mark_of};
+use edd_lints::warning::Findings;
 use edd_syntax::symbols::{Keyword, Symbol};
 use std::alloc::{AllocError, Global};
 use strsim::levenshtein;

@@ -1,10 +1,10 @@
 //! Numbers that a command or two commands have twice.
 
-use crate::lint::Lint;
-use crate::places::Places;
 use crate::repeats::Numbers;
-use crate::warning::Findings;
 use edd_lexer::token::TokenKind;
+use edd_lints::lint::Lint;
+use edd_lints::places::Places;
+use edd_lints::warning::Findings;
 use edd_syntax::item::{Attribute, ResponseCode};
 use edd_syntax::reference::Target;
 use edd_syntax::symbols::Keyword;

@@ -1,12 +1,12 @@
 //! Conditions that never change, and labels that a SELECT has twice.
 
-use crate::constants::{Known, Width, evaluate};
-use crate::expressions::{Walk, check_expression};
-use crate::lint::Lint;
-use crate::places::{Mark, Places};
 use crate::repeats::Numbers;
 use crate::steps::{Step, push_cond, push_conds};
-use crate::warning::Findings;
+use edd_lints::constants::Width;
+use edd_lints::expressions::{Walk, check_condition, check_expression};
+use edd_lints::lint::Lint;
+use edd_lints::places::Places;
+use edd_lints::warning::Findings;
 use edd_syntax::cond::Cond;
 use edd_syntax::expr::Expr;
 use edd_syntax::item::{Attribute, DataItem, Enumerator, MenuEntry, TransactionPart, TypePart};
@@ -15,20 +15,6 @@ use edd_syntax::symbols::Keyword;
 use edd_syntax::text::Text;
 use edd_syntax::types::Handling;
 use std::alloc::AllocError;
-
-/// A condition, or what is selected on, with a warning where it never changes.
-pub fn check_condition(
-    e: &Expr<Target>,
-    at: Mark<'_>,
-    walk: &mut Walk<'_>,
-    findings: &mut Findings,
-) -> Result<(), AllocError> {
-    if let Known::Number(number) = evaluate(e, walk.width) {
-        let message = format!(in findings.alloc; "this condition is always {number}")?;
-        findings.add(Lint::ConstantCondition, at, message)?;
-    }
-    check_expression(e, false, walk, findings)
-}
 
 // A value that stands under conditions.
 trait Value {

@@ -1,11 +1,11 @@
 //! Enumerators that the variable can't hold, or that one list has twice.
 
-use crate::lint::Lint;
-use crate::places::Places;
 use crate::repeats::Numbers;
 use crate::variables::{Range, check_range};
-use crate::warning::Findings;
 use edd_lexer::token::TokenKind;
+use edd_lints::lint::Lint;
+use edd_lints::places::Places;
+use edd_lints::warning::Findings;
 use edd_syntax::cond::{Arm, Cond};
 use edd_syntax::item::{Enumerator, TypePart};
 use edd_syntax::reference::Target;

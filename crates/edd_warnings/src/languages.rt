@@ -1,9 +1,9 @@
 //! The languages of texts: bars that open none, and a language that most other texts have.
 
-use crate::lint::Lint;
-use crate::places::{Mark, mark_of};
-use crate::warning::Findings;
 use edd_lexer::token::{Token, TokenKind};
+use edd_lints::lint::Lint;
+use edd_lints::places::{Mark, mark_of};
+use edd_lints::warning::Findings;
 use std::alloc::{AllocError, Global};
 use std::collections::{BTreeMap, BTreeSet};
 

@@ -7,22 +7,15 @@
 mod classes;
 mod commands;
 mod conditions;
-mod constants;
 mod enumerators;
-mod expressions;
 mod finding;
 mod languages;
-mod lint;
 mod menus;
-mod methods;
-mod places;
 mod repeats;
-mod statements;
 mod steps;
 mod unused;
 mod variables;
-mod warning;
 
+pub use edd_lints::lint::{LINTS, Lint};
+pub use edd_lints::warning::{Spot, Warning};
 pub use finding::warnings;
-pub use lint::{LINTS, Lint};
-pub use warning::{Spot, Warning};

@@ -1,10 +1,10 @@
 //! Menus that contain themselves.
 
-use crate::lint::Lint;
-use crate::places::{Mark, Places};
 use crate::unused::name_of_item;
-use crate::warning::Findings;
 use edd_lexer::token::Token;
+use edd_lints::lint::Lint;
+use edd_lints::places::{Mark, Places};
+use edd_lints::warning::Findings;
 use edd_syntax::cond::{Arm, Cond};
 use edd_syntax::item::{Attribute, Item, MenuEntry};
 use edd_syntax::numbers::{ItemNo, Kind};

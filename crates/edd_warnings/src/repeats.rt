@@ -1,8 +1,8 @@
 //! Numbers that are there twice.
 
-use crate::lint::Lint;
-use crate::places::Mark;
-use crate::warning::Findings;
+use edd_lints::lint::Lint;
+use edd_lints::places::Mark;
+use edd_lints::warning::Findings;
 use std::alloc::{AllocError, Global};
 use std::collections::BTreeMap;
 

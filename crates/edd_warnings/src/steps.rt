@@ -24,7 +24,7 @@ impl<V> Drop for Step<'_, V> {
 
 /// Adds the steps of a conditional.
 #[cycle(steps)]
-#[tactic(auto, using(crate::proofs::Weights::rows))]
+#[tactic(auto, using(crate::proofs::TreeRows::rows))]
 pub fn push_cond<'t, V>(
     c: &'t Cond<Target, V>,
     steps: &mut Vec<Step<'t, V>>,
@@ -76,7 +76,7 @@ fn push_arms<'t, V>(
 }
 
 #[cycle(steps)]
-#[tactic(auto, using(crate::proofs::Weights::rows))]
+#[tactic(auto, using(crate::proofs::TreeRows::rows))]
 fn push_arm<'t, V>(
     arm: &'t Arm<Target, V>,
     steps: &mut Vec<Step<'t, V>>,

@@ -1,9 +1,9 @@
 //! Variables and collections that nothing refers to.
 
-use crate::lint::Lint;
-use crate::places::{Mark, Places, word_of};
-use crate::warning::Findings;
 use edd_lexer::token::{Token, TokenKind};
+use edd_lints::lint::Lint;
+use edd_lints::places::{Mark, Places, word_of};
+use edd_lints::warning::Findings;
 use edd_syntax::item::Item;
 use edd_syntax::numbers::Kind;
 use edd_syntax::reference::Target;

@@ -1,10 +1,10 @@
 //! What is surely not meant in the type of a variable: values that it can't hold, and limits.
 
-use crate::constants::{Known, Width, evaluate};
 use crate::enumerators::check_enumerators;
-use crate::lint::Lint;
-use crate::places::{Mark, Places};
-use crate::warning::Findings;
+use edd_lints::constants::{Known, Width, evaluate};
+use edd_lints::lint::Lint;
+use edd_lints::places::{Mark, Places};
+use edd_lints::warning::Findings;
 use edd_syntax::cond::{Arm, Cond};
 use edd_syntax::expr::Expr;
 use edd_syntax::item::{Attribute, TypePart, TypeWord};

@@ -1,5 +1,5 @@
 use Rattle.std.proofs.Common.{rules}
-use Rattle.edd_breaches.proofs.Weights.{element_is_smaller, arm_is_smaller}
+use Rattle.edd_types.proofs.Weights.{element_is_smaller, arm_is_smaller}
 use Rattle.edd_breaches.proofs.conditionals.+conditionals.Goals as goal
 
 pub walk_arms-walk_arm-requires : goal.walk_arms-walk_arm-requires

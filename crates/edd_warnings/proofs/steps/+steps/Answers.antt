@@ -1,5 +1,5 @@
 use Rattle.std.proofs.Common.{rules}
-use Rattle.edd_warnings.proofs.Weights.{element_is_smaller, arm_is_smaller}
+use Rattle.edd_types.proofs.Weights.{element_is_smaller, arm_is_smaller}
 use Rattle.edd_warnings.proofs.steps.+steps.Goals as goal
 
 pub push_arms-push_arm-requires : goal.push_arms-push_arm-requires

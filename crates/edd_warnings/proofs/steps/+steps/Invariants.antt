@@ -1,17 +1,17 @@
 use Rattle.std.proofs.Common.{map}
 use Rattle.edd_syntax.specs.Conditional.{conds_from, arms_from}
-use Rattle.edd_syntax.specs.ItemView.{cond_of, arm_of}
-use Rattle.edd_warnings.proofs.Weights.{weight, weight_of_all, weight_of_arm, weight_of_arms}
+use Rattle.edd_syntax.specs.ItemView.{numbered_arm, numbered_cond}
+use Rattle.edd_types.proofs.Weights.{weight, weight_of_all, weight_of_arm, weight_of_arms}
 use Rattle.edd_warnings.proofs.steps.+steps.Given as goal
 
 abbrev pub decreases-push_cond : goal.decreases-push_cond
-decreases-push_cond g l = weight (cond_of (λ r. r) (λ v. v) l.c.now)
+decreases-push_cond g l = weight (numbered_cond (λ v. v) l.c.now)
 
 abbrev pub decreases-push_conds : goal.decreases-push_conds
-decreases-push_conds g l = weight_of_all (conds_from (map (cond_of (λ r. r) (λ v. v)) l.all.now))
+decreases-push_conds g l = weight_of_all (conds_from (map (numbered_cond (λ v. v)) l.all.now))
 
 abbrev pub decreases-push_arms : goal.decreases-push_arms
-decreases-push_arms g l = weight_of_arms (arms_from (map (arm_of (λ r. r) (λ v. v)) l.arms.now))
+decreases-push_arms g l = weight_of_arms (arms_from (map (numbered_arm (λ v. v)) l.arms.now))
 
 abbrev pub decreases-push_arm : goal.decreases-push_arm
-decreases-push_arm g l = weight_of_arm (arm_of (λ r. r) (λ v. v) l.arm.now)
+decreases-push_arm g l = weight_of_arm (numbered_arm (λ v. v) l.arm.now)

@@ -1,12 +1,12 @@
 //! The body of a method, and its locals that are never read.
 
-use crate::constants::Width;
-use crate::expressions::Walk;
-use crate::lint::Lint;
-use crate::places::{Mark, Places, mark_of};
 use crate::statements::check_parts;
-use crate::warning::Findings;
 use edd_lexer::token::{Token, TokenKind};
+use edd_lints::constants::Width;
+use edd_lints::expressions::Walk;
+use edd_lints::lint::Lint;
+use edd_lints::places::{Mark, Places, mark_of};
+use edd_lints::warning::Findings;
 use edd_syntax::item::Attribute;
 use edd_syntax::reference::Target;
 use edd_syntax::symbols::{Keyword, Symbol};

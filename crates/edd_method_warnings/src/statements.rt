@@ -1,11 +1,10 @@
 //! Statements that are never reached, and loops that nothing ends.
 
-use crate::conditions::check_condition;
-use crate::constants::{Known, Width, evaluate, is_literal};
-use crate::expressions::{Walk, check_expression};
-use crate::lint::Lint;
-use crate::places::Mark;
-use crate::warning::Findings;
+use edd_lints::constants::{Known, Width, evaluate, is_literal};
+use edd_lints::expressions::{Walk, check_condition, check_expression};
+use edd_lints::lint::Lint;
+use edd_lints::places::Mark;
+use edd_lints::warning::Findings;
 use edd_syntax::expr::Expr;
 use edd_syntax::operators::Builtin;
 use edd_syntax::reference::Target;

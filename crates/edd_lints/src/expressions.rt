@@ -1,8 +1,9 @@
-//! Expressions that surely trap, and what an expression reads and asks for.
+//! Expressions that surely trap, conditions that never change, and what an expression reads and
+//! asks for.
 
 use crate::constants::{Known, Width, evaluate, trap_of};
 use crate::lint::Lint;
-use crate::places::Places;
+use crate::places::{Mark, Places};
 use crate::warning::Findings;
 use edd_lexer::token::TokenKind;
 use edd_syntax::answer::Trap;
@@ -165,4 +166,18 @@ pub fn check_expression(
             check_arguments(arguments, walk, findings)
         }
     }
+}
+
+/// A condition, or what is selected on, with a warning where it never changes.
+pub fn check_condition(
+    e: &Expr<Target>,
+    at: Mark<'_>,
+    walk: &mut Walk<'_>,
+    findings: &mut Findings,
+) -> Result<(), AllocError> {
+    if let Known::Number(number) = evaluate(e, walk.width) {
+        let message = format!(in findings.alloc; "this condition is always {number}")?;
+        findings.add(Lint::ConstantCondition, at, message)?;
+    }
+    check_expression(e, false, walk, findings)
 }

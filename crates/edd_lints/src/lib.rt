@@ -1,0 +1,8 @@
+//! The lints, their warnings, and what is known of the places and the expressions of an item.
+#![tactic(auto)]
+
+pub mod constants;
+pub mod expressions;
+pub mod lint;
+pub mod places;
+pub mod warning;

@@ -1,0 +1,7 @@
+//! What is in the language and surely not meant in the body of a method.
+#![tactic(auto)]
+
+mod methods;
+mod statements;
+
+pub use methods::check_method;
