@@ -1,0 +1,78 @@
+//! Lines and columns of a text.
+
+use crate::words::{Span, text_in};
+use std::alloc::{AllocError, Global};
+
+/// The longest line of a source that is shown, in bytes.
+const LONGEST: usize = 400;
+
+/// A place as it is printed: the line and the column, both from 1, and the text of the line.
+#[derive(Clone, Copy)]
+pub struct Place<'a> {
+    pub line: usize,
+    /// Counted in characters.
+    pub column: usize,
+    /// Nothing of a line that is long or no text.
+    pub text: &'a str,
+    /// How many bytes of the line stand before the column.
+    pub before: usize,
+}
+
+/// A text and where its lines begin.
+#[derive(Drop)]
+pub struct Lines<'a> {
+    pub text: &'a [u8],
+    starts: Vec<usize>,
+}
+
+// A line that is short enough to be shown, without the end of a line of another system.
+fn shown(text: &[u8], start: usize, end: usize) -> &str {
+    if LONGEST < end.saturating_sub(start) {
+        return "";
+    }
+    let line = text_in(text, Span { start, end });
+    line.strip_suffix('\r').unwrap_or(line)
+}
+
+impl<'a> Lines<'a> {
+    pub fn of(alloc: Global, text: &'a [u8]) -> Result<Lines<'a>, AllocError> {
+        let mut starts = Vec::new(alloc);
+        starts.push(0)?;
+        for (index, byte) in text.iter().enumerate() {
+            if *byte == b'\n' {
+                starts.push(index.saturating_add(1))?;
+            }
+        }
+        Ok(Lines { text, starts })
+    }
+
+    // The line that a byte is on, counted from 0.
+    fn line_of(&self, byte: usize) -> usize {
+        match self.starts.binary_search(&byte) {
+            Ok(line) => line,
+            Err(behind) => behind.saturating_sub(1),
+        }
+    }
+
+    // Where the line that is counted from 0 ends.
+    fn end_of(&self, line: usize) -> usize {
+        match self.starts.get(line.saturating_add(1)) {
+            Some(next) => next.saturating_sub(1),
+            None => self.text.len(),
+        }
+    }
+
+    /// The place of a byte.
+    pub fn place(&self, byte: usize) -> Place<'a> {
+        let byte = byte.min(self.text.len());
+        let line = self.line_of(byte);
+        let start = self.starts.get(line).copied().unwrap_or(0);
+        let before = text_in(self.text, Span { start, end: byte });
+        Place {
+            line: line.saturating_add(1),
+            column: before.chars().count().saturating_add(1),
+            text: shown(self.text, start, self.end_of(line)),
+            before: before.len(),
+        }
+    }
+}

@@ -1,0 +1,118 @@
+//! Where the items of a text are declared, and which braces stand open.
+
+use crate::words::{is_sign, is_word, item_kind};
+use edd_lexer::token::{Token, TokenKind};
+use edd_syntax::numbers::Kind;
+use edd_syntax::symbols::{Keyword, Symbol};
+use std::alloc::{AllocError, Global};
+
+/// An item by the number of the token that is its name.
+#[derive(Clone, Copy)]
+pub struct Declared {
+    pub kind: Kind,
+    pub name: usize,
+}
+
+/// What is known of the tokens of a text.
+#[derive(Drop)]
+pub struct Outline {
+    /// Of each token the one that opened the innermost braces around it.
+    opened: Vec<Option<usize>>,
+    pub items: Vec<Declared>,
+}
+
+// The number of the first name from a token on, if one stands before the next brace.
+fn name_from(tokens: &[Token], number: usize) -> Option<usize> {
+    for (index, token) in tokens.iter().enumerate().skip(number).take(4) {
+        match token.kind {
+            TokenKind::Name => return Some(index),
+            TokenKind::Symbol(_) => return None,
+            _ => {}
+        }
+    }
+    None
+}
+
+impl Outline {
+    pub fn of(alloc: Global, tokens: &[Token]) -> Result<Outline, AllocError> {
+        let mut opened = Vec::with_capacity(alloc, tokens.len())?;
+        let mut items = Vec::new(alloc);
+        let mut open = Vec::new(alloc);
+        let mut is_behind_of = false;
+        for (number, token) in tokens.iter().enumerate() {
+            if token.kind == TokenKind::Symbol(Symbol::CloseBrace) {
+                open.pop();
+            }
+            opened.push(open.last().copied())?;
+            if token.kind == TokenKind::Symbol(Symbol::OpenBrace) {
+                open.push(number)?;
+            }
+            let begins = open.is_empty() && !is_behind_of;
+            is_behind_of = token.kind == TokenKind::Keyword(Keyword::Of);
+            if let (true, Some(kind)) = (begins, item_kind(token)) {
+                if let Some(name) = name_from(tokens, number.saturating_add(1)) {
+                    items.push(Declared { kind, name })?;
+                }
+            }
+        }
+        Ok(Outline { opened, items })
+    }
+
+    /// The token that opened the innermost braces around a token; behind the last one those that are
+    /// still open.
+    pub fn opened(&self, tokens: &[Token], number: usize) -> Option<usize> {
+        match self.opened.get(number) {
+            Some(opened) => *opened,
+            None => self.open_at_end(tokens),
+        }
+    }
+
+    fn open_at_end(&self, tokens: &[Token]) -> Option<usize> {
+        let last = tokens.len().checked_sub(1)?;
+        if is_sign(tokens, last, Symbol::OpenBrace) {
+            return Some(last);
+        }
+        self.opened.get(last).copied().unwrap_or(None)
+    }
+
+    /// The kind of the item right inside whose braces a token stands.
+    pub fn kind_around(&self, tokens: &[Token], number: usize) -> Option<Kind> {
+        let brace = self.opened(tokens, number)?;
+        if self.opened(tokens, brace).is_some() {
+            return None;
+        }
+        let before = self.items.iter().take_while(|item| item.name < brace);
+        let last = before.last()?;
+        Some(last.kind)
+    }
+
+    /// The item whose name is a token.
+    pub fn item_at(&self, name: usize) -> Option<Declared> {
+        self.items.iter().copied().find(|item| item.name == name)
+    }
+}
+
+/// Whether a name declares something where it stands: an item, a member of a collection or a local.
+pub fn declares(tokens: &[Token], outline: &Outline, number: usize) -> bool {
+    let Some(before) = number.checked_sub(1) else {
+        return false;
+    };
+    if outline.opened(tokens, number).is_none() {
+        return true;
+    }
+    let is_local = is_word(tokens, before, Keyword::Int) || is_word(tokens, before, Keyword::Long);
+    let begins = is_sign(tokens, before, Symbol::OpenBrace)
+        || is_sign(tokens, before, Symbol::Semicolon);
+    let is_member = begins
+        && is_sign(tokens, number.saturating_add(1), Symbol::Comma)
+        && is_in_members(tokens, outline, number);
+    is_local || is_member
+}
+
+// Whether the innermost braces around a token are those of MEMBERS.
+fn is_in_members(tokens: &[Token], outline: &Outline, number: usize) -> bool {
+    match outline.opened(tokens, number) {
+        Some(brace) => is_word(tokens, brace.saturating_sub(1), Keyword::Members),
+        None => false,
+    }
+}

@@ -1,0 +1,223 @@
+//! What is said of a text that has no tokens.
+//!
+//! The fault is known, and its line. A scan over that line finds the byte: what could be the
+//! fault's token is given to the lexer by itself.
+
+use crate::finding::Found;
+use crate::scanning::{Scanned, Shape, byte_at, piece_at};
+use edd_lexer::fault::LexFault;
+use edd_lexer::lex;
+use edd_places::diagnostic::{Diagnostic, Finding};
+use edd_places::words::Span;
+use std::alloc::{AllocError, Global};
+
+// Where the first byte of a line is, counted from 1; the end of the text where there is no such
+// line.
+fn start_of_line(bytes: &[u8], line: u32) -> usize {
+    let mut left = line.saturating_sub(1);
+    for (index, byte) in bytes.iter().enumerate() {
+        if left == 0 {
+            return index;
+        }
+        if *byte == b'\n' {
+            left = left.saturating_sub(1);
+        }
+    }
+    bytes.len()
+}
+
+// Whether the lexer refuses a piece by itself as it refuses the text.
+fn is_refused(alloc: Global, piece: &[u8], fault: &LexFault) -> Result<bool, AllocError> {
+    match lex(alloc, piece) {
+        Ok(_) => Ok(false),
+        Err(LexFault::Memory) => Err(AllocError),
+        Err(found) => Ok(is_alike(&found, fault)),
+    }
+}
+
+// Whether two faults are of one kind.
+fn is_alike(one: &LexFault, other: &LexFault) -> bool {
+    match (one, other) {
+        (LexFault::BadCharacter { .. }, LexFault::BadCharacter { .. })
+        | (LexFault::BadEscape { .. }, LexFault::BadEscape { .. })
+        | (LexFault::BadNumber { .. }, LexFault::BadNumber { .. }) => true,
+        _ => false,
+    }
+}
+
+// Whether a piece is where the text has this fault.
+fn is_at(alloc: Global, text: &[u8], piece: Scanned, fault: &LexFault) -> Result<bool, AllocError> {
+    let Span { start, end } = piece.span;
+    match (fault, piece.shape) {
+        (LexFault::OpenComment { .. }, Shape::OpenComment)
+        | (LexFault::OpenString { .. }, Shape::OpenString) => Ok(true),
+        (LexFault::Directive { .. }, Shape::Sign) => Ok(byte_at(text, start) == b'#'),
+        (LexFault::BadEscape { .. }, Shape::String)
+        | (LexFault::BadNumber { .. }, Shape::Word)
+        | (LexFault::BadCharacter { .. }, Shape::Word | Shape::Sign) => {
+            if end < start || text.len() < end {
+                return Ok(false);
+            }
+            is_refused(alloc, &text[start..end], fault)
+        }
+        _ => Ok(false),
+    }
+}
+
+// The first piece from a line on at which the text has this fault. Strings and comments are passed
+// whole, so that nothing inside of them is taken for a token.
+fn find(
+    alloc: Global,
+    text: &[u8],
+    line: u32,
+    fault: &LexFault,
+) -> Result<Option<Span>, AllocError> {
+    let mut place = 0;
+    let from = start_of_line(text, line);
+    for _ in 0..text.len() {
+        if text.len() <= place {
+            return Ok(None);
+        }
+        let piece = piece_at(text, place);
+        if from <= place && is_at(alloc, text, piece, fault)? {
+            return Ok(Some(piece.span));
+        }
+        place = piece.span.end;
+    }
+    Ok(None)
+}
+
+// How many bytes at the front are UTF-8.
+fn valid_length(text: &[u8]) -> usize {
+    match str::from_utf8(text) {
+        Ok(_) => text.len(),
+        Err(error) => error.valid_up_to(),
+    }
+}
+
+// The first character of the piece that no token begins with or goes on with.
+fn first_bad_character(text: &[u8], span: Span) -> Span {
+    for (index, byte) in text.iter().enumerate().take(span.end).skip(span.start) {
+        if 0x80 <= *byte {
+            return Span {
+                start: index,
+                end: span.end,
+            };
+        }
+    }
+    span
+}
+
+// The first backslash of a string that no escape begins with.
+fn first_bad_escape(text: &[u8], span: Span) -> Span {
+    let mut is_escaped = false;
+    for (index, byte) in text.iter().enumerate().take(span.end).skip(span.start) {
+        if is_escaped {
+            is_escaped = false;
+            if !matches!(*byte, b'"' | b'\\' | b'n' | b't' | b'|') {
+                let end = index.saturating_add(1);
+                return Span {
+                    start: index.saturating_sub(1),
+                    end,
+                };
+            }
+        } else if *byte == b'\\' {
+            is_escaped = true;
+        }
+    }
+    span
+}
+
+fn help_of(fault: &LexFault) -> &'static str {
+    match fault {
+        LexFault::TooLong => "a text has at most 1048576 bytes",
+        LexFault::NotUtf8 { .. } => "save the source as UTF-8",
+        LexFault::BadCharacter { .. } =>
+            "no token has this character outside of strings and comments",
+        LexFault::OpenComment { .. } => "the comment that begins here is never closed by */",
+        LexFault::OpenString { .. } =>
+            "the string that begins here is never closed; a quote may be missing before it",
+        LexFault::BadEscape { .. } => "the escapes are \\\" \\\\ \\n \\t and \\|",
+        LexFault::BadNumber { .. } =>
+            "a number has decimal digits alone, no 0 in front, and is at most 4294967295",
+        LexFault::Directive { .. } => "run the preprocessor first",
+        LexFault::Memory => "",
+    }
+}
+
+// The line of a fault that is found by a scan over its line.
+fn line_of(fault: &LexFault) -> Option<u32> {
+    match fault {
+        LexFault::TooLong | LexFault::Memory | LexFault::NotUtf8 { .. } => None,
+        LexFault::BadCharacter { line }
+        | LexFault::OpenComment { line }
+        | LexFault::OpenString { line }
+        | LexFault::BadEscape { line }
+        | LexFault::BadNumber { line }
+        | LexFault::Directive { line } => Some(*line),
+    }
+}
+
+// The part of a piece that the fault is.
+fn narrowed(text: &[u8], span: Span, fault: &LexFault) -> Span {
+    match fault {
+        LexFault::BadCharacter { .. } => first_bad_character(text, span),
+        LexFault::BadEscape { .. } => first_bad_escape(text, span),
+        _ => span,
+    }
+}
+
+// Whether it is known where the text goes on behind a fault.
+fn has_end(fault: &LexFault) -> bool {
+    match fault {
+        LexFault::BadCharacter { .. } | LexFault::BadEscape { .. } | LexFault::BadNumber { .. } =>
+            true,
+        _ => false,
+    }
+}
+
+// Sets the place of a fault on a line. The answer is from where on the text may be looked at again.
+fn place_on(
+    alloc: Global,
+    text: &[u8],
+    line: u32,
+    fault: &LexFault,
+    found: &mut Diagnostic,
+) -> Result<Option<usize>, AllocError> {
+    if let Some(span) = find(alloc, text, line, fault)? {
+        let place = narrowed(text, span, fault);
+        found.place = Some(place);
+        return Ok(if has_end(fault) {
+            Some(place.start)
+        } else {
+            None
+        });
+    }
+    let start = start_of_line(text, line);
+    found.place = Some(Span { start, end: start });
+    Ok(None)
+}
+
+/// What is said of a text that has no tokens.
+pub fn found_in(
+    alloc: Global,
+    text: &[u8],
+    fault: &LexFault,
+    refusal: String,
+) -> Result<Found, AllocError> {
+    let mut diagnostic = Diagnostic::new(alloc, Finding::Refused(refusal));
+    if let LexFault::NotUtf8 { .. } = fault {
+        let start = valid_length(text);
+        diagnostic.place = Some(Span { start, end: start });
+    }
+    let goes_on = match line_of(fault) {
+        Some(line) => place_on(alloc, text, line, fault, &mut diagnostic)?,
+        None => None,
+    };
+    let help = String::from_str(alloc, help_of(fault))?;
+    diagnostic.help(help)?;
+    Ok(Found {
+        diagnostic,
+        goes_on,
+    })
+}

@@ -1,0 +1,34 @@
+//! What is said of a text that has no tokens, or whose tokens spell no unit: the place of its fault,
+//! what helps, and the faults of the items behind it. Proved is that all of it is safe and ends.
+#![tactic(auto)]
+
+mod finding;
+mod grammar;
+mod later;
+mod lexical;
+mod located;
+mod scanning;
+mod sections;
+mod syntax;
+mod trials;
+
+pub use finding::Found;
+pub use grammar::{Grammar, TextFault, tokens_of};
+pub use later::{LaterFault, explained, later_faults};
+use std::alloc::{AllocError, Global};
+
+/// What is said of a fault of a text, which is printed as `refusal`.
+pub fn found_in<G: Grammar>(
+    alloc: Global,
+    text: &[u8],
+    fault: &TextFault,
+    refusal: String,
+) -> Result<Found, AllocError> {
+    match fault {
+        TextFault::Lex(why) => lexical::found_in(alloc, text, why, refusal),
+        TextFault::Parse(why) => {
+            let tokens = tokens_of(alloc, text)?;
+            syntax::found_in::<G>(alloc, text, &tokens, why, refusal)
+        }
+    }
+}

@@ -1,0 +1,192 @@
+//! Where items begin behind a fault.
+//!
+//! An item begins at its word in column 1, wherever the braces seem to be, or behind the `}` of the
+//! item before. Behind a fault the braces may be off: those that are still open where an item begins
+//! miss their closing ones, and as many closing ones that come later are taken for these.
+
+use crate::scanning::{Scanned, Shape, byte_at, piece_at};
+use edd_places::words::{kind_word, text_in};
+use edd_syntax::numbers::KINDS;
+use std::alloc::{AllocError, Global};
+
+/// An item, with what stands behind it up to the next one.
+#[derive(Clone, Copy)]
+pub struct Section {
+    pub start: usize,
+    pub end: usize,
+    /// The line of its first byte, counted from 1.
+    pub line: u32,
+    /// Whether its braces are still open where the next item begins.
+    pub is_open: bool,
+}
+
+/// What stands before a piece.
+#[derive(Clone, Copy, PartialEq, Eq)]
+enum Before {
+    CloseBrace,
+    Of,
+    Other,
+}
+
+/// A scan for items.
+#[derive(Drop)]
+struct Scan<'a> {
+    text: &'a [u8],
+    /// Where the fault is. Items before it are none of those that are found.
+    from: usize,
+    /// How many braces are open.
+    depth: usize,
+    /// How many braces were open where items began.
+    missed: usize,
+    /// Whether an item in column 1 may begin though braces are open.
+    may_be_off: bool,
+    before: Before,
+    line: u32,
+    found: Vec<Section>,
+    /// Whether the last section has no end so far.
+    is_inside: bool,
+}
+
+// Whether a word begins an item.
+fn is_item_word(word: &str) -> bool {
+    KINDS.iter().any(|kind| kind_word(*kind) == word)
+}
+
+// Whether a byte is the first of its line.
+fn is_first(text: &[u8], place: usize) -> bool {
+    match place.checked_sub(1) {
+        Some(before) => byte_at(text, before) == b'\n',
+        None => true,
+    }
+}
+
+impl<'a> Scan<'a> {
+    // Whether an item begins with a piece.
+    fn begins(&self, piece: Scanned) -> bool {
+        let is_word = piece.shape == Shape::Word && self.before != Before::Of;
+        if !is_word || !is_item_word(text_in(self.text, piece.span)) {
+            return false;
+        }
+        let is_closed = self.depth == 0;
+        if is_first(self.text, piece.span.start) {
+            is_closed || self.may_be_off
+        } else {
+            is_closed && self.before == Before::CloseBrace
+        }
+    }
+
+    // Ends the last section before a place.
+    fn end(&mut self, place: usize) {
+        if !self.is_inside {
+            return;
+        }
+        self.is_inside = false;
+        let is_open = 0 < self.depth;
+        if let Some(last) = self.found.last_mut() {
+            last.end = place;
+            last.is_open = is_open;
+        }
+    }
+
+    // Begins a section at a place.
+    fn begin(&mut self, place: usize) -> Result<(), AllocError> {
+        self.end(place);
+        self.missed = self.missed.saturating_add(self.depth);
+        self.depth = 0;
+        if place < self.from {
+            return Ok(());
+        }
+        self.found.push(Section {
+            start: place,
+            end: self.text.len(),
+            line: self.line,
+            is_open: false,
+        })?;
+        self.is_inside = true;
+        Ok(())
+    }
+
+    // A closing brace where none is open closes one that was missed, and no item goes on behind it.
+    fn close(&mut self, place: usize) {
+        if self.depth == 0 && 0 < self.missed {
+            self.missed = self.missed.saturating_sub(1);
+            self.end(place);
+        }
+        self.depth = self.depth.saturating_sub(1);
+        self.may_be_off = self.may_be_off || self.depth == 0;
+    }
+
+    fn take_sign(&mut self, place: usize) {
+        self.before = Before::Other;
+        match byte_at(self.text, place) {
+            b'{' => self.depth = self.depth.saturating_add(1),
+            b'}' => {
+                self.before = Before::CloseBrace;
+                self.close(place);
+            }
+            _ => {}
+        }
+    }
+
+    fn take_word(&mut self, word: &str) {
+        self.before = if word == "OF" {
+            Before::Of
+        } else {
+            Before::Other
+        };
+    }
+
+    fn take(&mut self, piece: Scanned) -> Result<(), AllocError> {
+        if self.begins(piece) {
+            self.begin(piece.span.start)?;
+        }
+        let word = text_in(self.text, piece.span);
+        match piece.shape {
+            Shape::Gap | Shape::Comment => {}
+            Shape::Sign => self.take_sign(piece.span.start),
+            Shape::Word => self.take_word(word),
+            _ => self.before = Before::Other,
+        }
+        let lines = word
+            .as_bytes()
+            .iter()
+            .filter(|byte| **byte == b'\n')
+            .count();
+        let lines = u32::try_from(lines).unwrap_or(u32::MAX);
+        self.line = self.line.saturating_add(lines);
+        Ok(())
+    }
+}
+
+/// The items that begin at a place or behind it. Where a word that is left out is refused there, its
+/// braces are passed as they are.
+pub fn sections(
+    alloc: Global,
+    text: &[u8],
+    from: usize,
+    is_left_out: bool,
+) -> Result<Vec<Section>, AllocError> {
+    let mut scan = Scan {
+        text,
+        from,
+        depth: 0,
+        missed: 0,
+        may_be_off: !is_left_out,
+        before: Before::Other,
+        line: 1,
+        found: Vec::new(alloc),
+        is_inside: false,
+    };
+    let mut place = 0;
+    for _ in 0..text.len() {
+        let piece = piece_at(text, place);
+        let is_open = matches!(piece.shape, Shape::OpenComment | Shape::OpenString);
+        if text.len() <= place || is_open {
+            break;
+        }
+        scan.take(piece)?;
+        place = piece.span.end;
+    }
+    let Scan { found, .. } = scan;
+    Ok(found)
+}

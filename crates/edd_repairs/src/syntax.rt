@@ -1,0 +1,354 @@
+//! What is said of a text that spells no unit.
+
+use crate::finding::Found;
+use crate::grammar::{Grammar, TextFault};
+use crate::located::{Where, located, place_on, tokens_on};
+use crate::trials::{Change, Misfit};
+use edd_lexer::token::Token;
+use edd_places::diagnostic::{Diagnostic, Finding};
+use edd_places::outline::Outline;
+use edd_places::words::{Span, item_kind, kind_word, span_of, word_of};
+use edd_syntax::numbers::{ATTRIBUTES, Attr, KINDS, Kind};
+use edd_token_reader::fault::ParseFault;
+use std::alloc::{AllocError, Global};
+
+/// How many bytes of a token are shown.
+const MOST: usize = 40;
+
+// A token as it is written, if that is short.
+fn short<'a>(text: &'a [u8], token: &Token) -> &'a str {
+    let word = word_of(text, token);
+    if word.len() <= MOST {
+        return word;
+    }
+    "a long word or string"
+}
+
+// The place behind the last token.
+fn end_of(tokens: &[Token]) -> Option<Span> {
+    let end = tokens.last()?.end as usize;
+    Some(Span { start: end, end })
+}
+
+// Says which braces stand open, where that is of interest.
+fn help_open(
+    alloc: Global,
+    tokens: &[Token],
+    outline: &Outline,
+    number: usize,
+    found: &mut Diagnostic,
+) -> Result<(), AllocError> {
+    if let Some(brace) = outline.opened(tokens, number) {
+        if let Some(token) = tokens.get(brace) {
+            let text = String::from_str(alloc, "a brace is still open, which was opened")?;
+            found.help_at(Some(span_of(token)), text)?;
+        }
+    }
+    Ok(())
+}
+
+// The attribute with this word.
+fn attribute_of(word: &str) -> Option<Attr> {
+    ATTRIBUTES.iter().copied().find(|attr| attr.word() == word)
+}
+
+// Whether the word is that of an attribute that stands in the braces of TYPE.
+fn is_option(attr: Attr) -> bool {
+    matches!(
+        attr,
+        Attr::DefaultValue
+            | Attr::MinValue
+            | Attr::MaxValue
+            | Attr::DisplayFormat
+            | Attr::EditFormat
+    )
+}
+
+// The kinds that have an attribute.
+fn push_kinds(line: &mut String, attr: Attr) -> Result<(), AllocError> {
+    let mut between = " ";
+    for kind in KINDS {
+        if attr.may_belong_to(kind) {
+            line.push_str(between)?;
+            line.push_str(kind_word(kind))?;
+            between = ", ";
+        }
+    }
+    Ok(())
+}
+
+// Says of an attribute that it does not stand in this item, where that is so.
+fn help_attribute(
+    alloc: Global,
+    kind: Kind,
+    attr: Attr,
+    found: &mut Diagnostic,
+) -> Result<bool, AllocError> {
+    let word = attr.word();
+    if is_option(attr) {
+        let text = format!(in alloc;
+            "{word} stands in the braces of TYPE, as in TYPE INTEGER {{ {word} ..; }}"
+        )?;
+        found.help(text)?;
+        return Ok(true);
+    }
+    if attr.is_of_transaction() && attr != Attr::Transaction {
+        let text = format!(in alloc; "{word} stands in the braces of TRANSACTION")?;
+        found.help(text)?;
+        return Ok(true);
+    }
+    if attr.may_belong_to(kind) {
+        return Ok(false);
+    }
+    let mut text = format!(in alloc; "{} has no {word}; it stands in", kind_word(kind))?;
+    push_kinds(&mut text, attr)?;
+    found.help(text)?;
+    Ok(true)
+}
+
+// Says what a change of the token is.
+fn help_change(
+    alloc: Global,
+    at: Misfit<'_>,
+    change: Change<'_>,
+    found: &mut Diagnostic,
+) -> Result<(), AllocError> {
+    let Some(token) = at.tokens.get(at.number) else {
+        return Ok(());
+    };
+    let word = short(at.text, token);
+    let text = match change {
+        Change::Behind(sign) => {
+            if let Some(place) = at.end_before() {
+                found.place = Some(place);
+            }
+            format!(in alloc; "a {sign} is missing here")?
+        }
+        Change::Before(sign) => format!(in alloc; "a {sign} is missing before {word}")?,
+        Change::Instead(other) => {
+            found.place = Some(span_of(token));
+            format!(in alloc; "{other} may be meant in place of {word}")?
+        }
+        Change::LeaveOut => format!(in alloc; "{word} may be left out")?,
+    };
+    found.help(text)?;
+    Ok(())
+}
+
+// What helps where a token does not fit.
+fn help_misfit<G: Grammar>(
+    alloc: Global,
+    at: Misfit<'_>,
+    outline: &Outline,
+    found: &mut Diagnostic,
+) -> Result<(), AllocError> {
+    let Some(token) = at.tokens.get(at.number) else {
+        return Ok(());
+    };
+    if let Some(earlier) = at.earlier() {
+        if let Some(change) = earlier.best_word::<G>(alloc)? {
+            return help_change(alloc, earlier, change, found);
+        }
+    }
+    if let Some(change) = at.best_change::<G>(alloc)? {
+        return help_change(alloc, at, change, found);
+    }
+    let word = short(at.text, token);
+    let text = format!(in alloc; "{word} fits nothing here")?;
+    found.help(text)?;
+    if item_kind(token).is_some() {
+        help_open(alloc, at.tokens, outline, at.number, found)?;
+    }
+    Ok(())
+}
+
+fn misfit<G: Grammar>(
+    alloc: Global,
+    at: Misfit<'_>,
+    found: &mut Diagnostic,
+) -> Result<(), AllocError> {
+    let outline = Outline::of(alloc, at.tokens)?;
+    let Some(token) = at.tokens.get(at.number) else {
+        found.place = end_of(at.tokens);
+        let text = String::from_str(alloc, "the text ends here, and something is missing")?;
+        found.help(text)?;
+        return help_open(alloc, at.tokens, &outline, at.tokens.len(), found);
+    };
+    found.place = Some(span_of(token));
+    let attr = attribute_of(word_of(at.text, token));
+    if let (Some(kind), Some(attr)) = (outline.kind_around(at.tokens, at.number), attr) {
+        if help_attribute(alloc, kind, attr, found)? {
+            return Ok(());
+        }
+    }
+    help_misfit::<G>(alloc, at, &outline, found)
+}
+
+// Whether the text up to a token's end is refused for this word.
+fn is_left_out<G: Grammar>(
+    alloc: Global,
+    text: &[u8],
+    end: usize,
+    word: &str,
+) -> Result<bool, AllocError> {
+    if text.len() < end {
+        return Ok(false);
+    }
+    match G::text_fault(alloc, &text[..end])? {
+        Some(TextFault::Parse(ParseFault::Unsupported { word: found })) => {
+            Ok(found.as_str() == word)
+        }
+        _ => Ok(false),
+    }
+}
+
+// The tokens that are this word.
+fn places_of<'a>(
+    alloc: Global,
+    text: &[u8],
+    tokens: &'a [Token],
+    word: &str,
+) -> Result<Vec<&'a Token>, AllocError> {
+    let mut places = Vec::new(alloc);
+    for token in tokens {
+        if word_of(text, token) == word {
+            places.push(token)?;
+        }
+    }
+    Ok(places)
+}
+
+// The place at which a word is refused that is left out: the first up to whose end the text is. Up
+// to an earlier one it ends too early, and up to a later one it is refused at this one, so the half
+// in which it stands is known from one look.
+fn place_left_out<G: Grammar>(
+    alloc: Global,
+    text: &[u8],
+    tokens: &[Token],
+    word: &str,
+) -> Result<Option<Span>, AllocError> {
+    let places = places_of(alloc, text, tokens, word)?;
+    let mut low = 0;
+    let mut high = places.len();
+    for _ in 0..usize::BITS {
+        let half = high.saturating_sub(low) / 2;
+        let middle = half.saturating_add(low);
+        let Some(token) = places.get(middle) else {
+            break;
+        };
+        if high <= low {
+            break;
+        }
+        if is_left_out::<G>(alloc, text, token.end as usize, word)? {
+            high = middle;
+        } else {
+            low = middle.saturating_add(1);
+        }
+    }
+    Ok(places.get(low).map(|token| span_of(*token)))
+}
+
+fn help_left_out(alloc: Global, word: &str, found: &mut Diagnostic) -> Result<(), AllocError> {
+    let instead = match word {
+        "LIKE" => "write the item with all its attributes",
+        "float" | "double" => "numbers are whole: take int or long",
+        "char" | "short" | "unsigned" => "take int or long",
+        "goto" => "take a loop or an if",
+        "RESPONSE_CODES" => "response codes stand in the braces of a COMMAND",
+        _ => "leave it out",
+    };
+    let text = format!(in alloc; "this profile of EDDL does not have {word}: {instead}")?;
+    found.help(text)?;
+    Ok(())
+}
+
+// Where the token of a number begins.
+fn start_of(tokens: &[Token], number: usize) -> Option<usize> {
+    let token = tokens.get(number)?;
+    Some(token.start as usize)
+}
+
+// What is said where a token does not fit, and where it begins. Of a line alone nothing more is known.
+fn syntax<G: Grammar>(
+    alloc: Global,
+    text: &[u8],
+    tokens: &[Token],
+    line: u32,
+    found: &mut Diagnostic,
+) -> Result<Option<usize>, AllocError> {
+    let number = match located::<G>(alloc, text, tokens, line)? {
+        Where::Token(number) => number,
+        Where::End => tokens.len(),
+        Where::Line(number) => {
+            found.place = tokens.get(number).map(span_of);
+            return Ok(None);
+        }
+    };
+    let line = tokens_on(tokens, line);
+    let at = Misfit {
+        text,
+        tokens,
+        line,
+        number,
+    };
+    misfit::<G>(alloc, at, found)?;
+    Ok(start_of(tokens, number))
+}
+
+fn too_deep<G: Grammar>(
+    alloc: Global,
+    text: &[u8],
+    tokens: &[Token],
+    line: u32,
+    found: &mut Diagnostic,
+) -> Result<Option<usize>, AllocError> {
+    let at = located::<G>(alloc, text, tokens, line)?;
+    found.place = place_on(tokens, at);
+    let help =
+        "more than 100 levels stand inside one another here: give a part to a name of its own";
+    found.help(String::from_str(alloc, help)?)?;
+    match at {
+        Where::Token(number) => Ok(start_of(tokens, number)),
+        Where::Line(_) | Where::End => Ok(None),
+    }
+}
+
+fn unsupported<G: Grammar>(
+    alloc: Global,
+    text: &[u8],
+    tokens: &[Token],
+    word: &str,
+    found: &mut Diagnostic,
+) -> Result<Option<usize>, AllocError> {
+    let place = place_left_out::<G>(alloc, text, tokens, word)?;
+    found.place = place;
+    help_left_out(alloc, word, found)?;
+    match place {
+        Some(place) => Ok(Some(place.start)),
+        None => Ok(None),
+    }
+}
+
+/// What is said of tokens that spell no unit.
+pub fn found_in<G: Grammar>(
+    alloc: Global,
+    text: &[u8],
+    tokens: &[Token],
+    fault: &ParseFault,
+    refusal: String,
+) -> Result<Found, AllocError> {
+    let mut diagnostic = Diagnostic::new(alloc, Finding::Refused(refusal));
+    let found = &mut diagnostic;
+    let goes_on = match fault {
+        ParseFault::Syntax { line } => syntax::<G>(alloc, text, tokens, *line, found)?,
+        ParseFault::TooDeep { line } => too_deep::<G>(alloc, text, tokens, *line, found)?,
+        ParseFault::Unsupported { word } => {
+            unsupported::<G>(alloc, text, tokens, word.as_str(), found)?
+        }
+        ParseFault::Memory => return Err(AllocError),
+    };
+    Ok(Found {
+        diagnostic,
+        goes_on,
+    })
+}

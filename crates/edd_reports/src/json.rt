@@ -1,0 +1,188 @@
+//! Lines of JSON.
+
+use crate::{ReportFault, Source, print};
+use edd_places::diagnostic::{Diagnostic, Finding, Help};
+use edd_places::lines::Lines;
+use edd_places::words::Span;
+use serde::Serialize;
+use std::alloc::Global;
+use std::io::Write;
+
+/// A help as an object.
+#[derive(Drop, Serialize)]
+struct HelpLine<'a> {
+    text: &'a str,
+    line: Option<usize>,
+    column: Option<usize>,
+}
+
+/// What is wrong as an object. `null` stands for what there is none of.
+#[derive(Drop, Serialize)]
+struct Line<'a> {
+    source: &'a str,
+    line: Option<usize>,
+    column: Option<usize>,
+    end_line: Option<usize>,
+    end_column: Option<usize>,
+    severity: &'static str,
+    number: Option<u16>,
+    kind: Option<&'a str>,
+    detail: Option<&'a str>,
+    lint: Option<&'static str>,
+    message: &'a str,
+    helps: Vec<HelpLine<'a>>,
+}
+
+/// How many more there are.
+#[derive(Drop, Serialize)]
+struct MoreLine<'a> {
+    source: &'a str,
+    more: usize,
+}
+
+/// A place, where there is one.
+#[derive(Clone, Copy)]
+struct Corner {
+    line: Option<usize>,
+    column: Option<usize>,
+}
+
+fn corner_at(lines: &Lines<'_>, byte: Option<usize>) -> Corner {
+    match byte {
+        Some(byte) => {
+            let at = lines.place(byte);
+            Corner {
+                line: Some(at.line),
+                column: Some(at.column),
+            }
+        }
+        None => Corner {
+            line: None,
+            column: None,
+        },
+    }
+}
+
+fn start_of(place: Option<Span>) -> Option<usize> {
+    place.map(|place| place.start)
+}
+
+fn end_of(place: Option<Span>) -> Option<usize> {
+    place.map(|place| place.end)
+}
+
+fn help_lines<'a>(
+    alloc: Global,
+    lines: &Lines<'_>,
+    helps: &'a [Help],
+) -> Result<Vec<HelpLine<'a>>, ReportFault> {
+    let mut made = Vec::with_capacity(alloc, helps.len())?;
+    for help in helps {
+        let at = corner_at(lines, start_of(help.place));
+        made.push(HelpLine {
+            text: help.text.as_str(),
+            line: at.line,
+            column: at.column,
+        })?;
+    }
+    Ok(made)
+}
+
+/// What a finding says.
+#[derive(Clone, Copy)]
+struct Words<'a> {
+    severity: &'static str,
+    number: Option<u16>,
+    kind: Option<&'a str>,
+    detail: Option<&'a str>,
+    lint: Option<&'static str>,
+    message: &'a str,
+}
+
+// The parts of a refusal: a number, a kind, and what is left is its detail.
+fn words_of_refusal(refusal: &str) -> Words<'_> {
+    let (number, behind) = refusal.split_once(' ').unwrap_or((refusal, ""));
+    let (kind, detail) = behind.split_once(' ').unwrap_or((behind, ""));
+    Words {
+        severity: "refused",
+        number: number.parse::<u16>().ok(),
+        kind: Some(kind),
+        detail: Some(detail),
+        lint: None,
+        message: refusal,
+    }
+}
+
+fn words_of(finding: &Finding) -> Words<'_> {
+    match finding {
+        Finding::Refused(refusal) => words_of_refusal(refusal.as_str()),
+        Finding::Warned {
+            lint,
+            message,
+            is_denied,
+        } => Words {
+            severity: if *is_denied { "denied" } else { "warning" },
+            number: None,
+            kind: None,
+            detail: None,
+            lint: Some(*lint),
+            message: message.as_str(),
+        },
+    }
+}
+
+fn line_of<'a>(
+    alloc: Global,
+    source: Source<'a>,
+    found: &'a Diagnostic,
+) -> Result<Line<'a>, ReportFault> {
+    let words = words_of(&found.finding);
+    let start = corner_at(source.lines, start_of(found.place));
+    let end = corner_at(source.lines, end_of(found.place));
+    Ok(Line {
+        source: source.name,
+        line: start.line,
+        column: start.column,
+        end_line: end.line,
+        end_column: end.column,
+        severity: words.severity,
+        number: words.number,
+        kind: words.kind,
+        detail: words.detail,
+        lint: words.lint,
+        message: words.message,
+        helps: help_lines(alloc, source.lines, &found.helps)?,
+    })
+}
+
+// Out of memory is all that can go wrong with such values.
+fn print_value<T: Serialize, W: Write>(
+    alloc: Global,
+    value: &T,
+    out: &mut W,
+) -> Result<(), ReportFault> {
+    match serde_json::to_string(alloc, value) {
+        Ok(line) => print(line, out),
+        Err(_) => Err(ReportFault::Memory),
+    }
+}
+
+/// Prints an object on a line.
+pub fn print_diagnostic<W: Write>(
+    alloc: Global,
+    source: Source<'_>,
+    found: &Diagnostic,
+    out: &mut W,
+) -> Result<(), ReportFault> {
+    print_value(alloc, &line_of(alloc, source, found)?, out)
+}
+
+pub fn print_more<W: Write>(
+    alloc: Global,
+    source: Source<'_>,
+    more: usize,
+    out: &mut W,
+) -> Result<(), ReportFault> {
+    let source = source.name;
+    print_value(alloc, &MoreLine { source, more }, out)
+}

@@ -1,0 +1,66 @@
+//! What is wrong with a source, printed as lines of text or of JSON. Proved is that all of it is
+//! safe and ends.
+#![tactic(auto)]
+
+mod fault;
+mod json;
+mod text;
+
+use edd_places::diagnostic::Diagnostic;
+use edd_places::lines::Lines;
+pub use fault::ReportFault;
+use std::alloc::Global;
+use std::io::Write;
+
+/// In which form it is printed.
+#[derive(Clone, Copy, PartialEq, Eq, Debug)]
+pub enum Format {
+    /// Lines for a reader: where it is, the line of the source, and what helps.
+    Text,
+    /// An object of JSON on each line.
+    Json,
+}
+
+/// A source: its name and its text.
+#[derive(Clone, Copy)]
+pub struct Source<'a> {
+    pub name: &'a str,
+    pub lines: &'a Lines<'a>,
+}
+
+// Prints a line.
+fn print<W: Write>(mut line: String, out: &mut W) -> Result<(), ReportFault> {
+    line.push('\n')?;
+    match out.write_all(line.as_bytes()) {
+        Ok(()) => Ok(()),
+        Err(_) => Err(ReportFault::Output),
+    }
+}
+
+/// Prints what is wrong at a place of a source.
+pub fn print_diagnostic<W: Write>(
+    alloc: Global,
+    source: Source<'_>,
+    found: &Diagnostic,
+    format: Format,
+    out: &mut W,
+) -> Result<(), ReportFault> {
+    match format {
+        Format::Text => text::print_diagnostic(alloc, source, found, out),
+        Format::Json => json::print_diagnostic(alloc, source, found, out),
+    }
+}
+
+/// Prints how many more things are wrong that are not shown.
+pub fn print_more<W: Write>(
+    alloc: Global,
+    source: Source<'_>,
+    more: usize,
+    format: Format,
+    out: &mut W,
+) -> Result<(), ReportFault> {
+    match format {
+        Format::Text => text::print_more(alloc, source, more, out),
+        Format::Json => json::print_more(alloc, source, more, out),
+    }
+}
