@@ -1,3 +1,5 @@
 pub mod CondLoops
 pub mod Loops
 pub mod ArgumentHeights
+pub mod Shortening
+pub mod RowsShorten

@@ -20,37 +20,51 @@ use Rattle.edd_expression_parser.specs.Expressions.{listed, argument_view}
 
 -- ---- the height
 
-pub expr_none : (p : Place) (high row : ℕ) (here : List Token) → high ≡ 0 → expr_at p high row here ≡ None
+pub expr_none : (p : Place) (height_left row : ℕ) (here : List Token) → height_left ≡ 0
+    → expr_at p height_left row here ≡ None
 unfolding expr_at
 expr_none p zero row here e = refl
-expr_none p (suc high) row here e = absurd (omega arith)
+expr_none p (suc height_left) row here e = absurd (omega arith)
 
-pub expr_layer : (p : Place) (high row : ℕ) (here : List Token) → 0 < high → expr_at p high row here ≡ layer p (expr_at p (high - 1)) (high - 1) row here
+pub expr_layer : (p : Place) (height_left row : ℕ) (here : List Token) → 0 < height_left
+    → expr_at p height_left row here ≡ layer p (expr_at p (height_left - 1)) (height_left - 1) row
+    here
 unfolding expr_at
 expr_layer p zero row here e = absurd (omega arith)
-expr_layer p (suc high) row here e = let same : suc high - 1 ≡ high = omega arith in rw same refl
+expr_layer p (suc height_left) row here e = let same : suc height_left - 1 ≡ height_left =
+    omega arith in rw same refl
 
 -- ---- a chain of operators
 
-module _ (p : Place) (inner : Inner) (high row : ℕ) where
-  pub chain_ends : (n : ℕ) (left : Expr Path) (here : List Token) → operator_at row here ≡ None → chain p inner high row n left here ≡ Some (left, here)
+module _ (p : Place) (inner : Inner) (height_left row : ℕ) where
+  pub chain_ends : (n : ℕ) (left : Expr Path) (here : List Token) → operator_at row here ≡ None
+      → chain p inner height_left row n left here ≡ Some (left, here)
   unfolding chain
   chain_ends zero left here e = rw e refl
   chain_ends (suc n) left here e = rw e refl
 
-  pub chain_spent : (n : ℕ) (left : Expr Path) (here : List Token) → n ≡ 0 → chain p inner high row n left here ≡ on_option (operator_at row here) (Some (left, here)) (λ o. None)
+  pub chain_spent : (n : ℕ) (left : Expr Path) (here : List Token) → n ≡ 0
+      → chain p inner height_left row n left here ≡ on_option (operator_at row here)
+      (Some (left, here)) (λ o. None)
   unfolding chain
   chain_spent zero left here z = refl
   chain_spent (suc n) left here z = absurd (omega arith)
 
-  pub chain_fails : (n i : ℕ) (left : Expr Path) (here behind : List Token) (op : Infix) → i < n → operator_at row here ≡ Some (op, behind) → joined_at p inner high op left behind ≡ None → chain p inner high row (n - i) left here ≡ None
+  pub chain_fails : (n i : ℕ) (left : Expr Path) (here behind : List Token) (op : Infix) → i < n
+      → operator_at row here ≡ Some (op, behind) → joined_at p inner height_left op left behind
+      ≡ None → chain p inner height_left row (n - i) left here ≡ None
   unfolding chain
-  chain_fails n i left here behind op lt e fails = let more : n - i ≡ suc (n - (i + 1)) = omega arith in rw (more, e, fails) refl
+  chain_fails n i left here behind op lt e fails = let more : n - i ≡ suc (n - (i + 1)) =
+      omega arith in rw (more, e, fails) refl
 
-  pub chain_goes_on : (n i : ℕ) (left whole : Expr Path) (here behind rest : List Token) (op : Infix) → i < n → operator_at row here ≡ Some (op, behind)
-      → joined_at p inner high op left behind ≡ Some (whole, rest) → chain p inner high row (n - i) left here ≡ chain p inner high row (n - (i + 1)) whole rest
+  pub chain_goes_on : (n i : ℕ) (left whole : Expr Path) (here behind rest : List Token)
+      (op : Infix) → i < n → operator_at row here ≡ Some (op, behind)
+      → joined_at p inner height_left op left behind ≡ Some (whole, rest)
+      → chain p inner height_left row (n - i) left here ≡ chain p inner height_left row
+      (n - (i + 1)) whole rest
   unfolding chain
-  chain_goes_on n i left whole here behind rest op lt e read = let more : n - i ≡ suc (n - (i + 1)) = omega arith in rw (more, e, read) refl
+  chain_goes_on n i left whole here behind rest op lt e read = let more : n - i
+      ≡ suc (n - (i + 1)) = omega arith in rw (more, e, read) refl
 
 -- ---- arguments
 
@@ -59,92 +73,125 @@ abbrev pub behind : List (code.Argument path.Path) → Arguments Path → Argume
 behind [] others = others
 behind (a ∷ before) others = Cons (argument_view a) (behind before others)
 
-abbrev pub with_front : List (code.Argument path.Path) → Read (Arguments Path) → Read (Arguments Path)
+abbrev pub with_front : List (code.Argument path.Path) → Read (Arguments Path)
+    → Read (Arguments Path)
 with_front front found = found >>= λ others. Some (behind front others.0, others.1)
 
 pub behind_none : (front : List (code.Argument path.Path)) → behind front Nil ≡ listed front
 behind_none [] = refl
 behind_none (a ∷ front) = ap (Cons (argument_view a)) (behind_none front)
 
-pub behind_more : (front : List (code.Argument path.Path)) (a : code.Argument path.Path) (others : Arguments Path) → behind front (Cons (argument_view a) others) ≡ behind (front ++ a ∷ []) others
+pub behind_more : (front : List (code.Argument path.Path)) (a : code.Argument path.Path)
+    (others : Arguments Path) → behind front (Cons (argument_view a) others)
+    ≡ behind (front ++ a ∷ []) others
 behind_more [] a others = refl
 behind_more (b ∷ front) a others = ap (Cons (argument_view b)) (behind_more front a others)
 
-regroup : (front : List (code.Argument path.Path)) (a : code.Argument path.Path) (found : Read (Arguments Path)) → with_front front (found >>= λ o. Some (Cons (argument_view a) o.0, o.1)) ≡ with_front (front ++ a ∷ []) found
+regroup : (front : List (code.Argument path.Path)) (a : code.Argument path.Path)
+    (found : Read (Arguments Path))
+    → with_front front (found >>= λ o. Some (Cons (argument_view a) o.0, o.1))
+    ≡ with_front (front ++ a ∷ []) found
 regroup front a None = refl
 regroup front a (Some o) = ap (λ (x : Arguments Path). Some (x, o.1)) (behind_more front a o.0)
 
-module _ (p : Place) (high : ℕ) where
-  pub argument_shortens : (here : List Token) (a : Argument Path) (rest : List Token) → argument_at p (expr_at p high) here ≡ Some (a, rest) → length rest < length here
+module _ (p : Place) (height_left : ℕ) where
+  pub argument_shortens : (here : List Token) (a : Argument Path) (rest : List Token)
+      → argument_at p (expr_at p height_left) here ≡ Some (a, rest) → length rest < length here
   unfolding argument_at
   argument_shortens here a rest e =
       elim (chosen (is_text here) _ _ _ e) [
         | inl (t, x) ↦ let w = bind_some (text_at here) _ (a, rest) x in
-            as_read (λ _ r. length r < length here) (Text w.0.0) a w.0.1 rest w.2 (text_shorter w.0.0 here w.0.1 (text_sound here w.0.0 w.0.1 t w.1))
-        | inr (t, x) ↦ let v = bind_some (expr_at p high (loosest p) here) _ (a, rest) x in
+            as_read (λ _ r. length r < length here) (Text w.0.0) a w.0.1 rest w.2
+            (text_shorter w.0.0 here w.0.1 (text_sound here w.0.0 w.0.1 t w.1))
+        | inr (t, x) ↦ let v = bind_some (expr_at p height_left (loosest p) here) _ (a, rest) x in
             let le = loosest_le p in
-            let s = expr_sound p high (loosest p) here v.0.0 v.0.1 (omega arith) v.1 in
-            as_read (λ _ r. length r < length here) (Value v.0.0) a v.0.1 rest v.2 (expr_shorter p (loosest p) v.0.0 here v.0.1 s.0.spelled)
+            let s = expr_sound p height_left (loosest p) here v.0.0 v.0.1 (omega arith) v.1 in
+            as_read (λ _ r. length r < length here) (Value v.0.0) a v.0.1 rest v.2
+            (expr_shorter p (loosest p) v.0.0 here v.0.1 s.0.spelled)
       ]
 
   -- one argument at least, up to the closing parenthesis
   abbrev pub arguments_here : List Token → Read (Arguments Path)
-  arguments_here here = some_arguments p (expr_at p high) (length here) here
+  arguments_here here = some_arguments p (expr_at p height_left) (length here) here
 
   -- nothing is read where nothing is left
-  none_left : (n : ℕ) (here : List Token) → length here ≤ 0 → some_arguments p (expr_at p high) n here ≡ None
+  none_left : (n : ℕ) (here : List Token) → length here ≤ 0
+      → some_arguments p (expr_at p height_left) n here ≡ None
   unfolding some_arguments
   none_left zero here le = refl
-  none_left (suc n) here le = go (argument_at p (expr_at p high) here) refl
+  none_left (suc n) here le = go (argument_at p (expr_at p height_left) here) refl
     where
-      go : (found : Read (Argument Path)) → argument_at p (expr_at p high) here ≡ found → some_arguments p (expr_at p high) (suc n) here ≡ None
+      go : (found : Read (Argument Path)) → argument_at p (expr_at p height_left) here ≡ found
+          → some_arguments p (expr_at p height_left) (suc n) here ≡ None
       go None e = rw e refl
       go (Some a) e = absurd (let s = argument_shortens here a.0 a.1 e in omega arith)
 
   -- one bound that is large enough is as good as another
-  same_arguments : (n m : ℕ) (here : List Token) → length here ≤ n → length here ≤ m → some_arguments p (expr_at p high) n here ≡ some_arguments p (expr_at p high) m here
+  same_arguments : (n m : ℕ) (here : List Token) → length here ≤ n → length here ≤ m
+      → some_arguments p (expr_at p height_left) n here ≡ some_arguments p (expr_at p height_left) m
+      here
   unfolding some_arguments
   same_arguments zero m here lt le = sym (none_left m here lt)
   same_arguments (suc n) zero here lt le = none_left (suc n) here le
   same_arguments (suc n) (suc m) here lt le =
-      bind_same (argument_at p (expr_at p high) here) _ _ (λ a e.
+      bind_same (argument_at p (expr_at p height_left) here) _ _ (λ a e.
       let s = argument_shortens here a.0 a.1 e in
-      ap (λ (t : Read (Arguments Path)). (if at Comma a.1 then t else closing Nil (expect CloseParenthesis a.1)) >>= λ o. Some (Cons a.0 o.0, o.1))
-      (same_arguments n m (drop 1 a.1) (omega (arith, length-drop 1 a.1)) (omega (arith, length-drop 1 a.1))))
+      ap (λ (t : Read (Arguments Path)).
+      (if at Comma a.1 then t else closing Nil (expect CloseParenthesis a.1))
+      >>= λ o. Some (Cons a.0 o.0, o.1))
+      (same_arguments n m (drop 1 a.1) (omega (arith, length-drop 1 a.1))
+      (omega (arith, length-drop 1 a.1))))
 
-  pub arguments_fail : (front : List (code.Argument path.Path)) (here : List Token) → argument_at p (expr_at p high) here ≡ None → with_front front (arguments_here here) ≡ None
+  pub arguments_fail : (front : List (code.Argument path.Path)) (here : List Token)
+      → argument_at p (expr_at p height_left) here ≡ None → with_front front (arguments_here here)
+      ≡ None
   unfolding some_arguments
   arguments_fail front here e = go (length here)
     where
-      go : (n : ℕ) → with_front front (some_arguments p (expr_at p high) n here) ≡ None
+      go : (n : ℕ) → with_front front (some_arguments p (expr_at p height_left) n here) ≡ None
       go zero = refl
       go (suc n) = rw e refl
 
-  one_more : (front : List (code.Argument path.Path)) (a : code.Argument path.Path) (n : ℕ) (here rest : List Token) → argument_at p (expr_at p high) here ≡ Some (argument_view a, rest) → at Comma rest ≡ true
-      → with_front front (some_arguments p (expr_at p high) (suc n) here) ≡ with_front (front ++ a ∷ []) (some_arguments p (expr_at p high) n (drop 1 rest))
+  one_more : (front : List (code.Argument path.Path)) (a : code.Argument path.Path) (n : ℕ)
+      (here rest : List Token) → argument_at p (expr_at p height_left) here
+      ≡ Some (argument_view a, rest) → at Comma rest ≡ true
+      → with_front front (some_arguments p (expr_at p height_left) (suc n) here)
+      ≡ with_front (front ++ a ∷ []) (some_arguments p (expr_at p height_left) n (drop 1 rest))
   unfolding some_arguments
-  one_more front a n here rest e comma = rw (e, comma) (regroup front a (some_arguments p (expr_at p high) n (drop 1 rest)))
+  one_more front a n here rest e comma =
+      rw (e, comma) (regroup front a (some_arguments p (expr_at p height_left) n (drop 1 rest)))
 
-  pub arguments_go_on : (front : List (code.Argument path.Path)) (a : code.Argument path.Path) (here rest : List Token) → argument_at p (expr_at p high) here ≡ Some (argument_view a, rest) → at Comma rest ≡ true
-      → with_front front (arguments_here here) ≡ with_front (front ++ a ∷ []) (arguments_here (drop 1 rest))
+  pub arguments_go_on : (front : List (code.Argument path.Path)) (a : code.Argument path.Path)
+      (here rest : List Token) → argument_at p (expr_at p height_left) here
+      ≡ Some (argument_view a, rest) → at Comma rest ≡ true
+      → with_front front (arguments_here here) ≡ with_front (front ++ a ∷ [])
+      (arguments_here (drop 1 rest))
   arguments_go_on front a here rest e comma =
       let s = argument_shortens here (argument_view a) rest e in
       let more : length here ≡ suc (length here - 1) = omega arith in
-      let same = same_arguments (length here - 1) (length (drop 1 rest)) (drop 1 rest) (omega (arith, length-drop 1 rest)) (omega arith) in
-      ap (λ (n : ℕ). with_front front (some_arguments p (expr_at p high) n here)) more
-      ∙ (one_more front a (length here - 1) here rest e comma ∙ ap (with_front (front ++ a ∷ [])) same)
+      let same = same_arguments (length here - 1) (length (drop 1 rest)) (drop 1 rest)
+      (omega (arith, length-drop 1 rest)) (omega arith) in
+      ap (λ (n : ℕ). with_front front (some_arguments p (expr_at p height_left) n here)) more
+      ∙ (one_more front a (length here - 1) here rest e comma ∙ ap (with_front (front ++ a ∷ []))
+      same)
 
-  pub arguments_close : (front : List (code.Argument path.Path)) (a : code.Argument path.Path) (here rest : List Token) → argument_at p (expr_at p high) here ≡ Some (argument_view a, rest) → at Comma rest ≡ false
-      → with_front front (arguments_here here) ≡ closing (listed (front ++ a ∷ [])) (expect CloseParenthesis rest)
+  pub arguments_close : (front : List (code.Argument path.Path)) (a : code.Argument path.Path)
+      (here rest : List Token) → argument_at p (expr_at p height_left) here
+      ≡ Some (argument_view a, rest) → at Comma rest ≡ false
+      → with_front front (arguments_here here) ≡ closing (listed (front ++ a ∷ []))
+      (expect CloseParenthesis rest)
   unfolding some_arguments
   arguments_close front a here rest e last =
       let s = argument_shortens here (argument_view a) rest e in
       let more : length here ≡ suc (length here - 1) = omega arith in
       rw (more, e, last) (closed (expect CloseParenthesis rest))
     where
-      closed : (end : Option (List Token)) → with_front front (closing Nil end >>= λ o. Some (Cons (argument_view a) o.0, o.1)) ≡ closing (listed (front ++ a ∷ [])) end
+      closed : (end : Option (List Token))
+          → with_front front (closing Nil end >>= λ o. Some (Cons (argument_view a) o.0, o.1))
+          ≡ closing (listed (front ++ a ∷ [])) end
       closed None = refl
-      closed (Some r) = ap (λ (x : Arguments Path). Some (x, r)) (behind_more front a Nil ∙ behind_none (front ++ a ∷ []))
+      closed (Some r) = ap (λ (x : Arguments Path). Some (x, r)) (behind_more front a Nil
+          ∙ behind_none (front ++ a ∷ []))
 
 pub ruleset levels = (expr_none, expr_layer)
 

@@ -41,53 +41,60 @@ value_in Many value here = value here
 
 -- what a SELECT is on, and the brace behind it
 unfoldable pub select_head : ℕ → List Token → Read (Expr Path)
-select_head high here = do
-  (on, brace) ← condition_at InAttribute high here
+select_head height_left here = do
+  (on, brace) ← condition_at InAttribute height_left here
   inside ← expect sign.OpenBrace brace
   Some (on, inside)
 
 -- what stands in a branch
-unfoldable pub branch_in : {V : Type 0} → Form → (List Token → Read (Cond Path V)) → List Token → Read (Conds Path V)
+unfoldable pub branch_in : {V : Type 0} → Form → (List Token → Read (Cond Path V)) → List Token
+    → Read (Conds Path V)
 branch_in One inner here = only inner here
 branch_in Many inner here = listed inner here
 
 -- a conditional of at most this height, each of whose values of at most some height `value` reads
-unfoldable pub cond_at : {V : Type 0} → Form → (ℕ → List Token → Read V) → ℕ → List Token → Read (Cond Path V)
+unfoldable pub cond_at : {V : Type 0} → Form → (ℕ → List Token → Read V) → ℕ → List Token
+    → Read (Cond Path V)
 cond_at form value zero here = None
-cond_at form value (suc high) here = cond_layer high (value_in form (value high)) (branch_in form (cond_at form value high)) (cond_at form value high) here
+cond_at form value (suc height_left) here =
+    cond_layer height_left (value_in form (value height_left))
+    (branch_in form (cond_at form value height_left)) (cond_at form value height_left) here
 
--- the parts of such a conditional whose children have at most the height `high`
-module _ {V : Type 0} (form : Form) (value : ℕ → List Token → Read V) (high : ℕ) where
+-- the parts of such a conditional whose children have at most the height `height_left`
+module _ {V : Type 0} (form : Form) (value : ℕ → List Token → Read V) (height_left : ℕ) where
   abbrev pub values : List Token → Read V
-  values = value_in form (value high)
+  values = value_in form (value height_left)
 
   abbrev pub conds : List Token → Read (Cond Path V)
-  conds = cond_at form value high
+  conds = cond_at form value height_left
 
   abbrev pub branches : List Token → Read (Conds Path V)
   branches = branch_in form conds
 
   abbrev pub layer : List Token → Read (Cond Path V)
-  layer = cond_layer high values branches conds
+  layer = cond_layer height_left values branches conds
 
   abbrev pub if_behind : List Token → Read (Cond Path V)
-  if_behind = if_at high values branches conds
+  if_behind = if_at height_left values branches conds
 
   abbrev pub select_behind : List Token → Read (Cond Path V)
-  select_behind = select_at high values branches conds
+  select_behind = select_at height_left values branches conds
 
   abbrev pub braces : List Token → Read (Conds Path V)
-  braces = braces_at high values branches conds
+  braces = braces_at height_left values branches conds
 
   abbrev pub otherwise : List Token → Read (Conds Path V)
-  otherwise = else_at high values branches conds
+  otherwise = else_at height_left values branches conds
 
   abbrev pub arms : ℕ → List Token → Read (Arms Path V)
-  arms = arms_at high values branches conds
+  arms = arms_at height_left values branches conds
 
   -- one arm
   unfoldable pub arm_at : List Token → Read (Arm Path V)
   arm_at here =
-      if at_word word.Case here then (case_at high values branches conds (drop 1 here) >>= λ x. Some (Case x.0.0 x.0.1, x.1))
-      else if at_word word.Default here then (default_at high values branches conds (drop 1 here) >>= λ x. Some (Default x.0, x.1))
+      if at_word word.Case here then (case_at height_left values branches conds (drop 1 here)
+      >>= λ x. Some (Case x.0.0 x.0.1, x.1))
+      else if at_word word.Default here then
+      (default_at height_left values branches conds (drop 1 here)
+      >>= λ x. Some (Default x.0, x.1))
       else None

@@ -29,7 +29,7 @@ argument_levels a = argument_height (pure_tree.Cons (argument_view a) pure_tree.
 
 -- an expression up to this sign, with the sign
 unfoldable pub up_to_at : Place → ℕ → Symbol → List Token → Read (pure_tree.Expr Path)
-up_to_at p high s here = do
-  (e, behind) ← expr_at p high (loosest p) here
+up_to_at p height_left s here = do
+  (e, behind) ← expr_at p height_left (loosest p) here
   rest ← expect s behind
   Some (e, rest)

@@ -1,2 +1,4 @@
 pub mod Conditionals
 pub mod Expressions
+pub mod Shortening
+pub mod ValuesShorten

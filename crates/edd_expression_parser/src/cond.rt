@@ -9,6 +9,7 @@ ghost use Rattle.edd_grammar.specs.ConditionalReading as reading;
 ghost use Rattle.edd_expression_parser.specs.declared.cond.Form.TheVariants.{Many};
 ghost use Rattle.edd_expression_parser.specs.Conditionals as conditionals;
 ghost use Rattle.edd_expression_parser.specs.Conditionals.{cond_view, conds_view, arm_view, arms_view, cond_at, value_in, branch_in};
+ghost use Rattle.edd_expression_parser.specs.Shortening.{Shortens};
 ghost use Rattle.edd_token_reader.specs.Views.{place_view, Gives};
 ghost use Rattle.edd_expression_parser.specs.Expressions.{expr_view};
 
@@ -32,7 +33,7 @@ pub enum Form {
 }
 
 /// What may be a value of a conditional, and how it is read.
-pub trait Value: Sized + Drop {
+pub trait ParseValue: Sized + Drop {
     ghost Pure: { Type 0 };
 
     ghost view: { Self → Pure };
@@ -40,9 +41,12 @@ pub trait Value: Sized + Drop {
     ghost read: { ℕ → List Token → Read Pure };
 
     /// A value of at most this height.
-    fn read_value(cursor: &mut Cursor, high: u32) -> Result<Self, ParseFault>
-        requires { high ≤ 100 }
-        ensures { Gives view result cursor.new (read high cursor.old) };
+    fn read_value(cursor: &mut Cursor, height_left: u32) -> Result<Self, ParseFault>
+        requires { height_left ≤ 100 }
+        ensures { Gives view result cursor.new (read height_left cursor.old) };
+
+    /// It takes a token at least.
+    ghost shortens: { (height_left : ℕ) → Shortens (read height_left) };
 }
 
 // An integer behind a minus sign.
@@ -70,23 +74,28 @@ pub fn label(cursor: &mut Cursor) -> Result<i64, ParseFault>
 
 /// `( e )`
 #[tactic(auto, unfolding(edd_grammar::specs::ConditionalReading::condition_at))]
-pub fn condition(cursor: &mut Cursor, place: Place, high: u32) -> Result<Expr<Path>, ParseFault>
-    requires { high ≤ 100 }
-    ensures { Gives expr_view result cursor.new (reading.condition_at (place_view place) high cursor.old) }
+pub fn condition(
+    cursor: &mut Cursor,
+    place: Place,
+    height_left: u32,
+) -> Result<Expr<Path>, ParseFault>
+    requires { height_left ≤ 100 }
+    ensures { Gives expr_view result cursor.new (reading.condition_at (place_view place) height_left
+        cursor.old) }
 {
     cursor.expect(Symbol::OpenParenthesis)?;
-    let inside = expr(cursor, place, high, loosest(place))?;
+    let inside = expr(cursor, place, height_left, loosest(place))?;
     cursor.expect(Symbol::CloseParenthesis)?;
     Ok(inside.expr)
 }
 
 // What a SELECT is on, and the brace behind it.
 #[tactic(auto, unfolding(crate::specs::Conditionals::select_head))]
-fn select_head(cursor: &mut Cursor, high: u32) -> Result<Expr<Path>, ParseFault>
-    requires { high ≤ 100 }
-    ensures { Gives expr_view result cursor.new (conditionals.select_head high cursor.old) }
+fn select_head(cursor: &mut Cursor, height_left: u32) -> Result<Expr<Path>, ParseFault>
+    requires { height_left ≤ 100 }
+    ensures { Gives expr_view result cursor.new (conditionals.select_head height_left cursor.old) }
 {
-    let on = condition(cursor, Place::Attribute, high)?;
+    let on = condition(cursor, Place::Attribute, height_left)?;
     cursor.expect(Symbol::OpenBrace)?;
     Ok(on)
 }
@@ -101,11 +110,15 @@ fn list_ends(cursor: &Cursor) -> bool
 
 // A value, with a semicolon behind a single one.
 #[tactic(auto, unfolding(crate::specs::Conditionals::value_in, edd_grammar::specs::ConditionalReading::ended))]
-fn one_value<V: Value>(cursor: &mut Cursor, form: Form, high: u32) -> Result<V, ParseFault>
-    requires { high ≤ 100 }
-    ensures { Gives V.view result cursor.new (value_in form (V.read high) cursor.old) }
+fn one_value<V: ParseValue>(
+    cursor: &mut Cursor,
+    form: Form,
+    height_left: u32,
+) -> Result<V, ParseFault>
+    requires { height_left ≤ 100 }
+    ensures { Gives V.view result cursor.new (value_in form (V.read height_left) cursor.old) }
 {
-    let value = V::read_value(cursor, high)?;
+    let value = V::read_value(cursor, height_left)?;
     match form {
         Form::One => cursor.expect(Symbol::Semicolon)?,
         Form::Many => {}
@@ -113,7 +126,10 @@ fn one_value<V: Value>(cursor: &mut Cursor, form: Form, high: u32) -> Result<V, 
     Ok(value)
 }
 
-fn alone<V: Value>(alloc: Global, inner: Cond<Path, V>) -> Result<Vec<Cond<Path, V>>, AllocError>
+fn alone<V: ParseValue>(
+    alloc: Global,
+    inner: Cond<Path, V>,
+) -> Result<Vec<Cond<Path, V>>, AllocError>
     ensures { IfOk result (λ v. v.items ≡ inner ∷ []) }
 {
     let mut all = Vec::new(alloc);
@@ -124,50 +140,57 @@ fn alone<V: Value>(alloc: Global, inner: Cond<Path, V>) -> Result<Vec<Cond<Path,
 /// A conditional of at most this height.
 #[cycle(cond)]
 #[tactic(auto, using(crate::proofs::CondLoops::levels))]
-pub fn cond<V: Value>(
+pub fn cond<V: ParseValue>(
     cursor: &mut Cursor,
     form: Form,
-    high: u32,
+    height_left: u32,
 ) -> Result<Cond<Path, V>, ParseFault>
-    requires { high ≤ 100 }
-    ensures { Gives (cond_view V.view) result cursor.new (cond_at form V.read high cursor.old) }
+    requires { height_left ≤ 100 }
+    ensures { Gives (cond_view V.view) result cursor.new
+        (cond_at form V.read height_left cursor.old) }
 {
-    if high == 0 {
+    if height_left == 0 {
         return Err(cursor.too_deep());
     }
-    layer(cursor, form, high - 1)
+    layer(cursor, form, height_left - 1)
 }
 
 // A conditional whose children are of at most this height.
 #[cycle(cond)]
 #[tactic(auto, unfolding(edd_grammar::specs::ConditionalReading::cond_layer), using(edd_syntax::proofs::CondRows::equations))]
-fn layer<V: Value>(cursor: &mut Cursor, form: Form, high: u32) -> Result<Cond<Path, V>, ParseFault>
-    requires { high < 100 }
-    ensures { Gives (cond_view V.view) result cursor.new (conditionals.layer form V.read high cursor.old) }
+fn layer<V: ParseValue>(
+    cursor: &mut Cursor,
+    form: Form,
+    height_left: u32,
+) -> Result<Cond<Path, V>, ParseFault>
+    requires { height_left < 100 }
+    ensures { Gives (cond_view V.view) result cursor.new
+        (conditionals.layer form V.read height_left cursor.old) }
 {
     if cursor.eat_word(Keyword::If) {
-        return if_behind(cursor, form, high);
+        return if_behind(cursor, form, height_left);
     }
     if cursor.eat_word(Keyword::Select) {
-        return select_behind(cursor, form, high);
+        return select_behind(cursor, form, height_left);
     }
-    Ok(Cond::Value(one_value(cursor, form, high)?))
+    Ok(Cond::Value(one_value(cursor, form, height_left)?))
 }
 
 // Behind IF.
 #[cycle(cond)]
 #[tactic(auto, unfolding(edd_grammar::specs::ConditionalReading::if_at), using(edd_syntax::proofs::CondRows::equations))]
-fn if_behind<V: Value>(
+fn if_behind<V: ParseValue>(
     cursor: &mut Cursor,
     form: Form,
-    high: u32,
+    height_left: u32,
 ) -> Result<Cond<Path, V>, ParseFault>
-    requires { high < 100 }
-    ensures { Gives (cond_view V.view) result cursor.new (conditionals.if_behind form V.read high cursor.old) }
+    requires { height_left < 100 }
+    ensures { Gives (cond_view V.view) result cursor.new
+        (conditionals.if_behind form V.read height_left cursor.old) }
 {
-    let condition = condition(cursor, Place::Attribute, high)?;
-    let first = braces(cursor, form, high)?;
-    let otherwise = otherwise(cursor, form, high)?;
+    let condition = condition(cursor, Place::Attribute, height_left)?;
+    let first = braces(cursor, form, height_left)?;
+    let otherwise = otherwise(cursor, form, height_left)?;
     Ok(Cond::If {
         condition,
         first,
@@ -178,37 +201,39 @@ fn if_behind<V: Value>(
 // ELSE and what belongs to it, or nothing.
 #[cycle(cond)]
 #[tactic(auto, unfolding(edd_grammar::specs::ConditionalReading::else_at))]
-fn otherwise<V: Value>(
+fn otherwise<V: ParseValue>(
     cursor: &mut Cursor,
     form: Form,
-    high: u32,
+    height_left: u32,
 ) -> Result<Vec<Cond<Path, V>>, ParseFault>
-    requires { high < 100 }
-    ensures { Gives (λ v. conds_view V.view v.items) result cursor.new (conditionals.otherwise form V.read high cursor.old) }
+    requires { height_left < 100 }
+    ensures { Gives (λ v. conds_view V.view v.items) result cursor.new
+        (conditionals.otherwise form V.read height_left cursor.old) }
 {
     if !cursor.eat_word(Keyword::Else) {
         return Ok(Vec::new(cursor.alloc()));
     }
     if !cursor.at_word(Keyword::If) {
-        return braces(cursor, form, high);
+        return braces(cursor, form, height_left);
     }
-    let inner = cond(cursor, form, high)?;
+    let inner = cond(cursor, form, height_left)?;
     Ok(alone(cursor.alloc(), inner)?)
 }
 
 // A branch in braces.
 #[cycle(cond)]
 #[tactic(auto, unfolding(edd_grammar::specs::ConditionalReading::braces_at))]
-fn braces<V: Value>(
+fn braces<V: ParseValue>(
     cursor: &mut Cursor,
     form: Form,
-    high: u32,
+    height_left: u32,
 ) -> Result<Vec<Cond<Path, V>>, ParseFault>
-    requires { high < 100 }
-    ensures { Gives (λ v. conds_view V.view v.items) result cursor.new (conditionals.braces form V.read high cursor.old) }
+    requires { height_left < 100 }
+    ensures { Gives (λ v. conds_view V.view v.items) result cursor.new
+        (conditionals.braces form V.read height_left cursor.old) }
 {
     cursor.expect(Symbol::OpenBrace)?;
-    let all = branch(cursor, form, high)?;
+    let all = branch(cursor, form, height_left)?;
     cursor.expect(Symbol::CloseBrace)?;
     Ok(all)
 }
@@ -216,54 +241,57 @@ fn braces<V: Value>(
 // What stands in a branch.
 #[cycle(cond)]
 #[tactic(auto, unfolding(crate::specs::Conditionals::branch_in, edd_grammar::specs::ConditionalReading::only))]
-fn branch<V: Value>(
+fn branch<V: ParseValue>(
     cursor: &mut Cursor,
     form: Form,
-    high: u32,
+    height_left: u32,
 ) -> Result<Vec<Cond<Path, V>>, ParseFault>
-    requires { high < 100 }
-    ensures { Gives (λ v. conds_view V.view v.items) result cursor.new (conditionals.branches form V.read high cursor.old) }
+    requires { height_left < 100 }
+    ensures { Gives (λ v. conds_view V.view v.items) result cursor.new
+        (conditionals.branches form V.read height_left cursor.old) }
 {
     match form {
         Form::One => {
-            let inner = cond(cursor, form, high)?;
+            let inner = cond(cursor, form, height_left)?;
             Ok(alone(cursor.alloc(), inner)?)
         }
-        Form::Many => elements(cursor, high),
+        Form::Many => elements(cursor, height_left),
     }
 }
 
 /// The elements of a list, each of at most this height, up to its end.
 #[cycle(cond)]
-#[tactic(auto, unfolding(edd_grammar::specs::ConditionalReading::listed), using(crate::proofs::CondLoops::elements_read))]
-pub fn elements<V: Value>(cursor: &mut Cursor, high: u32) -> Result<Vec<Cond<Path, V>>, ParseFault>
-    requires { high ≤ 100 }
-    ensures { Gives (λ v. conds_view V.view v.items) result cursor.new (reading.listed (cond_at Many V.read high) cursor.old) }
+#[tactic(auto, using(crate::proofs::CondLoops::elements_read))]
+pub fn elements<V: ParseValue>(
+    cursor: &mut Cursor,
+    height_left: u32,
+) -> Result<Vec<Cond<Path, V>>, ParseFault>
+    requires { height_left ≤ 100 }
+    ensures { Gives (λ v. conds_view V.view v.items) result cursor.new
+        (reading.listed (cond_at Many V.read height_left) cursor.old) }
 {
     let mut all = Vec::new(cursor.alloc());
-    for _ in 0..cursor.places() {
-        if list_ends(cursor) {
-            return Ok(all);
-        }
-        all.push(cond(cursor, Form::Many, high)?)?;
+    while !list_ends(cursor) {
+        all.push(cond(cursor, Form::Many, height_left)?)?;
         skip_comma(cursor);
     }
-    Err(cursor.syntax())
+    Ok(all)
 }
 
 // Behind SELECT.
 #[cycle(cond)]
 #[tactic(auto, unfolding(edd_grammar::specs::ConditionalReading::select_at, crate::specs::Conditionals::select_head), using(edd_syntax::proofs::CondRows::equations))]
-fn select_behind<V: Value>(
+fn select_behind<V: ParseValue>(
     cursor: &mut Cursor,
     form: Form,
-    high: u32,
+    height_left: u32,
 ) -> Result<Cond<Path, V>, ParseFault>
-    requires { high < 100 }
-    ensures { Gives (cond_view V.view) result cursor.new (conditionals.select_behind form V.read high cursor.old) }
+    requires { height_left < 100 }
+    ensures { Gives (cond_view V.view) result cursor.new
+        (conditionals.select_behind form V.read height_left cursor.old) }
 {
-    let on = select_head(cursor, high)?;
-    let arms = arms(cursor, form, high)?;
+    let on = select_head(cursor, height_left)?;
+    let arms = arms(cursor, form, height_left)?;
     cursor.expect(Symbol::CloseBrace)?;
     Ok(Cond::Select { on, arms })
 }
@@ -271,75 +299,87 @@ fn select_behind<V: Value>(
 // The arms up to the closing brace.
 #[cycle(cond)]
 #[tactic(auto, using(crate::proofs::CondLoops::arms_read))]
-fn arms<V: Value>(
+fn arms<V: ParseValue>(
     cursor: &mut Cursor,
     form: Form,
-    high: u32,
+    height_left: u32,
 ) -> Result<Vec<Arm<Path, V>>, ParseFault>
-    requires { high < 100 }
-    ensures { Gives (λ v. arms_view V.view v.items) result cursor.new (conditionals.arms form V.read high (length cursor.old + 1) cursor.old) }
+    requires { height_left < 100 }
+    ensures { Gives (λ v. arms_view V.view v.items) result cursor.new
+        (conditionals.arms form V.read height_left (length cursor.old + 1) cursor.old) }
 {
     let mut all = Vec::new(cursor.alloc());
-    for _ in 0..cursor.places() {
-        if cursor.at(Symbol::CloseBrace) {
-            return Ok(all);
-        }
-        all.push(arm(cursor, form, high)?)?;
+    while !cursor.at(Symbol::CloseBrace) {
+        all.push(arm(cursor, form, height_left)?)?;
     }
-    Err(cursor.syntax())
+    Ok(all)
 }
 
 // One arm.
 #[cycle(cond)]
 #[tactic(auto, unfolding(crate::specs::Conditionals::arm_at, edd_grammar::specs::ConditionalReading::case_at, edd_grammar::specs::ConditionalReading::default_at), using(edd_syntax::proofs::CondRows::equations))]
-fn arm<V: Value>(cursor: &mut Cursor, form: Form, high: u32) -> Result<Arm<Path, V>, ParseFault>
-    requires { high < 100 }
-    ensures { Gives (arm_view V.view) result cursor.new (conditionals.arm_at form V.read high cursor.old) }
+fn arm<V: ParseValue>(
+    cursor: &mut Cursor,
+    form: Form,
+    height_left: u32,
+) -> Result<Arm<Path, V>, ParseFault>
+    requires { height_left < 100 }
+    ensures { Gives (arm_view V.view) result cursor.new
+        (conditionals.arm_at form V.read height_left cursor.old) }
 {
     let line = cursor.line();
     if cursor.eat_word(Keyword::Case) {
         let label = label(cursor)?;
         cursor.expect(Symbol::Colon)?;
-        let body = branch(cursor, form, high)?;
+        let body = branch(cursor, form, height_left)?;
         return Ok(Arm::Case { label, body });
     }
     if !cursor.eat_word(Keyword::Default) {
         return Err(cursor.syntax());
     }
     cursor.expect(Symbol::Colon)?;
-    let body = branch(cursor, form, high)?;
+    let body = branch(cursor, form, height_left)?;
     Ok(Arm::Default { line, body })
 }
 
 /// A single value of at most this height.
 #[tactic(auto, using(crate::proofs::CondLoops::one_is))]
-pub fn one<V: Value>(cursor: &mut Cursor, high: u32) -> Result<Cond<Path, V>, ParseFault>
-    requires { high ≤ 100 }
-    ensures { Gives (cond_view V.view) result cursor.new (reading.one_at V.read high cursor.old) }
+pub fn one<V: ParseValue>(
+    cursor: &mut Cursor,
+    height_left: u32,
+) -> Result<Cond<Path, V>, ParseFault>
+    requires { height_left ≤ 100 }
+    ensures { Gives (cond_view V.view) result cursor.new
+        (reading.one_at V.read height_left cursor.old) }
 {
-    cond(cursor, Form::One, high)
+    cond(cursor, Form::One, height_left)
 }
 
 /// An element of a list, of at most this height.
 #[tactic(auto, using(crate::proofs::CondLoops::many_is))]
-pub fn element<V: Value>(cursor: &mut Cursor, high: u32) -> Result<Cond<Path, V>, ParseFault>
-    requires { high ≤ 100 }
-    ensures { Gives (cond_view V.view) result cursor.new (reading.element_at V.read high cursor.old) }
+pub fn element<V: ParseValue>(
+    cursor: &mut Cursor,
+    height_left: u32,
+) -> Result<Cond<Path, V>, ParseFault>
+    requires { height_left ≤ 100 }
+    ensures { Gives (cond_view V.view) result cursor.new
+        (reading.element_at V.read height_left cursor.old) }
 {
-    cond(cursor, Form::Many, high)
+    cond(cursor, Form::Many, height_left)
 }
 
 /// A list in braces, whose elements are of at most this height.
 #[tactic(auto, unfolding(edd_grammar::specs::WordReading::braced), using(crate::proofs::CondLoops::list_is))]
-pub fn braced_list<V: Value>(
+pub fn braced_list<V: ParseValue>(
     cursor: &mut Cursor,
-    high: u32,
+    height_left: u32,
 ) -> Result<Vec<Cond<Path, V>>, ParseFault>
-    requires { high ≤ 100 }
-    ensures { Gives (λ v. conds_view V.view v.items) result cursor.new (braced (reading.list_at V.read high) cursor.old) }
+    requires { height_left ≤ 100 }
+    ensures { Gives (λ v. conds_view V.view v.items) result cursor.new
+        (braced (reading.list_at V.read height_left) cursor.old) }
 {
     cursor.expect(Symbol::OpenBrace)?;
-    let all = elements(cursor, high)?;
+    let all = elements(cursor, height_left)?;
     cursor.expect(Symbol::CloseBrace)?;
     Ok(all)
 }

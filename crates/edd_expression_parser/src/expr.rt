@@ -12,8 +12,8 @@ ghost use Rattle.edd_token_reader.specs.Views.{place_view, infix_view, assignmen
 ghost use Rattle.edd_expression_parser.specs.Expressions.{expr_view, argument_view, argument_levels, listed, up_to_at};
 
 use crate::trees::{
-    Child, Tall, TallArgument, TallArguments, assigned, binary, boxed, call, choice_between,
-    into_path, leaf, no_arguments, parentheses, unary_over, with_argument,
+    Child, Measured, MeasuredArgument, MeasuredArguments, assigned, binary, boxed, call,
+    choice_between, into_path, leaf, no_arguments, parentheses, unary_over, with_argument,
 };
 use edd_lexer::token::TokenKind;
 use edd_syntax::expr::{Argument, Expr};
@@ -29,8 +29,9 @@ use edd_token_reader::texts::{at_text, path, path_from, text};
 
 // A reference, and a step behind it.
 #[tactic(auto, unfolding(edd_grammar::specs::ExpressionReading::postfix))]
-fn stepped(cursor: &mut Cursor, place: Place, to: Path) -> Result<Tall, ParseFault>
-    ensures read { Gives (λ t. expr_view t.expr) result cursor.new (reading.postfix (place_view place) (path_of to) cursor.old) }
+fn stepped(cursor: &mut Cursor, place: Place, to: Path) -> Result<Measured, ParseFault>
+    ensures read { Gives (λ t. expr_view t.expr) result cursor.new
+        (reading.postfix (place_view place) (path_of to) cursor.old) }
     ensures low { IfOk result (λ t. t.levels ≤ 1) }
 {
     let Some(op) = cursor.step() else {
@@ -44,8 +45,13 @@ fn stepped(cursor: &mut Cursor, place: Place, to: Path) -> Result<Tall, ParseFau
 
 // A step and the reference behind it.
 #[tactic(auto, unfolding(edd_grammar::specs::ExpressionReading::step_before))]
-fn step_before(cursor: &mut Cursor, place: Place, op: IncrementOperator) -> Result<Tall, ParseFault>
-    ensures read { Gives (λ t. expr_view t.expr) result cursor.new (reading.step_before (place_view place) op cursor.old) }
+fn step_before(
+    cursor: &mut Cursor,
+    place: Place,
+    op: IncrementOperator,
+) -> Result<Measured, ParseFault>
+    ensures read { Gives (λ t. expr_view t.expr) result cursor.new
+        (reading.step_before (place_view place) op cursor.old) }
     ensures low { IfOk result (λ t. t.levels ≤ 1) }
 {
     if !in_method(place) {
@@ -57,8 +63,9 @@ fn step_before(cursor: &mut Cursor, place: Place, op: IncrementOperator) -> Resu
 
 // These arguments, if their parenthesis closes here.
 #[tactic(auto, unfolding(edd_grammar::specs::ExpressionReading::closing))]
-fn close(cursor: &mut Cursor, all: TallArguments) -> Result<TallArguments, ParseFault>
-    ensures read { Gives (λ a. listed a.arguments.items) result cursor.new (reading.closing (listed all.arguments.items) (expect sign.CloseParenthesis cursor.old)) }
+fn close(cursor: &mut Cursor, all: MeasuredArguments) -> Result<MeasuredArguments, ParseFault>
+    ensures read { Gives (λ a. listed a.arguments.items) result cursor.new
+        (reading.closing (listed all.arguments.items) (expect sign.CloseParenthesis cursor.old)) }
     ensures same { IfOk result (λ a. a.levels ≡ all.levels) }
 {
     cursor.expect(Symbol::CloseParenthesis)?;
@@ -66,22 +73,27 @@ fn close(cursor: &mut Cursor, all: TallArguments) -> Result<TallArguments, Parse
 }
 
 // The left side of an operator that was just taken, if its height leaves room for the operator.
-fn left_side(cursor: &mut Cursor, high: u32, left: Tall) -> Result<Child, ParseFault>
-    ensures read { Gives (λ c. expr_view c.expr.value) result cursor.new (if nat_le (height (expr_view left.expr)) high then Some (expr_view left.expr, cursor.old) else None) }
-    ensures low { IfOk result (λ c. c.levels ≤ high) }
+fn left_side(cursor: &mut Cursor, height_left: u32, left: Measured) -> Result<Child, ParseFault>
+    ensures read { Gives (λ c. expr_view c.expr.value) result cursor.new
+        (if nat_le (height (expr_view left.expr)) height_left then Some
+        (expr_view left.expr, cursor.old) else None) }
+    ensures low { IfOk result (λ c. c.levels ≤ height_left) }
 {
-    if left.levels > high {
+    if left.levels > height_left {
         return Err(cursor.too_deep_taken());
     }
     Ok(boxed(cursor.alloc(), left)?)
 }
 
-// What is tested by the question mark that is next and is taken, if its height leaves room for the choice.
-fn tested(cursor: &mut Cursor, high: u32, test: Tall) -> Result<Child, ParseFault>
-    ensures read { Gives (λ c. expr_view c.expr.value) result cursor.new (if nat_le (height (expr_view test.expr)) high then Some (expr_view test.expr, drop 1 cursor.old) else None) }
-    ensures low { IfOk result (λ c. c.levels ≤ high) }
+// What is tested by the question mark that is next and is taken, if its height leaves room for the
+// choice.
+fn tested(cursor: &mut Cursor, height_left: u32, test: Measured) -> Result<Child, ParseFault>
+    ensures read { Gives (λ c. expr_view c.expr.value) result cursor.new
+        (if nat_le (height (expr_view test.expr)) height_left then Some
+        (expr_view test.expr, drop 1 cursor.old) else None) }
+    ensures low { IfOk result (λ c. c.levels ≤ height_left) }
 {
-    if test.levels > high {
+    if test.levels > height_left {
         return Err(cursor.too_deep());
     }
     cursor.bump();
@@ -91,51 +103,71 @@ fn tested(cursor: &mut Cursor, high: u32, test: Tall) -> Result<Child, ParseFaul
 /// An expression of at most this height, in a place for this row or a tighter one.
 #[cycle(expr)]
 #[tactic(auto, using(crate::proofs::Loops::levels))]
-pub fn expr(cursor: &mut Cursor, place: Place, high: u32, row: u32) -> Result<Tall, ParseFault>
-    requires { high ≤ 100 }
-    ensures read { Gives (λ t. expr_view t.expr) result cursor.new (expr_at (place_view place) high row cursor.old) }
-    ensures low { IfOk result (λ t. t.levels ≤ high) }
+pub fn expr(
+    cursor: &mut Cursor,
+    place: Place,
+    height_left: u32,
+    row: u32,
+) -> Result<Measured, ParseFault>
+    requires { height_left ≤ 100 }
+    ensures read { Gives (λ t. expr_view t.expr) result cursor.new
+        (expr_at (place_view place) height_left row cursor.old) }
+    ensures low { IfOk result (λ t. t.levels ≤ height_left) }
 {
-    if high == 0 {
+    if height_left == 0 {
         return Err(cursor.too_deep());
     }
-    layer(cursor, place, high - 1, row)
+    layer(cursor, place, height_left - 1, row)
 }
 
 // An expression whose children are of at most this height.
 #[cycle(expr)]
 #[tactic(auto, unfolding(edd_grammar::specs::ExpressionReading::layer))]
-fn layer(cursor: &mut Cursor, place: Place, high: u32, row: u32) -> Result<Tall, ParseFault>
-    requires { high < 100 }
-    ensures read { Gives (λ t. expr_view t.expr) result cursor.new (reading.layer (place_view place) (expr_at (place_view place) high) high row cursor.old) }
-    ensures low { IfOk result (λ t. t.levels ≤ high + 1) }
+fn layer(
+    cursor: &mut Cursor,
+    place: Place,
+    height_left: u32,
+    row: u32,
+) -> Result<Measured, ParseFault>
+    requires { height_left < 100 }
+    ensures read { Gives (λ t. expr_view t.expr) result cursor.new
+        (reading.layer (place_view place) (expr_at (place_view place) height_left) height_left row
+        cursor.old) }
+    ensures low { IfOk result (λ t. t.levels ≤ height_left + 1) }
 {
-    let first = operand(cursor, place, high)?;
-    let left = chain(cursor, place, high, row, first)?;
-    let whole = choice(cursor, place, high, row, left)?;
-    assignment(cursor, place, high, row, whole)
+    let first = operand(cursor, place, height_left)?;
+    let left = chain(cursor, place, height_left, row, first)?;
+    let whole = choice(cursor, place, height_left, row, left)?;
+    assignment(cursor, place, height_left, row, whole)
 }
 
 // An expression inside another one.
 #[cycle(expr)]
-fn child(cursor: &mut Cursor, place: Place, high: u32, row: u32) -> Result<Child, ParseFault>
-    requires { high ≤ 100 }
-    ensures read { Gives (λ c. expr_view c.expr.value) result cursor.new (expr_at (place_view place) high row cursor.old) }
-    ensures low { IfOk result (λ c. c.levels ≤ high) }
+fn child(cursor: &mut Cursor, place: Place, height_left: u32, row: u32) -> Result<Child, ParseFault>
+    requires { height_left ≤ 100 }
+    ensures read { Gives (λ c. expr_view c.expr.value) result cursor.new
+        (expr_at (place_view place) height_left row cursor.old) }
+    ensures low { IfOk result (λ c. c.levels ≤ height_left) }
 {
-    let inner = expr(cursor, place, high, row)?;
+    let inner = expr(cursor, place, height_left, row)?;
     Ok(boxed(cursor.alloc(), inner)?)
 }
 
 // An expression inside another one, up to this sign, with the sign.
 #[cycle(expr)]
 #[tactic(auto, unfolding(crate::specs::Expressions::up_to_at))]
-fn up_to(cursor: &mut Cursor, place: Place, high: u32, sign: Symbol) -> Result<Child, ParseFault>
-    requires { high ≤ 100 }
-    ensures read { Gives (λ c. expr_view c.expr.value) result cursor.new (up_to_at (place_view place) high sign cursor.old) }
-    ensures low { IfOk result (λ c. c.levels ≤ high) }
+fn up_to(
+    cursor: &mut Cursor,
+    place: Place,
+    height_left: u32,
+    sign: Symbol,
+) -> Result<Child, ParseFault>
+    requires { height_left ≤ 100 }
+    ensures read { Gives (λ c. expr_view c.expr.value) result cursor.new
+        (up_to_at (place_view place) height_left sign cursor.old) }
+    ensures low { IfOk result (λ c. c.levels ≤ height_left) }
 {
-    let inner = child(cursor, place, high, loosest(place))?;
+    let inner = child(cursor, place, height_left, loosest(place))?;
     cursor.expect(sign)?;
     Ok(inner)
 }
@@ -143,20 +175,22 @@ fn up_to(cursor: &mut Cursor, place: Place, high: u32, sign: Symbol) -> Result<C
 // Rows 13 to 15.
 #[cycle(expr)]
 #[tactic(auto, unfolding(edd_grammar::specs::ExpressionReading::operand_at))]
-fn operand(cursor: &mut Cursor, place: Place, high: u32) -> Result<Tall, ParseFault>
-    requires { high < 100 }
-    ensures read { Gives (λ t. expr_view t.expr) result cursor.new (reading.operand_at (place_view place) (expr_at (place_view place) high) cursor.old) }
-    ensures low { IfOk result (λ t. t.levels ≤ high + 1) }
+fn operand(cursor: &mut Cursor, place: Place, height_left: u32) -> Result<Measured, ParseFault>
+    requires { height_left < 100 }
+    ensures read { Gives (λ t. expr_view t.expr) result cursor.new
+        (reading.operand_at (place_view place) (expr_at (place_view place) height_left)
+        cursor.old) }
+    ensures low { IfOk result (λ t. t.levels ≤ height_left + 1) }
 {
     let line = cursor.line();
     if let Some(name) = cursor.name() {
-        return named(cursor, place, high, line, name);
+        return named(cursor, place, height_left, line, name);
     }
     match cursor.next() {
         None => Err(cursor.syntax()),
         Some(TokenKind::Integer(value)) => Ok(leaf(Expr::Literal(value))),
         Some(TokenKind::Decimal) => Ok(leaf(Expr::Decimal { line })),
-        Some(TokenKind::Symbol(sign)) => signed(cursor, place, high, sign),
+        Some(TokenKind::Symbol(sign)) => signed(cursor, place, height_left, sign),
         Some(TokenKind::Name | TokenKind::String | TokenKind::Keyword(_)) => {
             Err(ParseFault::Syntax { line })
         }
@@ -169,13 +203,15 @@ fn operand(cursor: &mut Cursor, place: Place, high: u32) -> Result<Tall, ParseFa
 fn named(
     cursor: &mut Cursor,
     place: Place,
-    high: u32,
+    height_left: u32,
     line: u32,
     name: &str,
-) -> Result<Tall, ParseFault>
-    requires { high < 100 }
-    ensures read { Gives (λ t. expr_view t.expr) result cursor.new (reading.named_at (place_view place) (expr_at (place_view place) high) name.now cursor.old) }
-    ensures low { IfOk result (λ t. t.levels ≤ high + 1) }
+) -> Result<Measured, ParseFault>
+    requires { height_left < 100 }
+    ensures read { Gives (λ t. expr_view t.expr) result cursor.new
+        (reading.named_at (place_view place) (expr_at (place_view place) height_left) name.now
+        cursor.old) }
+    ensures low { IfOk result (λ t. t.levels ≤ height_left + 1) }
 {
     if !cursor.at(Symbol::OpenParenthesis) {
         let to = path_from(cursor, name)?;
@@ -185,7 +221,7 @@ fn named(
         return Err(cursor.syntax());
     }
     cursor.bump();
-    let arguments = arguments(cursor, place, high)?;
+    let arguments = arguments(cursor, place, height_left)?;
     Ok(call(cursor.alloc(), line, name, arguments)?)
 }
 
@@ -195,31 +231,40 @@ fn named(
 fn unary(
     cursor: &mut Cursor,
     place: Place,
-    high: u32,
+    height_left: u32,
     op: UnaryOperator,
-) -> Result<Tall, ParseFault>
-    requires { high < 100 }
-    ensures read { Gives (λ t. expr_view t.expr) result cursor.new (reading.unary_behind (place_view place) (expr_at (place_view place) high) op cursor.old) }
-    ensures low { IfOk result (λ t. t.levels ≤ high + 1) }
+) -> Result<Measured, ParseFault>
+    requires { height_left < 100 }
+    ensures read { Gives (λ t. expr_view t.expr) result cursor.new
+        (reading.unary_behind (place_view place) (expr_at (place_view place) height_left) op
+        cursor.old) }
+    ensures low { IfOk result (λ t. t.levels ≤ height_left + 1) }
 {
-    let operand = child(cursor, place, high, 13)?;
+    let operand = child(cursor, place, height_left, 13)?;
     Ok(unary_over(op, operand))
 }
 
 // Behind a sign: an expression in parentheses, or an operand behind its operator.
 #[cycle(expr)]
 #[tactic(auto, unfolding(edd_grammar::specs::ExpressionReading::signed_at, edd_grammar::specs::ExpressionReading::parentheses_behind, crate::specs::Expressions::up_to_at))]
-fn signed(cursor: &mut Cursor, place: Place, high: u32, sign: Symbol) -> Result<Tall, ParseFault>
-    requires { high < 100 }
-    ensures read { Gives (λ t. expr_view t.expr) result cursor.new (reading.signed_at (place_view place) (expr_at (place_view place) high) sign cursor.old) }
-    ensures low { IfOk result (λ t. t.levels ≤ high + 1) }
+fn signed(
+    cursor: &mut Cursor,
+    place: Place,
+    height_left: u32,
+    sign: Symbol,
+) -> Result<Measured, ParseFault>
+    requires { height_left < 100 }
+    ensures read { Gives (λ t. expr_view t.expr) result cursor.new
+        (reading.signed_at (place_view place) (expr_at (place_view place) height_left) sign
+        cursor.old) }
+    ensures low { IfOk result (λ t. t.levels ≤ height_left + 1) }
 {
     if sign == Symbol::OpenParenthesis {
-        let inner = up_to(cursor, place, high, Symbol::CloseParenthesis)?;
+        let inner = up_to(cursor, place, height_left, Symbol::CloseParenthesis)?;
         return Ok(parentheses(inner));
     }
     if let Some(op) = unary_of(sign) {
-        return unary(cursor, place, high, op);
+        return unary(cursor, place, height_left, op);
     }
     let Some(op) = before_of(sign) else {
         return Err(cursor.syntax_taken());
@@ -229,19 +274,25 @@ fn signed(cursor: &mut Cursor, place: Place, high: u32, sign: Symbol) -> Result<
 
 #[cycle(expr)]
 #[tactic(auto, unfolding(edd_grammar::specs::ExpressionReading::argument_at))]
-fn argument(cursor: &mut Cursor, place: Place, high: u32) -> Result<TallArgument, ParseFault>
-    requires { high < 100 }
-    ensures read { Gives (λ a. argument_view a.argument) result cursor.new (reading.argument_at (place_view place) (expr_at (place_view place) high) cursor.old) }
-    ensures low { IfOk result (λ a. a.levels ≤ high) }
+fn argument(
+    cursor: &mut Cursor,
+    place: Place,
+    height_left: u32,
+) -> Result<MeasuredArgument, ParseFault>
+    requires { height_left < 100 }
+    ensures read { Gives (λ a. argument_view a.argument) result cursor.new
+        (reading.argument_at (place_view place) (expr_at (place_view place) height_left)
+        cursor.old) }
+    ensures low { IfOk result (λ a. a.levels ≤ height_left) }
 {
     if at_text(cursor) {
-        return Ok(TallArgument {
+        return Ok(MeasuredArgument {
             argument: Argument::Text(text(cursor)?),
             levels: 0,
         });
     }
-    let value = expr(cursor, place, high, loosest(place))?;
-    Ok(TallArgument {
+    let value = expr(cursor, place, height_left, loosest(place))?;
+    Ok(MeasuredArgument {
         argument: Argument::Value(value.expr),
         levels: value.levels,
     })
@@ -250,28 +301,40 @@ fn argument(cursor: &mut Cursor, place: Place, high: u32) -> Result<TallArgument
 // The arguments of a call, up to the closing parenthesis.
 #[cycle(expr)]
 #[tactic(auto, unfolding(edd_grammar::specs::ExpressionReading::arguments_at))]
-fn arguments(cursor: &mut Cursor, place: Place, high: u32) -> Result<TallArguments, ParseFault>
-    requires { high < 100 }
-    ensures read { Gives (λ a. listed a.arguments.items) result cursor.new (reading.arguments_at (place_view place) (expr_at (place_view place) high) cursor.old) }
-    ensures low { IfOk result (λ a. a.levels ≤ high) }
+fn arguments(
+    cursor: &mut Cursor,
+    place: Place,
+    height_left: u32,
+) -> Result<MeasuredArguments, ParseFault>
+    requires { height_left < 100 }
+    ensures read { Gives (λ a. listed a.arguments.items) result cursor.new
+        (reading.arguments_at (place_view place) (expr_at (place_view place) height_left)
+        cursor.old) }
+    ensures low { IfOk result (λ a. a.levels ≤ height_left) }
 {
     if cursor.eat(Symbol::CloseParenthesis) {
         return Ok(no_arguments(cursor.alloc()));
     }
-    some_arguments(cursor, place, high)
+    some_arguments(cursor, place, height_left)
 }
 
 // One argument at least.
 #[cycle(expr)]
 #[tactic(auto, using(crate::proofs::Loops::lists))]
-fn some_arguments(cursor: &mut Cursor, place: Place, high: u32) -> Result<TallArguments, ParseFault>
-    requires { high < 100 }
-    ensures read { Gives (λ a. listed a.arguments.items) result cursor.new (reading.some_arguments (place_view place) (expr_at (place_view place) high) (length cursor.old) cursor.old) }
-    ensures low { IfOk result (λ a. a.levels ≤ high) }
+fn some_arguments(
+    cursor: &mut Cursor,
+    place: Place,
+    height_left: u32,
+) -> Result<MeasuredArguments, ParseFault>
+    requires { height_left < 100 }
+    ensures read { Gives (λ a. listed a.arguments.items) result cursor.new
+        (reading.some_arguments (place_view place) (expr_at (place_view place) height_left)
+        (length cursor.old) cursor.old) }
+    ensures low { IfOk result (λ a. a.levels ≤ height_left) }
 {
     let mut all = no_arguments(cursor.alloc());
     loop {
-        let next = argument(cursor, place, high)?;
+        let next = argument(cursor, place, height_left)?;
         all = with_argument(all, next)?;
         if !cursor.eat(Symbol::Comma) {
             return close(cursor, all);
@@ -285,22 +348,27 @@ fn some_arguments(cursor: &mut Cursor, place: Place, high: u32) -> Result<TallAr
 fn joined(
     cursor: &mut Cursor,
     place: Place,
-    high: u32,
+    height_left: u32,
     op: Infix,
-    left: Tall,
-) -> Result<Tall, ParseFault>
-    requires { high < 100 }
-    ensures read { Gives (λ t. expr_view t.expr) result cursor.new (reading.joined_at (place_view place) (expr_at (place_view place) high) high (infix_view op) (expr_view left.expr) cursor.old) }
-    ensures low { IfOk result (λ t. t.levels ≤ high + 1) }
+    left: Measured,
+) -> Result<Measured, ParseFault>
+    requires { height_left < 100 }
+    ensures read { Gives (λ t. expr_view t.expr) result cursor.new
+        (reading.joined_at (place_view place) (expr_at (place_view place) height_left) height_left
+        (infix_view op) (expr_view left.expr) cursor.old) }
+    ensures low { IfOk result (λ t. t.levels ≤ height_left + 1) }
 {
-    let left = left_side(cursor, high, left)?;
-    let right = child(cursor, place, high, row_of(op) + 1)?;
+    let left = left_side(cursor, height_left, left)?;
+    let right = child(cursor, place, height_left, row_of(op) + 1)?;
     Ok(binary(op, left, right))
 }
 
-// The left side, if no operator of this row or a tighter one follows: with it the tree would be too high.
-fn last(cursor: &mut Cursor, row: u32, left: Tall) -> Result<Tall, ParseFault>
-    ensures read { Gives (λ t. expr_view t.expr) result cursor.new (on_option (operator_at row cursor.old) (Some (expr_view left.expr, cursor.old)) (λ o. None)) }
+// The left side, if no operator of this row or a tighter one follows: with it the tree would be too
+// high.
+fn last(cursor: &mut Cursor, row: u32, left: Measured) -> Result<Measured, ParseFault>
+    ensures read { Gives (λ t. expr_view t.expr) result cursor.new
+        (on_option (operator_at row cursor.old) (Some (expr_view left.expr, cursor.old))
+        (λ o. None)) }
     ensures same { IfOk result (λ t. t.levels ≡ left.levels) }
 {
     let line = cursor.line();
@@ -316,21 +384,23 @@ fn last(cursor: &mut Cursor, row: u32, left: Tall) -> Result<Tall, ParseFault>
 fn chain(
     cursor: &mut Cursor,
     place: Place,
-    high: u32,
+    height_left: u32,
     row: u32,
-    first: Tall,
-) -> Result<Tall, ParseFault>
-    requires low { high < 100 }
-    requires first_low { first.levels ≤ high + 1 }
-    ensures read { Gives (λ t. expr_view t.expr) result cursor.new (reading.chain (place_view place) (expr_at (place_view place) high) high row (high + 1) (expr_view first.expr) cursor.old) }
-    ensures low { IfOk result (λ t. t.levels ≤ high + 1) }
+    first: Measured,
+) -> Result<Measured, ParseFault>
+    requires low { height_left < 100 }
+    requires first_low { first.levels ≤ height_left + 1 }
+    ensures read { Gives (λ t. expr_view t.expr) result cursor.new
+        (reading.chain (place_view place) (expr_at (place_view place) height_left) height_left row
+        (height_left + 1) (expr_view first.expr) cursor.old) }
+    ensures low { IfOk result (λ t. t.levels ≤ height_left + 1) }
 {
     let mut left = first;
-    for _ in 0..high + 1 {
+    for _ in 0..height_left + 1 {
         let Some(op) = cursor.operator(row) else {
             return Ok(left);
         };
-        left = joined(cursor, place, high, op, left)?;
+        left = joined(cursor, place, height_left, op, left)?;
     }
     last(cursor, row, left)
 }
@@ -341,21 +411,23 @@ fn chain(
 fn choice(
     cursor: &mut Cursor,
     place: Place,
-    high: u32,
+    height_left: u32,
     row: u32,
-    test: Tall,
-) -> Result<Tall, ParseFault>
-    requires low { high < 100 }
-    requires test_low { test.levels ≤ high + 1 }
-    ensures read { Gives (λ t. expr_view t.expr) result cursor.new (reading.choice_at (place_view place) (expr_at (place_view place) high) high row (expr_view test.expr) cursor.old) }
-    ensures low { IfOk result (λ t. t.levels ≤ high + 1) }
+    test: Measured,
+) -> Result<Measured, ParseFault>
+    requires low { height_left < 100 }
+    requires test_low { test.levels ≤ height_left + 1 }
+    ensures read { Gives (λ t. expr_view t.expr) result cursor.new
+        (reading.choice_at (place_view place) (expr_at (place_view place) height_left) height_left
+        row (expr_view test.expr) cursor.old) }
+    ensures low { IfOk result (λ t. t.levels ≤ height_left + 1) }
 {
     if row > 2 || !cursor.at(Symbol::Question) {
         return Ok(test);
     }
-    let test = tested(cursor, high, test)?;
-    let first = up_to(cursor, place, high, Symbol::Colon)?;
-    let second = child(cursor, place, high, 2)?;
+    let test = tested(cursor, height_left, test)?;
+    let first = up_to(cursor, place, height_left, Symbol::Colon)?;
+    let second = child(cursor, place, height_left, 2)?;
     Ok(choice_between(test, first, second))
 }
 
@@ -365,14 +437,16 @@ fn choice(
 fn assignment(
     cursor: &mut Cursor,
     place: Place,
-    high: u32,
+    height_left: u32,
     row: u32,
-    whole: Tall,
-) -> Result<Tall, ParseFault>
-    requires low { high < 100 }
-    requires whole_low { whole.levels ≤ high + 1 }
-    ensures read { Gives (λ t. expr_view t.expr) result cursor.new (reading.assign_at (place_view place) (expr_at (place_view place) high) row (expr_view whole.expr) cursor.old) }
-    ensures low { IfOk result (λ t. t.levels ≤ high + 1) }
+    whole: Measured,
+) -> Result<Measured, ParseFault>
+    requires low { height_left < 100 }
+    requires whole_low { whole.levels ≤ height_left + 1 }
+    ensures read { Gives (λ t. expr_view t.expr) result cursor.new
+        (reading.assign_at (place_view place) (expr_at (place_view place) height_left) row
+        (expr_view whole.expr) cursor.old) }
+    ensures low { IfOk result (λ t. t.levels ≤ height_left + 1) }
 {
     if row > 1 || !in_method(place) {
         return Ok(whole);
@@ -380,11 +454,11 @@ fn assignment(
     let levels = whole.levels;
     let to = match into_path(whole.expr) {
         Ok(to) => to,
-        Err(expr) => return Ok(Tall { expr, levels }),
+        Err(expr) => return Ok(Measured { expr, levels }),
     };
     let Some(op) = cursor.assignment() else {
         return Ok(leaf(Expr::Reference(to)));
     };
-    let value = child(cursor, place, high, 1)?;
+    let value = child(cursor, place, height_left, 1)?;
     Ok(assigned(op, to, value))
 }

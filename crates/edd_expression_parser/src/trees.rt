@@ -17,14 +17,15 @@ use std::alloc::{AllocError, Global};
 
 /// An expression and its height.
 #[derive(Drop)]
-pub struct Tall {
+pub struct Measured {
     pub expr: Expr<Path>,
     pub levels: u32,
     ghost counted: { levels ≡ height (expr_view expr) },
 }
 
-/// An expression in a box, as another one has it, and its height. What is to be a child is boxed as soon as it is read: the proof of
-/// a function that holds a whole expression where a fault can stop it is far longer.
+/// An expression in a box, as another one has it, and its height. What is to be a child is boxed as
+/// soon as it is read: the proof of a function that holds a whole expression where a fault can stop
+/// it is far longer.
 #[derive(Drop)]
 pub struct Child {
     pub expr: Box<Expr<Path>>,
@@ -34,7 +35,7 @@ pub struct Child {
 
 /// An argument and its height.
 #[derive(Drop)]
-pub struct TallArgument {
+pub struct MeasuredArgument {
     pub argument: Argument<Path>,
     pub levels: u32,
     ghost counted: { levels ≡ argument_levels argument },
@@ -42,22 +43,22 @@ pub struct TallArgument {
 
 /// Arguments, and the height of the highest.
 #[derive(Drop)]
-pub struct TallArguments {
+pub struct MeasuredArguments {
     pub arguments: Vec<Argument<Path>>,
     pub levels: u32,
     ghost counted: { levels ≡ argument_height (listed arguments.items) },
 }
 
 /// An expression without children.
-pub fn leaf(expr: Expr<Path>) -> Tall
+pub fn leaf(expr: Expr<Path>) -> Measured
     requires { height (expr_view expr) ≡ 1 }
     ensures { result.expr ≡ expr }
 {
-    Tall { expr, levels: 1 }
+    Measured { expr, levels: 1 }
 }
 
 /// The expression in a box.
-pub fn boxed(alloc: Global, inner: Tall) -> Result<Child, AllocError>
+pub fn boxed(alloc: Global, inner: Measured) -> Result<Child, AllocError>
     ensures { IfOk result (λ c. (c.expr.value ≡ inner.expr) × (c.levels ≡ inner.levels)) }
 {
     Ok(Child {
@@ -67,45 +68,47 @@ pub fn boxed(alloc: Global, inner: Tall) -> Result<Child, AllocError>
 }
 
 /// `( inner )`
-pub fn parentheses(inner: Child) -> Tall
+pub fn parentheses(inner: Child) -> Measured
     requires { inner.levels ≤ 100 }
     ensures { expr_view result.expr ≡ tree.Parentheses (expr_view inner.expr.value) }
 {
-    Tall {
+    Measured {
         expr: Expr::Parentheses(inner.expr),
         levels: inner.levels + 1,
     }
 }
 
 /// An operator before its operand.
-pub fn unary_over(op: UnaryOperator, inner: Child) -> Tall
+pub fn unary_over(op: UnaryOperator, inner: Child) -> Measured
     requires { inner.levels ≤ 100 }
     ensures { expr_view result.expr ≡ tree.Unary op (expr_view inner.expr.value) }
 {
-    Tall {
+    Measured {
         expr: Expr::Unary(op, inner.expr),
         levels: inner.levels + 1,
     }
 }
 
 /// An assignment of a value.
-pub fn assigned(op: Assignment, to: Path, value: Child) -> Tall
+pub fn assigned(op: Assignment, to: Path, value: Child) -> Measured
     requires { value.levels ≤ 100 }
-    ensures { expr_view result.expr ≡ assignment_tree (assignment_view op) (path_of to) (expr_view value.expr.value) }
+    ensures { expr_view result.expr ≡ assignment_tree (assignment_view op) (path_of to)
+        (expr_view value.expr.value) }
 {
     let levels = value.levels + 1;
     let expr = match op {
         Assignment::Simple => Expr::Assign(to, value.expr),
         Assignment::Compound(op) => Expr::CompoundAssign(op, to, value.expr),
     };
-    Tall { expr, levels }
+    Measured { expr, levels }
 }
 
 /// An operator between two operands.
-pub fn binary(op: Infix, left: Child, right: Child) -> Tall
+pub fn binary(op: Infix, left: Child, right: Child) -> Measured
     requires left_low { left.levels ≤ 100 }
     requires right_low { right.levels ≤ 100 }
-    ensures { expr_view result.expr ≡ infix_tree (infix_view op) (expr_view left.expr.value) (expr_view right.expr.value) }
+    ensures { expr_view result.expr ≡ infix_tree (infix_view op) (expr_view left.expr.value)
+        (expr_view right.expr.value) }
 {
     let levels = left.levels.max(right.levels) + 1;
     let expr = match op {
@@ -114,17 +117,18 @@ pub fn binary(op: Infix, left: Child, right: Child) -> Tall
         Infix::Both => Expr::LogicalAnd(left.expr, right.expr),
         Infix::Either => Expr::LogicalOr(left.expr, right.expr),
     };
-    Tall { expr, levels }
+    Measured { expr, levels }
 }
 
 /// `test ? first : second`
-pub fn choice_between(test: Child, first: Child, second: Child) -> Tall
+pub fn choice_between(test: Child, first: Child, second: Child) -> Measured
     requires test_low { test.levels ≤ 100 }
     requires first_low { first.levels ≤ 100 }
     requires second_low { second.levels ≤ 100 }
-    ensures { expr_view result.expr ≡ tree.Conditional (expr_view test.expr.value) (expr_view first.expr.value) (expr_view second.expr.value) }
+    ensures { expr_view result.expr ≡ tree.Conditional (expr_view test.expr.value)
+        (expr_view first.expr.value) (expr_view second.expr.value) }
 {
-    Tall {
+    Measured {
         levels: test.levels.max(first.levels.max(second.levels)) + 1,
         expr: Expr::Conditional(test.expr, first.expr, second.expr),
     }
@@ -145,13 +149,14 @@ pub fn call(
     alloc: Global,
     line: u32,
     name: &str,
-    arguments: TallArguments,
-) -> Result<Tall, AllocError>
+    arguments: MeasuredArguments,
+) -> Result<Measured, AllocError>
     requires { arguments.levels ≤ 100 }
-    ensures { IfOk result (λ t. expr_view t.expr ≡ tree.Call (record { base = name.now; members = [] }) (listed arguments.arguments.items)) }
+    ensures { IfOk result (λ t. expr_view t.expr
+        ≡ tree.Call (record { base = name.now; members = [] }) (listed arguments.arguments.items)) }
 {
     let function = plain(alloc, name)?;
-    Ok(Tall {
+    Ok(Measured {
         expr: Expr::Call {
             line,
             function,
@@ -162,11 +167,11 @@ pub fn call(
 }
 
 /// No arguments.
-pub fn no_arguments(alloc: Global) -> TallArguments
+pub fn no_arguments(alloc: Global) -> MeasuredArguments
     ensures items { result.arguments.items ≡ [] }
     ensures levels { result.levels ≡ 0 }
 {
-    TallArguments {
+    MeasuredArguments {
         arguments: Vec::new(alloc),
         levels: 0,
     }
@@ -174,18 +179,23 @@ pub fn no_arguments(alloc: Global) -> TallArguments
 
 /// One more argument at the end.
 #[tactic(auto, using(crate::proofs::ArgumentHeights::listed_height))]
-pub fn with_argument(all: TallArguments, next: TallArgument) -> Result<TallArguments, AllocError>
-    ensures { IfOk result (λ a. (a.arguments.items ≡ all.arguments.items ++ next.argument ∷ []) × (a.levels ≡ max all.levels next.levels)) }
+pub fn with_argument(
+    all: MeasuredArguments,
+    next: MeasuredArgument,
+) -> Result<MeasuredArguments, AllocError>
+    ensures { IfOk result (λ a. (a.arguments.items ≡ all.arguments.items ++ next.argument ∷ [])
+        × (a.levels ≡ max all.levels next.levels)) }
 {
     let levels = all.levels.max(next.levels);
     let mut arguments = all.arguments;
     arguments.push(next.argument)?;
-    Ok(TallArguments { arguments, levels })
+    Ok(MeasuredArguments { arguments, levels })
 }
 
 /// The reference, or the expression as it was.
 pub fn into_path(expr: Expr<Path>) -> Result<Path, Expr<Path>>
-    ensures { MatchResult result (λ r. expr_view expr ≡ tree.Reference (path_of r)) (λ e. (e ≡ expr) × (as_path (expr_view expr) ≡ None)) }
+    ensures { MatchResult result (λ r. expr_view expr ≡ tree.Reference (path_of r))
+        (λ e. (e ≡ expr) × (as_path (expr_view expr) ≡ None)) }
 {
     match expr {
         Expr::Reference(to) => Ok(to),

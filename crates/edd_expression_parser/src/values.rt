@@ -11,9 +11,10 @@ ghost use Rattle.edd_syntax.specs.WordsView.{text_of};
 ghost use Rattle.edd_syntax.specs.ItemView.{enumerator_of, data_item_of, entry_of};
 ghost use Rattle.edd_grammar.specs.ConditionalReading.{text_value, expr_value};
 ghost use Rattle.edd_grammar.specs.ValueReading as reading;
+ghost use Rattle.edd_expression_parser.specs.ValuesShorten as lengths;
 ghost use Rattle.edd_token_reader.specs.Views.{Gives};
 
-use crate::cond::{Value, label};
+use crate::cond::{ParseValue, label};
 use crate::expr::expr;
 use edd_syntax::expr::Expr;
 use edd_syntax::item::{DataItem, Enumerator, MenuEntry};
@@ -30,12 +31,14 @@ use edd_token_reader::qualifiers::{data_qualifiers, menu_qualifiers};
 use edd_token_reader::texts::{at_text, path, text};
 use edd_token_reader::words::{handling, integer, optional_text, some_text, truth};
 
-impl Value for Text {
+impl ParseValue for Text {
     ghost Pure = { texts.Text };
 
     ghost view = { text_of };
 
     ghost read = { text_value };
+
+    ghost shortens = { lengths.text_shortens };
 
     #[tactic(auto, unfolding(edd_grammar::specs::ConditionalReading::text_value))]
     fn read_value(cursor: &mut Cursor, _high: u32) -> Result<Text, ParseFault> {
@@ -46,26 +49,30 @@ impl Value for Text {
     }
 }
 
-impl Value for Expr<Path> {
+impl ParseValue for Expr<Path> {
     ghost Pure = { pure.Expr references.Path };
 
     ghost view = { λ e. expr_of path_of e };
 
     ghost read = { expr_value };
 
+    ghost shortens = { lengths.expr_shortens };
+
     #[tactic(auto, unfolding(edd_grammar::specs::ConditionalReading::expr_value))]
-    fn read_value(cursor: &mut Cursor, high: u32) -> Result<Expr<Path>, ParseFault> {
-        let value = expr(cursor, Place::Attribute, high, 2)?;
+    fn read_value(cursor: &mut Cursor, height_left: u32) -> Result<Expr<Path>, ParseFault> {
+        let value = expr(cursor, Place::Attribute, height_left, 2)?;
         Ok(value.expr)
     }
 }
 
-impl Value for Handling {
+impl ParseValue for Handling {
     ghost Pure = { handling_words.Handling };
 
     ghost view = { λ h. h };
 
     ghost read = { reading.handling_value };
+
+    ghost shortens = { lengths.handling_shortens };
 
     #[tactic(auto, unfolding(edd_grammar::specs::ValueReading::handling_value))]
     fn read_value(cursor: &mut Cursor, _high: u32) -> Result<Handling, ParseFault> {
@@ -73,12 +80,14 @@ impl Value for Handling {
     }
 }
 
-impl Value for bool {
+impl ParseValue for bool {
     ghost Pure = { Bool };
 
     ghost view = { λ b. b };
 
     ghost read = { reading.truth_value };
+
+    ghost shortens = { lengths.truth_shortens };
 
     #[tactic(auto, unfolding(edd_grammar::specs::ValueReading::truth_value))]
     fn read_value(cursor: &mut Cursor, _high: u32) -> Result<bool, ParseFault> {
@@ -106,12 +115,14 @@ fn enumerator(cursor: &mut Cursor) -> Result<Enumerator, ParseFault>
     })
 }
 
-impl Value for Enumerator {
+impl ParseValue for Enumerator {
     ghost Pure = { item.Enumerator };
 
     ghost view = { enumerator_of };
 
     ghost read = { reading.enumerator_value };
+
+    ghost shortens = { lengths.enumerator_shortens };
 
     #[tactic(auto, unfolding(edd_grammar::specs::ValueReading::enumerator_value))]
     fn read_value(cursor: &mut Cursor, _high: u32) -> Result<Enumerator, ParseFault> {
@@ -134,7 +145,8 @@ fn mask(cursor: &mut Cursor) -> Result<Option<u32>, ParseFault>
 
 #[tactic(auto, unfolding(edd_grammar::specs::ValueReading::data_variable_at, edd_token_reader::specs::Qualifiers::data_at))]
 fn data_variable(cursor: &mut Cursor) -> Result<DataItem<Path>, ParseFault>
-    ensures { Gives (λ d. data_item_of path_of d) result cursor.new (reading.data_variable_at cursor.old) }
+    ensures { Gives (λ d. data_item_of path_of d) result cursor.new
+        (reading.data_variable_at cursor.old) }
 {
     let line = cursor.line();
     let variable = path(cursor)?;
@@ -151,7 +163,8 @@ fn data_variable(cursor: &mut Cursor) -> Result<DataItem<Path>, ParseFault>
 // A number, or a reference with a mask and qualifiers that may be missing.
 #[tactic(auto, unfolding(edd_grammar::specs::ValueReading::data_item_at))]
 fn data_item(cursor: &mut Cursor) -> Result<DataItem<Path>, ParseFault>
-    ensures { Gives (λ d. data_item_of path_of d) result cursor.new (reading.data_item_at cursor.old) }
+    ensures { Gives (λ d. data_item_of path_of d) result cursor.new
+        (reading.data_item_at cursor.old) }
 {
     let line = cursor.line();
     if let Some(value) = cursor.integer() {
@@ -160,12 +173,14 @@ fn data_item(cursor: &mut Cursor) -> Result<DataItem<Path>, ParseFault>
     data_variable(cursor)
 }
 
-impl Value for DataItem<Path> {
+impl ParseValue for DataItem<Path> {
     ghost Pure = { item.DataItem references.Path };
 
     ghost view = { λ d. data_item_of path_of d };
 
     ghost read = { reading.data_item_value };
+
+    ghost shortens = { lengths.data_item_shortens };
 
     #[tactic(auto, unfolding(edd_grammar::specs::ValueReading::data_item_value))]
     fn read_value(cursor: &mut Cursor, _high: u32) -> Result<DataItem<Path>, ParseFault> {
@@ -175,7 +190,8 @@ impl Value for DataItem<Path> {
 
 #[tactic(auto, unfolding(edd_grammar::specs::ValueReading::menu_reference_at, edd_token_reader::specs::Qualifiers::menu_at))]
 fn menu_reference(cursor: &mut Cursor) -> Result<MenuEntry<Path>, ParseFault>
-    ensures { Gives (λ e. entry_of path_of e) result cursor.new (reading.menu_reference_at cursor.old) }
+    ensures { Gives (λ e. entry_of path_of e) result cursor.new
+        (reading.menu_reference_at cursor.old) }
 {
     let to = path(cursor)?;
     let qualifiers = menu_qualifiers(cursor)?;
@@ -193,12 +209,14 @@ fn menu_entry(cursor: &mut Cursor) -> Result<MenuEntry<Path>, ParseFault>
     menu_reference(cursor)
 }
 
-impl Value for MenuEntry<Path> {
+impl ParseValue for MenuEntry<Path> {
     ghost Pure = { item.MenuEntry references.Path };
 
     ghost view = { λ e. entry_of path_of e };
 
     ghost read = { reading.menu_entry_value };
+
+    ghost shortens = { lengths.menu_entry_shortens };
 
     #[tactic(auto, unfolding(edd_grammar::specs::ValueReading::menu_entry_value))]
     fn read_value(cursor: &mut Cursor, _high: u32) -> Result<MenuEntry<Path>, ParseFault> {

@@ -22,27 +22,42 @@ CondFollows Follows (cond.If condition first otherwise) rest = Unit {0}
 CondFollows Follows (Select on arms) rest = Unit {0}
 
 -- what follows ELSE without braces is read as an IF
-pub record ReadsIf {V : Type 0} (inner : List Token → Read (Cond Path V)) (otherwise : Conds Path V) (here rest : List Token) : Type 0 where
+pub record ReadsIf {V : Type 0} (inner : List Token → Read (Cond Path V)) (otherwise : Conds Path V)
+    (here rest : List Token) : Type 0 where
   pub only : Cond Path V
   pub is_one : otherwise ≡ cond.Cons only cond.Nil
   pub is_if : at_word word.If here ≡ true
   pub again : inner here ≡ Some (only, rest)
 
-module _ {V : Type 0} (of : V → ℕ) (Here : Spelling V) (Inside Again : Spelling (Conds Path V)) (Follows : List Token → Type 0) (high : ℕ)
-    (value : List Token → Read V) (branch : List Token → Read (Conds Path V)) (inner : List Token → Read (Cond Path V))
-    (value_again : (v : V) (here rest : List Token) → Here v here rest → of v ≤ high → Follows rest → value here ≡ Some (v, rest))
-    (value_starts : (v : V) (here rest : List Token) → Here v here rest → (at_word word.If here ≡ false) × (at_word word.Select here ≡ false))
-    (branch_again : (all : Conds Path V) (here rest : List Token) → Inside all here rest → conds_height of all ≤ high → EndsBranch rest → branch here ≡ Some (all, rest))
-    (inside_shorter : (all : Conds Path V) (here rest : List Token) → Inside all here rest → length rest ≤ length here)
-    (inner_again : (otherwise : Conds Path V) (here rest : List Token) → Again otherwise here rest → conds_height of otherwise ≤ high → ReadsIf inner otherwise here rest) where
-  braces_again : (all : Conds Path V) (here inside rest : List Token) → here ≡ Sign sign.OpenBrace ∷ inside → Inside all inside (Sign sign.CloseBrace ∷ rest) → conds_height of all ≤ high
-      → braces_at high value branch inner here ≡ Some (all, rest)
+module _ {V : Type 0} (of : V → ℕ) (Here : Spelling V) (Inside Again : Spelling (Conds Path V))
+    (Follows : List Token → Type 0) (height_left : ℕ)
+    (value : List Token → Read V) (branch : List Token → Read (Conds Path V)) (inner : List Token
+    → Read (Cond Path V))
+    (value_again : (v : V) (here rest : List Token) → Here v here rest → of v ≤ height_left
+    → Follows rest → value here ≡ Some (v, rest))
+    (value_starts : (v : V) (here rest : List Token) → Here v here rest
+    → (at_word word.If here ≡ false) × (at_word word.Select here ≡ false))
+    (branch_again : (all : Conds Path V) (here rest : List Token) → Inside all here rest
+    → conds_height of all ≤ height_left → EndsBranch rest → branch here ≡ Some (all, rest))
+    (inside_shorter : (all : Conds Path V) (here rest : List Token) → Inside all here rest
+    → length rest ≤ length here)
+    (inner_again : (otherwise : Conds Path V) (here rest : List Token) → Again otherwise here rest
+    → conds_height of otherwise ≤ height_left → ReadsIf inner otherwise here rest) where
+  braces_again : (all : Conds Path V) (here inside rest : List Token) → here ≡ Sign sign.OpenBrace
+      ∷ inside → Inside all inside (Sign sign.CloseBrace ∷ rest) → conds_height of all ≤ height_left
+      → braces_at height_left value branch inner here ≡ Some (all, rest)
   unfolding braces_at
   braces_again all here inside rest e h low =
-      rw (e, expect_again sign.OpenBrace inside, branch_again all inside (Sign sign.CloseBrace ∷ rest) h low (inl refl), expect_again sign.CloseBrace rest) refl
+      rw (
+        e,
+        expect_again sign.OpenBrace inside,
+        branch_again all inside (Sign sign.CloseBrace ∷ rest) h low (inl refl),
+        expect_again sign.CloseBrace rest,
+      ) refl
 
-  else_again : (otherwise : Conds Path V) (here rest : List Token) → ElseOf Inside Again otherwise here rest → conds_height of otherwise ≤ high
-      → else_at high value branch inner here ≡ Some (otherwise, rest)
+  else_again : (otherwise : Conds Path V) (here rest : List Token)
+      → ElseOf Inside Again otherwise here rest → conds_height of otherwise ≤ height_left
+      → else_at height_left value branch inner here ≡ Some (otherwise, rest)
   unfolding else_at
   else_again otherwise here rest (inl h) low = rw (h.0, h.1.0, no_word word.Else rest h.1.1) refl
   else_again otherwise here rest (inr (inl h)) low =
@@ -52,33 +67,54 @@ module _ {V : Type 0} (of : V → ℕ) (Here : Spelling V) (Inside Again : Spell
       let r = inner_again otherwise h.0 rest h.2 low in
       rw (h.1, r.is_if, r.again) (ap (λ (o : Conds Path V). Some (o, rest)) (sym r.is_one))
 
-  arms_end : (arms : Arms Path V) (here rest : List Token) → ArmsOf Inside arms here (Sign sign.CloseBrace ∷ rest) → EndsBranch here
+  arms_end : (arms : Arms Path V) (here rest : List Token)
+      → ArmsOf Inside arms here (Sign sign.CloseBrace ∷ rest) → EndsBranch here
   arms_end NoArms here rest h = inl (ap (at sign.CloseBrace) h)
   arms_end (ConsArm (Case label body) arms) here rest h = inr (inl (ap (at_word word.Case) h.2.2))
   arms_end (ConsArm (Default body) arms) here rest h = inr (inr (ap (at_word word.Default) h.2))
 
-  arms_again : (n : ℕ) (arms : Arms Path V) (here rest : List Token) → length here < n → arms_height of arms ≤ high → ArmsOf Inside arms here (Sign sign.CloseBrace ∷ rest)
-      → arms_at high value branch inner n here ≡ Some (arms, Sign sign.CloseBrace ∷ rest)
+  arms_again : (n : ℕ) (arms : Arms Path V) (here rest : List Token) → length here < n
+      → arms_height of arms ≤ height_left → ArmsOf Inside arms here (Sign sign.CloseBrace ∷ rest)
+      → arms_at height_left value branch inner n here ≡ Some (arms, Sign sign.CloseBrace ∷ rest)
   unfolding arms_at case_at default_at
   arms_again zero arms here rest lt low h = absurd (omega arith)
   arms_again (suc n) NoArms here rest lt low h = rw h refl
   arms_again (suc n) (ConsArm (Case label body) arms) here rest lt low h =
       let c = h.2 in
       let one = branch_again body h.0 h.1 h.3 (omega arith) (arms_end arms h.1 rest h.4) in
-      let more = arms_again n arms h.1 rest (let s = inside_shorter body h.0 h.1 h.3 in let l = label_shorter label c.0 c.1 c.3 in omega (arith, ap length c.2, ap length c.4)) (omega arith) h.4 in
+      let more = arms_again n arms h.1 rest (let s = inside_shorter body h.0 h.1 h.3 in let l =
+      label_shorter label c.0 c.1 c.3 in omega (arith, ap length c.2, ap length c.4))
+      (omega arith) h.4 in
       rw (c.2, label_again label c.0 c.1 c.3, c.4, expect_again sign.Colon h.0, one, more) refl
   arms_again (suc n) (ConsArm (Default body) arms) here rest lt low h =
       let one = branch_again body h.0 h.1 h.3 (omega arith) (arms_end arms h.1 rest h.4) in
-      let more = arms_again n arms h.1 rest (let s = inside_shorter body h.0 h.1 h.3 in omega (arith, ap length h.2)) (omega arith) h.4 in
+      let more = arms_again n arms h.1 rest
+      (let s = inside_shorter body h.0 h.1 h.3 in omega (arith, ap length h.2)) (omega arith)
+      h.4 in
       rw (h.2, expect_again sign.Colon h.0, one, more) refl
 
-  pub cond_again : (x : Cond Path V) (here rest : List Token) → CondOf Inside Here Again x here rest → cond_height of x ≤ suc high → CondFollows Follows x rest
-      → cond_layer high value branch inner here ≡ Some (x, rest)
+  pub cond_again : (x : Cond Path V) (here rest : List Token) → CondOf Inside Here Again x here rest
+      → cond_height of x ≤ suc height_left → CondFollows Follows x rest
+      → cond_layer height_left value branch inner here ≡ Some (x, rest)
   unfolding cond_layer if_at select_at
   cond_again (Value v) here rest h low f =
       let starts = value_starts v here rest h in
       rw (starts.0, starts.1, value_again v here rest h (omega arith) f) refl
   cond_again (cond.If condition first otherwise) here rest h low f =
-      rw (h.4, condition_again InAttribute high condition h.0 h.1 h.5 (omega arith), braces_again first h.1 h.2 h.3 h.6 h.7 (omega arith), else_again otherwise h.3 rest h.8 (omega arith)) refl
+      rw (
+        h.4,
+        condition_again InAttribute height_left condition h.0 h.1 h.5 (omega arith),
+        braces_again first h.1 h.2 h.3 h.6 h.7 (omega arith),
+        else_again otherwise h.3 rest h.8
+            (omega arith),
+      ) refl
   cond_again (Select on arms) here rest h low f =
-      rw (h.3, condition_again InAttribute high on h.0 h.1 h.4 (omega arith), h.5, expect_again sign.OpenBrace h.2, arms_again (suc (length h.2)) arms h.2 rest (omega arith) (omega arith) h.6, expect_again sign.CloseBrace rest) refl
+      rw (
+        h.3,
+        condition_again InAttribute height_left on h.0 h.1 h.4 (omega arith),
+        h.5,
+        expect_again sign.OpenBrace h.2,
+        arms_again (suc (length h.2)) arms h.2 rest (omega arith)
+            (omega arith) h.6,
+        expect_again sign.CloseBrace rest,
+      ) refl

@@ -33,57 +33,139 @@ use Rattle.edd_grammar.proofs.SoundAttributes.{attribute_sound}
 
 -- ---- CLASS
 
-more_names_again : (names : List Name) (here rest : List Token) → MoreNamesHere (sign.Operator operator.And) names here (Sign sign.Semicolon ∷ rest) → more_names_at here ≡ (names, Sign sign.Semicolon ∷ rest)
+more_names_again : (names : List Name) (here rest : List Token)
+    → MoreNamesHere (sign.Operator operator.And) names here (Sign sign.Semicolon ∷ rest)
+    → more_names_at here ≡ (names, Sign sign.Semicolon ∷ rest)
 more_names_again [] here rest h = ap more_names_at h
-more_names_again (n ∷ more) here rest h = ap more_names_at (h.2 ∙ ap (λ u. Sign (sign.Operator operator.And) ∷ u) h.3) ∙ ap (λ (x : List Name × List Token). (n ∷ x.0, x.1)) (more_names_again more h.1 rest h.4)
+more_names_again (n ∷ more) here rest h =
+    ap more_names_at (h.2 ∙ ap (λ u. Sign (sign.Operator operator.And) ∷ u) h.3)
+    ∙ ap (λ (x : List Name × List Token). (n ∷ x.0, x.1)) (more_names_again more h.1 rest h.4)
 
-more_names_shorter : (names : List Name) (here rest : List Token) → MoreNamesHere (sign.Operator operator.And) names here rest → length rest ≤ length here
+more_names_shorter : (names : List Name) (here rest : List Token)
+    → MoreNamesHere (sign.Operator operator.And) names here rest → length rest ≤ length here
 more_names_shorter [] here rest h = omega (arith, ap length h)
-more_names_shorter (n ∷ more) here rest h = omega (arith, ap length h.2, ap length h.3, more_names_shorter more h.1 rest h.4)
+more_names_shorter (n ∷ more) here rest h =
+    omega (arith, ap length h.2, ap length h.3, more_names_shorter more h.1 rest h.4)
 
-names_shorter : (names : List Name) (here rest : List Token) → NamesHere (sign.Operator operator.And) names here rest → length rest ≤ length here
+names_shorter : (names : List Name) (here rest : List Token)
+    → NamesHere (sign.Operator operator.And) names here rest → length rest ≤ length here
 names_shorter [] here rest h = absurd h
-names_shorter (n ∷ more) here rest h = omega (arith, ap length h.1, more_names_shorter more h.0 rest h.2)
+names_shorter (n ∷ more) here rest h =
+    omega (arith, ap length h.1, more_names_shorter more h.0 rest h.2)
 
 -- ---- attributes
 
-pub attribute_again : (high : ℕ) (a : Attribute Path) (here rest : List Token) → AttributeHere a here rest → attribute_height a ≤ high → attribute_at high here ≡ Some (a, rest)
-unfolding attribute_at other_attribute_at class_words_at names_at command_number_at command_operation_at transaction_at
-attribute_again high (item.OneText which c) here rest h low = rw (h.1.2, h.1.1, one_again leaf TextHere text_value text_values high c h.0 rest h.2 low) refl
-attribute_again high (item.Class []) here rest h low = absurd h.2
-attribute_again high (item.Class (n ∷ more)) here rest h low = rw (h.1, h.2.1, more_names_again more h.2.0 rest h.2.2, expect_again sign.Semicolon rest) refl
-attribute_again high (item.Handling c) here rest h low = rw (h.1, one_again leaf HandlingHere handling_value handling_values high c h.0 rest h.2 low) refl
-attribute_again high (item.Validity c) here rest h low = rw (h.1, one_again leaf TruthHere truth_value truth_values high c h.0 rest h.2 low) refl
-attribute_again high (item.TypeOf type parts) here rest h low = rw (h.1, type_again high type parts h.0 rest h.2 low) refl
-attribute_again high (item.Number n) here rest h low = rw (h, expect_again sign.Semicolon rest) refl
-attribute_again high (item.Operation o) here rest h low = rw (h.1, operation_again o h.0 (Sign sign.Semicolon ∷ rest) h.2, expect_again sign.Semicolon rest) refl
-attribute_again high (item.Transaction number parts) here rest h low =
-    rw (h.3, number_again number h.0 h.1 (ap integer_at h.5) h.4, transaction_parts_again high parts h.1 rest (h.2, h.5, h.6) low) refl
-attribute_again high (item.ResponseCodes responses) here rest h low =
-    let inside = row_inside_again ResponseCodeHere leaf (greatest_of (map leaf responses)) AfterResponse response_code_at (response_codes (greatest_of (map leaf responses))) responses h.0 rest h.2 (omega arith) in
-    rw (h.1, braced_again (row_inside response_code_at) responses (Sign sign.OpenBrace ∷ h.0) h.0 rest refl inside) refl
-attribute_again high (item.Items entries) here rest h low =
-    let inside = list_again leaf MenuEntryHere EndsEntry menu_entry_value listed_menu_entries high entries h.0 (Sign sign.CloseBrace ∷ rest) h.2 low (inl refl) in
-    rw (h.1, braced_again (list_at menu_entry_value high) entries (Sign sign.OpenBrace ∷ h.0) h.0 rest refl inside) refl
-attribute_again high (item.Members all) here rest h low =
-    let inside = row_inside_again MemberHere leaf (greatest_of (map leaf all)) (λ rest. Unit {0}) member_at (members (greatest_of (map leaf all))) all h.0 rest h.2 (omega arith) in
-    rw (h.1, braced_again (row_inside member_at) all (Sign sign.OpenBrace ∷ h.0) h.0 rest refl inside) refl
-attribute_again high (item.Definition body) here rest h low = rw (h.1, expect_again sign.OpenBrace h.0, definition_again high body h.0 rest h.2 low) refl
+pub attribute_again : (height_left : ℕ) (a : Attribute Path) (here rest : List Token)
+    → AttributeHere a here rest → attribute_height a ≤ height_left → attribute_at height_left here
+    ≡ Some (a, rest)
+unfolding attribute_at other_attribute_at class_words_at names_at command_number_at
+    command_operation_at transaction_at
+attribute_again height_left (item.OneText which c) here rest h low =
+    rw (h.1.2, h.1.1, one_again leaf TextHere text_value text_values height_left c h.0 rest h.2 low)
+    refl
+attribute_again height_left (item.Class []) here rest h low = absurd h.2
+attribute_again height_left (item.Class (n ∷ more)) here rest h low =
+    rw (h.1, h.2.1, more_names_again more h.2.0 rest h.2.2, expect_again sign.Semicolon rest) refl
+attribute_again height_left (item.Handling c) here rest h low =
+    rw (
+      h.1,
+      one_again leaf HandlingHere handling_value handling_values height_left c h.0 rest h.2
+          low,
+    ) refl
+attribute_again height_left (item.Validity c) here rest h low =
+    rw (h.1, one_again leaf TruthHere truth_value truth_values height_left c h.0 rest h.2 low) refl
+attribute_again height_left (item.TypeOf type parts) here rest h low =
+    rw (h.1, type_again height_left type parts h.0 rest h.2 low) refl
+attribute_again height_left (item.Number n) here rest h low =
+    rw (h, expect_again sign.Semicolon rest) refl
+attribute_again height_left (item.Operation o) here rest h low =
+    rw (
+      h.1,
+      operation_again o h.0 (Sign sign.Semicolon ∷ rest) h.2,
+      expect_again sign.Semicolon
+          rest,
+    ) refl
+attribute_again height_left (item.Transaction number parts) here rest h low =
+    rw (
+      h.3,
+      number_again number h.0 h.1 (ap integer_at h.5) h.4,
+      transaction_parts_again height_left parts h.1 rest (h.2, h.5, h.6) low,
+    ) refl
+attribute_again height_left (item.ResponseCodes responses) here rest h low =
+    let inside = row_inside_again ResponseCodeHere leaf (greatest_of (map leaf responses))
+    AfterResponse response_code_at (response_codes (greatest_of (map leaf responses))) responses
+    h.0 rest h.2 (omega arith) in
+    rw (
+      h.1,
+      braced_again (row_inside response_code_at) responses (Sign sign.OpenBrace ∷ h.0) h.0
+          rest refl inside,
+    ) refl
+attribute_again height_left (item.Items entries) here rest h low =
+    let inside = list_again leaf MenuEntryHere EndsEntry menu_entry_value listed_menu_entries
+    height_left entries h.0 (Sign sign.CloseBrace ∷ rest) h.2 low (inl refl) in
+    rw (
+      h.1,
+      braced_again (list_at menu_entry_value height_left) entries (Sign sign.OpenBrace ∷ h.0)
+          h.0 rest refl inside,
+    ) refl
+attribute_again height_left (item.Members all) here rest h low =
+    let inside = row_inside_again MemberHere leaf (greatest_of (map leaf all)) (λ rest. Unit {0})
+    member_at (members (greatest_of (map leaf all))) all h.0 rest h.2 (omega arith) in
+    rw (
+      h.1,
+      braced_again (row_inside member_at) all (Sign sign.OpenBrace ∷ h.0) h.0 rest refl
+          inside,
+    ) refl
+attribute_again height_left (item.Definition body) here rest h low =
+    rw (h.1, expect_again sign.OpenBrace h.0, definition_again height_left body h.0 rest h.2 low)
+    refl
 
-pub attribute_shorter : (a : Attribute Path) (here rest : List Token) → AttributeHere a here rest → length rest < length here
-attribute_shorter (item.OneText which c) here rest h = omega (arith, ap length h.1.2, one_shorter leaf TextHere text_value text_values c h.0 rest h.2)
-attribute_shorter (item.Class names) here rest h = omega (arith, ap length h.1, names_shorter names h.0 _ h.2)
-attribute_shorter (item.Handling c) here rest h = omega (arith, ap length h.1, one_shorter leaf HandlingHere handling_value handling_values c h.0 rest h.2)
-attribute_shorter (item.Validity c) here rest h = omega (arith, ap length h.1, one_shorter leaf TruthHere truth_value truth_values c h.0 rest h.2)
-attribute_shorter (item.TypeOf type parts) here rest h = omega (arith, ap length h.1, type_shorter type parts h.0 rest h.2)
+pub attribute_shorter : (a : Attribute Path) (here rest : List Token) → AttributeHere a here rest
+    → length rest < length here
+attribute_shorter (item.OneText which c) here rest h =
+    omega (arith, ap length h.1.2, one_shorter leaf TextHere text_value text_values c h.0 rest h.2)
+attribute_shorter (item.Class names) here rest h =
+    omega (arith, ap length h.1, names_shorter names h.0 _ h.2)
+attribute_shorter (item.Handling c) here rest h =
+    omega (
+      arith,
+      ap length h.1,
+      one_shorter leaf HandlingHere handling_value handling_values c h.0
+          rest h.2,
+    )
+attribute_shorter (item.Validity c) here rest h =
+    omega (arith, ap length h.1, one_shorter leaf TruthHere truth_value truth_values c h.0 rest h.2)
+attribute_shorter (item.TypeOf type parts) here rest h =
+    omega (arith, ap length h.1, type_shorter type parts h.0 rest h.2)
 attribute_shorter (item.Number n) here rest h = omega (arith, ap length h)
-attribute_shorter (item.Operation o) here rest h = omega (arith, ap length h.1, operation_shorter o h.0 _ h.2)
+attribute_shorter (item.Operation o) here rest h =
+    omega (arith, ap length h.1, operation_shorter o h.0 _ h.2)
 attribute_shorter (item.Transaction number parts) here rest h =
-    omega (arith, ap length h.3, number_shorter number h.0 h.1 h.4, transaction_parts_shorter parts h.1 rest (h.2, h.5, h.6))
-attribute_shorter (item.ResponseCodes responses) here rest h = omega (arith, ap length h.1, row_shorter ResponseCodeHere (response_codes 0).shorter responses h.0 _ h.2)
-attribute_shorter (item.Items entries) here rest h = omega (arith, ap length h.1, list_shorter leaf MenuEntryHere EndsEntry menu_entry_value listed_menu_entries entries h.0 _ h.2)
-attribute_shorter (item.Members all) here rest h = omega (arith, ap length h.1, row_shorter MemberHere (members 0).shorter all h.0 _ h.2)
-attribute_shorter (item.Definition body) here rest h = omega (arith, ap length h.1, body_shorter false body h.0 _ h.2)
+    omega (
+      arith,
+      ap length h.3,
+      number_shorter number h.0 h.1 h.4,
+      transaction_parts_shorter parts
+          h.1 rest (h.2, h.5, h.6),
+    )
+attribute_shorter (item.ResponseCodes responses) here rest h =
+    omega (
+      arith,
+      ap length h.1,
+      row_shorter ResponseCodeHere (response_codes 0).shorter responses
+          h.0 _ h.2,
+    )
+attribute_shorter (item.Items entries) here rest h =
+    omega (
+      arith,
+      ap length h.1,
+      list_shorter leaf MenuEntryHere EndsEntry menu_entry_value
+          listed_menu_entries entries h.0 _ h.2,
+    )
+attribute_shorter (item.Members all) here rest h =
+    omega (arith, ap length h.1, row_shorter MemberHere (members 0).shorter all h.0 _ h.2)
+attribute_shorter (item.Definition body) here rest h =
+    omega (arith, ap length h.1, body_shorter false body h.0 _ h.2)
 
 -- ---- the word of an attribute
 
@@ -93,39 +175,59 @@ record StartsAttribute (a : Attribute Path) (here : List Token) : Type 0 where
   pub no_semicolon : at sign.Semicolon here ≡ false
   pub belongs : (k : Kind) → begins_own k here ≡ belongs_to k a
 
-starts_attribute : (a : Attribute Path) (here rest : List Token) → AttributeHere a here rest → StartsAttribute a here
-starts_attribute (item.OneText which c) here rest h = rw h.1.2 (record { no_close = refl; no_semicolon = refl; belongs = λ k. rw h.1.1 refl })
-starts_attribute (item.Class names) here rest h = rw h.1 (record { no_close = refl; no_semicolon = refl; belongs = λ k. refl })
-starts_attribute (item.Handling c) here rest h = rw h.1 (record { no_close = refl; no_semicolon = refl; belongs = λ k. refl })
-starts_attribute (item.Validity c) here rest h = rw h.1 (record { no_close = refl; no_semicolon = refl; belongs = λ k. refl })
-starts_attribute (item.TypeOf type parts) here rest h = rw h.1 (record { no_close = refl; no_semicolon = refl; belongs = λ k. refl })
-starts_attribute (item.Number n) here rest h = rw h (record { no_close = refl; no_semicolon = refl; belongs = λ k. refl })
-starts_attribute (item.Operation o) here rest h = rw h.1 (record { no_close = refl; no_semicolon = refl; belongs = λ k. refl })
-starts_attribute (item.Transaction number parts) here rest h = rw h.3 (record { no_close = refl; no_semicolon = refl; belongs = λ k. refl })
-starts_attribute (item.ResponseCodes responses) here rest h = rw h.1 (record { no_close = refl; no_semicolon = refl; belongs = λ k. refl })
-starts_attribute (item.Items entries) here rest h = rw h.1 (record { no_close = refl; no_semicolon = refl; belongs = λ k. refl })
-starts_attribute (item.Members all) here rest h = rw h.1 (record { no_close = refl; no_semicolon = refl; belongs = λ k. refl })
-starts_attribute (item.Definition body) here rest h = rw h.1 (record { no_close = refl; no_semicolon = refl; belongs = λ k. refl })
+starts_attribute : (a : Attribute Path) (here rest : List Token) → AttributeHere a here rest
+    → StartsAttribute a here
+starts_attribute (item.OneText which c) here rest h =
+    rw h.1.2 (record { no_close = refl; no_semicolon = refl; belongs = λ k. rw h.1.1 refl })
+starts_attribute (item.Class names) here rest h =
+    rw h.1 (record { no_close = refl; no_semicolon = refl; belongs = λ k. refl })
+starts_attribute (item.Handling c) here rest h =
+    rw h.1 (record { no_close = refl; no_semicolon = refl; belongs = λ k. refl })
+starts_attribute (item.Validity c) here rest h =
+    rw h.1 (record { no_close = refl; no_semicolon = refl; belongs = λ k. refl })
+starts_attribute (item.TypeOf type parts) here rest h =
+    rw h.1 (record { no_close = refl; no_semicolon = refl; belongs = λ k. refl })
+starts_attribute (item.Number n) here rest h =
+    rw h (record { no_close = refl; no_semicolon = refl; belongs = λ k. refl })
+starts_attribute (item.Operation o) here rest h =
+    rw h.1 (record { no_close = refl; no_semicolon = refl; belongs = λ k. refl })
+starts_attribute (item.Transaction number parts) here rest h =
+    rw h.3 (record { no_close = refl; no_semicolon = refl; belongs = λ k. refl })
+starts_attribute (item.ResponseCodes responses) here rest h =
+    rw h.1 (record { no_close = refl; no_semicolon = refl; belongs = λ k. refl })
+starts_attribute (item.Items entries) here rest h =
+    rw h.1 (record { no_close = refl; no_semicolon = refl; belongs = λ k. refl })
+starts_attribute (item.Members all) here rest h =
+    rw h.1 (record { no_close = refl; no_semicolon = refl; belongs = λ k. refl })
+starts_attribute (item.Definition body) here rest h =
+    rw h.1 (record { no_close = refl; no_semicolon = refl; belongs = λ k. refl })
 
 -- ---- attributes of a kind of item
 
-module _ (k : Kind) (high : ℕ) where
-  pub own_attribute_sound : SoundOf (OwnAttributeHere k) attribute_height high (own_attribute_at k high)
+module _ (k : Kind) (height_left : ℕ) where
+  pub own_attribute_sound : SoundOf (OwnAttributeHere k) attribute_height height_left
+      (own_attribute_at k height_left)
   unfolding own_attribute_at
   own_attribute_sound here a rest x =
-      let g = guard_some (begins_own k here) (attribute_at high here) (a, rest) x in
-      let s = attribute_sound high here a rest g.1 in
+      let g = guard_some (begins_own k here) (attribute_at height_left here) (a, rest) x in
+      let s = attribute_sound height_left here a rest g.1 in
       ((sym ((starts_attribute a here rest s.0).belongs k) ∙ g.0, s.0), s.1)
 
-  own_attribute_again : (a : Attribute Path) (here rest : List Token) → OwnAttributeHere k a here rest → attribute_height a ≤ high → own_attribute_at k high here ≡ Some (a, rest)
+  own_attribute_again : (a : Attribute Path) (here rest : List Token)
+      → OwnAttributeHere k a here rest → attribute_height a ≤ height_left
+      → own_attribute_at k height_left here ≡ Some (a, rest)
   unfolding own_attribute_at
   own_attribute_again a here rest h low =
       let own : begins_own k here ≡ true = (starts_attribute a here rest h.1).belongs k ∙ h.0 in
-      rw own (attribute_again high a here rest h.1 low)
+      rw own (attribute_again height_left a here rest h.1 low)
 
   -- attributes, each with any number of semicolons behind it
-  pub own_attributes : RowOf (ThenSemicolons (OwnAttributeHere k)) attribute_height high (λ rest. at sign.Semicolon rest ≡ false) at_close (closed (own_attribute_at k high))
+  pub own_attributes : RowOf (ThenSemicolons (OwnAttributeHere k)) attribute_height height_left
+      (λ rest. at sign.Semicolon rest ≡ false) at_close (closed (own_attribute_at k height_left))
   own_attributes =
-      closed_things (OwnAttributeHere k) attribute_height high at_close (own_attribute_at k high) own_attribute_again
-      (λ a here rest h. (starts_attribute a here rest h.1).no_close) (λ a here rest h. (starts_attribute a here rest h.1).no_semicolon)
-      (λ a here rest h. attribute_shorter a here rest h.1) (λ rest e. ap (at sign.Semicolon) (at_is sign.CloseBrace rest e))
+      closed_things (OwnAttributeHere k) attribute_height height_left at_close
+      (own_attribute_at k height_left) own_attribute_again
+      (λ a here rest h. (starts_attribute a here rest h.1).no_close)
+      (λ a here rest h. (starts_attribute a here rest h.1).no_semicolon)
+      (λ a here rest h. attribute_shorter a here rest h.1)
+      (λ rest e. ap (at sign.Semicolon) (at_is sign.CloseBrace rest e))

@@ -26,27 +26,36 @@ use Rattle.edd_grammar.proofs.Qualifiers.{qualifiers_sound, qualifiers_again, qu
 
 -- ---- masks
 
-mask_sound : (here : List Token) (m : Option ℕ) (rest : List Token) → mask_at here ≡ Some (m, rest) → MaskHere m here rest
+mask_sound : (here : List Token) (m : Option ℕ) (rest : List Token) → mask_at here ≡ Some (m, rest)
+    → MaskHere m here rest
 unfolding mask_at
 mask_sound here m rest x =
     branch (at (sign.Comparison comparison.Less) here) _ _ _ x
     (λ t y. let a = bind_some (integer_at (drop 1 here)) _ (m, rest) y in
     let b = bind_some (expect (sign.Comparison comparison.Greater) a.0.1) _ (m, rest) a.2 in
     as_read (λ m r. MaskHere m here r) (Some a.0.0) m b.0 rest b.2
-    (at_is (sign.Comparison comparison.Less) here t ∙ ap (λ u. Sign (sign.Comparison comparison.Less) ∷ u) (integer_is (drop 1 here) a.0.0 a.0.1 a.1 ∙ ap (λ u. Integer a.0.0 ∷ u) (expect_is (sign.Comparison comparison.Greater) a.0.1 b.0 b.1))))
+    (at_is (sign.Comparison comparison.Less) here t
+    ∙ ap (λ u. Sign (sign.Comparison comparison.Less) ∷ u)
+    (integer_is (drop 1 here) a.0.0 a.0.1 a.1
+    ∙ ap (λ u. Integer a.0.0 ∷ u) (expect_is (sign.Comparison comparison.Greater) a.0.1 b.0
+    b.1))))
     (λ _ y. as_read (λ m r. MaskHere m here r) None m here rest y refl)
 
 -- a mask is read where no `<` follows one that is missing
-mask_again : (m : Option ℕ) (here rest : List Token) → at (sign.Comparison comparison.Less) rest ≡ false → MaskHere m here rest → mask_at here ≡ Some (m, rest)
+mask_again : (m : Option ℕ) (here rest : List Token) → at (sign.Comparison comparison.Less) rest
+    ≡ false → MaskHere m here rest → mask_at here ≡ Some (m, rest)
 unfolding mask_at
 mask_again None here rest f h = rw (h, f) refl
-mask_again (Some m) here rest f h = rw (h, expect_again (sign.Comparison comparison.Greater) rest) refl
+mask_again (Some m) here rest f h = rw (h, expect_again (sign.Comparison comparison.Greater) rest)
+    refl
 
-mask_shorter : (m : Option ℕ) (here rest : List Token) → MaskHere m here rest → length rest ≤ length here
+mask_shorter : (m : Option ℕ) (here rest : List Token) → MaskHere m here rest
+    → length rest ≤ length here
 mask_shorter None here rest h = omega (arith, ap length h)
 mask_shorter (Some m) here rest h = omega (arith, ap length h)
 
-mask_no_dot : (m : Option ℕ) (here rest : List Token) → MaskHere m here rest → at sign.Dot rest ≡ false → at sign.Dot here ≡ false
+mask_no_dot : (m : Option ℕ) (here rest : List Token) → MaskHere m here rest
+    → at sign.Dot rest ≡ false → at sign.Dot here ≡ false
 mask_no_dot None here rest h d = ap (at sign.Dot) h ∙ d
 mask_no_dot (Some m) here rest h d = ap (at sign.Dot) h
 
@@ -54,7 +63,8 @@ mask_no_dot (Some m) here rest h d = ap (at sign.Dot) h
 
 -- what can't go on with a data item
 abbrev pub EndsEntry : List Token → Type 0
-EndsEntry rest = (at sign.Dot rest ≡ false) × (at sign.OpenParenthesis rest ≡ false) × (at (sign.Comparison comparison.Less) rest ≡ false)
+EndsEntry rest = (at sign.Dot rest ≡ false) × (at sign.OpenParenthesis rest ≡ false)
+    × (at (sign.Comparison comparison.Less) rest ≡ false)
 
 ends_cases : (rest : List Token) → list_ends rest ≡ true → EndsBranch rest
 ends_cases rest e =
@@ -68,24 +78,35 @@ end_ends rest (inr (inr e)) = rw (at_word_is word.Default rest e) (refl, refl, r
 
 -- ---- data items
 
-data_variable_sound : (here : List Token) (d : item.DataItem Path) (rest : List Token) → data_variable_at here ≡ Some (d, rest) → DataItemHere d here rest
+data_variable_sound : (here : List Token) (d : item.DataItem Path) (rest : List Token)
+    → data_variable_at here ≡ Some (d, rest) → DataItemHere d here rest
 unfolding data_variable_at
 data_variable_sound here d rest x =
     let a = bind_some (path_at here) _ (d, rest) x in
     let b = bind_some (mask_at a.0.1) _ (d, rest) a.2 in
     let c = bind_some (qualifiers_at data_qualifier_names b.0.1) _ (d, rest) b.2 in
-    as_read (λ d r. DataItemHere d here r) _ d _ rest c.2
-    (a.0.1, b.0.1, path_sound here a.0.0 a.0.1 a.1, mask_sound a.0.1 b.0.0 b.0.1 b.1, c.0.0, refl, qualifiers_sound data_qualifier_names b.0.1 c.0.0 c.0.1 c.1)
+    as_read (λ d r. DataItemHere d here r) _ d _ rest c.2 (
+      a.0.1,
+      b.0.1,
+      path_sound here a.0.0 a.0.1 a.1,
+      mask_sound a.0.1 b.0.0 b.0.1 b.1,
+      c.0.0,
+      refl,
+      qualifiers_sound data_qualifier_names b.0.1 c.0.0 c.0.1 c.1,
+    )
 
-pub data_item_value_sound : (high : ℕ) → SoundOf DataItemHere leaf high (data_item_value high)
+pub data_item_value_sound : (height_left : ℕ)
+    → SoundOf DataItemHere leaf height_left (data_item_value height_left)
 unfolding data_item_value data_item_at
-data_item_value_sound high here d rest x =
+data_item_value_sound height_left here d rest x =
     elim (option_cases (integer_at here) _ _ _ x) [
       | inl (_, y) ↦ (data_variable_sound here d rest y, omega arith)
-      | inr (n, e, y) ↦ as_read (λ d r. DataItemHere d here r × (leaf d ≤ high)) (item.Constant n.0) d n.1 rest y (integer_is here n.0 n.1 e, omega arith)
+      | inr (n, e, y) ↦ as_read (λ d r. DataItemHere d here r × (leaf d ≤ height_left))
+          (item.Constant n.0) d n.1 rest y (integer_is here n.0 n.1 e, omega arith)
     ]
 
-data_item_again : (d : item.DataItem Path) (here rest : List Token) → DataItemHere d here rest → EndsEntry rest → data_item_at here ≡ Some (d, rest)
+data_item_again : (d : item.DataItem Path) (here rest : List Token) → DataItemHere d here rest
+    → EndsEntry rest → data_item_at here ≡ Some (d, rest)
 unfolding data_item_at data_variable_at
 data_item_again (item.Constant n) here rest h f = rw h refl
 data_item_again (item.Variable variable mask qualifiers) here rest h f =
@@ -98,10 +119,16 @@ data_item_again (item.Variable variable mask qualifiers) here rest h f =
       qualifiers_again data_qualifier_names h.4 h.1 rest f.1 h.6,
     ) (ap (λ (q : DataQualifiers). Some (item.Variable variable mask q, rest)) (sym h.5))
 
-data_item_shorter : (d : item.DataItem Path) (here rest : List Token) → DataItemHere d here rest → length rest < length here
+data_item_shorter : (d : item.DataItem Path) (here rest : List Token) → DataItemHere d here rest
+    → length rest < length here
 data_item_shorter (item.Constant n) here rest h = omega (arith, ap length h)
 data_item_shorter (item.Variable variable mask qualifiers) here rest h =
-    omega (arith, path_shorter variable here h.0 h.2, mask_shorter mask h.0 h.1 h.3, qualifiers_shorter data_qualifier_names h.4 h.1 rest h.6)
+    omega (
+      arith,
+      path_shorter variable here h.0 h.2,
+      mask_shorter mask h.0 h.1 h.3,
+      qualifiers_shorter data_qualifier_names h.4 h.1 rest h.6,
+    )
 
 -- a data item begins with a number or a name
 record StartsEntry (here : List Token) : Type 0 where
@@ -110,14 +137,27 @@ record StartsEntry (here : List Token) : Type 0 where
   pub no_comma : at sign.Comma here ≡ false
   pub ends : EndsEntry here
 
-data_item_starts : (d : item.DataItem Path) (here rest : List Token) → DataItemHere d here rest → StartsEntry here
-data_item_starts (item.Constant n) here rest h = rw h (record { no_condition = (refl, refl); no_end = refl; no_comma = refl; ends = (refl, refl, refl) })
-data_item_starts (item.Variable variable mask qualifiers) here rest h = rw h.2.1 (record { no_condition = (refl, refl); no_end = refl; no_comma = refl; ends = (refl, refl, refl) })
+data_item_starts : (d : item.DataItem Path) (here rest : List Token) → DataItemHere d here rest
+    → StartsEntry here
+data_item_starts (item.Constant n) here rest h =
+    rw h (record {
+      no_condition = (refl, refl);
+      no_end = refl;
+      no_comma = refl;
+      ends = (refl, refl, refl);
+    })
+data_item_starts (item.Variable variable mask qualifiers) here rest h =
+    rw h.2.1 (record {
+      no_condition = (refl, refl);
+      no_end = refl;
+      no_comma = refl;
+      ends = (refl, refl, refl);
+    })
 
 pub listed_data_items : ListedValue leaf DataItemHere EndsEntry data_item_value
 unfolding data_item_value
 listed_data_items = record {
-  again = λ high d here rest h low f. data_item_again d here rest h f;
+  again = λ height_left d here rest h low f. data_item_again d here rest h f;
   starts = λ d here rest h. (data_item_starts d here rest h).no_condition;
   no_end = λ d here rest h. (data_item_starts d here rest h).no_end;
   no_comma = λ d here rest h. (data_item_starts d here rest h).no_comma;
@@ -131,44 +171,86 @@ listed_data_items = record {
 
 -- ---- entries of menus
 
-menu_reference_sound : (here : List Token) (m : item.MenuEntry Path) (rest : List Token) → menu_reference_at here ≡ Some (m, rest) → MenuEntryHere m here rest
+menu_reference_sound : (here : List Token) (m : item.MenuEntry Path) (rest : List Token)
+    → menu_reference_at here ≡ Some (m, rest) → MenuEntryHere m here rest
 unfolding menu_reference_at
 menu_reference_sound here m rest x =
     let a = bind_some (path_at here) _ (m, rest) x in
     let b = bind_some (qualifiers_at menu_qualifier_names a.0.1) _ (m, rest) a.2 in
-    as_read (λ m r. MenuEntryHere m here r) _ m _ rest b.2
-    (a.0.1, path_sound here a.0.0 a.0.1 a.1, b.0.0, refl, qualifiers_sound menu_qualifier_names a.0.1 b.0.0 b.0.1 b.1)
+    as_read (λ m r. MenuEntryHere m here r) _ m _ rest b.2 (
+      a.0.1,
+      path_sound here a.0.0 a.0.1 a.1,
+      b.0.0,
+      refl,
+      qualifiers_sound menu_qualifier_names
+          a.0.1 b.0.0 b.0.1 b.1,
+    )
 
-pub menu_entry_value_sound : (high : ℕ) → SoundOf MenuEntryHere leaf high (menu_entry_value high)
+pub menu_entry_value_sound : (height_left : ℕ)
+    → SoundOf MenuEntryHere leaf height_left (menu_entry_value height_left)
 unfolding menu_entry_value menu_entry_at
-menu_entry_value_sound high here m rest x =
+menu_entry_value_sound height_left here m rest x =
     branch (is_text here) _ _ _ x
     (λ t y. let a = bind_some (text_at here) _ (m, rest) y in
-    as_read (λ m r. MenuEntryHere m here r × (leaf m ≤ high)) (item.Text a.0.0) m a.0.1 rest a.2 (text_sound here a.0.0 a.0.1 t a.1, omega arith))
+    as_read (λ m r. MenuEntryHere m here r × (leaf m ≤ height_left)) (item.Text a.0.0) m a.0.1 rest
+    a.2 (text_sound here a.0.0 a.0.1 t a.1, omega arith))
     (λ _ y. (menu_reference_sound here m rest y, omega arith))
 
-menu_entry_again : (m : item.MenuEntry Path) (here rest : List Token) → MenuEntryHere m here rest → EndsEntry rest → menu_entry_at here ≡ Some (m, rest)
+menu_entry_again : (m : item.MenuEntry Path) (here rest : List Token) → MenuEntryHere m here rest
+    → EndsEntry rest → menu_entry_at here ≡ Some (m, rest)
 unfolding menu_entry_at menu_reference_at
-menu_entry_again (item.Text text) here rest h f = let r = text_again text here rest h in rw (r.0, r.1) refl
+menu_entry_again (item.Text text) here rest h f = let r = text_again text here rest h in rw
+    (r.0, r.1) refl
 menu_entry_again (item.Reference to qualifiers) here rest h f =
     let begin = qualifiers_begin menu_qualifier_names h.2 h.0 rest h.4 f.0 f.2 in
     let no_text : is_text here ≡ false = ap is_text h.1.1 in
-    rw (no_text, path_again to here h.0 begin.0 h.1, qualifiers_again menu_qualifier_names h.2 h.0 rest f.1 h.4)
+    rw (
+      no_text,
+      path_again to here h.0 begin.0 h.1,
+      qualifiers_again menu_qualifier_names h.2 h.0
+          rest f.1 h.4,
+    )
     (ap (λ (q : MenuQualifiers). Some (item.Reference to q, rest)) (sym h.3))
 
-menu_entry_shorter : (m : item.MenuEntry Path) (here rest : List Token) → MenuEntryHere m here rest → length rest < length here
+menu_entry_shorter : (m : item.MenuEntry Path) (here rest : List Token) → MenuEntryHere m here rest
+    → length rest < length here
 menu_entry_shorter (item.Text text) here rest h = text_shorter text here rest h
-menu_entry_shorter (item.Reference to qualifiers) here rest h = omega (arith, path_shorter to here h.0 h.1, qualifiers_shorter menu_qualifier_names h.2 h.0 rest h.4)
+menu_entry_shorter (item.Reference to qualifiers) here rest h =
+    omega (
+      arith,
+      path_shorter to here h.0 h.1,
+      qualifiers_shorter menu_qualifier_names h.2 h.0 rest
+          h.4,
+    )
 
-menu_entry_starts : (m : item.MenuEntry Path) (here rest : List Token) → MenuEntryHere m here rest → StartsEntry here
-menu_entry_starts (item.Text (Quoted raw)) here rest h = rw h.3.1 (record { no_condition = (refl, refl); no_end = refl; no_comma = refl; ends = (refl, refl, refl) })
-menu_entry_starts (item.Text (Key name)) here rest h = rw h (record { no_condition = (refl, refl); no_end = refl; no_comma = refl; ends = (refl, refl, refl) })
-menu_entry_starts (item.Reference to qualifiers) here rest h = rw h.1.1 (record { no_condition = (refl, refl); no_end = refl; no_comma = refl; ends = (refl, refl, refl) })
+menu_entry_starts : (m : item.MenuEntry Path) (here rest : List Token) → MenuEntryHere m here rest
+    → StartsEntry here
+menu_entry_starts (item.Text (Quoted raw)) here rest h =
+    rw h.3.1 (record {
+      no_condition = (refl, refl);
+      no_end = refl;
+      no_comma = refl;
+      ends = (refl, refl, refl);
+    })
+menu_entry_starts (item.Text (Key name)) here rest h =
+    rw h (record {
+      no_condition = (refl, refl);
+      no_end = refl;
+      no_comma = refl;
+      ends = (refl, refl, refl);
+    })
+menu_entry_starts (item.Reference to qualifiers) here rest h =
+    rw h.1.1 (record {
+      no_condition = (refl, refl);
+      no_end = refl;
+      no_comma = refl;
+      ends = (refl, refl, refl);
+    })
 
 pub listed_menu_entries : ListedValue leaf MenuEntryHere EndsEntry menu_entry_value
 unfolding menu_entry_value
 listed_menu_entries = record {
-  again = λ high m here rest h low f. menu_entry_again m here rest h f;
+  again = λ height_left m here rest h low f. menu_entry_again m here rest h f;
   starts = λ m here rest h. (menu_entry_starts m here rest h).no_condition;
   no_end = λ m here rest h. (menu_entry_starts m here rest h).no_end;
   no_comma = λ m here rest h. (menu_entry_starts m here rest h).no_comma;

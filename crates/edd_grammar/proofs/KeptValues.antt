@@ -26,48 +26,64 @@ use Rattle.edd_grammar.proofs.KeptConditionals.{KeepsValues, label_kept, comma_k
 abbrev pub any_value : {V : Type 0} → V → Bool
 any_value v = true
 
-name_kept : (name : Name) (here rest : List Token) → here ≡ Identifier name ∷ rest → Kept here → Kept rest
+name_kept : (name : Name) (here rest : List Token) → here ≡ Identifier name ∷ rest → Kept here
+    → Kept rest
 name_kept name here rest e k = (kept_next (Identifier name) here rest e k).1
 
-both_names_kept : (a b : Name) (here rest : List Token) → here ≡ Identifier a ∷ Sign (sign.Operator operator.And) ∷ Identifier b ∷ rest → Kept here → Kept rest
+both_names_kept : (a b : Name) (here rest : List Token)
+    → here ≡ Identifier a ∷ Sign (sign.Operator operator.And) ∷ Identifier b ∷ rest → Kept here
+    → Kept rest
 both_names_kept a b here rest e k =
-    kept_tail (Identifier b) rest (kept_tail (Sign (sign.Operator operator.And)) (Identifier b ∷ rest) (name_kept a here (Sign (sign.Operator operator.And) ∷ Identifier b ∷ rest) e k))
+    kept_tail (Identifier b) rest
+    (kept_tail (Sign (sign.Operator operator.And)) (Identifier b ∷ rest)
+    (name_kept a here (Sign (sign.Operator operator.And) ∷ Identifier b ∷ rest) e k))
 
 pub handling_kept : KeepsValues HandlingHere any_value
 handling_kept handling.Read here rest h k = (refl, name_kept (codes "READ") here rest h k)
 handling_kept handling.Write here rest h k = (refl, name_kept (codes "WRITE") here rest h k)
-handling_kept handling.ReadWrite here rest (inl h) k = (refl, both_names_kept (codes "READ") (codes "WRITE") here rest h k)
-handling_kept handling.ReadWrite here rest (inr h) k = (refl, both_names_kept (codes "WRITE") (codes "READ") here rest h k)
+handling_kept handling.ReadWrite here rest (inl h) k =
+    (refl, both_names_kept (codes "READ") (codes "WRITE") here rest h k)
+handling_kept handling.ReadWrite here rest (inr h) k =
+    (refl, both_names_kept (codes "WRITE") (codes "READ") here rest h k)
 
 pub truth_kept : KeepsValues TruthHere any_value
 truth_kept true here rest h k = (refl, name_kept (codes "TRUE") here rest h k)
 truth_kept false here rest h k = (refl, name_kept (codes "FALSE") here rest h k)
 
-pub operation_kept : (o : Operation) (here rest : List Token) → OperationHere o here rest → Kept here → Kept rest
+pub operation_kept : (o : Operation) (here rest : List Token) → OperationHere o here rest
+    → Kept here → Kept rest
 operation_kept operation.Read here rest h k = name_kept (codes "READ") here rest h k
 operation_kept operation.Write here rest h k = name_kept (codes "WRITE") here rest h k
 operation_kept operation.Command here rest h k = (kept_next (Reserved word.Command) here rest h k).1
 
-pub number_kept : (n : Option ℕ) (here rest : List Token) → NumberHere n here rest → Kept here → Both (if_some is_number n) rest
+pub number_kept : (n : Option ℕ) (here rest : List Token) → NumberHere n here rest → Kept here
+    → Both (if_some is_number n) rest
 number_kept None here rest h k = (refl, kept_same here rest h k)
 number_kept (Some n) here rest h k = kept_next (Integer n) here rest h k
 
 -- a number between two signs
-between_kept : (open_sign close_sign : Symbol) (n : ℕ) (here rest : List Token) → here ≡ Sign open_sign ∷ Integer n ∷ Sign close_sign ∷ rest → Kept here → Both (is_number n) rest
+between_kept : (open_sign close_sign : Symbol) (n : ℕ) (here rest : List Token)
+    → here ≡ Sign open_sign ∷ Integer n ∷ Sign close_sign ∷ rest → Kept here
+    → Both (is_number n) rest
 between_kept a b n here rest e k =
     let inside = kept_next (Sign a) here (Integer n ∷ Sign b ∷ rest) e k in
     let number = kept_next (Integer n) (Integer n ∷ Sign b ∷ rest) (Sign b ∷ rest) refl inside.1 in
     (number.0, kept_tail (Sign b) rest number.1)
 
-pub size_kept : (n : Option ℕ) (here rest : List Token) → SizeHere n here rest → Kept here → Both (if_some is_number n) rest
+pub size_kept : (n : Option ℕ) (here rest : List Token) → SizeHere n here rest → Kept here
+    → Both (if_some is_number n) rest
 size_kept None here rest h k = (refl, kept_same here rest h k)
-size_kept (Some n) here rest h k = between_kept sign.OpenParenthesis sign.CloseParenthesis n here rest h k
+size_kept (Some n) here rest h k = between_kept sign.OpenParenthesis sign.CloseParenthesis n here
+    rest h k
 
-mask_kept : (n : Option ℕ) (here rest : List Token) → MaskHere n here rest → Kept here → Both (if_some is_number n) rest
+mask_kept : (n : Option ℕ) (here rest : List Token) → MaskHere n here rest → Kept here
+    → Both (if_some is_number n) rest
 mask_kept None here rest h k = (refl, kept_same here rest h k)
-mask_kept (Some n) here rest h k = between_kept (sign.Comparison comparison.Less) (sign.Comparison comparison.Greater) n here rest h k
+mask_kept (Some n) here rest h k = between_kept (sign.Comparison comparison.Less)
+    (sign.Comparison comparison.Greater) n here rest h k
 
-more_names_kept : (s : Symbol) (names : List Name) (here rest : List Token) → MoreNamesHere s names here rest → Kept here → Both (list_all is_name names) rest
+more_names_kept : (s : Symbol) (names : List Name) (here rest : List Token)
+    → MoreNamesHere s names here rest → Kept here → Both (list_all is_name names) rest
 more_names_kept s [] here rest h k = (refl, kept_same here rest h k)
 more_names_kept s (n ∷ more) here rest h k =
     let first = kept_next (Identifier n) h.0 h.1 h.3 (kept_next (Sign s) here h.0 h.2 k).1 in
@@ -75,7 +91,9 @@ more_names_kept s (n ∷ more) here rest h k =
     (rw (first.0, others.0) refl, others.1)
 
 -- one name at least
-pub names_kept : (s : Symbol) (names : List Name) (here rest : List Token) → NamesHere s names here rest → Kept here → Both (is_not_empty names && list_all is_name names) rest
+pub names_kept : (s : Symbol) (names : List Name) (here rest : List Token)
+    → NamesHere s names here rest → Kept here → Both (is_not_empty names && list_all is_name names)
+    rest
 names_kept s [] here rest h k = absurd h
 names_kept s (n ∷ more) here rest h k =
     let first = kept_next (Identifier n) here h.0 h.1 k in
@@ -84,20 +102,27 @@ names_kept s (n ∷ more) here rest h k =
 
 -- ---- qualifiers
 
-more_qualifiers_kept : (names : List Name) (here rest : List Token) → MoreQualifiersHere names here rest → Kept here → Kept rest
+more_qualifiers_kept : (names : List Name) (here rest : List Token)
+    → MoreQualifiersHere names here rest → Kept here → Kept rest
 more_qualifiers_kept [] here rest h k = kept_same here rest h k
-more_qualifiers_kept (n ∷ more) here rest h k = more_qualifiers_kept more h.1 rest h.4 (name_kept n h.0 h.1 h.3 (comma_kept sign.Comma here h.0 h.2 k))
+more_qualifiers_kept (n ∷ more) here rest h k = more_qualifiers_kept more h.1 rest h.4
+    (name_kept n h.0 h.1 h.3 (comma_kept sign.Comma here h.0 h.2 k))
 
-qualifiers_kept : (allowed names : List Name) (here rest : List Token) → QualifiersHere allowed names here rest → Kept here → Kept rest
+qualifiers_kept : (allowed names : List Name) (here rest : List Token)
+    → QualifiersHere allowed names here rest → Kept here → Kept rest
 qualifiers_kept allowed [] here rest h k = kept_same here rest h k
 qualifiers_kept allowed (n ∷ more) here rest h k =
-    kept_tail (Sign sign.CloseParenthesis) rest (more_qualifiers_kept more h.2 _ h.5 (name_kept n h.1 h.2 h.4 (kept_next (Sign sign.OpenParenthesis) here h.1 h.3 k).1))
+    kept_tail (Sign sign.CloseParenthesis) rest
+    (more_qualifiers_kept more h.2 _ h.5
+    (name_kept n h.1 h.2 h.4 (kept_next (Sign sign.OpenParenthesis) here h.1 h.3 k).1))
 
 -- ---- texts and enumerators
 
-pub optional_text_kept : (w : Option texts.Text) (here rest : List Token) → OptionalTextHere w here rest → Kept here → Both (if_some is_text w) rest
+pub optional_text_kept : (w : Option texts.Text) (here rest : List Token)
+    → OptionalTextHere w here rest → Kept here → Both (if_some is_text w) rest
 optional_text_kept None here rest h k = (refl, kept_same here rest h k)
-optional_text_kept (Some w) here rest h k = text_kept w h.0 rest h.2 (kept_next (Sign sign.Comma) here h.0 h.1 k).1
+optional_text_kept (Some w) here rest h k =
+    text_kept w h.0 rest h.2 (kept_next (Sign sign.Comma) here h.0 h.1 k).1
 
 pub enumerator_kept : KeepsValues EnumeratorHere (is_enumerator is_path is_plain)
 enumerator_kept e here rest h k =
@@ -130,13 +155,18 @@ response_end_kept here rest (inr (inr e)) k = (kept_next (Sign sign.Comma) here 
 
 pub response_code_kept : KeepsValues ResponseCodeHere (is_response_code is_path is_plain)
 response_code_kept r here rest h k =
-    let number = kept_next (Integer r.number) here (Sign sign.Comma ∷ Identifier (class_name r.class) ∷ Sign sign.Comma ∷ h.0) h.2 k in
-    let class = kept_tail (Sign sign.Comma) (Identifier (class_name r.class) ∷ Sign sign.Comma ∷ h.0) number.1 in
-    let from = kept_tail (Sign sign.Comma) h.0 (kept_tail (Identifier (class_name r.class)) (Sign sign.Comma ∷ h.0) class) in
+    let number = kept_next (Integer r.number) here
+    (Sign sign.Comma ∷ Identifier (class_name r.class) ∷ Sign sign.Comma ∷ h.0) h.2 k in
+    let class = kept_tail (Sign sign.Comma) (Identifier (class_name r.class) ∷ Sign sign.Comma
+    ∷ h.0) number.1 in
+    let from = kept_tail (Sign sign.Comma) h.0
+    (kept_tail (Identifier (class_name r.class)) (Sign sign.Comma ∷ h.0) class) in
     let text = text_kept r.text h.0 h.1 h.3 from in
     (rw (number.0, text.0) refl, response_end_kept h.1 rest h.4 text.1)
 
-member_texts_kept : (label help : Option texts.Text) (here rest : List Token) → MemberTextsHere label help here rest → Kept here → (if_some is_text label ≡ true) × (if_some is_text help ≡ true) × Kept rest
+member_texts_kept : (label help : Option texts.Text) (here rest : List Token)
+    → MemberTextsHere label help here rest → Kept here → (if_some is_text label ≡ true)
+    × (if_some is_text help ≡ true) × Kept rest
 member_texts_kept None None here rest h k = (refl, refl, kept_same here rest h k)
 member_texts_kept None (Some help) here rest h k = absurd h
 member_texts_kept (Some label) help here rest h k =

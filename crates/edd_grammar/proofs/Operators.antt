@@ -78,27 +78,33 @@ row_to Either = lit≤ tt
 abbrev pub InfixHere : Place → ℕ → Infix → Expr Path → Expr Path → List Token → List Token → Type 0
 InfixHere p row op left right here rest =
     (row ≤ infix_row op) × (behind : List Token)
-    × ExprHere p (infix_row op) left here (Sign (infix_sign op) ∷ behind) × ExprHere p (suc (infix_row op)) right behind rest
+    × ExprHere p (infix_row op) left here (Sign (infix_sign op) ∷ behind)
+    × ExprHere p (suc (infix_row op)) right behind rest
 
-pub infix_spelled : (p : Place) (row : ℕ) (op : Infix) (left right : Expr Path) (here rest : List Token)
+pub infix_spelled : (p : Place) (row : ℕ) (op : Infix) (left right : Expr Path)
+    (here rest : List Token)
     → InfixHere p row op left right here rest → ExprHere p row (infix_tree op left right) here rest
 infix_spelled p row (Plain o) left right here rest h = h
 infix_spelled p row (Comparing o) left right here rest h = h
 infix_spelled p row Both left right here rest h = h
 infix_spelled p row Either left right here rest h = h
 
-pub infix_height : (op : Infix) (left right : Expr Path) → height (infix_tree op left right) ≡ suc (max (height left) (height right))
+pub infix_height : (op : Infix) (left right : Expr Path) → height (infix_tree op left right)
+    ≡ suc (max (height left) (height right))
 infix_height (Plain o) left right = omega arith
 infix_height (Comparing o) left right = omega arith
 infix_height Both left right = omega arith
 infix_height Either left right = omega arith
 
-pub operator_is : (row : ℕ) (here : List Token) (op : Infix) (rest : List Token) → operator_at row here ≡ Some (op, rest) → (here ≡ Sign (infix_sign op) ∷ rest) × (row ≤ infix_row op)
+pub operator_is : (row : ℕ) (here : List Token) (op : Infix) (rest : List Token)
+    → operator_at row here ≡ Some (op, rest) → (here ≡ Sign (infix_sign op) ∷ rest)
+    × (row ≤ infix_row op)
 operator_is row [] op rest e = absurd cc
 operator_is row (Sign s ∷ behind) op rest e =
     let o = bind_some (infix_of s) _ (op, rest) e in
     let g = guard_some (nat_le row (infix_row o.0)) (Some (o.0, behind)) (op, rest) o.2 in
-    as_read (λ k t. (Sign s ∷ behind ≡ Sign (infix_sign k) ∷ t) × (row ≤ infix_row k)) o.0 op behind rest g.1
+    as_read (λ k t. (Sign s ∷ behind ≡ Sign (infix_sign k) ∷ t) × (row ≤ infix_row k)) o.0 op behind
+    rest g.1
     (ap (λ k. Sign k ∷ behind) (infix_is s o.0 o.1), le_is row (infix_row o.0) g.0)
 operator_is row (Reserved m ∷ behind) op rest e = absurd cc
 operator_is row (Identifier m ∷ behind) op rest e = absurd cc
@@ -109,8 +115,10 @@ operator_is row (String m ∷ behind) op rest e = absurd cc
 -- ---- operators before an operand
 
 pub unary_is : (s : Symbol) (op : UnaryOperator) → unary_of s ≡ Some op → s ≡ unary_sign op
-unary_is (sign.Operator operator.Add) op e = let same : unary_operator.Plus ≡ op = cc in ap unary_sign same
-unary_is (sign.Operator operator.Subtract) op e = let same : unary_operator.Minus ≡ op = cc in ap unary_sign same
+unary_is (sign.Operator operator.Add) op e = let same : unary_operator.Plus ≡ op =
+    cc in ap unary_sign same
+unary_is (sign.Operator operator.Subtract) op e = let same : unary_operator.Minus ≡ op =
+    cc in ap unary_sign same
 unary_is sign.Exclamation op e = let same : unary_operator.Not ≡ op = cc in ap unary_sign same
 unary_is sign.Tilde op e = let same : unary_operator.Complement ≡ op = cc in ap unary_sign same
 unary_is _ op e = absurd cc
@@ -123,16 +131,20 @@ unary_again unary_operator.Complement = refl
 
 -- ---- `++` and `--`
 
-pub before_spelled : (p : Place) (row : ℕ) (s : Symbol) (op : IncrementOperator) (to : Path) (here rest : List Token)
-    → before_of s ≡ Some op → IsMethod p → row ≤ 14 → PathHere to here rest → ExprHere p row (tree.Increment op to) (Sign s ∷ here) rest
+pub before_spelled : (p : Place) (row : ℕ) (s : Symbol) (op : IncrementOperator) (to : Path)
+    (here rest : List Token)
+    → before_of s ≡ Some op → IsMethod p → row ≤ 14 → PathHere to here rest
+    → ExprHere p row (tree.Increment op to) (Sign s ∷ here) rest
 before_spelled p row sign.Increment op to here rest e m le h =
     let same : PreIncrement ≡ op = cc in rw (sym same) (m, le, here, refl, h)
 before_spelled p row sign.Decrement op to here rest e m le h =
     let same : PreDecrement ≡ op = cc in rw (sym same) (m, le, here, refl, h)
 before_spelled p row _ op to here rest e m le h = absurd cc
 
-pub behind_spelled : (p : Place) (row : ℕ) (s : Symbol) (op : IncrementOperator) (to : Path) (here rest : List Token)
-    → behind_of s ≡ Some op → IsMethod p → row ≤ 14 → PathHere to here (Sign s ∷ rest) → ExprHere p row (tree.Increment op to) here rest
+pub behind_spelled : (p : Place) (row : ℕ) (s : Symbol) (op : IncrementOperator) (to : Path)
+    (here rest : List Token)
+    → behind_of s ≡ Some op → IsMethod p → row ≤ 14 → PathHere to here (Sign s ∷ rest)
+    → ExprHere p row (tree.Increment op to) here rest
 behind_spelled p row sign.Increment op to here rest e m le h =
     let same : PostIncrement ≡ op = cc in rw (sym same) (m, le, h)
 behind_spelled p row sign.Decrement op to here rest e m le h =
@@ -141,16 +153,20 @@ behind_spelled p row _ op to here rest e m le h = absurd cc
 
 -- ---- assignments
 
-pub assignment_of_is : (s : Symbol) (op : Assignment) → assignment_of s ≡ Some op → s ≡ assignment_sign op
+pub assignment_of_is : (s : Symbol) (op : Assignment) → assignment_of s ≡ Some op
+    → s ≡ assignment_sign op
 assignment_of_is sign.Equals op e = let same : Simple ≡ op = cc in ap assignment_sign same
-assignment_of_is (sign.CompoundAssign o) op e = let same : Compound o ≡ op = cc in ap assignment_sign same
+assignment_of_is (sign.CompoundAssign o) op e = let same : Compound o ≡ op =
+    cc in ap assignment_sign same
 assignment_of_is _ op e = absurd cc
 
-pub assignment_is : (here : List Token) (op : Assignment) (rest : List Token) → assignment_at here ≡ Some (op, rest) → here ≡ Sign (assignment_sign op) ∷ rest
+pub assignment_is : (here : List Token) (op : Assignment) (rest : List Token)
+    → assignment_at here ≡ Some (op, rest) → here ≡ Sign (assignment_sign op) ∷ rest
 assignment_is [] op rest e = absurd cc
 assignment_is (Sign s ∷ behind) op rest e =
     let o = bind_some (assignment_of s) _ (op, rest) e in
-    as_read (λ k t. Sign s ∷ behind ≡ Sign (assignment_sign k) ∷ t) o.0 op behind rest o.2 (ap (λ k. Sign k ∷ behind) (assignment_of_is s o.0 o.1))
+    as_read (λ k t. Sign s ∷ behind ≡ Sign (assignment_sign k) ∷ t) o.0 op behind rest o.2
+    (ap (λ k. Sign k ∷ behind) (assignment_of_is s o.0 o.1))
 assignment_is (Reserved m ∷ behind) op rest e = absurd cc
 assignment_is (Identifier m ∷ behind) op rest e = absurd cc
 assignment_is (Integer m ∷ behind) op rest e = absurd cc
@@ -158,17 +174,21 @@ assignment_is (token.Decimal ∷ behind) op rest e = absurd cc
 assignment_is (String m ∷ behind) op rest e = absurd cc
 
 -- what it is for an assignment to stand there
-abbrev pub AssignmentHere : Place → ℕ → Assignment → Path → Expr Path → List Token → List Token → Type 0
+abbrev pub AssignmentHere : Place → ℕ → Assignment → Path → Expr Path → List Token → List Token
+    → Type 0
 AssignmentHere p row op to value here rest =
     IsMethod p × (row ≤ 1) × (behind : List Token)
     × PathHere to here (Sign (assignment_sign op) ∷ behind) × ExprHere p 1 value behind rest
 
-pub assignment_spelled : (p : Place) (row : ℕ) (op : Assignment) (to : Path) (value : Expr Path) (here rest : List Token)
-    → AssignmentHere p row op to value here rest → ExprHere p row (assignment_tree op to value) here rest
+pub assignment_spelled : (p : Place) (row : ℕ) (op : Assignment) (to : Path) (value : Expr Path)
+    (here rest : List Token)
+    → AssignmentHere p row op to value here rest
+    → ExprHere p row (assignment_tree op to value) here rest
 assignment_spelled p row Simple to value here rest h = h
 assignment_spelled p row (Compound o) to value here rest h = h
 
-pub assignment_height : (op : Assignment) (to : Path) (value : Expr Path) → height (assignment_tree op to value) ≡ suc (height value)
+pub assignment_height : (op : Assignment) (to : Path) (value : Expr Path)
+    → height (assignment_tree op to value) ≡ suc (height value)
 assignment_height Simple to value = omega arith
 assignment_height (Compound o) to value = omega arith
 
@@ -178,7 +198,8 @@ assignment_height (Compound o) to value = omega arith
 abbrev pub Ends : ℕ → List Token → Type 0
 Ends row here = operator_at row here ≡ None
 
-pub ends_before : (row : ℕ) (op : Infix) (here : List Token) → Ends row (Sign (infix_sign op) ∷ here) → infix_row op < row
+pub ends_before : (row : ℕ) (op : Infix) (here : List Token)
+    → Ends row (Sign (infix_sign op) ∷ here) → infix_row op < row
 ends_before row (Plain o) here e = grind arith
 ends_before row (Comparing o) here e = grind arith
 ends_before row Both here e = grind arith
@@ -202,7 +223,9 @@ not_in row op lt = grind arith
 pub ends_all : (row row' : ℕ) (here : List Token) → row' ≤ 3 → Ends row' here → Ends row here
 ends_all row row' (Sign s ∷ here) le e =
     found_cases (infix_of s) row here
-    (λ op some. absurd (let f = ends_before row' op here (ap (λ t. operator_at row' (Sign t ∷ here)) (sym (infix_is s op some)) ∙ e) in let g = row_from op in omega arith))
+    (λ op some. absurd (let f = ends_before row' op here
+    (ap (λ t. operator_at row' (Sign t ∷ here)) (sym (infix_is s op some)) ∙ e) in let g =
+    row_from op in omega arith))
 ends_all row row' [] le e = refl
 ends_all row row' (Identifier n ∷ here) le e = refl
 ends_all row row' (Reserved n ∷ here) le e = refl
@@ -212,7 +235,8 @@ ends_all row row' (String n ∷ here) le e = refl
 
 -- no operator is in row 13 or a tighter one
 pub ends_tight : (row : ℕ) (here : List Token) → 13 ≤ row → Ends row here
-ends_tight row (Sign s ∷ here) le = found_cases (infix_of s) row here (λ op some. not_in row op (let g = row_to op in omega arith))
+ends_tight row (Sign s ∷ here) le = found_cases (infix_of s) row here
+    (λ op some. not_in row op (let g = row_to op in omega arith))
 ends_tight row [] le = refl
 ends_tight row (Identifier n ∷ here) le = refl
 ends_tight row (Reserved n ∷ here) le = refl

@@ -15,13 +15,15 @@ use Rattle.edd_syntax.specs.declared.symbols.Symbol.{Symbol}
 use Rattle.edd_syntax.specs.declared.symbols.Symbol.TheVariants as sign
 use Rattle.edd_grammar.specs.Signs.{same_sign, same_word}
 
--- where the fields of each variant are the same by their own test, they are the same; a variant without fields is
+-- where the fields of each variant are the same by their own test, they are the same; a variant
+-- without fields is
 Tells : (Fss : List (List Field)) → Each Bool Fss → Type 0
 Tells [] each = Unit
 Tells ([] ∷ Fss) each = Tells Fss each.1
 Tells ((F ∷ Fs) ∷ Fss) each = ((x y : _) → each.0 x y ≡ true → x ≡ y) × Tells Fss each.1
 
-told : (Fss : List (List Field)) (each : Each Bool Fss) → Tells Fss each → (c d : Choice Fss) → by false false Fss each c d ≡ true → c ≡ d
+told : (Fss : List (List Field)) (each : Each Bool Fss) → Tells Fss each → (c d : Choice Fss)
+    → by false false Fss each c d ≡ true → c ≡ d
 unfolding Tells
 told [] each tells c d e = absurd c
 told ([] ∷ Fss) each tells (inl x) (inl y) e = refl
@@ -41,7 +43,9 @@ comparisons a b e = ap (λ (x : Comparison). (x, tt)) (same_true the_comparison 
 
 pub same_sign_is : (a b : Symbol) → same_sign a b ≡ true → a ≡ b
 unfolding Tells
-same_sign_is a b e = values_one the_symbol a b (told the_symbol.parts _ (operators, (comparisons, (operators, tt))) (the_symbol.as_values a) (the_symbol.as_values b) e)
+same_sign_is a b e = values_one the_symbol a b
+    (told the_symbol.parts _ (operators, (comparisons, (operators, tt))) (the_symbol.as_values a)
+    (the_symbol.as_values b) e)
 
 pub same_sign_self : (s : Symbol) → same_sign s s ≡ true
 same_sign_self (sign.Operator a) = true_same the_operator a a refl

@@ -15,51 +15,95 @@ use Rattle.edd_syntax.specs.Expression.{Expr, Argument, Text, Value, Arguments}
 use Rattle.edd_syntax.specs.Grammar.{Place, loosest, row_of, comparison_row, unary_sign, MembersHere, PathHere, StringsHere, TextHere, ExprHere, ArgumentsHere, MoreArgumentsHere}
 use Rattle.edd_grammar.specs.Reading.{at, is_text}
 
-members_shorter : (ms : List Name) (here rest : List Token) → MembersHere ms here rest → length rest ≤ length here
+members_shorter : (ms : List Name) (here rest : List Token) → MembersHere ms here rest
+    → length rest ≤ length here
 members_shorter [] here rest h = omega (arith, ap length h)
 members_shorter (m ∷ ms) here rest h = omega (arith, ap length h.1, members_shorter ms h.0 rest h.2)
 
-pub path_shorter : (r : Path) (here rest : List Token) → PathHere r here rest → length rest < length here
+pub path_shorter : (r : Path) (here rest : List Token) → PathHere r here rest
+    → length rest < length here
 path_shorter r here rest h = omega (arith, ap length h.1, members_shorter r.members h.0 rest h.2)
 
-strings_shorter : (ss : List (List ℕ)) (here rest : List Token) → StringsHere ss here rest → length rest ≤ length here
+strings_shorter : (ss : List (List ℕ)) (here rest : List Token) → StringsHere ss here rest
+    → length rest ≤ length here
 strings_shorter [] here rest h = omega (arith, ap length h.0)
 strings_shorter (s ∷ ss) here rest h = omega (arith, ap length h.1, strings_shorter ss h.0 rest h.2)
 
-pub text_shorter : (w : texts.Text) (here rest : List Token) → TextHere w here rest → length rest < length here
-text_shorter (Quoted raw) here rest h = omega (arith, ap length h.3.1, strings_shorter h.1 h.3.0 rest h.3.2)
+pub text_shorter : (w : texts.Text) (here rest : List Token) → TextHere w here rest
+    → length rest < length here
+text_shorter (Quoted raw) here rest h =
+    omega (arith, ap length h.3.1, strings_shorter h.1 h.3.0 rest h.3.2)
 text_shorter (Key k) here rest h = omega (arith, ap length h)
 
 mutual
-  pub expr_shorter : (p : Place) (row : ℕ) (e : Expr Path) (here rest : List Token) → ExprHere p row e here rest → length rest < length here
+  pub expr_shorter : (p : Place) (row : ℕ) (e : Expr Path) (here rest : List Token)
+      → ExprHere p row e here rest → length rest < length here
   expr_shorter p row (tree.Literal n) here rest h = omega (arith, ap length h)
   expr_shorter p row tree.Decimal here rest h = omega (arith, ap length h)
   expr_shorter p row (tree.Reference r) here rest h = path_shorter r here rest h
-  expr_shorter p row (tree.Parentheses e) here rest h = omega (arith, ap length h.1, expr_shorter p (loosest p) e h.0 _ h.2)
-  expr_shorter p row (tree.Call f args) here rest h = omega (arith, ap length h.3.1, ap length h.4, arguments_shorter p args h.2 _ h.5)
-  expr_shorter p row (tree.Increment PreIncrement r) here rest h = omega (arith, ap length h.3, path_shorter r h.2 rest h.4)
-  expr_shorter p row (tree.Increment PreDecrement r) here rest h = omega (arith, ap length h.3, path_shorter r h.2 rest h.4)
-  expr_shorter p row (tree.Increment PostIncrement r) here rest h = omega (arith, path_shorter r here _ h.2)
-  expr_shorter p row (tree.Increment PostDecrement r) here rest h = omega (arith, path_shorter r here _ h.2)
-  expr_shorter p row (tree.Unary op e) here rest h = omega (arith, ap length h.2, expr_shorter p 13 e h.1 rest h.3)
-  expr_shorter p row (tree.Binary op a b) here rest h = omega (arith, expr_shorter p (row_of op) a here _ h.2, expr_shorter p (suc (row_of op)) b h.1 rest h.3)
-  expr_shorter p row (tree.Compare op a b) here rest h = omega (arith, expr_shorter p (comparison_row op) a here _ h.2, expr_shorter p (suc (comparison_row op)) b h.1 rest h.3)
-  expr_shorter p row (tree.LogicalAnd a b) here rest h = omega (arith, expr_shorter p 4 a here _ h.2, expr_shorter p 5 b h.1 rest h.3)
-  expr_shorter p row (tree.LogicalOr a b) here rest h = omega (arith, expr_shorter p 3 a here _ h.2, expr_shorter p 4 b h.1 rest h.3)
+  expr_shorter p row (tree.Parentheses e) here rest h =
+      omega (arith, ap length h.1, expr_shorter p (loosest p) e h.0 _ h.2)
+  expr_shorter p row (tree.Call f args) here rest h =
+      omega (arith, ap length h.3.1, ap length h.4, arguments_shorter p args h.2 _ h.5)
+  expr_shorter p row (tree.Increment PreIncrement r) here rest h =
+      omega (arith, ap length h.3, path_shorter r h.2 rest h.4)
+  expr_shorter p row (tree.Increment PreDecrement r) here rest h =
+      omega (arith, ap length h.3, path_shorter r h.2 rest h.4)
+  expr_shorter p row (tree.Increment PostIncrement r) here rest h =
+      omega (arith, path_shorter r here _ h.2)
+  expr_shorter p row (tree.Increment PostDecrement r) here rest h =
+      omega (arith, path_shorter r here _ h.2)
+  expr_shorter p row (tree.Unary op e) here rest h =
+      omega (arith, ap length h.2, expr_shorter p 13 e h.1 rest h.3)
+  expr_shorter p row (tree.Binary op a b) here rest h =
+      omega (
+        arith,
+        expr_shorter p (row_of op) a here _ h.2,
+        expr_shorter p (suc (row_of op)) b h.1
+            rest h.3,
+      )
+  expr_shorter p row (tree.Compare op a b) here rest h =
+      omega (
+        arith,
+        expr_shorter p (comparison_row op) a here _ h.2,
+        expr_shorter p (suc (comparison_row op)) b h.1 rest h.3,
+      )
+  expr_shorter p row (tree.LogicalAnd a b) here rest h =
+      omega (arith, expr_shorter p 4 a here _ h.2, expr_shorter p 5 b h.1 rest h.3)
+  expr_shorter p row (tree.LogicalOr a b) here rest h =
+      omega (arith, expr_shorter p 3 a here _ h.2, expr_shorter p 4 b h.1 rest h.3)
   expr_shorter p row (tree.Conditional c a b) here rest h =
-      omega (arith, expr_shorter p 3 c here _ h.3, expr_shorter p (loosest p) a h.1 _ h.4, expr_shorter p 2 b h.2 rest h.5)
-  expr_shorter p row (tree.Assign r e) here rest h = omega (arith, path_shorter r here _ h.3, expr_shorter p 1 e h.2 rest h.4)
-  expr_shorter p row (tree.CompoundAssign op r e) here rest h = omega (arith, path_shorter r here _ h.3, expr_shorter p 1 e h.2 rest h.4)
+      omega (
+        arith,
+        expr_shorter p 3 c here _ h.3,
+        expr_shorter p (loosest p) a h.1 _ h.4,
+        expr_shorter p 2 b h.2 rest h.5,
+      )
+  expr_shorter p row (tree.Assign r e) here rest h =
+      omega (arith, path_shorter r here _ h.3, expr_shorter p 1 e h.2 rest h.4)
+  expr_shorter p row (tree.CompoundAssign op r e) here rest h =
+      omega (arith, path_shorter r here _ h.3, expr_shorter p 1 e h.2 rest h.4)
 
-  pub arguments_shorter : (p : Place) (args : Arguments Path) (here rest : List Token) → ArgumentsHere p args here rest → length rest ≤ length here
+  pub arguments_shorter : (p : Place) (args : Arguments Path) (here rest : List Token)
+      → ArgumentsHere p args here rest → length rest ≤ length here
   arguments_shorter p tree.Nil here rest h = omega (arith, ap length h)
-  arguments_shorter p (tree.Cons (Value e) others) here rest h = omega (arith, expr_shorter p (loosest p) e here h.0 h.1, more_shorter p others h.0 rest h.2)
-  arguments_shorter p (tree.Cons (Text w) others) here rest h = omega (arith, text_shorter w here h.0 h.1, more_shorter p others h.0 rest h.2)
+  arguments_shorter p (tree.Cons (Value e) others) here rest h =
+      omega (arith, expr_shorter p (loosest p) e here h.0 h.1, more_shorter p others h.0 rest h.2)
+  arguments_shorter p (tree.Cons (Text w) others) here rest h =
+      omega (arith, text_shorter w here h.0 h.1, more_shorter p others h.0 rest h.2)
 
-  pub more_shorter : (p : Place) (args : Arguments Path) (here rest : List Token) → MoreArgumentsHere p args here rest → length rest ≤ length here
+  pub more_shorter : (p : Place) (args : Arguments Path) (here rest : List Token)
+      → MoreArgumentsHere p args here rest → length rest ≤ length here
   more_shorter p tree.Nil here rest h = omega (arith, ap length h)
-  more_shorter p (tree.Cons (Value e) others) here rest h = omega (arith, ap length h.2, expr_shorter p (loosest p) e h.0 h.1 h.3, more_shorter p others h.1 rest h.4)
-  more_shorter p (tree.Cons (Text w) others) here rest h = omega (arith, ap length h.2, text_shorter w h.0 h.1 h.3, more_shorter p others h.1 rest h.4)
+  more_shorter p (tree.Cons (Value e) others) here rest h =
+      omega (
+        arith,
+        ap length h.2,
+        expr_shorter p (loosest p) e h.0 h.1 h.3,
+        more_shorter p others h.1 rest h.4,
+      )
+  more_shorter p (tree.Cons (Text w) others) here rest h =
+      omega (arith, ap length h.2, text_shorter w h.0 h.1 h.3, more_shorter p others h.1 rest h.4)
 
 -- the signs that an expression can begin with
 pub data Opening : Symbol → Type 0 where
@@ -78,11 +122,13 @@ pub data Begins : List Token → Type 0 where
 pub path_begins : (r : Path) (here rest : List Token) → PathHere r here rest → Begins here
 path_begins r here rest h = rw h.1 (WithName r.base h.0)
 
-pub begins : (p : Place) (row : ℕ) (e : Expr Path) (here rest : List Token) → ExprHere p row e here rest → Begins here
+pub begins : (p : Place) (row : ℕ) (e : Expr Path) (here rest : List Token)
+    → ExprHere p row e here rest → Begins here
 begins p row (tree.Literal n) here rest h = rw h (WithNumber n rest)
 begins p row tree.Decimal here rest h = rw h (WithDecimal rest)
 begins p row (tree.Reference r) here rest h = path_begins r here rest h
-begins p row (tree.Parentheses e) here rest h = rw h.1 (WithSign sign.OpenParenthesis Parenthesis h.0)
+begins p row (tree.Parentheses e) here rest h =
+    rw h.1 (WithSign sign.OpenParenthesis Parenthesis h.0)
 begins p row (tree.Call f args) here rest h = rw h.3.1 (WithName f.base h.1)
 begins p row (tree.Increment PreIncrement r) here rest h = rw h.3 (WithSign sign.Increment Up h.2)
 begins p row (tree.Increment PreDecrement r) here rest h = rw h.3 (WithSign sign.Decrement Down h.2)
@@ -113,7 +159,8 @@ begins_no_text here (WithNumber n rest) = refl
 begins_no_text here (WithDecimal rest) = refl
 begins_no_text here (WithSign s o rest) = opening_no_text s o rest
 
-opening_no_close : (s : Symbol) → Opening s → (rest : List Token) → at sign.CloseParenthesis (Sign s ∷ rest) ≡ false
+opening_no_close : (s : Symbol) → Opening s → (rest : List Token)
+    → at sign.CloseParenthesis (Sign s ∷ rest) ≡ false
 opening_no_close s Parenthesis rest = refl
 opening_no_close s (Before unary_operator.Plus) rest = refl
 opening_no_close s (Before unary_operator.Minus) rest = refl
@@ -128,7 +175,8 @@ begins_no_close here (WithNumber n rest) = refl
 begins_no_close here (WithDecimal rest) = refl
 begins_no_close here (WithSign s o rest) = opening_no_close s o rest
 
-opening_no_semicolon : (s : Symbol) → Opening s → (rest : List Token) → at sign.Semicolon (Sign s ∷ rest) ≡ false
+opening_no_semicolon : (s : Symbol) → Opening s → (rest : List Token)
+    → at sign.Semicolon (Sign s ∷ rest) ≡ false
 opening_no_semicolon s Parenthesis rest = refl
 opening_no_semicolon s (Before unary_operator.Plus) rest = refl
 opening_no_semicolon s (Before unary_operator.Minus) rest = refl
@@ -143,7 +191,8 @@ begins_no_semicolon here (WithNumber n rest) = refl
 begins_no_semicolon here (WithDecimal rest) = refl
 begins_no_semicolon here (WithSign s o rest) = opening_no_semicolon s o rest
 
-opening_no_brace : (s : Symbol) → Opening s → (rest : List Token) → at sign.OpenBrace (Sign s ∷ rest) ≡ false
+opening_no_brace : (s : Symbol) → Opening s → (rest : List Token)
+    → at sign.OpenBrace (Sign s ∷ rest) ≡ false
 opening_no_brace s Parenthesis rest = refl
 opening_no_brace s (Before unary_operator.Plus) rest = refl
 opening_no_brace s (Before unary_operator.Minus) rest = refl
@@ -158,7 +207,8 @@ begins_no_brace here (WithNumber n rest) = refl
 begins_no_brace here (WithDecimal rest) = refl
 begins_no_brace here (WithSign s o rest) = opening_no_brace s o rest
 
-opening_no_close_brace : (s : Symbol) → Opening s → (rest : List Token) → at sign.CloseBrace (Sign s ∷ rest) ≡ false
+opening_no_close_brace : (s : Symbol) → Opening s → (rest : List Token)
+    → at sign.CloseBrace (Sign s ∷ rest) ≡ false
 opening_no_close_brace s Parenthesis rest = refl
 opening_no_close_brace s (Before unary_operator.Plus) rest = refl
 opening_no_close_brace s (Before unary_operator.Minus) rest = refl
@@ -173,6 +223,7 @@ begins_no_close_brace here (WithNumber n rest) = refl
 begins_no_close_brace here (WithDecimal rest) = refl
 begins_no_close_brace here (WithSign s o rest) = opening_no_close_brace s o rest
 
-pub text_no_close : (w : texts.Text) (here rest : List Token) → TextHere w here rest → at sign.CloseParenthesis here ≡ false
+pub text_no_close : (w : texts.Text) (here rest : List Token) → TextHere w here rest
+    → at sign.CloseParenthesis here ≡ false
 text_no_close (Quoted raw) here rest h = ap (at sign.CloseParenthesis) h.3.1
 text_no_close (Key k) here rest h = ap (at sign.CloseParenthesis) h

@@ -24,7 +24,8 @@ use Rattle.edd_grammar.proofs.Operators.{method_is, infix_spelled, infix_height,
 use Rattle.edd_grammar.proofs.Texts.{path_behind_sound, path_sound, text_sound}
 
 -- where a row may stand, a tighter one may
-pub looser : (p : Place) (row row' : ℕ) (e : Expr Path) (here rest : List Token) → row ≤ row' → ExprHere p row' e here rest → ExprHere p row e here rest
+pub looser : (p : Place) (row row' : ℕ) (e : Expr Path) (here rest : List Token) → row ≤ row'
+    → ExprHere p row' e here rest → ExprHere p row e here rest
 looser p row row' (tree.Literal n) here rest le h = h
 looser p row row' tree.Decimal here rest le h = h
 looser p row row' (tree.Reference n) here rest le h = h
@@ -44,35 +45,46 @@ looser p row row' (tree.Assign r e) here rest le h = (h.0, omega arith, h.2, h.3
 looser p row row' (tree.CompoundAssign op r e) here rest le h = (h.0, omega arith, h.2, h.3, h.4)
 
 -- an expression as it stands here, of at most this height
-pub record Stands (p : Place) (high row : ℕ) (here : List Token) (e : Expr Path) (rest : List Token) : Type 0 where
+pub record Stands (p : Place) (height_left row : ℕ) (here : List Token) (e : Expr Path)
+    (rest : List Token) : Type 0 where
   pub spelled : ExprHere p row e here rest
-  pub low : height e ≤ high
+  pub low : height e ≤ height_left
 
 -- What this reads stands so.
 abbrev pub Sound : Place → ℕ → Inner → Type 0
-Sound p high inner = (row : ℕ) (here : List Token) (e : Expr Path) (rest : List Token) → row ≤ 13 → inner row here ≡ Some (e, rest) → Stands p high row here e rest × Ends row rest
+Sound p height_left inner = (row : ℕ) (here : List Token) (e : Expr Path) (rest : List Token)
+    → row ≤ 13 → inner row here ≡ Some (e, rest) → Stands p height_left row here e rest
+    × Ends row rest
 
 pub loosest_le : (p : Place) → loosest p ≤ 2
 loosest_le InAttribute = omega arith
 loosest_le InMethod = omega arith
 
-closing_is : (all args : Arguments Path) (end : Option (List Token)) (rest : List Token) → closing all end ≡ Some (args, rest) → (end ≡ Some rest) × (all ≡ args)
+closing_is : (all args : Arguments Path) (end : Option (List Token)) (rest : List Token)
+    → closing all end ≡ Some (args, rest) → (end ≡ Some rest) × (all ≡ args)
 closing_is all args None rest e = absurd cc
-closing_is all args (Some t) rest e = let parts = some_pair_parts all args t rest e in (ap Some parts.1, parts.0)
+closing_is all args (Some t) rest e = let parts =
+    some_pair_parts all args t rest e in (ap Some parts.1, parts.0)
 
-module _ (p : Place) (inner : Inner) (high : ℕ) (sound : Sound p high inner) where
-  record ArgumentsStand (here : List Token) (args : Arguments Path) (rest : List Token) : Type 0 where
-    pub first : ArgumentsHere p args here (Sign sign.CloseParenthesis ∷ rest)
-    pub more : (from : List Token) → from ≡ Sign sign.Comma ∷ here → MoreArgumentsHere p args from (Sign sign.CloseParenthesis ∷ rest)
-    pub low : argument_height args ≤ high
+module _ (p : Place) (inner : Inner) (height_left : ℕ) (sound : Sound p height_left inner) where
+  record ArgumentsStand (here : List Token) (args : Arguments Path) (rest : List Token) : Type 0
+    where
+      pub first : ArgumentsHere p args here (Sign sign.CloseParenthesis ∷ rest)
+      pub more : (from : List Token) → from ≡ Sign sign.Comma ∷ here
+          → MoreArgumentsHere p args from (Sign sign.CloseParenthesis ∷ rest)
+      pub low : argument_height args ≤ height_left
 
   -- one argument: it may stand first, or behind a comma
   record ArgumentStands (here : List Token) (a : Argument Path) (rest : List Token) : Type 0 where
-    pub first : (others : Arguments Path) (end : List Token) → MoreArgumentsHere p others rest end → ArgumentsHere p (tree.Cons a others) here end
-    pub more : (others : Arguments Path) (from end : List Token) → from ≡ Sign sign.Comma ∷ here → MoreArgumentsHere p others rest end → MoreArgumentsHere p (tree.Cons a others) from end
-    pub low : (others : Arguments Path) → argument_height others ≤ high → argument_height (tree.Cons a others) ≤ high
+    pub first : (others : Arguments Path) (end : List Token) → MoreArgumentsHere p others rest end
+        → ArgumentsHere p (tree.Cons a others) here end
+    pub more : (others : Arguments Path) (from end : List Token) → from ≡ Sign sign.Comma ∷ here
+        → MoreArgumentsHere p others rest end → MoreArgumentsHere p (tree.Cons a others) from end
+    pub low : (others : Arguments Path) → argument_height others ≤ height_left
+        → argument_height (tree.Cons a others) ≤ height_left
 
-  argument_sound : (here : List Token) (a : Argument Path) (rest : List Token) → argument_at p inner here ≡ Some (a, rest) → ArgumentStands here a rest
+  argument_sound : (here : List Token) (a : Argument Path) (rest : List Token)
+      → argument_at p inner here ≡ Some (a, rest) → ArgumentStands here a rest
   unfolding argument_at
   argument_sound here a rest e =
       elim (chosen (is_text here) _ _ _ e) [
@@ -94,7 +106,8 @@ module _ (p : Place) (inner : Inner) (high : ℕ) (sound : Sound p high inner) w
             })
       ]
 
-  some_arguments_sound : (n : ℕ) (here : List Token) (args : Arguments Path) (rest : List Token) → some_arguments p inner n here ≡ Some (args, rest) → ArgumentsStand here args rest
+  some_arguments_sound : (n : ℕ) (here : List Token) (args : Arguments Path) (rest : List Token)
+      → some_arguments p inner n here ≡ Some (args, rest) → ArgumentsStand here args rest
   unfolding some_arguments
   some_arguments_sound zero here args rest e = absurd cc
   some_arguments_sound (suc n) here args rest e =
@@ -106,47 +119,77 @@ module _ (p : Place) (inner : Inner) (high : ℕ) (sound : Sound p high inner) w
         | inl (comma, y) ↦
             let s = some_arguments_sound n (drop 1 a.0.1) b.0.0 b.0.1 y in
             let m = s.more a.0.1 (at_is sign.Comma a.0.1 comma) in
-            record { first = first.first b.0.0 _ m; more = λ from f. first.more b.0.0 from _ f m; low = first.low b.0.0 s.low }
+            record {
+              first = first.first b.0.0 _ m;
+              more = λ from f. first.more b.0.0 from _ f m;
+              low = first.low b.0.0 s.low;
+            }
         | inr (no_comma, y) ↦
             let c = closing_is tree.Nil b.0.0 (expect sign.CloseParenthesis a.0.1) b.0.1 y in
             subst (λ o. ArgumentsStand here (tree.Cons a.0.0 o) b.0.1) c.1
-            (let close = expect_is sign.CloseParenthesis a.0.1 b.0.1 c.0 in record { first = first.first tree.Nil _ close; more = λ from f. first.more tree.Nil from _ f close; low = first.low tree.Nil (omega arith) })
+            (let close = expect_is sign.CloseParenthesis a.0.1 b.0.1 c.0 in record {
+              first = first.first tree.Nil _ close;
+              more = λ from f. first.more tree.Nil from _
+                  f close;
+              low = first.low tree.Nil (omega arith);
+            })
       ])
 
-  arguments_sound : (here : List Token) (args : Arguments Path) (rest : List Token) → arguments_at p inner here ≡ Some (args, rest) → ArgumentsHere p args here (Sign sign.CloseParenthesis ∷ rest) × (argument_height args ≤ high)
+  arguments_sound : (here : List Token) (args : Arguments Path) (rest : List Token)
+      → arguments_at p inner here ≡ Some (args, rest)
+      → ArgumentsHere p args here (Sign sign.CloseParenthesis ∷ rest)
+      × (argument_height args ≤ height_left)
   unfolding arguments_at
   arguments_sound here args rest e =
       elim (chosen (at sign.CloseParenthesis here) _ _ _ e) [
-        | inl (t, x) ↦ as_read (λ a r. ArgumentsHere p a here (Sign sign.CloseParenthesis ∷ r) × (argument_height a ≤ high)) tree.Nil args (drop 1 here) rest x (at_is sign.CloseParenthesis here t, omega arith)
-        | inr (t, x) ↦ let s = some_arguments_sound (length here) here args rest x in (s.first, s.low)
+        | inl (t, x) ↦ as_read (λ a r. ArgumentsHere p a here (Sign sign.CloseParenthesis ∷ r)
+            × (argument_height a ≤ height_left)) tree.Nil args (drop 1 here) rest x
+            (at_is sign.CloseParenthesis here t, omega arith)
+        | inr (t, x) ↦ let s = some_arguments_sound (length here) here args rest
+            x in (s.first, s.low)
       ]
 
   abbrev Operand : List Token → Expr Path → List Token → Type 0
-  Operand here e rest = Stands p (suc high) 13 here e rest
+  Operand here e rest = Stands p (suc height_left) 13 here e rest
 
-  step_low : (op : IncrementOperator) (r : Path) → height (tree.Increment op r) ≤ suc high
+  step_low : (op : IncrementOperator) (r : Path) → height (tree.Increment op r) ≤ suc height_left
   step_low op r = omega arith
 
   -- a path with nothing behind it, or with an increment
-  postfix_sound : (r : Path) (from here : List Token) (e : Expr Path) (rest : List Token) → PathHere r from here → postfix p r here ≡ Some (e, rest) → Operand from e rest
+  postfix_sound : (r : Path) (from here : List Token) (e : Expr Path) (rest : List Token)
+      → PathHere r from here → postfix p r here ≡ Some (e, rest) → Operand from e rest
   unfolding postfix
   postfix_sound r from (Sign s ∷ here) e rest h x =
       elim (option_cases (increment_at (Sign s ∷ here)) _ _ _ x) [
-        | inl (none, y) ↦ as_read (Operand from) _ e _ rest y (record { spelled = h; low = omega arith })
+        | inl (none, y) ↦ as_read (Operand from) _ e _ rest y
+            (record { spelled = h; low = omega arith })
         | inr (o, some, y) ↦
             let b = bind_some (behind_of s) _ o some in
             let g = guard_some (is_method p) _ _ y in
-            let stands : Operand from (tree.Increment b.0 r) here = record { spelled = behind_spelled p 13 s b.0 r from here b.1 (method_is p g.0) (omega arith) h; low = step_low b.0 r } in
-            as_read (Operand from) _ e _ rest g.1 (as_read (λ op t. Operand from (tree.Increment op r) t) b.0 o.0 here o.1 b.2 stands)
+            let stands : Operand from (tree.Increment b.0 r) here =
+            record {
+              spelled = behind_spelled p 13 s b.0 r from here b.1 (method_is p g.0)
+                  (omega arith) h;
+              low = step_low b.0 r;
+            } in
+            as_read (Operand from) _ e _ rest g.1
+            (as_read (λ op t. Operand from (tree.Increment op r) t) b.0 o.0 here o.1 b.2 stands)
       ]
-  postfix_sound r from [] e rest h x = as_read (Operand from) _ e _ rest x (record { spelled = h; low = omega arith })
-  postfix_sound r from (Reserved n ∷ here) e rest h x = as_read (Operand from) _ e _ rest x (record { spelled = h; low = omega arith })
-  postfix_sound r from (Identifier n ∷ here) e rest h x = as_read (Operand from) _ e _ rest x (record { spelled = h; low = omega arith })
-  postfix_sound r from (Integer n ∷ here) e rest h x = as_read (Operand from) _ e _ rest x (record { spelled = h; low = omega arith })
-  postfix_sound r from (token.Decimal ∷ here) e rest h x = as_read (Operand from) _ e _ rest x (record { spelled = h; low = omega arith })
-  postfix_sound r from (String n ∷ here) e rest h x = as_read (Operand from) _ e _ rest x (record { spelled = h; low = omega arith })
+  postfix_sound r from [] e rest h x = as_read (Operand from) _ e _ rest x
+      (record { spelled = h; low = omega arith })
+  postfix_sound r from (Reserved n ∷ here) e rest h x = as_read (Operand from) _ e _ rest x
+      (record { spelled = h; low = omega arith })
+  postfix_sound r from (Identifier n ∷ here) e rest h x = as_read (Operand from) _ e _ rest x
+      (record { spelled = h; low = omega arith })
+  postfix_sound r from (Integer n ∷ here) e rest h x = as_read (Operand from) _ e _ rest x
+      (record { spelled = h; low = omega arith })
+  postfix_sound r from (token.Decimal ∷ here) e rest h x = as_read (Operand from) _ e _ rest x
+      (record { spelled = h; low = omega arith })
+  postfix_sound r from (String n ∷ here) e rest h x = as_read (Operand from) _ e _ rest x
+      (record { spelled = h; low = omega arith })
 
-  named_sound : (name : Name) (here : List Token) (e : Expr Path) (rest : List Token) → named_at p inner name here ≡ Some (e, rest) → Operand (Identifier name ∷ here) e rest
+  named_sound : (name : Name) (here : List Token) (e : Expr Path) (rest : List Token)
+      → named_at p inner name here ≡ Some (e, rest) → Operand (Identifier name ∷ here) e rest
   unfolding named_at
   named_sound name here e rest x =
       elim (chosen (at sign.OpenParenthesis here) _ _ _ x) [
@@ -154,130 +197,198 @@ module _ (p : Place) (inner : Inner) (high : ℕ) (sound : Sound p high inner) w
             let g = guard_some (is_method p) _ _ y in
             let a = bind_some (arguments_at p inner (drop 1 here)) _ (e, rest) g.1 in
             let s = arguments_sound (drop 1 here) a.0.0 a.0.1 a.1 in
-            as_read (Operand (Identifier name ∷ here)) _ e _ rest a.2 (record { spelled = (method_is p g.0, here, drop 1 here, (refl, refl), at_is sign.OpenParenthesis here t, s.0); low = omega (arith, s.1) })
-        | inr (t, y) ↦ postfix_sound _ (Identifier name ∷ here) _ e rest (path_behind_sound name here) y
+            as_read (Operand (Identifier name ∷ here)) _ e _ rest a.2
+            (record {
+              spelled = (
+                method_is p g.0,
+                here,
+                drop 1 here,
+                (refl, refl),
+                at_is sign.OpenParenthesis here t,
+                s.0,
+              );
+              low = omega (arith, s.1);
+            })
+        | inr (t, y) ↦ postfix_sound _ (Identifier name ∷ here) _ e rest
+            (path_behind_sound name here) y
       ]
 
-  unary_sound : (op : UnaryOperator) (from here : List Token) (e : Expr Path) (rest : List Token) → from ≡ Sign (unary_sign op) ∷ here → unary_behind p inner op here ≡ Some (e, rest) → Operand from e rest
+  unary_sound : (op : UnaryOperator) (from here : List Token) (e : Expr Path) (rest : List Token)
+      → from ≡ Sign (unary_sign op) ∷ here → unary_behind p inner op here ≡ Some (e, rest)
+      → Operand from e rest
   unfolding unary_behind
   unary_sound op from here e rest f x =
       let a = bind_some (inner 13 here) _ (e, rest) x in
       let s = sound 13 here a.0.0 a.0.1 (omega arith) a.1 in
-      as_read (Operand from) _ e _ rest a.2 (record { spelled = (omega arith, here, f, s.0.spelled); low = omega (arith, s.0.low) })
+      as_read (Operand from) _ e _ rest a.2
+      (record { spelled = (omega arith, here, f, s.0.spelled); low = omega (arith, s.0.low) })
 
-  step_sound : (s : Symbol) (op : IncrementOperator) (here : List Token) (e : Expr Path) (rest : List Token) → before_of s ≡ Some op → step_before p op here ≡ Some (e, rest) → Operand (Sign s ∷ here) e rest
+  step_sound : (s : Symbol) (op : IncrementOperator) (here : List Token) (e : Expr Path)
+      (rest : List Token) → before_of s ≡ Some op → step_before p op here ≡ Some (e, rest)
+      → Operand (Sign s ∷ here) e rest
   unfolding step_before
   step_sound s op here e rest f x =
       let g = guard_some (is_method p) _ _ x in
       let r = bind_some (path_at here) _ (e, rest) g.1 in
       as_read (Operand (Sign s ∷ here)) _ e _ rest r.2
-      (record { spelled = before_spelled p 13 s op r.0.0 here r.0.1 f (method_is p g.0) (omega arith) (path_sound here r.0.0 r.0.1 r.1); low = step_low op r.0.0 })
+      (record {
+        spelled = before_spelled p 13 s op r.0.0 here r.0.1 f (method_is p g.0)
+            (omega arith) (path_sound here r.0.0 r.0.1 r.1);
+        low = step_low op r.0.0;
+      })
 
-  parentheses_sound : (here : List Token) (e : Expr Path) (rest : List Token) → parentheses_behind p inner here ≡ Some (e, rest) → Operand (Sign sign.OpenParenthesis ∷ here) e rest
+  parentheses_sound : (here : List Token) (e : Expr Path) (rest : List Token)
+      → parentheses_behind p inner here ≡ Some (e, rest)
+      → Operand (Sign sign.OpenParenthesis ∷ here) e rest
   unfolding parentheses_behind
   parentheses_sound here e rest y =
       let a = bind_some (inner (loosest p) here) _ (e, rest) y in
       let s = sound (loosest p) here a.0.0 a.0.1 (omega (arith, loosest_le p)) a.1 in
       let c = bind_some (expect sign.CloseParenthesis a.0.1) _ (e, rest) a.2 in
-      let inside = subst (λ u. ExprHere p (loosest p) a.0.0 here u) (expect_is sign.CloseParenthesis a.0.1 c.0 c.1) s.0.spelled in
-      as_read (Operand (Sign sign.OpenParenthesis ∷ here)) _ e _ rest c.2 (record { spelled = (here, refl, inside); low = omega (arith, s.0.low) })
+      let inside = subst (λ u. ExprHere p (loosest p) a.0.0 here u)
+      (expect_is sign.CloseParenthesis a.0.1 c.0 c.1) s.0.spelled in
+      as_read (Operand (Sign sign.OpenParenthesis ∷ here)) _ e _ rest c.2
+      (record { spelled = (here, refl, inside); low = omega (arith, s.0.low) })
 
-  signed_sound : (s : Symbol) (here : List Token) (e : Expr Path) (rest : List Token) → signed_at p inner s here ≡ Some (e, rest) → Operand (Sign s ∷ here) e rest
+  signed_sound : (s : Symbol) (here : List Token) (e : Expr Path) (rest : List Token)
+      → signed_at p inner s here ≡ Some (e, rest) → Operand (Sign s ∷ here) e rest
   unfolding signed_at
   signed_sound s here e rest x =
       elim (chosen (same_sign s sign.OpenParenthesis) _ _ _ x) [
-        | inl (t, y) ↦ subst (λ k. Operand (Sign k ∷ here) e rest) (sym (same_sign_is s sign.OpenParenthesis t)) (parentheses_sound here e rest y)
+        | inl (t, y) ↦ subst (λ k. Operand (Sign k ∷ here) e rest)
+            (sym (same_sign_is s sign.OpenParenthesis t)) (parentheses_sound here e rest y)
         | inr (_, y) ↦ elim (option_cases (unary_of s) _ _ _ y) [
-          | inl (_, z) ↦ (let o = bind_some (before_of s) _ (e, rest) z in step_sound s o.0 here e rest o.1 o.2)
-          | inr (op, some, z) ↦ unary_sound op (Sign s ∷ here) here e rest (ap (λ k. Sign k ∷ here) (unary_is s op some)) z
+          | inl (_, z) ↦ (let o = bind_some (before_of s) _ (e, rest) z in step_sound s o.0 here e
+              rest o.1 o.2)
+          | inr (op, some, z) ↦ unary_sound op (Sign s ∷ here) here e rest
+              (ap (λ k. Sign k ∷ here) (unary_is s op some)) z
         ]
       ]
 
-  operand_sound : (here : List Token) (e : Expr Path) (rest : List Token) → operand_at p inner here ≡ Some (e, rest) → Operand here e rest
+  operand_sound : (here : List Token) (e : Expr Path) (rest : List Token) → operand_at p inner here
+      ≡ Some (e, rest) → Operand here e rest
   unfolding operand_at
   operand_sound [] e rest x = absurd cc
   operand_sound (Identifier n ∷ here) e rest x = named_sound n here e rest x
-  operand_sound (Integer n ∷ here) e rest x = as_read (Operand (Integer n ∷ here)) _ e _ rest x (record { spelled = refl; low = omega arith })
-  operand_sound (token.Decimal ∷ here) e rest x = as_read (Operand (token.Decimal ∷ here)) _ e _ rest x (record { spelled = refl; low = omega arith })
+  operand_sound (Integer n ∷ here) e rest x = as_read (Operand (Integer n ∷ here)) _ e _ rest x
+      (record { spelled = refl; low = omega arith })
+  operand_sound (token.Decimal ∷ here) e rest x = as_read (Operand (token.Decimal ∷ here)) _ e _
+      rest x (record { spelled = refl; low = omega arith })
   operand_sound (String s ∷ here) e rest x = absurd cc
   operand_sound (Reserved s ∷ here) e rest x = absurd cc
   operand_sound (Sign s ∷ here) e rest x = signed_sound s here e rest x
 
   -- an expression of a layer, with nothing behind it that it should have taken
   abbrev Whole : ℕ → List Token → Expr Path → List Token → Type 0
-  Whole row from e rest = Stands p (suc high) row from e rest × Ends row rest
+  Whole row from e rest = Stands p (suc height_left) row from e rest × Ends row rest
 
   -- the same behind a chain of operators, where nothing of row 1 or 2 was read yet
   record Chained (row : ℕ) (from : List Token) (e : Expr Path) (rest : List Token) : Type 0 where
     pub level : ℕ
     pub tighter : row ≤ level
     pub operator : 3 ≤ level
-    pub stands : Stands p (suc high) level from e rest
+    pub stands : Stands p (suc height_left) level from e rest
     pub ends : Ends row rest
 
-  chain_sound : (row level n : ℕ) (from : List Token) (left : Expr Path) (here : List Token) (e : Expr Path) (rest : List Token)
-      → row ≤ level → 3 ≤ level → Stands p (suc high) level from left here → Ends (suc level) here → chain p inner high row n left here ≡ Some (e, rest) → Chained row from e rest
+  chain_sound : (row level n : ℕ) (from : List Token) (left : Expr Path) (here : List Token)
+      (e : Expr Path) (rest : List Token)
+      → row ≤ level → 3 ≤ level → Stands p (suc height_left) level from left here
+      → Ends (suc level) here → chain p inner height_left row n left here ≡ Some (e, rest)
+      → Chained row from e rest
   unfolding chain joined_at
   chain_sound row level zero from left here e rest le three s ends x =
       elim (option_cases (operator_at row here) _ _ _ x) [
-        | inl (none, y) ↦ as_read (Chained row from) _ e _ rest y (record { level = level; tighter = le; operator = three; stands = s; ends = none })
+        | inl (none, y) ↦ as_read (Chained row from) _ e _ rest y
+            (record { level = level; tighter = le; operator = three; stands = s; ends = none })
         | inr (o, some, y) ↦ absurd cc
       ]
   chain_sound row level (suc n) from left here e rest le three s ends x =
       elim (option_cases (operator_at row here) _ _ _ x) [
-        | inl (none, y) ↦ as_read (Chained row from) _ e _ rest y (record { level = level; tighter = le; operator = three; stands = s; ends = none })
+        | inl (none, y) ↦ as_read (Chained row from) _ e _ rest y
+            (record { level = level; tighter = le; operator = three; stands = s; ends = none })
         | inr (o, some, y) ↦
-            let j = bind_some (joined_at p inner high o.0 left o.1) _ (e, rest) y in
-            let g = guard_some (nat_le (height left) high) _ _ j.1 in
+            let j = bind_some (joined_at p inner height_left o.0 left o.1) _ (e, rest) y in
+            let g = guard_some (nat_le (height left) height_left) _ _ j.1 in
             let b = bind_some (inner (suc (infix_row o.0)) o.1) _ j.0 g.1 in
-            let joins : (infix_tree o.0 left b.0.0 ≡ j.0.0) × (b.0.1 ≡ j.0.1) = some_pair_parts _ _ _ _ b.2 in
+            let joins : (infix_tree o.0 left b.0.0 ≡ j.0.0) × (b.0.1 ≡ j.0.1) =
+            some_pair_parts _ _ _ _ b.2 in
             let here-is = operator_is row here o.0 o.1 some in
-            let right = sound (suc (infix_row o.0)) o.1 b.0.0 b.0.1 (omega (arith, row_to o.0)) b.1 in
-            let before = ends_before (suc level) o.0 o.1 (subst (λ t. Ends (suc level) t) here-is.0 ends) in
+            let right = sound (suc (infix_row o.0)) o.1 b.0.0 b.0.1 (omega (arith, row_to o.0))
+            b.1 in
+            let before = ends_before (suc level) o.0 o.1
+            (subst (λ t. Ends (suc level) t) here-is.0 ends) in
             let tighter : infix_row o.0 ≤ level = omega arith in
-            let left-low = le_is (height left) high g.0 in
-            let left-is = subst (λ t. ExprHere p (infix_row o.0) left from t) here-is.0 (looser p (infix_row o.0) level left from here tighter s.spelled) in
-            let stands : Stands p (suc high) (infix_row o.0) from (infix_tree o.0 left b.0.0) b.0.1 =
-            record { spelled = infix_spelled p (infix_row o.0) o.0 left b.0.0 from b.0.1 (omega arith, o.1, left-is, right.0.spelled); low = (let r = right.0.low in omega (arith, infix_height o.0 left b.0.0)) } in
+            let left-low = le_is (height left) height_left g.0 in
+            let left-is = subst (λ t. ExprHere p (infix_row o.0) left from t) here-is.0
+            (looser p (infix_row o.0) level left from here tighter s.spelled) in
+            let stands : Stands p (suc height_left) (infix_row o.0) from (infix_tree o.0 left b.0.0)
+            b.0.1 =
+            record {
+              spelled = infix_spelled p (infix_row o.0) o.0 left b.0.0 from b.0.1
+                  (omega arith, o.1, left-is, right.0.spelled);
+              low =
+                  (let r = right.0.low in omega (arith, infix_height o.0 left b.0.0));
+            } in
             chain_sound row (infix_row o.0) n from j.0.0 j.0.1 e rest here-is.1 (row_from o.0)
-            (subst (λ t. Stands p (suc high) (infix_row o.0) from j.0.0 t) joins.1 (subst (λ x. Stands p (suc high) (infix_row o.0) from x b.0.1) joins.0 stands))
+            (subst (λ t. Stands p (suc height_left) (infix_row o.0) from j.0.0 t) joins.1
+            (subst (λ x. Stands p (suc height_left) (infix_row o.0) from x b.0.1) joins.0
+            stands))
             (subst (λ t. Ends (suc (infix_row o.0)) t) joins.1 right.1) j.2
       ]
 
-  choice_sound : (row : ℕ) (from : List Token) (c : Expr Path) (here : List Token) (e : Expr Path) (rest : List Token)
-      → Chained row from c here → choice_at p inner high row c here ≡ Some (e, rest) → Whole row from e rest
+  choice_sound : (row : ℕ) (from : List Token) (c : Expr Path) (here : List Token) (e : Expr Path)
+      (rest : List Token)
+      → Chained row from c here → choice_at p inner height_left row c here ≡ Some (e, rest)
+      → Whole row from e rest
   unfolding choice_at
   choice_sound row from c here e rest s x =
       elim (chosen (nat_le row 2 && at sign.Question here) _ _ _ x) [
         | inl (t, y) ↦
             let both = both_true (nat_le row 2) (at sign.Question here) t in
             let two = le_is row 2 both.0 in
-            let g = guard_some (nat_le (height c) high) _ _ y in
-            let c-low = le_is (height c) high g.0 in
+            let g = guard_some (nat_le (height c) height_left) _ _ y in
+            let c-low = le_is (height c) height_left g.0 in
             let a = bind_some (inner (loosest p) (drop 1 here)) _ (e, rest) g.1 in
             let m = bind_some (expect sign.Colon a.0.1) _ (e, rest) a.2 in
             let b = bind_some (inner 2 m.0) _ (e, rest) m.2 in
-            let first = sound (loosest p) (drop 1 here) a.0.0 a.0.1 (omega (arith, loosest_le p)) a.1 in
+            let first = sound (loosest p) (drop 1 here) a.0.0 a.0.1 (omega (arith, loosest_le p))
+            a.1 in
             let second = sound 2 m.0 b.0.0 b.0.1 (omega arith) b.1 in
-            let c-is = subst (λ u. ExprHere p 3 c from u) (at_is sign.Question here both.1) (looser p 3 s.level c from here s.operator s.stands.spelled) in
-            let first-is = subst (λ u. ExprHere p (loosest p) a.0.0 (drop 1 here) u) (expect_is sign.Colon a.0.1 m.0 m.1) first.0.spelled in
-            as_read (Whole row from) _ e _ rest b.2
-            (record { spelled = (two, drop 1 here, m.0, c-is, first-is, second.0.spelled); low = (let i = first.0.low in let j = second.0.low in omega arith) }, ends_all row 2 b.0.1 (omega arith) second.1)
-        | inr (f, y) ↦ as_read (Whole row from) _ e _ rest y (record { spelled = looser p row s.level c from here s.tighter s.stands.spelled; low = s.stands.low }, s.ends)
+            let c-is = subst (λ u. ExprHere p 3 c from u) (at_is sign.Question here both.1)
+            (looser p 3 s.level c from here s.operator s.stands.spelled) in
+            let first-is = subst (λ u. ExprHere p (loosest p) a.0.0 (drop 1 here) u)
+            (expect_is sign.Colon a.0.1 m.0 m.1) first.0.spelled in
+            as_read (Whole row from) _ e _ rest b.2 (
+              record {
+                spelled = (two, drop 1 here, m.0, c-is, first-is, second.0.spelled);
+                low = (let i = first.0.low in let j = second.0.low in omega arith);
+              },
+              ends_all row 2 b.0.1 (omega arith) second.1,
+            )
+        | inr (f, y) ↦ as_read (Whole row from) _ e _ rest y (
+          record {
+            spelled = looser p row s.level c from here s.tighter s.stands.spelled;
+            low = s.stands.low;
+          },
+          s.ends,
+        )
       ]
 
   as_path_is : (e : Expr Path) (r : Path) → as_path e ≡ Some r → e ≡ tree.Reference r
   as_path_is (tree.Reference s) r x = let same : s ≡ r = cc in ap tree.Reference same
   as_path_is _ r x = absurd cc
 
-  assigned_is : (row : ℕ) (e : Expr Path) (r : Path) → assigned p row e ≡ Some r → (e ≡ tree.Reference r) × (row ≤ 1) × IsMethod p
+  assigned_is : (row : ℕ) (e : Expr Path) (r : Path) → assigned p row e ≡ Some r
+      → (e ≡ tree.Reference r) × (row ≤ 1) × IsMethod p
   assigned_is row e r x =
       let g = guard_some (nat_le row 1 && is_method p) (as_path e) r x in
       let b = both_true (nat_le row 1) (is_method p) g.0 in
       (as_path_is e r g.1, le_is row 1 b.0, method_is p b.1)
 
-  assign_sound : (row : ℕ) (from : List Token) (c : Expr Path) (here : List Token) (e : Expr Path) (rest : List Token)
-      → Whole row from c here → assign_at p inner row c here ≡ Some (e, rest) → Whole row from e rest
+  assign_sound : (row : ℕ) (from : List Token) (c : Expr Path) (here : List Token) (e : Expr Path)
+      (rest : List Token)
+      → Whole row from c here → assign_at p inner row c here ≡ Some (e, rest)
+      → Whole row from e rest
   unfolding assign_at
   assign_sound row from c here e rest s x =
       elim (option_cases (assigned p row c) _ _ _ x) [
@@ -288,10 +399,18 @@ module _ (p : Place) (inner : Inner) (high : ℕ) (sound : Sound p high inner) w
               let b = bind_some (inner 1 o.1) _ (e, rest) z in
               let value = sound 1 o.1 b.0.0 b.0.1 (omega arith) b.1 in
               let a = assigned_is row c r some in
-              let left : PathHere r from here = subst (λ u. ExprHere p row u from here) a.0 s.0.spelled in
+              let left : PathHere r from here = subst (λ u. ExprHere p row u from here) a.0
+              s.0.spelled in
               as_read (Whole row from) _ e _ rest b.2 (
                 record {
-                  spelled = assignment_spelled p row o.0 r b.0.0 from b.0.1 (a.2, a.1, o.1, subst (λ u. PathHere r from u) (assignment_is here o.0 o.1 equals) left, value.0.spelled);
+                  spelled = assignment_spelled p row o.0 r b.0.0 from b.0.1 (
+                    a.2,
+                    a.1,
+                    o.1,
+                    subst (λ u. PathHere r from u)
+                        (assignment_is here o.0 o.1 equals) left,
+                    value.0.spelled,
+                  );
                   low = (let i = value.0.low in omega (arith, assignment_height o.0 r b.0.0));
                 },
                 ends_all row 1 b.0.1 (omega arith) value.1,
@@ -299,19 +418,23 @@ module _ (p : Place) (inner : Inner) (high : ℕ) (sound : Sound p high inner) w
         ]
       ]
 
-  layer_sound : Sound p (suc high) (layer p inner high)
+  layer_sound : Sound p (suc height_left) (layer p inner height_left)
   unfolding layer
   layer_sound row here e rest le x =
       let a = bind_some (operand_at p inner here) _ (e, rest) x in
-      let b = bind_some (chain p inner high row (suc high) a.0.0 a.0.1) _ (e, rest) a.2 in
-      let c = bind_some (choice_at p inner high row b.0.0 b.0.1) _ (e, rest) b.2 in
+      let b = bind_some (chain p inner height_left row (suc height_left) a.0.0 a.0.1) _ (e, rest)
+      a.2 in
+      let c = bind_some (choice_at p inner height_left row b.0.0 b.0.1) _ (e, rest) b.2 in
       let first = operand_sound here a.0.0 a.0.1 a.1 in
-      let left = chain_sound row 13 (suc high) here a.0.0 a.0.1 b.0.0 b.0.1 le (omega arith) first (ends_tight 14 a.0.1 (omega arith)) b.1 in
+      let left = chain_sound row 13 (suc height_left) here a.0.0 a.0.1 b.0.0 b.0.1 le (omega arith)
+      first (ends_tight 14 a.0.1 (omega arith)) b.1 in
       let whole = choice_sound row here b.0.0 b.0.1 c.0.0 c.0.1 left c.1 in
       assign_sound row here c.0.0 c.0.1 e rest whole c.2
 
--- What an expression is read as is spelled by the tokens that were taken, and is no higher than the bound.
-pub expr_sound : (p : Place) (high : ℕ) → Sound p high (expr_at p high)
+-- What an expression is read as is spelled by the tokens that were taken, and is no higher than the
+-- bound.
+pub expr_sound : (p : Place) (height_left : ℕ) → Sound p height_left (expr_at p height_left)
 unfolding expr_at
 expr_sound p zero row here e rest le x = absurd cc
-expr_sound p (suc high) row here e rest le x = layer_sound p (expr_at p high) high (expr_sound p high) row here e rest le x
+expr_sound p (suc height_left) row here e rest le x = layer_sound p (expr_at p height_left)
+    height_left (expr_sound p height_left) row here e rest le x

@@ -15,22 +15,30 @@ use Rattle.edd_grammar.proofs.Steps.{bind_some, as_read, chosen, at_is}
 use Rattle.edd_grammar.proofs.Branches.{Spelling, ArmsOf, CondOf, SoundOf, cond_sound, reads_if}
 
 module _ {V : Type 0} (Here : Spelling V) where
-  arms_list : (arms : Arms Path V) (here rest : List Token) → ArmsOf (ListHere Here) arms here rest → ListArmsHere Here arms here rest
+  arms_list : (arms : Arms Path V) (here rest : List Token) → ArmsOf (ListHere Here) arms here rest
+      → ListArmsHere Here arms here rest
   arms_list NoArms here rest h = h
-  arms_list (ConsArm (Case label body) arms) here rest h = (h.0, h.1, h.2, h.3, arms_list arms h.1 rest h.4)
-  arms_list (ConsArm (Default body) arms) here rest h = (h.0, h.1, h.2, h.3, arms_list arms h.1 rest h.4)
+  arms_list (ConsArm (Case label body) arms) here rest h =
+      (h.0, h.1, h.2, h.3, arms_list arms h.1 rest h.4)
+  arms_list (ConsArm (Default body) arms) here rest h =
+      (h.0, h.1, h.2, h.3, arms_list arms h.1 rest h.4)
 
-  list_arms : (arms : Arms Path V) (here rest : List Token) → ListArmsHere Here arms here rest → ArmsOf (ListHere Here) arms here rest
+  list_arms : (arms : Arms Path V) (here rest : List Token) → ListArmsHere Here arms here rest
+      → ArmsOf (ListHere Here) arms here rest
   list_arms NoArms here rest h = h
-  list_arms (ConsArm (Case label body) arms) here rest h = (h.0, h.1, h.2, h.3, list_arms arms h.1 rest h.4)
-  list_arms (ConsArm (Default body) arms) here rest h = (h.0, h.1, h.2, h.3, list_arms arms h.1 rest h.4)
+  list_arms (ConsArm (Case label body) arms) here rest h =
+      (h.0, h.1, h.2, h.3, list_arms arms h.1 rest h.4)
+  list_arms (ConsArm (Default body) arms) here rest h =
+      (h.0, h.1, h.2, h.3, list_arms arms h.1 rest h.4)
 
-  of_element : (x : Cond Path V) (here rest : List Token) → CondOf (ListHere Here) Here (ElseIfHere Here) x here rest → ElementHere Here x here rest
+  of_element : (x : Cond Path V) (here rest : List Token)
+      → CondOf (ListHere Here) Here (ElseIfHere Here) x here rest → ElementHere Here x here rest
   of_element (Value v) here rest h = h
   of_element (cond.If condition first otherwise) here rest h = h
   of_element (Select on arms) here rest h = (h.0, h.1, h.2, h.3, h.4, h.5, arms_list arms h.2 _ h.6)
 
-  pub element_of : (x : Cond Path V) (here rest : List Token) → ElementHere Here x here rest → CondOf (ListHere Here) Here (ElseIfHere Here) x here rest
+  pub element_of : (x : Cond Path V) (here rest : List Token) → ElementHere Here x here rest
+      → CondOf (ListHere Here) Here (ElseIfHere Here) x here rest
   element_of (Value v) here rest h = h
   element_of (cond.If condition first otherwise) here rest h = h
   element_of (Select on arms) here rest h = (h.0, h.1, h.2, h.3, h.4, h.5, list_arms arms h.2 _ h.6)
@@ -43,52 +51,76 @@ skip_sound here =
     ]
 
 module _ {V : Type 0} (of : V → ℕ) (Here : Spelling V) (value : ℕ → List Token → Read V) where
-  module _ (sound : (high : ℕ) → SoundOf Here of high (value high)) where
-    elements_sound : (high : ℕ) (inner : List Token → Read (Cond Path V)) → SoundOf (ElementHere Here) (cond_height of) high inner
-        → (n : ℕ) → SoundOf (ListHere Here) (conds_height of) high (elements_at inner n)
+  module _ (sound : (height_left : ℕ) → SoundOf Here of height_left (value height_left)) where
+    elements_sound : (height_left : ℕ) (inner : List Token → Read (Cond Path V))
+        → SoundOf (ElementHere Here) (cond_height of) height_left inner
+        → (n : ℕ) → SoundOf (ListHere Here) (conds_height of) height_left (elements_at inner n)
     unfolding elements_at
-    elements_sound high inner s zero here all rest e = absurd cc
-    elements_sound high inner s (suc n) here all rest e =
+    elements_sound height_left inner s zero here all rest e = absurd cc
+    elements_sound height_left inner s (suc n) here all rest e =
         elim (chosen (list_ends here) _ _ _ e) [
-          | inl (_, y) ↦ as_read (λ all r. ListHere Here all here r × (conds_height of all ≤ high)) cond.Nil all here rest y (refl, omega arith)
+          | inl (_, y) ↦ as_read (λ all r. ListHere Here all here r
+              × (conds_height of all ≤ height_left)) cond.Nil all here rest y (refl, omega arith)
           | inr (_, y) ↦
               let a = bind_some (inner here) _ (all, rest) y in
               let m = bind_some (elements_at inner n (skip_comma a.0.1)) _ (all, rest) a.2 in
               let first = s here a.0.0 a.0.1 a.1 in
-              let more = elements_sound high inner s n (skip_comma a.0.1) m.0.0 m.0.1 m.1 in
-              as_read (λ all r. ListHere Here all here r × (conds_height of all ≤ high)) _ all _ rest m.2
-              ((a.0.1, skip_comma a.0.1, first.0, skip_sound a.0.1, more.0), omega (arith, first.1, more.1))
+              let more = elements_sound height_left inner s n (skip_comma a.0.1) m.0.0 m.0.1 m.1 in
+              as_read (λ all r. ListHere Here all here r × (conds_height of all ≤ height_left)) _
+              all _ rest m.2 (
+                (a.0.1, skip_comma a.0.1, first.0, skip_sound a.0.1, more.0),
+                omega (arith, first.1, more.1),
+              )
         ]
 
-    listed_sound : (high : ℕ) (inner : List Token → Read (Cond Path V)) → SoundOf (ElementHere Here) (cond_height of) high inner → SoundOf (ListHere Here) (conds_height of) high (listed inner)
+    listed_sound : (height_left : ℕ) (inner : List Token → Read (Cond Path V))
+        → SoundOf (ElementHere Here) (cond_height of) height_left inner
+        → SoundOf (ListHere Here) (conds_height of) height_left (listed inner)
     unfolding listed
-    listed_sound high inner s here all rest e = elements_sound high inner s (suc (length here)) here all rest e
+    listed_sound height_left inner s here all rest e = elements_sound height_left inner s
+        (suc (length here)) here all rest e
 
     -- an element that is read, and whether it is an IF
-    record Stands (high : ℕ) (here : List Token) (x : Cond Path V) (rest : List Token) : Type 0 where
+    record Stands (height_left : ℕ) (here : List Token) (x : Cond Path V) (rest : List Token) : Type
+        0 where
       pub spelled : ElementHere Here x here rest
-      pub low : cond_height of x ≤ high
+      pub low : cond_height of x ≤ height_left
       pub if : at_word word.If here ≡ true → IsIf x
 
-    stands : (high : ℕ) (here : List Token) (x : Cond Path V) (rest : List Token) → element_at value high here ≡ Some (x, rest) → Stands high here x rest
+    stands : (height_left : ℕ) (here : List Token) (x : Cond Path V) (rest : List Token)
+        → element_at value height_left here ≡ Some (x, rest) → Stands height_left here x rest
     unfolding element_at
     stands zero here x rest e = absurd cc
-    stands (suc high) here x rest e =
-        let branches : SoundOf (ListHere Here) (conds_height of) high (listed (element_at value high)) =
-        listed_sound high (element_at value high) (λ here c rest e. let s = stands high here c rest e in (s.spelled, s.low)) in
-        let again : (here : List Token) (c : Cond Path V) (rest : List Token) → at_word word.If here ≡ true → element_at value high here ≡ Some (c, rest) → ElseIfHere Here (cond.Cons c cond.Nil) here rest × (cond_height of c ≤ high) =
-        λ here c rest t e. let s = stands high here c rest e in ((s.if t, s.spelled), s.low) in
-        let s = cond_sound of Here (ListHere Here) (ElseIfHere Here) high (value high) (listed (element_at value high)) (element_at value high) (sound high) branches again here x rest e in
+    stands (suc height_left) here x rest e =
+        let branches : SoundOf (ListHere Here) (conds_height of) height_left
+        (listed (element_at value height_left)) =
+        listed_sound height_left (element_at value height_left)
+        (λ here c rest e. let s = stands height_left here c rest e in (s.spelled, s.low)) in
+        let again : (here : List Token) (c : Cond Path V) (rest : List Token)
+        → at_word word.If here ≡ true → element_at value height_left here ≡ Some (c, rest)
+        → ElseIfHere Here (cond.Cons c cond.Nil) here rest × (cond_height of c ≤ height_left) =
+        λ here c rest t e. let s = stands height_left here c rest e in ((s.if t, s.spelled), s.low)
+        in
+        let s = cond_sound of Here (ListHere Here) (ElseIfHere Here) height_left (value height_left)
+        (listed (element_at value height_left)) (element_at value height_left)
+        (sound height_left) branches again here x rest e in
         record {
           spelled = of_element Here x here rest s.0;
           low = s.1;
-          if = λ t. reads_if of Here (ListHere Here) (ElseIfHere Here) high (value high) (listed (element_at value high)) (element_at value high) (sound high) branches again here x rest t e;
+          if = λ t. reads_if of Here (ListHere Here) (ElseIfHere Here) height_left
+              (value height_left) (listed (element_at value height_left))
+              (element_at value height_left) (sound height_left) branches again here x rest t e;
         }
 
-    pub list_sound : (high : ℕ) → SoundOf (ListHere Here) (conds_height of) high (list_at value high)
+    pub list_sound : (height_left : ℕ) → SoundOf (ListHere Here) (conds_height of) height_left
+        (list_at value height_left)
     unfolding list_at
-    list_sound high here all rest e =
-        listed_sound high (element_at value high) (λ here c rest e. let s = stands high here c rest e in (s.spelled, s.low)) here all rest e
+    list_sound height_left here all rest e =
+        listed_sound height_left (element_at value height_left)
+        (λ here c rest e. let s = stands height_left here c rest e in (s.spelled, s.low)) here
+        all rest e
 
-    pub element_sound : (high : ℕ) → SoundOf (ElementHere Here) (cond_height of) high (element_at value high)
-    element_sound high here x rest e = let s = stands high here x rest e in (s.spelled, s.low)
+    pub element_sound : (height_left : ℕ) → SoundOf (ElementHere Here) (cond_height of) height_left
+        (element_at value height_left)
+    element_sound height_left here x rest e = let s =
+        stands height_left here x rest e in (s.spelled, s.low)

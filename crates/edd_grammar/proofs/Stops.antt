@@ -58,26 +58,30 @@ stops_operator row (Sign sign.LogicalAnd ∷ rest) s = grind arith
 stops_operator row (Sign sign.LogicalOr ∷ rest) s = grind arith
 stops_operator row _ s = refl
 
-pub stops_question : (row : ℕ) (rest : List Token) → Stops row rest → (nat_le row 2 && at sign.Question rest) ≡ false
+pub stops_question : (row : ℕ) (rest : List Token) → Stops row rest
+    → (nat_le row 2 && at sign.Question rest) ≡ false
 stops_question row (Sign (sign.Operator op) ∷ rest) s = grind arith
 stops_question row (Sign (sign.Comparison op) ∷ rest) s = grind arith
 stops_question row (Sign (sign.CompoundAssign op) ∷ rest) s = grind arith
 stops_question row (Sign sign.Question ∷ rest) s = grind arith
 stops_question row _ s = grind arith
 
-pub stops_assignment : (row : ℕ) (rest : List Token) → row ≤ 1 → Stops row rest → assignment_at rest ≡ None
+pub stops_assignment : (row : ℕ) (rest : List Token) → row ≤ 1 → Stops row rest
+    → assignment_at rest ≡ None
 stops_assignment row (Sign sign.Equals ∷ rest) le s = absurd (omega arith)
 stops_assignment row (Sign (sign.CompoundAssign op) ∷ rest) le s = absurd (omega arith)
 stops_assignment row _ le s = refl
 
-pub stops_parenthesis : (row : ℕ) (rest : List Token) → Stops row rest → at sign.OpenParenthesis rest ≡ false
+pub stops_parenthesis : (row : ℕ) (rest : List Token) → Stops row rest
+    → at sign.OpenParenthesis rest ≡ false
 stops_parenthesis row (Sign sign.OpenParenthesis ∷ rest) s = absurd s
 stops_parenthesis row (Sign (sign.Operator op) ∷ rest) s = grind arith
 stops_parenthesis row (Sign (sign.Comparison op) ∷ rest) s = grind arith
 stops_parenthesis row (Sign (sign.CompoundAssign op) ∷ rest) s = grind arith
 stops_parenthesis row _ s = refl
 
-pub stops_postfix : (p : Place) (row : ℕ) (r : Path) (rest : List Token) → Stops row rest → postfix p r rest ≡ Some (tree.Reference r, rest)
+pub stops_postfix : (p : Place) (row : ℕ) (r : Path) (rest : List Token) → Stops row rest
+    → postfix p r rest ≡ Some (tree.Reference r, rest)
 unfolding postfix
 stops_postfix p row r (Sign sign.Increment ∷ rest) s = absurd s
 stops_postfix p row r (Sign sign.Decrement ∷ rest) s = absurd s

@@ -34,37 +34,66 @@ use Rattle.edd_grammar.proofs.Rows.{tallest, RowOf, row_shorter, braced_sound, b
 
 -- ---- parts of a type
 
-module _ (high : ℕ) where
+module _ (height_left : ℕ) where
   -- an option of a type and the values of its word
-  value_option : (k : Keyword) (make : Cond Path (Expr Path) → TypePart Path) → ((c : Cond Path (Expr Path)) (here behind rest : List Token) → here ≡ Reserved k ∷ behind → OneHere ValueExprHere c behind rest → TypePartHere (make c) here rest)
-      → ((c : Cond Path (Expr Path)) → cond_height height c ≤ high → type_part_height (make c) ≤ high)
-      → (here : List Token) (p : TypePart Path) (rest : List Token) → at_word k here ≡ true → ◌>>=◌ {B = TypePart Path × List Token} (one_at expr_value high (drop 1 here)) (λ c. Some (make c.0, c.1)) ≡ Some (p, rest)
-      → TypePartHere p here rest × (type_part_height p ≤ high)
+  value_option : (k : Keyword) (make : Cond Path (Expr Path) → TypePart Path)
+      → ((c : Cond Path (Expr Path)) (here behind rest : List Token) → here ≡ Reserved k ∷ behind
+      → OneHere ValueExprHere c behind rest → TypePartHere (make c) here rest)
+      → ((c : Cond Path (Expr Path)) → cond_height height c ≤ height_left
+      → type_part_height (make c) ≤ height_left)
+      → (here : List Token) (p : TypePart Path) (rest : List Token) → at_word k here ≡ true
+      → ◌>>=◌ {B = TypePart Path × List Token} (one_at expr_value height_left (drop 1 here))
+      (λ c. Some (make c.0, c.1)) ≡ Some (p, rest)
+      → TypePartHere p here rest × (type_part_height p ≤ height_left)
   value_option k make spelled low here p rest t e =
-      worded TypePartHere type_part_height high k (OneHere ValueExprHere) (cond_height height) (one_at expr_value high) (one_sound height ValueExprHere expr_value expr_value_sound high) make spelled low here p rest t e
+      worded TypePartHere type_part_height height_left k (OneHere ValueExprHere)
+      (cond_height height) (one_at expr_value height_left)
+      (one_sound height ValueExprHere expr_value expr_value_sound height_left) make spelled low
+      here p rest t e
 
-  format_option : (k : Keyword) (make : Cond Path texts.Text → TypePart Path) → ((c : Cond Path texts.Text) (here behind rest : List Token) → here ≡ Reserved k ∷ behind → OneHere TextHere c behind rest → TypePartHere (make c) here rest)
-      → ((c : Cond Path texts.Text) → cond_height leaf c ≤ high → type_part_height (make c) ≤ high)
-      → (here : List Token) (p : TypePart Path) (rest : List Token) → at_word k here ≡ true → ◌>>=◌ {B = TypePart Path × List Token} (one_at text_value high (drop 1 here)) (λ c. Some (make c.0, c.1)) ≡ Some (p, rest)
-      → TypePartHere p here rest × (type_part_height p ≤ high)
+  format_option : (k : Keyword) (make : Cond Path texts.Text → TypePart Path)
+      → ((c : Cond Path texts.Text) (here behind rest : List Token) → here ≡ Reserved k ∷ behind
+      → OneHere TextHere c behind rest → TypePartHere (make c) here rest)
+      → ((c : Cond Path texts.Text) → cond_height leaf c ≤ height_left → type_part_height (make c)
+      ≤ height_left)
+      → (here : List Token) (p : TypePart Path) (rest : List Token) → at_word k here ≡ true
+      → ◌>>=◌ {B = TypePart Path × List Token} (one_at text_value height_left (drop 1 here))
+      (λ c. Some (make c.0, c.1)) ≡ Some (p, rest)
+      → TypePartHere p here rest × (type_part_height p ≤ height_left)
   format_option k make spelled low here p rest t e =
-      worded TypePartHere type_part_height high k (OneHere TextHere) (cond_height leaf) (one_at text_value high) (one_sound leaf TextHere text_value text_value_sound high) make spelled low here p rest t e
+      worded TypePartHere type_part_height height_left k (OneHere TextHere) (cond_height leaf)
+      (one_at text_value height_left) (one_sound leaf TextHere text_value text_value_sound
+      height_left) make spelled low here p rest t e
 
-  element_option : (here : List Token) (p : TypePart Path) (rest : List Token) → ◌>>=◌ {B = TypePart Path × List Token} (element_at enumerator_value high here) (λ c. Some (item.Element c.0, skip_comma c.1)) ≡ Some (p, rest)
-      → TypePartHere p here rest × (type_part_height p ≤ high)
+  element_option : (here : List Token) (p : TypePart Path) (rest : List Token)
+      → ◌>>=◌ {B = TypePart Path × List Token} (element_at enumerator_value height_left here)
+      (λ c. Some (item.Element c.0, skip_comma c.1)) ≡ Some (p, rest)
+      → TypePartHere p here rest × (type_part_height p ≤ height_left)
   element_option here p rest e =
-      let a = bind_some (element_at enumerator_value high here) _ (p, rest) e in
-      let s = element_sound leaf EnumeratorHere enumerator_value enumerator_value_sound high here a.0.0 a.0.1 a.1 in
-      as_read (λ p r. TypePartHere p here r × (type_part_height p ≤ high)) (item.Element a.0.0) p (skip_comma a.0.1) rest a.2 ((a.0.1, s.0, skip_sound a.0.1), s.1)
+      let a = bind_some (element_at enumerator_value height_left here) _ (p, rest) e in
+      let s = element_sound leaf EnumeratorHere enumerator_value enumerator_value_sound height_left
+      here a.0.0 a.0.1 a.1 in
+      as_read (λ p r. TypePartHere p here r × (type_part_height p ≤ height_left))
+      (item.Element a.0.0) p (skip_comma a.0.1) rest a.2 ((a.0.1, s.0, skip_sound a.0.1), s.1)
 
-  type_part_sound : SoundOf TypePartHere type_part_height high (type_part_at high)
+  type_part_sound : SoundOf TypePartHere type_part_height height_left (type_part_at height_left)
   unfolding type_part_at
   type_part_sound here p rest x =
-      branch (at_word word.DefaultValue here) _ _ _ x (λ t y. value_option word.DefaultValue item.DefaultValue (λ c here behind rest e h. (behind, e, h)) (λ c l. l) here p rest t y) (λ _ x1.
-      branch (at_word word.MinValue here) _ _ _ x1 (λ t y. value_option word.MinValue item.MinValue (λ c here behind rest e h. (behind, e, h)) (λ c l. l) here p rest t y) (λ _ x2.
-      branch (at_word word.MaxValue here) _ _ _ x2 (λ t y. value_option word.MaxValue item.MaxValue (λ c here behind rest e h. (behind, e, h)) (λ c l. l) here p rest t y) (λ _ x3.
-      branch (at_word word.DisplayFormat here) _ _ _ x3 (λ t y. format_option word.DisplayFormat item.DisplayFormat (λ c here behind rest e h. (behind, e, h)) (λ c l. l) here p rest t y) (λ _ x4.
-      branch (at_word word.EditFormat here) _ _ _ x4 (λ t y. format_option word.EditFormat item.EditFormat (λ c here behind rest e h. (behind, e, h)) (λ c l. l) here p rest t y) (λ _ y.
+      branch (at_word word.DefaultValue here) _ _ _ x
+      (λ t y. value_option word.DefaultValue item.DefaultValue
+      (λ c here behind rest e h. (behind, e, h)) (λ c l. l) here p rest t y) (λ _ x1.
+      branch (at_word word.MinValue here) _ _ _ x1
+      (λ t y. value_option word.MinValue item.MinValue
+      (λ c here behind rest e h. (behind, e, h)) (λ c l. l) here p rest t y) (λ _ x2.
+      branch (at_word word.MaxValue here) _ _ _ x2
+      (λ t y. value_option word.MaxValue item.MaxValue
+      (λ c here behind rest e h. (behind, e, h)) (λ c l. l) here p rest t y) (λ _ x3.
+      branch (at_word word.DisplayFormat here) _ _ _ x3
+      (λ t y. format_option word.DisplayFormat item.DisplayFormat
+      (λ c here behind rest e h. (behind, e, h)) (λ c l. l) here p rest t y) (λ _ x4.
+      branch (at_word word.EditFormat here) _ _ _ x4
+      (λ t y. format_option word.EditFormat item.EditFormat
+      (λ c here behind rest e h. (behind, e, h)) (λ c l. l) here p rest t y) (λ _ y.
       element_option here p rest y)))))
 
 -- no option of a type begins where an element does
@@ -75,56 +104,124 @@ record StartsElement (here : List Token) : Type 0 where
   pub no_display : at_word word.DisplayFormat here ≡ false
   pub no_edit : at_word word.EditFormat here ≡ false
 
-starts_element : (c : Cond Path item.Enumerator) (here rest : List Token) → ElementHere EnumeratorHere c here rest → StartsElement here
-starts_element (Value e) here rest h = rw h.4 (record { no_default = refl; no_min = refl; no_max = refl; no_display = refl; no_edit = refl })
-starts_element (If condition first otherwise) here rest h = rw h.4 (record { no_default = refl; no_min = refl; no_max = refl; no_display = refl; no_edit = refl })
-starts_element (Select on arms) here rest h = rw h.3 (record { no_default = refl; no_min = refl; no_max = refl; no_display = refl; no_edit = refl })
+starts_element : (c : Cond Path item.Enumerator) (here rest : List Token)
+    → ElementHere EnumeratorHere c here rest → StartsElement here
+starts_element (Value e) here rest h =
+    rw h.4 (record {
+      no_default = refl;
+      no_min = refl;
+      no_max = refl;
+      no_display = refl;
+      no_edit = refl;
+    })
+starts_element (If condition first otherwise) here rest h =
+    rw h.4 (record {
+      no_default = refl;
+      no_min = refl;
+      no_max = refl;
+      no_display = refl;
+      no_edit = refl;
+    })
+starts_element (Select on arms) here rest h =
+    rw h.3 (record {
+      no_default = refl;
+      no_min = refl;
+      no_max = refl;
+      no_display = refl;
+      no_edit = refl;
+    })
 
-element_follows : (c : Cond Path item.Enumerator) (rest : List Token) → CondFollows (λ rest. Unit {0}) c rest
+element_follows : (c : Cond Path item.Enumerator) (rest : List Token)
+    → CondFollows (λ rest. Unit {0}) c rest
 element_follows (Value e) rest = tt
 element_follows (If condition first otherwise) rest = tt
 element_follows (Select on arms) rest = tt
 
-pub comma_again : (behind rest : List Token) → OptionalSign sign.Comma behind rest → at sign.Comma rest ≡ false → skip_comma behind ≡ rest
+pub comma_again : (behind rest : List Token) → OptionalSign sign.Comma behind rest
+    → at sign.Comma rest ≡ false → skip_comma behind ≡ rest
 comma_again behind rest (inl e) f = ap skip_comma e ∙ rw f refl
 comma_again behind rest (inr e) f = ap skip_comma e
 
 -- no comma follows, which a part that is an element would take
-type_part_again : (high : ℕ) (p : TypePart Path) (here rest : List Token) → TypePartHere p here rest → type_part_height p ≤ high → at sign.Comma rest ≡ false → type_part_at high here ≡ Some (p, rest)
+type_part_again : (height_left : ℕ) (p : TypePart Path) (here rest : List Token)
+    → TypePartHere p here rest → type_part_height p ≤ height_left → at sign.Comma rest ≡ false
+    → type_part_at height_left here ≡ Some (p, rest)
 unfolding type_part_at
-type_part_again high (item.DefaultValue c) here rest h low f = rw (h.1, one_again height ValueExprHere expr_value expr_values high c h.0 rest h.2 low) refl
-type_part_again high (item.MinValue c) here rest h low f = rw (h.1, one_again height ValueExprHere expr_value expr_values high c h.0 rest h.2 low) refl
-type_part_again high (item.MaxValue c) here rest h low f = rw (h.1, one_again height ValueExprHere expr_value expr_values high c h.0 rest h.2 low) refl
-type_part_again high (item.DisplayFormat c) here rest h low f = rw (h.1, one_again leaf TextHere text_value text_values high c h.0 rest h.2 low) refl
-type_part_again high (item.EditFormat c) here rest h low f = rw (h.1, one_again leaf TextHere text_value text_values high c h.0 rest h.2 low) refl
-type_part_again high (item.Element c) here rest h low f =
+type_part_again height_left (item.DefaultValue c) here rest h low f =
+    rw (h.1, one_again height ValueExprHere expr_value expr_values height_left c h.0 rest h.2 low)
+    refl
+type_part_again height_left (item.MinValue c) here rest h low f =
+    rw (h.1, one_again height ValueExprHere expr_value expr_values height_left c h.0 rest h.2 low)
+    refl
+type_part_again height_left (item.MaxValue c) here rest h low f =
+    rw (h.1, one_again height ValueExprHere expr_value expr_values height_left c h.0 rest h.2 low)
+    refl
+type_part_again height_left (item.DisplayFormat c) here rest h low f =
+    rw (h.1, one_again leaf TextHere text_value text_values height_left c h.0 rest h.2 low) refl
+type_part_again height_left (item.EditFormat c) here rest h low f =
+    rw (h.1, one_again leaf TextHere text_value text_values height_left c h.0 rest h.2 low) refl
+type_part_again height_left (item.Element c) here rest h low f =
     let n = starts_element c here h.0 h.1 in
-    let read = element_again leaf EnumeratorHere (λ rest. Unit {0}) enumerator_value listed_enumerators high c here h.0 h.1 low (element_follows c h.0) in
-    rw (n.no_default, n.no_min, n.no_max, n.no_display, n.no_edit, read, comma_again h.0 rest h.2 f) refl
+    let read = element_again leaf EnumeratorHere (λ rest. Unit {0}) enumerator_value
+    listed_enumerators height_left c here h.0 h.1 low (element_follows c h.0) in
+    rw (n.no_default, n.no_min, n.no_max, n.no_display, n.no_edit, read, comma_again h.0 rest h.2 f)
+    refl
 
-type_part_shorter : (p : TypePart Path) (here rest : List Token) → TypePartHere p here rest → length rest < length here
-type_part_shorter (item.DefaultValue c) here rest h = omega (arith, ap length h.1, one_shorter height ValueExprHere expr_value expr_values c h.0 rest h.2)
-type_part_shorter (item.MinValue c) here rest h = omega (arith, ap length h.1, one_shorter height ValueExprHere expr_value expr_values c h.0 rest h.2)
-type_part_shorter (item.MaxValue c) here rest h = omega (arith, ap length h.1, one_shorter height ValueExprHere expr_value expr_values c h.0 rest h.2)
-type_part_shorter (item.DisplayFormat c) here rest h = omega (arith, ap length h.1, one_shorter leaf TextHere text_value text_values c h.0 rest h.2)
-type_part_shorter (item.EditFormat c) here rest h = omega (arith, ap length h.1, one_shorter leaf TextHere text_value text_values c h.0 rest h.2)
+type_part_shorter : (p : TypePart Path) (here rest : List Token) → TypePartHere p here rest
+    → length rest < length here
+type_part_shorter (item.DefaultValue c) here rest h =
+    omega (
+      arith,
+      ap length h.1,
+      one_shorter height ValueExprHere expr_value expr_values c h.0 rest
+          h.2,
+    )
+type_part_shorter (item.MinValue c) here rest h =
+    omega (
+      arith,
+      ap length h.1,
+      one_shorter height ValueExprHere expr_value expr_values c h.0 rest
+          h.2,
+    )
+type_part_shorter (item.MaxValue c) here rest h =
+    omega (
+      arith,
+      ap length h.1,
+      one_shorter height ValueExprHere expr_value expr_values c h.0 rest
+          h.2,
+    )
+type_part_shorter (item.DisplayFormat c) here rest h =
+    omega (arith, ap length h.1, one_shorter leaf TextHere text_value text_values c h.0 rest h.2)
+type_part_shorter (item.EditFormat c) here rest h =
+    omega (arith, ap length h.1, one_shorter leaf TextHere text_value text_values c h.0 rest h.2)
 type_part_shorter (item.Element c) here rest h =
-    omega (arith, element_shorter leaf EnumeratorHere (λ rest. Unit {0}) enumerator_value listed_enumerators c here h.0 h.1, comma_shorter h.0 rest h.2)
+    omega (
+      arith,
+      element_shorter leaf EnumeratorHere (λ rest. Unit {0}) enumerator_value
+          listed_enumerators c here h.0 h.1,
+      comma_shorter h.0 rest h.2,
+    )
 
 -- a part begins with no comma and no closing brace
-type_part_starts : (p : TypePart Path) (here rest : List Token) → TypePartHere p here rest → (at sign.Comma here ≡ false) × (at_close here ≡ false)
+type_part_starts : (p : TypePart Path) (here rest : List Token) → TypePartHere p here rest
+    → (at sign.Comma here ≡ false) × (at_close here ≡ false)
 type_part_starts (item.DefaultValue c) here rest h = (ap (at sign.Comma) h.1, ap at_close h.1)
 type_part_starts (item.MinValue c) here rest h = (ap (at sign.Comma) h.1, ap at_close h.1)
 type_part_starts (item.MaxValue c) here rest h = (ap (at sign.Comma) h.1, ap at_close h.1)
 type_part_starts (item.DisplayFormat c) here rest h = (ap (at sign.Comma) h.1, ap at_close h.1)
 type_part_starts (item.EditFormat c) here rest h = (ap (at sign.Comma) h.1, ap at_close h.1)
-type_part_starts (item.Element (Value e)) here rest h = (ap (at sign.Comma) h.1.4, ap at_close h.1.4)
-type_part_starts (item.Element (If condition first otherwise)) here rest h = (ap (at sign.Comma) h.1.4, ap at_close h.1.4)
-type_part_starts (item.Element (Select on arms)) here rest h = (ap (at sign.Comma) h.1.3, ap at_close h.1.3)
+type_part_starts (item.Element (Value e)) here rest h =
+    (ap (at sign.Comma) h.1.4, ap at_close h.1.4)
+type_part_starts (item.Element (If condition first otherwise)) here rest h =
+    (ap (at sign.Comma) h.1.4, ap at_close h.1.4)
+type_part_starts (item.Element (Select on arms)) here rest h =
+    (ap (at sign.Comma) h.1.3, ap at_close h.1.3)
 
-type_parts : (high : ℕ) → RowOf TypePartHere type_part_height high (λ rest. at sign.Comma rest ≡ false) at_close (type_part_at high)
-type_parts high = record {
-  again = type_part_again high;
+type_parts : (height_left : ℕ)
+    → RowOf TypePartHere type_part_height height_left (λ rest. at sign.Comma rest ≡ false) at_close
+    (type_part_at height_left)
+type_parts height_left = record {
+  again = type_part_again height_left;
   no_end = λ p here rest h. (type_part_starts p here rest h).1;
   shorter = type_part_shorter;
   at_end = λ rest e. ap (at sign.Comma) (at_is sign.CloseBrace rest e);
@@ -133,48 +230,67 @@ type_parts high = record {
 
 -- ---- a semicolon, or braces
 
-pub type_parts_sound : (high : ℕ) → SoundOf TypePartsHere (tallest type_part_height) high (type_parts_at high)
+pub type_parts_sound : (height_left : ℕ)
+    → SoundOf TypePartsHere (tallest type_part_height) height_left (type_parts_at height_left)
 unfolding type_parts_at
-type_parts_sound high here parts rest x =
+type_parts_sound height_left here parts rest x =
     branch (at sign.Semicolon here) _ _ _ x
-    (λ t y. as_read (λ parts r. TypePartsHere parts here r × (tallest type_part_height parts ≤ high)) [] parts (drop 1 here) rest y (inl (refl, at_is sign.Semicolon here t), omega arith))
-    (λ _ y. let s = braced_sound (RowHere TypePartHere) (tallest type_part_height) high (row_inside (type_part_at high)) (row_inside_sound TypePartHere type_part_height high (type_part_at high) (type_part_sound high)) here parts rest y in
+    (λ t y. as_read (λ parts r. TypePartsHere parts here r
+    × (tallest type_part_height parts ≤ height_left)) [] parts (drop 1 here) rest y
+    (inl (refl, at_is sign.Semicolon here t), omega arith))
+    (λ _ y. let s = braced_sound (RowHere TypePartHere) (tallest type_part_height) height_left
+    (row_inside (type_part_at height_left))
+    (row_inside_sound TypePartHere type_part_height height_left (type_part_at height_left)
+    (type_part_sound height_left)) here parts rest y in
     (inr s.0, s.1))
 
-pub type_parts_again : (high : ℕ) (parts : List (TypePart Path)) (here rest : List Token) → TypePartsHere parts here rest → tallest type_part_height parts ≤ high → type_parts_at high here ≡ Some (parts, rest)
+pub type_parts_again : (height_left : ℕ) (parts : List (TypePart Path)) (here rest : List Token)
+    → TypePartsHere parts here rest → tallest type_part_height parts ≤ height_left
+    → type_parts_at height_left here ≡ Some (parts, rest)
 unfolding type_parts_at
-type_parts_again high parts here rest (inl h) low = rw (h.1, h.0) refl
-type_parts_again high parts here rest (inr h) low =
+type_parts_again height_left parts here rest (inl h) low = rw (h.1, h.0) refl
+type_parts_again height_left parts here rest (inr h) low =
     let no_semicolon : at sign.Semicolon here ≡ false = ap (at sign.Semicolon) h.1 in
-    let inside = row_inside_again TypePartHere type_part_height high (λ rest. at sign.Comma rest ≡ false) (type_part_at high) (type_parts high) parts h.0 rest h.2 low in
-    rw no_semicolon (braced_again (row_inside (type_part_at high)) parts here h.0 rest h.1 inside)
+    let inside = row_inside_again TypePartHere type_part_height height_left
+    (λ rest. at sign.Comma rest ≡ false) (type_part_at height_left) (type_parts height_left)
+    parts h.0 rest h.2 low in
+    rw no_semicolon (braced_again (row_inside (type_part_at height_left)) parts here h.0 rest h.1
+    inside)
 
-pub type_parts_shorter : (parts : List (TypePart Path)) (here rest : List Token) → TypePartsHere parts here rest → length rest < length here
+pub type_parts_shorter : (parts : List (TypePart Path)) (here rest : List Token)
+    → TypePartsHere parts here rest → length rest < length here
 type_parts_shorter parts here rest (inl h) = omega (arith, ap length h.1)
-type_parts_shorter parts here rest (inr h) = omega (arith, ap length h.1, row_shorter TypePartHere type_part_shorter parts h.0 _ h.2)
+type_parts_shorter parts here rest (inr h) =
+    omega (arith, ap length h.1, row_shorter TypePartHere type_part_shorter parts h.0 _ h.2)
 
 -- no parenthesis stands where they begin
-pub type_parts_begin : (parts : List (TypePart Path)) (here rest : List Token) → TypePartsHere parts here rest → at sign.OpenParenthesis here ≡ false
+pub type_parts_begin : (parts : List (TypePart Path)) (here rest : List Token)
+    → TypePartsHere parts here rest → at sign.OpenParenthesis here ≡ false
 type_parts_begin parts here rest (inl h) = ap (at sign.OpenParenthesis) h.1
 type_parts_begin parts here rest (inr h) = ap (at sign.OpenParenthesis) h.1
 
 -- ---- sizes
 
-pub size_sound : (here : List Token) (n : Option ℕ) (rest : List Token) → size_at here ≡ Some (n, rest) → SizeHere n here rest
+pub size_sound : (here : List Token) (n : Option ℕ) (rest : List Token)
+    → size_at here ≡ Some (n, rest) → SizeHere n here rest
 unfolding size_at
 size_sound here n rest x =
     branch (at sign.OpenParenthesis here) _ _ _ x
     (λ t y. let a = bind_some (integer_at (drop 1 here)) _ (n, rest) y in
     let b = bind_some (expect sign.CloseParenthesis a.0.1) _ (n, rest) a.2 in
     as_read (λ n r. SizeHere n here r) (Some a.0.0) n b.0 rest b.2
-    (at_is sign.OpenParenthesis here t ∙ ap (λ u. Sign sign.OpenParenthesis ∷ u) (integer_is (drop 1 here) a.0.0 a.0.1 a.1 ∙ ap (λ u. Integer a.0.0 ∷ u) (expect_is sign.CloseParenthesis a.0.1 b.0 b.1))))
+    (at_is sign.OpenParenthesis here t ∙ ap (λ u. Sign sign.OpenParenthesis ∷ u)
+    (integer_is (drop 1 here) a.0.0 a.0.1 a.1
+    ∙ ap (λ u. Integer a.0.0 ∷ u) (expect_is sign.CloseParenthesis a.0.1 b.0 b.1))))
     (λ _ y. as_read (λ n r. SizeHere n here r) None n here rest y refl)
 
-pub size_again : (n : Option ℕ) (here rest : List Token) → at sign.OpenParenthesis rest ≡ false → SizeHere n here rest → size_at here ≡ Some (n, rest)
+pub size_again : (n : Option ℕ) (here rest : List Token) → at sign.OpenParenthesis rest ≡ false
+    → SizeHere n here rest → size_at here ≡ Some (n, rest)
 unfolding size_at
 size_again None here rest f h = rw (h, f) refl
 size_again (Some n) here rest f h = rw (h, expect_again sign.CloseParenthesis rest) refl
 
-pub size_shorter : (n : Option ℕ) (here rest : List Token) → SizeHere n here rest → length rest ≤ length here
+pub size_shorter : (n : Option ℕ) (here rest : List Token) → SizeHere n here rest
+    → length rest ≤ length here
 size_shorter None here rest h = omega (arith, ap length h)
 size_shorter (Some n) here rest h = omega (arith, ap length h)

@@ -13,12 +13,14 @@ use Rattle.edd_grammar.proofs.WorkedUnits.{worked, worked_is}
 -- the four numbers before some items
 abbrev numbered : List Token → List Token
 numbered items =
-    Reserved word.Manufacturer ∷ Integer 1 ∷ Reserved word.DeviceType ∷ Integer 2 ∷ Reserved word.DeviceRevision ∷ Integer 3 ∷
+    Reserved word.Manufacturer ∷ Integer 1 ∷ Reserved word.DeviceType ∷ Integer 2
+    ∷ Reserved word.DeviceRevision ∷ Integer 3 ∷
     Reserved word.DdRevision ∷ Integer 4 ∷
     items
 
 -- tokens that aren't read spell no unit
-not_spelled : (tokens : List Token) → worked tokens ≡ None → (unit : Description Path) → ¬ Spells tokens unit
+not_spelled : (tokens : List Token) → worked tokens ≡ None → (unit : Description Path)
+    → ¬ Spells tokens unit
 not_spelled tokens e unit s =
     let read : None ≡ Some unit = sym e ∙ worked_is tokens ∙ unit_again tokens unit s in
     absurd (cc (read))
@@ -26,18 +28,24 @@ not_spelled tokens e unit s =
 -- a comma before ELSE: `MENU u { ITEMS { IF (x) { y }, ELSE { z } } }`
 abbrev comma_before_else : List Token
 comma_before_else =
-    Reserved word.Menu ∷ Identifier (codes "u") ∷ Sign sign.OpenBrace ∷ Reserved word.Items ∷ Sign sign.OpenBrace ∷
-    Reserved word.If ∷ Sign sign.OpenParenthesis ∷ Identifier (codes "x") ∷ Sign sign.CloseParenthesis ∷ Sign sign.OpenBrace ∷
-    Identifier (codes "y") ∷ Sign sign.CloseBrace ∷ Sign sign.Comma ∷ Reserved word.Else ∷ Sign sign.OpenBrace ∷
+    Reserved word.Menu ∷ Identifier (codes "u") ∷ Sign sign.OpenBrace ∷ Reserved word.Items
+    ∷ Sign sign.OpenBrace ∷
+    Reserved word.If ∷ Sign sign.OpenParenthesis ∷ Identifier (codes "x")
+    ∷ Sign sign.CloseParenthesis ∷ Sign sign.OpenBrace ∷
+    Identifier (codes "y") ∷ Sign sign.CloseBrace ∷ Sign sign.Comma ∷ Reserved word.Else
+    ∷ Sign sign.OpenBrace ∷
     Identifier (codes "z") ∷ Sign sign.CloseBrace ∷ Sign sign.CloseBrace ∷ Sign sign.CloseBrace ∷
     []
 
 -- `MENU u { ITEMS { IF (x) { y } ELSE { z } } }`
 abbrev comma_before_else_mended : List Token
 comma_before_else_mended =
-    Reserved word.Menu ∷ Identifier (codes "u") ∷ Sign sign.OpenBrace ∷ Reserved word.Items ∷ Sign sign.OpenBrace ∷
-    Reserved word.If ∷ Sign sign.OpenParenthesis ∷ Identifier (codes "x") ∷ Sign sign.CloseParenthesis ∷ Sign sign.OpenBrace ∷
-    Identifier (codes "y") ∷ Sign sign.CloseBrace ∷ Reserved word.Else ∷ Sign sign.OpenBrace ∷ Identifier (codes "z") ∷
+    Reserved word.Menu ∷ Identifier (codes "u") ∷ Sign sign.OpenBrace ∷ Reserved word.Items
+    ∷ Sign sign.OpenBrace ∷
+    Reserved word.If ∷ Sign sign.OpenParenthesis ∷ Identifier (codes "x")
+    ∷ Sign sign.CloseParenthesis ∷ Sign sign.OpenBrace ∷
+    Identifier (codes "y") ∷ Sign sign.CloseBrace ∷ Reserved word.Else ∷ Sign sign.OpenBrace
+    ∷ Identifier (codes "z") ∷
     Sign sign.CloseBrace ∷ Sign sign.CloseBrace ∷ Sign sign.CloseBrace ∷
     []
 
@@ -52,16 +60,20 @@ comma_before_else_mended_is_read = refl
 -- two commas behind an element: `MENU u { ITEMS { x,, y } }`
 abbrev two_commas : List Token
 two_commas =
-    Reserved word.Menu ∷ Identifier (codes "u") ∷ Sign sign.OpenBrace ∷ Reserved word.Items ∷ Sign sign.OpenBrace ∷
-    Identifier (codes "x") ∷ Sign sign.Comma ∷ Sign sign.Comma ∷ Identifier (codes "y") ∷ Sign sign.CloseBrace ∷
+    Reserved word.Menu ∷ Identifier (codes "u") ∷ Sign sign.OpenBrace ∷ Reserved word.Items
+    ∷ Sign sign.OpenBrace ∷
+    Identifier (codes "x") ∷ Sign sign.Comma ∷ Sign sign.Comma ∷ Identifier (codes "y")
+    ∷ Sign sign.CloseBrace ∷
     Sign sign.CloseBrace ∷
     []
 
 -- `MENU u { ITEMS { x, y, } }`
 abbrev two_commas_mended : List Token
 two_commas_mended =
-    Reserved word.Menu ∷ Identifier (codes "u") ∷ Sign sign.OpenBrace ∷ Reserved word.Items ∷ Sign sign.OpenBrace ∷
-    Identifier (codes "x") ∷ Sign sign.Comma ∷ Identifier (codes "y") ∷ Sign sign.Comma ∷ Sign sign.CloseBrace ∷
+    Reserved word.Menu ∷ Identifier (codes "u") ∷ Sign sign.OpenBrace ∷ Reserved word.Items
+    ∷ Sign sign.OpenBrace ∷
+    Identifier (codes "x") ∷ Sign sign.Comma ∷ Identifier (codes "y") ∷ Sign sign.Comma
+    ∷ Sign sign.CloseBrace ∷
     Sign sign.CloseBrace ∷
     []
 
@@ -76,14 +88,16 @@ two_commas_mended_is_read = refl
 -- a semicolon before the first attribute: `MENU u { ; LABEL "m"; }`
 abbrev semicolon_first : List Token
 semicolon_first =
-    Reserved word.Menu ∷ Identifier (codes "u") ∷ Sign sign.OpenBrace ∷ Sign sign.Semicolon ∷ Reserved word.Label ∷
+    Reserved word.Menu ∷ Identifier (codes "u") ∷ Sign sign.OpenBrace ∷ Sign sign.Semicolon
+    ∷ Reserved word.Label ∷
     String (codes "m") ∷ Sign sign.Semicolon ∷ Sign sign.CloseBrace ∷
     []
 
 -- `MENU u { LABEL "m";; };`
 abbrev semicolon_first_mended : List Token
 semicolon_first_mended =
-    Reserved word.Menu ∷ Identifier (codes "u") ∷ Sign sign.OpenBrace ∷ Reserved word.Label ∷ String (codes "m") ∷
+    Reserved word.Menu ∷ Identifier (codes "u") ∷ Sign sign.OpenBrace ∷ Reserved word.Label
+    ∷ String (codes "m") ∷
     Sign sign.Semicolon ∷ Sign sign.Semicolon ∷ Sign sign.CloseBrace ∷ Sign sign.Semicolon ∷
     []
 
@@ -98,18 +112,24 @@ semicolon_first_mended_is_read = refl
 -- two values in one branch: `MENU u { LABEL IF (x) { "a"; "b"; } }`
 abbrev two_values : List Token
 two_values =
-    Reserved word.Menu ∷ Identifier (codes "u") ∷ Sign sign.OpenBrace ∷ Reserved word.Label ∷ Reserved word.If ∷
-    Sign sign.OpenParenthesis ∷ Identifier (codes "x") ∷ Sign sign.CloseParenthesis ∷ Sign sign.OpenBrace ∷
-    String (codes "a") ∷ Sign sign.Semicolon ∷ String (codes "b") ∷ Sign sign.Semicolon ∷ Sign sign.CloseBrace ∷
+    Reserved word.Menu ∷ Identifier (codes "u") ∷ Sign sign.OpenBrace ∷ Reserved word.Label
+    ∷ Reserved word.If ∷
+    Sign sign.OpenParenthesis ∷ Identifier (codes "x") ∷ Sign sign.CloseParenthesis
+    ∷ Sign sign.OpenBrace ∷
+    String (codes "a") ∷ Sign sign.Semicolon ∷ String (codes "b") ∷ Sign sign.Semicolon
+    ∷ Sign sign.CloseBrace ∷
     Sign sign.CloseBrace ∷
     []
 
 -- `MENU u { LABEL IF (x) { "a" "b"; } }`
 abbrev two_values_mended : List Token
 two_values_mended =
-    Reserved word.Menu ∷ Identifier (codes "u") ∷ Sign sign.OpenBrace ∷ Reserved word.Label ∷ Reserved word.If ∷
-    Sign sign.OpenParenthesis ∷ Identifier (codes "x") ∷ Sign sign.CloseParenthesis ∷ Sign sign.OpenBrace ∷
-    String (codes "a") ∷ String (codes "b") ∷ Sign sign.Semicolon ∷ Sign sign.CloseBrace ∷ Sign sign.CloseBrace ∷
+    Reserved word.Menu ∷ Identifier (codes "u") ∷ Sign sign.OpenBrace ∷ Reserved word.Label
+    ∷ Reserved word.If ∷
+    Sign sign.OpenParenthesis ∷ Identifier (codes "x") ∷ Sign sign.CloseParenthesis
+    ∷ Sign sign.OpenBrace ∷
+    String (codes "a") ∷ String (codes "b") ∷ Sign sign.Semicolon ∷ Sign sign.CloseBrace
+    ∷ Sign sign.CloseBrace ∷
     []
 
 no_two_values : (unit : Description Path) → ¬ Spells (numbered two_values) unit
@@ -123,16 +143,20 @@ two_values_mended_is_read = refl
 -- no value in a branch: `MENU u { LABEL IF (x) { } }`
 abbrev empty_branch : List Token
 empty_branch =
-    Reserved word.Menu ∷ Identifier (codes "u") ∷ Sign sign.OpenBrace ∷ Reserved word.Label ∷ Reserved word.If ∷
-    Sign sign.OpenParenthesis ∷ Identifier (codes "x") ∷ Sign sign.CloseParenthesis ∷ Sign sign.OpenBrace ∷
+    Reserved word.Menu ∷ Identifier (codes "u") ∷ Sign sign.OpenBrace ∷ Reserved word.Label
+    ∷ Reserved word.If ∷
+    Sign sign.OpenParenthesis ∷ Identifier (codes "x") ∷ Sign sign.CloseParenthesis
+    ∷ Sign sign.OpenBrace ∷
     Sign sign.CloseBrace ∷ Sign sign.CloseBrace ∷
     []
 
 -- `MENU u { ITEMS { IF (x) { } } }`
 abbrev empty_branch_mended : List Token
 empty_branch_mended =
-    Reserved word.Menu ∷ Identifier (codes "u") ∷ Sign sign.OpenBrace ∷ Reserved word.Items ∷ Sign sign.OpenBrace ∷
-    Reserved word.If ∷ Sign sign.OpenParenthesis ∷ Identifier (codes "x") ∷ Sign sign.CloseParenthesis ∷ Sign sign.OpenBrace ∷
+    Reserved word.Menu ∷ Identifier (codes "u") ∷ Sign sign.OpenBrace ∷ Reserved word.Items
+    ∷ Sign sign.OpenBrace ∷
+    Reserved word.If ∷ Sign sign.OpenParenthesis ∷ Identifier (codes "x")
+    ∷ Sign sign.CloseParenthesis ∷ Sign sign.OpenBrace ∷
     Sign sign.CloseBrace ∷ Sign sign.CloseBrace ∷ Sign sign.CloseBrace ∷
     []
 
@@ -147,7 +171,8 @@ empty_branch_mended_is_read = refl
 -- an attribute of another kind of item: `MENU u { HANDLING READ; }`
 abbrev wrong_kind : List Token
 wrong_kind =
-    Reserved word.Menu ∷ Identifier (codes "u") ∷ Sign sign.OpenBrace ∷ Reserved word.Handling ∷ Identifier (codes "READ") ∷
+    Reserved word.Menu ∷ Identifier (codes "u") ∷ Sign sign.OpenBrace ∷ Reserved word.Handling
+    ∷ Identifier (codes "READ") ∷
     Sign sign.Semicolon ∷ Sign sign.CloseBrace ∷
     []
 
@@ -169,14 +194,16 @@ wrong_kind_mended_is_read = refl
 -- OF at an item that is no collection: `MENU OF VARIABLE u { }`
 abbrev kind_of_menu : List Token
 kind_of_menu =
-    Reserved word.Menu ∷ Reserved word.Of ∷ Reserved word.Variable ∷ Identifier (codes "u") ∷ Sign sign.OpenBrace ∷
+    Reserved word.Menu ∷ Reserved word.Of ∷ Reserved word.Variable ∷ Identifier (codes "u")
+    ∷ Sign sign.OpenBrace ∷
     Sign sign.CloseBrace ∷
     []
 
 -- `COLLECTION OF VARIABLE u { }`
 abbrev kind_of_menu_mended : List Token
 kind_of_menu_mended =
-    Reserved word.Collection ∷ Reserved word.Of ∷ Reserved word.Variable ∷ Identifier (codes "u") ∷ Sign sign.OpenBrace ∷
+    Reserved word.Collection ∷ Reserved word.Of ∷ Reserved word.Variable ∷ Identifier (codes "u")
+    ∷ Sign sign.OpenBrace ∷
     Sign sign.CloseBrace ∷
     []
 
@@ -192,7 +219,8 @@ kind_of_menu_mended_is_read = refl
 abbrev second_semicolon : List Token
 second_semicolon =
     Reserved word.Variable ∷ Identifier (codes "v") ∷ Sign sign.OpenBrace ∷ Reserved word.Type ∷
-    Identifier (codes "INTEGER") ∷ Sign sign.OpenBrace ∷ Reserved word.MinValue ∷ Integer 1 ∷ Sign sign.Semicolon ∷
+    Identifier (codes "INTEGER") ∷ Sign sign.OpenBrace ∷ Reserved word.MinValue ∷ Integer 1
+    ∷ Sign sign.Semicolon ∷
     Sign sign.Semicolon ∷ Sign sign.CloseBrace ∷ Sign sign.CloseBrace ∷
     []
 
@@ -200,7 +228,8 @@ second_semicolon =
 abbrev second_semicolon_mended : List Token
 second_semicolon_mended =
     Reserved word.Variable ∷ Identifier (codes "v") ∷ Sign sign.OpenBrace ∷ Reserved word.Type ∷
-    Identifier (codes "INTEGER") ∷ Sign sign.OpenBrace ∷ Reserved word.MinValue ∷ Integer 1 ∷ Sign sign.Semicolon ∷
+    Identifier (codes "INTEGER") ∷ Sign sign.OpenBrace ∷ Reserved word.MinValue ∷ Integer 1
+    ∷ Sign sign.Semicolon ∷
     Sign sign.CloseBrace ∷ Sign sign.Semicolon ∷ Sign sign.Semicolon ∷ Sign sign.CloseBrace ∷
     []
 
@@ -216,7 +245,8 @@ second_semicolon_mended_is_read = refl
 abbrev assignment : List Token
 assignment =
     Reserved word.Variable ∷ Identifier (codes "v") ∷ Sign sign.OpenBrace ∷ Reserved word.Type ∷
-    Identifier (codes "INTEGER") ∷ Sign sign.OpenBrace ∷ Reserved word.MaxValue ∷ Identifier (codes "x") ∷ Sign sign.Equals ∷
+    Identifier (codes "INTEGER") ∷ Sign sign.OpenBrace ∷ Reserved word.MaxValue
+    ∷ Identifier (codes "x") ∷ Sign sign.Equals ∷
     Integer 1 ∷ Sign sign.Semicolon ∷ Sign sign.CloseBrace ∷ Sign sign.CloseBrace ∷
     []
 
@@ -224,8 +254,10 @@ assignment =
 abbrev assignment_mended : List Token
 assignment_mended =
     Reserved word.Variable ∷ Identifier (codes "v") ∷ Sign sign.OpenBrace ∷ Reserved word.Type ∷
-    Identifier (codes "INTEGER") ∷ Sign sign.OpenBrace ∷ Reserved word.MaxValue ∷ Identifier (codes "x") ∷
-    Sign (sign.Comparison comparison.Equal) ∷ Integer 1 ∷ Sign sign.Semicolon ∷ Sign sign.CloseBrace ∷ Sign sign.CloseBrace ∷
+    Identifier (codes "INTEGER") ∷ Sign sign.OpenBrace ∷ Reserved word.MaxValue
+    ∷ Identifier (codes "x") ∷
+    Sign (sign.Comparison comparison.Equal) ∷ Integer 1 ∷ Sign sign.Semicolon ∷ Sign sign.CloseBrace
+    ∷ Sign sign.CloseBrace ∷
     []
 
 no_assignment : (unit : Description Path) → ¬ Spells (numbered assignment) unit
@@ -239,18 +271,24 @@ assignment_mended_is_read = refl
 -- a qualifier of a menu at a data item: `COMMAND r { TRANSACTION { REQUEST { x (HIDDEN) } } }`
 abbrev wrong_qualifier : List Token
 wrong_qualifier =
-    Reserved word.Command ∷ Identifier (codes "r") ∷ Sign sign.OpenBrace ∷ Reserved word.Transaction ∷ Sign sign.OpenBrace ∷
-    Reserved word.Request ∷ Sign sign.OpenBrace ∷ Identifier (codes "x") ∷ Sign sign.OpenParenthesis ∷
-    Identifier (codes "HIDDEN") ∷ Sign sign.CloseParenthesis ∷ Sign sign.CloseBrace ∷ Sign sign.CloseBrace ∷
+    Reserved word.Command ∷ Identifier (codes "r") ∷ Sign sign.OpenBrace ∷ Reserved word.Transaction
+    ∷ Sign sign.OpenBrace ∷
+    Reserved word.Request ∷ Sign sign.OpenBrace ∷ Identifier (codes "x") ∷ Sign sign.OpenParenthesis
+    ∷
+    Identifier (codes "HIDDEN") ∷ Sign sign.CloseParenthesis ∷ Sign sign.CloseBrace
+    ∷ Sign sign.CloseBrace ∷
     Sign sign.CloseBrace ∷
     []
 
 -- `COMMAND r { TRANSACTION { REQUEST { x (INFO) } } }`
 abbrev wrong_qualifier_mended : List Token
 wrong_qualifier_mended =
-    Reserved word.Command ∷ Identifier (codes "r") ∷ Sign sign.OpenBrace ∷ Reserved word.Transaction ∷ Sign sign.OpenBrace ∷
-    Reserved word.Request ∷ Sign sign.OpenBrace ∷ Identifier (codes "x") ∷ Sign sign.OpenParenthesis ∷
-    Identifier (codes "INFO") ∷ Sign sign.CloseParenthesis ∷ Sign sign.CloseBrace ∷ Sign sign.CloseBrace ∷
+    Reserved word.Command ∷ Identifier (codes "r") ∷ Sign sign.OpenBrace ∷ Reserved word.Transaction
+    ∷ Sign sign.OpenBrace ∷
+    Reserved word.Request ∷ Sign sign.OpenBrace ∷ Identifier (codes "x") ∷ Sign sign.OpenParenthesis
+    ∷
+    Identifier (codes "INFO") ∷ Sign sign.CloseParenthesis ∷ Sign sign.CloseBrace
+    ∷ Sign sign.CloseBrace ∷
     Sign sign.CloseBrace ∷
     []
 
@@ -265,18 +303,24 @@ wrong_qualifier_mended_is_read = refl
 -- a help without a label: `COLLECTION OF MENU c { MEMBERS { m, x, , "h"; } }`
 abbrev help_alone : List Token
 help_alone =
-    Reserved word.Collection ∷ Reserved word.Of ∷ Reserved word.Menu ∷ Identifier (codes "c") ∷ Sign sign.OpenBrace ∷
-    Reserved word.Members ∷ Sign sign.OpenBrace ∷ Identifier (codes "m") ∷ Sign sign.Comma ∷ Identifier (codes "x") ∷
-    Sign sign.Comma ∷ Sign sign.Comma ∷ String (codes "h") ∷ Sign sign.Semicolon ∷ Sign sign.CloseBrace ∷
+    Reserved word.Collection ∷ Reserved word.Of ∷ Reserved word.Menu ∷ Identifier (codes "c")
+    ∷ Sign sign.OpenBrace ∷
+    Reserved word.Members ∷ Sign sign.OpenBrace ∷ Identifier (codes "m") ∷ Sign sign.Comma
+    ∷ Identifier (codes "x") ∷
+    Sign sign.Comma ∷ Sign sign.Comma ∷ String (codes "h") ∷ Sign sign.Semicolon
+    ∷ Sign sign.CloseBrace ∷
     Sign sign.CloseBrace ∷
     []
 
 -- `COLLECTION OF MENU c { MEMBERS { m, x, "l", "h"; } }`
 abbrev help_alone_mended : List Token
 help_alone_mended =
-    Reserved word.Collection ∷ Reserved word.Of ∷ Reserved word.Menu ∷ Identifier (codes "c") ∷ Sign sign.OpenBrace ∷
-    Reserved word.Members ∷ Sign sign.OpenBrace ∷ Identifier (codes "m") ∷ Sign sign.Comma ∷ Identifier (codes "x") ∷
-    Sign sign.Comma ∷ String (codes "l") ∷ Sign sign.Comma ∷ String (codes "h") ∷ Sign sign.Semicolon ∷ Sign sign.CloseBrace ∷
+    Reserved word.Collection ∷ Reserved word.Of ∷ Reserved word.Menu ∷ Identifier (codes "c")
+    ∷ Sign sign.OpenBrace ∷
+    Reserved word.Members ∷ Sign sign.OpenBrace ∷ Identifier (codes "m") ∷ Sign sign.Comma
+    ∷ Identifier (codes "x") ∷
+    Sign sign.Comma ∷ String (codes "l") ∷ Sign sign.Comma ∷ String (codes "h")
+    ∷ Sign sign.Semicolon ∷ Sign sign.CloseBrace ∷
     Sign sign.CloseBrace ∷
     []
 
@@ -291,17 +335,22 @@ help_alone_mended_is_read = refl
 -- a label outside a `switch`: `METHOD d { DEFINITION { case 1: ; } }`
 abbrev label_outside : List Token
 label_outside =
-    Reserved word.Method ∷ Identifier (codes "d") ∷ Sign sign.OpenBrace ∷ Reserved word.Definition ∷ Sign sign.OpenBrace ∷
-    Reserved word.MethodCase ∷ Integer 1 ∷ Sign sign.Colon ∷ Sign sign.Semicolon ∷ Sign sign.CloseBrace ∷
+    Reserved word.Method ∷ Identifier (codes "d") ∷ Sign sign.OpenBrace ∷ Reserved word.Definition
+    ∷ Sign sign.OpenBrace ∷
+    Reserved word.MethodCase ∷ Integer 1 ∷ Sign sign.Colon ∷ Sign sign.Semicolon
+    ∷ Sign sign.CloseBrace ∷
     Sign sign.CloseBrace ∷
     []
 
 -- `METHOD d { DEFINITION { switch (1) { case 1: ; } } }`
 abbrev label_outside_mended : List Token
 label_outside_mended =
-    Reserved word.Method ∷ Identifier (codes "d") ∷ Sign sign.OpenBrace ∷ Reserved word.Definition ∷ Sign sign.OpenBrace ∷
-    Reserved word.Switch ∷ Sign sign.OpenParenthesis ∷ Integer 1 ∷ Sign sign.CloseParenthesis ∷ Sign sign.OpenBrace ∷
-    Reserved word.MethodCase ∷ Integer 1 ∷ Sign sign.Colon ∷ Sign sign.Semicolon ∷ Sign sign.CloseBrace ∷
+    Reserved word.Method ∷ Identifier (codes "d") ∷ Sign sign.OpenBrace ∷ Reserved word.Definition
+    ∷ Sign sign.OpenBrace ∷
+    Reserved word.Switch ∷ Sign sign.OpenParenthesis ∷ Integer 1 ∷ Sign sign.CloseParenthesis
+    ∷ Sign sign.OpenBrace ∷
+    Reserved word.MethodCase ∷ Integer 1 ∷ Sign sign.Colon ∷ Sign sign.Semicolon
+    ∷ Sign sign.CloseBrace ∷
     Sign sign.CloseBrace ∷ Sign sign.CloseBrace ∷
     []
 
@@ -316,17 +365,23 @@ label_outside_mended_is_read = refl
 -- a declaration as a branch: `METHOD d { DEFINITION { if (a) int b; } }`
 abbrev declared_branch : List Token
 declared_branch =
-    Reserved word.Method ∷ Identifier (codes "d") ∷ Sign sign.OpenBrace ∷ Reserved word.Definition ∷ Sign sign.OpenBrace ∷
-    Reserved word.MethodIf ∷ Sign sign.OpenParenthesis ∷ Identifier (codes "a") ∷ Sign sign.CloseParenthesis ∷
-    Reserved word.Int ∷ Identifier (codes "b") ∷ Sign sign.Semicolon ∷ Sign sign.CloseBrace ∷ Sign sign.CloseBrace ∷
+    Reserved word.Method ∷ Identifier (codes "d") ∷ Sign sign.OpenBrace ∷ Reserved word.Definition
+    ∷ Sign sign.OpenBrace ∷
+    Reserved word.MethodIf ∷ Sign sign.OpenParenthesis ∷ Identifier (codes "a")
+    ∷ Sign sign.CloseParenthesis ∷
+    Reserved word.Int ∷ Identifier (codes "b") ∷ Sign sign.Semicolon ∷ Sign sign.CloseBrace
+    ∷ Sign sign.CloseBrace ∷
     []
 
 -- `METHOD d { DEFINITION { if (a) { int b; } } }`
 abbrev declared_branch_mended : List Token
 declared_branch_mended =
-    Reserved word.Method ∷ Identifier (codes "d") ∷ Sign sign.OpenBrace ∷ Reserved word.Definition ∷ Sign sign.OpenBrace ∷
-    Reserved word.MethodIf ∷ Sign sign.OpenParenthesis ∷ Identifier (codes "a") ∷ Sign sign.CloseParenthesis ∷
-    Sign sign.OpenBrace ∷ Reserved word.Int ∷ Identifier (codes "b") ∷ Sign sign.Semicolon ∷ Sign sign.CloseBrace ∷
+    Reserved word.Method ∷ Identifier (codes "d") ∷ Sign sign.OpenBrace ∷ Reserved word.Definition
+    ∷ Sign sign.OpenBrace ∷
+    Reserved word.MethodIf ∷ Sign sign.OpenParenthesis ∷ Identifier (codes "a")
+    ∷ Sign sign.CloseParenthesis ∷
+    Sign sign.OpenBrace ∷ Reserved word.Int ∷ Identifier (codes "b") ∷ Sign sign.Semicolon
+    ∷ Sign sign.CloseBrace ∷
     Sign sign.CloseBrace ∷ Sign sign.CloseBrace ∷
     []
 
@@ -341,15 +396,19 @@ declared_branch_mended_is_read = refl
 -- response codes in a transaction: `COMMAND r { TRANSACTION { RESPONSE_CODES { } } }`
 abbrev codes_inside : List Token
 codes_inside =
-    Reserved word.Command ∷ Identifier (codes "r") ∷ Sign sign.OpenBrace ∷ Reserved word.Transaction ∷ Sign sign.OpenBrace ∷
-    Reserved word.ResponseCodes ∷ Sign sign.OpenBrace ∷ Sign sign.CloseBrace ∷ Sign sign.CloseBrace ∷ Sign sign.CloseBrace ∷
+    Reserved word.Command ∷ Identifier (codes "r") ∷ Sign sign.OpenBrace ∷ Reserved word.Transaction
+    ∷ Sign sign.OpenBrace ∷
+    Reserved word.ResponseCodes ∷ Sign sign.OpenBrace ∷ Sign sign.CloseBrace ∷ Sign sign.CloseBrace
+    ∷ Sign sign.CloseBrace ∷
     []
 
 -- `COMMAND r { TRANSACTION { } RESPONSE_CODES { } }`
 abbrev codes_inside_mended : List Token
 codes_inside_mended =
-    Reserved word.Command ∷ Identifier (codes "r") ∷ Sign sign.OpenBrace ∷ Reserved word.Transaction ∷ Sign sign.OpenBrace ∷
-    Sign sign.CloseBrace ∷ Reserved word.ResponseCodes ∷ Sign sign.OpenBrace ∷ Sign sign.CloseBrace ∷ Sign sign.CloseBrace ∷
+    Reserved word.Command ∷ Identifier (codes "r") ∷ Sign sign.OpenBrace ∷ Reserved word.Transaction
+    ∷ Sign sign.OpenBrace ∷
+    Sign sign.CloseBrace ∷ Reserved word.ResponseCodes ∷ Sign sign.OpenBrace ∷ Sign sign.CloseBrace
+    ∷ Sign sign.CloseBrace ∷
     []
 
 no_codes_inside : (unit : Description Path) → ¬ Spells (numbered codes_inside) unit
@@ -365,8 +424,10 @@ codes_inside_mended_is_read = refl
 -- a number in n parentheses, in a method
 abbrev deep : ℕ → List Token
 deep n =
-    Reserved word.Method ∷ Identifier (codes "d") ∷ Sign sign.OpenBrace ∷ Reserved word.Definition ∷ Sign sign.OpenBrace ∷
-    replicate n (Sign sign.OpenParenthesis) ++ Integer 1 ∷ replicate n (Sign sign.CloseParenthesis) ++
+    Reserved word.Method ∷ Identifier (codes "d") ∷ Sign sign.OpenBrace ∷ Reserved word.Definition
+    ∷ Sign sign.OpenBrace ∷
+    replicate n (Sign sign.OpenParenthesis) ++ Integer 1 ∷ replicate n (Sign sign.CloseParenthesis)
+    ++
     Sign sign.Semicolon ∷ Sign sign.CloseBrace ∷ Sign sign.CloseBrace ∷ []
 
 -- a statement above 98 parentheses and a number is 100 levels high

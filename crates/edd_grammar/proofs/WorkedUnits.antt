@@ -1,4 +1,5 @@
--- A worked unit with each sort of item, attribute, conditional and statement is spelled by its tokens.
+-- A worked unit with each sort of item, attribute, conditional and statement is spelled by its
+-- tokens.
 use Rattle.std.proofs.Common.{◌≡◌, Bool, true, false, List, [], ◌∷◌, Option, Some, None, codes, refl, sym, ◌∙◌}
 use Rattle.std.specs.Prelude.{pos, neg_ℤ}
 use Rattle.edd_syntax.specs.declared.numbers.TextAttribute.TheVariants as text_attribute
@@ -44,47 +45,76 @@ use Rattle.edd_grammar.proofs.Units.{unit_sound}
 -- `switch (a) { case -1: default: f(a, "t"); return; long l; } } }`
 abbrev method_tokens : List Token
 method_tokens =
-    Reserved word.Method ∷ Identifier (codes "d") ∷ Sign sign.OpenBrace ∷ Reserved word.Definition ∷ Sign sign.OpenBrace ∷
-    Reserved word.Int ∷ Identifier (codes "a") ∷ Sign sign.Equals ∷ Integer 1 ∷ Sign sign.Comma ∷ Identifier (codes "b") ∷
+    Reserved word.Method ∷ Identifier (codes "d") ∷ Sign sign.OpenBrace ∷ Reserved word.Definition
+    ∷ Sign sign.OpenBrace ∷
+    Reserved word.Int ∷ Identifier (codes "a") ∷ Sign sign.Equals ∷ Integer 1 ∷ Sign sign.Comma
+    ∷ Identifier (codes "b") ∷
     Sign sign.Semicolon ∷
-    Reserved word.For ∷ Sign sign.OpenParenthesis ∷ Identifier (codes "a") ∷ Sign sign.Equals ∷ Integer 0 ∷
-    Sign sign.Semicolon ∷ Identifier (codes "a") ∷ Sign (sign.Comparison comparison.Less) ∷ Integer 3 ∷ Sign sign.Semicolon ∷
-    Identifier (codes "a") ∷ Sign sign.Increment ∷ Sign sign.CloseParenthesis ∷ Sign sign.OpenBrace ∷ Identifier (codes "b") ∷
-    Sign (sign.CompoundAssign operator.Add) ∷ Identifier (codes "a") ∷ Sign sign.Semicolon ∷ Reserved word.Continue ∷
+    Reserved word.For ∷ Sign sign.OpenParenthesis ∷ Identifier (codes "a") ∷ Sign sign.Equals
+    ∷ Integer 0 ∷
+    Sign sign.Semicolon ∷ Identifier (codes "a") ∷ Sign (sign.Comparison comparison.Less)
+    ∷ Integer 3 ∷ Sign sign.Semicolon ∷
+    Identifier (codes "a") ∷ Sign sign.Increment ∷ Sign sign.CloseParenthesis ∷ Sign sign.OpenBrace
+    ∷ Identifier (codes "b") ∷
+    Sign (sign.CompoundAssign operator.Add) ∷ Identifier (codes "a") ∷ Sign sign.Semicolon
+    ∷ Reserved word.Continue ∷
     Sign sign.Semicolon ∷ Sign sign.CloseBrace ∷
-    Reserved word.While ∷ Sign sign.OpenParenthesis ∷ Identifier (codes "b") ∷ Sign sign.CloseParenthesis ∷
-    Reserved word.MethodIf ∷ Sign sign.OpenParenthesis ∷ Identifier (codes "a") ∷ Sign sign.CloseParenthesis ∷
-    Identifier (codes "b") ∷ Sign sign.Decrement ∷ Sign sign.Semicolon ∷ Reserved word.MethodElse ∷ Reserved word.Break ∷
+    Reserved word.While ∷ Sign sign.OpenParenthesis ∷ Identifier (codes "b")
+    ∷ Sign sign.CloseParenthesis ∷
+    Reserved word.MethodIf ∷ Sign sign.OpenParenthesis ∷ Identifier (codes "a")
+    ∷ Sign sign.CloseParenthesis ∷
+    Identifier (codes "b") ∷ Sign sign.Decrement ∷ Sign sign.Semicolon ∷ Reserved word.MethodElse
+    ∷ Reserved word.Break ∷
     Sign sign.Semicolon ∷
-    Reserved word.Do ∷ Sign sign.OpenBrace ∷ Sign sign.Semicolon ∷ Sign sign.CloseBrace ∷ Reserved word.While ∷
-    Sign sign.OpenParenthesis ∷ Identifier (codes "x") ∷ Sign (sign.Operator operator.And) ∷ Integer 1 ∷
-    Sign (sign.Comparison comparison.Equal) ∷ Integer 0 ∷ Sign sign.CloseParenthesis ∷ Sign sign.Semicolon ∷
-    Reserved word.Switch ∷ Sign sign.OpenParenthesis ∷ Identifier (codes "a") ∷ Sign sign.CloseParenthesis ∷
-    Sign sign.OpenBrace ∷ Reserved word.MethodCase ∷ Sign (sign.Operator operator.Subtract) ∷ Integer 1 ∷ Sign sign.Colon ∷
-    Reserved word.MethodDefault ∷ Sign sign.Colon ∷ Identifier (codes "f") ∷ Sign sign.OpenParenthesis ∷
-    Identifier (codes "a") ∷ Sign sign.Comma ∷ String (codes "t") ∷ Sign sign.CloseParenthesis ∷ Sign sign.Semicolon ∷
-    Reserved word.Return ∷ Sign sign.Semicolon ∷ Reserved word.Long ∷ Identifier (codes "l") ∷ Sign sign.Semicolon ∷
+    Reserved word.Do ∷ Sign sign.OpenBrace ∷ Sign sign.Semicolon ∷ Sign sign.CloseBrace
+    ∷ Reserved word.While ∷
+    Sign sign.OpenParenthesis ∷ Identifier (codes "x") ∷ Sign (sign.Operator operator.And)
+    ∷ Integer 1 ∷
+    Sign (sign.Comparison comparison.Equal) ∷ Integer 0 ∷ Sign sign.CloseParenthesis
+    ∷ Sign sign.Semicolon ∷
+    Reserved word.Switch ∷ Sign sign.OpenParenthesis ∷ Identifier (codes "a")
+    ∷ Sign sign.CloseParenthesis ∷
+    Sign sign.OpenBrace ∷ Reserved word.MethodCase ∷ Sign (sign.Operator operator.Subtract)
+    ∷ Integer 1 ∷ Sign sign.Colon ∷
+    Reserved word.MethodDefault ∷ Sign sign.Colon ∷ Identifier (codes "f")
+    ∷ Sign sign.OpenParenthesis ∷
+    Identifier (codes "a") ∷ Sign sign.Comma ∷ String (codes "t") ∷ Sign sign.CloseParenthesis
+    ∷ Sign sign.Semicolon ∷
+    Reserved word.Return ∷ Sign sign.Semicolon ∷ Reserved word.Long ∷ Identifier (codes "l")
+    ∷ Sign sign.Semicolon ∷
     Sign sign.CloseBrace ∷ Sign sign.CloseBrace ∷ Sign sign.CloseBrace ∷
     []
 
--- `MENU u { LABEL "m"; ITEMS { "t", x (READ_ONLY, HIDDEN) c.m IF (x) { y } ELSE IF (y) { z }, "l" } }`
--- `COLLECTION OF VARIABLE c { MEMBERS { m, x; n, y, "l"; o, z, [l], "h"; } }`
+-- `MENU u { LABEL "m"; ITEMS { "t", x (READ_ONLY, HIDDEN) c.m IF (x) { y } ELSE IF (y) { z }, "l" }
+-- }` `COLLECTION OF VARIABLE c { MEMBERS { m, x; n, y, "l"; o, z, [l], "h"; } }`
 abbrev menu_tokens : List Token
 menu_tokens =
-    Reserved word.Menu ∷ Identifier (codes "u") ∷ Sign sign.OpenBrace ∷ Reserved word.Label ∷ String (codes "m") ∷
-    Sign sign.Semicolon ∷ Reserved word.Items ∷ Sign sign.OpenBrace ∷ String (codes "t") ∷ Sign sign.Comma ∷
-    Identifier (codes "x") ∷ Sign sign.OpenParenthesis ∷ Identifier (codes "READ_ONLY") ∷ Sign sign.Comma ∷
-    Identifier (codes "HIDDEN") ∷ Sign sign.CloseParenthesis ∷ Identifier (codes "c") ∷ Sign sign.Dot ∷
+    Reserved word.Menu ∷ Identifier (codes "u") ∷ Sign sign.OpenBrace ∷ Reserved word.Label
+    ∷ String (codes "m") ∷
+    Sign sign.Semicolon ∷ Reserved word.Items ∷ Sign sign.OpenBrace ∷ String (codes "t")
+    ∷ Sign sign.Comma ∷
+    Identifier (codes "x") ∷ Sign sign.OpenParenthesis ∷ Identifier (codes "READ_ONLY")
+    ∷ Sign sign.Comma ∷
+    Identifier (codes "HIDDEN") ∷ Sign sign.CloseParenthesis ∷ Identifier (codes "c")
+    ∷ Sign sign.Dot ∷
     Identifier (codes "m") ∷ Reserved word.If ∷ Sign sign.OpenParenthesis ∷ Identifier (codes "x") ∷
-    Sign sign.CloseParenthesis ∷ Sign sign.OpenBrace ∷ Identifier (codes "y") ∷ Sign sign.CloseBrace ∷ Reserved word.Else ∷
-    Reserved word.If ∷ Sign sign.OpenParenthesis ∷ Identifier (codes "y") ∷ Sign sign.CloseParenthesis ∷ Sign sign.OpenBrace ∷
-    Identifier (codes "z") ∷ Sign sign.CloseBrace ∷ Sign sign.Comma ∷ String (codes "l") ∷ Sign sign.CloseBrace ∷
+    Sign sign.CloseParenthesis ∷ Sign sign.OpenBrace ∷ Identifier (codes "y") ∷ Sign sign.CloseBrace
+    ∷ Reserved word.Else ∷
+    Reserved word.If ∷ Sign sign.OpenParenthesis ∷ Identifier (codes "y")
+    ∷ Sign sign.CloseParenthesis ∷ Sign sign.OpenBrace ∷
+    Identifier (codes "z") ∷ Sign sign.CloseBrace ∷ Sign sign.Comma ∷ String (codes "l")
+    ∷ Sign sign.CloseBrace ∷
     Sign sign.CloseBrace ∷
-    Reserved word.Collection ∷ Reserved word.Of ∷ Reserved word.Variable ∷ Identifier (codes "c") ∷ Sign sign.OpenBrace ∷
-    Reserved word.Members ∷ Sign sign.OpenBrace ∷ Identifier (codes "m") ∷ Sign sign.Comma ∷ Identifier (codes "x") ∷
-    Sign sign.Semicolon ∷ Identifier (codes "n") ∷ Sign sign.Comma ∷ Identifier (codes "y") ∷ Sign sign.Comma ∷
-    String (codes "l") ∷ Sign sign.Semicolon ∷ Identifier (codes "o") ∷ Sign sign.Comma ∷ Identifier (codes "z") ∷
-    Sign sign.Comma ∷ Sign sign.OpenBracket ∷ Identifier (codes "l") ∷ Sign sign.CloseBracket ∷ Sign sign.Comma ∷
+    Reserved word.Collection ∷ Reserved word.Of ∷ Reserved word.Variable ∷ Identifier (codes "c")
+    ∷ Sign sign.OpenBrace ∷
+    Reserved word.Members ∷ Sign sign.OpenBrace ∷ Identifier (codes "m") ∷ Sign sign.Comma
+    ∷ Identifier (codes "x") ∷
+    Sign sign.Semicolon ∷ Identifier (codes "n") ∷ Sign sign.Comma ∷ Identifier (codes "y")
+    ∷ Sign sign.Comma ∷
+    String (codes "l") ∷ Sign sign.Semicolon ∷ Identifier (codes "o") ∷ Sign sign.Comma
+    ∷ Identifier (codes "z") ∷
+    Sign sign.Comma ∷ Sign sign.OpenBracket ∷ Identifier (codes "l") ∷ Sign sign.CloseBracket
+    ∷ Sign sign.Comma ∷
     String (codes "h") ∷ Sign sign.Semicolon ∷ Sign sign.CloseBrace ∷ Sign sign.CloseBrace ∷
     method_tokens
 
@@ -93,68 +123,99 @@ menu_tokens =
 -- `RESPONSE_CODES { 0, SUCCESS, "ok"; 1, MISC_ERROR, [e], 2, MODE_ERROR, "n" } }`
 abbrev command_tokens : List Token
 command_tokens =
-    Reserved word.Command ∷ Identifier (codes "r") ∷ Sign sign.OpenBrace ∷ Reserved word.Number ∷ Integer 3 ∷
+    Reserved word.Command ∷ Identifier (codes "r") ∷ Sign sign.OpenBrace ∷ Reserved word.Number
+    ∷ Integer 3 ∷
     Sign sign.Semicolon ∷ Reserved word.Operation ∷ Reserved word.Command ∷ Sign sign.Semicolon ∷
-    Reserved word.Transaction ∷ Integer 1 ∷ Sign sign.OpenBrace ∷ Reserved word.Request ∷ Sign sign.OpenBrace ∷ Integer 5 ∷
-    Sign sign.Comma ∷ Identifier (codes "x") ∷ Sign (sign.Comparison comparison.Less) ∷ Integer 255 ∷
-    Sign (sign.Comparison comparison.Greater) ∷ Sign sign.OpenParenthesis ∷ Identifier (codes "INFO") ∷
-    Identifier (codes "INDEX") ∷ Sign sign.CloseParenthesis ∷ Sign sign.Comma ∷ Identifier (codes "c") ∷ Sign sign.Dot ∷
-    Identifier (codes "m") ∷ Sign sign.OpenParenthesis ∷ Identifier (codes "INDEX") ∷ Sign sign.CloseParenthesis ∷
-    Identifier (codes "x") ∷ Sign sign.CloseBrace ∷ Sign sign.Semicolon ∷ Sign sign.Semicolon ∷ Reserved word.Reply ∷
+    Reserved word.Transaction ∷ Integer 1 ∷ Sign sign.OpenBrace ∷ Reserved word.Request
+    ∷ Sign sign.OpenBrace ∷ Integer 5 ∷
+    Sign sign.Comma ∷ Identifier (codes "x") ∷ Sign (sign.Comparison comparison.Less) ∷ Integer 255
+    ∷
+    Sign (sign.Comparison comparison.Greater) ∷ Sign sign.OpenParenthesis
+    ∷ Identifier (codes "INFO") ∷
+    Identifier (codes "INDEX") ∷ Sign sign.CloseParenthesis ∷ Sign sign.Comma
+    ∷ Identifier (codes "c") ∷ Sign sign.Dot ∷
+    Identifier (codes "m") ∷ Sign sign.OpenParenthesis ∷ Identifier (codes "INDEX")
+    ∷ Sign sign.CloseParenthesis ∷
+    Identifier (codes "x") ∷ Sign sign.CloseBrace ∷ Sign sign.Semicolon ∷ Sign sign.Semicolon
+    ∷ Reserved word.Reply ∷
     Sign sign.OpenBrace ∷ Sign sign.CloseBrace ∷ Sign sign.CloseBrace ∷
-    Reserved word.ResponseCodes ∷ Sign sign.OpenBrace ∷ Integer 0 ∷ Sign sign.Comma ∷ Identifier (codes "SUCCESS") ∷
+    Reserved word.ResponseCodes ∷ Sign sign.OpenBrace ∷ Integer 0 ∷ Sign sign.Comma
+    ∷ Identifier (codes "SUCCESS") ∷
     Sign sign.Comma ∷ String (codes "ok") ∷ Sign sign.Semicolon ∷ Integer 1 ∷ Sign sign.Comma ∷
-    Identifier (codes "MISC_ERROR") ∷ Sign sign.Comma ∷ Sign sign.OpenBracket ∷ Identifier (codes "e") ∷
-    Sign sign.CloseBracket ∷ Sign sign.Comma ∷ Integer 2 ∷ Sign sign.Comma ∷ Identifier (codes "MODE_ERROR") ∷
+    Identifier (codes "MISC_ERROR") ∷ Sign sign.Comma ∷ Sign sign.OpenBracket
+    ∷ Identifier (codes "e") ∷
+    Sign sign.CloseBracket ∷ Sign sign.Comma ∷ Integer 2 ∷ Sign sign.Comma
+    ∷ Identifier (codes "MODE_ERROR") ∷
     Sign sign.Comma ∷ String (codes "n") ∷ Sign sign.CloseBrace ∷ Sign sign.CloseBrace ∷
     menu_tokens
 
 -- `VARIABLE x {`
 -- `CLASS DYNAMIC & INPUT;`
 -- `HANDLING WRITE & READ;;`
--- `VALIDITY IF (y) { TRUE; } ELSE IF (c.m == 1) { FALSE; } ELSE { SELECT (y) { CASE -1: TRUE; DEFAULT: FALSE; } }`
--- `TYPE ENUMERATED (1) { DEFAULT_VALUE 1; { 0, "a" }, IF (y) { { 1, "b", [h] } { -2, "c" "d" }, } ELSE IF (z) { } DISPLAY_FORMAT "2d"; }`
--- `}`
--- `VARIABLE f { TYPE FLOAT (4) a { b; { } ; } };`
+-- `VALIDITY IF (y) { TRUE; } ELSE IF (c.m == 1) { FALSE; } ELSE { SELECT (y) { CASE -1: TRUE;
+-- DEFAULT: FALSE; } }` `TYPE ENUMERATED (1) { DEFAULT_VALUE 1; { 0, "a" }, IF (y) { { 1, "b", [h] }
+-- { -2, "c" "d" }, } ELSE IF (z) { } DISPLAY_FORMAT "2d"; }` `}` `VARIABLE f { TYPE FLOAT (4) a {
+-- b; { } ; } };`
 abbrev variable_tokens : List Token
 variable_tokens =
     Reserved word.Variable ∷ Identifier (codes "x") ∷ Sign sign.OpenBrace ∷
-    Reserved word.Class ∷ Identifier (codes "DYNAMIC") ∷ Sign (sign.Operator operator.And) ∷ Identifier (codes "INPUT") ∷
+    Reserved word.Class ∷ Identifier (codes "DYNAMIC") ∷ Sign (sign.Operator operator.And)
+    ∷ Identifier (codes "INPUT") ∷
     Sign sign.Semicolon ∷
-    Reserved word.Handling ∷ Identifier (codes "WRITE") ∷ Sign (sign.Operator operator.And) ∷ Identifier (codes "READ") ∷
+    Reserved word.Handling ∷ Identifier (codes "WRITE") ∷ Sign (sign.Operator operator.And)
+    ∷ Identifier (codes "READ") ∷
     Sign sign.Semicolon ∷ Sign sign.Semicolon ∷
     Reserved word.Validity ∷ Reserved word.If ∷ Sign sign.OpenParenthesis ∷ Identifier (codes "y") ∷
-    Sign sign.CloseParenthesis ∷ Sign sign.OpenBrace ∷ Identifier (codes "TRUE") ∷ Sign sign.Semicolon ∷
-    Sign sign.CloseBrace ∷ Reserved word.Else ∷ Reserved word.If ∷ Sign sign.OpenParenthesis ∷ Identifier (codes "c") ∷
+    Sign sign.CloseParenthesis ∷ Sign sign.OpenBrace ∷ Identifier (codes "TRUE")
+    ∷ Sign sign.Semicolon ∷
+    Sign sign.CloseBrace ∷ Reserved word.Else ∷ Reserved word.If ∷ Sign sign.OpenParenthesis
+    ∷ Identifier (codes "c") ∷
     Sign sign.Dot ∷ Identifier (codes "m") ∷ Sign (sign.Comparison comparison.Equal) ∷ Integer 1 ∷
-    Sign sign.CloseParenthesis ∷ Sign sign.OpenBrace ∷ Identifier (codes "FALSE") ∷ Sign sign.Semicolon ∷
-    Sign sign.CloseBrace ∷ Reserved word.Else ∷ Sign sign.OpenBrace ∷ Reserved word.Select ∷ Sign sign.OpenParenthesis ∷
+    Sign sign.CloseParenthesis ∷ Sign sign.OpenBrace ∷ Identifier (codes "FALSE")
+    ∷ Sign sign.Semicolon ∷
+    Sign sign.CloseBrace ∷ Reserved word.Else ∷ Sign sign.OpenBrace ∷ Reserved word.Select
+    ∷ Sign sign.OpenParenthesis ∷
     Identifier (codes "y") ∷ Sign sign.CloseParenthesis ∷ Sign sign.OpenBrace ∷ Reserved word.Case ∷
-    Sign (sign.Operator operator.Subtract) ∷ Integer 1 ∷ Sign sign.Colon ∷ Identifier (codes "TRUE") ∷ Sign sign.Semicolon ∷
-    Reserved word.Default ∷ Sign sign.Colon ∷ Identifier (codes "FALSE") ∷ Sign sign.Semicolon ∷ Sign sign.CloseBrace ∷
+    Sign (sign.Operator operator.Subtract) ∷ Integer 1 ∷ Sign sign.Colon ∷ Identifier (codes "TRUE")
+    ∷ Sign sign.Semicolon ∷
+    Reserved word.Default ∷ Sign sign.Colon ∷ Identifier (codes "FALSE") ∷ Sign sign.Semicolon
+    ∷ Sign sign.CloseBrace ∷
     Sign sign.CloseBrace ∷
     Reserved word.Type ∷ Identifier (codes "ENUMERATED") ∷ Sign sign.OpenParenthesis ∷ Integer 1 ∷
-    Sign sign.CloseParenthesis ∷ Sign sign.OpenBrace ∷ Reserved word.DefaultValue ∷ Integer 1 ∷ Sign sign.Semicolon ∷
-    Sign sign.OpenBrace ∷ Integer 0 ∷ Sign sign.Comma ∷ String (codes "a") ∷ Sign sign.CloseBrace ∷ Sign sign.Comma ∷
-    Reserved word.If ∷ Sign sign.OpenParenthesis ∷ Identifier (codes "y") ∷ Sign sign.CloseParenthesis ∷ Sign sign.OpenBrace ∷
-    Sign sign.OpenBrace ∷ Integer 1 ∷ Sign sign.Comma ∷ String (codes "b") ∷ Sign sign.Comma ∷ Sign sign.OpenBracket ∷
+    Sign sign.CloseParenthesis ∷ Sign sign.OpenBrace ∷ Reserved word.DefaultValue ∷ Integer 1
+    ∷ Sign sign.Semicolon ∷
+    Sign sign.OpenBrace ∷ Integer 0 ∷ Sign sign.Comma ∷ String (codes "a") ∷ Sign sign.CloseBrace
+    ∷ Sign sign.Comma ∷
+    Reserved word.If ∷ Sign sign.OpenParenthesis ∷ Identifier (codes "y")
+    ∷ Sign sign.CloseParenthesis ∷ Sign sign.OpenBrace ∷
+    Sign sign.OpenBrace ∷ Integer 1 ∷ Sign sign.Comma ∷ String (codes "b") ∷ Sign sign.Comma
+    ∷ Sign sign.OpenBracket ∷
     Identifier (codes "h") ∷ Sign sign.CloseBracket ∷ Sign sign.CloseBrace ∷ Sign sign.OpenBrace ∷
-    Sign (sign.Operator operator.Subtract) ∷ Integer 2 ∷ Sign sign.Comma ∷ String (codes "c") ∷ String (codes "d") ∷
-    Sign sign.CloseBrace ∷ Sign sign.Comma ∷ Sign sign.CloseBrace ∷ Reserved word.Else ∷ Reserved word.If ∷
-    Sign sign.OpenParenthesis ∷ Identifier (codes "z") ∷ Sign sign.CloseParenthesis ∷ Sign sign.OpenBrace ∷
-    Sign sign.CloseBrace ∷ Reserved word.DisplayFormat ∷ String (codes "2d") ∷ Sign sign.Semicolon ∷ Sign sign.CloseBrace ∷
+    Sign (sign.Operator operator.Subtract) ∷ Integer 2 ∷ Sign sign.Comma ∷ String (codes "c")
+    ∷ String (codes "d") ∷
+    Sign sign.CloseBrace ∷ Sign sign.Comma ∷ Sign sign.CloseBrace ∷ Reserved word.Else
+    ∷ Reserved word.If ∷
+    Sign sign.OpenParenthesis ∷ Identifier (codes "z") ∷ Sign sign.CloseParenthesis
+    ∷ Sign sign.OpenBrace ∷
+    Sign sign.CloseBrace ∷ Reserved word.DisplayFormat ∷ String (codes "2d") ∷ Sign sign.Semicolon
+    ∷ Sign sign.CloseBrace ∷
     Sign sign.CloseBrace ∷
-    Reserved word.Variable ∷ Identifier (codes "f") ∷ Sign sign.OpenBrace ∷ Reserved word.Type ∷ Identifier (codes "FLOAT") ∷
-    Sign sign.OpenParenthesis ∷ Integer 4 ∷ Sign sign.CloseParenthesis ∷ Identifier (codes "a") ∷ Sign sign.OpenBrace ∷
-    Identifier (codes "b") ∷ Sign sign.Semicolon ∷ Sign sign.OpenBrace ∷ Sign sign.CloseBrace ∷ Sign sign.Semicolon ∷
+    Reserved word.Variable ∷ Identifier (codes "f") ∷ Sign sign.OpenBrace ∷ Reserved word.Type
+    ∷ Identifier (codes "FLOAT") ∷
+    Sign sign.OpenParenthesis ∷ Integer 4 ∷ Sign sign.CloseParenthesis ∷ Identifier (codes "a")
+    ∷ Sign sign.OpenBrace ∷
+    Identifier (codes "b") ∷ Sign sign.Semicolon ∷ Sign sign.OpenBrace ∷ Sign sign.CloseBrace
+    ∷ Sign sign.Semicolon ∷
     Sign sign.CloseBrace ∷ Sign sign.CloseBrace ∷ Sign sign.Semicolon ∷
     command_tokens
 
 -- `MANUFACTURER 1 DEVICE_TYPE 2, DEVICE_REVISION 3 DD_REVISION 4,`
 abbrev unit_tokens : List Token
 unit_tokens =
-    Reserved word.Manufacturer ∷ Integer 1 ∷ Reserved word.DeviceType ∷ Integer 2 ∷ Sign sign.Comma ∷
-    Reserved word.DeviceRevision ∷ Integer 3 ∷ Reserved word.DdRevision ∷ Integer 4 ∷ Sign sign.Comma ∷
+    Reserved word.Manufacturer ∷ Integer 1 ∷ Reserved word.DeviceType ∷ Integer 2 ∷ Sign sign.Comma
+    ∷
+    Reserved word.DeviceRevision ∷ Integer 3 ∷ Reserved word.DdRevision ∷ Integer 4
+    ∷ Sign sign.Comma ∷
     variable_tokens
 
 -- ---- the tree
@@ -176,7 +237,8 @@ abbrev validity : Cond Path Bool
 validity =
     cond.If (ref (codes "y")) (one (Value true)) (one (
     cond.If (Compare comparison.Equal (Reference c_m) (Literal 1)) (one (Value false)) (one (
-    Select (ref (codes "y")) (arms_from (Case (neg_ℤ (pos 1)) (one (Value true)) ∷ Default (one (Value false)) ∷ []))))))
+    Select (ref (codes "y"))
+    (arms_from (Case (neg_ℤ (pos 1)) (one (Value true)) ∷ Default (one (Value false)) ∷ []))))))
 
 abbrev enumerators : Cond Path item.Enumerator
 enumerators =
@@ -203,7 +265,11 @@ variable_x = record {
 }
 
 abbrev variable_f : Item Path
-variable_f = record { sort = item.VariableItem; name = codes "f"; attributes = item.TypeOf (item.Other (codes "FLOAT")) [] ∷ [] }
+variable_f = record {
+  sort = item.VariableItem;
+  name = codes "f";
+  attributes = item.TypeOf (item.Other (codes "FLOAT")) [] ∷ [];
+}
 
 abbrev requested : Conds Path (item.DataItem Path)
 requested = conds_from (
@@ -230,7 +296,8 @@ command_r = record {
 }
 
 abbrev entry : Path → Cond Path (item.MenuEntry Path)
-entry to = Value (item.Reference to (record { display_value = false; read_only = false; hidden = false; review = false }))
+entry to = Value (item.Reference to
+    (record { display_value = false; read_only = false; hidden = false; review = false }))
 
 abbrev menu_u : Item Path
 menu_u = record {
@@ -240,9 +307,11 @@ menu_u = record {
       item.OneText text_attribute.Label (Value (Quoted (codes "m"))) ∷
       item.Items (conds_from (
       Value (item.Text (Quoted (codes "t"))) ∷
-      Value (item.Reference (named (codes "x")) (record { display_value = false; read_only = true; hidden = true; review = false })) ∷
+      Value (item.Reference (named (codes "x"))
+      (record { display_value = false; read_only = true; hidden = true; review = false })) ∷
       entry c_m ∷
-      cond.If (ref (codes "x")) (one (entry (named (codes "y")))) (one (cond.If (ref (codes "y")) (one (entry (named (codes "z")))) cond.Nil)) ∷
+      cond.If (ref (codes "x")) (one (entry (named (codes "y"))))
+      (one (cond.If (ref (codes "y")) (one (entry (named (codes "z")))) cond.Nil)) ∷
       Value (item.Text (Quoted (codes "l"))) ∷
       [])) ∷
       [];
@@ -254,28 +323,48 @@ collection_c = record {
   name = codes "c";
   attributes = item.Members (
       record { name = codes "m"; item = named (codes "x"); label = None; help = None } ∷
-      record { name = codes "n"; item = named (codes "y"); label = Some (Quoted (codes "l")); help = None } ∷
-      record { name = codes "o"; item = named (codes "z"); label = Some (Key (codes "l")); help = Some (Quoted (codes "h")) } ∷
+      record {
+        name = codes "n";
+        item = named (codes "y");
+        label = Some (Quoted (codes "l"));
+        help = None;
+      } ∷
+      record {
+        name = codes "o";
+        item = named (codes "z");
+        label = Some (Key (codes "l"));
+        help = Some (Quoted (codes "h"));
+      } ∷
       []) ∷ [];
 }
 
 abbrev turns : Stmt Path
 turns =
-    For (Some (Assign (named (codes "a")) (Literal 0))) (Some (Compare comparison.Less (ref (codes "a")) (Literal 3))) (Some (Increment PostIncrement (named (codes "a"))))
-    (Block (body_from (Statement (Evaluate (CompoundAssign operator.Add (named (codes "b")) (ref (codes "a")))) ∷ Statement Continue ∷ [])))
+    For (Some (Assign (named (codes "a")) (Literal 0)))
+    (Some (Compare comparison.Less (ref (codes "a")) (Literal 3)))
+    (Some (Increment PostIncrement (named (codes "a"))))
+    (Block (body_from (Statement
+    (Evaluate (CompoundAssign operator.Add (named (codes "b")) (ref (codes "a"))))
+    ∷ Statement Continue ∷ [])))
 
 abbrev called : Expr Path
-called = Call (named (codes "f")) (arguments_from (tree.Value (ref (codes "a")) ∷ tree.Text (Quoted (codes "t")) ∷ []))
+called = Call (named (codes "f"))
+    (arguments_from (tree.Value (ref (codes "a")) ∷ tree.Text (Quoted (codes "t")) ∷ []))
 
 abbrev method_d : Item Path
 method_d = record {
   sort = item.MethodItem;
   name = codes "d";
   attributes = item.Definition (body_from (
-      Declare (record { place = named (codes "a"); value = Some (Literal 1) } ∷ record { place = named (codes "b"); value = None } ∷ []) ∷
+      Declare (record { place = named (codes "a"); value = Some (Literal 1) }
+      ∷ record { place = named (codes "b"); value = None } ∷ []) ∷
       Statement turns ∷
-      Statement (While (ref (codes "b")) (IfElse (ref (codes "a")) (Evaluate (Increment PostDecrement (named (codes "b")))) Break)) ∷
-      Statement (Do (Block (body_from (Statement Empty ∷ []))) (Binary operator.And (ref (codes "x")) (Compare comparison.Equal (Literal 1) (Literal 0)))) ∷
+      Statement (While (ref (codes "b"))
+      (IfElse (ref (codes "a")) (Evaluate (Increment PostDecrement (named (codes "b")))) Break))
+      ∷
+      Statement (Do (Block (body_from (Statement Empty ∷ [])))
+      (Binary operator.And (ref (codes "x"))
+      (Compare comparison.Equal (Literal 1) (Literal 0)))) ∷
       Statement (Switch (ref (codes "a")) (body_from (
       CaseLabel (neg_ℤ (pos 1)) ∷
       DefaultLabel ∷
@@ -288,13 +377,32 @@ method_d = record {
 
 abbrev the_unit : Description Path
 the_unit = record {
-  identification = record { manufacturer = 1; device_type = 2; device_revision = 3; dd_revision = 4 };
+  identification = record {
+    manufacturer = 1;
+    device_type = 2;
+    device_revision = 3;
+    dd_revision = 4;
+  };
   items = variable_x ∷ variable_f ∷ command_r ∷ menu_u ∷ collection_c ∷ method_d ∷ [];
 }
 
 -- the unit that some tokens spell
 unfoldable pub worked : List Token → Option (Description Path)
-unfolding expect expect_word path_at path_behind key_at text_at postfix step_before argument_at some_arguments arguments_at named_at unary_behind parentheses_behind signed_at operand_at joined_at chain choice_at assign_at layer expr_at condition_at braces_at else_at case_at default_at arms_at if_at select_at cond_layer ended only one_at text_value expr_value elements_at listed element_at list_at value_at declarator_at some_declarators declarators_at declaration_at case_label_at part_at parts_at body_at method_else_at method_if_at while_at do_at optional_at for_at switch_at evaluate_at statement_layer statement_at definition_at expect_name number_at names_at row_at closed braced row_inside handling_behind handling_at truth_at operation_at some_text_at optional_text_at enumerator_at allowed_at some_qualifiers qualifiers_at mask_at data_variable_at data_item_at menu_reference_at menu_entry_at handling_value truth_value enumerator_value data_item_value menu_entry_value size_at type_part_at type_parts_at behind_other known_type_at other_type_at type_at class_at response_code_at member_at transaction_part_at transaction_at class_words_at command_number_at command_operation_at other_attribute_at attribute_at own_attribute_at kind_at sort_behind attributes_at item_at numbered_at identification_at items_at unit_at
+unfolding expect expect_word path_at path_behind key_at text_at postfix step_before argument_at
+    some_arguments arguments_at named_at unary_behind parentheses_behind signed_at operand_at
+    joined_at chain choice_at assign_at layer expr_at condition_at braces_at else_at case_at
+    default_at arms_at if_at select_at cond_layer ended only one_at text_value expr_value
+    elements_at listed element_at list_at value_at declarator_at some_declarators declarators_at
+    declaration_at case_label_at part_at parts_at body_at method_else_at method_if_at while_at do_at
+    optional_at for_at switch_at evaluate_at statement_layer statement_at definition_at expect_name
+    number_at names_at row_at closed braced row_inside handling_behind handling_at truth_at
+    operation_at some_text_at optional_text_at enumerator_at allowed_at some_qualifiers
+    qualifiers_at mask_at data_variable_at data_item_at menu_reference_at menu_entry_at
+    handling_value truth_value enumerator_value data_item_value menu_entry_value size_at
+    type_part_at type_parts_at behind_other known_type_at other_type_at type_at class_at
+    response_code_at member_at transaction_part_at transaction_at class_words_at command_number_at
+    command_operation_at other_attribute_at attribute_at own_attribute_at kind_at sort_behind
+    attributes_at item_at numbered_at identification_at items_at unit_at
 worked tokens = unit_at tokens
 
 pub worked_is : (tokens : List Token) → worked tokens ≡ unit_at tokens

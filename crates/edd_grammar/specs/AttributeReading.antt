@@ -42,7 +42,8 @@ class_at here = name_at here >>= λ n. class_of n.0 >>= λ c. Some (c, n.1)
 
 -- behind a semicolon or a comma, if one is next
 abbrev pub behind_response : List Token → List Token
-behind_response here = if at sign.Semicolon here then drop 1 here else if at sign.Comma here then drop 1 here else here
+behind_response here = if at sign.Semicolon here then drop 1 here else if at sign.Comma here then
+    drop 1 here else here
 
 -- `number, class, text`
 unfoldable pub response_code_at : List Token → Read item.ResponseCode
@@ -63,22 +64,32 @@ member_at here = do
   (label, second) ← optional_text_at first
   (help, behind) ← optional_text_at second
   rest ← expect sign.Semicolon behind
-  Some (record { name = name; item = record { base = base; members = [] }; label = label; help = help }, rest)
+  Some (
+    record {
+      name = name;
+      item = record { base = base; members = [] };
+      label = label;
+      help = help;
+    },
+    rest,
+  )
 
 -- ---- transactions
 
 -- a part of at most this height of what stands in the braces of a transaction
 unfoldable pub transaction_part_at : ℕ → List Token → Read (TransactionPart Path)
-transaction_part_at high here =
-    if at_word word.Request here then (braced (list_at data_item_value high) (drop 1 here) >>= λ all. Some (item.Request all.0, all.1))
-    else if at_word word.Reply here then (braced (list_at data_item_value high) (drop 1 here) >>= λ all. Some (item.Reply all.0, all.1))
+transaction_part_at height_left here =
+    if at_word word.Request here then (braced (list_at data_item_value height_left) (drop 1 here)
+    >>= λ all. Some (item.Request all.0, all.1))
+    else if at_word word.Reply here then (braced (list_at data_item_value height_left) (drop 1 here)
+    >>= λ all. Some (item.Reply all.0, all.1))
     else None
 
 -- behind TRANSACTION
 unfoldable pub transaction_at : ℕ → List Token → Read (Attribute Path)
-transaction_at high here = do
+transaction_at height_left here = do
   (number, brace) ← number_at here
-  (parts, rest) ← braced (row_inside (closed (transaction_part_at high))) brace
+  (parts, rest) ← braced (row_inside (closed (transaction_part_at height_left))) brace
   Some (item.Transaction number parts, rest)
 
 -- ---- attributes
@@ -111,26 +122,36 @@ text_here _ = None
 
 -- an attribute of at most this height that isn't one text
 unfoldable pub other_attribute_at : ℕ → List Token → Read (Attribute Path)
-other_attribute_at high here =
+other_attribute_at height_left here =
     if at_word word.Class here then class_words_at (drop 1 here)
-    else if at_word word.Handling here then (one_at handling_value high (drop 1 here) >>= λ c. Some (item.Handling c.0, c.1))
-    else if at_word word.Validity here then (one_at truth_value high (drop 1 here) >>= λ c. Some (item.Validity c.0, c.1))
-    else if at_word word.Type here then (type_at high (drop 1 here) >>= λ t. Some (item.TypeOf t.0.0 t.0.1, t.1))
+    else if at_word word.Handling here then (one_at handling_value height_left (drop 1 here)
+    >>= λ c. Some (item.Handling c.0, c.1))
+    else if at_word word.Validity here then (one_at truth_value height_left (drop 1 here)
+    >>= λ c. Some (item.Validity c.0, c.1))
+    else if at_word word.Type here then (type_at height_left (drop 1 here)
+    >>= λ t. Some (item.TypeOf t.0.0 t.0.1, t.1))
     else if at_word word.Number here then command_number_at (drop 1 here)
     else if at_word word.Operation here then command_operation_at (drop 1 here)
-    else if at_word word.Transaction here then transaction_at high (drop 1 here)
+    else if at_word word.Transaction here then transaction_at height_left (drop 1 here)
     else if at_word word.ResponseCodes here
-    then (braced (row_inside response_code_at) (drop 1 here) >>= λ all. Some (item.ResponseCodes all.0, all.1))
-    else if at_word word.Items here then (braced (list_at menu_entry_value high) (drop 1 here) >>= λ all. Some (item.Items all.0, all.1))
-    else if at_word word.Members here then (braced (row_inside member_at) (drop 1 here) >>= λ all. Some (item.Members all.0, all.1))
+    then (braced (row_inside response_code_at) (drop 1 here)
+    >>= λ all. Some (item.ResponseCodes all.0, all.1))
+    else if at_word word.Items here then
+    (braced (list_at menu_entry_value height_left) (drop 1 here)
+    >>= λ all. Some (item.Items all.0, all.1))
+    else if at_word word.Members here then (braced (row_inside member_at) (drop 1 here)
+    >>= λ all. Some (item.Members all.0, all.1))
     else if at_word word.Definition here
-    then (expect sign.OpenBrace (drop 1 here) >>= λ inside. definition_at high inside >>= λ b. Some (item.Definition b.0, b.1))
+    then (expect sign.OpenBrace (drop 1 here) >>= λ inside. definition_at height_left inside
+    >>= λ b. Some (item.Definition b.0, b.1))
     else None
 
 -- an attribute of at most this height
 unfoldable pub attribute_at : ℕ → List Token → Read (Attribute Path)
-attribute_at high here =
-    on_option (text_here here) (other_attribute_at high here) (λ which. one_at text_value high (drop 1 here) >>= λ c. Some (item.OneText which c.0, c.1))
+attribute_at height_left here =
+    on_option (text_here here) (other_attribute_at height_left here)
+    (λ which. one_at text_value height_left (drop 1 here)
+    >>= λ c. Some (item.OneText which c.0, c.1))
 
 -- whether an item of this kind may have the attribute with this word, which isn't one text
 abbrev pub other_word_belongs : Kind → Keyword → Bool
@@ -149,7 +170,8 @@ other_word_belongs k _ = false
 
 -- whether an item of this kind may have the attribute with this word
 abbrev pub word_belongs : Kind → Keyword → Bool
-word_belongs k w = on_option (text_of_word w) (other_word_belongs k w) (λ which. has_attr k (text_attr which))
+word_belongs k w = on_option (text_of_word w) (other_word_belongs k w)
+    (λ which. has_attr k (text_attr which))
 
 -- whether the word of such an attribute is next
 abbrev pub begins_own : Kind → List Token → Bool
@@ -158,4 +180,5 @@ begins_own k _ = false
 
 -- an attribute of at most this height that this kind of item may have
 unfoldable pub own_attribute_at : Kind → ℕ → List Token → Read (Attribute Path)
-own_attribute_at k high here = if begins_own k here then attribute_at high here else None
+own_attribute_at k height_left here = if begins_own k here then attribute_at height_left here else
+    None

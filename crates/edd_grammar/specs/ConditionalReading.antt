@@ -22,20 +22,22 @@ negative_at _ = None
 -- an integer, or its negative
 abbrev pub label_at : List Token → Read ℤ
 label_at (Integer n ∷ rest) = Some (pos n, rest)
-label_at (Sign s ∷ rest) = if same_sign s (sign.Operator operator.Subtract) then negative_at rest else None
+label_at (Sign s ∷ rest) = if same_sign s (sign.Operator operator.Subtract) then negative_at rest
+    else None
 label_at _ = None
 
 -- `( e )`
 unfoldable pub condition_at : Place → ℕ → List Token → Read (Expr Path)
-condition_at p high here = do
+condition_at p height_left here = do
   inside ← expect sign.OpenParenthesis here
-  (e, behind) ← expr_at p high (loosest p) inside
+  (e, behind) ← expr_at p height_left (loosest p) inside
   rest ← expect sign.CloseParenthesis behind
   Some (e, rest)
 
--- A conditional whose conditions have at most this height, whose values `value` reads, whose branches `branch` reads, and
--- the IF behind an ELSE `inner`.
-module _ {V : Type 0} (high : ℕ) (value : List Token → Read V) (branch : List Token → Read (Conds Path V)) (inner : List Token → Read (Cond Path V)) where
+-- A conditional whose conditions have at most this height, whose values `value` reads, whose
+-- branches `branch` reads, and the IF behind an ELSE `inner`.
+module _ {V : Type 0} (height_left : ℕ) (value : List Token → Read V) (branch : List Token
+    → Read (Conds Path V)) (inner : List Token → Read (Cond Path V)) where
   unfoldable pub braces_at : List Token → Read (Conds Path V)
   braces_at here = do
     inside ← expect sign.OpenBrace here
@@ -46,7 +48,8 @@ module _ {V : Type 0} (high : ℕ) (value : List Token → Read V) (branch : Lis
   unfoldable pub else_at : List Token → Read (Conds Path V)
   else_at here =
       if at_word word.Else here
-      then (if at_word word.If (drop 1 here) then (inner (drop 1 here) >>= λ c. Some (cond.Cons c.0 cond.Nil, c.1)) else braces_at (drop 1 here))
+      then (if at_word word.If (drop 1 here) then (inner (drop 1 here)
+      >>= λ c. Some (cond.Cons c.0 cond.Nil, c.1)) else braces_at (drop 1 here))
       else Some (cond.Nil, here)
 
   -- behind CASE
@@ -68,14 +71,16 @@ module _ {V : Type 0} (high : ℕ) (value : List Token → Read V) (branch : Lis
   arms_at zero here = None
   arms_at (suc n) here =
       if at sign.CloseBrace here then Some (NoArms, here)
-      else if at_word word.Case here then (case_at (drop 1 here) >>= λ x. arms_at n x.1 >>= λ arms. Some (ConsArm (Case x.0.0 x.0.1) arms.0, arms.1))
-      else if at_word word.Default here then (default_at (drop 1 here) >>= λ x. arms_at n x.1 >>= λ arms. Some (ConsArm (Default x.0) arms.0, arms.1))
+      else if at_word word.Case here then (case_at (drop 1 here) >>= λ x. arms_at n x.1
+      >>= λ arms. Some (ConsArm (Case x.0.0 x.0.1) arms.0, arms.1))
+      else if at_word word.Default here then (default_at (drop 1 here) >>= λ x. arms_at n x.1
+      >>= λ arms. Some (ConsArm (Default x.0) arms.0, arms.1))
       else None
 
   -- behind IF
   unfoldable pub if_at : List Token → Read (Cond Path V)
   if_at here = do
-    (condition, from) ← condition_at InAttribute high here
+    (condition, from) ← condition_at InAttribute height_left here
     (first, behind) ← braces_at from
     (otherwise, rest) ← else_at behind
     Some (cond.If condition first otherwise, rest)
@@ -83,7 +88,7 @@ module _ {V : Type 0} (high : ℕ) (value : List Token → Read V) (branch : Lis
   -- behind SELECT
   unfoldable pub select_at : List Token → Read (Cond Path V)
   select_at here = do
-    (on, from) ← condition_at InAttribute high here
+    (on, from) ← condition_at InAttribute height_left here
     inside ← expect sign.OpenBrace from
     (arms, behind) ← arms_at (suc (length inside)) inside
     rest ← expect sign.CloseBrace behind
@@ -105,45 +110,57 @@ ended value here = do
   Some (v, rest)
 
 -- exactly one conditional
-unfoldable pub only : {V : Type 0} → (List Token → Read (Cond Path V)) → List Token → Read (Conds Path V)
+unfoldable pub only : {V : Type 0} → (List Token → Read (Cond Path V)) → List Token
+    → Read (Conds Path V)
 only inner here = inner here >>= λ c. Some (cond.Cons c.0 cond.Nil, c.1)
 
 -- A single value of at most this height, each of whose values of at most some height `value` reads.
-unfoldable pub one_at : {V : Type 0} → (ℕ → List Token → Read V) → ℕ → List Token → Read (Cond Path V)
+unfoldable pub one_at : {V : Type 0} → (ℕ → List Token → Read V) → ℕ → List Token
+    → Read (Cond Path V)
 one_at value zero here = None
-one_at value (suc high) here = cond_layer high (ended (value high)) (only (one_at value high)) (one_at value high) here
+one_at value (suc height_left) here = cond_layer height_left (ended (value height_left))
+    (only (one_at value height_left)) (one_at value height_left) here
 
 -- a text as a value of a conditional
 unfoldable pub text_value : ℕ → List Token → Read texts.Text
-text_value high here = if is_text here then text_at here else None
+text_value height_left here = if is_text here then text_at here else None
 
 -- an expression as a value of a conditional
 unfoldable pub expr_value : ℕ → List Token → Read (Expr Path)
-expr_value high here = expr_at InAttribute high (loosest InAttribute) here
+expr_value height_left here = expr_at InAttribute height_left (loosest InAttribute) here
 
 -- ---- lists
 
 -- whether a list ends here: at a closing brace or at the next arm
 abbrev pub list_ends : List Token → Bool
-list_ends here = if at sign.CloseBrace here then true else if at_word word.Case here then true else at_word word.Default here
+list_ends here = if at sign.CloseBrace here then true else if at_word word.Case here then true else
+    at_word word.Default here
 
 abbrev pub skip_comma : List Token → List Token
 skip_comma here = if at sign.Comma here then drop 1 here else here
 
--- Elements up to the end of the list, each with a comma behind it or none. The number bounds how many there are.
-unfoldable pub elements_at : {V : Type 0} → (List Token → Read (Cond Path V)) → ℕ → List Token → Read (Conds Path V)
+-- Elements up to the end of the list, each with a comma behind it or none. The number bounds how
+-- many there are.
+unfoldable pub elements_at : {V : Type 0} → (List Token → Read (Cond Path V)) → ℕ → List Token
+    → Read (Conds Path V)
 elements_at element zero here = None
 elements_at element (suc n) here =
     if list_ends here then Some (cond.Nil, here)
-    else (element here >>= λ c. elements_at element n (skip_comma c.1) >>= λ more. Some (cond.Cons c.0 more.0, more.1))
+    else (element here >>= λ c. elements_at element n (skip_comma c.1)
+    >>= λ more. Some (cond.Cons c.0 more.0, more.1))
 
-unfoldable pub listed : {V : Type 0} → (List Token → Read (Cond Path V)) → List Token → Read (Conds Path V)
+unfoldable pub listed : {V : Type 0} → (List Token → Read (Cond Path V)) → List Token
+    → Read (Conds Path V)
 listed element here = elements_at element (suc (length here)) here
 
--- An element of a list of at most this height, each of whose values of at most some height `value` reads.
-unfoldable pub element_at : {V : Type 0} → (ℕ → List Token → Read V) → ℕ → List Token → Read (Cond Path V)
+-- An element of a list of at most this height, each of whose values of at most some height `value`
+-- reads.
+unfoldable pub element_at : {V : Type 0} → (ℕ → List Token → Read V) → ℕ → List Token
+    → Read (Cond Path V)
 element_at value zero here = None
-element_at value (suc high) here = cond_layer high (value high) (listed (element_at value high)) (element_at value high) here
+element_at value (suc height_left) here = cond_layer height_left (value height_left)
+    (listed (element_at value height_left)) (element_at value height_left) here
 
-unfoldable pub list_at : {V : Type 0} → (ℕ → List Token → Read V) → ℕ → List Token → Read (Conds Path V)
-list_at value high here = listed (element_at value high) here
+unfoldable pub list_at : {V : Type 0} → (ℕ → List Token → Read V) → ℕ → List Token
+    → Read (Conds Path V)
+list_at value height_left here = listed (element_at value height_left) here

@@ -21,7 +21,8 @@ is_method InMethod = true
 
 -- the operator that is next, where it stands in this row or a tighter one
 abbrev pub operator_at : ℕ → List Token → Read Infix
-operator_at row (Sign s ∷ rest) = infix_of s >>= λ op. if nat_le row (infix_row op) then Some (op, rest) else None
+operator_at row (Sign s ∷ rest) = infix_of s >>= λ op. if nat_le row (infix_row op) then Some
+    (op, rest) else None
 operator_at row _ = None
 
 abbrev pub assignment_at : List Token → Read Assignment
@@ -36,7 +37,8 @@ increment_at _ = None
 -- behind a path
 unfoldable pub postfix : Place → Path → List Token → Read (Expr Path)
 postfix p r here =
-    on_option (increment_at here) (Some (tree.Reference r, here)) (λ o. if is_method p then Some (tree.Increment o.0 r, o.1) else None)
+    on_option (increment_at here) (Some (tree.Reference r, here))
+    (λ o. if is_method p then Some (tree.Increment o.0 r, o.1) else None)
 
 -- Reads an expression inside another one, in a place for this row or a tighter one.
 abbrev pub Inner : Type 0
@@ -57,7 +59,8 @@ closing all (Some rest) = Some (all, rest)
 
 -- a path behind `++` or `--`
 unfoldable pub step_before : Place → IncrementOperator → List Token → Read (Expr Path)
-step_before p op here = if is_method p then (path_at here >>= λ r. Some (tree.Increment op r.0, r.1)) else None
+step_before p op here = if is_method p then
+    (path_at here >>= λ r. Some (tree.Increment op r.0, r.1)) else None
 
 module _ (p : Place) (inner : Inner) where
   unfoldable pub argument_at : List Token → Read (Argument Path)
@@ -66,22 +69,27 @@ module _ (p : Place) (inner : Inner) where
       then (text_at here >>= λ w. Some (Text w.0, w.1))
       else (inner (loosest p) here >>= λ e. Some (Value e.0, e.1))
 
-  -- The arguments up to the closing parenthesis, one at least. The number bounds how many there are.
+  -- The arguments up to the closing parenthesis, one at least. The number bounds how many there
+  -- are.
   unfoldable pub some_arguments : ℕ → List Token → Read (Arguments Path)
   some_arguments zero here = None
   some_arguments (suc n) here = do
     (first, behind) ← argument_at here
-    (others, rest) ← if at sign.Comma behind then some_arguments n (drop 1 behind) else closing tree.Nil (expect sign.CloseParenthesis behind)
+    (others, rest) ← if at sign.Comma behind then some_arguments n (drop 1 behind) else closing
+        tree.Nil (expect sign.CloseParenthesis behind)
     Some (tree.Cons first others, rest)
 
   unfoldable pub arguments_at : List Token → Read (Arguments Path)
-  arguments_at here = if at sign.CloseParenthesis here then Some (tree.Nil, drop 1 here) else some_arguments (length here) here
+  arguments_at here = if at sign.CloseParenthesis here then Some (tree.Nil, drop 1 here) else
+      some_arguments (length here) here
 
   -- behind a name
   unfoldable pub named_at : Name → List Token → Read (Expr Path)
   named_at name here =
       if at sign.OpenParenthesis here
-      then (if is_method p then (arguments_at (drop 1 here) >>= λ args. Some (tree.Call (record { base = name; members = [] }) args.0, args.1)) else None)
+      then (if is_method p then (arguments_at (drop 1 here)
+      >>= λ args. Some (tree.Call (record { base = name; members = [] }) args.0, args.1)) else
+      None)
       else postfix p (path_behind name here).0 (path_behind name here).1
 
   unfoldable pub unary_behind : UnaryOperator → List Token → Read (Expr Path)
@@ -97,7 +105,8 @@ module _ (p : Place) (inner : Inner) where
   unfoldable pub signed_at : Symbol → List Token → Read (Expr Path)
   signed_at s here =
       if same_sign s sign.OpenParenthesis then parentheses_behind here
-      else on_option (unary_of s) (before_of s >>= λ op. step_before p op here) (λ op. unary_behind op here)
+      else on_option (unary_of s) (before_of s >>= λ op. step_before p op here)
+      (λ op. unary_behind op here)
 
   -- rows 13 to 15
   unfoldable pub operand_at : List Token → Read (Expr Path)
@@ -111,22 +120,24 @@ module _ (p : Place) (inner : Inner) where
 
   -- The right side of an operator, joined with its left side.
   unfoldable pub joined_at : ℕ → Infix → Expr Path → List Token → Read (Expr Path)
-  joined_at high op left here =
-      if nat_le (height left) high then (inner (suc (infix_row op)) here >>= λ right. Some (infix_tree op left right.0, right.1)) else None
+  joined_at height_left op left here =
+      if nat_le (height left) height_left then (inner (suc (infix_row op)) here
+      >>= λ right. Some (infix_tree op left right.0, right.1)) else None
 
-  -- The operators of this row and of tighter ones that follow a left side, where operands have at most this height.
-  -- The number bounds how many there are.
+  -- The operators of this row and of tighter ones that follow a left side, where operands have at
+  -- most this height. The number bounds how many there are.
   unfoldable pub chain : ℕ → ℕ → ℕ → Expr Path → List Token → Read (Expr Path)
-  chain high row zero left here = on_option (operator_at row here) (Some (left, here)) (λ o. None)
-  chain high row (suc n) left here =
+  chain height_left row zero left here = on_option (operator_at row here) (Some (left, here))
+      (λ o. None)
+  chain height_left row (suc n) left here =
       on_option (operator_at row here) (Some (left, here))
-      (λ o. joined_at high o.0 left o.1 >>= λ whole. chain high row n whole.0 whole.1)
+      (λ o. joined_at height_left o.0 left o.1 >>= λ whole. chain height_left row n whole.0 whole.1)
 
   -- row 2, behind its condition
   unfoldable pub choice_at : ℕ → ℕ → Expr Path → List Token → Read (Expr Path)
-  choice_at high row c here =
+  choice_at height_left row c here =
       if nat_le row 2 && at sign.Question here
-      then (if nat_le (height c) high then (do
+      then (if nat_le (height c) height_left then (do
         (first, behind) ← inner (loosest p) (drop 1 here)
         from ← expect sign.Colon behind
         (second, rest) ← inner 2 from
@@ -136,16 +147,17 @@ module _ (p : Place) (inner : Inner) where
   unfoldable pub assign_at : ℕ → Expr Path → List Token → Read (Expr Path)
   assign_at row e here =
       on_option (assigned p row e) (Some (e, here))
-      (λ r. on_option (assignment_at here) (Some (e, here)) (λ o. inner 1 o.1 >>= λ v. Some (assignment_tree o.0 r v.0, v.1)))
+      (λ r. on_option (assignment_at here) (Some (e, here))
+      (λ o. inner 1 o.1 >>= λ v. Some (assignment_tree o.0 r v.0, v.1)))
 
   unfoldable pub layer : ℕ → Inner
-  layer high row here = do
+  layer height_left row here = do
     (first, behind) ← operand_at here
-    (left, from) ← chain high row (suc high) first behind
-    (whole, to) ← choice_at high row left from
+    (left, from) ← chain height_left row (suc height_left) first behind
+    (whole, to) ← choice_at height_left row left from
     assign_at row whole to
 
 -- An expression of at most this height.
 unfoldable pub expr_at : Place → ℕ → Inner
 expr_at p zero row here = None
-expr_at p (suc high) row here = layer p (expr_at p high) high row here
+expr_at p (suc height_left) row here = layer p (expr_at p height_left) height_left row here

@@ -28,23 +28,31 @@ abbrev pub Stops : ℕ → List Token → Type 0
 Stops row (Sign s ∷ rest) = SignStops row s
 Stops row _ = Unit {0}
 
--- What is asked of the values of conditionals, which have the height that `of` says: a value is read where a semicolon
--- follows, begins with neither IF nor SELECT, and takes a token at least.
-pub record SingleValue {V : Type 0} (of : V → ℕ) (Here : V → List Token → List Token → Type 0) (value : ℕ → List Token → Read V) : Type 0 where
-  pub again : (high : ℕ) (v : V) (here rest : List Token) → Here v here (Sign sign.Semicolon ∷ rest) → of v ≤ high
-      → value high here ≡ Some (v, Sign sign.Semicolon ∷ rest)
-  pub starts : (v : V) (here rest : List Token) → Here v here rest → (at_word word.If here ≡ false) × (at_word word.Select here ≡ false)
+-- What is asked of the values of conditionals, which have the height that `of` says: a value is
+-- read where a semicolon follows, begins with neither IF nor SELECT, and takes a token at least.
+pub record SingleValue {V : Type 0} (of : V → ℕ) (Here : V → List Token → List Token → Type 0)
+    (value : ℕ → List Token → Read V) : Type 0 where
+  pub again : (height_left : ℕ) (v : V) (here rest : List Token)
+      → Here v here (Sign sign.Semicolon ∷ rest) → of v ≤ height_left
+      → value height_left here ≡ Some (v, Sign sign.Semicolon ∷ rest)
+  pub starts : (v : V) (here rest : List Token) → Here v here rest → (at_word word.If here ≡ false)
+      × (at_word word.Select here ≡ false)
   pub shorter : (v : V) (here rest : List Token) → Here v here rest → length rest < length here
 
 -- what stands behind a branch or a list: its closing brace, or the next arm
 abbrev pub EndsBranch : List Token → Type 0
-EndsBranch rest = (at sign.CloseBrace rest ≡ true) ⊎ ((at_word word.Case rest ≡ true) ⊎ (at_word word.Default rest ≡ true))
+EndsBranch rest = (at sign.CloseBrace rest ≡ true)
+    ⊎ ((at_word word.Case rest ≡ true) ⊎ (at_word word.Default rest ≡ true))
 
--- What is asked of the values in lists: a value is read where `Follows` holds of what follows, as it does at a comma, at the
--- end of a list, and where an element begins. Its first token is none of those that stand there otherwise.
-pub record ListedValue {V : Type 0} (of : V → ℕ) (Here : V → List Token → List Token → Type 0) (Follows : List Token → Type 0) (value : ℕ → List Token → Read V) : Type 0 where
-  pub again : (high : ℕ) (v : V) (here rest : List Token) → Here v here rest → of v ≤ high → Follows rest → value high here ≡ Some (v, rest)
-  pub starts : (v : V) (here rest : List Token) → Here v here rest → (at_word word.If here ≡ false) × (at_word word.Select here ≡ false)
+-- What is asked of the values in lists: a value is read where `Follows` holds of what follows, as
+-- it does at a comma, at the end of a list, and where an element begins. Its first token is none of
+-- those that stand there otherwise.
+pub record ListedValue {V : Type 0} (of : V → ℕ) (Here : V → List Token → List Token → Type 0)
+    (Follows : List Token → Type 0) (value : ℕ → List Token → Read V) : Type 0 where
+  pub again : (height_left : ℕ) (v : V) (here rest : List Token) → Here v here rest
+      → of v ≤ height_left → Follows rest → value height_left here ≡ Some (v, rest)
+  pub starts : (v : V) (here rest : List Token) → Here v here rest → (at_word word.If here ≡ false)
+      × (at_word word.Select here ≡ false)
   pub no_end : (v : V) (here rest : List Token) → Here v here rest → list_ends here ≡ false
   pub no_comma : (v : V) (here rest : List Token) → Here v here rest → at sign.Comma here ≡ false
   pub shorter : (v : V) (here rest : List Token) → Here v here rest → length rest < length here

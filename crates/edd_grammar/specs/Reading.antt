@@ -1,4 +1,5 @@
--- Reading names, paths and texts from left to right: what was read and the tokens behind it, or nothing.
+-- Reading names, paths and texts from left to right: what was read and the tokens behind it, or
+-- nothing.
 use Rattle.std.specs.Prelude.{ℕ, Bool, true, false, List, [], ◌∷◌, ◌++◌, drop, Option, Some, None, if◌then◌else◌}
 use Rattle.edd_syntax.specs.declared.symbols.Keyword.{Keyword}
 use Rattle.edd_syntax.specs.declared.symbols.Symbol.{Symbol}
@@ -89,4 +90,5 @@ is_text here = if is_string here then true else at sign.OpenBracket here
 
 -- a text, where `is_text` holds
 unfoldable pub text_at : List Token → Read texts.Text
-text_at here = if is_string here then Some (Quoted (strings_at here).0, (strings_at here).1) else key_at (drop 1 here)
+text_at here = if is_string here then Some (Quoted (strings_at here).0, (strings_at here).1) else
+    key_at (drop 1 here)

@@ -29,26 +29,34 @@ type_of name =
 unfoldable pub size_at : List Token → Read (Option ℕ)
 size_at here =
     if at sign.OpenParenthesis here
-    then (integer_at (drop 1 here) >>= λ n. expect sign.CloseParenthesis n.1 >>= λ rest. Some (Some n.0, rest))
+    then (integer_at (drop 1 here) >>= λ n. expect sign.CloseParenthesis n.1
+    >>= λ rest. Some (Some n.0, rest))
     else Some (None, here)
 
 -- a part of at most this height of what stands in the braces of a type
 unfoldable pub type_part_at : ℕ → List Token → Read (TypePart Path)
-type_part_at high here =
-    if at_word word.DefaultValue here then (one_at expr_value high (drop 1 here) >>= λ c. Some (item.DefaultValue c.0, c.1))
-    else if at_word word.MinValue here then (one_at expr_value high (drop 1 here) >>= λ c. Some (item.MinValue c.0, c.1))
-    else if at_word word.MaxValue here then (one_at expr_value high (drop 1 here) >>= λ c. Some (item.MaxValue c.0, c.1))
-    else if at_word word.DisplayFormat here then (one_at text_value high (drop 1 here) >>= λ c. Some (item.DisplayFormat c.0, c.1))
-    else if at_word word.EditFormat here then (one_at text_value high (drop 1 here) >>= λ c. Some (item.EditFormat c.0, c.1))
-    else (element_at enumerator_value high here >>= λ c. Some (item.Element c.0, skip_comma c.1))
+type_part_at height_left here =
+    if at_word word.DefaultValue here then (one_at expr_value height_left (drop 1 here)
+    >>= λ c. Some (item.DefaultValue c.0, c.1))
+    else if at_word word.MinValue here then (one_at expr_value height_left (drop 1 here)
+    >>= λ c. Some (item.MinValue c.0, c.1))
+    else if at_word word.MaxValue here then (one_at expr_value height_left (drop 1 here)
+    >>= λ c. Some (item.MaxValue c.0, c.1))
+    else if at_word word.DisplayFormat here then (one_at text_value height_left (drop 1 here)
+    >>= λ c. Some (item.DisplayFormat c.0, c.1))
+    else if at_word word.EditFormat here then (one_at text_value height_left (drop 1 here)
+    >>= λ c. Some (item.EditFormat c.0, c.1))
+    else (element_at enumerator_value height_left here
+    >>= λ c. Some (item.Element c.0, skip_comma c.1))
 
 -- a semicolon, or braces
 unfoldable pub type_parts_at : ℕ → List Token → Read (List (TypePart Path))
-type_parts_at high here =
-    if at sign.Semicolon here then Some ([], drop 1 here) else braced (row_inside (type_part_at high)) here
+type_parts_at height_left here =
+    if at sign.Semicolon here then Some ([], drop 1 here) else braced
+    (row_inside (type_part_at height_left)) here
 
--- What stands behind a type whose word is another one: it ends at its first semicolon or, where a brace stands before one, at
--- the brace that closes that.
+-- What stands behind a type whose word is another one: it ends at its first semicolon or, where a
+-- brace stands before one, at the brace that closes that.
 unfoldable pub behind_other : List Token → Option (List Token)
 behind_other [] = None
 behind_other (Sign sign.Semicolon ∷ rest) = Some rest
@@ -62,9 +70,9 @@ WrittenType = TypeWord × List (TypePart Path)
 
 -- behind the name of a type
 unfoldable pub known_type_at : ℕ → VarType → List Token → Read WrittenType
-known_type_at high type here = do
+known_type_at height_left type here = do
   (size, from) ← size_at here
-  (parts, rest) ← type_parts_at high from
+  (parts, rest) ← type_parts_at height_left from
   Some ((item.Known type size, parts), rest)
 
 -- behind another word
@@ -73,4 +81,5 @@ other_type_at name here = behind_other here >>= λ rest. Some ((item.Other name,
 
 -- behind TYPE
 unfoldable pub type_at : ℕ → List Token → Read WrittenType
-type_at high here = name_at here >>= λ n. on_option (type_of n.0) (other_type_at n.0 n.1) (λ type. known_type_at high type n.1)
+type_at height_left here = name_at here >>= λ n. on_option (type_of n.0) (other_type_at n.0 n.1)
+    (λ type. known_type_at height_left type n.1)

@@ -38,15 +38,16 @@ sort_behind kind.Method here = Some (MethodItem, here)
 
 -- the attributes of at most this height of a kind of item, in braces
 unfoldable pub attributes_at : Kind → ℕ → List Token → Read (List (Attribute Path))
-attributes_at k high here = braced (row_inside (closed (own_attribute_at k high))) here
+attributes_at k height_left here = braced (row_inside (closed (own_attribute_at k height_left)))
+    here
 
 -- an item whose attributes have at most this height
 unfoldable pub item_at : ℕ → List Token → Read (Item Path)
-item_at high here = do
+item_at height_left here = do
   (k, behind) ← kind_at here
   (sort, from) ← sort_behind k behind
   (name, brace) ← name_at from
-  (attributes, rest) ← attributes_at (kind_of_item sort) high brace
+  (attributes, rest) ← attributes_at (kind_of_item sort) height_left brace
   Some (record { sort = sort; name = name; attributes = attributes }, rest)
 
 -- ---- the unit
@@ -64,7 +65,15 @@ identification_at here = do
   (device_type, b) ← numbered_at word.DeviceType (skip_comma a)
   (device_revision, c) ← numbered_at word.DeviceRevision (skip_comma b)
   (dd_revision, d) ← numbered_at word.DdRevision (skip_comma c)
-  Some (record { manufacturer = manufacturer; device_type = device_type; device_revision = device_revision; dd_revision = dd_revision }, skip_comma d)
+  Some (
+    record {
+      manufacturer = manufacturer;
+      device_type = device_type;
+      device_revision = device_revision;
+      dd_revision = dd_revision;
+    },
+    skip_comma d,
+  )
 
 -- items up to the end of the text, each with any number of semicolons behind it
 unfoldable pub items_at : List Token → Read (List (Item Path))

@@ -24,14 +24,16 @@ use Rattle.edd_grammar.specs.WordReading.{integer_at, at_name, expect_name}
 -- behind one of READ and WRITE, where the other one may follow `&`
 unfoldable pub handling_behind : Handling → Name → List Token → Read Handling
 handling_behind one other here =
-    if at (sign.Operator operator.And) here then (expect_name other (drop 1 here) >>= λ rest. Some (handling.ReadWrite, rest))
+    if at (sign.Operator operator.And) here then (expect_name other (drop 1 here)
+    >>= λ rest. Some (handling.ReadWrite, rest))
     else Some (one, here)
 
 -- READ, WRITE, or both in either order
 unfoldable pub handling_at : List Token → Read Handling
 handling_at here =
     if at_name (codes "READ") here then handling_behind handling.Read (codes "WRITE") (drop 1 here)
-    else if at_name (codes "WRITE") here then handling_behind handling.Write (codes "READ") (drop 1 here)
+    else if at_name (codes "WRITE") here then handling_behind handling.Write (codes "READ")
+    (drop 1 here)
     else None
 
 unfoldable pub truth_at : List Token → Read Bool
@@ -56,7 +58,8 @@ some_text_at here = if is_text here then text_at here else None
 -- a text behind a comma, or none
 unfoldable pub optional_text_at : List Token → Read (Option texts.Text)
 optional_text_at here =
-    if at sign.Comma here then (some_text_at (drop 1 here) >>= λ t. Some (Some t.0, t.1)) else Some (None, here)
+    if at sign.Comma here then (some_text_at (drop 1 here) >>= λ t. Some (Some t.0, t.1)) else Some
+    (None, here)
 
 -- `{ value, text, help }`
 unfoldable pub enumerator_at : List Token → Read item.Enumerator
@@ -75,19 +78,21 @@ enumerator_at here = do
 unfoldable pub allowed_at : (allowed : List Name) → List Token → Read Name
 allowed_at allowed here = name_at here >>= λ n. if is_name_in allowed n.0 then Some n else None
 
--- One or more names that are allowed, with a comma between two of them or none, and the closing parenthesis behind them. The
--- number bounds how many there are.
+-- One or more names that are allowed, with a comma between two of them or none, and the closing
+-- parenthesis behind them. The number bounds how many there are.
 unfoldable pub some_qualifiers : (allowed : List Name) → ℕ → List Token → Read (List Name)
 some_qualifiers allowed zero here = None
 some_qualifiers allowed (suc n) here = do
   (first, behind) ← allowed_at allowed here
-  (others, rest) ← if at sign.CloseParenthesis behind then Some ([], drop 1 behind) else some_qualifiers allowed n (skip_comma behind)
+  (others, rest) ← if at sign.CloseParenthesis behind then Some ([], drop 1 behind) else
+      some_qualifiers allowed n (skip_comma behind)
   Some (first ∷ others, rest)
 
 -- names in parentheses, or none
 unfoldable pub qualifiers_at : (allowed : List Name) → List Token → Read (List Name)
 qualifiers_at allowed here =
-    if at sign.OpenParenthesis here then some_qualifiers allowed (length here) (drop 1 here) else Some ([], here)
+    if at sign.OpenParenthesis here then some_qualifiers allowed (length here) (drop 1 here) else
+    Some ([], here)
 
 -- ---- data items and entries of menus
 
@@ -95,7 +100,8 @@ qualifiers_at allowed here =
 unfoldable pub mask_at : List Token → Read (Option ℕ)
 mask_at here =
     if at (sign.Comparison comparison.Less) here
-    then (integer_at (drop 1 here) >>= λ m. expect (sign.Comparison comparison.Greater) m.1 >>= λ rest. Some (Some m.0, rest))
+    then (integer_at (drop 1 here) >>= λ m. expect (sign.Comparison comparison.Greater) m.1
+    >>= λ rest. Some (Some m.0, rest))
     else Some (None, here)
 
 unfoldable pub data_variable_at : List Token → Read (item.DataItem Path)
@@ -106,7 +112,8 @@ data_variable_at here = do
   Some (item.Variable variable mask (data_qualifiers names), rest)
 
 unfoldable pub data_item_at : List Token → Read (item.DataItem Path)
-data_item_at here = on_option (integer_at here) (data_variable_at here) (λ n. Some (item.Constant n.0, n.1))
+data_item_at here = on_option (integer_at here) (data_variable_at here)
+    (λ n. Some (item.Constant n.0, n.1))
 
 unfoldable pub menu_reference_at : List Token → Read (item.MenuEntry Path)
 menu_reference_at here = do
@@ -116,21 +123,22 @@ menu_reference_at here = do
 
 unfoldable pub menu_entry_at : List Token → Read (item.MenuEntry Path)
 menu_entry_at here =
-    if is_text here then (text_at here >>= λ t. Some (item.Text t.0, t.1)) else menu_reference_at here
+    if is_text here then (text_at here >>= λ t. Some (item.Text t.0, t.1)) else menu_reference_at
+    here
 
 -- ---- as values of conditionals, where they have no height of their own
 
 unfoldable pub handling_value : ℕ → List Token → Read Handling
-handling_value high here = handling_at here
+handling_value height_left here = handling_at here
 
 unfoldable pub truth_value : ℕ → List Token → Read Bool
-truth_value high here = truth_at here
+truth_value height_left here = truth_at here
 
 unfoldable pub enumerator_value : ℕ → List Token → Read item.Enumerator
-enumerator_value high here = enumerator_at here
+enumerator_value height_left here = enumerator_at here
 
 unfoldable pub data_item_value : ℕ → List Token → Read (item.DataItem Path)
-data_item_value high here = data_item_at here
+data_item_value height_left here = data_item_at here
 
 unfoldable pub menu_entry_value : ℕ → List Token → Read (item.MenuEntry Path)
-menu_entry_value high here = menu_entry_at here
+menu_entry_value height_left here = menu_entry_at here

@@ -1,4 +1,5 @@
--- Reading numbers and names that mean something in their places, and repetitions, from left to right.
+-- Reading numbers and names that mean something in their places, and repetitions, from left to
+-- right.
 use Rattle.std.specs.Prelude.{ℕ, zero, suc, Bool, true, false, List, [], ◌∷◌, drop, length, Option, Some, None, if◌then◌else◌}
 use Rattle.std.specs.Str.{bytes_eq}
 use Rattle.edd_syntax.specs.declared.operators.Operator.TheVariants as operator
@@ -30,7 +31,8 @@ number_at here = on_option (integer_at here) (Some (None, here)) (λ n. Some (So
 
 -- the further names
 abbrev pub more_names_at : List Token → List Name × List Token
-more_names_at (Sign (sign.Operator operator.And) ∷ Identifier n ∷ rest) = (n ∷ (more_names_at rest).0, (more_names_at rest).1)
+more_names_at (Sign (sign.Operator operator.And) ∷ Identifier n ∷ rest) =
+    (n ∷ (more_names_at rest).0, (more_names_at rest).1)
 more_names_at here = ([], here)
 
 unfoldable pub names_at : List Token → Read (List Name)
@@ -48,10 +50,12 @@ at_end [] = true
 at_end (t ∷ rest) = false
 
 -- Things up to where they end, with nothing between them. The number bounds how many there are.
-unfoldable pub row_at : {A : Type 0} → (ends : List Token → Bool) → (List Token → Read A) → ℕ → List Token → Read (List A)
+unfoldable pub row_at : {A : Type 0} → (ends : List Token → Bool) → (List Token → Read A) → ℕ
+    → List Token → Read (List A)
 row_at ends thing zero here = None
 row_at ends thing (suc n) here =
-    if ends here then Some ([], here) else (thing here >>= λ x. row_at ends thing n x.1 >>= λ more. Some (x.0 ∷ more.0, more.1))
+    if ends here then Some ([], here) else (thing here >>= λ x. row_at ends thing n x.1
+    >>= λ more. Some (x.0 ∷ more.0, more.1))
 
 -- behind the semicolons that are next
 abbrev pub skip_semicolons : List Token → List Token

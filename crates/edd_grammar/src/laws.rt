@@ -50,17 +50,18 @@ pub fn spelled_texts_are_read()
 /// An expression that is read in a place for a row is spelled there by the tokens that were
 /// taken, and is no higher than the limit it was read with.
 pub fn read_expressions_are_spelled()
-    ensures { (p : Place) (high row : ℕ) (here : List Token) (e : Expr Path) (rest : List Token)
-        → row ≤ 13 → expr_at p high row here ≡ Some (e, rest)
-        → ExprHere p row e here rest × (height e ≤ high) }
+    ensures { (p : Place) (height_left row : ℕ) (here : List Token) (e : Expr Path)
+        (rest : List Token)
+        → row ≤ 13 → expr_at p height_left row here ≡ Some (e, rest)
+        → ExprHere p row e here rest × (height e ≤ height_left) }
 {}
 
 /// An expression that is spelled in a place for a row, no higher than the limit, is read, where
 /// what follows can't go on with it.
 pub fn spelled_expressions_are_read()
-    ensures { (p : Place) (high row : ℕ) (e : Expr Path) (here rest : List Token)
-        → row ≤ 13 → ExprHere p row e here rest → height e ≤ high → Stops row rest
-        → expr_at p high row here ≡ Some (e, rest) }
+    ensures { (p : Place) (height_left row : ℕ) (e : Expr Path) (here rest : List Token)
+        → row ≤ 13 → ExprHere p row e here rest → height e ≤ height_left → Stops row rest
+        → expr_at p height_left row here ≡ Some (e, rest) }
 {}
 
 /// From one place on, tokens spell one expression at most, and it ends in one place, where what
@@ -74,16 +75,16 @@ pub fn one_expression()
 /// A single conditional text that is read is spelled by the tokens that were taken, and is no
 /// higher than the limit it was read with.
 pub fn read_conditional_texts_are_spelled()
-    ensures { (high : ℕ) (here : List Token) (x : Cond Path Text) (rest : List Token)
-        → one_at text_value high here ≡ Some (x, rest)
-        → OneHere TextHere x here rest × (cond_height leaf x ≤ high) }
+    ensures { (height_left : ℕ) (here : List Token) (x : Cond Path Text) (rest : List Token)
+        → one_at text_value height_left here ≡ Some (x, rest)
+        → OneHere TextHere x here rest × (cond_height leaf x ≤ height_left) }
 {}
 
 /// A single conditional text that is spelled, no higher than the limit, is read.
 pub fn spelled_conditional_texts_are_read()
-    ensures { (high : ℕ) (x : Cond Path Text) (here rest : List Token)
-        → OneHere TextHere x here rest → cond_height leaf x ≤ high
-        → one_at text_value high here ≡ Some (x, rest) }
+    ensures { (height_left : ℕ) (x : Cond Path Text) (here rest : List Token)
+        → OneHere TextHere x here rest → cond_height leaf x ≤ height_left
+        → one_at text_value height_left here ≡ Some (x, rest) }
 {}
 
 /// From one place on, tokens spell one conditional text at most, and it ends in one place.
@@ -95,38 +96,39 @@ pub fn one_conditional_of_texts()
 /// A single conditional expression that is read is spelled by the tokens that were taken, and is no
 /// higher than the limit it was read with.
 pub fn read_conditional_values_are_spelled()
-    ensures { (high : ℕ) (here : List Token) (x : Cond Path (Expr Path)) (rest : List Token)
-        → one_at expr_value high here ≡ Some (x, rest)
-        → OneHere (ExprHere InAttribute 2) x here rest × (cond_height height x ≤ high) }
+    ensures { (height_left : ℕ) (here : List Token) (x : Cond Path (Expr Path)) (rest : List Token)
+        → one_at expr_value height_left here ≡ Some (x, rest)
+        → OneHere (ExprHere InAttribute 2) x here rest × (cond_height height x ≤ height_left) }
 {}
 
 /// A single conditional expression that is spelled, no higher than the limit, is read.
 pub fn spelled_conditional_values_are_read()
-    ensures { (high : ℕ) (x : Cond Path (Expr Path)) (here rest : List Token)
-        → OneHere (ExprHere InAttribute 2) x here rest → cond_height height x ≤ high
-        → one_at expr_value high here ≡ Some (x, rest) }
+    ensures { (height_left : ℕ) (x : Cond Path (Expr Path)) (here rest : List Token)
+        → OneHere (ExprHere InAttribute 2) x here rest → cond_height height x ≤ height_left
+        → one_at expr_value height_left here ≡ Some (x, rest) }
 {}
 
 /// From one place on, tokens spell one conditional expression at most, and it ends in one place.
 pub fn one_conditional_of_values()
-    ensures { (x y : Cond Path (Expr Path)) (here rest behind : List Token) → OneHere (ExprHere InAttribute 2) x here rest
+    ensures { (x y : Cond Path (Expr Path)) (here rest behind : List Token)
+        → OneHere (ExprHere InAttribute 2) x here rest
         → OneHere (ExprHere InAttribute 2) y here behind → (x ≡ y) × (rest ≡ behind) }
 {}
 
 /// A list of conditional texts that is read is spelled by the tokens that were taken, and is no
 /// higher than the limit it was read with.
 pub fn read_lists_are_spelled()
-    ensures { (high : ℕ) (here : List Token) (all : Conds Path Text) (rest : List Token)
-        → list_at text_value high here ≡ Some (all, rest)
-        → ListHere TextHere all here rest × (conds_height leaf all ≤ high) }
+    ensures { (height_left : ℕ) (here : List Token) (all : Conds Path Text) (rest : List Token)
+        → list_at text_value height_left here ≡ Some (all, rest)
+        → ListHere TextHere all here rest × (conds_height leaf all ≤ height_left) }
 {}
 
 /// A list of conditional texts that is spelled, no higher than the limit, is read, where a closing
 /// brace or the next arm follows.
 pub fn spelled_lists_are_read()
-    ensures { (high : ℕ) (all : Conds Path Text) (here rest : List Token)
-        → ListHere TextHere all here rest → conds_height leaf all ≤ high → EndsBranch rest
-        → list_at text_value high here ≡ Some (all, rest) }
+    ensures { (height_left : ℕ) (all : Conds Path Text) (here rest : List Token)
+        → ListHere TextHere all here rest → conds_height leaf all ≤ height_left → EndsBranch rest
+        → list_at text_value height_left here ≡ Some (all, rest) }
 {}
 
 /// From one place on, tokens spell one list of conditional texts at most, where a closing brace or
@@ -140,32 +142,34 @@ pub fn one_list()
 /// Declarators that are read are spelled by the tokens that were taken, and their values are no
 /// higher than the limit they were read with.
 pub fn read_declarators_are_spelled()
-    ensures { (high : ℕ) (here : List Token) (ds : List (Declarator Path)) (rest : List Token)
-        → declarators_at high here ≡ Some (ds, rest)
-        → DeclaratorsHere ds here rest × (declarator_height ds ≤ suc high) }
+    ensures { (height_left : ℕ) (here : List Token) (ds : List (Declarator Path))
+        (rest : List Token)
+        → declarators_at height_left here ≡ Some (ds, rest)
+        → DeclaratorsHere ds here rest × (declarator_height ds ≤ suc height_left) }
 {}
 
 /// Declarators that are spelled, whose values are no higher than the limit, are read, where a
 /// semicolon follows.
 pub fn spelled_declarators_are_read()
-    ensures { (high : ℕ) (ds : List (Declarator Path)) (here rest : List Token)
-        → DeclaratorsHere ds here (Sign sign.Semicolon ∷ rest) → declarator_height ds ≤ suc high
-        → declarators_at high here ≡ Some (ds, Sign sign.Semicolon ∷ rest) }
+    ensures { (height_left : ℕ) (ds : List (Declarator Path)) (here rest : List Token)
+        → DeclaratorsHere ds here (Sign sign.Semicolon ∷ rest)
+        → declarator_height ds ≤ suc height_left
+        → declarators_at height_left here ≡ Some (ds, Sign sign.Semicolon ∷ rest) }
 {}
 
 /// A statement that is read is spelled by the tokens that were taken, and is no higher than the
 /// limit it was read with.
 pub fn read_statements_are_spelled()
-    ensures { (high : ℕ) (here : List Token) (s : Stmt Path) (rest : List Token)
-        → statement_at high here ≡ Some (s, rest)
-        → StmtHere s here rest × (statement_height s ≤ high) }
+    ensures { (height_left : ℕ) (here : List Token) (s : Stmt Path) (rest : List Token)
+        → statement_at height_left here ≡ Some (s, rest)
+        → StmtHere s here rest × (statement_height s ≤ height_left) }
 {}
 
 /// A statement that is spelled, no higher than the limit, is read, whatever follows.
 pub fn spelled_statements_are_read()
-    ensures { (high : ℕ) (s : Stmt Path) (here rest : List Token)
-        → StmtHere s here rest → statement_height s ≤ high
-        → statement_at high here ≡ Some (s, rest) }
+    ensures { (height_left : ℕ) (s : Stmt Path) (here rest : List Token)
+        → StmtHere s here rest → statement_height s ≤ height_left
+        → statement_at height_left here ≡ Some (s, rest) }
 {}
 
 /// From one place on, tokens spell one statement at most, and it ends in one place.
@@ -177,16 +181,17 @@ pub fn one_statement()
 /// A body that is read is spelled by the tokens up to its closing brace, and is no higher than the
 /// limit it was read with.
 pub fn read_bodies_are_spelled()
-    ensures { (high : ℕ) (here : List Token) (body : Body Path) (rest : List Token)
-        → definition_at high here ≡ Some (body, rest)
-        → BodyHere false body here (Sign sign.CloseBrace ∷ rest) × (body_height body ≤ high) }
+    ensures { (height_left : ℕ) (here : List Token) (body : Body Path) (rest : List Token)
+        → definition_at height_left here ≡ Some (body, rest)
+        → BodyHere false body here (Sign sign.CloseBrace ∷ rest)
+        × (body_height body ≤ height_left) }
 {}
 
 /// A body that is spelled up to a closing brace, no higher than the limit, is read.
 pub fn spelled_bodies_are_read()
-    ensures { (high : ℕ) (body : Body Path) (here rest : List Token)
-        → BodyHere false body here (Sign sign.CloseBrace ∷ rest) → body_height body ≤ high
-        → definition_at high here ≡ Some (body, rest) }
+    ensures { (height_left : ℕ) (body : Body Path) (here rest : List Token)
+        → BodyHere false body here (Sign sign.CloseBrace ∷ rest) → body_height body ≤ height_left
+        → definition_at height_left here ≡ Some (body, rest) }
 {}
 
 /// From one place on, tokens spell one body up to its closing brace at most.

@@ -24,11 +24,13 @@ use Rattle.edd_parser.specs.Units.{unit_view, Answers}
 use Rattle.edd_token_reader.specs.Views.{Says}
 
 -- the items of a unit that is read from kept tokens are items
-pub read_is_kept : (tokens : List Token) (unit : Description Path) → unit_at tokens ≡ Some unit → Kept tokens → IsTrue (are_items unit.items)
+pub read_is_kept : (tokens : List Token) (unit : Description Path) → unit_at tokens ≡ Some unit
+    → Kept tokens → IsTrue (are_items unit.items)
 read_is_kept tokens unit e k = unit_kept tokens unit (unit_sound tokens unit e) k
 
 -- the identification and the items are the unit
-pub parts_read : (tokens from rest : List Token) (i : Identification) (items : List (Item Path)) → identification_at tokens ≡ Some (i, from) → items_at from ≡ Some (items, rest)
+pub parts_read : (tokens from rest : List Token) (i : Identification) (items : List (Item Path))
+    → identification_at tokens ≡ Some (i, from) → items_at from ≡ Some (items, rest)
     → unit_at tokens ≡ Some (record { identification = i; items = items })
 unfolding unit_at
 parts_read tokens from rest i items e f = rw e (rw f refl)
@@ -41,23 +43,27 @@ same_some : {A : Type 0} (o : Option A) (x y : A) → o ≡ Some x → o ≡ Som
 same_some o x y e f = let g : Some x ≡ Some y = sym e ∙ f in cc
 
 module _ (tokens : List Token) where
-  pub answered_unit : (r : Result code_unit.Unit ParseFault) → Answers r (unit_at tokens) → IfOk r (λ u. Spells tokens (unit_view u))
+  pub answered_unit : (r : Result code_unit.Unit ParseFault) → Answers r (unit_at tokens)
+      → IfOk r (λ u. Spells tokens (unit_view u))
   answered_unit (Ok u) a = unit_sound tokens (unit_view u) a
   answered_unit (Err e) a = tt
 
   none_spelled : unit_at tokens ≡ None → (unit : Description Path) → ¬ (Spells tokens unit)
   none_spelled e unit s = some_is_none (unit_at tokens) unit (unit_again tokens unit s) e
 
-  pub answered_none : (r : Result code_unit.Unit ParseFault) → Answers r (unit_at tokens) → IfErr r (λ e. Says e ((unit : Description Path) → ¬ (Spells tokens unit)))
+  pub answered_none : (r : Result code_unit.Unit ParseFault) → Answers r (unit_at tokens)
+      → IfErr r (λ e. Says e ((unit : Description Path) → ¬ (Spells tokens unit)))
   answered_none (Ok u) a = tt
   answered_none (Err (fault.Syntax line)) a = none_spelled a
   answered_none (Err (fault.TooDeep line)) a = none_spelled a
   answered_none (Err (fault.Unsupported word)) a = none_spelled a
   answered_none (Err fault.Memory) a = tt
 
-  pub answered_only : (r : Result code_unit.Unit ParseFault) → Answers r (unit_at tokens) → (unit : Description Path) → Spells tokens unit
+  pub answered_only : (r : Result code_unit.Unit ParseFault) → Answers r (unit_at tokens)
+      → (unit : Description Path) → Spells tokens unit
       → MatchResult r (λ u. unit_view u ≡ unit) (λ e. e ≡ fault.Memory)
-  answered_only (Ok u) a unit s = same_some (unit_at tokens) (unit_view u) unit a (unit_again tokens unit s)
+  answered_only (Ok u) a unit s = same_some (unit_at tokens) (unit_view u) unit a
+      (unit_again tokens unit s)
   answered_only (Err (fault.Syntax line)) a unit s = absurd (none_spelled a unit s)
   answered_only (Err (fault.TooDeep line)) a unit s = absurd (none_spelled a unit s)
   answered_only (Err (fault.Unsupported word)) a unit s = absurd (none_spelled a unit s)
@@ -73,12 +79,16 @@ token_kept Decimal size h = refl
 token_kept (String raw) size h = h.0
 token_kept (Sign s) size h = refl
 
-all_kept : (text : List ℕ) (tokens : List code_token.Token) → All (IsLexeme text) (map (lexeme_of text) tokens) → Kept (tokens_in text tokens)
+all_kept : (text : List ℕ) (tokens : List code_token.Token)
+    → All (IsLexeme text) (map (lexeme_of text) tokens) → Kept (tokens_in text tokens)
 all_kept text [] h = refl
 all_kept text (t ∷ rest) h =
     let first = All-head (IsLexeme text) (lexeme_of text t) (map (lexeme_of text) rest) h in
-    let more = all_kept text rest (All-tail (IsLexeme text) (lexeme_of text t) (map (lexeme_of text) rest) h) in
+    let more = all_kept text rest
+    (All-tail (IsLexeme text) (lexeme_of text t) (map (lexeme_of text) rest) h) in
     rw (token_kept (lexeme_of text t).token _ first.kept, more) refl
 
-pub kept_tokens : (text : List ℕ) (tokens : List code_token.Token) → AreTokens text (map (lexeme_of text) tokens) → Kept (tokens_in text tokens)
-kept_tokens text tokens are = all_kept text tokens (tokens_kept text (map (lexeme_of text) tokens) are)
+pub kept_tokens : (text : List ℕ) (tokens : List code_token.Token)
+    → AreTokens text (map (lexeme_of text) tokens) → Kept (tokens_in text tokens)
+kept_tokens text tokens are =
+    all_kept text tokens (tokens_kept text (map (lexeme_of text) tokens) are)

@@ -1,5 +1,5 @@
 -- Reading one thing of a row after the other.
-use Rattle.std.proofs.Common.{◌≡◌, ℕ, zero, suc, ◌+◌, ◌-◌, ◌≤◌, ◌<◌, Bool, true, false, List, [], ◌∷◌, ◌++◌, length, map, Some, None, refl, ap, ◌∙◌, arith}
+use Rattle.std.proofs.Common.{◌≡◌, ℕ, zero, suc, ◌<◌, Bool, true, false, List, [], ◌∷◌, ◌++◌, length, map, Some, None, refl, ap, ◌∙◌, arith}
 use Rattle.std.specs.Prelude.{if◌then◌else◌}
 use Rattle.edd_syntax.specs.declared.numbers.Kind.{Kind}
 use Rattle.edd_syntax.specs.Token.{Token}
@@ -17,50 +17,21 @@ use Rattle.edd_grammar.specs.UnitReading.{item_at}
 use Rattle.edd_grammar.proofs.Rows.{closed_sound}
 use Rattle.edd_grammar.proofs.CompleteAttributes.{own_attribute_sound, own_attributes}
 use Rattle.edd_grammar.proofs.Items.{item_sound, all_items}
+use Rattle.edd_expression_parser.specs.Shortening.{Shortens}
 use Rattle.edd_token_reader.proofs.Fronts.{bind_same, regroup, add_thing, all_things, with_things}
 use Rattle.edd_parser.specs.Items.{attribute_view}
 use Rattle.edd_parser.specs.Units.{item_view}
 
--- ---- rows of things of any kind, counted
-
-module _ {A B : Type 0} (view : A → B) (ends : List Token → Bool) (thing : List Token → Read B) where
-  pub row_end : (front : List A) (n i : ℕ) (here : List Token) → i < n → ends here ≡ true
-      → with_things view front (row_at ends thing (n - i) here) ≡ Some (map view front, here)
-  unfolding row_at
-  row_end front n i here lt e =
-      let more : n - i ≡ suc (n - (i + 1)) = omega arith in
-      rw (more, e) (ap (λ (x : List B). Some (x, here)) (all_things view front))
-
-  pub row_fail : (front : List A) (n i : ℕ) (here : List Token) → i < n → ends here ≡ false → thing here ≡ None
-      → with_things view front (row_at ends thing (n - i) here) ≡ None
-  unfolding row_at
-  row_fail front n i here lt e fails = let more : n - i ≡ suc (n - (i + 1)) = omega arith in rw (more, e, fails) refl
-
-  pub row_spent : (front : List A) (n i : ℕ) (here : List Token) → n ≤ i → with_things view front (row_at ends thing (n - i) here) ≡ None
-  unfolding row_at
-  row_spent front n i here le = let none : n - i ≡ 0 = omega arith in rw none refl
-
-  pub row_go_on : (front : List A) (a : A) (n i : ℕ) (here rest : List Token) → i < n → ends here ≡ false → thing here ≡ Some (view a, rest)
-      → with_things view front (row_at ends thing (n - i) here) ≡ with_things view (front ++ a ∷ []) (row_at ends thing (n - (i + 1)) rest)
-  unfolding row_at
-  row_go_on front a n i here rest lt e read =
-      let more : n - i ≡ suc (n - (i + 1)) = omega arith in
-      rw (more, e, read) (regroup (add_thing view) front a (row_at ends thing (n - (i + 1)) rest))
-
-pub ruleset rows = (row_end, row_fail, row_spent, row_go_on)
-
--- ---- rows of things that take a token at least: no count is needed
+-- ---- rows of things that take a token at least
 
 module _ {B : Type 0} (ends : List Token → Bool) (thing : List Token → Read B) where
   -- a row whose bound is the number of tokens
   abbrev pub row_here : List Token → Read (List B)
   row_here here = row_at ends thing (suc (length here)) here
 
-  abbrev pub Shortens : Type 0
-  Shortens = (here : List Token) (x : B) (rest : List Token) → thing here ≡ Some (x, rest) → length rest < length here
-
   -- one bound that is large enough is as good as another
-  same_row : Shortens → (n m : ℕ) (here : List Token) → length here < n → length here < m → row_at ends thing n here ≡ row_at ends thing m here
+  same_row : Shortens thing → (n m : ℕ) (here : List Token) → length here < n → length here < m
+      → row_at ends thing n here ≡ row_at ends thing m here
   unfolding row_at
   same_row shortens zero m here lt le = absurd (omega arith)
   same_row shortens (suc n) zero here lt le = absurd (omega arith)
@@ -68,64 +39,122 @@ module _ {B : Type 0} (ends : List Token → Bool) (thing : List Token → Read 
       ap (λ (t : Read (List B)). if ends here then Some ([], here) else t)
       (bind_same (thing here) _ _ (λ x e.
       let s = shortens here x.0 x.1 e in
-      ap (λ (t : Read (List B)). t >>= λ more. Some (x.0 ∷ more.0, more.1)) (same_row shortens n m x.1 (omega arith) (omega arith))))
+      ap (λ (t : Read (List B)). t >>= λ more. Some (x.0 ∷ more.0, more.1))
+      (same_row shortens n m x.1 (omega arith) (omega arith))))
 
-  pub read_end : {A : Type 0} (view : A → B) (front : List A) (here : List Token) → ends here ≡ true → with_things view front (row_here here) ≡ Some (map view front, here)
+  pub read_end : {A : Type 0} (view : A → B) (front : List A) (here : List Token) → ends here ≡ true
+      → with_things view front (row_here here) ≡ Some (map view front, here)
   unfolding row_at
   read_end view front here e = rw e (ap (λ (x : List B). Some (x, here)) (all_things view front))
 
-  pub read_fail : {A : Type 0} (view : A → B) (front : List A) (here : List Token) → ends here ≡ false → thing here ≡ None → with_things view front (row_here here) ≡ None
+  pub read_fail : {A : Type 0} (view : A → B) (front : List A) (here : List Token)
+      → ends here ≡ false → thing here ≡ None → with_things view front (row_here here) ≡ None
   unfolding row_at
   read_fail view front here e fails = rw (e, fails) refl
 
-  pub read_on : Shortens → {A : Type 0} (view : A → B) (front : List A) (a : A) (here rest : List Token) → ends here ≡ false → thing here ≡ Some (view a, rest)
+  pub read_on : Shortens thing → {A : Type 0} (view : A → B) (front : List A) (a : A)
+      (here rest : List Token) → ends here ≡ false → thing here ≡ Some (view a, rest)
       → with_things view front (row_here here) ≡ with_things view (front ++ a ∷ []) (row_here rest)
   unfolding row_at
   read_on shortens view front a here rest e read =
       let lt = shortens here (view a) rest read in
-      rw (e, read) (regroup (add_thing view) front a (row_at ends thing (length here) rest)) ∙ ap (with_things view (front ++ a ∷ [])) (same_row shortens (length here) (suc (length rest)) rest lt (omega arith))
+      rw (e, read) (regroup (add_thing view) front a (row_at ends thing (length here) rest))
+      ∙ ap (with_things view (front ++ a ∷ []))
+      (same_row shortens (length here) (suc (length rest)) rest lt (omega arith))
+
+-- ---- a row in braces, of things of any kind
+
+module _ {A B : Type 0} (view : A → B) (thing : ℕ → List Token → Read B) (height_left : ℕ) where
+  abbrev pub things_here : List Token → Read (List B)
+  things_here here = row_here at_close (thing height_left) here
+
+  pub things_end : (front : List A) (here : List Token) → at_close here ≡ true
+      → with_things view front (things_here here) ≡ Some (map view front, here)
+  things_end front here e = read_end at_close (thing height_left) view front here e
+
+  pub things_fail : (front : List A) (here : List Token) → at_close here ≡ false
+      → thing height_left here ≡ None → with_things view front (things_here here) ≡ None
+  things_fail front here e fails = read_fail at_close (thing height_left) view front here e fails
+
+  module _ (shortens : (height_left : ℕ) → Shortens (thing height_left)) where
+    pub things_go_on : (front : List A) (a : A) (here rest : List Token) → at_close here ≡ false
+        → thing height_left here ≡ Some (view a, rest)
+        → with_things view front (things_here here) ≡ with_things view (front ++ a ∷ [])
+        (things_here rest)
+    things_go_on front a here rest e read =
+        read_on at_close (thing height_left) (shortens height_left) view front a here rest e read
+
+    pub thing_shortens : (here : List Token) (x : B) (rest : List Token)
+        → thing height_left here ≡ Some (x, rest) → length rest < length here
+    thing_shortens here x rest e = shortens height_left here x rest e
+
+pub ruleset things_read = (things_end, things_fail, things_go_on, thing_shortens)
 
 -- ---- the items of a text
 
 abbrev pub items_here : List Token → Read (List (Item Path))
 items_here here = row_here at_end (closed (item_at 100)) here
 
-pub item_shortens : Shortens at_end (closed (item_at 100))
+pub item_shortens : Shortens (closed (item_at 100))
 item_shortens here i rest e =
     let things = all_items 100 in
-    things.shorter i here rest (closed_sound ItemHere item_height 100 (item_at 100) (item_sound 100) here i rest e).0
+    things.shorter i here rest (closed_sound ItemHere item_height 100 (item_at 100) (item_sound 100)
+    here i rest e).0
 
-pub items_end : (front : List (code_item.Item code_path.Path)) (here : List Token) → at_end here ≡ true → with_things item_view front (items_here here) ≡ Some (map item_view front, here)
+pub items_end : (front : List (code_item.Item code_path.Path)) (here : List Token)
+    → at_end here ≡ true → with_things item_view front (items_here here)
+    ≡ Some (map item_view front, here)
 items_end front here e = read_end at_end (closed (item_at 100)) item_view front here e
 
-pub items_fail : (front : List (code_item.Item code_path.Path)) (here : List Token) → at_end here ≡ false → closed (item_at 100) here ≡ None → with_things item_view front (items_here here) ≡ None
+pub items_fail : (front : List (code_item.Item code_path.Path)) (here : List Token)
+    → at_end here ≡ false → closed (item_at 100) here ≡ None
+    → with_things item_view front (items_here here) ≡ None
 items_fail front here e fails = read_fail at_end (closed (item_at 100)) item_view front here e fails
 
-pub items_go_on : (front : List (code_item.Item code_path.Path)) (i : code_item.Item code_path.Path) (here rest : List Token) → at_end here ≡ false → closed (item_at 100) here ≡ Some (item_view i, rest)
-    → with_things item_view front (items_here here) ≡ with_things item_view (front ++ i ∷ []) (items_here rest)
-items_go_on front i here rest e read = read_on at_end (closed (item_at 100)) item_shortens item_view front i here rest e read
+pub items_go_on : (front : List (code_item.Item code_path.Path)) (i : code_item.Item code_path.Path)
+    (here rest : List Token) → at_end here ≡ false → closed (item_at 100) here
+    ≡ Some (item_view i, rest)
+    → with_things item_view front (items_here here) ≡ with_things item_view (front ++ i ∷ [])
+    (items_here rest)
+items_go_on front i here rest e read = read_on at_end (closed (item_at 100)) item_shortens item_view
+    front i here rest e read
 
 pub ruleset items_read = (item_shortens, items_end, items_fail, items_go_on)
 
 -- ---- the attributes of an item
 
-module _ (kind : Kind) (high : ℕ) where
+module _ (kind : Kind) (height_left : ℕ) where
   abbrev pub attributes_here : List Token → Read (List (Attribute Path))
-  attributes_here here = row_here at_close (closed (own_attribute_at kind high)) here
+  attributes_here here = row_here at_close (closed (own_attribute_at kind height_left)) here
 
-  pub attribute_shortens : Shortens at_close (closed (own_attribute_at kind high))
+  pub attribute_shortens : Shortens (closed (own_attribute_at kind height_left))
   attribute_shortens here a rest e =
-      let things = own_attributes kind high in
-      things.shorter a here rest (closed_sound (OwnAttributeHere kind) attribute_height high (own_attribute_at kind high) (own_attribute_sound kind high) here a rest e).0
+      let things = own_attributes kind height_left in
+      things.shorter a here rest (closed_sound (OwnAttributeHere kind) attribute_height height_left
+      (own_attribute_at kind height_left) (own_attribute_sound kind height_left) here a rest
+      e).0
 
-  pub attributes_end : (front : List (code_attribute.Attribute code_path.Path)) (here : List Token) → at_close here ≡ true → with_things attribute_view front (attributes_here here) ≡ Some (map attribute_view front, here)
-  attributes_end front here e = read_end at_close (closed (own_attribute_at kind high)) attribute_view front here e
+  pub attributes_end : (front : List (code_attribute.Attribute code_path.Path)) (here : List Token)
+      → at_close here ≡ true → with_things attribute_view front (attributes_here here)
+      ≡ Some (map attribute_view front, here)
+  attributes_end front here e = read_end at_close (closed (own_attribute_at kind height_left))
+      attribute_view front here e
 
-  pub attributes_fail : (front : List (code_attribute.Attribute code_path.Path)) (here : List Token) → at_close here ≡ false → closed (own_attribute_at kind high) here ≡ None → with_things attribute_view front (attributes_here here) ≡ None
-  attributes_fail front here e fails = read_fail at_close (closed (own_attribute_at kind high)) attribute_view front here e fails
+  pub attributes_fail : (front : List (code_attribute.Attribute code_path.Path)) (here : List Token)
+      → at_close here ≡ false → closed (own_attribute_at kind height_left) here ≡ None
+      → with_things attribute_view front (attributes_here here) ≡ None
+  attributes_fail front here e fails =
+      read_fail at_close (closed (own_attribute_at kind height_left)) attribute_view front here e
+      fails
 
-  pub attributes_go_on : (front : List (code_attribute.Attribute code_path.Path)) (a : code_attribute.Attribute code_path.Path) (here rest : List Token) → at_close here ≡ false → closed (own_attribute_at kind high) here ≡ Some (attribute_view a, rest)
-      → with_things attribute_view front (attributes_here here) ≡ with_things attribute_view (front ++ a ∷ []) (attributes_here rest)
-  attributes_go_on front a here rest e read = read_on at_close (closed (own_attribute_at kind high)) attribute_shortens attribute_view front a here rest e read
+  pub attributes_go_on : (front : List (code_attribute.Attribute code_path.Path))
+      (a : code_attribute.Attribute code_path.Path) (here rest : List Token) → at_close here ≡ false
+      → closed (own_attribute_at kind height_left) here ≡ Some (attribute_view a, rest)
+      → with_things attribute_view front (attributes_here here)
+      ≡ with_things attribute_view (front ++ a ∷ []) (attributes_here rest)
+  attributes_go_on front a here rest e read =
+      read_on at_close (closed (own_attribute_at kind height_left)) attribute_shortens
+      attribute_view front a here rest e read
 
-pub ruleset attributes_read = (attribute_shortens, attributes_end, attributes_fail, attributes_go_on)
+pub ruleset attributes_read =
+    (attribute_shortens, attributes_end, attributes_fail, attributes_go_on)

@@ -16,24 +16,28 @@ pub braces_done : (depth : ℕ) (here : List Token) → depth ≡ 0 → behind_b
 braces_done zero here e = refl
 braces_done (suc depth) here e = absurd (omega arith)
 
-pub braces_none : (depth : ℕ) (here : List Token) → 0 < depth → at_end here ≡ true → behind_braces depth here ≡ None
+pub braces_none : (depth : ℕ) (here : List Token) → 0 < depth → at_end here ≡ true
+    → behind_braces depth here ≡ None
 braces_none zero here lt e = absurd (omega arith)
 braces_none (suc depth) [] lt e = refl
 braces_none (suc depth) (t ∷ rest) lt e = absurd cc
 
-pub braces_open : (depth : ℕ) (here : List Token) → 0 < depth → at sign.OpenBrace here ≡ true → behind_braces depth here ≡ behind_braces (depth + 1) (drop 1 here)
+pub braces_open : (depth : ℕ) (here : List Token) → 0 < depth → at sign.OpenBrace here ≡ true
+    → behind_braces depth here ≡ behind_braces (depth + 1) (drop 1 here)
 braces_open zero here lt e = absurd (omega arith)
 braces_open (suc depth) here lt e =
     let same : suc depth + 1 ≡ suc (suc depth) = omega arith in
     rw same (ap (behind_braces (suc depth)) (at_is sign.OpenBrace here e))
 
-pub braces_close : (depth : ℕ) (here : List Token) → 0 < depth → at sign.CloseBrace here ≡ true → behind_braces depth here ≡ behind_braces (depth - 1) (drop 1 here)
+pub braces_close : (depth : ℕ) (here : List Token) → 0 < depth → at sign.CloseBrace here ≡ true
+    → behind_braces depth here ≡ behind_braces (depth - 1) (drop 1 here)
 braces_close zero here lt e = absurd (omega arith)
 braces_close (suc depth) here lt e =
     let same : suc depth - 1 ≡ depth = omega arith in
     rw same (ap (behind_braces (suc depth)) (at_is sign.CloseBrace here e))
 
-pub braces_skip : (depth : ℕ) (here : List Token) → 0 < depth → at_end here ≡ false → at sign.OpenBrace here ≡ false → at sign.CloseBrace here ≡ false
+pub braces_skip : (depth : ℕ) (here : List Token) → 0 < depth → at_end here ≡ false
+    → at sign.OpenBrace here ≡ false → at sign.CloseBrace here ≡ false
     → behind_braces depth here ≡ behind_braces depth (drop 1 here)
 braces_skip zero here lt e a b = absurd (omega arith)
 braces_skip (suc depth) [] lt e a b = absurd cc
@@ -48,11 +52,13 @@ unfolding behind_other
 other_none [] e = refl
 other_none (t ∷ rest) e = absurd cc
 
-pub other_semicolon : (here : List Token) → at sign.Semicolon here ≡ true → behind_other here ≡ Some (drop 1 here)
+pub other_semicolon : (here : List Token) → at sign.Semicolon here ≡ true
+    → behind_other here ≡ Some (drop 1 here)
 unfolding behind_other
 other_semicolon here e = ap behind_other (at_is sign.Semicolon here e)
 
-pub other_open : (here : List Token) → at sign.OpenBrace here ≡ true → behind_other here ≡ behind_braces 1 (drop 1 here)
+pub other_open : (here : List Token) → at sign.OpenBrace here ≡ true
+    → behind_other here ≡ behind_braces 1 (drop 1 here)
 unfolding behind_other
 other_open here e = ap behind_other (at_is sign.OpenBrace here e)
 
@@ -60,7 +66,8 @@ pub other_close : (here : List Token) → at sign.CloseBrace here ≡ true → b
 unfolding behind_other
 other_close here e = ap behind_other (at_is sign.CloseBrace here e)
 
-pub other_skip : (here : List Token) → at_end here ≡ false → at sign.Semicolon here ≡ false → at sign.OpenBrace here ≡ false → at sign.CloseBrace here ≡ false
+pub other_skip : (here : List Token) → at_end here ≡ false → at sign.Semicolon here ≡ false
+    → at sign.OpenBrace here ≡ false → at sign.CloseBrace here ≡ false
     → behind_other here ≡ behind_other (drop 1 here)
 unfolding behind_other
 other_skip [] e a b c = absurd cc

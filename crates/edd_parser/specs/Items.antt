@@ -33,19 +33,23 @@ class_read before here = Some (before ++ (more_names_at here).0, (more_names_at 
 
 -- the attributes that hold what an item is made of
 unfoldable pub list_attribute_at : ℕ → List Token → Read (Attribute Path)
-list_attribute_at high here =
-    if at_word word.Items here then (braced (list_at menu_entry_value high) (drop 1 here) >>= λ all. Some (item.Items all.0, all.1))
-    else if at_word word.Members here then (braced (row_inside member_at) (drop 1 here) >>= λ all. Some (item.Members all.0, all.1))
+list_attribute_at height_left here =
+    if at_word word.Items here then (braced (list_at menu_entry_value height_left) (drop 1 here)
+    >>= λ all. Some (item.Items all.0, all.1))
+    else if at_word word.Members here then (braced (row_inside member_at) (drop 1 here)
+    >>= λ all. Some (item.Members all.0, all.1))
     else if at_word word.Definition here
-    then (expect sign.OpenBrace (drop 1 here) >>= λ inside. definition_at high inside >>= λ b. Some (item.Definition b.0, b.1))
+    then (expect sign.OpenBrace (drop 1 here) >>= λ inside. definition_at height_left inside
+    >>= λ b. Some (item.Definition b.0, b.1))
     else None
 
 -- the attributes of commands, and those above
 unfoldable pub command_attribute_at : ℕ → List Token → Read (Attribute Path)
-command_attribute_at high here =
+command_attribute_at height_left here =
     if at_word word.Number here then command_number_at (drop 1 here)
     else if at_word word.Operation here then command_operation_at (drop 1 here)
-    else if at_word word.Transaction here then transaction_at high (drop 1 here)
+    else if at_word word.Transaction here then transaction_at height_left (drop 1 here)
     else if at_word word.ResponseCodes here
-    then (braced (row_inside response_code_at) (drop 1 here) >>= λ all. Some (item.ResponseCodes all.0, all.1))
-    else list_attribute_at high here
+    then (braced (row_inside response_code_at) (drop 1 here)
+    >>= λ all. Some (item.ResponseCodes all.0, all.1))
+    else list_attribute_at height_left here

@@ -34,7 +34,10 @@ item_view i = item_of path_of i
 -- ---- the unit
 
 abbrev pub unit_view : code_unit.Unit → Description Path
-unit_view u = record { identification = identification_of u.identification; items = named_items u.items.items }
+unit_view u = record {
+  identification = identification_of u.identification;
+  items = named_items u.items.items;
+}
 
 -- What a call answered is what reading gives, unless memory ran out.
 abbrev pub Answers : Result code_unit.Unit ParseFault → Option (Description Path) → Type 0

@@ -8,11 +8,12 @@ ghost use Rattle.edd_syntax.specs.TreeView.{path_of};
 ghost use Rattle.edd_syntax.specs.ItemView.{response_code_of, member_of, transaction_part_of};
 ghost use Rattle.edd_grammar.specs.WordReading as words;
 ghost use Rattle.edd_grammar.specs.AttributeReading as reading;
+ghost use Rattle.edd_expression_parser.proofs.RowsShorten as lengths;
 ghost use Rattle.edd_token_reader.specs.Views.{Gives};
 ghost use Rattle.edd_parser.specs.Items as views;
 ghost use Rattle.edd_parser.specs.Items.{attribute_view, class_read};
 
-use crate::rows::{Thing, braced_row};
+use crate::rows::{RowElement, braced_row};
 use crate::types::written_type;
 use edd_expression_parser::cond::{braced_list, one};
 use edd_expression_parser::trees::plain;
@@ -97,12 +98,14 @@ fn response_code(cursor: &mut Cursor) -> Result<ResponseCode, ParseFault>
     })
 }
 
-impl Thing for ResponseCode {
+impl RowElement for ResponseCode {
     ghost Pure = { item.ResponseCode };
 
     ghost view = { response_code_of };
 
-    ghost read = { λ high here. reading.response_code_at here };
+    ghost read = { λ height_left here. reading.response_code_at here };
+
+    ghost shortens = { lengths.response_code_shortens };
 
     fn read_thing(cursor: &mut Cursor, _high: u32) -> Result<ResponseCode, ParseFault> {
         response_code(cursor)
@@ -134,12 +137,14 @@ fn member(cursor: &mut Cursor) -> Result<Member<Path>, ParseFault>
     })
 }
 
-impl Thing for Member<Path> {
+impl RowElement for Member<Path> {
     ghost Pure = { item.Member references.Path };
 
     ghost view = { λ m. member_of path_of m };
 
-    ghost read = { λ high here. reading.member_at here };
+    ghost read = { λ height_left here. reading.member_at here };
+
+    ghost shortens = { lengths.member_shortens };
 
     fn read_thing(cursor: &mut Cursor, _high: u32) -> Result<Member<Path>, ParseFault> {
         member(cursor)
@@ -148,29 +153,38 @@ impl Thing for Member<Path> {
 
 // REQUEST or REPLY with its data items.
 #[tactic(auto, unfolding(edd_grammar::specs::AttributeReading::transaction_part_at))]
-fn transaction_part(cursor: &mut Cursor, high: u32) -> Result<TransactionPart<Path>, ParseFault>
-    requires { high ≤ 100 }
-    ensures { Gives (λ p. transaction_part_of path_of p) result cursor.new (reading.transaction_part_at high cursor.old) }
+fn transaction_part(
+    cursor: &mut Cursor,
+    height_left: u32,
+) -> Result<TransactionPart<Path>, ParseFault>
+    requires { height_left ≤ 100 }
+    ensures { Gives (λ p. transaction_part_of path_of p) result cursor.new
+        (reading.transaction_part_at height_left cursor.old) }
 {
     if cursor.eat_word(Keyword::Request) {
-        return Ok(TransactionPart::Request(braced_list(cursor, high)?));
+        return Ok(TransactionPart::Request(braced_list(cursor, height_left)?));
     }
     if cursor.eat_word(Keyword::Reply) {
-        return Ok(TransactionPart::Reply(braced_list(cursor, high)?));
+        return Ok(TransactionPart::Reply(braced_list(cursor, height_left)?));
     }
     Err(misfit_without_codes(cursor))
 }
 
-impl Thing for TransactionPart<Path> {
+impl RowElement for TransactionPart<Path> {
     ghost Pure = { item.TransactionPart references.Path };
 
     ghost view = { λ p. transaction_part_of path_of p };
 
-    ghost read = { λ high here. words.closed (reading.transaction_part_at high) here };
+    ghost read = { λ height_left here. words.closed (reading.transaction_part_at height_left) here };
+
+    ghost shortens = { lengths.closed_part_shortens };
 
     #[tactic(auto, unfolding(edd_grammar::specs::WordReading::closed))]
-    fn read_thing(cursor: &mut Cursor, high: u32) -> Result<TransactionPart<Path>, ParseFault> {
-        let part = transaction_part(cursor, high)?;
+    fn read_thing(
+        cursor: &mut Cursor,
+        height_left: u32,
+    ) -> Result<TransactionPart<Path>, ParseFault> {
+        let part = transaction_part(cursor, height_left)?;
         skip_semicolons(cursor);
         Ok(part)
     }
@@ -178,19 +192,21 @@ impl Thing for TransactionPart<Path> {
 
 // Behind TRANSACTION.
 #[tactic(auto, unfolding(edd_grammar::specs::AttributeReading::transaction_at))]
-fn transaction(cursor: &mut Cursor, high: u32) -> Result<Attribute<Path>, ParseFault>
-    requires { high ≤ 100 }
-    ensures { Gives attribute_view result cursor.new (reading.transaction_at high cursor.old) }
+fn transaction(cursor: &mut Cursor, height_left: u32) -> Result<Attribute<Path>, ParseFault>
+    requires { height_left ≤ 100 }
+    ensures { Gives attribute_view result cursor.new
+        (reading.transaction_at height_left cursor.old) }
 {
     let number = number(cursor)?;
-    let parts = braced_row(cursor, high)?;
+    let parts = braced_row(cursor, height_left)?;
     Ok(Attribute::Transaction { number, parts })
 }
 
 // The further names of a class, each behind `&`, behind those that were read.
 #[tactic(auto, using(crate::proofs::ClassNames::one_more_name))]
 fn more_names(cursor: &mut Cursor, before: Vec<String>) -> Result<Vec<String>, ParseFault>
-    ensures { Gives (λ v. map string_bytes v.items) result cursor.new (class_read (map string_bytes before.items) cursor.old) }
+    ensures { Gives (λ v. map string_bytes v.items) result cursor.new
+        (class_read (map string_bytes before.items) cursor.old) }
 {
     let mut names = before;
     while let Some(name) = cursor.further_name() {
@@ -236,47 +252,49 @@ fn command_operation(cursor: &mut Cursor) -> Result<Attribute<Path>, ParseFault>
 
 // An attribute.
 #[tactic(auto, unfolding(edd_grammar::specs::AttributeReading::attribute_at))]
-fn attribute(cursor: &mut Cursor, high: u32) -> Result<Attribute<Path>, ParseFault>
-    requires { high ≤ 100 }
-    ensures { Gives attribute_view result cursor.new (reading.attribute_at high cursor.old) }
+fn attribute(cursor: &mut Cursor, height_left: u32) -> Result<Attribute<Path>, ParseFault>
+    requires { height_left ≤ 100 }
+    ensures { Gives attribute_view result cursor.new (reading.attribute_at height_left cursor.old) }
 {
     if let Some(which) = cursor.text_attribute() {
         cursor.bump();
-        return Ok(Attribute::OneText(which, one(cursor, high)?));
+        return Ok(Attribute::OneText(which, one(cursor, height_left)?));
     }
-    other_attribute(cursor, high)
+    other_attribute(cursor, height_left)
 }
 
 // Attributes of variables and others that aren't one text.
 #[tactic(auto, unfolding(edd_grammar::specs::AttributeReading::other_attribute_at, crate::specs::Items::command_attribute_at, crate::specs::Items::list_attribute_at))]
-fn other_attribute(cursor: &mut Cursor, high: u32) -> Result<Attribute<Path>, ParseFault>
-    requires { high ≤ 100 }
-    ensures { Gives attribute_view result cursor.new (reading.other_attribute_at high cursor.old) }
+fn other_attribute(cursor: &mut Cursor, height_left: u32) -> Result<Attribute<Path>, ParseFault>
+    requires { height_left ≤ 100 }
+    ensures { Gives attribute_view result cursor.new
+        (reading.other_attribute_at height_left cursor.old) }
 {
     if cursor.eat_word(Keyword::Class) {
         return class_words(cursor);
     }
     if cursor.eat_word(Keyword::Handling) {
-        return Ok(Attribute::Handling(one(cursor, high)?));
+        return Ok(Attribute::Handling(one(cursor, height_left)?));
     }
     if cursor.eat_word(Keyword::Validity) {
-        return Ok(Attribute::Validity(one(cursor, high)?));
+        return Ok(Attribute::Validity(one(cursor, height_left)?));
     }
     if cursor.eat_word(Keyword::Type) {
-        let written = written_type(cursor, high)?;
+        let written = written_type(cursor, height_left)?;
         return Ok(Attribute::TypeOf {
             word: written.word,
             parts: written.parts,
         });
     }
-    command_attribute(cursor, high)
+    command_attribute(cursor, height_left)
 }
 
 // Attributes of commands, and others.
 #[tactic(auto, unfolding(crate::specs::Items::command_attribute_at))]
-fn command_attribute(cursor: &mut Cursor, high: u32) -> Result<Attribute<Path>, ParseFault>
-    requires { high ≤ 100 }
-    ensures { Gives attribute_view result cursor.new (views.command_attribute_at high cursor.old) }
+fn command_attribute(cursor: &mut Cursor, height_left: u32) -> Result<Attribute<Path>, ParseFault>
+    requires { height_left ≤ 100 }
+    ensures { Gives attribute_view result cursor.new
+        (views.command_attribute_at height_left cursor.old) }
 {
     if cursor.eat_word(Keyword::Number) {
         return command_number(cursor);
@@ -285,29 +303,30 @@ fn command_attribute(cursor: &mut Cursor, high: u32) -> Result<Attribute<Path>, 
         return command_operation(cursor);
     }
     if cursor.eat_word(Keyword::Transaction) {
-        return transaction(cursor, high);
+        return transaction(cursor, height_left);
     }
     if cursor.eat_word(Keyword::ResponseCodes) {
         return Ok(Attribute::ResponseCodes(braced_row(cursor, 0)?));
     }
-    list_attribute(cursor, high)
+    list_attribute(cursor, height_left)
 }
 
 // The attributes that hold what an item is made of.
 #[tactic(auto, unfolding(crate::specs::Items::list_attribute_at))]
-fn list_attribute(cursor: &mut Cursor, high: u32) -> Result<Attribute<Path>, ParseFault>
-    requires { high ≤ 100 }
-    ensures { Gives attribute_view result cursor.new (views.list_attribute_at high cursor.old) }
+fn list_attribute(cursor: &mut Cursor, height_left: u32) -> Result<Attribute<Path>, ParseFault>
+    requires { height_left ≤ 100 }
+    ensures { Gives attribute_view result cursor.new
+        (views.list_attribute_at height_left cursor.old) }
 {
     if cursor.eat_word(Keyword::Items) {
-        return Ok(Attribute::Items(braced_list(cursor, high)?));
+        return Ok(Attribute::Items(braced_list(cursor, height_left)?));
     }
     if cursor.eat_word(Keyword::Members) {
         return Ok(Attribute::Members(braced_row(cursor, 0)?));
     }
     if cursor.eat_word(Keyword::Definition) {
         cursor.expect(Symbol::OpenBrace)?;
-        return Ok(Attribute::Definition(definition(cursor, high)?));
+        return Ok(Attribute::Definition(definition(cursor, height_left)?));
     }
     Err(cursor.syntax())
 }
@@ -317,15 +336,16 @@ fn list_attribute(cursor: &mut Cursor, high: u32) -> Result<Attribute<Path>, Par
 pub fn own_attribute(
     cursor: &mut Cursor,
     kind: Kind,
-    high: u32,
+    height_left: u32,
 ) -> Result<Attribute<Path>, ParseFault>
-    requires { high ≤ 100 }
-    ensures { Gives attribute_view result cursor.new (words.closed (reading.own_attribute_at kind high) cursor.old) }
+    requires { height_left ≤ 100 }
+    ensures { Gives attribute_view result cursor.new
+        (words.closed (reading.own_attribute_at kind height_left) cursor.old) }
 {
     if !cursor.begins_own(kind) {
         return Err(misfit(cursor));
     }
-    let attribute = attribute(cursor, high)?;
+    let attribute = attribute(cursor, height_left)?;
     skip_semicolons(cursor);
     Ok(attribute)
 }

@@ -118,14 +118,15 @@ fn item_sort(cursor: &mut Cursor) -> Result<Sort, ParseFault>
 fn attribute_row(
     cursor: &mut Cursor,
     kind: Kind,
-    high: u32,
+    height_left: u32,
 ) -> Result<Vec<Attribute<Path>>, ParseFault>
-    requires { high ≤ 100 }
-    ensures { Gives (λ v. map attribute_view v.items) result cursor.new (row_inside (closed (own_attribute_at kind high)) cursor.old) }
+    requires { height_left ≤ 100 }
+    ensures { Gives (λ v. map attribute_view v.items) result cursor.new
+        (row_inside (closed (own_attribute_at kind height_left)) cursor.old) }
 {
     let mut all = Vec::new(cursor.alloc());
     while !cursor.at(Symbol::CloseBrace) {
-        all.push(own_attribute(cursor, kind, high)?)?;
+        all.push(own_attribute(cursor, kind, height_left)?)?;
     }
     Ok(all)
 }
@@ -135,19 +136,24 @@ fn attribute_row(
 fn attributes(
     cursor: &mut Cursor,
     kind: Kind,
-    high: u32,
+    height_left: u32,
 ) -> Result<Vec<Attribute<Path>>, ParseFault>
-    requires { high ≤ 100 }
-    ensures { Gives (λ v. map attribute_view v.items) result cursor.new (reading.attributes_at kind high cursor.old) }
+    requires { height_left ≤ 100 }
+    ensures { Gives (λ v. map attribute_view v.items) result cursor.new
+        (reading.attributes_at kind height_left cursor.old) }
 {
     cursor.expect(Symbol::OpenBrace)?;
-    let all = attribute_row(cursor, kind, high)?;
+    let all = attribute_row(cursor, kind, height_left)?;
     cursor.expect(Symbol::CloseBrace)?;
     Ok(all)
 }
 
 fn item_of(sort: Sort, name: String, attributes: Vec<Attribute<Path>>) -> Item<Path>
-    ensures { item_view result ≡ record { sort = sort_view sort; name = string_bytes name; attributes = map attribute_view attributes.items } }
+    ensures { item_view result ≡ record {
+      sort = sort_view sort;
+      name = string_bytes name;
+      attributes = map attribute_view attributes.items;
+    } }
 {
     match sort {
         Sort::Variable => Item::Variable(VariableDef { name, attributes }),
@@ -164,15 +170,15 @@ fn item_of(sort: Sort, name: String, attributes: Vec<Attribute<Path>>) -> Item<P
 
 // An item whose attributes have at most this height.
 #[tactic(auto, unfolding(edd_grammar::specs::UnitReading::item_at, crate::specs::Units::sort_at))]
-fn one_item(cursor: &mut Cursor, high: u32) -> Result<Item<Path>, ParseFault>
-    requires { high ≤ 100 }
-    ensures { Gives item_view result cursor.new (reading.item_at high cursor.old) }
+fn one_item(cursor: &mut Cursor, height_left: u32) -> Result<Item<Path>, ParseFault>
+    requires { height_left ≤ 100 }
+    ensures { Gives item_view result cursor.new (reading.item_at height_left cursor.old) }
 {
     let sort = item_sort(cursor)?;
     let Some(name) = cursor.name() else {
         return Err(cursor.syntax());
     };
-    let attributes = attributes(cursor, kind_of(sort), high)?;
+    let attributes = attributes(cursor, kind_of(sort), height_left)?;
     let name = String::from_str(cursor.alloc(), name)?;
     Ok(item_of(sort, name, attributes))
 }

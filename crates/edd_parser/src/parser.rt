@@ -55,14 +55,17 @@ fn read(alloc: Global, text: &[u8], tokens: &[Token]) -> Result<Unit, ParseFault
 
 /// The unit that the tokens of a text spell.
 ///
-/// Lines count from 1. A syntax fault has the line of the first token that fits nothing, or the last line of the text at its
-/// end. A tree that would be too high has the line of the token that would be the 101st level. A word that the profile leaves
-/// out is named where an item, an attribute, a qualifier or a statement may begin.
+/// Lines count from 1. A syntax fault has the line of the first token that fits nothing, or the
+/// last line of the text at its end. A tree that would be too high has the line of the token
+/// that would be the 101st level. A word that the profile leaves out is named where an item, an
+/// attribute, a qualifier or a statement may begin.
 pub fn parse(alloc: Global, text: &[u8], tokens: &[Token]) -> Result<Unit, ParseFault>
     requires { AreTokens text.now (map (lexeme_of text.now) tokens.now) }
-    ensures unit { IfOk result (λ u. Spells (tokens_in text.now tokens.now) (unit_view u)) }
-    ensures no_unit { IfErr result (λ e. Says e ((unit : Description Path) → ¬ (Spells (tokens_in text.now tokens.now) unit))) }
-    ensures only_unit { (unit : Description Path) → Spells (tokens_in text.now tokens.now) unit
+    ensures sound { IfOk result (λ u. Spells (tokens_in text.now tokens.now) (unit_view u)) }
+    ensures refused { IfErr result
+        (λ e. Says e ((unit : Description Path)
+        → ¬ (Spells (tokens_in text.now tokens.now) unit))) }
+    ensures complete { (unit : Description Path) → Spells (tokens_in text.now tokens.now) unit
         → MatchResult result (λ u. unit_view u ≡ unit) (λ e. e ≡ Memory) }
 {
     read(alloc, text, tokens)

@@ -7,10 +7,11 @@ ghost use Rattle.edd_syntax.specs.ItemGrammar.{behind_braces};
 ghost use Rattle.edd_syntax.specs.TreeView.{path_of};
 ghost use Rattle.edd_syntax.specs.ItemView.{type_part_of, type_word_of};
 ghost use Rattle.edd_grammar.specs.TypeReading as reading;
+ghost use Rattle.edd_expression_parser.proofs.RowsShorten as lengths;
 ghost use Rattle.edd_token_reader.specs.Views.{Gives, Leaves};
 ghost use Rattle.edd_parser.specs.Items.{written_view};
 
-use crate::rows::{Thing, braced_row};
+use crate::rows::{RowElement, braced_row};
 use edd_expression_parser::cond::{element, one};
 use edd_syntax::item::{TypePart, TypeWord};
 use edd_syntax::reference::Path;
@@ -61,58 +62,62 @@ fn size(cursor: &mut Cursor) -> Result<Option<u32>, ParseFault>
 
 // A part of what stands in the braces of a type.
 #[tactic(auto, unfolding(edd_grammar::specs::TypeReading::type_part_at))]
-fn type_part(cursor: &mut Cursor, high: u32) -> Result<TypePart<Path>, ParseFault>
-    requires { high ≤ 100 }
-    ensures { Gives (λ p. type_part_of path_of p) result cursor.new (reading.type_part_at high cursor.old) }
+fn type_part(cursor: &mut Cursor, height_left: u32) -> Result<TypePart<Path>, ParseFault>
+    requires { height_left ≤ 100 }
+    ensures { Gives (λ p. type_part_of path_of p) result cursor.new
+        (reading.type_part_at height_left cursor.old) }
 {
     let line = cursor.line();
     if cursor.eat_word(Keyword::DefaultValue) {
-        let value = one(cursor, high)?;
+        let value = one(cursor, height_left)?;
         return Ok(TypePart::DefaultValue { line, value });
     }
     if cursor.eat_word(Keyword::MinValue) {
-        let value = one(cursor, high)?;
+        let value = one(cursor, height_left)?;
         return Ok(TypePart::MinValue { line, value });
     }
     if cursor.eat_word(Keyword::MaxValue) {
-        let value = one(cursor, high)?;
+        let value = one(cursor, height_left)?;
         return Ok(TypePart::MaxValue { line, value });
     }
     if cursor.eat_word(Keyword::DisplayFormat) {
-        let format = one(cursor, high)?;
+        let format = one(cursor, height_left)?;
         return Ok(TypePart::DisplayFormat { line, format });
     }
     if cursor.eat_word(Keyword::EditFormat) {
-        let format = one(cursor, high)?;
+        let format = one(cursor, height_left)?;
         return Ok(TypePart::EditFormat { line, format });
     }
-    let enumerators = element(cursor, high)?;
+    let enumerators = element(cursor, height_left)?;
     skip_comma(cursor);
     Ok(TypePart::Element(enumerators))
 }
 
-impl Thing for TypePart<Path> {
+impl RowElement for TypePart<Path> {
     ghost Pure = { item.TypePart references.Path };
 
     ghost view = { λ p. type_part_of path_of p };
 
     ghost read = { reading.type_part_at };
 
-    fn read_thing(cursor: &mut Cursor, high: u32) -> Result<TypePart<Path>, ParseFault> {
-        type_part(cursor, high)
+    ghost shortens = { lengths.type_part_shortens };
+
+    fn read_thing(cursor: &mut Cursor, height_left: u32) -> Result<TypePart<Path>, ParseFault> {
+        type_part(cursor, height_left)
     }
 }
 
 // A semicolon, or braces.
 #[tactic(auto, unfolding(edd_grammar::specs::TypeReading::type_parts_at))]
-fn type_parts(cursor: &mut Cursor, high: u32) -> Result<Vec<TypePart<Path>>, ParseFault>
-    requires { high ≤ 100 }
-    ensures { Gives (λ v. map (type_part_of path_of) v.items) result cursor.new (reading.type_parts_at high cursor.old) }
+fn type_parts(cursor: &mut Cursor, height_left: u32) -> Result<Vec<TypePart<Path>>, ParseFault>
+    requires { height_left ≤ 100 }
+    ensures { Gives (λ v. map (type_part_of path_of) v.items) result cursor.new
+        (reading.type_parts_at height_left cursor.old) }
 {
     if cursor.eat(Symbol::Semicolon) {
         return Ok(Vec::new(cursor.alloc()));
     }
-    braced_row(cursor, high)
+    braced_row(cursor, height_left)
 }
 
 // Behind the brace that closes an open one.
@@ -137,7 +142,8 @@ fn close_braces(cursor: &mut Cursor) -> Result<(), ParseFault>
     Ok(())
 }
 
-// Behind a type of another word: behind its first semicolon, or the brace that closes its first brace.
+// Behind a type of another word: behind its first semicolon, or the brace that closes its first
+// brace.
 #[tactic(auto, using(crate::proofs::TypeEnds::others))]
 fn other_end(cursor: &mut Cursor) -> Result<(), ParseFault>
     ensures { Leaves result cursor.new (reading.behind_other cursor.old) }
@@ -158,12 +164,17 @@ fn other_end(cursor: &mut Cursor) -> Result<(), ParseFault>
 }
 
 #[tactic(auto, unfolding(edd_grammar::specs::TypeReading::known_type_at))]
-fn known_type(cursor: &mut Cursor, high: u32, kind: VarType) -> Result<WrittenType, ParseFault>
-    requires { high ≤ 100 }
-    ensures { Gives written_view result cursor.new (reading.known_type_at high kind cursor.old) }
+fn known_type(
+    cursor: &mut Cursor,
+    height_left: u32,
+    kind: VarType,
+) -> Result<WrittenType, ParseFault>
+    requires { height_left ≤ 100 }
+    ensures { Gives written_view result cursor.new
+        (reading.known_type_at height_left kind cursor.old) }
 {
     let size = size(cursor)?;
-    let parts = type_parts(cursor, high)?;
+    let parts = type_parts(cursor, height_left)?;
     Ok(WrittenType {
         word: TypeWord::Known { kind, size },
         parts,
@@ -184,15 +195,15 @@ fn other_type(cursor: &mut Cursor, name: &str) -> Result<WrittenType, ParseFault
 
 /// A type behind TYPE.
 #[tactic(auto, unfolding(edd_grammar::specs::TypeReading::type_at))]
-pub fn written_type(cursor: &mut Cursor, high: u32) -> Result<WrittenType, ParseFault>
-    requires { high ≤ 100 }
-    ensures { Gives written_view result cursor.new (reading.type_at high cursor.old) }
+pub fn written_type(cursor: &mut Cursor, height_left: u32) -> Result<WrittenType, ParseFault>
+    requires { height_left ≤ 100 }
+    ensures { Gives written_view result cursor.new (reading.type_at height_left cursor.old) }
 {
     let Some(name) = cursor.name() else {
         return Err(cursor.syntax());
     };
     match type_named(name) {
-        Some(kind) => known_type(cursor, high, kind),
+        Some(kind) => known_type(cursor, height_left, kind),
         None => other_type(cursor, name),
     }
 }

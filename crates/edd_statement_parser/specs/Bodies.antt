@@ -37,48 +37,56 @@ abbrev pub Head : Type 0
 Head = Option (Expr Path) × Option (Expr Path) × Option (Expr Path)
 
 abbrev pub head_view : ForHead → Head
-head_view h = (option_map expr_view h.initial, option_map expr_view h.condition, option_map expr_view h.update)
+head_view h = (
+  option_map expr_view h.initial,
+  option_map expr_view h.condition,
+  option_map expr_view h.update,
+)
 
-abbrev pub end_view : (Option (code_expr.Expr path.Path) × Option (code_expr.Expr path.Path)) → Option (Expr Path) × Option (Expr Path)
+abbrev pub end_view : (Option (code_expr.Expr path.Path) × Option (code_expr.Expr path.Path))
+    → Option (Expr Path) × Option (Expr Path)
 end_view e = (option_map expr_view e.0, option_map expr_view e.1)
 
 -- the condition and the update of a `for`, with the closing parenthesis
 unfoldable pub for_end_at : ℕ → List Token → Read (Option (Expr Path) × Option (Expr Path))
-for_end_at high here = do
-  (condition, third) ← optional_at high (statement_at high) sign.Semicolon here
-  (update, behind) ← optional_at high (statement_at high) sign.CloseParenthesis third
+for_end_at height_left here = do
+  (condition, third) ← optional_at height_left (statement_at height_left) sign.Semicolon here
+  (update, behind) ← optional_at height_left (statement_at height_left) sign.CloseParenthesis third
   Some ((condition, update), behind)
 
 -- the three expressions of a `for` in their parentheses
 unfoldable pub for_head_at : ℕ → List Token → Read Head
-for_head_at high here = do
+for_head_at height_left here = do
   inside ← expect sign.OpenParenthesis here
-  (initial, second) ← optional_at high (statement_at high) sign.Semicolon inside
-  (condition, third) ← optional_at high (statement_at high) sign.Semicolon second
-  (update, behind) ← optional_at high (statement_at high) sign.CloseParenthesis third
+  (initial, second) ← optional_at height_left (statement_at height_left) sign.Semicolon inside
+  (condition, third) ← optional_at height_left (statement_at height_left) sign.Semicolon second
+  (update, behind) ← optional_at height_left (statement_at height_left) sign.CloseParenthesis third
   Some ((initial, condition, update), behind)
 
 -- ---- conditions with what stands around them
 
 -- the condition behind the body of a `do`
 unfoldable pub do_end_at : ℕ → List Token → Read (Expr Path)
-do_end_at high here = do
+do_end_at height_left here = do
   test ← expect_word word.While here
-  (condition, from) ← condition_at InMethod high test
+  (condition, from) ← condition_at InMethod height_left test
   rest ← expect sign.Semicolon from
   Some (condition, rest)
 
 -- what a `switch` is on, and the brace behind it
 unfoldable pub switch_head_at : ℕ → List Token → Read (Expr Path)
-switch_head_at high here = do
-  (on, brace) ← condition_at InMethod high here
+switch_head_at height_left here = do
+  (on, brace) ← condition_at InMethod height_left here
   inside ← expect sign.OpenBrace brace
   Some (on, inside)
 
 -- a statement of a word alone, or an expression
 unfoldable pub simple_at : ℕ → List Token → Read (Stmt Path)
-simple_at high here =
-    if at_word word.Break here then (expect sign.Semicolon (drop 1 here) >>= λ rest. Some (Break, rest))
-    else if at_word word.Continue here then (expect sign.Semicolon (drop 1 here) >>= λ rest. Some (Continue, rest))
-    else if at_word word.Return here then (expect sign.Semicolon (drop 1 here) >>= λ rest. Some (Return, rest))
-    else evaluate_at high (statement_at high) here
+simple_at height_left here =
+    if at_word word.Break here then (expect sign.Semicolon (drop 1 here)
+    >>= λ rest. Some (Break, rest))
+    else if at_word word.Continue here then (expect sign.Semicolon (drop 1 here)
+    >>= λ rest. Some (Continue, rest))
+    else if at_word word.Return here then (expect sign.Semicolon (drop 1 here)
+    >>= λ rest. Some (Return, rest))
+    else evaluate_at height_left (statement_at height_left) here

@@ -19,39 +19,45 @@ use edd_token_reader::operators::Place;
 
 // A value behind `=`, or none.
 #[tactic(auto, unfolding(edd_grammar::specs::DeclarationReading::value_at))]
-fn initial_value(cursor: &mut Cursor, high: u32) -> Result<Option<Expr<Path>>, ParseFault>
-    requires { high ≤ 100 }
-    ensures { Gives (option_map expr_view) result cursor.new (reading.value_at high cursor.old) }
+fn initial_value(cursor: &mut Cursor, height_left: u32) -> Result<Option<Expr<Path>>, ParseFault>
+    requires { height_left ≤ 100 }
+    ensures { Gives (option_map expr_view) result cursor.new
+        (reading.value_at height_left cursor.old) }
 {
     if !cursor.eat(Symbol::Equals) {
         return Ok(None);
     }
-    let value = expr(cursor, Place::Method, high, 1)?;
+    let value = expr(cursor, Place::Method, height_left, 1)?;
     Ok(Some(value.expr))
 }
 
 #[tactic(auto, unfolding(edd_grammar::specs::DeclarationReading::declarator_at))]
-fn declarator(cursor: &mut Cursor, high: u32) -> Result<Declarator<Path>, ParseFault>
-    requires { high ≤ 100 }
-    ensures { Gives declarator_view result cursor.new (reading.declarator_at high cursor.old) }
+fn declarator(cursor: &mut Cursor, height_left: u32) -> Result<Declarator<Path>, ParseFault>
+    requires { height_left ≤ 100 }
+    ensures { Gives declarator_view result cursor.new
+        (reading.declarator_at height_left cursor.old) }
 {
     let Some(name) = cursor.name() else {
         return Err(cursor.syntax());
     };
     let place = plain(cursor.alloc(), name)?;
-    let value = initial_value(cursor, high)?;
+    let value = initial_value(cursor, height_left)?;
     Ok(Declarator { place, value })
 }
 
 /// One or more declarators, parted by commas, with values of at most this height.
 #[tactic(auto, unfolding(edd_grammar::specs::DeclarationReading::declarators_at), using(crate::proofs::BodyLoops::declarators_read))]
-pub fn declarators(cursor: &mut Cursor, high: u32) -> Result<Vec<Declarator<Path>>, ParseFault>
-    requires { high ≤ 100 }
-    ensures { Gives (λ v. map declarator_view v.items) result cursor.new (reading.declarators_at high cursor.old) }
+pub fn declarators(
+    cursor: &mut Cursor,
+    height_left: u32,
+) -> Result<Vec<Declarator<Path>>, ParseFault>
+    requires { height_left ≤ 100 }
+    ensures { Gives (λ v. map declarator_view v.items) result cursor.new
+        (reading.declarators_at height_left cursor.old) }
 {
     let mut all = Vec::new(cursor.alloc());
     loop {
-        all.push(declarator(cursor, high)?)?;
+        all.push(declarator(cursor, height_left)?)?;
         if !cursor.eat(Symbol::Comma) {
             return Ok(all);
         }
@@ -65,19 +71,24 @@ pub fn is_at_local_type(cursor: &Cursor) -> bool
     cursor.at_word(Keyword::Int) || cursor.at_word(Keyword::Long)
 }
 
-/// A declaration of at most this height behind its type. Its declarators are one level below the type's word.
+/// A declaration of at most this height behind its type. Its declarators are one level below the
+/// type's word.
 #[tactic(auto, using(crate::proofs::BodyLoops::declarations))]
-pub fn declaration(cursor: &mut Cursor, high: u32) -> Result<Vec<Declarator<Path>>, ParseFault>
-    requires { high ≤ 100 }
-    ensures { Gives (λ v. map declarator_view v.items) result cursor.new (declaration_at high cursor.old) }
+pub fn declaration(
+    cursor: &mut Cursor,
+    height_left: u32,
+) -> Result<Vec<Declarator<Path>>, ParseFault>
+    requires { height_left ≤ 100 }
+    ensures { Gives (λ v. map declarator_view v.items) result cursor.new
+        (declaration_at height_left cursor.old) }
 {
-    if high == 0 {
+    if height_left == 0 {
         return Err(cursor.too_deep_taken());
     }
-    if high == 1 {
+    if height_left == 1 {
         return Err(cursor.too_deep());
     }
-    let all = declarators(cursor, high - 2)?;
+    let all = declarators(cursor, height_left - 2)?;
     cursor.expect(Symbol::Semicolon)?;
     Ok(all)
 }

@@ -24,8 +24,8 @@ pub fn switch(on: Expr<Path>, parts: Vec<Part<Path>>) -> Stmt<Path>
     Stmt::Switch(on, parts)
 }
 
-/// The statement in a box. A child is boxed as soon as it is read: the proof of a function that holds a whole statement
-/// where a fault can stop it is far longer.
+/// The statement in a box. A child is boxed as soon as it is read: the proof of a function that
+/// holds a whole statement where a fault can stop it is far longer.
 pub fn boxed(alloc: Global, statement: Stmt<Path>) -> Result<Box<Stmt<Path>>, AllocError>
     ensures { IfOk result (λ b. b.value ≡ statement) }
 {
@@ -45,7 +45,8 @@ pub fn if_else(
     first: Box<Stmt<Path>>,
     otherwise: Box<Stmt<Path>>,
 ) -> Stmt<Path>
-    ensures { stmt_view result ≡ tree.IfElse (expr_view condition) (stmt_view first.value) (stmt_view otherwise.value) }
+    ensures { stmt_view result ≡ tree.IfElse (expr_view condition) (stmt_view first.value)
+        (stmt_view otherwise.value) }
 {
     Stmt::IfElse(condition, first, otherwise)
 }
@@ -71,7 +72,9 @@ pub struct ForHead {
 }
 
 pub fn for_loop(head: ForHead, body: Box<Stmt<Path>>) -> Stmt<Path>
-    ensures { stmt_view result ≡ tree.For (option_map expr_view head.initial) (option_map expr_view head.condition) (option_map expr_view head.update) (stmt_view body.value) }
+    ensures { stmt_view result ≡ tree.For (option_map expr_view head.initial)
+        (option_map expr_view head.condition) (option_map expr_view head.update)
+        (stmt_view body.value) }
 {
     Stmt::For {
         initial: head.initial,

@@ -35,14 +35,19 @@ fn case_label(cursor: &mut Cursor) -> Result<i64, ParseFault>
 
 // An expression or none up to this sign, with the sign.
 #[tactic(auto, unfolding(edd_grammar::specs::StatementReading::optional_at))]
-fn optional(cursor: &mut Cursor, high: u32, sign: Symbol) -> Result<Option<Expr<Path>>, ParseFault>
-    requires { high ≤ 100 }
-    ensures { Gives (option_map expr_view) result cursor.new (reading.optional_at high (statement_at high) sign cursor.old) }
+fn optional(
+    cursor: &mut Cursor,
+    height_left: u32,
+    sign: Symbol,
+) -> Result<Option<Expr<Path>>, ParseFault>
+    requires { height_left ≤ 100 }
+    ensures { Gives (option_map expr_view) result cursor.new
+        (reading.optional_at height_left (statement_at height_left) sign cursor.old) }
 {
     if cursor.eat(sign) {
         return Ok(None);
     }
-    let e = expr(cursor, Place::Method, high, 1)?;
+    let e = expr(cursor, Place::Method, height_left, 1)?;
     cursor.expect(sign)?;
     Ok(Some(e.expr))
 }
@@ -51,25 +56,25 @@ fn optional(cursor: &mut Cursor, high: u32, sign: Symbol) -> Result<Option<Expr<
 #[tactic(auto, unfolding(crate::specs::Bodies::for_end_at))]
 fn for_end(
     cursor: &mut Cursor,
-    high: u32,
+    height_left: u32,
 ) -> Result<(Option<Expr<Path>>, Option<Expr<Path>>), ParseFault>
-    requires { high ≤ 100 }
-    ensures { Gives end_view result cursor.new (for_end_at high cursor.old) }
+    requires { height_left ≤ 100 }
+    ensures { Gives end_view result cursor.new (for_end_at height_left cursor.old) }
 {
-    let condition = optional(cursor, high, Symbol::Semicolon)?;
-    let update = optional(cursor, high, Symbol::CloseParenthesis)?;
+    let condition = optional(cursor, height_left, Symbol::Semicolon)?;
+    let update = optional(cursor, height_left, Symbol::CloseParenthesis)?;
     Ok((condition, update))
 }
 
 // The three expressions of a `for` in their parentheses.
 #[tactic(auto, unfolding(crate::specs::Bodies::for_head_at, crate::specs::Bodies::for_end_at))]
-fn for_head(cursor: &mut Cursor, high: u32) -> Result<ForHead, ParseFault>
-    requires { high ≤ 100 }
-    ensures { Gives head_view result cursor.new (for_head_at high cursor.old) }
+fn for_head(cursor: &mut Cursor, height_left: u32) -> Result<ForHead, ParseFault>
+    requires { height_left ≤ 100 }
+    ensures { Gives head_view result cursor.new (for_head_at height_left cursor.old) }
 {
     cursor.expect(Symbol::OpenParenthesis)?;
-    let initial = optional(cursor, high, Symbol::Semicolon)?;
-    let (condition, update) = for_end(cursor, high)?;
+    let initial = optional(cursor, height_left, Symbol::Semicolon)?;
+    let (condition, update) = for_end(cursor, height_left)?;
     Ok(ForHead {
         initial,
         condition,
@@ -79,23 +84,23 @@ fn for_head(cursor: &mut Cursor, high: u32) -> Result<ForHead, ParseFault>
 
 // The condition behind the body of a `do`.
 #[tactic(auto, unfolding(crate::specs::Bodies::do_end_at))]
-fn do_end(cursor: &mut Cursor, high: u32) -> Result<Expr<Path>, ParseFault>
-    requires { high ≤ 100 }
-    ensures { Gives expr_view result cursor.new (do_end_at high cursor.old) }
+fn do_end(cursor: &mut Cursor, height_left: u32) -> Result<Expr<Path>, ParseFault>
+    requires { height_left ≤ 100 }
+    ensures { Gives expr_view result cursor.new (do_end_at height_left cursor.old) }
 {
     cursor.expect_word(Keyword::While)?;
-    let condition = condition(cursor, Place::Method, high)?;
+    let condition = condition(cursor, Place::Method, height_left)?;
     cursor.expect(Symbol::Semicolon)?;
     Ok(condition)
 }
 
 // What a `switch` is on, and the brace behind it.
 #[tactic(auto, unfolding(crate::specs::Bodies::switch_head_at))]
-fn switch_head(cursor: &mut Cursor, high: u32) -> Result<Expr<Path>, ParseFault>
-    requires { high ≤ 100 }
-    ensures { Gives expr_view result cursor.new (switch_head_at high cursor.old) }
+fn switch_head(cursor: &mut Cursor, height_left: u32) -> Result<Expr<Path>, ParseFault>
+    requires { height_left ≤ 100 }
+    ensures { Gives expr_view result cursor.new (switch_head_at height_left cursor.old) }
 {
-    let on = condition(cursor, Place::Method, high)?;
+    let on = condition(cursor, Place::Method, height_left)?;
     cursor.expect(Symbol::OpenBrace)?;
     Ok(on)
 }
@@ -108,14 +113,16 @@ fn wrong_word(alloc: Global, word: Option<&str>, line: u32) -> ParseFault {
     }
 }
 
-// An expression as a statement. A reserved word that no rule has is refused by its name where the statement would begin with it.
+// An expression as a statement. A reserved word that no rule has is refused by its name where the
+// statement would begin with it.
 #[tactic(auto, unfolding(edd_grammar::specs::StatementReading::evaluate_at))]
-fn evaluate(cursor: &mut Cursor, high: u32) -> Result<Stmt<Path>, ParseFault>
-    requires { high ≤ 100 }
-    ensures { Gives stmt_view result cursor.new (reading.evaluate_at high (statement_at high) cursor.old) }
+fn evaluate(cursor: &mut Cursor, height_left: u32) -> Result<Stmt<Path>, ParseFault>
+    requires { height_left ≤ 100 }
+    ensures { Gives stmt_view result cursor.new
+        (reading.evaluate_at height_left (statement_at height_left) cursor.old) }
 {
     let word = left_out_reserved(cursor);
-    let e = match expr(cursor, Place::Method, high, 1) {
+    let e = match expr(cursor, Place::Method, height_left, 1) {
         Ok(e) => e.expr,
         Err(ParseFault::Syntax { line }) => return Err(wrong_word(cursor.alloc(), word, line)),
         Err(fault) => return Err(fault),
@@ -126,9 +133,9 @@ fn evaluate(cursor: &mut Cursor, high: u32) -> Result<Stmt<Path>, ParseFault>
 
 // A statement of a word alone, or an expression.
 #[tactic(auto, unfolding(crate::specs::Bodies::simple_at))]
-fn simple(cursor: &mut Cursor, high: u32) -> Result<Stmt<Path>, ParseFault>
-    requires { high ≤ 100 }
-    ensures { Gives stmt_view result cursor.new (simple_at high cursor.old) }
+fn simple(cursor: &mut Cursor, height_left: u32) -> Result<Stmt<Path>, ParseFault>
+    requires { height_left ≤ 100 }
+    ensures { Gives stmt_view result cursor.new (simple_at height_left cursor.old) }
 {
     let line = cursor.line();
     if cursor.eat_word(Keyword::Break) {
@@ -143,71 +150,74 @@ fn simple(cursor: &mut Cursor, high: u32) -> Result<Stmt<Path>, ParseFault>
         cursor.expect(Symbol::Semicolon)?;
         return Ok(Stmt::Return);
     }
-    evaluate(cursor, high)
+    evaluate(cursor, height_left)
 }
 
 /// A statement of at most this height.
 #[cycle(statement)]
 #[tactic(auto, using(crate::proofs::BodyLoops::levels))]
-fn statement(cursor: &mut Cursor, high: u32) -> Result<Stmt<Path>, ParseFault>
-    requires { high ≤ 100 }
-    ensures { Gives stmt_view result cursor.new (statement_at high cursor.old) }
+fn statement(cursor: &mut Cursor, height_left: u32) -> Result<Stmt<Path>, ParseFault>
+    requires { height_left ≤ 100 }
+    ensures { Gives stmt_view result cursor.new (statement_at height_left cursor.old) }
 {
-    if high == 0 {
+    if height_left == 0 {
         return Err(cursor.too_deep());
     }
-    layer(cursor, high - 1)
+    layer(cursor, height_left - 1)
 }
 
 // A statement of at most this height, in a box.
 #[cycle(statement)]
-fn child(cursor: &mut Cursor, high: u32) -> Result<Box<Stmt<Path>>, ParseFault>
-    requires { high ≤ 100 }
-    ensures { Gives (λ b. stmt_view b.value) result cursor.new (statement_at high cursor.old) }
+fn child(cursor: &mut Cursor, height_left: u32) -> Result<Box<Stmt<Path>>, ParseFault>
+    requires { height_left ≤ 100 }
+    ensures { Gives (λ b. stmt_view b.value) result cursor.new
+        (statement_at height_left cursor.old) }
 {
-    let inner = statement(cursor, high)?;
+    let inner = statement(cursor, height_left)?;
     Ok(boxed(cursor.alloc(), inner)?)
 }
 
 // A statement whose children are of at most this height.
 #[cycle(statement)]
 #[tactic(auto, unfolding(edd_grammar::specs::StatementReading::statement_layer, crate::specs::Bodies::simple_at))]
-fn layer(cursor: &mut Cursor, high: u32) -> Result<Stmt<Path>, ParseFault>
-    requires { high < 100 }
-    ensures { Gives stmt_view result cursor.new (reading.statement_layer high (statement_at high) cursor.old) }
+fn layer(cursor: &mut Cursor, height_left: u32) -> Result<Stmt<Path>, ParseFault>
+    requires { height_left < 100 }
+    ensures { Gives stmt_view result cursor.new
+        (reading.statement_layer height_left (statement_at height_left) cursor.old) }
 {
     if cursor.eat(Symbol::Semicolon) {
         return Ok(Stmt::Empty);
     }
     if cursor.eat(Symbol::OpenBrace) {
-        return Ok(block(body(cursor, high, false)?));
+        return Ok(block(body(cursor, height_left, false)?));
     }
     if cursor.eat_word(Keyword::MethodIf) {
-        return if_behind(cursor, high);
+        return if_behind(cursor, height_left);
     }
     if cursor.eat_word(Keyword::While) {
-        return while_behind(cursor, high);
+        return while_behind(cursor, height_left);
     }
     if cursor.eat_word(Keyword::Do) {
-        return do_behind(cursor, high);
+        return do_behind(cursor, height_left);
     }
     if cursor.eat_word(Keyword::For) {
-        return for_behind(cursor, high);
+        return for_behind(cursor, height_left);
     }
     if cursor.eat_word(Keyword::Switch) {
-        return switch_behind(cursor, high);
+        return switch_behind(cursor, height_left);
     }
-    simple(cursor, high)
+    simple(cursor, height_left)
 }
 
 // A body behind its opening brace, with the closing one.
 #[cycle(statement)]
 #[tactic(auto, unfolding(edd_grammar::specs::StatementReading::body_at))]
-fn body(cursor: &mut Cursor, high: u32, labels: bool) -> Result<Vec<Part<Path>>, ParseFault>
-    requires { high ≤ 100 }
-    ensures { Gives (λ v. body_view v.items) result cursor.new (reading.body_at high (statement_at high) labels cursor.old) }
+fn body(cursor: &mut Cursor, height_left: u32, labels: bool) -> Result<Vec<Part<Path>>, ParseFault>
+    requires { height_left ≤ 100 }
+    ensures { Gives (λ v. body_view v.items) result cursor.new
+        (reading.body_at height_left (statement_at height_left) labels cursor.old) }
 {
-    let parts = parts(cursor, high, labels)?;
+    let parts = parts(cursor, height_left, labels)?;
     cursor.expect(Symbol::CloseBrace)?;
     Ok(parts)
 }
@@ -215,13 +225,15 @@ fn body(cursor: &mut Cursor, high: u32, labels: bool) -> Result<Vec<Part<Path>>,
 // The parts up to the closing brace.
 #[cycle(statement)]
 #[tactic(auto, using(crate::proofs::BodyLoops::parts_read))]
-fn parts(cursor: &mut Cursor, high: u32, labels: bool) -> Result<Vec<Part<Path>>, ParseFault>
-    requires { high ≤ 100 }
-    ensures { Gives (λ v. body_view v.items) result cursor.new (reading.parts_at high (statement_at high) labels (length cursor.old + 1) cursor.old) }
+fn parts(cursor: &mut Cursor, height_left: u32, labels: bool) -> Result<Vec<Part<Path>>, ParseFault>
+    requires { height_left ≤ 100 }
+    ensures { Gives (λ v. body_view v.items) result cursor.new
+        (reading.parts_at height_left (statement_at height_left) labels (length cursor.old + 1)
+        cursor.old) }
 {
     let mut all = Vec::new(cursor.alloc());
     while !cursor.at(Symbol::CloseBrace) {
-        all.push(part(cursor, high, labels)?)?;
+        all.push(part(cursor, height_left, labels)?)?;
     }
     Ok(all)
 }
@@ -229,14 +241,15 @@ fn parts(cursor: &mut Cursor, high: u32, labels: bool) -> Result<Vec<Part<Path>>
 // A declaration, a label where labels may stand, or a statement.
 #[cycle(statement)]
 #[tactic(auto, unfolding(edd_grammar::specs::StatementReading::part_at))]
-fn part(cursor: &mut Cursor, high: u32, labels: bool) -> Result<Part<Path>, ParseFault>
-    requires { high ≤ 100 }
-    ensures { Gives part_view result cursor.new (reading.part_at high (statement_at high) labels cursor.old) }
+fn part(cursor: &mut Cursor, height_left: u32, labels: bool) -> Result<Part<Path>, ParseFault>
+    requires { height_left ≤ 100 }
+    ensures { Gives part_view result cursor.new
+        (reading.part_at height_left (statement_at height_left) labels cursor.old) }
 {
     let line = cursor.line();
     if is_at_local_type(cursor) {
         cursor.bump();
-        return Ok(Part::Declare(declaration(cursor, high)?));
+        return Ok(Part::Declare(declaration(cursor, height_left)?));
     }
     if labels && cursor.at_word(Keyword::MethodCase) {
         cursor.bump();
@@ -248,19 +261,20 @@ fn part(cursor: &mut Cursor, high: u32, labels: bool) -> Result<Part<Path>, Pars
         cursor.expect(Symbol::Colon)?;
         return Ok(Part::DefaultLabel { line });
     }
-    Ok(Part::Statement(statement(cursor, high)?))
+    Ok(Part::Statement(statement(cursor, height_left)?))
 }
 
 // Behind `if`.
 #[cycle(statement)]
 #[tactic(auto, unfolding(edd_grammar::specs::StatementReading::method_if_at))]
-fn if_behind(cursor: &mut Cursor, high: u32) -> Result<Stmt<Path>, ParseFault>
-    requires { high < 100 }
-    ensures { Gives stmt_view result cursor.new (reading.method_if_at high (statement_at high) cursor.old) }
+fn if_behind(cursor: &mut Cursor, height_left: u32) -> Result<Stmt<Path>, ParseFault>
+    requires { height_left < 100 }
+    ensures { Gives stmt_view result cursor.new
+        (reading.method_if_at height_left (statement_at height_left) cursor.old) }
 {
-    let condition = condition(cursor, Place::Method, high)?;
-    let first = child(cursor, high)?;
-    else_behind(cursor, high, condition, first)
+    let condition = condition(cursor, Place::Method, height_left)?;
+    let first = child(cursor, height_left)?;
+    else_behind(cursor, height_left, condition, first)
 }
 
 // An `else` belongs to the nearest `if`.
@@ -268,73 +282,80 @@ fn if_behind(cursor: &mut Cursor, high: u32) -> Result<Stmt<Path>, ParseFault>
 #[tactic(auto, unfolding(edd_grammar::specs::StatementReading::method_else_at))]
 fn else_behind(
     cursor: &mut Cursor,
-    high: u32,
+    height_left: u32,
     condition: Expr<Path>,
     first: Box<Stmt<Path>>,
 ) -> Result<Stmt<Path>, ParseFault>
-    requires { high < 100 }
-    ensures { Gives stmt_view result cursor.new (reading.method_else_at high (statement_at high) (expr_view condition) (stmt_view first.value) cursor.old) }
+    requires { height_left < 100 }
+    ensures { Gives stmt_view result cursor.new
+        (reading.method_else_at height_left (statement_at height_left) (expr_view condition)
+        (stmt_view first.value) cursor.old) }
 {
     if !cursor.eat_word(Keyword::MethodElse) {
         return Ok(if_alone(condition, first));
     }
-    let otherwise = child(cursor, high)?;
+    let otherwise = child(cursor, height_left)?;
     Ok(if_else(condition, first, otherwise))
 }
 
 // Behind `while`.
 #[cycle(statement)]
 #[tactic(auto, unfolding(edd_grammar::specs::StatementReading::while_at))]
-fn while_behind(cursor: &mut Cursor, high: u32) -> Result<Stmt<Path>, ParseFault>
-    requires { high < 100 }
-    ensures { Gives stmt_view result cursor.new (reading.while_at high (statement_at high) cursor.old) }
+fn while_behind(cursor: &mut Cursor, height_left: u32) -> Result<Stmt<Path>, ParseFault>
+    requires { height_left < 100 }
+    ensures { Gives stmt_view result cursor.new
+        (reading.while_at height_left (statement_at height_left) cursor.old) }
 {
-    let condition = condition(cursor, Place::Method, high)?;
-    let body = child(cursor, high)?;
+    let condition = condition(cursor, Place::Method, height_left)?;
+    let body = child(cursor, height_left)?;
     Ok(while_loop(condition, body))
 }
 
 // Behind `do`.
 #[cycle(statement)]
 #[tactic(auto, unfolding(edd_grammar::specs::StatementReading::do_at, crate::specs::Bodies::do_end_at))]
-fn do_behind(cursor: &mut Cursor, high: u32) -> Result<Stmt<Path>, ParseFault>
-    requires { high < 100 }
-    ensures { Gives stmt_view result cursor.new (reading.do_at high (statement_at high) cursor.old) }
+fn do_behind(cursor: &mut Cursor, height_left: u32) -> Result<Stmt<Path>, ParseFault>
+    requires { height_left < 100 }
+    ensures { Gives stmt_view result cursor.new
+        (reading.do_at height_left (statement_at height_left) cursor.old) }
 {
-    let body = child(cursor, high)?;
-    let condition = do_end(cursor, high)?;
+    let body = child(cursor, height_left)?;
+    let condition = do_end(cursor, height_left)?;
     Ok(do_loop(body, condition))
 }
 
 // Behind `for`.
 #[cycle(statement)]
 #[tactic(auto, unfolding(edd_grammar::specs::StatementReading::for_at, crate::specs::Bodies::for_head_at))]
-fn for_behind(cursor: &mut Cursor, high: u32) -> Result<Stmt<Path>, ParseFault>
-    requires { high < 100 }
-    ensures { Gives stmt_view result cursor.new (reading.for_at high (statement_at high) cursor.old) }
+fn for_behind(cursor: &mut Cursor, height_left: u32) -> Result<Stmt<Path>, ParseFault>
+    requires { height_left < 100 }
+    ensures { Gives stmt_view result cursor.new
+        (reading.for_at height_left (statement_at height_left) cursor.old) }
 {
-    let head = for_head(cursor, high)?;
-    let body = child(cursor, high)?;
+    let head = for_head(cursor, height_left)?;
+    let body = child(cursor, height_left)?;
     Ok(for_loop(head, body))
 }
 
 // Behind `switch`.
 #[cycle(statement)]
 #[tactic(auto, unfolding(edd_grammar::specs::StatementReading::switch_at, crate::specs::Bodies::switch_head_at))]
-fn switch_behind(cursor: &mut Cursor, high: u32) -> Result<Stmt<Path>, ParseFault>
-    requires { high < 100 }
-    ensures { Gives stmt_view result cursor.new (reading.switch_at high (statement_at high) cursor.old) }
+fn switch_behind(cursor: &mut Cursor, height_left: u32) -> Result<Stmt<Path>, ParseFault>
+    requires { height_left < 100 }
+    ensures { Gives stmt_view result cursor.new
+        (reading.switch_at height_left (statement_at height_left) cursor.old) }
 {
-    let on = switch_head(cursor, high)?;
-    let parts = body(cursor, high, true)?;
+    let on = switch_head(cursor, height_left)?;
+    let parts = body(cursor, height_left, true)?;
     Ok(switch(on, parts))
 }
 
 /// The body of a method of at most this height, behind its opening brace, with the closing one.
 #[tactic(auto, unfolding(edd_grammar::specs::StatementReading::definition_at))]
-pub fn definition(cursor: &mut Cursor, high: u32) -> Result<Vec<Part<Path>>, ParseFault>
-    requires { high ≤ 100 }
-    ensures { Gives (λ v. body_view v.items) result cursor.new (reading.definition_at high cursor.old) }
+pub fn definition(cursor: &mut Cursor, height_left: u32) -> Result<Vec<Part<Path>>, ParseFault>
+    requires { height_left ≤ 100 }
+    ensures { Gives (λ v. body_view v.items) result cursor.new
+        (reading.definition_at height_left cursor.old) }
 {
-    body(cursor, high, false)
+    body(cursor, height_left, false)
 }

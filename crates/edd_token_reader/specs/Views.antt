@@ -34,8 +34,10 @@ Says (fault.TooDeep line) P = P
 Says (fault.Unsupported word) P = P
 Says fault.Memory P = Unit {0}
 
--- What a call answered, seen by `view`, with the tokens that it left, is what reading gives, unless memory ran out.
-abbrev pub Gives : {X Y : Type 0} → (X → Y) → Result X ParseFault → List pure.Token → Read Y → Type 0
+-- What a call answered, seen by `view`, with the tokens that it left, is what reading gives, unless
+-- memory ran out.
+abbrev pub Gives : {X Y : Type 0} → (X → Y) → Result X ParseFault → List pure.Token → Read Y
+    → Type 0
 Gives view (Ok x) left read = read ≡ Some (view x, left)
 Gives view (Err fault.Memory) left read = Unit {0}
 Gives view (Err (fault.Syntax line)) left read = read ≡ None
@@ -50,7 +52,9 @@ Leaves (Err (fault.Syntax line)) left read = read ≡ None
 Leaves (Err (fault.TooDeep line)) left read = read ≡ None
 Leaves (Err (fault.Unsupported word)) left read = read ≡ None
 
--- What a call took from the front, seen by `view`, is what reading gives; where it took nothing, the tokens stay.
-abbrev pub Takes : {X Y : Type 0} → (X → Y) → Option X → List pure.Token → List pure.Token → Read Y → Type 0
+-- What a call took from the front, seen by `view`, is what reading gives; where it took nothing,
+-- the tokens stay.
+abbrev pub Takes : {X Y : Type 0} → (X → Y) → Option X → List pure.Token → List pure.Token → Read Y
+    → Type 0
 Takes view (Some x) here left read = read ≡ Some (view x, left)
 Takes view None here left read = (read ≡ None) × (left ≡ here)

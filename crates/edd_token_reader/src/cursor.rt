@@ -103,7 +103,8 @@ impl<'a> Cursor<'a> {
         self.line_of(self.taken())
     }
 
-    /// The fault where the next token fits nothing. LIKE behind a name would change another item, and is refused by its name.
+    /// The fault where the next token fits nothing. LIKE behind a name would change another item,
+    /// and is refused by its name.
     pub fn syntax(&self) -> ParseFault {
         if self.has_taken_name() && self.at_name("LIKE") {
             return ParseFault::unsupported(self.alloc, "LIKE");
@@ -198,7 +199,8 @@ impl<'a> Cursor<'a> {
 
     /// The name that is next. It isn't taken.
     pub fn peek_name(&self) -> Option<&'a str>
-        ensures { option_map (λ n. n.now) result ≡ option_map (λ r. r.0) (reading.name_at self.now) }
+        ensures { option_map (λ n. n.now) result
+            ≡ option_map (λ r. r.0) (reading.name_at self.now) }
     {
         match self.rest {
             [

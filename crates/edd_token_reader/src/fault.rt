@@ -6,7 +6,8 @@ ghost use Rattle.edd_token_reader.specs.declared.fault.ParseFault.TheVariants.{M
 use std::alloc::{AllocError, AllocFailed, Global};
 use thiserror::Error;
 
-/// Why tokens were refused. It prints its number, its kind and its line, counted from 1, or the word.
+/// Why tokens were refused. It prints its number, its kind and its line, counted from 1, or the
+/// word.
 #[derive(Debug, Drop, PartialEq, Eq, Error)]
 pub enum ParseFault {
     #[error("10 SYNTAX line {line}")]

@@ -83,7 +83,8 @@ fn left_out<'a>(cursor: &Cursor<'a>) -> Option<&'a str> {
     }
 }
 
-/// The fault where an item, an attribute, a qualifier or a statement may begin and the next token fits nothing.
+/// The fault where an item, an attribute, a qualifier or a statement may begin and the next token
+/// fits nothing.
 pub fn misfit(cursor: &Cursor) -> ParseFault {
     match left_out(cursor) {
         Some(word) => ParseFault::unsupported(cursor.alloc(), word),

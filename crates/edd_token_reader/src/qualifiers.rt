@@ -36,7 +36,8 @@ fn is_allowed(kind: Qualified, name: &str) -> bool
 // A name that is allowed.
 #[tactic(auto, unfolding(edd_grammar::specs::ValueReading::allowed_at))]
 fn allowed<'a>(cursor: &mut Cursor<'a>, kind: Qualified) -> Result<&'a str, ParseFault>
-    ensures { Gives (λ n. n.now) result cursor.new (reading.allowed_at (allowed_names kind) cursor.old) }
+    ensures { Gives (λ n. n.now) result cursor.new
+        (reading.allowed_at (allowed_names kind) cursor.old) }
 {
     let Some(name) = cursor.name() else {
         return Err(misfit(cursor));
@@ -66,7 +67,8 @@ fn some_qualifiers<'a>(cursor: &mut Cursor<'a>, kind: Qualified) -> Result<Vec<&
 /// Qualifiers in parentheses, or none.
 #[tactic(auto, unfolding(edd_grammar::specs::ValueReading::qualifiers_at), using(crate::proofs::QualifierLoops::names_opened))]
 fn qualifiers<'a>(cursor: &mut Cursor<'a>, kind: Qualified) -> Result<Vec<&'a str>, ParseFault>
-    ensures { Gives (λ v. texts_of v.items) result cursor.new (reading.qualifiers_at (allowed_names kind) cursor.old) }
+    ensures { Gives (λ v. texts_of v.items) result cursor.new
+        (reading.qualifiers_at (allowed_names kind) cursor.old) }
 {
     if !cursor.eat(Symbol::OpenParenthesis) {
         return Ok(Vec::new(cursor.alloc()));

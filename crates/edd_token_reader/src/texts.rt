@@ -14,7 +14,8 @@ use edd_syntax::text::Text;
 
 // The members behind a path's first name.
 fn members(cursor: &mut Cursor) -> Result<Vec<String>, ParseFault>
-    ensures { Gives (λ v. map string_bytes v.items) result cursor.new (Some (members_at cursor.old)) }
+    ensures { Gives (λ v. map string_bytes v.items) result cursor.new
+        (Some (members_at cursor.old)) }
 {
     let mut members = Vec::new(cursor.alloc());
     while let Some(name) = cursor.member() {

@@ -9,9 +9,17 @@ use Rattle.edd_expression_parser.proofs.trees.call.Goals as goal
 pub invariant_of-result : goal.invariant_of-result
 invariant_of-result c =
     let all = c.args.arguments in
-    record { counted = omega (arith, ap height (call_is path_of _ c.args.line c.in_ok-function.function all.arguments refl), all.counted) }
+    record {
+      counted = omega (
+        arith,
+        ap height (call_is path_of _ c.args.line c.in_ok-function.function all.arguments
+            refl),
+        all.counted,
+      );
+    }
 
 pub returns : goal.returns
 returns c =
     let all = c.args.arguments.arguments in
-    call_is path_of _ c.args.line c.in_ok-function.function all refl ∙ ap (λ f. tree.Call f (listed all.items)) c.in_ok-function.ensures
+    call_is path_of _ c.args.line c.in_ok-function.function all refl
+    ∙ ap (λ f. tree.Call f (listed all.items)) c.in_ok-function.ensures

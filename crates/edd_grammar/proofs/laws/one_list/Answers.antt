@@ -6,4 +6,5 @@ use Rattle.edd_grammar.proofs.ValueKinds.{listed_texts}
 use Rattle.edd_grammar.proofs.laws.one_list.Goals as goal
 
 pub returns : goal.returns
-returns c = λ all others here rest behind h k f g. list_unique leaf TextHere (λ rest. Unit {0}) text_value listed_texts all others here rest behind h k f g
+returns c = λ all others here rest behind h k f g. list_unique leaf TextHere (λ rest. Unit {0})
+    text_value listed_texts all others here rest behind h k f g

@@ -6,4 +6,5 @@ use Rattle.edd_grammar.proofs.ValueKinds.{expr_value_sound}
 use Rattle.edd_grammar.proofs.laws.read_conditional_values_are_spelled.Goals as goal
 
 pub returns : goal.returns
-returns c = λ high here x rest e. one_sound height (ExprHere InAttribute 2) expr_value expr_value_sound high here x rest e
+returns c = λ height_left here x rest e. one_sound height (ExprHere InAttribute 2) expr_value
+    expr_value_sound height_left here x rest e

@@ -6,4 +6,5 @@ use Rattle.edd_grammar.proofs.ValueKinds.{text_value_sound}
 use Rattle.edd_grammar.proofs.laws.read_lists_are_spelled.Goals as goal
 
 pub returns : goal.returns
-returns c = λ high here all rest e. list_sound leaf TextHere text_value text_value_sound high here all rest e
+returns c = λ height_left here all rest e. list_sound leaf TextHere text_value text_value_sound
+    height_left here all rest e

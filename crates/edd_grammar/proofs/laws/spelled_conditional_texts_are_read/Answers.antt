@@ -6,4 +6,5 @@ use Rattle.edd_grammar.proofs.ValueKinds.{text_values}
 use Rattle.edd_grammar.proofs.laws.spelled_conditional_texts_are_read.Goals as goal
 
 pub returns : goal.returns
-returns c = λ high x here rest h low. one_again leaf TextHere text_value text_values high x here rest h low
+returns c = λ height_left x here rest h low. one_again leaf TextHere text_value text_values
+    height_left x here rest h low

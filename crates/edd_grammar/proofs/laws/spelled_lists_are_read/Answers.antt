@@ -6,4 +6,5 @@ use Rattle.edd_grammar.proofs.ValueKinds.{listed_texts}
 use Rattle.edd_grammar.proofs.laws.spelled_lists_are_read.Goals as goal
 
 pub returns : goal.returns
-returns c = λ high all here rest h low f. list_again leaf TextHere (λ rest. Unit {0}) text_value listed_texts high all here rest h low f
+returns c = λ height_left all here rest h low f. list_again leaf TextHere (λ rest. Unit {0})
+    text_value listed_texts height_left all here rest h low f

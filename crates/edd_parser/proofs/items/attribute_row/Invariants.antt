@@ -5,7 +5,9 @@ use Rattle.edd_parser.proofs.RowLoops.{attributes_here}
 use Rattle.edd_parser.proofs.items.attribute_row.Given as goal
 
 abbrev pub invariant-loop-kind : goal.invariant-loop-kind
-invariant-loop-kind l = with_things attribute_view l.all.items (attributes_here l.kind l.high l.cursor) ≡ attributes_here l.kind l.high l.fn.cursor
+invariant-loop-kind l = with_things attribute_view l.all.items
+    (attributes_here l.kind l.height_left l.cursor) ≡ attributes_here l.kind l.height_left
+    l.fn.cursor
 
 abbrev pub decreases-loop-kind : goal.decreases-loop-kind
 decreases-loop-kind l = length l.cursor

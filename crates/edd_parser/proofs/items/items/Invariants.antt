@@ -5,7 +5,8 @@ use Rattle.edd_parser.proofs.RowLoops.{items_here}
 use Rattle.edd_parser.proofs.items.items.Given as goal
 
 abbrev pub invariant-loop-all : goal.invariant-loop-all
-invariant-loop-all l = with_things item_view l.all.items (items_here l.cursor) ≡ items_here l.fn.cursor
+invariant-loop-all l = with_things item_view l.all.items (items_here l.cursor)
+    ≡ items_here l.fn.cursor
 
 abbrev pub decreases-loop-all : goal.decreases-loop-all
 decreases-loop-all l = length l.cursor

@@ -9,4 +9,5 @@ new-cursor-requires c = tokens_readable c.args.text.now c.args.tokens.now c.requ
 
 -- the cursor's tokens are those of the text
 pub whole-requires : goal.whole-requires
-whole-requires c = subst Kept (sym c.new-cursor.ensures) (kept_tokens c.args.text.now c.args.tokens.now c.requires)
+whole-requires c = subst Kept (sym c.new-cursor.ensures)
+    (kept_tokens c.args.text.now c.args.tokens.now c.requires)

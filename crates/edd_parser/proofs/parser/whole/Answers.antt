@@ -6,4 +6,8 @@ pub invariant_of-result : goal.invariant_of-result
 invariant_of-result c =
     let i = identification_of c.in_ok-identification.identification in
     let all = named_items c.in_ok-items.items.items in
-    record { kept = read_is_kept c.args.cursor.now _ (parts_read c.args.cursor.now _ _ i all c.in_ok-identification.ensures c.in_ok-items.ensures) c.requires }
+    record {
+      kept = read_is_kept c.args.cursor.now _
+          (parts_read c.args.cursor.now _ _ i all c.in_ok-identification.ensures
+          c.in_ok-items.ensures) c.requires;
+    }

@@ -1,10 +1,13 @@
-use Rattle.std.proofs.Common.{◌≡◌, ℕ, ◌+◌, ◌-◌, List, length}
-use Rattle.edd_syntax.specs.Token.{Token}
-use Rattle.edd_grammar.specs.WordReading.{at_close, row_at}
+use Rattle.std.proofs.Common.{◌≡◌, length}
 use Rattle.edd_token_reader.proofs.Fronts.{with_things}
+use Rattle.edd_parser.proofs.RowLoops.{things_here}
 use Rattle.edd_parser.proofs.rows.row.Given as goal
 
-abbrev pub invariant-loop : goal.invariant-loop
-invariant-loop g l =
-    let read = λ (n : ℕ) (here : List Token). row_at at_close (g.T.Thing.read l.high) n here in
-    with_things g.T.Thing.view l.all.items (read (length l.fn.cursor + 1 - l.counter) l.cursor) ≡ read (length l.fn.cursor + 1) l.fn.cursor
+abbrev pub invariant-loop-all : goal.invariant-loop-all
+invariant-loop-all g l =
+    let view = g.T.RowElement.view in
+    let read = things_here view g.T.RowElement.read l.height_left in
+    with_things view l.all.items (read l.cursor) ≡ read l.fn.cursor
+
+abbrev pub decreases-loop-all : goal.decreases-loop-all
+decreases-loop-all g l = length l.cursor

@@ -5,4 +5,5 @@ use Rattle.edd_token_reader.proofs.qualifiers.is_in.Given as goal
 
 -- the names so far are others
 abbrev pub invariant-loop-name : goal.invariant-loop-name
-invariant-loop-name l = is_name_in (texts_of (drop l.name-index l.names)) l.word ≡ is_name_in (texts_of l.names) l.word
+invariant-loop-name l = is_name_in (texts_of (drop l.name-index l.names)) l.word
+    ≡ is_name_in (texts_of l.names) l.word

@@ -8,4 +8,5 @@ pub invariant_of-self : goal.invariant_of-self
 invariant_of-self c =
     let text = c.self.inside.text.now in
     let rest = c.self.inside.rest.now in
-    All-take (IsReadable text) (length rest - 2) (drop 2 rest) (All-drop (IsReadable text) 2 rest c.self.invariant)
+    All-take (IsReadable text) (length rest - 2) (drop 2 rest)
+    (All-drop (IsReadable text) 2 rest c.self.invariant)
