@@ -39,7 +39,8 @@ use Rattle.edd_assembly.proofs.WrittenBodies.{of_picked}
 
 module _ {Y : Type 0} (f : Y → ℕ) (n : ℕ) where
   -- what is made of a part that is there
-  through : {A : Type 0} (o : Option A) (make : A → Option Y) (y : Y) → (o >>= make) ≡ Some y → ((x : A) → o ≡ Some x → make x ≡ Some y → f y ≡ n) → f y ≡ n
+  through : {A : Type 0} (o : Option A) (make : A → Option Y) (y : Y) → (o >>= make) ≡ Some y
+      → ((x : A) → o ≡ Some x → make x ≡ Some y → f y ≡ n) → f y ≡ n
   through None make y h more = absurd (none-some y h)
   through (Some x) make y h more = more x refl h
 
@@ -47,64 +48,107 @@ module _ {Y : Type 0} (f : Y → ℕ) (n : ℕ) where
   it_is x y h same = ap f (sym (same_Some x y h)) ∙ same
 
 module _ (unit : Description Path) where
-  same_length : (scope : Scope) (next : ℕ) (ds : List (Declarator Path)) (ys : List (Declarator Target)) → resolved_declarators unit scope next ds ≡ Some ys → length ys ≡ length ds
+  same_length : (scope : Scope) (next : ℕ) (ds : List (Declarator Path))
+      (ys : List (Declarator Target)) → resolved_declarators unit scope next ds ≡ Some ys
+      → length ys ≡ length ds
   same_length scope next [] ys h = it_is length 0 [] ys h refl
   same_length scope next (d ∷ rest) ys h =
-      through length (suc (length rest)) (resolved_optional (at_scope unit scope) d.value) _ ys h (λ value e k.
-      through length (suc (length rest)) (resolved_declarators unit (declared d.place next scope) (next + 1) rest) _ ys k (λ others e' l.
-      it_is length (suc (length rest)) (record { place = Local next; value = value } ∷ others) ys l (ap suc (same_length (declared d.place next scope) (next + 1) rest others e'))))
+      through length (suc (length rest)) (resolved_optional (at_scope unit scope) d.value) _ ys h
+      (λ value e k.
+      through length (suc (length rest)) (resolved_declarators unit (declared d.place next scope)
+      (next + 1) rest) _ ys k (λ others e' l.
+      it_is length (suc (length rest)) (record { place = Local next; value = value } ∷ others) ys l
+      (ap suc (same_length (declared d.place next scope) (next + 1) rest others e'))))
 
   mutual
     unfolding resolved_stmt slots_of
 
-    same_slots : (x : Stmt Path) (scope : Scope) (next : ℕ) (y : Stmt Target) → resolved_stmt unit x scope next ≡ Some y → slots_of y ≡ slots_of x
+    same_slots : (x : Stmt Path) (scope : Scope) (next : ℕ) (y : Stmt Target)
+        → resolved_stmt unit x scope next ≡ Some y → slots_of y ≡ slots_of x
     same_slots s.Empty scope next y h = it_is slots_of 0 s.Empty y h refl
-    same_slots (s.Evaluate e) scope next y h = through slots_of 0 (resolved_expr (at_scope unit scope) e) _ y h (λ e' is k. it_is slots_of 0 (s.Evaluate e') y k refl)
-    same_slots (s.Block body) scope next y h = through slots_of (slots_in body) (resolved_body unit body scope next) _ y h (λ b is k. it_is slots_of (slots_in body) (s.Block b) y k (same_slots_in body scope next b is))
+    same_slots (s.Evaluate e) scope next y h =
+        through slots_of 0 (resolved_expr (at_scope unit scope) e) _ y h
+        (λ e' is k. it_is slots_of 0 (s.Evaluate e') y k refl)
+    same_slots (s.Block body) scope next y h =
+        through slots_of (slots_in body) (resolved_body unit body scope next) _ y h
+        (λ b is k. it_is slots_of (slots_in body) (s.Block b) y k
+        (same_slots_in body scope next b is))
     same_slots (s.If condition first) scope next y h =
-        through slots_of (slots_of first) (resolved_expr (at_scope unit scope) condition) _ y h (λ c is k.
-        through slots_of (slots_of first) (resolved_stmt unit first scope next) _ y k (λ a is' l. it_is slots_of (slots_of first) (s.If c a) y l (same_slots first scope next a is')))
+        through slots_of (slots_of first) (resolved_expr (at_scope unit scope) condition) _ y h
+        (λ c is k.
+        through slots_of (slots_of first) (resolved_stmt unit first scope next) _ y k
+        (λ a is' l. it_is slots_of (slots_of first) (s.If c a) y l
+        (same_slots first scope next a is')))
     same_slots (s.IfElse condition first otherwise) scope next y h =
         let all = slots_of first + slots_of otherwise in
         through slots_of all (resolved_expr (at_scope unit scope) condition) _ y h (λ c is k.
         through slots_of all (resolved_stmt unit first scope next) _ y k (λ a is' l.
-        through slots_of all (resolved_stmt unit otherwise scope (next + slots_of first)) _ y l (λ b is'' m.
-        it_is slots_of all (s.IfElse c a b) y m (ap (λ n. n + slots_of b) (same_slots first scope next a is') ∙ ap (λ n. slots_of first + n) (same_slots otherwise scope (next + slots_of first) b is'')))))
+        through slots_of all (resolved_stmt unit otherwise scope (next + slots_of first)) _ y l
+        (λ b is'' m.
+        it_is slots_of all (s.IfElse c a b) y m
+        (ap (λ n. n + slots_of b) (same_slots first scope next a is')
+        ∙ ap (λ n. slots_of first + n) (same_slots otherwise scope (next + slots_of first) b
+        is'')))))
     same_slots (s.While condition body) scope next y h =
-        through slots_of (slots_of body) (resolved_expr (at_scope unit scope) condition) _ y h (λ c is k.
-        through slots_of (slots_of body) (resolved_stmt unit body scope next) _ y k (λ b is' l. it_is slots_of (slots_of body) (s.While c b) y l (same_slots body scope next b is')))
+        through slots_of (slots_of body) (resolved_expr (at_scope unit scope) condition) _ y h
+        (λ c is k.
+        through slots_of (slots_of body) (resolved_stmt unit body scope next) _ y k
+        (λ b is' l. it_is slots_of (slots_of body) (s.While c b) y l
+        (same_slots body scope next b is')))
     same_slots (s.Do body condition) scope next y h =
         through slots_of (slots_of body) (resolved_stmt unit body scope next) _ y h (λ b is' k.
-        through slots_of (slots_of body) (resolved_expr (at_scope unit scope) condition) _ y k (λ c is l. it_is slots_of (slots_of body) (s.Do b c) y l (same_slots body scope next b is')))
+        through slots_of (slots_of body) (resolved_expr (at_scope unit scope) condition) _ y k
+        (λ c is l. it_is slots_of (slots_of body) (s.Do b c) y l
+        (same_slots body scope next b is')))
     same_slots (s.For initial condition update body) scope next y h =
-        through slots_of (slots_of body) (resolved_optional (at_scope unit scope) initial) _ y h (λ i is k.
-        through slots_of (slots_of body) (resolved_optional (at_scope unit scope) condition) _ y k (λ c is' l.
-        through slots_of (slots_of body) (resolved_optional (at_scope unit scope) update) _ y l (λ u is'' m.
-        through slots_of (slots_of body) (resolved_stmt unit body scope next) _ y m (λ b is''' n. it_is slots_of (slots_of body) (s.For i c u b) y n (same_slots body scope next b is''')))))
+        through slots_of (slots_of body) (resolved_optional (at_scope unit scope) initial) _ y h
+        (λ i is k.
+        through slots_of (slots_of body) (resolved_optional (at_scope unit scope) condition) _ y k
+        (λ c is' l.
+        through slots_of (slots_of body) (resolved_optional (at_scope unit scope) update) _ y l
+        (λ u is'' m.
+        through slots_of (slots_of body) (resolved_stmt unit body scope next) _ y m
+        (λ b is''' n. it_is slots_of (slots_of body) (s.For i c u b) y n
+        (same_slots body scope next b is''')))))
     same_slots (s.Switch on body) scope next y h =
         through slots_of (slots_in body) (resolved_expr (at_scope unit scope) on) _ y h (λ o is k.
-        through slots_of (slots_in body) (resolved_body unit body scope next) _ y k (λ b is' l. it_is slots_of (slots_in body) (s.Switch o b) y l (same_slots_in body scope next b is')))
+        through slots_of (slots_in body) (resolved_body unit body scope next) _ y k
+        (λ b is' l. it_is slots_of (slots_in body) (s.Switch o b) y l
+        (same_slots_in body scope next b is')))
     same_slots s.Break scope next y h = it_is slots_of 0 s.Break y h refl
     same_slots s.Continue scope next y h = it_is slots_of 0 s.Continue y h refl
     same_slots s.Return scope next y h = it_is slots_of 0 s.Return y h refl
 
-    same_slots_in : (x : Body Path) (scope : Scope) (next : ℕ) (y : Body Target) → resolved_body unit x scope next ≡ Some y → slots_in y ≡ slots_in x
+    same_slots_in : (x : Body Path) (scope : Scope) (next : ℕ) (y : Body Target)
+        → resolved_body unit x scope next ≡ Some y → slots_in y ≡ slots_in x
     same_slots_in Nil scope next y h = it_is slots_in 0 Nil y h refl
     same_slots_in (Cons (Declare declarators) rest) scope next y h =
         let all = length declarators + slots_in rest in
         let inner = all_declared scope next declarators in
         through slots_in all (resolved_declarators unit scope next declarators) _ y h (λ ds is k.
-        through slots_in all (resolved_body unit rest inner (next + length declarators)) _ y k (λ r is' l.
-        it_is slots_in all (Cons (Declare ds) r) y l (ap (λ n. n + slots_in r) (same_length scope next declarators ds is) ∙ ap (λ n. length declarators + n) (same_slots_in rest inner (next + length declarators) r is'))))
+        through slots_in all (resolved_body unit rest inner (next + length declarators)) _ y k
+        (λ r is' l.
+        it_is slots_in all (Cons (Declare ds) r) y l
+        (ap (λ n. n + slots_in r) (same_length scope next declarators ds is)
+        ∙ ap (λ n. length declarators + n) (same_slots_in rest inner (next + length declarators)
+        r is'))))
     same_slots_in (Cons (Statement first) rest) scope next y h =
         let all = slots_of first + slots_in rest in
         through slots_in all (resolved_stmt unit first scope next) _ y h (λ a is k.
-        through slots_in all (resolved_body unit rest scope (next + slots_of first)) _ y k (λ r is' l.
-        it_is slots_in all (Cons (Statement a) r) y l (ap (λ n. n + slots_in r) (same_slots first scope next a is) ∙ ap (λ n. slots_of first + n) (same_slots_in rest scope (next + slots_of first) r is'))))
+        through slots_in all (resolved_body unit rest scope (next + slots_of first)) _ y k
+        (λ r is' l.
+        it_is slots_in all (Cons (Statement a) r) y l
+        (ap (λ n. n + slots_in r) (same_slots first scope next a is)
+        ∙ ap (λ n. slots_of first + n) (same_slots_in rest scope (next + slots_of first) r
+        is'))))
     same_slots_in (Cons (CaseLabel label) rest) scope next y h =
-        through slots_in (slots_in rest) (resolved_body unit rest scope next) _ y h (λ r is k. it_is slots_in (slots_in rest) (Cons (CaseLabel label) r) y k (same_slots_in rest scope next r is))
+        through slots_in (slots_in rest) (resolved_body unit rest scope next) _ y h
+        (λ r is k. it_is slots_in (slots_in rest) (Cons (CaseLabel label) r) y k
+        (same_slots_in rest scope next r is))
     same_slots_in (Cons DefaultLabel rest) scope next y h =
-        through slots_in (slots_in rest) (resolved_body unit rest scope next) _ y h (λ r is k. it_is slots_in (slots_in rest) (Cons DefaultLabel r) y k (same_slots_in rest scope next r is))
+        through slots_in (slots_in rest) (resolved_body unit rest scope next) _ y h
+        (λ r is k. it_is slots_in (slots_in rest) (Cons DefaultLabel r) y k
+        (same_slots_in rest scope next r is))
 
 -- ---- the locals of an item
 
@@ -113,32 +157,53 @@ abbrev locals_in : {R : Type 0} → Attribute R → ℕ
 locals_in (item.Definition body) = slots_in body
 locals_in _ = 0
 
-keeps_locals : (unit : Description Path) (sort : ItemKind) (a : Attribute Path) (b : Attribute Target) → resolved_attribute unit sort a ≡ Some b → locals_in b ≡ locals_in a
-keeps_locals unit sort (item.OneText which c) b h = through locals_in 0 (resolved_cond (at_attribute unit) unchanged c) _ b h (λ x is k. it_is locals_in 0 (item.OneText which x) b k refl)
+keeps_locals : (unit : Description Path) (sort : ItemKind) (a : Attribute Path)
+    (b : Attribute Target) → resolved_attribute unit sort a ≡ Some b → locals_in b ≡ locals_in a
+keeps_locals unit sort (item.OneText which c) b h =
+    through locals_in 0 (resolved_cond (at_attribute unit) unchanged c) _ b h
+    (λ x is k. it_is locals_in 0 (item.OneText which x) b k refl)
 keeps_locals unit sort (item.Class words) b h = it_is locals_in 0 (item.Class words) b h refl
-keeps_locals unit sort (item.Handling c) b h = through locals_in 0 (resolved_cond (at_attribute unit) unchanged c) _ b h (λ x is k. it_is locals_in 0 (item.Handling x) b k refl)
-keeps_locals unit sort (item.Validity c) b h = through locals_in 0 (resolved_cond (at_attribute unit) unchanged c) _ b h (λ x is k. it_is locals_in 0 (item.Validity x) b k refl)
-keeps_locals unit sort (item.TypeOf word parts) b h = through locals_in 0 (each (resolved_type_part unit) parts) _ b h (λ x is k. it_is locals_in 0 (item.TypeOf word x) b k refl)
+keeps_locals unit sort (item.Handling c) b h =
+    through locals_in 0 (resolved_cond (at_attribute unit) unchanged c) _ b h
+    (λ x is k. it_is locals_in 0 (item.Handling x) b k refl)
+keeps_locals unit sort (item.Validity c) b h =
+    through locals_in 0 (resolved_cond (at_attribute unit) unchanged c) _ b h
+    (λ x is k. it_is locals_in 0 (item.Validity x) b k refl)
+keeps_locals unit sort (item.TypeOf word parts) b h =
+    through locals_in 0 (each (resolved_type_part unit) parts) _ b h
+    (λ x is k. it_is locals_in 0 (item.TypeOf word x) b k refl)
 keeps_locals unit sort (item.Number n) b h = it_is locals_in 0 (item.Number n) b h refl
 keeps_locals unit sort (item.Operation o) b h = it_is locals_in 0 (item.Operation o) b h refl
-keeps_locals unit sort (item.Transaction number parts) b h = through locals_in 0 (each (resolved_transaction_part unit) parts) _ b h (λ x is k. it_is locals_in 0 (item.Transaction number x) b k refl)
-keeps_locals unit sort (item.ResponseCodes responses) b h = it_is locals_in 0 (item.ResponseCodes responses) b h refl
-keeps_locals unit sort (item.Items entries) b h = through locals_in 0 (resolved_conds (at_attribute unit) (resolved_entry unit) entries) _ b h (λ x is k. it_is locals_in 0 (item.Items x) b k refl)
-keeps_locals unit sort (item.Members members) b h = through locals_in 0 (each (resolved_member unit (member_kinds sort)) members) _ b h (λ x is k. it_is locals_in 0 (item.Members x) b k refl)
+keeps_locals unit sort (item.Transaction number parts) b h =
+    through locals_in 0 (each (resolved_transaction_part unit) parts) _ b h
+    (λ x is k. it_is locals_in 0 (item.Transaction number x) b k refl)
+keeps_locals unit sort (item.ResponseCodes responses) b h =
+    it_is locals_in 0 (item.ResponseCodes responses) b h refl
+keeps_locals unit sort (item.Items entries) b h =
+    through locals_in 0 (resolved_conds (at_attribute unit) (resolved_entry unit) entries) _ b h
+    (λ x is k. it_is locals_in 0 (item.Items x) b k refl)
+keeps_locals unit sort (item.Members members) b h =
+    through locals_in 0 (each (resolved_member unit (member_kinds sort)) members) _ b h
+    (λ x is k. it_is locals_in 0 (item.Members x) b k refl)
 keeps_locals unit sort (item.Definition body) b h =
-    through locals_in (slots_in body) (resolved_body unit body [] 0) _ b h (λ x is k. it_is locals_in (slots_in body) (item.Definition x) b k (same_slots_in unit body [] 0 x is))
+    through locals_in (slots_in body) (resolved_body unit body [] 0) _ b h
+    (λ x is k. it_is locals_in (slots_in body) (item.Definition x) b k
+    (same_slots_in unit body [] 0 x is))
 
 sum_from : (n : ℕ) (xs : List ℕ) → fold (λ a x. a + x) n xs ≡ n + sum xs
 sum_from n [] = omega arith
 sum_from n (x ∷ xs) = sum_from (n + x) xs ∙ omega (arith, sum_from (0 + x) xs)
 
 -- sums are the same where they are the same of each element alone
-same_sums : {A : Type 0} (f g : A → ℕ) → ((x : A) → sum (map f (x ∷ [])) ≡ sum (map g (x ∷ []))) → (xs : List A) → sum (map f xs) ≡ sum (map g xs)
+same_sums : {A : Type 0} (f g : A → ℕ) → ((x : A) → sum (map f (x ∷ [])) ≡ sum (map g (x ∷ [])))
+    → (xs : List A) → sum (map f xs) ≡ sum (map g xs)
 same_sums f g same [] = refl
-same_sums f g same (x ∷ xs) = sum_from (0 + f x) (map f xs) ∙ omega (arith, same x, same_sums f g same xs) ∙ sym (sum_from (0 + g x) (map g xs))
+same_sums f g same (x ∷ xs) = sum_from (0 + f x) (map f xs)
+    ∙ omega (arith, same x, same_sums f g same xs) ∙ sym (sum_from (0 + g x) (map g xs))
 
 module _ {R : Type 0} (sort : ItemKind) (name : Name) where
-  of_one : (a : Attribute R) → locals_of (record { sort = sort; name = name; attributes = a ∷ [] }) ≡ sum (map locals_in (a ∷ []))
+  of_one : (a : Attribute R) → locals_of (record { sort = sort; name = name; attributes = a ∷ [] })
+      ≡ sum (map locals_in (a ∷ []))
   of_one (item.OneText which c) = refl
   of_one (item.Class words) = refl
   of_one (item.Handling c) = refl
@@ -153,11 +218,14 @@ module _ {R : Type 0} (sort : ItemKind) (name : Name) where
   of_one (item.Definition body) = refl
 
   -- they are those of the rule on counts
-  locals_are : (attributes : List (Attribute R)) → locals_of (record { sort = sort; name = name; attributes = attributes }) ≡ sum (map locals_in attributes)
+  locals_are : (attributes : List (Attribute R))
+      → locals_of (record { sort = sort; name = name; attributes = attributes })
+      ≡ sum (map locals_in attributes)
   locals_are attributes = same_sums _ locals_in of_one attributes
 
 -- a body has no more than all bodies of its item
-first_body : (attributes : List (Attribute Target)) → slots_in (body_in attributes) ≤ sum (map locals_in attributes)
+first_body : (attributes : List (Attribute Target)) → slots_in (body_in attributes)
+    ≤ sum (map locals_in attributes)
 unfolding slots_of
 first_body [] = omega arith
 first_body (item.OneText which c ∷ rest) = first_body rest
@@ -171,52 +239,78 @@ first_body (item.Transaction number parts ∷ rest) = first_body rest
 first_body (item.ResponseCodes responses ∷ rest) = first_body rest
 first_body (item.Items entries ∷ rest) = first_body rest
 first_body (item.Members members ∷ rest) = first_body rest
-first_body (item.Definition body ∷ rest) = omega (arith, sum_from (0 + slots_in body) (map locals_in rest))
+first_body (item.Definition body ∷ rest) =
+    omega (arith, sum_from (0 + slots_in body) (map locals_in rest))
 
 -- ---- a checked description
 
 abbrev has_few : {R : Type 0} → Item R → Bool
 has_few i = nat_le (locals_of i) 64
 
-keeps_few : (unit : Description Path) (i : Item Path) (y : Item Target) → resolved_item unit i ≡ Some y → has_few y ≡ has_few i
+keeps_few : (unit : Description Path) (i : Item Path) (y : Item Target)
+    → resolved_item unit i ≡ Some y → has_few y ≡ has_few i
 keeps_few unit i y h =
-    let x = bind_some (each (resolved_attribute unit i.sort) i.attributes) (λ attributes. Some (record { sort = i.sort; name = i.name; attributes = attributes })) y h in
+    let x = bind_some (each (resolved_attribute unit i.sort) i.attributes)
+    (λ attributes. Some (record { sort = i.sort; name = i.name; attributes = attributes })) y
+    h in
     ap (λ n. nat_le n 64)
     (sym (at_some locals_of 0 (record { sort = i.sort; name = i.name; attributes = x.0 }) y x.2)
     ∙ locals_are i.sort i.name x.0
-    ∙ ap sum (each_keeps (resolved_attribute unit i.sort) locals_in locals_in (keeps_locals unit i.sort) i.attributes x.0 x.1)
+    ∙ ap sum (each_keeps (resolved_attribute unit i.sort) locals_in locals_in
+    (keeps_locals unit i.sort) i.attributes x.0 x.1)
     ∙ sym (locals_are i.sort i.name i.attributes))
 
-none_over : {R : Type 0} (items : List (Item R)) → list_any (λ i. nat_lt 64 (locals_of i)) items ≡ false → list_all has_few items ≡ true
+none_over : {R : Type 0} (items : List (Item R)) → list_any (λ i. nat_lt 64 (locals_of i)) items
+    ≡ false → list_all has_few items ≡ true
 none_over [] h = refl
 none_over (i ∷ rest) h =
-    let parts = or_parts (nat_lt 64 (locals_of i)) (list_any (λ j. nat_lt 64 (locals_of j)) rest) h in
-    and_from (has_few i) (list_all has_few rest) (grind (arith, common_steps, parts.0)) (none_over rest parts.1)
+    let parts = or_parts (nat_lt 64 (locals_of i)) (list_any (λ j. nat_lt 64 (locals_of j)) rest)
+    h in
+    and_from (has_few i) (list_all has_few rest) (grind (arith, common_steps, parts.0))
+    (none_over rest parts.1)
 
 all_few : (d : Description Target) → IsChecked d → list_all has_few d.items ≡ true
 unfolding resolved_unit
 all_few d checked =
     let r = checked.is_resolved in
     let u = r.unit in
-    let x = bind_some (each (resolved_item u) u.items) (λ items. Some (record { identification = u.identification; items = items })) d r.meanings in
+    let x = bind_some (each (resolved_item u) u.items)
+    (λ items. Some (record { identification = u.identification; items = items })) d
+    r.meanings in
     let many = no_front (too_many u) _ r.no_breach in
-    let behind_items = no_rest (refused_if (list_any (λ k. nat_lt 4096 (count_of k u.items)) kinds) (TooMany limit.Items)) _ many in
-    let behind_transactions = no_rest (refused_if (list_any (λ i. nat_lt 4096 (transaction_count i)) u.items) (TooMany limit.Transactions)) _ behind_items in
-    sym (at_some (λ (e : Description Target). list_all has_few e.items) false (record { identification = u.identification; items = x.0 }) d x.2)
+    let behind_items = no_rest (refused_if (list_any (λ k. nat_lt 4096 (count_of k u.items)) kinds)
+    (TooMany limit.Items)) _ many in
+    let behind_transactions =
+    no_rest (refused_if (list_any (λ i. nat_lt 4096 (transaction_count i)) u.items)
+    (TooMany limit.Transactions)) _ behind_items in
+    sym (at_some (λ (e : Description Target). list_all has_few e.items) false
+    (record { identification = u.identification; items = x.0 }) d x.2)
     ∙ all_mapped has_few x.0
-    ∙ ap (list_all (λ b. b)) (each_keeps (resolved_item u) has_few has_few (keeps_few u) u.items x.0 x.1)
+    ∙ ap (list_all (λ b. b)) (each_keeps (resolved_item u) has_few has_few (keeps_few u) u.items x.0
+    x.1)
     ∙ sym (all_mapped has_few u.items)
-    ∙ none_over u.items (no_refusal (list_any (λ i. nat_lt 64 (locals_of i)) u.items) (TooMany limit.Locals) (no_front _ _ behind_transactions))
+    ∙ none_over u.items (no_refusal (list_any (λ i. nat_lt 64 (locals_of i)) u.items)
+    (TooMany limit.Locals) (no_front _ _ behind_transactions))
 
 few_slots : (d : Description Target) → ∥ IsChecked d ∥₁ → (m : MethNo) → slots_in (body_of d m) ≤ 64
 unfolding slots_of
 few_slots d checked m = by_item (item_at d (items_no.Method m)) refl
   where
-    by_item : (o : Option (Item Target)) → item_at d (items_no.Method m) ≡ o → slots_in (elim o as (λ w. Body Target) [ Some i ↦ body_in i.attributes | None ↦ Nil ]) ≤ 64
+    by_item : (o : Option (Item Target)) → item_at d (items_no.Method m) ≡ o
+        → slots_in (elim o as (λ w. Body Target) [ Some i ↦ body_in i.attributes | None ↦ Nil ])
+        ≤ 64
     by_item None is = omega arith
     by_item (Some i) is =
-        let few = leb-true (locals_of i) 64 (of_picked has_few (λ j. same_kind (kind_of_item j.sort) kind.Method) d.items m.0 i (∥∥₁_elim checked (Bool-set _ _) (all_few d)) is) in
+        let few = leb-true (locals_of i) 64
+        (of_picked has_few (λ j. same_kind (kind_of_item j.sort) kind.Method) d.items m.0 i
+        (∥∥₁_elim checked (Bool-set _ _) (all_few d)) is) in
         omega (arith, few, locals_are i.sort i.name i.attributes, first_body i.attributes)
 
-pub body_code : (d : Description Target) (strings : List Words) (m : MethNo) (slots : ℕ) (code : List ℕ) → ∥ IsChecked d ∥₁ → IsMethodCode d strings m slots code → IsBodyCode d strings slots code
-body_code d strings m slots code checked is = record { few_slots = subst (λ n. n ≤ 64) (sym is.locals) (few_slots d checked m); valid = is.valid }
+pub body_code : (d : Description Target) (strings : List Words) (m : MethNo) (slots : ℕ)
+    (code : List ℕ) → ∥ IsChecked d ∥₁ → IsMethodCode d strings m slots code
+    → IsBodyCode d strings slots code
+body_code d strings m slots code checked is =
+    record {
+      few_slots = subst (λ n. n ≤ 64) (sym is.locals) (few_slots d checked m);
+      valid = is.valid;
+    }

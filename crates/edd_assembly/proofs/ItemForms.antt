@@ -26,7 +26,8 @@ use Rattle.edd_syntax.proofs.WithinLimits.{each_keeps}
 abbrev pub is_formed : {R : Type 0} → Item R → Bool
 is_formed i = is_name i.name && list_all (belongs_to (kind_of_item i.sort)) i.attributes
 
-pub bind_some : {A B : Type 0} (o : Option A) (f : A → Option B) (z : B) → (o >>= f) ≡ Some z → (x : A) × (o ≡ Some x) × (f x ≡ Some z)
+pub bind_some : {A B : Type 0} (o : Option A) (f : A → Option B) (z : B) → (o >>= f) ≡ Some z
+    → (x : A) × (o ≡ Some x) × (f x ≡ Some z)
 bind_some None f z h = absurd (none-some z h)
 bind_some (Some x) f z h = (x, refl, h)
 
@@ -34,11 +35,13 @@ bind_some (Some x) f z h = (x, refl, h)
 pub at_some : {A C : Type 0} (f : A → C) (d : C) (x y : A) → Some x ≡ Some y → f x ≡ f y
 at_some f d x y h = ap (λ o. option_map_or f o d) h
 
-pub all_mapped : {X : Type 0} (test : X → Bool) (xs : List X) → list_all test xs ≡ list_all (λ b. b) (map test xs)
+pub all_mapped : {X : Type 0} (test : X → Bool) (xs : List X)
+    → list_all test xs ≡ list_all (λ b. b) (map test xs)
 all_mapped test [] = refl
 all_mapped test (x ∷ xs) = ap (λ b. test x && b) (all_mapped test xs)
 
-pub all_weaker : {X : Type 0} (p q : X → Bool) → ((x : X) → p x ≡ true → q x ≡ true) → (xs : List X) → list_all p xs ≡ true → list_all q xs ≡ true
+pub all_weaker : {X : Type 0} (p q : X → Bool) → ((x : X) → p x ≡ true → q x ≡ true) → (xs : List X)
+    → list_all p xs ≡ true → list_all q xs ≡ true
 all_weaker p q weaker [] h = refl
 all_weaker p q weaker (x ∷ xs) h =
     let parts = and_parts (p x) (list_all p xs) h in
@@ -46,57 +49,95 @@ all_weaker p q weaker (x ∷ xs) h =
 
 -- ---- the meaning of names leaves them
 
-pub made : {A : Type 0} (test : Attribute Target → Bool) (o : Option A) (make : A → Attribute Target) (b : Attribute Target) (v : Bool) → ((x : A) → test (make x) ≡ v) → (o >>= λ x. Some (make x)) ≡ Some b → test b ≡ v
+pub made : {A : Type 0} (test : Attribute Target → Bool) (o : Option A) (make : A
+    → Attribute Target) (b : Attribute Target) (v : Bool) → ((x : A) → test (make x) ≡ v)
+    → (o >>= λ x. Some (make x)) ≡ Some b → test b ≡ v
 made test None make b v same h = absurd (none-some b h)
 made test (Some x) make b v same h = sym (at_some test v (make x) b h) ∙ same x
 
 module _ (k : Kind) where
-  keeps_belonging : (unit : Description Path) (sort : ItemKind) (a : Attribute Path) (b : Attribute Target) → resolved_attribute unit sort a ≡ Some b → belongs_to k b ≡ belongs_to k a
-  keeps_belonging unit sort (item.OneText which c) b h = made (belongs_to k) (resolved_cond (at_attribute unit) unchanged c) (item.OneText which) b (has_attr k (text_attr which)) (λ x. refl) h
-  keeps_belonging unit sort (item.Class words) b h = sym (at_some (belongs_to k) false (item.Class words) b h)
-  keeps_belonging unit sort (item.Handling c) b h = made (belongs_to k) (resolved_cond (at_attribute unit) unchanged c) item.Handling b (has_attr k attr.Handling) (λ x. refl) h
-  keeps_belonging unit sort (item.Validity c) b h = made (belongs_to k) (resolved_cond (at_attribute unit) unchanged c) item.Validity b (has_attr k attr.Validity) (λ x. refl) h
-  keeps_belonging unit sort (item.TypeOf word parts) b h = made (belongs_to k) (each (resolved_type_part unit) parts) (item.TypeOf word) b (same_kind k kind.Variable) (λ x. refl) h
-  keeps_belonging unit sort (item.Number n) b h = sym (at_some (belongs_to k) false (item.Number n) b h)
-  keeps_belonging unit sort (item.Operation o) b h = sym (at_some (belongs_to k) false (item.Operation o) b h)
-  keeps_belonging unit sort (item.Transaction number parts) b h = made (belongs_to k) (each (resolved_transaction_part unit) parts) (item.Transaction number) b (has_attr k attr.Transaction) (λ x. refl) h
-  keeps_belonging unit sort (item.ResponseCodes responses) b h = sym (at_some (belongs_to k) false (item.ResponseCodes responses) b h)
-  keeps_belonging unit sort (item.Items entries) b h = made (belongs_to k) (resolved_conds (at_attribute unit) (resolved_entry unit) entries) item.Items b (has_attr k attr.Items) (λ x. refl) h
-  keeps_belonging unit sort (item.Members members) b h = made (belongs_to k) (each (resolved_member unit (member_kinds sort)) members) item.Members b (has_attr k attr.Members) (λ x. refl) h
-  keeps_belonging unit sort (item.Definition body) b h = made (belongs_to k) (resolved_body unit body [] 0) item.Definition b (has_attr k attr.Definition) (λ x. refl) h
+  keeps_belonging : (unit : Description Path) (sort : ItemKind) (a : Attribute Path)
+      (b : Attribute Target) → resolved_attribute unit sort a ≡ Some b
+      → belongs_to k b ≡ belongs_to k a
+  keeps_belonging unit sort (item.OneText which c) b h =
+      made (belongs_to k) (resolved_cond (at_attribute unit) unchanged c) (item.OneText which) b
+      (has_attr k (text_attr which)) (λ x. refl) h
+  keeps_belonging unit sort (item.Class words) b h =
+      sym (at_some (belongs_to k) false (item.Class words) b h)
+  keeps_belonging unit sort (item.Handling c) b h =
+      made (belongs_to k) (resolved_cond (at_attribute unit) unchanged c) item.Handling b
+      (has_attr k attr.Handling) (λ x. refl) h
+  keeps_belonging unit sort (item.Validity c) b h =
+      made (belongs_to k) (resolved_cond (at_attribute unit) unchanged c) item.Validity b
+      (has_attr k attr.Validity) (λ x. refl) h
+  keeps_belonging unit sort (item.TypeOf word parts) b h =
+      made (belongs_to k) (each (resolved_type_part unit) parts) (item.TypeOf word) b
+      (same_kind k kind.Variable) (λ x. refl) h
+  keeps_belonging unit sort (item.Number n) b h =
+      sym (at_some (belongs_to k) false (item.Number n) b h)
+  keeps_belonging unit sort (item.Operation o) b h =
+      sym (at_some (belongs_to k) false (item.Operation o) b h)
+  keeps_belonging unit sort (item.Transaction number parts) b h =
+      made (belongs_to k) (each (resolved_transaction_part unit) parts) (item.Transaction number) b
+      (has_attr k attr.Transaction) (λ x. refl) h
+  keeps_belonging unit sort (item.ResponseCodes responses) b h =
+      sym (at_some (belongs_to k) false (item.ResponseCodes responses) b h)
+  keeps_belonging unit sort (item.Items entries) b h =
+      made (belongs_to k) (resolved_conds (at_attribute unit) (resolved_entry unit) entries)
+      item.Items b (has_attr k attr.Items) (λ x. refl) h
+  keeps_belonging unit sort (item.Members members) b h =
+      made (belongs_to k) (each (resolved_member unit (member_kinds sort)) members) item.Members b
+      (has_attr k attr.Members) (λ x. refl) h
+  keeps_belonging unit sort (item.Definition body) b h =
+      made (belongs_to k) (resolved_body unit body [] 0) item.Definition b
+      (has_attr k attr.Definition) (λ x. refl) h
 
-keeps_form : (unit : Description Path) (i : Item Path) (y : Item Target) → resolved_item unit i ≡ Some y → is_formed y ≡ is_formed i
+keeps_form : (unit : Description Path) (i : Item Path) (y : Item Target)
+    → resolved_item unit i ≡ Some y → is_formed y ≡ is_formed i
 keeps_form unit i y h =
     let k = kind_of_item i.sort in
-    let x = bind_some (each (resolved_attribute unit i.sort) i.attributes) (λ attributes. Some (record { sort = i.sort; name = i.name; attributes = attributes })) y h in
+    let x = bind_some (each (resolved_attribute unit i.sort) i.attributes)
+    (λ attributes. Some (record { sort = i.sort; name = i.name; attributes = attributes })) y
+    h in
     sym (at_some is_formed false (record { sort = i.sort; name = i.name; attributes = x.0 }) y x.2)
     ∙ ap (λ b. is_name i.name && b)
     (all_mapped (belongs_to k) x.0
-    ∙ ap (list_all (λ b. b)) (each_keeps (resolved_attribute unit i.sort) (belongs_to k) (belongs_to k) (keeps_belonging k unit i.sort) i.attributes x.0 x.1)
+    ∙ ap (list_all (λ b. b)) (each_keeps (resolved_attribute unit i.sort) (belongs_to k)
+    (belongs_to k) (keeps_belonging k unit i.sort) i.attributes x.0 x.1)
     ∙ sym (all_mapped (belongs_to k) i.attributes))
 
 -- ---- the items of the parser
 
-stands_is_belonging : (k : Kind) (a : Attribute Path) → stands_in is_path is_plain k a ≡ true → belongs_to k a ≡ true
-stands_is_belonging k a h = (and_parts (belongs_to k a) (is_attribute is_path is_plain a) (and_parts _ _ h).0).0
+stands_is_belonging : (k : Kind) (a : Attribute Path) → stands_in is_path is_plain k a ≡ true
+    → belongs_to k a ≡ true
+stands_is_belonging k a h =
+    (and_parts (belongs_to k a) (is_attribute is_path is_plain a) (and_parts _ _ h).0).0
 
 item_is_formed : (i : Item Path) → is_item is_path is_plain i ≡ true → is_formed i ≡ true
 item_is_formed i h =
     let k = kind_of_item i.sort in
-    let parts = and_parts (is_name i.name) (list_all (stands_in is_path is_plain k) i.attributes) h in
+    let parts = and_parts (is_name i.name) (list_all (stands_in is_path is_plain k) i.attributes)
+    h in
     and_from (is_name i.name) (list_all (belongs_to k) i.attributes) parts.0
-    (all_weaker (stands_in is_path is_plain k) (belongs_to k) (stands_is_belonging k) i.attributes parts.1)
+    (all_weaker (stands_in is_path is_plain k) (belongs_to k) (stands_is_belonging k) i.attributes
+    parts.1)
 
 formed : (d : Description Target) → IsChecked d → list_all is_formed d.items ≡ true
 unfolding are_items resolved_unit
 formed d checked =
     let u = checked.is_resolved.unit in
-    let x = bind_some (each (resolved_item u) u.items) (λ items. Some (record { identification = u.identification; items = items })) d checked.is_resolved.meanings in
-    sym (at_some (λ (e : Description Target). list_all is_formed e.items) false (record { identification = u.identification; items = x.0 }) d x.2)
+    let x = bind_some (each (resolved_item u) u.items)
+    (λ items. Some (record { identification = u.identification; items = items })) d
+    checked.is_resolved.meanings in
+    sym (at_some (λ (e : Description Target). list_all is_formed e.items) false
+    (record { identification = u.identification; items = x.0 }) d x.2)
     ∙ all_mapped is_formed x.0
-    ∙ ap (list_all (λ b. b)) (each_keeps (resolved_item u) is_formed is_formed (keeps_form u) u.items x.0 x.1)
+    ∙ ap (list_all (λ b. b)) (each_keeps (resolved_item u) is_formed is_formed (keeps_form u)
+    u.items x.0 x.1)
     ∙ sym (all_mapped is_formed u.items)
-    ∙ all_weaker (is_item is_path is_plain) is_formed item_is_formed u.items checked.is_resolved.well_formed
+    ∙ all_weaker (is_item is_path is_plain) is_formed item_is_formed u.items
+    checked.is_resolved.well_formed
 
-pub formed_when_checked : (d : Description Target) → ∥ IsChecked d ∥₁ → list_all is_formed d.items ≡ true
+pub formed_when_checked : (d : Description Target) → ∥ IsChecked d ∥₁ → list_all is_formed d.items
+    ≡ true
 formed_when_checked d checked = ∥∥₁_elim checked (Bool-set _ _) (formed d)

@@ -27,13 +27,16 @@ kind_again kind.Collection = refl
 kind_again kind.Method = refl
 
 pub same_kinds : (k j : Kind) → same_kind k j ≡ true → k ≡ j
-same_kinds k j h = sym (kind_again k) ∙ ap kind_at (eqb-true (kind_number k) (kind_number j) h) ∙ kind_again j
+same_kinds k j h = sym (kind_again k) ∙ ap kind_at (eqb-true (kind_number k) (kind_number j) h)
+    ∙ kind_again j
 
 pub attr_again : (a : Attr) → attr_from_number (attr_number a) ≡ Some a
 attr_again = every_attr (λ a. attr_from_number (attr_number a)) Some refl
 
 pub same_attrs : (a b : Attr) → same_attr a b ≡ true → a ≡ b
-same_attrs a b h = same_Some a b (sym (attr_again a) ∙ ap attr_from_number (eqb-true (attr_number a) (attr_number b) h) ∙ attr_again b)
+same_attrs a b h = same_Some a b
+    (sym (attr_again a) ∙ ap attr_from_number (eqb-true (attr_number a) (attr_number b) h)
+    ∙ attr_again b)
 
 pub item_again : (i : ItemNo) → item_from_numbers (kind_number (kind_of i)) (index_of i) ≡ Some i
 item_again (items.Variable n) = refl

@@ -21,14 +21,17 @@ use Rattle.edd_image.specs.Agreement.{counts_of, place_of_item, name_numbered}
 use Rattle.edd_assembly.specs.Assembly.{Lowered, name_rows, names_of_kind, names_of, assembled}
 use Rattle.edd_assembly.proofs.Cutting.{names_cut}
 
-behind : {A : Type 0} (xs ys : List A) (m n : ℕ) → m ≡ length xs + n → slice_get (xs ++ ys) m ≡ slice_get ys n
+behind : {A : Type 0} (xs ys : List A) (m n : ℕ) → m ≡ length xs + n → slice_get (xs ++ ys) m
+    ≡ slice_get ys n
 behind [] ys m n is = ap (slice_get ys) (is ∙ omega arith)
-behind (x ∷ xs) ys m n is = ap (slice_get (x ∷ (xs ++ ys))) (is ∙ next) ∙ behind xs ys (length xs + n) n refl
+behind (x ∷ xs) ys m n is = ap (slice_get (x ∷ (xs ++ ys))) (is ∙ next)
+    ∙ behind xs ys (length xs + n) n refl
   where
     next : length (x ∷ xs) + n ≡ suc (length xs + n)
     next = omega arith
 
-within : {A : Type 0} (xs ys : List A) (n : ℕ) → n < length xs → slice_get (xs ++ ys) n ≡ slice_get xs n
+within : {A : Type 0} (xs ys : List A) (n : ℕ) → n < length xs → slice_get (xs ++ ys) n
+    ≡ slice_get xs n
 within [] ys n h = absurd (omega (arith, h))
 within (x ∷ xs) ys zero h = refl
 within (x ∷ xs) ys (suc n) h = within xs ys n (omega (arith, h))
@@ -42,7 +45,8 @@ module _ (items : List (Item Target)) where
 
   -- the names of the kinds behind a kind
   abbrev behind_variables : List Name
-  behind_variables = names kind.Command ++ (names kind.Menu ++ (names kind.Collection ++ (names kind.Method ++ [])))
+  behind_variables = names kind.Command
+      ++ (names kind.Menu ++ (names kind.Collection ++ (names kind.Method ++ [])))
 
   abbrev behind_commands : List Name
   behind_commands = names kind.Menu ++ (names kind.Collection ++ (names kind.Method ++ []))
@@ -53,60 +57,93 @@ module _ (items : List (Item Target)) where
   abbrev behind_collections : List Name
   behind_collections = names kind.Method ++ []
 
-  past_variables : (n : ℕ) → slice_get (names_of items) (count_of kind.Variable items + n) ≡ slice_get behind_variables n
-  past_variables n = behind (names kind.Variable) behind_variables (count_of kind.Variable items + n) n (omega (arith, as_many kind.Variable))
+  past_variables : (n : ℕ) → slice_get (names_of items) (count_of kind.Variable items + n)
+      ≡ slice_get behind_variables n
+  past_variables n = behind (names kind.Variable) behind_variables (count_of kind.Variable items
+      + n) n (omega (arith, as_many kind.Variable))
 
-  past_commands : (n : ℕ) → slice_get (names_of items) (count_of kind.Variable items + count_of kind.Command items + n) ≡ slice_get behind_commands n
+  past_commands : (n : ℕ) → slice_get (names_of items) (count_of kind.Variable items
+      + count_of kind.Command items + n) ≡ slice_get behind_commands n
   past_commands n =
-      behind (names kind.Variable) behind_variables (count_of kind.Variable items + count_of kind.Command items + n) (count_of kind.Command items + n) (omega (arith, as_many kind.Variable))
-      ∙ behind (names kind.Command) behind_commands (count_of kind.Command items + n) n (omega (arith, as_many kind.Command))
+      behind (names kind.Variable) behind_variables (count_of kind.Variable items
+      + count_of kind.Command items + n) (count_of kind.Command items + n)
+      (omega (arith, as_many kind.Variable))
+      ∙ behind (names kind.Command) behind_commands (count_of kind.Command items + n) n
+      (omega (arith, as_many kind.Command))
 
-  past_menus : (n : ℕ) → slice_get (names_of items) (count_of kind.Variable items + count_of kind.Command items + count_of kind.Menu items + n) ≡ slice_get behind_menus n
+  past_menus : (n : ℕ) → slice_get (names_of items) (count_of kind.Variable items
+      + count_of kind.Command items + count_of kind.Menu items + n) ≡ slice_get behind_menus n
   past_menus n =
       ap (slice_get (names_of items)) (omega arith) ∙ past_commands (count_of kind.Menu items + n)
-      ∙ behind (names kind.Menu) behind_menus (count_of kind.Menu items + n) n (omega (arith, as_many kind.Menu))
+      ∙ behind (names kind.Menu) behind_menus (count_of kind.Menu items + n) n
+      (omega (arith, as_many kind.Menu))
 
-  past_collections : (n : ℕ) → slice_get (names_of items) (count_of kind.Variable items + count_of kind.Command items + count_of kind.Menu items + count_of kind.Collection items + n) ≡ slice_get behind_collections n
+  past_collections : (n : ℕ)
+      → slice_get (names_of items) (count_of kind.Variable items + count_of kind.Command items
+      + count_of kind.Menu items + count_of kind.Collection items + n)
+      ≡ slice_get behind_collections n
   past_collections n =
-      ap (slice_get (names_of items)) (omega arith) ∙ past_menus (count_of kind.Collection items + n)
-      ∙ behind (names kind.Collection) behind_collections (count_of kind.Collection items + n) n (omega (arith, as_many kind.Collection))
+      ap (slice_get (names_of items)) (omega arith)
+      ∙ past_menus (count_of kind.Collection items + n)
+      ∙ behind (names kind.Collection) behind_collections (count_of kind.Collection items + n) n
+      (omega (arith, as_many kind.Collection))
 
-  of_its_kind : (k : Kind) (n : ℕ) → slice_get (names k) n ≡ option_map (λ i. i.name) (slice_get (of_kind k items) n)
+  of_its_kind : (k : Kind) (n : ℕ) → slice_get (names k) n
+      ≡ option_map (λ i. i.name) (slice_get (of_kind k items) n)
   of_its_kind k n = slice_get-map (λ (i : Item Target). i.name) (of_kind k items) n
 
   -- the name that is read where there is such an item
-  by_number : (k : Kind) (n : ℕ) (read : Option Name) → (n < length (names k) → read ≡ slice_get (names k) n) → (b : Bool) → nat_lt n (count_of k items) ≡ b → (if b then read else None) ≡ option_map (λ i. i.name) (slice_get (of_kind k items) n)
-  by_number k n read is true below = is (omega (arith, as_many k, ltb-true n (count_of k items) below)) ∙ of_its_kind k n
-  by_number k n read is false past = ap (option_map (λ (i : Item Target). i.name)) (sym (slice_get_past (of_kind k items) n (ltb-false n (count_of k items) past)))
+  by_number : (k : Kind) (n : ℕ) (read : Option Name)
+      → (n < length (names k) → read ≡ slice_get (names k) n) → (b : Bool)
+      → nat_lt n (count_of k items) ≡ b → (if b then read else None)
+      ≡ option_map (λ i. i.name) (slice_get (of_kind k items) n)
+  by_number k n read is true below =
+      is (omega (arith, as_many k, ltb-true n (count_of k items) below)) ∙ of_its_kind k n
+  by_number k n read is false past = ap (option_map (λ (i : Item Target). i.name))
+      (sym (slice_get_past (of_kind k items) n (ltb-false n (count_of k items) past)))
 
 module _ (unit : Description Target) (lowered : List Lowered) (strings : List Words) where
-  read_is : (place : ℕ) → option_map (λ r. part r.span (flat_map (λ n. n) (names_of unit.items))) (slice_get (map fields_of_name (name_rows 0 (names_of unit.items))) place) ≡ slice_get (names_of unit.items) place
+  read_is : (place : ℕ) → option_map (λ r. part r.span (flat_map (λ n. n) (names_of unit.items)))
+      (slice_get (map fields_of_name (name_rows 0 (names_of unit.items))) place)
+      ≡ slice_get (names_of unit.items) place
   read_is place =
-      sym (slice_get-map (λ (r : NameFields). part r.span (flat_map (λ n. n) (names_of unit.items))) (map fields_of_name (name_rows 0 (names_of unit.items))) place)
+      sym (slice_get-map (λ (r : NameFields). part r.span (flat_map (λ n. n) (names_of unit.items)))
+      (map fields_of_name (name_rows 0 (names_of unit.items))) place)
       ∙ ap (λ ns. slice_get ns place) (names_cut (names_of unit.items))
 
   abbrev read_at : ItemNo → Option Name
-  read_at i = option_map (λ r. part r.span (flat_map (λ n. n) (names_of unit.items))) (slice_get (map fields_of_name (name_rows 0 (names_of unit.items))) (place_of_item (counts_of unit.identification unit.items (length strings)) i))
+  read_at i = option_map (λ r. part r.span (flat_map (λ n. n) (names_of unit.items)))
+      (slice_get (map fields_of_name (name_rows 0 (names_of unit.items)))
+      (place_of_item (counts_of unit.identification unit.items (length strings)) i))
 
-  pub names_agree : (i : ItemNo) → name_numbered (contents_of (assembled unit lowered strings)) i ≡ option_map (λ x. x.name) (item_at unit i)
+  pub names_agree : (i : ItemNo) → name_numbered (contents_of (assembled unit lowered strings)) i
+      ≡ option_map (λ x. x.name) (item_at unit i)
   unfolding assembled
   names_agree (items_no.Variable n) =
       by_number unit.items kind.Variable n.0 (read_at (items_no.Variable n))
-      (λ h. read_is n.0 ∙ within (names unit.items kind.Variable) (behind_variables unit.items) n.0 h)
+      (λ h. read_is n.0 ∙ within (names unit.items kind.Variable) (behind_variables unit.items) n.0
+      h)
       (nat_lt n.0 (count_of kind.Variable unit.items)) refl
   names_agree (items_no.Command n) =
       by_number unit.items kind.Command n.0 (read_at (items_no.Command n))
-      (λ h. read_is (count_of kind.Variable unit.items + n.0) ∙ past_variables unit.items n.0 ∙ within (names unit.items kind.Command) (behind_commands unit.items) n.0 h)
+      (λ h. read_is (count_of kind.Variable unit.items + n.0) ∙ past_variables unit.items n.0
+      ∙ within (names unit.items kind.Command) (behind_commands unit.items) n.0 h)
       (nat_lt n.0 (count_of kind.Command unit.items)) refl
   names_agree (items_no.Menu n) =
       by_number unit.items kind.Menu n.0 (read_at (items_no.Menu n))
-      (λ h. read_is (count_of kind.Variable unit.items + count_of kind.Command unit.items + n.0) ∙ past_commands unit.items n.0 ∙ within (names unit.items kind.Menu) (behind_menus unit.items) n.0 h)
+      (λ h. read_is (count_of kind.Variable unit.items + count_of kind.Command unit.items + n.0)
+      ∙ past_commands unit.items n.0 ∙ within (names unit.items kind.Menu)
+      (behind_menus unit.items) n.0 h)
       (nat_lt n.0 (count_of kind.Menu unit.items)) refl
   names_agree (items_no.Collection n) =
       by_number unit.items kind.Collection n.0 (read_at (items_no.Collection n))
-      (λ h. read_is (count_of kind.Variable unit.items + count_of kind.Command unit.items + count_of kind.Menu unit.items + n.0) ∙ past_menus unit.items n.0 ∙ within (names unit.items kind.Collection) (behind_collections unit.items) n.0 h)
+      (λ h. read_is (count_of kind.Variable unit.items + count_of kind.Command unit.items
+      + count_of kind.Menu unit.items + n.0) ∙ past_menus unit.items n.0
+      ∙ within (names unit.items kind.Collection) (behind_collections unit.items) n.0 h)
       (nat_lt n.0 (count_of kind.Collection unit.items)) refl
   names_agree (items_no.Method n) =
       by_number unit.items kind.Method n.0 (read_at (items_no.Method n))
-      (λ h. read_is (count_of kind.Variable unit.items + count_of kind.Command unit.items + count_of kind.Menu unit.items + count_of kind.Collection unit.items + n.0) ∙ past_collections unit.items n.0 ∙ within (names unit.items kind.Method) [] n.0 h)
+      (λ h. read_is (count_of kind.Variable unit.items + count_of kind.Command unit.items
+      + count_of kind.Menu unit.items + count_of kind.Collection unit.items + n.0)
+      ∙ past_collections unit.items n.0 ∙ within (names unit.items kind.Method) [] n.0 h)
       (nat_lt n.0 (count_of kind.Method unit.items)) refl

@@ -24,21 +24,28 @@ use Rattle.edd_assembly.proofs.SoundStrings.{IsReadAgain, strings_again}
 
 -- ---- a string by its number
 
-read_again : (ws : List Words) (n : ℕ) (w : Words) → AllByRecursion IsReadAgain ws → slice_get ws n ≡ Some w → string_in (string_bytes w) ≡ Some w
+read_again : (ws : List Words) (n : ℕ) (w : Words) → AllByRecursion IsReadAgain ws
+    → slice_get ws n ≡ Some w → string_in (string_bytes w) ≡ Some w
 read_again [] n w all h = absurd (none-some w h)
 read_again (x ∷ ws) zero w all h = subst IsReadAgain (same_Some x w h) all.0
 read_again (x ∷ ws) (suc n) w all h = read_again ws n w all.1 h
 
-then_read : (bytes : List ℕ) (o : Option Span) → decoding.◌>>=◌ o (λ span. string_in (part span bytes)) ≡ decoding.◌>>=◌ (option_map (λ span. part span bytes) o) string_in
+then_read : (bytes : List ℕ) (o : Option Span)
+    → decoding.◌>>=◌ o (λ span. string_in (part span bytes))
+    ≡ decoding.◌>>=◌ (option_map (λ span. part span bytes) o) string_in
 then_read bytes None = refl
 then_read bytes (Some span) = refl
 
-pub string_read : (ws : List Words) → list_all is_words ws ≡ true → length (flat_map string_bytes ws) < 2 ^ 32 → (n : StrNo) (w : Words) → string_of_table ws n ≡ Some w
-    → decoding.◌>>=◌ (slice_get (map fields_of_string (string_rows 0 ws)) n.0) (λ span. string_in (part span (flat_map string_bytes ws))) ≡ Some w
+pub string_read : (ws : List Words) → list_all is_words ws ≡ true
+    → length (flat_map string_bytes ws) < 2 ^ 32 → (n : StrNo) (w : Words)
+    → string_of_table ws n ≡ Some w
+    → decoding.◌>>=◌ (slice_get (map fields_of_string (string_rows 0 ws)) n.0)
+    (λ span. string_in (part span (flat_map string_bytes ws))) ≡ Some w
 string_read ws valid few n w h =
     then_read (flat_map string_bytes ws) (slice_get (map fields_of_string (string_rows 0 ws)) n.0)
     ∙ ap (λ o. decoding.◌>>=◌ o string_in)
-    (sym (slice_get-map (λ span. part span (flat_map string_bytes ws)) (map fields_of_string (string_rows 0 ws)) n.0)
+    (sym (slice_get-map (λ span. part span (flat_map string_bytes ws))
+    (map fields_of_string (string_rows 0 ws)) n.0)
     ∙ ap (λ bs. slice_get bs n.0) (strings_cut ws)
     ∙ slice_get-map string_bytes ws n.0
     ∙ ap (option_map string_bytes) h)
@@ -46,45 +53,68 @@ string_read ws valid few n w h =
 
 -- ---- records, whose strings another function of numbers gives too
 
-module _ (f g : StrNo → Option Words) (kept : (n : StrNo) (w : Words) → f n ≡ Some w → g n ≡ Some w) where
-  optional_kept : (w : Option Words) (n : Option StrNo) → IsOptionalString f w n → IsOptionalString g w n
-  optional_kept None None h = h
-  optional_kept None (Some n) h = h
-  optional_kept (Some w) None h = h
-  optional_kept (Some w) (Some n) h = kept n w h
+module _ (f g : StrNo → Option Words) (kept : (n : StrNo) (w : Words) → f n ≡ Some w → g n ≡ Some w)
+  where
+    optional_kept : (w : Option Words) (n : Option StrNo) → IsOptionalString f w n
+        → IsOptionalString g w n
+    optional_kept None None h = h
+    optional_kept None (Some n) h = h
+    optional_kept (Some w) None h = h
+    optional_kept (Some w) (Some n) h = kept n w h
 
-  record_kept : (x : source.Record) (r : Record) → SameRecord f x r → SameRecord g x r
-  record_kept (source.Words w) r h = (h.0, h.1, kept h.0 w h.2)
-  record_kept (source.Number z) r h = h
-  record_kept (source.Entry item quals) r h = h
-  record_kept (source.DataConst n) r h = h
-  record_kept (source.DataVar var mask quals) r h = h
-  record_kept (source.Enumerator value text help) r h = (h.0, h.1, h.2, kept h.0 text h.3, optional_kept help h.1 h.4)
-  record_kept (source.Response number class text) r h = (h.0, h.1, kept h.0 text h.2)
-  record_kept (source.Member name item label help) r h = (h.0, h.1, h.2, h.3, kept h.0 name h.4, optional_kept label h.1 h.5, optional_kept help h.2 h.6)
+    record_kept : (x : source.Record) (r : Record) → SameRecord f x r → SameRecord g x r
+    record_kept (source.Words w) r h = (h.0, h.1, kept h.0 w h.2)
+    record_kept (source.Number z) r h = h
+    record_kept (source.Entry item quals) r h = h
+    record_kept (source.DataConst n) r h = h
+    record_kept (source.DataVar var mask quals) r h = h
+    record_kept (source.Enumerator value text help) r h =
+        (h.0, h.1, h.2, kept h.0 text h.3, optional_kept help h.1 h.4)
+    record_kept (source.Response number class text) r h = (h.0, h.1, kept h.0 text h.2)
+    record_kept (source.Member name item label help) r h = (
+      h.0,
+      h.1,
+      h.2,
+      h.3,
+      kept h.0 name h.4,
+      optional_kept label h.1 h.5,
+      optional_kept help h.2 h.6,
+    )
 
-  records_kept : (xs : List source.Record) (rs : List Record) → SameRecords f xs rs → SameRecords g xs rs
-  records_kept [] [] h = h
-  records_kept [] (r ∷ rs) h = h
-  records_kept (x ∷ xs) [] h = h
-  records_kept (x ∷ xs) (r ∷ rs) h = (record_kept x r h.0, records_kept xs rs h.1)
+    records_kept : (xs : List source.Record) (rs : List Record) → SameRecords f xs rs
+        → SameRecords g xs rs
+    records_kept [] [] h = h
+    records_kept [] (r ∷ rs) h = h
+    records_kept (x ∷ xs) [] h = h
+    records_kept (x ∷ xs) (r ∷ rs) h = (record_kept x r h.0, records_kept xs rs h.1)
 
-  -- ---- a reading, which has the default where nothing is given
+    -- ---- a reading, which has the default where nothing is given
 
-  pub default_same : (a : Attr) → SameRecords g (or_default a []) (default_records a)
-  default_same attr.Handling = (refl, record {})
-  default_same attr.Validity = (refl, record {})
-  default_same a = record {}
+    pub default_same : (a : Attr) → SameRecords g (or_default a []) (default_records a)
+    default_same attr.Handling = (refl, record {})
+    default_same attr.Validity = (refl, record {})
+    default_same a = record {}
 
-  no_default : (a : Attr) (x : source.Record) (xs : List source.Record) → or_default a (x ∷ xs) ≡ x ∷ xs
-  no_default a x xs = every_attr (λ b. or_default b (x ∷ xs)) (λ b. x ∷ xs) refl a
+    no_default : (a : Attr) (x : source.Record) (xs : List source.Record) → or_default a (x ∷ xs)
+        ≡ x
+        ∷ xs
+    no_default a x xs = every_attr (λ b. or_default b (x ∷ xs)) (λ b. x ∷ xs) refl a
 
-  records_agree : (a : Attr) (xs : List source.Record) (given : Result (List Record) Trap) (rs : List Record) → given ≡ Ok rs → SameRecords f xs rs → SameReading g (source.Gives (Ok (or_default a xs))) (reading_of a given)
-  records_agree a [] given [] is same = (default_records a, ap (reading_of a) is, default_same a)
-  records_agree a [] given (r ∷ rs) is same = absurd same
-  records_agree a (x ∷ xs) given [] is same = absurd same
-  records_agree a (x ∷ xs) given (r ∷ rs) is same = (r ∷ rs, ap (reading_of a) is, subst (λ ys. SameRecords g ys (r ∷ rs)) (sym (no_default a x xs)) (records_kept (x ∷ xs) (r ∷ rs) same))
+    records_agree : (a : Attr) (xs : List source.Record) (given : Result (List Record) Trap)
+        (rs : List Record) → given ≡ Ok rs → SameRecords f xs rs
+        → SameReading g (source.Gives (Ok (or_default a xs))) (reading_of a given)
+    records_agree a [] given [] is same = (default_records a, ap (reading_of a) is, default_same a)
+    records_agree a [] given (r ∷ rs) is same = absurd same
+    records_agree a (x ∷ xs) given [] is same = absurd same
+    records_agree a (x ∷ xs) given (r ∷ rs) is same = (
+      r ∷ rs,
+      ap (reading_of a) is,
+      subst (λ ys. SameRecords g ys (r ∷ rs))
+          (sym (no_default a x xs)) (records_kept (x ∷ xs) (r ∷ rs) same),
+    )
 
-  pub reading_agrees : (a : Attr) (meant : Trapping (List source.Record)) (given : Result (List Record) Trap) → SameRun f meant given → SameReading g (source.Gives (meant >>= λ rs. Ok (or_default a rs))) (reading_of a given)
-  reading_agrees a (Ok xs) given run = records_agree a xs given run.0 run.1 run.2
-  reading_agrees a (Err why) given run = ap (reading_of a) run
+    pub reading_agrees : (a : Attr) (meant : Trapping (List source.Record))
+        (given : Result (List Record) Trap) → SameRun f meant given
+        → SameReading g (source.Gives (meant >>= λ rs. Ok (or_default a rs))) (reading_of a given)
+    reading_agrees a (Ok xs) given run = records_agree a xs given run.0 run.1 run.2
+    reading_agrees a (Err why) given run = ap (reading_of a) run

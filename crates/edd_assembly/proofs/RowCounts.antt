@@ -19,14 +19,18 @@ pub as_many_string_rows : (s : ℕ) (ws : List Words) → length (string_rows s 
 as_many_string_rows s [] = refl
 as_many_string_rows s (w ∷ ws) = omega (arith, as_many_string_rows (s + length (string_bytes w)) ws)
 
-pub as_many_variables : (items : List (Item Target)) → length (variable_kinds items) ≡ count_of kind.Variable items
+pub as_many_variables : (items : List (Item Target)) → length (variable_kinds items)
+    ≡ count_of kind.Variable items
 as_many_variables items = length-map _ _
 
-of_one_kind : (items : List (Item Target)) (k : Kind) → length (names_of_kind k items) ≡ count_of k items
+of_one_kind : (items : List (Item Target)) (k : Kind) → length (names_of_kind k items)
+    ≡ count_of k items
 of_one_kind items k = length-map _ _
 
 -- all names are those of the five kinds
-pub as_many_names : (items : List (Item Target)) → length (names_of items) ≡ count_of kind.Variable items + count_of kind.Command items + count_of kind.Menu items + count_of kind.Collection items + count_of kind.Method items
+pub as_many_names : (items : List (Item Target)) → length (names_of items)
+    ≡ count_of kind.Variable items + count_of kind.Command items + count_of kind.Menu items
+    + count_of kind.Collection items + count_of kind.Method items
 as_many_names items =
     omega (
       arith,
@@ -35,11 +39,21 @@ as_many_names items =
       of_one_kind items kind.Menu,
       of_one_kind items kind.Collection,
       of_one_kind items kind.Method,
-      length-append (names_of_kind kind.Variable items) (names_of_kind kind.Command items ++ (names_of_kind kind.Menu items ++ (names_of_kind kind.Collection items ++ (names_of_kind kind.Method items ++ [])))),
-      length-append (names_of_kind kind.Command items) (names_of_kind kind.Menu items ++ (names_of_kind kind.Collection items ++ (names_of_kind kind.Method items ++ []))),
-      length-append (names_of_kind kind.Menu items) (names_of_kind kind.Collection items ++ (names_of_kind kind.Method items ++ [])),
+      length-append (names_of_kind kind.Variable items) (names_of_kind kind.Command items
+          ++ (names_of_kind kind.Menu items
+          ++ (names_of_kind kind.Collection items ++ (names_of_kind kind.Method items ++ [])))),
+      length-append (names_of_kind kind.Command items) (names_of_kind kind.Menu items
+          ++ (names_of_kind kind.Collection items ++ (names_of_kind kind.Method items ++ []))),
+      length-append (names_of_kind kind.Menu items) (names_of_kind kind.Collection items
+          ++ (names_of_kind kind.Method items ++ [])),
       length-append (names_of_kind kind.Collection items) (names_of_kind kind.Method items ++ []),
       length-append (names_of_kind kind.Method items) [],
     )
 
-pub ruleset row_counts = (as_many_name_rows, as_many_string_rows, as_many_variables, as_many_names, length-map)
+pub ruleset row_counts = (
+  as_many_name_rows,
+  as_many_string_rows,
+  as_many_variables,
+  as_many_names,
+  length-map,
+)

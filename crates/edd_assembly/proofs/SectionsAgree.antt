@@ -23,11 +23,13 @@ use Rattle.edd_assembly.proofs.SoundStrings.{strings_valid}
 use Rattle.edd_assembly.proofs.TypesRead.{types_read}
 
 module _ (unit : Description Target) (lowered : List Lowered) (strings : List Words) where
-  identification_agrees : identification_in (contents_of (assembled unit lowered strings)) ≡ unit.identification
+  identification_agrees : identification_in (contents_of (assembled unit lowered strings))
+      ≡ unit.identification
   unfolding assembled
   identification_agrees = refl
 
-  counts_agree : (k : Kind) → count_in (contents_of (assembled unit lowered strings)).counts k ≡ count_of k unit.items
+  counts_agree : (k : Kind) → count_in (contents_of (assembled unit lowered strings)).counts k
+      ≡ count_of k unit.items
   unfolding assembled
   counts_agree kind.Variable = refl
   counts_agree kind.Command = refl
@@ -35,20 +37,25 @@ module _ (unit : Description Target) (lowered : List Lowered) (strings : List Wo
   counts_agree kind.Collection = refl
   counts_agree kind.Method = refl
 
-  types_agree : (environment_of (contents_of (assembled unit lowered strings))).types ≡ (environment unit).variables
+  types_agree : (environment_of (contents_of (assembled unit lowered strings))).types
+      ≡ (environment unit).variables
   unfolding assembled
   types_agree = types_read unit.items
 
-  pub short : AreSections (assembled unit lowered strings) → length (flat_map string_bytes strings) < 2 ^ 32
+  pub short : AreSections (assembled unit lowered strings) → length (flat_map string_bytes strings)
+      < 2 ^ 32
   unfolding assembled
   short sections = omega (arith, sections.total_fits)
 
-pub sections_agree_on_data : (unit : Description Target) (lowered : List Lowered) (words : List code_words.Words) → AreUnitsOf unit (map string_of words) lowered → AreSections (assembled unit lowered (map string_of words))
+pub sections_agree_on_data : (unit : Description Target) (lowered : List Lowered)
+    (words : List code_words.Words) → AreUnitsOf unit (map string_of words) lowered
+    → AreSections (assembled unit lowered (map string_of words))
     → AgreesOnData unit (contents_of (assembled unit lowered (map string_of words)))
 sections_agree_on_data unit lowered words units sections = record {
   identification = identification_agrees unit lowered (map string_of words);
   counts = counts_agree unit lowered (map string_of words);
   names = names_agree unit lowered (map string_of words);
   types = types_agree unit lowered (map string_of words);
-  attributes = attribute_agrees unit lowered (map string_of words) units (strings_valid words) (short unit lowered (map string_of words) sections);
+  attributes = attribute_agrees unit lowered (map string_of words) units (strings_valid words)
+      (short unit lowered (map string_of words) sections);
 }

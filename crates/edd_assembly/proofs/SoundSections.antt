@@ -19,7 +19,7 @@ use Rattle.edd_image.specs.Contents.{part, Contents, fields_of_name, fields_of_a
 use Rattle.edd_image.specs.Layout.{AreSections}
 use Rattle.edd_image.specs.Strings.{string_bytes}
 use Rattle.edd_image.specs.Units.{IsValidUnit}
-use Rattle.edd_image.specs.Validity.{unit_of, fills, rise, is_attribute_row, are_variable_rows, are_name_rows, are_attribute_rows, are_string_rows, IsSound}
+use Rattle.edd_image.specs.Validity.{placed_unit, fills, rise, is_attribute_row, are_variable_rows, are_name_rows, are_attribute_rows, are_string_rows, IsSound}
 use Rattle.edd_image.specs.Agreement.{counts_of, IsAttributeCode}
 use Rattle.edd_assembly.specs.Assembly.{Lowered, names_of, name_rows, attribute_rows, assembled}
 use Rattle.edd_assembly.specs.LoweredUnits.{plain_row, IsBodyCode, IsUnitOf, AreUnitsOf}
@@ -42,32 +42,80 @@ module _ (unit : Description Target) (strings : List Words) where
   few_slots : (l : Lowered) → IsUnitOf unit strings l → HasFewSlots l
   few_slots l = pick (same_attr l.row.attr attr.Definition)
     where
-      pick : (b : Bool) → (elim b as (λ w. Type 0) [ true ↦ IsBodyCode unit strings l.row.sub l.code | false ↦ IsAttributeCode unit strings l.row l.code ]) → b ≡ true → l.row.sub ≤ 64
+      pick : (b : Bool) → (elim b as (λ w. Type 0) [
+        | true ↦ IsBodyCode unit strings l.row.sub l.code
+        | false ↦ IsAttributeCode unit strings l.row l.code
+      ]) → b ≡ true → l.row.sub ≤ 64
       pick true u is = u.few_slots
       pick false u is = absurd (false≢true is)
 
-  pub all_few_slots : (ls : List Lowered) → AllByRecursion (IsUnitOf unit strings) ls → AllByRecursion HasFewSlots ls
+  pub all_few_slots : (ls : List Lowered) → AllByRecursion (IsUnitOf unit strings) ls
+      → AllByRecursion HasFewSlots ls
   all_few_slots [] us = record {}
   all_few_slots (l ∷ ls) us = (few_slots l us.0, all_few_slots ls us.1)
 
   valid : (l : Lowered) → IsUnitOf unit strings l
-      → IsValidUnit (record { version = One; counts = counts; sort = if same_attr l.row.attr attr.Definition then Method else Attribute; slots = if same_attr l.row.attr attr.Definition then l.row.sub else 0 }) l.code
+      → IsValidUnit (record {
+        version = One;
+        counts = counts;
+        sort = if same_attr l.row.attr
+            attr.Definition then Method else Attribute;
+        slots =
+            if same_attr l.row.attr attr.Definition then l.row.sub else 0;
+      }) l.code
   valid l = pick (same_attr l.row.attr attr.Definition)
     where
-      pick : (b : Bool) → (elim b as (λ w. Type 0) [ true ↦ IsBodyCode unit strings l.row.sub l.code | false ↦ IsAttributeCode unit strings l.row l.code ])
-          → IsValidUnit (record { version = One; counts = counts; sort = if b then Method else Attribute; slots = if b then l.row.sub else 0 }) l.code
+      pick : (b : Bool) → (elim b as (λ w. Type 0) [
+        | true ↦ IsBodyCode unit strings l.row.sub l.code
+        | false ↦ IsAttributeCode unit strings l.row l.code
+      ])
+          → IsValidUnit (record {
+            version = One;
+            counts = counts;
+            sort = if b then Method else
+                Attribute;
+            slots = if b then l.row.sub else 0;
+          }) l.code
       pick true u = u.valid
       pick false u = u.valid
 
   -- the rows cut the code of their units from the whole
-  units_valid : (c : Contents) → c.version ≡ One → c.counts ≡ counts → (s : ℕ) (ls : List Lowered) → map (λ r. part r.span c.code) (map fields_of_attribute (attribute_rows s ls)) ≡ map code_of ls
-      → AllByRecursion (IsUnitOf unit strings) ls → AllByRecursion (λ u. IsValidUnit u.context u.code) (map (unit_of c) (map fields_of_attribute (attribute_rows s ls)))
+  units_valid : (c : Contents) → c.version ≡ One → c.counts ≡ counts → (s : ℕ) (ls : List Lowered)
+      → map (λ r. part r.span c.code) (map fields_of_attribute (attribute_rows s ls))
+      ≡ map code_of ls
+      → AllByRecursion (IsUnitOf unit strings) ls
+      → AllByRecursion (λ u. IsValidUnit u.context u.code)
+      (map (placed_unit c) (map fields_of_attribute (attribute_rows s ls)))
   units_valid c one counted s [] cuts us = record {}
   units_valid c one counted s (l ∷ ls) cuts us = (
-    subst (λ code. IsValidUnit (record { version = c.version; counts = c.counts; sort = if same_attr l.row.attr attr.Definition then Method else Attribute; slots = if same_attr l.row.attr attr.Definition then l.row.sub else 0 }) code)
+    subst (λ code. IsValidUnit
+        (record {
+          version = c.version;
+          counts = c.counts;
+          sort = if same_attr l.row.attr
+              attr.Definition then Method else Attribute;
+          slots = if same_attr l.row.attr attr.Definition
+              then l.row.sub else 0;
+        }) code)
         (sym (ap (first_or []) cuts))
-        (subst (λ v. IsValidUnit (record { version = v; counts = c.counts; sort = if same_attr l.row.attr attr.Definition then Method else Attribute; slots = if same_attr l.row.attr attr.Definition then l.row.sub else 0 }) l.code) (sym one)
-        (subst (λ n. IsValidUnit (record { version = One; counts = n; sort = if same_attr l.row.attr attr.Definition then Method else Attribute; slots = if same_attr l.row.attr attr.Definition then l.row.sub else 0 }) l.code) (sym counted)
+        (subst (λ v. IsValidUnit
+        (record {
+          version = v;
+          counts = c.counts;
+          sort = if same_attr l.row.attr attr.Definition
+              then Method else Attribute;
+          slots = if same_attr l.row.attr attr.Definition then
+              l.row.sub else 0;
+        }) l.code) (sym one)
+        (subst (λ n. IsValidUnit
+        (record {
+          version = One;
+          counts = n;
+          sort = if same_attr l.row.attr attr.Definition then
+              Method else Attribute;
+          slots = if same_attr l.row.attr attr.Definition then l.row.sub
+              else 0;
+        }) l.code) (sym counted)
         (valid l us.0))),
     units_valid c one counted (s + length l.code) ls (ap behind_first cuts) us.1,
   )
@@ -96,11 +144,18 @@ module _ (unit : Description Target) (lowered : List Lowered) (words : List code
 
   names : IsTrue (are_name_rows contents)
   unfolding assembled
-  names = and_from (list_all (λ r. r.padding == 0) (map fields_of_name (name_rows 0 (names_of unit.items)))) (fills 0 (map (λ r. r.span) (map fields_of_name (name_rows 0 (names_of unit.items)))) (length (flat_map (λ n. n) (names_of unit.items))))
+  names = and_from (list_all (λ r. r.padding == 0)
+      (map fields_of_name (name_rows 0 (names_of unit.items))))
+      (fills 0 (map (λ r. r.span) (map fields_of_name (name_rows 0 (names_of unit.items))))
+      (length (flat_map (λ n. n) (names_of unit.items))))
       (no_name_padding 0 (names_of unit.items)) (names_fill (names_of unit.items))
 
-  placed : list_all (is_placed (counts_of unit.identification unit.items (length (map string_of words)))) (map plain_row lowered) ≡ true
-  placed = ap (list_all (is_placed (counts_of unit.identification unit.items (length (map string_of words))))) units.in_order ∙ rows_placed unit.identification unit.items (length (map string_of words)) formed
+  placed : list_all (is_placed
+      (counts_of unit.identification unit.items (length (map string_of words))))
+      (map plain_row lowered) ≡ true
+  placed = ap (list_all (is_placed
+      (counts_of unit.identification unit.items (length (map string_of words))))) units.in_order
+      ∙ rows_placed unit.identification unit.items (length (map string_of words)) formed
 
   attributes : IsTrue (are_attribute_rows contents)
   unfolding assembled
@@ -108,24 +163,30 @@ module _ (unit : Description Target) (lowered : List Lowered) (words : List code
       let fields = map fields_of_attribute (attribute_rows 0 lowered) in
       let counts = counts_of unit.identification unit.items (length (map string_of words)) in
       let end = length (flat_map code_of lowered) in
-      and_from (list_all (is_attribute_row counts) fields) (rise fields && fills 0 (map (λ r. r.span) fields) end)
+      and_from (list_all (is_attribute_row counts) fields)
+      (rise fields && fills 0 (map (λ r. r.span) fields) end)
       (rows_sound counts 0 lowered placed (all_few_slots unit (map string_of words) lowered each))
-      (and_from (rise fields) (fills 0 (map (λ r. r.span) fields) end) (attributes_rise unit.items lowered units.in_order) (code_fills lowered))
+      (and_from (rise fields) (fills 0 (map (λ r. r.span) fields) end)
+      (attributes_rise unit.items lowered units.in_order) (code_fills lowered))
 
   strings : IsTrue (are_string_rows contents)
   unfolding assembled
   strings = strings_fill (map string_of words)
 
-  units_sound : AllByRecursion (λ u. IsValidUnit u.context u.code) (map (unit_of contents) contents.attributes)
+  units_sound : AllByRecursion (λ u. IsValidUnit u.context u.code)
+      (map (placed_unit contents) contents.attributes)
   unfolding assembled
-  units_sound = units_valid unit (map string_of words) contents refl refl 0 lowered (code_cut lowered) each
+  units_sound = units_valid unit (map string_of words) contents refl refl 0 lowered
+      (code_cut lowered) each
 
   pub sections_sound : IsSound contents
   unfolding assembled
   sections_sound = record {
     rows =
-        and_from (are_variable_rows contents) (are_name_rows contents && (are_attribute_rows contents && are_string_rows contents)) variables
-        (and_from (are_name_rows contents) (are_attribute_rows contents && are_string_rows contents) names
+        and_from (are_variable_rows contents) (are_name_rows contents
+        && (are_attribute_rows contents && are_string_rows contents)) variables
+        (and_from (are_name_rows contents) (are_attribute_rows contents && are_string_rows contents)
+        names
         (and_from (are_attribute_rows contents) (are_string_rows contents) attributes strings));
     names = names_sound unit.items formed;
     strings = strings_sound (map string_of words) (strings_valid words) strings_short;

@@ -55,16 +55,24 @@ string_row_at start w = record { start = start; length = length (string_bytes w)
 
 abbrev pub string_rows : (start : ℕ) → List Words → List StringRow
 string_rows start [] = []
-string_rows start (w ∷ rest) = string_row_at start w ∷ string_rows (start + length (string_bytes w)) rest
+string_rows start (w ∷ rest) = string_row_at start w ∷ string_rows (start + length (string_bytes w))
+    rest
 
 -- ---- attributes
 
 abbrev pub attribute_row_at : (start : ℕ) → Lowered → AttributeRow
-attribute_row_at start l = record { item = l.row.item; attr = l.row.attr; sub = l.row.sub; start = start; length = length l.code }
+attribute_row_at start l = record {
+  item = l.row.item;
+  attr = l.row.attr;
+  sub = l.row.sub;
+  start = start;
+  length = length l.code;
+}
 
 abbrev pub attribute_rows : (start : ℕ) → List Lowered → List AttributeRow
 attribute_rows start [] = []
-attribute_rows start (l ∷ rest) = attribute_row_at start l ∷ attribute_rows (start + length l.code) rest
+attribute_rows start (l ∷ rest) = attribute_row_at start l ∷ attribute_rows (start + length l.code)
+    rest
 
 -- ---- variables
 
@@ -81,18 +89,22 @@ type_in _ = None
 
 -- the attributes of a variable
 abbrev pub variable_attributes : Item Target → Option (List (Attribute Target))
-variable_attributes i = if same_kind (kind_of_item i.sort) kind.Variable then Some i.attributes else None
+variable_attributes i = if same_kind (kind_of_item i.sort) kind.Variable then Some i.attributes else
+    None
 
 -- its size is 1 to 4 octets, if it is a variable
 abbrev pub is_small_variable : Item Target → Bool
-is_small_variable i = option_map_or (λ attributes. is_within 1 4 (written_type attributes).size) (variable_attributes i) true
+is_small_variable i = option_map_or (λ attributes. is_within 1 4 (written_type attributes).size)
+    (variable_attributes i) true
 
 abbrev pub variable_kinds : List (Item Target) → List VarKind
-variable_kinds items = map (λ i. kind_of_type (written_type i.attributes)) (of_kind kind.Variable items)
+variable_kinds items = map (λ i. kind_of_type (written_type i.attributes))
+    (of_kind kind.Variable items)
 
 -- ---- all sections
 
-abbrev pub sections : Counts → List VarKind → List NameRow → List AttributeRow → (code : List ℕ) → List StringRow → (name_bytes string_bytes : List ℕ) → Sections
+abbrev pub sections : Counts → List VarKind → List NameRow → List AttributeRow → (code : List ℕ)
+    → List StringRow → (name_bytes string_bytes : List ℕ) → Sections
 sections counts variables names attributes code strings name_bytes string_bytes = record {
   counts = counts;
   variables = variables;

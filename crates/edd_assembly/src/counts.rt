@@ -3,7 +3,7 @@
 ghost use Rattle.std.specs.Prelude.{◌≡◌, ◌≤◌, ◌∷◌, [], map, option_map, IsTrue, IfOk, OnOk, ◌++◌};
 ghost use Rattle.std.specs.List.{list_all};
 ghost use Rattle.edd_syntax.specs.Device as device;
-ghost use Rattle.edd_syntax.specs.ItemView.{item_of, attribute_of};
+ghost use Rattle.edd_syntax.specs.ItemView.{numbered_attribute, numbered_item};
 ghost use Rattle.edd_syntax.specs.Numbers as numbers;
 ghost use Rattle.edd_syntax.specs.Resolution.{count_of};
 ghost use Rattle.edd_assembly.specs.Assembly as assembly;
@@ -17,8 +17,8 @@ use std::alloc::{AllocError, Global};
 
 /// How many items of a kind there are.
 pub fn count(items: &[Item<Target>], kind: Kind) -> u16
-    requires { count_of kind (map (item_of (λ r. r)) items.now) ≤ 4096 }
-    ensures { result ≡ count_of kind (map (item_of (λ r. r)) items.now) }
+    requires { count_of kind (map numbered_item items.now) ≤ 4096 }
+    ensures { result ≡ count_of kind (map numbered_item items.now) }
 {
     let mut number = 0;
     for item in items {
@@ -30,7 +30,8 @@ pub fn count(items: &[Item<Target>], kind: Kind) -> u16
 }
 
 fn type_in(attribute: &Attribute<Target>) -> Option<(VarType, u32)>
-    ensures { option_map assembly.type_of_pair result ≡ assembly.type_in (attribute_of (λ r. r) attribute.now) }
+    ensures { option_map assembly.type_of_pair result
+        ≡ assembly.type_in (numbered_attribute attribute.now) }
 {
     match attribute {
         Attribute::TypeOf {
@@ -43,7 +44,8 @@ fn type_in(attribute: &Attribute<Target>) -> Option<(VarType, u32)>
 
 // The type and the size that are written; a size that isn't written is 1.
 fn written_type(attributes: &[Attribute<Target>]) -> (VarType, u32)
-    ensures { assembly.type_of_pair result ≡ device.written_type (map (attribute_of (λ r. r)) attributes.now) }
+    ensures { assembly.type_of_pair result
+        ≡ device.written_type (map numbered_attribute attributes.now) }
 {
     for attribute in attributes {
         if let Some(found) = type_in(attribute) {
@@ -54,7 +56,8 @@ fn written_type(attributes: &[Attribute<Target>]) -> (VarType, u32)
 }
 
 fn variable_attributes(item: &Item<Target>) -> Option<&[Attribute<Target>]>
-    ensures { option_map (λ a. map (attribute_of (λ r. r)) a.now) result ≡ assembly.variable_attributes (item_of (λ r. r) item.now) }
+    ensures { option_map (λ a. map numbered_attribute a.now) result ≡ assembly.variable_attributes
+        (numbered_item item.now) }
 {
     match item {
         Item::Variable(d) => Some(&d.attributes),
@@ -63,8 +66,9 @@ fn variable_attributes(item: &Item<Target>) -> Option<&[Attribute<Target>]>
 }
 
 fn push_variable(kinds: &mut Vec<VarKind>, item: &Item<Target>) -> Result<(), AllocError>
-    requires { IsTrue (assembly.is_small_variable (item_of (λ r. r) item.now)) }
-    ensures { OnOk result (kinds.new.items ≡ kinds.old.items ++ assembly.variable_kinds (item_of (λ r. r) item.now ∷ [])) }
+    requires { IsTrue (assembly.is_small_variable (numbered_item item.now)) }
+    ensures { OnOk result (kinds.new.items ≡ kinds.old.items
+        ++ assembly.variable_kinds (numbered_item item.now ∷ [])) }
 {
     if let Some(attributes) = variable_attributes(item) {
         let (var_type, size) = written_type(attributes);
@@ -78,8 +82,9 @@ fn push_variable(kinds: &mut Vec<VarKind>, item: &Item<Target>) -> Result<(), Al
 
 /// The types and the sizes of the variables, by number.
 pub fn variable_kinds(alloc: Global, items: &[Item<Target>]) -> Result<Vec<VarKind>, AllocError>
-    requires { IsTrue (list_all assembly.is_small_variable (map (item_of (λ r. r)) items.now)) }
-    ensures { IfOk result (λ kinds. kinds.items ≡ assembly.variable_kinds (map (item_of (λ r. r)) items.now)) }
+    requires { IsTrue (list_all assembly.is_small_variable (map numbered_item items.now)) }
+    ensures { IfOk result (λ kinds. kinds.items
+        ≡ assembly.variable_kinds (map numbered_item items.now)) }
 {
     let mut kinds = Vec::new(alloc);
     for item in items {

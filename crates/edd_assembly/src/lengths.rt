@@ -4,8 +4,8 @@ ghost use Rattle.std.specs.Prelude.{◌≡◌, IfOk};
 
 use std::alloc::AllocError;
 
-/// The number of so many bytes in a field of four bytes. More than that a section can't have: it is refused as a growth that is
-/// too large.
+/// The number of so many bytes in a field of four bytes. More than that a section can't have: it is
+/// refused as a growth that is too large.
 pub fn number_of(length: usize) -> Result<u32, AllocError>
     ensures { IfOk result (λ n. n ≡ length) }
 {

@@ -2,7 +2,7 @@
 
 ghost use Rattle.std.specs.Prelude.{◌≡◌, ◌++◌, ◌∷◌, [], map, OnOk, IfOk, length, string_bytes};
 ghost use Rattle.std.specs.List.{flat_map};
-ghost use Rattle.edd_syntax.specs.ItemView.{item_of};
+ghost use Rattle.edd_syntax.specs.ItemView.{numbered_item};
 ghost use Rattle.edd_syntax.specs.Numbers as numbers;
 ghost use Rattle.edd_assembly.specs.Assembly.{name_row_at, name_rows, names_of_kind, names_of_kinds, names_of};
 
@@ -32,7 +32,8 @@ impl NameSection {
     }
 
     fn push(&mut self, name: &str) -> Result<(), AllocError>
-        ensures rows { OnOk result (self.new.rows.items ≡ self.old.rows.items ++ name_row_at (length self.old.bytes.items) name.now ∷ []) }
+        ensures rows { OnOk result (self.new.rows.items ≡ self.old.rows.items
+            ++ name_row_at (length self.old.bytes.items) name.now ∷ []) }
         ensures bytes { OnOk result (self.new.bytes.items ≡ self.old.bytes.items ++ name.now) }
     {
         let start = number_of(self.bytes.len())?;
@@ -46,9 +47,11 @@ impl NameSection {
 
     fn push_if(&mut self, item: &Item<Target>, kind: Kind) -> Result<(), AllocError>
         ensures rows { OnOk result (self.new.rows.items
-            ≡ self.old.rows.items ++ name_rows (length self.old.bytes.items) (names_of_kind kind (item_of (λ r. r) item.now ∷ []))) }
+            ≡ self.old.rows.items ++ name_rows (length self.old.bytes.items)
+            (names_of_kind kind (numbered_item item.now ∷ []))) }
         ensures bytes { OnOk result (self.new.bytes.items
-            ≡ self.old.bytes.items ++ flat_map (λ n. n) (names_of_kind kind (item_of (λ r. r) item.now ∷ []))) }
+            ≡ self.old.bytes.items ++ flat_map (λ n. n)
+            (names_of_kind kind (numbered_item item.now ∷ []))) }
     {
         if item.kind() == kind {
             self.push(item.name())?;
@@ -58,9 +61,11 @@ impl NameSection {
 
     fn push_kind(&mut self, items: &[Item<Target>], kind: Kind) -> Result<(), AllocError>
         ensures rows { OnOk result (self.new.rows.items
-            ≡ self.old.rows.items ++ name_rows (length self.old.bytes.items) (names_of_kind kind (map (item_of (λ r. r)) items.now))) }
+            ≡ self.old.rows.items ++ name_rows (length self.old.bytes.items)
+            (names_of_kind kind (map numbered_item items.now))) }
         ensures bytes { OnOk result (self.new.bytes.items
-            ≡ self.old.bytes.items ++ flat_map (λ n. n) (names_of_kind kind (map (item_of (λ r. r)) items.now))) }
+            ≡ self.old.bytes.items ++ flat_map (λ n. n)
+            (names_of_kind kind (map numbered_item items.now))) }
     {
         for item in items {
             self.push_if(item, kind)?;
@@ -75,9 +80,11 @@ fn push_kinds(
     kinds: &[Kind],
 ) -> Result<(), AllocError>
     ensures rows { OnOk result (section.new.rows.items
-        ≡ section.old.rows.items ++ name_rows (length section.old.bytes.items) (names_of_kinds (map (item_of (λ r. r)) items.now) kinds.now)) }
+        ≡ section.old.rows.items ++ name_rows (length section.old.bytes.items)
+        (names_of_kinds (map numbered_item items.now) kinds.now)) }
     ensures bytes { OnOk result (section.new.bytes.items
-        ≡ section.old.bytes.items ++ flat_map (λ n. n) (names_of_kinds (map (item_of (λ r. r)) items.now) kinds.now)) }
+        ≡ section.old.bytes.items
+        ++ flat_map (λ n. n) (names_of_kinds (map numbered_item items.now) kinds.now)) }
 {
     for kind in kinds {
         section.push_kind(items, *kind)?;
@@ -87,8 +94,10 @@ fn push_kinds(
 
 /// The names of items, by kind and number.
 pub fn name_section(alloc: Global, items: &[Item<Target>]) -> Result<NameSection, AllocError>
-    ensures rows { IfOk result (λ s. s.rows.items ≡ name_rows 0 (names_of (map (item_of (λ r. r)) items.now))) }
-    ensures bytes { IfOk result (λ s. s.bytes.items ≡ flat_map (λ n. n) (names_of (map (item_of (λ r. r)) items.now))) }
+    ensures rows { IfOk result
+        (λ s. s.rows.items ≡ name_rows 0 (names_of (map numbered_item items.now))) }
+    ensures bytes { IfOk result
+        (λ s. s.bytes.items ≡ flat_map (λ n. n) (names_of (map numbered_item items.now))) }
 {
     let mut section = NameSection::new(alloc);
     push_kinds(&mut section, items, &KINDS)?;

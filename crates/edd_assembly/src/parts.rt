@@ -3,7 +3,7 @@
 ghost use Rattle.std.specs.Prelude.{◌≡◌, ◌≤◌, ◌+◌, ◌*◌, ◌<◌, ◌^◌, map, length, IsTrue, IfOk, OnOk};
 ghost use Rattle.std.specs.List.{list_all};
 ghost use Rattle.edd_syntax.specs.declared.numbers.Kind.{Kind};
-ghost use Rattle.edd_syntax.specs.ItemView.{identification_of, item_of, numbered_items};
+ghost use Rattle.edd_syntax.specs.ItemView.{identification_of, numbered_items, numbered_item};
 ghost use Rattle.edd_syntax.specs.Resolution.{count_of};
 ghost use Rattle.edd_syntax.specs.Resolved.{description};
 ghost use Rattle.edd_syntax.specs.WordsView.{string_of};
@@ -27,9 +27,10 @@ use edd_syntax::words::Words;
 use std::alloc::{AllocError, Global};
 
 fn counts_of(identification: Identification, items: &[Item<Target>], strings: &[Words]) -> Counts
-    requires few { (k : Kind) → count_of k (map (item_of (λ r. r)) items.now) ≤ 4096 }
+    requires few { (k : Kind) → count_of k (map numbered_item items.now) ≤ 4096 }
     requires few_strings { length strings.now ≤ 65535 }
-    ensures { result ≡ agreement.counts_of (identification_of identification) (map (item_of (λ r. r)) items.now) (length strings.now) }
+    ensures { result ≡ agreement.counts_of (identification_of identification)
+        (map numbered_item items.now) (length strings.now) }
 {
     Counts {
         variables: count(items, Kind::Variable),
@@ -45,7 +46,8 @@ fn counts_of(identification: Identification, items: &[Item<Target>], strings: &[
     }
 }
 
-// The numbers of rows and of bytes fit an image, whose length four bytes say. More is refused as a growth that is too large.
+// The numbers of rows and of bytes fit an image, whose length four bytes say. More is refused as a
+// growth that is too large.
 fn check_length(
     variables: usize,
     names: usize,
@@ -54,7 +56,8 @@ fn check_length(
     strings: usize,
     bytes: usize,
 ) -> Result<(), AllocError>
-    ensures { OnOk result (56 + 4 * variables + 8 * names + 16 * attributes + code + 8 * strings + bytes < 2 ^ 32) }
+    ensures { OnOk result (56 + 4 * variables + 8 * names + 16 * attributes + code + 8 * strings
+        + bytes < 2 ^ 32) }
 {
     let variables = u64::from(number_of(variables)?);
     let names = u64::from(number_of(names)?);
@@ -78,10 +81,12 @@ fn parts_of(
     strings: StringSection,
 ) -> Result<Parts, AllocError>
     requires variables_counted { counts.variables ≡ length variables.items }
-    requires names_counted { counts.variables + counts.commands + counts.menus + counts.collections + counts.methods ≡ length names.rows.items }
+    requires names_counted { counts.variables + counts.commands + counts.menus + counts.collections
+        + counts.methods ≡ length names.rows.items }
     requires strings_counted { counts.strings ≡ length strings.rows.items }
     ensures { IfOk result (λ parts. sections_of parts
-        ≡ assembly.sections counts variables.items names.rows.items code.rows.items code.bytes.items strings.rows.items
+        ≡ assembly.sections counts variables.items names.rows.items code.rows.items code.bytes.items
+        strings.rows.items
         names.bytes.items strings.bytes.items) }
 {
     let name_bytes = number_of(names.bytes.len())?;
@@ -114,11 +119,12 @@ fn assemble_items(
     units: &[Lowered],
     strings: &[Words],
 ) -> Result<Parts, AllocError>
-    requires few { (k : Kind) → count_of k (map (item_of (λ r. r)) items.now) ≤ 4096 }
-    requires small { IsTrue (list_all assembly.is_small_variable (map (item_of (λ r. r)) items.now)) }
+    requires few { (k : Kind) → count_of k (map numbered_item items.now) ≤ 4096 }
+    requires small { IsTrue (list_all assembly.is_small_variable (map numbered_item items.now)) }
     requires few_strings { length strings.now ≤ 65535 }
     ensures { IfOk result (λ parts. sections_of parts
-        ≡ assembled (description (identification_of identification) (map (item_of (λ r. r)) items.now)) (map lowered_of units.now) (map string_of strings.now)) }
+        ≡ assembled (description (identification_of identification) (map numbered_item items.now))
+        (map lowered_of units.now) (map string_of strings.now)) }
 {
     let counts = counts_of(identification, items, strings);
     let variables = variable_kinds(alloc, items)?;
@@ -128,8 +134,8 @@ fn assemble_items(
     parts_of(counts, variables, names, code, strings)
 }
 
-/// The parts of an image: the description's counts, types and names, the code of its attributes in this order, and its strings
-/// by number.
+/// The parts of an image: the description's counts, types and names, the code of its attributes in
+/// this order, and its strings by number.
 pub fn assemble(
     alloc: Global,
     checked: &Checked,
@@ -138,7 +144,8 @@ pub fn assemble(
 ) -> Result<Parts, AllocError>
     requires { length strings.now ≤ 65535 }
     ensures { IfOk result (λ parts. sections_of parts
-        ≡ assembled (description (identification_of checked.now.identification) (numbered_items checked.now.items.value.items))
+        ≡ assembled (description (identification_of checked.now.identification)
+        (numbered_items checked.now.items.value.items))
         (map lowered_of units.now) (map string_of strings.now)) }
 {
     assemble_items(

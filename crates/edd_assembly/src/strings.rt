@@ -12,7 +12,8 @@ use edd_syntax::words::{Variant, Words};
 use std::alloc::{AllocError, Global};
 
 fn put_variant(out: &mut Vec<u8>, variant: &Variant) -> Result<(), AllocError>
-    ensures { OnOk result (out.new.items ≡ out.old.items ++ pure.variant_bytes (variant_of variant.now)) }
+    ensures { OnOk result (out.new.items ≡ out.old.items
+        ++ pure.variant_bytes (variant_of variant.now)) }
 {
     let length = number_of(variant.text.len())?;
     out.push(variant.code.len() as u8)?;
@@ -22,7 +23,8 @@ fn put_variant(out: &mut Vec<u8>, variant: &Variant) -> Result<(), AllocError>
 }
 
 fn put_variants(out: &mut Vec<u8>, variants: &[Variant]) -> Result<(), AllocError>
-    ensures { OnOk result (out.new.items ≡ out.old.items ++ flat_map pure.variant_bytes (map variant_of variants.now)) }
+    ensures { OnOk result (out.new.items ≡ out.old.items ++ flat_map pure.variant_bytes
+        (map variant_of variants.now)) }
 {
     for variant in variants {
         put_variant(out, variant)?;
@@ -32,7 +34,8 @@ fn put_variants(out: &mut Vec<u8>, variants: &[Variant]) -> Result<(), AllocErro
 
 /// Appends the bytes of a string.
 pub fn put_words(out: &mut Vec<u8>, words: &Words) -> Result<(), AllocError>
-    ensures { OnOk result (out.new.items ≡ out.old.items ++ pure.string_bytes (string_of words.now)) }
+    ensures { OnOk result (out.new.items ≡ out.old.items
+        ++ pure.string_bytes (string_of words.now)) }
 {
     match words {
         Words::Variants { first, rest } => {
@@ -67,8 +70,10 @@ impl StringSection {
 
     fn push(&mut self, words: &Words) -> Result<(), AllocError>
         ensures rows { OnOk result (self.new.rows.items
-            ≡ self.old.rows.items ++ string_row_at (length self.old.bytes.items) (string_of words.now) ∷ []) }
-        ensures bytes { OnOk result (self.new.bytes.items ≡ self.old.bytes.items ++ pure.string_bytes (string_of words.now)) }
+            ≡ self.old.rows.items ++ string_row_at (length self.old.bytes.items)
+            (string_of words.now) ∷ []) }
+        ensures bytes { OnOk result (self.new.bytes.items ≡ self.old.bytes.items
+            ++ pure.string_bytes (string_of words.now)) }
     {
         let start = self.bytes.len();
         put_words(&mut self.bytes, words)?;
@@ -84,7 +89,8 @@ impl StringSection {
 /// The strings of an image, by number.
 pub fn string_section(alloc: Global, words: &[Words]) -> Result<StringSection, AllocError>
     ensures rows { IfOk result (λ s. s.rows.items ≡ string_rows 0 (map string_of words.now)) }
-    ensures bytes { IfOk result (λ s. s.bytes.items ≡ flat_map pure.string_bytes (map string_of words.now)) }
+    ensures bytes { IfOk result
+        (λ s. s.bytes.items ≡ flat_map pure.string_bytes (map string_of words.now)) }
 {
     let mut section = StringSection::new(alloc);
     for w in words {

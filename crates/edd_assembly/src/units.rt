@@ -37,8 +37,10 @@ impl CodeSection {
 
     fn push(&mut self, unit: &Lowered) -> Result<(), AllocError>
         ensures rows { OnOk result (self.new.rows.items
-            ≡ self.old.rows.items ++ attribute_row_at (length self.old.bytes.items) (lowered_of unit.now) ∷ []) }
-        ensures bytes { OnOk result (self.new.bytes.items ≡ self.old.bytes.items ++ (lowered_of unit.now).code) }
+            ≡ self.old.rows.items ++ attribute_row_at (length self.old.bytes.items)
+            (lowered_of unit.now) ∷ []) }
+        ensures bytes { OnOk result (self.new.bytes.items ≡ self.old.bytes.items
+            ++ (lowered_of unit.now).code) }
     {
         let start = number_of(self.bytes.len())?;
         let length = number_of(unit.code.len())?;
@@ -57,7 +59,8 @@ impl CodeSection {
 /// The code of attributes, one behind the other.
 pub fn code_section(alloc: Global, units: &[Lowered]) -> Result<CodeSection, AllocError>
     ensures rows { IfOk result (λ s. s.rows.items ≡ attribute_rows 0 (map lowered_of units.now)) }
-    ensures bytes { IfOk result (λ s. s.bytes.items ≡ flat_map (λ l. l.code) (map lowered_of units.now)) }
+    ensures bytes { IfOk result
+        (λ s. s.bytes.items ≡ flat_map (λ l. l.code) (map lowered_of units.now)) }
 {
     let mut section = CodeSection::new(alloc);
     for unit in units {

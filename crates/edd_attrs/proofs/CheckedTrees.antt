@@ -47,16 +47,19 @@ data_small (item.Constant n) h = here (nat_lt 255 n) refl h
     here false is h = lt-ltb n 256 (omega (arith, ltb-false 255 n is))
 data_small (item.Variable variable mask qualifiers) h = refl
 
-flat_none : {A B : Type 0} (f : A → List B) (xs ys : List A) → flat_map f (xs ++ ys) ≡ [] → (flat_map f xs ≡ []) × (flat_map f ys ≡ [])
+flat_none : {A B : Type 0} (f : A → List B) (xs ys : List A) → flat_map f (xs ++ ys) ≡ []
+    → (flat_map f xs ≡ []) × (flat_map f ys ≡ [])
 flat_none f [] ys h = (refl, h)
 flat_none f (x ∷ xs) ys h =
     let first = front_none (f x) (flat_map f (xs ++ ys)) h in
     let rest = flat_none f xs ys first.1 in
     (ap (λ zs. zs ++ flat_map f xs) first.0 ∙ rest.0, rest.1)
 
-all_small : (ds : List (DataItem Target)) → flat_map data_breaches ds ≡ [] → list_all kept_data ds ≡ true
+all_small : (ds : List (DataItem Target)) → flat_map data_breaches ds ≡ [] → list_all kept_data ds
+    ≡ true
 all_small [] h = refl
-all_small (d ∷ ds) h = let both = front_none (data_breaches d) (flat_map data_breaches ds) h in rw (data_small d both.0, all_small ds both.1) refl
+all_small (d ∷ ds) h = let both = front_none (data_breaches d) (flat_map data_breaches ds) h in rw
+    (data_small d both.0, all_small ds both.1) refl
 
 -- ---- constants are octets, and no SELECT has two DEFAULTs
 
@@ -94,16 +97,22 @@ is_ruled (trees.ResponseCodes responses) = true
 is_ruled (trees.Items entries) = no_breach (conds_defaults entries)
 is_ruled (trees.Members members) = true
 
-part_ruled : (p : TransactionPart Target) → transaction_part_breaches p ≡ [] → transaction_part_defaults p ≡ [] → named is_ruled (tree_of_transaction_part p) ≡ true
-part_ruled (item.Request all) h k = rw (all_small (values_of all) h, none_is (conds_defaults all) k) refl
-part_ruled (item.Reply all) h k = rw (all_small (values_of all) h, none_is (conds_defaults all) k) refl
+part_ruled : (p : TransactionPart Target) → transaction_part_breaches p ≡ []
+    → transaction_part_defaults p ≡ [] → named is_ruled (tree_of_transaction_part p) ≡ true
+part_ruled (item.Request all) h k = rw (all_small (values_of all) h, none_is (conds_defaults all) k)
+    refl
+part_ruled (item.Reply all) h k = rw (all_small (values_of all) h, none_is (conds_defaults all) k)
+    refl
 
-parts_ruled : (parts : List (TransactionPart Target)) → flat_map transaction_part_breaches parts ≡ [] → flat_map transaction_part_defaults parts ≡ []
+parts_ruled : (parts : List (TransactionPart Target)) → flat_map transaction_part_breaches parts
+    ≡ [] → flat_map transaction_part_defaults parts ≡ []
     → list_all (named is_ruled) (map tree_of_transaction_part parts) ≡ true
 parts_ruled [] h k = refl
 parts_ruled (p ∷ rest) h k =
-    let both = front_none (transaction_part_breaches p) (flat_map transaction_part_breaches rest) h in
-    let defaults = front_none (transaction_part_defaults p) (flat_map transaction_part_defaults rest) k in
+    let both = front_none (transaction_part_breaches p) (flat_map transaction_part_breaches rest)
+    h in
+    let defaults = front_none (transaction_part_defaults p)
+    (flat_map transaction_part_defaults rest) k in
     rw (part_ruled p both.0 defaults.0, parts_ruled rest both.1 defaults.1) refl
 
 abbrev ruled_part : TypePart Target → Bool
@@ -117,19 +126,24 @@ type_part_ruled (item.DisplayFormat c) k = rw (none_is (cond_defaults c) k) refl
 type_part_ruled (item.EditFormat c) k = rw (none_is (cond_defaults c) k) refl
 type_part_ruled (item.Element c) k = none_is (cond_defaults c) k
 
-type_parts_ruled : (parts : List (TypePart Target)) → flat_map type_part_defaults parts ≡ [] → (list_all ruled_element parts && list_all (named is_ruled) (trees_of_parts parts)) ≡ true
+type_parts_ruled : (parts : List (TypePart Target)) → flat_map type_part_defaults parts ≡ []
+    → (list_all ruled_element parts && list_all (named is_ruled) (trees_of_parts parts)) ≡ true
 type_parts_ruled [] k = refl
 type_parts_ruled (p ∷ rest) k =
     let defaults = front_none (type_part_defaults p) (flat_map type_part_defaults rest) k in
-    let here = both_of (list_all (named is_ruled) (trees_of_part p)) (ruled_element p) (type_part_ruled p defaults.0) in
-    let others = both_of (list_all ruled_element rest) (list_all (named is_ruled) (trees_of_parts rest)) (type_parts_ruled rest defaults.1) in
-    rw (here.1, others.0) (all_append (named is_ruled) (trees_of_part p) (trees_of_parts rest) here.0 others.1)
+    let here = both_of (list_all (named is_ruled) (trees_of_part p)) (ruled_element p)
+    (type_part_ruled p defaults.0) in
+    let others = both_of (list_all ruled_element rest)
+    (list_all (named is_ruled) (trees_of_parts rest)) (type_parts_ruled rest defaults.1) in
+    rw (here.1, others.0) (all_append (named is_ruled) (trees_of_part p) (trees_of_parts rest)
+    here.0 others.1)
 
 -- one tree, and none inside
 alone : {b : Bool} → b ≡ true → ((b && true) && true) ≡ true
 alone h = rw h refl
 
-attribute_ruled : (a : Attribute Target) → attribute_data_breaches a ≡ [] → repeated_cases a ≡ [] → throughout is_ruled a ≡ true
+attribute_ruled : (a : Attribute Target) → attribute_data_breaches a ≡ [] → repeated_cases a ≡ []
+    → throughout is_ruled a ≡ true
 attribute_ruled (item.OneText which c) h k = alone (none_is (cond_defaults c) k)
 attribute_ruled (item.Class words) h k = refl
 attribute_ruled (item.Handling c) h k = alone (none_is (cond_defaults c) k)
@@ -143,40 +157,56 @@ attribute_ruled (item.Items entries) h k = alone (none_is (conds_defaults entrie
 attribute_ruled (item.Members members) h k = refl
 attribute_ruled (item.Definition body) h k = refl
 
-attributes_ruled : (attributes : List (Attribute Target)) → flat_map attribute_data_breaches attributes ≡ [] → flat_map repeated_cases attributes ≡ [] → list_all (throughout is_ruled) attributes ≡ true
+attributes_ruled : (attributes : List (Attribute Target))
+    → flat_map attribute_data_breaches attributes ≡ [] → flat_map repeated_cases attributes ≡ []
+    → list_all (throughout is_ruled) attributes ≡ true
 attributes_ruled [] h k = refl
 attributes_ruled (a ∷ rest) h k =
     let both = front_none (attribute_data_breaches a) (flat_map attribute_data_breaches rest) h in
     let defaults = front_none (repeated_cases a) (flat_map repeated_cases rest) k in
     rw (attribute_ruled a both.0 defaults.0, attributes_ruled rest both.1 defaults.1) refl
 
-items_ruled : (items : List (Item Target)) → flat_map attribute_data_breaches (flat_map (λ i. i.attributes) items) ≡ [] → flat_map repeated_cases (flat_map (λ i. i.attributes) items) ≡ []
+items_ruled : (items : List (Item Target))
+    → flat_map attribute_data_breaches (flat_map (λ i. i.attributes) items) ≡ []
+    → flat_map repeated_cases (flat_map (λ i. i.attributes) items) ≡ []
     → list_all (throughout_item is_ruled) items ≡ true
 items_ruled [] h k = refl
 items_ruled (i ∷ rest) h k =
-    let both = flat_none attribute_data_breaches i.attributes (flat_map (λ j. j.attributes) rest) h in
+    let both = flat_none attribute_data_breaches i.attributes (flat_map (λ j. j.attributes) rest)
+    h in
     let defaults = flat_none repeated_cases i.attributes (flat_map (λ j. j.attributes) rest) k in
     rw (attributes_ruled i.attributes both.0 defaults.0, items_ruled rest both.1 defaults.1) refl
 
 -- ---- the items of a description and of the unit that it comes from are as many
 
-filter_lengths : {X C : Type 0} (κ : X → C) (p : C → Bool) (xs : List X) → length (filter (λ x. p (κ x)) xs) ≡ length (filter p (map κ xs))
+filter_lengths : {X C : Type 0} (κ : X → C) (p : C → Bool) (xs : List X)
+    → length (filter (λ x. p (κ x)) xs) ≡ length (filter p (map κ xs))
 filter_lengths κ p [] = refl
 filter_lengths κ p (x ∷ xs) = here (p (κ x)) (filter_lengths κ p xs)
   where
-    here : (b : Bool) → length (filter (λ x. p (κ x)) xs) ≡ length (filter p (map κ xs)) → length (cond b (x ∷ filter (λ y. p (κ y)) xs) (filter (λ y. p (κ y)) xs)) ≡ length (cond b (κ x ∷ filter p (map κ xs)) (filter p (map κ xs)))
+    here : (b : Bool) → length (filter (λ x. p (κ x)) xs) ≡ length (filter p (map κ xs))
+        → length (cond b (x ∷ filter (λ y. p (κ y)) xs) (filter (λ y. p (κ y)) xs))
+        ≡ length (cond b (κ x ∷ filter p (map κ xs)) (filter p (map κ xs)))
     here true h = omega (arith, h)
     here false h = h
 
-sort_kept : (unit : Description Path) (i : Item Path) (y : Item Target) → resolved_item unit i ≡ Some y → y.sort ≡ i.sort
+sort_kept : (unit : Description Path) (i : Item Path) (y : Item Target)
+    → resolved_item unit i ≡ Some y → y.sort ≡ i.sort
 sort_kept unit i y h =
-    let x = bind_some (each (resolved_attribute unit i.sort) i.attributes) (λ attributes. Some (record { sort = i.sort; name = i.name; attributes = attributes })) y h in
-    sym (ap (λ (z : Item Target). z.sort) (same_Some (record { sort = i.sort; name = i.name; attributes = x.0 }) y x.2))
+    let x = bind_some (each (resolved_attribute unit i.sort) i.attributes)
+    (λ attributes. Some (record { sort = i.sort; name = i.name; attributes = attributes })) y
+    h in
+    sym (ap (λ (z : Item Target). z.sort)
+    (same_Some (record { sort = i.sort; name = i.name; attributes = x.0 }) y x.2))
 
-count_kept : (unit : Description Path) (items : List (Item Target)) → each (resolved_item unit) unit.items ≡ Some items → (k : Kind) → count_of k items ≡ count_of k unit.items
+count_kept : (unit : Description Path) (items : List (Item Target))
+    → each (resolved_item unit) unit.items ≡ Some items → (k : Kind)
+    → count_of k items ≡ count_of k unit.items
 count_kept unit items meant k =
     filter_lengths (λ i. i.sort) (λ s. same_kind (kind_of_item s) k) items
-    ∙ ap (λ ss. length (filter (λ s. same_kind (kind_of_item s) k) ss)) (each_keeps (resolved_item unit) (λ i. i.sort) (λ i. i.sort) (sort_kept unit) unit.items items meant)
+    ∙ ap (λ ss. length (filter (λ s. same_kind (kind_of_item s) k) ss))
+    (each_keeps (resolved_item unit) (λ i. i.sort) (λ i. i.sort) (sort_kept unit) unit.items
+    items meant)
     ∙ sym (filter_lengths (λ i. i.sort) (λ s. same_kind (kind_of_item s) k) unit.items)
 
 -- ---- a checked description
@@ -200,7 +230,8 @@ counts_with count = record {
 abbrev pub reads_of : (Kind → ℕ) → Target → Bool
 reads_of count t = reads_existing (counts_with count) t
 
-item_readable : (count : Kind → ℕ) (i : ItemNo) → is_item_of count i ≡ true → is_among variable_kinds i ≡ true → reads_of count (target.Item i) ≡ true
+item_readable : (count : Kind → ℕ) (i : ItemNo) → is_item_of count i ≡ true
+    → is_among variable_kinds i ≡ true → reads_of count (target.Item i) ≡ true
 item_readable count (item_no.Variable v) h k = h
 item_readable count (item_no.Command n) h k = refl
 item_readable count (item_no.Menu n) h k = refl
@@ -208,9 +239,11 @@ item_readable count (item_no.Collection n) h k = refl
 item_readable count (item_no.Method n) h k = refl
 
 abbrev pub is_whole : Description Target → Tree → Bool
-is_whole d t = is_good (λ k. count_of k d.items) (reads_of (λ k. count_of k d.items)) t && is_ruled t
+is_whole d t = is_good (λ k. count_of k d.items) (reads_of (λ k. count_of k d.items)) t
+    && is_ruled t
 
-both_there : {A : Type 0} (p q : A → Bool) (o : Option A) → if_there p o ≡ true → if_there q o ≡ true → if_there (λ x. p x && q x) o ≡ true
+both_there : {A : Type 0} (p q : A → Bool) (o : Option A) → if_there p o ≡ true
+    → if_there q o ≡ true → if_there (λ x. p x && q x) o ≡ true
 both_there p q None h k = refl
 both_there p q (Some x) h k = rw (h, k) refl
 
@@ -222,18 +255,31 @@ module _ (d : Description Target) (row : AttrRef) where
   unfolding resolved_unit are_items
   whole_in checked =
       let u = checked.is_resolved.unit in
-      let x = bind_some (each (resolved_item u) u.items) (λ items. Some (record { identification = u.identification; items = items })) d checked.is_resolved.meanings in
-      let same_items : x.0 ≡ d.items = ap (λ (e : Description Target). e.items) (same_Some (record { identification = u.identification; items = x.0 }) d x.2) in
+      let x = bind_some (each (resolved_item u) u.items)
+      (λ items. Some (record { identification = u.identification; items = items })) d
+      checked.is_resolved.meanings in
+      let same_items : x.0 ≡ d.items = ap (λ (e : Description Target). e.items)
+      (same_Some (record { identification = u.identification; items = x.0 }) d x.2) in
       let good : list_all (throughout_item (good_with (λ k. count_of k u.items))) x.0 ≡ true =
-      each_all (resolved_item u) (is_item is_path is_plain) (throughout_item (good_with (λ k. count_of k u.items)))
-      (item_good u (reads_of (λ k. count_of k u.items)) (item_readable (λ k. count_of k u.items))) u.items x.0 checked.is_resolved.well_formed x.1 in
-      let counts : (λ k. count_of k u.items) ≡ (λ k. count_of k d.items) = fun_ext (λ k. sym (count_kept u d.items (x.1 ∙ ap Some same_items) k)) in
-      let good_here : list_all (throughout_item (good_with (λ k. count_of k d.items))) d.items ≡ true =
-      subst (λ (items : List (Item Target)). list_all (throughout_item (good_with (λ k. count_of k d.items))) items ≡ true) same_items
-      (subst (λ (count : Kind → ℕ). list_all (throughout_item (good_with count)) x.0 ≡ true) counts good) in
-      let last = (front_none (wrong_breaks d) _ (front_none (float_values d) _ (front_none (mismatches d) _ (front_none (wrong_types d) _ checked.no_breach).1).1).1).1 in
+      each_all (resolved_item u) (is_item is_path is_plain)
+      (throughout_item (good_with (λ k. count_of k u.items)))
+      (item_good u (reads_of (λ k. count_of k u.items)) (item_readable (λ k. count_of k u.items)))
+      u.items x.0 checked.is_resolved.well_formed x.1 in
+      let counts : (λ k. count_of k u.items) ≡ (λ k. count_of k d.items) =
+      fun_ext (λ k. sym (count_kept u d.items (x.1 ∙ ap Some same_items) k)) in
+      let good_here : list_all (throughout_item (good_with (λ k. count_of k d.items))) d.items
+      ≡ true =
+      subst (λ (items : List (Item Target)). list_all
+      (throughout_item (good_with (λ k. count_of k d.items))) items ≡ true) same_items
+      (subst (λ (count : Kind → ℕ). list_all (throughout_item (good_with count)) x.0 ≡ true) counts
+      good) in
+      let last = (front_none (wrong_breaks d) _
+      (front_none (float_values d) _
+      (front_none (mismatches d) _ (front_none (wrong_types d) _ checked.no_breach).1).1).1).1
+      in
       let none = front_none (wrong_constants d) (duplicate_cases d) last in
-      both_there (good_with (λ k. count_of k d.items)) is_ruled (tree_at d row) (tree_has (good_with (λ k. count_of k d.items)) d row good_here)
+      both_there (good_with (λ k. count_of k d.items)) is_ruled (tree_at d row)
+      (tree_has (good_with (λ k. count_of k d.items)) d row good_here)
       (tree_has is_ruled d row (items_ruled d.items none.0 none.1))
 
   pub whole_when_checked : ∥ IsChecked d ∥₁ → if_there (is_whole d) (tree_at d row) ≡ true

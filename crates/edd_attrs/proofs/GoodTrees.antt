@@ -1,5 +1,5 @@
--- What the trees of a resolved description keep of those of its unit: texts and numbers of tokens, items that exist, variables that
--- are read, and the limit on heights.
+-- What the trees of a resolved description keep of those of its unit: texts and numbers of tokens,
+-- items that exist, variables that are read, and the limit on heights.
 use Rattle.std.proofs.Common.{◌≡◌, refl, ap, subst, ◌∙◌, ℕ, arith, ◌^◌, Bool, true, false, List, [], ◌∷◌, map, Option, Some, None}
 use Rattle.std.specs.Prelude.{◌&&◌, max, nat_lt, nat_le}
 use Rattle.std.specs.List.{list_all}
@@ -32,7 +32,8 @@ use Rattle.edd_code.proofs.BothTests.{both_of, both_true}
 
 -- ---- steps that may fail
 
-pub bind_some : {A B : Type 0} (o : Option A) (f : A → Option B) (z : B) → (o >>= f) ≡ Some z → (x : A) × (o ≡ Some x) × (f x ≡ Some z)
+pub bind_some : {A B : Type 0} (o : Option A) (f : A → Option B) (z : B) → (o >>= f) ≡ Some z
+    → (x : A) × (o ≡ Some x) × (f x ≡ Some z)
 bind_some None f z h = absurd (none-some z h)
 bind_some (Some x) f z h = (x, refl, h)
 
@@ -40,22 +41,28 @@ bind_some (Some x) f z h = (x, refl, h)
 pub along_some : {A : Type 0} (P : A → Bool) (x y : A) → Some x ≡ Some y → P x ≡ true → P y ≡ true
 along_some P x y e h = subst (λ z. P z ≡ true) (same_Some x y e) h
 
-pub each_all : {A B : Type 0} (of : A → Option B) (p : A → Bool) (q : B → Bool) → ((x : A) (y : B) → p x ≡ true → of x ≡ Some y → q y ≡ true)
-    → (xs : List A) (ys : List B) → list_all p xs ≡ true → each of xs ≡ Some ys → list_all q ys ≡ true
+pub each_all : {A B : Type 0} (of : A → Option B) (p : A → Bool) (q : B → Bool)
+    → ((x : A) (y : B) → p x ≡ true → of x ≡ Some y → q y ≡ true)
+    → (xs : List A) (ys : List B) → list_all p xs ≡ true → each of xs ≡ Some ys
+    → list_all q ys ≡ true
 each_all of p q keeps [] ys all h = along_some (list_all q) [] ys h refl
 each_all of p q keeps (x ∷ xs) ys all h =
     let parts = both_of (p x) (list_all p xs) all in
     let first = bind_some (of x) (λ y. each of xs >>= λ others. Some (y ∷ others)) ys h in
     let rest = bind_some (each of xs) (λ others. Some (first.0 ∷ others)) ys first.2 in
-    along_some (list_all q) (first.0 ∷ rest.0) ys rest.2 (rw (keeps x first.0 parts.0 first.1, each_all of p q keeps xs rest.0 parts.1 rest.1) refl)
+    along_some (list_all q) (first.0 ∷ rest.0) ys rest.2
+    (rw (keeps x first.0 parts.0 first.1, each_all of p q keeps xs rest.0 parts.1 rest.1) refl)
 
 -- ---- lists of tests
 
-pub all_good : {A : Type 0} (p q : A → Bool) → ((x : A) → p x ≡ true → q x ≡ true) → (xs : List A) → list_all p xs ≡ true → list_all q xs ≡ true
+pub all_good : {A : Type 0} (p q : A → Bool) → ((x : A) → p x ≡ true → q x ≡ true) → (xs : List A)
+    → list_all p xs ≡ true → list_all q xs ≡ true
 all_good p q keeps [] h = refl
-all_good p q keeps (x ∷ xs) h = let parts = both_of (p x) (list_all p xs) h in both_true (keeps x parts.0) (all_good p q keeps xs parts.1)
+all_good p q keeps (x ∷ xs) h = let parts = both_of (p x) (list_all p xs) h in both_true
+    (keeps x parts.0) (all_good p q keeps xs parts.1)
 
-pub all_both : {A : Type 0} (p q : A → Bool) (xs : List A) → list_all p xs ≡ true → list_all q xs ≡ true → list_all (λ x. p x && q x) xs ≡ true
+pub all_both : {A : Type 0} (p q : A → Bool) (xs : List A) → list_all p xs ≡ true
+    → list_all q xs ≡ true → list_all (λ x. p x && q x) xs ≡ true
 all_both p q [] h k = refl
 all_both p q (x ∷ xs) h k =
     let ps = both_of (p x) (list_all p xs) h in
@@ -71,9 +78,11 @@ low_left m n h = le-leb m 100 (omega (arith, le-max_left m n, leb-true (max m n)
 low_right : (m n : ℕ) → is_low (max m n) ≡ true → is_low n ≡ true
 low_right m n h = le-leb n 100 (omega (arith, le-max_right m n, leb-true (max m n) 100 h))
 
-all_low : {A : Type 0} (f : A → ℕ) (xs : List A) → is_low (greatest_of (map f xs)) ≡ true → list_all (λ x. is_low (f x)) xs ≡ true
+all_low : {A : Type 0} (f : A → ℕ) (xs : List A) → is_low (greatest_of (map f xs)) ≡ true
+    → list_all (λ x. is_low (f x)) xs ≡ true
 all_low f [] h = refl
-all_low f (x ∷ xs) h = both_true (low_left (f x) (greatest_of (map f xs)) h) (all_low f xs (low_right (f x) (greatest_of (map f xs)) h))
+all_low f (x ∷ xs) h = both_true (low_left (f x) (greatest_of (map f xs)) h)
+    (all_low f xs (low_right (f x) (greatest_of (map f xs)) h))
 
 -- ---- what is kept
 
@@ -89,7 +98,8 @@ good_response r = is_small r.number && kept_response r
 abbrev pub any_value : {V : Type 0} → V → Bool
 any_value v = true
 
--- a conditional, and a list of them, whose values pass a test, in which expressions are pure and what they read passes one
+-- a conditional, and a list of them, whose values pass a test, in which expressions are pure and
+-- what they read passes one
 module _ (reads : Target → Bool) {V : Type 0} (p : V → Bool) (f : V → ℕ) where
   abbrev pub good_cond : Cond Target V → Bool
   good_cond c = is_cond reads reads p c && is_low (cond_height f c)
@@ -101,7 +111,8 @@ module _ (reads : Target → Bool) {V : Type 0} (p : V → Bool) (f : V → ℕ)
 module _ (count : Kind → ℕ) (reads : Target → Bool) where
   abbrev pub good_data : DataItem Target → Bool
   good_data (item.Constant n) = true
-  good_data (item.Variable variable mask qualifiers) = is_item_of count (item_no.Variable (variable_of variable)) && is_small (mask_number mask)
+  good_data (item.Variable variable mask qualifiers) =
+      is_item_of count (item_no.Variable (variable_of variable)) && is_small (mask_number mask)
 
   abbrev pub good_entry : MenuEntry Target → Bool
   good_entry (item.Text text) = is_text text
@@ -126,7 +137,8 @@ module _ (count : Kind → ℕ) (reads : Target → Bool) where
   is_good (trees.Class names) = true
   is_good (trees.Handling c) = good_cond reads any_value leaf c
   is_good (trees.Validity c) = good_cond reads any_value leaf c
-  is_good (trees.Expressions c) = good_cond reads good_expression height c && is_single reads reads c
+  is_good (trees.Expressions c) = good_cond reads good_expression height c
+      && is_single reads reads c
   is_good (trees.Enumerators parts) = list_all good_element parts
   is_good (trees.Number n) = is_small n
   is_good (trees.Operation o) = true
@@ -141,7 +153,8 @@ module _ (count : Kind → ℕ) (reads : Target → Bool) where
 same_value : {V : Type 0} (p : V → Bool) (v w : V) → p v ≡ true → unchanged v ≡ Some w → p w ≡ true
 same_value p v w h e = along_some p v w e h
 
-kind_variable : (i : ItemNo) → is_among variable_kinds i ≡ true → item_no.Variable (variable_of (target.Item i)) ≡ i
+kind_variable : (i : ItemNo) → is_among variable_kinds i ≡ true
+    → item_no.Variable (variable_of (target.Item i)) ≡ i
 kind_variable (item_no.Variable v) h = refl
 kind_variable (item_no.Command n) h = absurd cc
 kind_variable (item_no.Menu n) h = absurd cc
@@ -152,7 +165,8 @@ mask_small : (mask : Option ℕ) → if_some is_small mask ≡ true → is_small
 mask_small None h = refl
 mask_small (Some m) h = h
 
-enumerator_good : (e : item.Enumerator) → is_enumerator is_path is_plain e ≡ true → good_enumerator e ≡ true
+enumerator_good : (e : item.Enumerator) → is_enumerator is_path is_plain e ≡ true
+    → good_enumerator e ≡ true
 enumerator_good e h =
     let helped = both_of _ (if_some is_text e.help) h in
     let told = both_of (is_label e.value) (is_text e.text) helped.0 in
@@ -160,7 +174,8 @@ enumerator_good e h =
 
 -- what may be read is an item of the unit that is a variable
 module _ (unit : Description Path) (reads : Target → Bool)
-    (readable : (i : ItemNo) → is_item_of (λ k. count_of k unit.items) i ≡ true → is_among variable_kinds i ≡ true → reads (target.Item i) ≡ true) where
+    (readable : (i : ItemNo) → is_item_of (λ k. count_of k unit.items) i ≡ true
+    → is_among variable_kinds i ≡ true → reads (target.Item i) ≡ true) where
   abbrev count : Kind → ℕ
   count k = count_of k unit.items
 
@@ -171,117 +186,178 @@ module _ (unit : Description Path) (reads : Target → Bool)
   kept p t e = let i = meant_exists unit variable_kinds p t e in ap reads i.1 ∙ readable i.0 i.2 i.3
 
   -- conditionals whose values keep a test and their height
-  module _ {V W : Type 0} (of : V → Option W) (p : V → Bool) (q : W → Bool) (f : V → ℕ) (g : W → ℕ) (keeps : (v : V) (w : W) → p v ≡ true → of v ≡ Some w → q w ≡ true)
+  module _ {V W : Type 0} (of : V → Option W) (p : V → Bool) (q : W → Bool) (f : V → ℕ) (g : W → ℕ)
+      (keeps : (v : V) (w : W) → p v ≡ true → of v ≡ Some w → q w ≡ true)
       (same : (v : V) (w : W) → p v ≡ true → of v ≡ Some w → g w ≡ f v) where
-    cond_good : (c : Cond Path V) (d : Cond Target W) → is_cond is_path is_plain p c ≡ true → is_low (cond_height f c) ≡ true → resolved_cond at of c ≡ Some d → good_cond reads q g d ≡ true
-    cond_good c d h l e = both_true (cond_tested at reads kept of p q keeps c d h e) (ap is_low (same_height at reads kept of p q keeps f g same c d h e) ∙ l)
+    cond_good : (c : Cond Path V) (d : Cond Target W) → is_cond is_path is_plain p c ≡ true
+        → is_low (cond_height f c) ≡ true → resolved_cond at of c ≡ Some d → good_cond reads q g d
+        ≡ true
+    cond_good c d h l e = both_true (cond_tested at reads kept of p q keeps c d h e)
+        (ap is_low (same_height at reads kept of p q keeps f g same c d h e) ∙ l)
 
-    conds_good : (c : Conds Path V) (d : Conds Target W) → are_conds is_path is_plain p c ≡ true → is_low (conds_height f c) ≡ true → resolved_conds at of c ≡ Some d → good_conds reads q g d ≡ true
-    conds_good c d h l e = both_true (conds_tested at reads kept of p q keeps c d h e) (ap is_low (same_heights at reads kept of p q keeps f g same c d h e) ∙ l)
+    conds_good : (c : Conds Path V) (d : Conds Target W) → are_conds is_path is_plain p c ≡ true
+        → is_low (conds_height f c) ≡ true → resolved_conds at of c ≡ Some d
+        → good_conds reads q g d ≡ true
+    conds_good c d h l e = both_true (conds_tested at reads kept of p q keeps c d h e)
+        (ap is_low (same_heights at reads kept of p q keeps f g same c d h e) ∙ l)
 
-  one_good : {V : Type 0} (p : V → Bool) (c : Cond Path V) (d : Cond Target V) → (is_cond is_path is_plain p c && is_single is_path is_plain c) ≡ true → is_low (cond_height leaf c) ≡ true
+  one_good : {V : Type 0} (p : V → Bool) (c : Cond Path V) (d : Cond Target V)
+      → (is_cond is_path is_plain p c && is_single is_path is_plain c) ≡ true
+      → is_low (cond_height leaf c) ≡ true
       → resolved_cond at unchanged c ≡ Some d → good_cond reads p leaf d ≡ true
-  one_good p c d h l e = cond_good unchanged p p leaf leaf (same_value p) (λ v w k m. refl) c d (both_of (is_cond is_path is_plain p c) (is_single is_path is_plain c) h).0 l e
+  one_good p c d h l e = cond_good unchanged p p leaf leaf (same_value p) (λ v w k m. refl) c d
+      (both_of (is_cond is_path is_plain p c) (is_single is_path is_plain c) h).0 l e
 
-  expressions_good : (c : Cond Path (Expr Path)) (d : Cond Target (Expr Target)) → (is_cond is_path is_plain (is_pure_expr is_path is_plain) c && is_single is_path is_plain c) ≡ true
-      → is_low (cond_height height c) ≡ true → resolved_cond at (resolved_expr at) c ≡ Some d → (good_cond reads (good_expression count reads) height d && is_single reads reads d) ≡ true
+  expressions_good : (c : Cond Path (Expr Path)) (d : Cond Target (Expr Target))
+      → (is_cond is_path is_plain (is_pure_expr is_path is_plain) c && is_single is_path is_plain c)
+      ≡ true
+      → is_low (cond_height height c) ≡ true → resolved_cond at (resolved_expr at) c ≡ Some d
+      → (good_cond reads (good_expression count reads) height d && is_single reads reads d)
+      ≡ true
   expressions_good c d h l e =
-      let parts = both_of (is_cond is_path is_plain (is_pure_expr is_path is_plain) c) (is_single is_path is_plain c) h in
-      both_true (cond_good (resolved_expr at) (is_pure_expr is_path is_plain) (good_expression count reads) height height (expr_pure at reads kept) (expr_height at reads kept) c d parts.0 l e)
+      let parts = both_of (is_cond is_path is_plain (is_pure_expr is_path is_plain) c)
+      (is_single is_path is_plain c) h in
+      both_true (cond_good (resolved_expr at) (is_pure_expr is_path is_plain)
+      (good_expression count reads) height height (expr_pure at reads kept)
+      (expr_height at reads kept) c d parts.0 l e)
       (stays_single at reads (resolved_expr at) c d parts.1 e)
 
-  entry_good : (e : MenuEntry Path) (f : MenuEntry Target) → is_entry is_path is_plain e ≡ true → resolved_entry unit e ≡ Some f → good_entry count reads f ≡ true
+  entry_good : (e : MenuEntry Path) (f : MenuEntry Target) → is_entry is_path is_plain e ≡ true
+      → resolved_entry unit e ≡ Some f → good_entry count reads f ≡ true
   entry_good (item.Text text) f h e = along_some (good_entry count reads) (item.Text text) f e h
   entry_good (item.Reference to qualifiers) f h e =
-      let x = bind_some (item_among unit entry_kinds to) (λ to'. Some (item.Reference to' qualifiers)) f e in
+      let x = bind_some (item_among unit entry_kinds to)
+      (λ to'. Some (item.Reference to' qualifiers)) f e in
       let i = meant_exists unit entry_kinds to x.0 x.1 in
-      along_some (good_entry count reads) (item.Reference x.0 qualifiers) f x.2 (ap (λ t. is_item_of count (item_of t)) i.1 ∙ i.2)
+      along_some (good_entry count reads) (item.Reference x.0 qualifiers) f x.2
+      (ap (λ t. is_item_of count (item_of t)) i.1 ∙ i.2)
 
-  data_good : (d : DataItem Path) (f : DataItem Target) → is_data_item is_path is_plain d ≡ true → resolved_data unit d ≡ Some f → good_data count reads f ≡ true
+  data_good : (d : DataItem Path) (f : DataItem Target) → is_data_item is_path is_plain d ≡ true
+      → resolved_data unit d ≡ Some f → good_data count reads f ≡ true
   data_good (item.Constant n) f h e = along_some (good_data count reads) (item.Constant n) f e refl
   data_good (item.Variable variable mask qualifiers) f h e =
-      let x = bind_some (at variable) (λ variable'. Some (item.Variable variable' mask qualifiers)) f e in
+      let x = bind_some (at variable) (λ variable'. Some (item.Variable variable' mask qualifiers))
+      f e in
       let i = meant_exists unit variable_kinds variable x.0 x.1 in
       along_some (good_data count reads) (item.Variable x.0 mask qualifiers) f x.2
-      (both_true (ap (λ t. is_item_of count (item_no.Variable (variable_of t))) i.1 ∙ ap (is_item_of count) (kind_variable i.0 i.3) ∙ i.2) (mask_small mask (both_of (is_path variable) (if_some is_small mask) h).1))
+      (both_true (ap (λ t. is_item_of count (item_no.Variable (variable_of t))) i.1
+      ∙ ap (is_item_of count) (kind_variable i.0 i.3) ∙ i.2)
+      (mask_small mask (both_of (is_path variable) (if_some is_small mask) h).1))
 
-  member_good : (kinds : List Kind) (m : item.Member Path) (f : item.Member Target) → is_member is_path is_plain m ≡ true → resolved_member unit kinds m ≡ Some f → good_member count reads f ≡ true
+  member_good : (kinds : List Kind) (m : item.Member Path) (f : item.Member Target)
+      → is_member is_path is_plain m ≡ true → resolved_member unit kinds m ≡ Some f
+      → good_member count reads f ≡ true
   member_good kinds m f h e =
-      let x = bind_some (item_among unit kinds m.item) (λ item'. Some (record { name = m.name; item = item'; label = m.label; help = m.help })) f e in
+      let x = bind_some (item_among unit kinds m.item)
+      (λ item'. Some (record { name = m.name; item = item'; label = m.label; help = m.help })) f
+      e in
       let i = meant_exists unit kinds m.item x.0 x.1 in
       let helped = both_of _ (if_some is_text m.help) h in
       let labelled = both_of _ (if_some is_text m.label) helped.0 in
-      along_some (good_member count reads) (record { name = m.name; item = x.0; label = m.label; help = m.help }) f x.2
+      along_some (good_member count reads)
+      (record { name = m.name; item = x.0; label = m.label; help = m.help }) f x.2
       (both_true (ap (λ t. is_item_of count (item_of t)) i.1 ∙ i.2) (both_true labelled.1 helped.1))
 
   abbrev good_part : TypePart Target → Bool
-  good_part q = list_all (named (is_good count reads)) (trees_of_part q) && good_element count reads q
+  good_part q = list_all (named (is_good count reads)) (trees_of_part q)
+      && good_element count reads q
 
   -- an option, whose tree is good
   option_good : {b : Bool} → b ≡ true → ((b && true) && true) ≡ true
   option_good h = rw h refl
 
-  part_good : (p : TypePart Path) (q : TypePart Target) → (is_type_part is_path is_plain p && is_low (type_part_height p)) ≡ true → resolved_type_part unit p ≡ Some q → good_part q ≡ true
+  part_good : (p : TypePart Path) (q : TypePart Target)
+      → (is_type_part is_path is_plain p && is_low (type_part_height p)) ≡ true
+      → resolved_type_part unit p ≡ Some q → good_part q ≡ true
   part_good (item.DefaultValue c) q h e =
       let parts = both_of _ (is_low (cond_height height c)) h in
-      let x = bind_some (resolved_cond at (resolved_expr at) c) (λ c'. Some (item.DefaultValue c')) q e in
-      along_some good_part (item.DefaultValue x.0) q x.2 (option_good (expressions_good c x.0 parts.0 parts.1 x.1))
+      let x = bind_some (resolved_cond at (resolved_expr at) c) (λ c'. Some (item.DefaultValue c'))
+      q e in
+      along_some good_part (item.DefaultValue x.0) q x.2
+      (option_good (expressions_good c x.0 parts.0 parts.1 x.1))
   part_good (item.MinValue c) q h e =
       let parts = both_of _ (is_low (cond_height height c)) h in
-      let x = bind_some (resolved_cond at (resolved_expr at) c) (λ c'. Some (item.MinValue c')) q e in
-      along_some good_part (item.MinValue x.0) q x.2 (option_good (expressions_good c x.0 parts.0 parts.1 x.1))
+      let x = bind_some (resolved_cond at (resolved_expr at) c) (λ c'. Some (item.MinValue c')) q
+      e in
+      along_some good_part (item.MinValue x.0) q x.2
+      (option_good (expressions_good c x.0 parts.0 parts.1 x.1))
   part_good (item.MaxValue c) q h e =
       let parts = both_of _ (is_low (cond_height height c)) h in
-      let x = bind_some (resolved_cond at (resolved_expr at) c) (λ c'. Some (item.MaxValue c')) q e in
-      along_some good_part (item.MaxValue x.0) q x.2 (option_good (expressions_good c x.0 parts.0 parts.1 x.1))
+      let x = bind_some (resolved_cond at (resolved_expr at) c) (λ c'. Some (item.MaxValue c')) q
+      e in
+      along_some good_part (item.MaxValue x.0) q x.2
+      (option_good (expressions_good c x.0 parts.0 parts.1 x.1))
   part_good (item.DisplayFormat c) q h e =
       let parts = both_of _ (is_low (cond_height leaf c)) h in
       let x = bind_some (resolved_cond at unchanged c) (λ c'. Some (item.DisplayFormat c')) q e in
-      along_some good_part (item.DisplayFormat x.0) q x.2 (option_good (one_good is_text c x.0 parts.0 parts.1 x.1))
+      along_some good_part (item.DisplayFormat x.0) q x.2
+      (option_good (one_good is_text c x.0 parts.0 parts.1 x.1))
   part_good (item.EditFormat c) q h e =
       let parts = both_of _ (is_low (cond_height leaf c)) h in
       let x = bind_some (resolved_cond at unchanged c) (λ c'. Some (item.EditFormat c')) q e in
-      along_some good_part (item.EditFormat x.0) q x.2 (option_good (one_good is_text c x.0 parts.0 parts.1 x.1))
+      along_some good_part (item.EditFormat x.0) q x.2
+      (option_good (one_good is_text c x.0 parts.0 parts.1 x.1))
   part_good (item.Element c) q h e =
-      let parts = both_of (is_cond is_path is_plain (is_enumerator is_path is_plain) c) (is_low (cond_height leaf c)) h in
+      let parts = both_of (is_cond is_path is_plain (is_enumerator is_path is_plain) c)
+      (is_low (cond_height leaf c)) h in
       let x = bind_some (resolved_cond at unchanged c) (λ c'. Some (item.Element c')) q e in
       along_some good_part (item.Element x.0) q x.2
-      (cond_good unchanged (is_enumerator is_path is_plain) good_enumerator leaf leaf (λ v w k f. along_some good_enumerator v w f (enumerator_good v k)) (λ v w k f. refl) c x.0 parts.0 parts.1 x.1)
+      (cond_good unchanged (is_enumerator is_path is_plain) good_enumerator leaf leaf
+      (λ v w k f. along_some good_enumerator v w f (enumerator_good v k)) (λ v w k f. refl) c
+      x.0 parts.0 parts.1 x.1)
 
-  parts_good : (parts : List (TypePart Target)) → list_all good_part parts ≡ true → (list_all (good_element count reads) parts && list_all (named (is_good count reads)) (trees_of_parts parts)) ≡ true
+  parts_good : (parts : List (TypePart Target)) → list_all good_part parts ≡ true
+      → (list_all (good_element count reads) parts && list_all (named (is_good count reads))
+      (trees_of_parts parts)) ≡ true
   parts_good [] h = refl
   parts_good (q ∷ rest) h =
       let parts = both_of (good_part q) (list_all good_part rest) h in
-      let here = both_of (list_all (named (is_good count reads)) (trees_of_part q)) (good_element count reads q) parts.0 in
-      let others = both_of (list_all (good_element count reads) rest) (list_all (named (is_good count reads)) (trees_of_parts rest)) (parts_good rest parts.1) in
-      both_true (both_true here.1 others.0) (all_append (named (is_good count reads)) (trees_of_part q) (trees_of_parts rest) here.0 others.1)
+      let here = both_of (list_all (named (is_good count reads)) (trees_of_part q))
+      (good_element count reads q) parts.0 in
+      let others = both_of (list_all (good_element count reads) rest)
+      (list_all (named (is_good count reads)) (trees_of_parts rest)) (parts_good rest parts.1)
+      in
+      both_true (both_true here.1 others.0)
+      (all_append (named (is_good count reads)) (trees_of_part q) (trees_of_parts rest) here.0
+      others.1)
 
-  type_parts : (word : item.TypeWord) (parts : List (TypePart Path)) → is_type is_path is_plain word parts ≡ true → list_all (is_type_part is_path is_plain) parts ≡ true
-  type_parts (item.Known type size) parts h = (both_of _ (list_all (is_type_part is_path is_plain) parts) h).1
+  type_parts : (word : item.TypeWord) (parts : List (TypePart Path))
+      → is_type is_path is_plain word parts ≡ true → list_all (is_type_part is_path is_plain) parts
+      ≡ true
+  type_parts (item.Known type size) parts h =
+      (both_of _ (list_all (is_type_part is_path is_plain) parts) h).1
   type_parts (item.Other word) [] h = refl
   type_parts (item.Other word) (p ∷ parts) h = absurd (cc ((both_of _ false h).1))
 
   abbrev good_transaction_part : TransactionPart Target → Bool
   good_transaction_part q = named (is_good count reads) (tree_of_transaction_part q)
 
-  transaction_part_good : (p : TransactionPart Path) (q : TransactionPart Target) → (is_transaction_part is_path is_plain p && is_low (transaction_part_height p)) ≡ true
+  transaction_part_good : (p : TransactionPart Path) (q : TransactionPart Target)
+      → (is_transaction_part is_path is_plain p && is_low (transaction_part_height p)) ≡ true
       → resolved_transaction_part unit p ≡ Some q → good_transaction_part q ≡ true
   transaction_part_good (item.Request all) q h e =
       let parts = both_of _ (is_low (conds_height leaf all)) h in
-      let x = bind_some (resolved_conds at (resolved_data unit) all) (λ all'. Some (item.Request all')) q e in
+      let x = bind_some (resolved_conds at (resolved_data unit) all)
+      (λ all'. Some (item.Request all')) q e in
       along_some good_transaction_part (item.Request x.0) q x.2
-      (conds_good (resolved_data unit) (is_data_item is_path is_plain) (good_data count reads) leaf leaf data_good (λ v w k f. refl) all x.0 parts.0 parts.1 x.1)
+      (conds_good (resolved_data unit) (is_data_item is_path is_plain) (good_data count reads) leaf
+      leaf data_good (λ v w k f. refl) all x.0 parts.0 parts.1 x.1)
   transaction_part_good (item.Reply all) q h e =
       let parts = both_of _ (is_low (conds_height leaf all)) h in
-      let x = bind_some (resolved_conds at (resolved_data unit) all) (λ all'. Some (item.Reply all')) q e in
+      let x = bind_some (resolved_conds at (resolved_data unit) all)
+      (λ all'. Some (item.Reply all')) q e in
       along_some good_transaction_part (item.Reply x.0) q x.2
-      (conds_good (resolved_data unit) (is_data_item is_path is_plain) (good_data count reads) leaf leaf data_good (λ v w k f. refl) all x.0 parts.0 parts.1 x.1)
+      (conds_good (resolved_data unit) (is_data_item is_path is_plain) (good_data count reads) leaf
+      leaf data_good (λ v w k f. refl) all x.0 parts.0 parts.1 x.1)
 
-  all_mapped : (parts : List (TransactionPart Target)) → list_all good_transaction_part parts ≡ true → list_all (named (is_good count reads)) (map tree_of_transaction_part parts) ≡ true
+  all_mapped : (parts : List (TransactionPart Target)) → list_all good_transaction_part parts ≡ true
+      → list_all (named (is_good count reads)) (map tree_of_transaction_part parts) ≡ true
   all_mapped [] h = refl
-  all_mapped (q ∷ rest) h = let parts = both_of (good_transaction_part q) (list_all good_transaction_part rest) h in both_true parts.0 (all_mapped rest parts.1)
+  all_mapped (q ∷ rest) h = let parts = both_of (good_transaction_part q)
+      (list_all good_transaction_part rest) h in both_true parts.0 (all_mapped rest parts.1)
 
-  response_good : (r : item.ResponseCode) → is_response_code is_path is_plain r ≡ true → good_response r ≡ true
+  response_good : (r : item.ResponseCode) → is_response_code is_path is_plain r ≡ true
+      → good_response r ≡ true
   response_good r h = h
 
   abbrev good_attribute : Attribute Target → Bool
@@ -291,43 +367,82 @@ module _ (unit : Description Path) (reads : Target → Bool)
   alone : {b : Bool} → b ≡ true → ((b && true) && true) ≡ true
   alone h = rw h refl
 
-  attribute_good : (sort : ItemKind) (a : Attribute Path) (b : Attribute Target) → is_attribute is_path is_plain a ≡ true → is_low (attribute_height a) ≡ true → resolved_attribute unit sort a ≡ Some b → good_attribute b ≡ true
-  attribute_good sort (item.OneText which c) b h l e = let x = bind_some (resolved_cond at unchanged c) (λ c'. Some (item.OneText which c')) b e in along_some good_attribute (item.OneText which x.0) b x.2 (alone (one_good is_text c x.0 h l x.1))
-  attribute_good sort (item.Class words) b h l e = along_some good_attribute (item.Class words) b e refl
-  attribute_good sort (item.Handling c) b h l e = let x = bind_some (resolved_cond at unchanged c) (λ c'. Some (item.Handling c')) b e in along_some good_attribute (item.Handling x.0) b x.2 (alone (one_good any_value c x.0 h l x.1))
-  attribute_good sort (item.Validity c) b h l e = let x = bind_some (resolved_cond at unchanged c) (λ c'. Some (item.Validity c')) b e in along_some good_attribute (item.Validity x.0) b x.2 (alone (one_good any_value c x.0 h l x.1))
+  attribute_good : (sort : ItemKind) (a : Attribute Path) (b : Attribute Target)
+      → is_attribute is_path is_plain a ≡ true → is_low (attribute_height a) ≡ true
+      → resolved_attribute unit sort a ≡ Some b → good_attribute b ≡ true
+  attribute_good sort (item.OneText which c) b h l e = let x =
+      bind_some (resolved_cond at unchanged c) (λ c'. Some (item.OneText which c')) b
+      e in along_some good_attribute (item.OneText which x.0) b x.2
+      (alone (one_good is_text c x.0 h l x.1))
+  attribute_good sort (item.Class words) b h l e = along_some good_attribute (item.Class words) b e
+      refl
+  attribute_good sort (item.Handling c) b h l e = let x = bind_some (resolved_cond at unchanged c)
+      (λ c'. Some (item.Handling c')) b e in along_some good_attribute (item.Handling x.0) b x.2
+      (alone (one_good any_value c x.0 h l x.1))
+  attribute_good sort (item.Validity c) b h l e = let x = bind_some (resolved_cond at unchanged c)
+      (λ c'. Some (item.Validity c')) b e in along_some good_attribute (item.Validity x.0) b x.2
+      (alone (one_good any_value c x.0 h l x.1))
   attribute_good sort (item.TypeOf word parts) b h l e =
-      let x = bind_some (each (resolved_type_part unit) parts) (λ parts'. Some (item.TypeOf word parts')) b e in
-      let both = parts_good x.0 (each_all (resolved_type_part unit) (λ p. is_type_part is_path is_plain p && is_low (type_part_height p)) good_part part_good parts x.0
-      (all_both (is_type_part is_path is_plain) (λ p. is_low (type_part_height p)) parts (type_parts word parts h) (all_low type_part_height parts l)) x.1) in
+      let x = bind_some (each (resolved_type_part unit) parts)
+      (λ parts'. Some (item.TypeOf word parts')) b e in
+      let both = parts_good x.0
+      (each_all (resolved_type_part unit) (λ p. is_type_part is_path is_plain p
+      && is_low (type_part_height p)) good_part part_good parts x.0
+      (all_both (is_type_part is_path is_plain) (λ p. is_low (type_part_height p)) parts
+      (type_parts word parts h) (all_low type_part_height parts l)) x.1) in
       along_some good_attribute (item.TypeOf word x.0) b x.2 (both_true both refl)
-  attribute_good sort (item.Number n) b h l e = along_some good_attribute (item.Number n) b e (alone h)
-  attribute_good sort (item.Operation o) b h l e = along_some good_attribute (item.Operation o) b e refl
+  attribute_good sort (item.Number n) b h l e = along_some good_attribute (item.Number n) b e
+      (alone h)
+  attribute_good sort (item.Operation o) b h l e = along_some good_attribute (item.Operation o) b e
+      refl
   attribute_good sort (item.Transaction number parts) b h l e =
-      let x = bind_some (each (resolved_transaction_part unit) parts) (λ parts'. Some (item.Transaction number parts')) b e in
-      let told = both_of (if_some is_small number) (list_all (is_transaction_part is_path is_plain) parts) h in
+      let x = bind_some (each (resolved_transaction_part unit) parts)
+      (λ parts'. Some (item.Transaction number parts')) b e in
+      let told = both_of (if_some is_small number)
+      (list_all (is_transaction_part is_path is_plain) parts) h in
       along_some good_attribute (item.Transaction number x.0) b x.2
-      (both_true refl (both_true told.0 (all_mapped x.0 (each_all (resolved_transaction_part unit) (λ p. is_transaction_part is_path is_plain p && is_low (transaction_part_height p)) good_transaction_part transaction_part_good parts x.0
-      (all_both (is_transaction_part is_path is_plain) (λ p. is_low (transaction_part_height p)) parts told.1 (all_low transaction_part_height parts l)) x.1))))
+      (both_true refl (both_true told.0
+      (all_mapped x.0 (each_all (resolved_transaction_part unit)
+      (λ p. is_transaction_part is_path is_plain p && is_low (transaction_part_height p))
+      good_transaction_part transaction_part_good parts x.0
+      (all_both (is_transaction_part is_path is_plain) (λ p. is_low (transaction_part_height p))
+      parts told.1 (all_low transaction_part_height parts l)) x.1))))
   attribute_good sort (item.ResponseCodes responses) b h l e =
-      along_some good_attribute (item.ResponseCodes responses) b e (alone (all_good (is_response_code is_path is_plain) good_response response_good responses h))
+      along_some good_attribute (item.ResponseCodes responses) b e
+      (alone (all_good (is_response_code is_path is_plain) good_response response_good responses
+      h))
   attribute_good sort (item.Items entries) b h l e =
-      let x = bind_some (resolved_conds at (resolved_entry unit) entries) (λ entries'. Some (item.Items entries')) b e in
-      along_some good_attribute (item.Items x.0) b x.2 (alone (conds_good (resolved_entry unit) (is_entry is_path is_plain) (good_entry count reads) leaf leaf entry_good (λ v w k f. refl) entries x.0 h l x.1))
+      let x = bind_some (resolved_conds at (resolved_entry unit) entries)
+      (λ entries'. Some (item.Items entries')) b e in
+      along_some good_attribute (item.Items x.0) b x.2
+      (alone (conds_good (resolved_entry unit) (is_entry is_path is_plain)
+      (good_entry count reads) leaf leaf entry_good (λ v w k f. refl) entries x.0 h l x.1))
   attribute_good sort (item.Members members) b h l e =
-      let x = bind_some (each (resolved_member unit (member_kinds sort)) members) (λ members'. Some (item.Members members')) b e in
-      along_some good_attribute (item.Members x.0) b x.2 (alone (each_all (resolved_member unit (member_kinds sort)) (is_member is_path is_plain) (good_member count reads) (member_good (member_kinds sort)) members x.0 h x.1))
-  attribute_good sort (item.Definition body) b h l e = let x = bind_some (resolved_body unit body [] 0) (λ body'. Some (item.Definition body')) b e in along_some good_attribute (item.Definition x.0) b x.2 refl
+      let x = bind_some (each (resolved_member unit (member_kinds sort)) members)
+      (λ members'. Some (item.Members members')) b e in
+      along_some good_attribute (item.Members x.0) b x.2
+      (alone (each_all (resolved_member unit (member_kinds sort)) (is_member is_path is_plain)
+      (good_member count reads) (member_good (member_kinds sort)) members x.0 h x.1))
+  attribute_good sort (item.Definition body) b h l e = let x =
+      bind_some (resolved_body unit body [] 0) (λ body'. Some (item.Definition body')) b
+      e in along_some good_attribute (item.Definition x.0) b x.2 refl
 
   abbrev good_item : Item Target → Bool
   good_item i = throughout_item (is_good count reads) i
 
-  pub item_good : (i : Item Path) (j : Item Target) → is_item is_path is_plain i ≡ true → resolved_item unit i ≡ Some j → good_item j ≡ true
+  pub item_good : (i : Item Path) (j : Item Target) → is_item is_path is_plain i ≡ true
+      → resolved_item unit i ≡ Some j → good_item j ≡ true
   item_good i j h e =
-      let x = bind_some (each (resolved_attribute unit i.sort) i.attributes) (λ attributes. Some (record { sort = i.sort; name = i.name; attributes = attributes })) j e in
+      let x = bind_some (each (resolved_attribute unit i.sort) i.attributes)
+      (λ attributes. Some (record { sort = i.sort; name = i.name; attributes = attributes })) j
+      e in
       along_some good_item (record { sort = i.sort; name = i.name; attributes = x.0 }) j x.2
-      (each_all (resolved_attribute unit i.sort) (stands_in is_path is_plain (kind_of_item i.sort)) good_attribute
+      (each_all (resolved_attribute unit i.sort) (stands_in is_path is_plain (kind_of_item i.sort))
+      good_attribute
       (λ a b k.
-      let parts = both_of (belongs_to (kind_of_item i.sort) a && is_attribute is_path is_plain a) _ k in
-      attribute_good i.sort a b (both_of (belongs_to (kind_of_item i.sort) a) (is_attribute is_path is_plain a) parts.0).1 parts.1)
+      let parts = both_of (belongs_to (kind_of_item i.sort) a && is_attribute is_path is_plain a) _
+      k in
+      attribute_good i.sort a b
+      (both_of (belongs_to (kind_of_item i.sort) a) (is_attribute is_path is_plain a) parts.0).1
+      parts.1)
       i.attributes x.0 (both_of _ _ h).1 x.1)

@@ -19,17 +19,21 @@ use Rattle.edd_code.specs.Blocks.{Block}
 use Rattle.edd_code.specs.Flow.{all_straight}
 use Rattle.edd_code.proofs.BothTests.{both_of, both_true}
 
-pub all_weaker : (f g : Instruction → Bool) → ((i : Instruction) → f i ≡ true → g i ≡ true) → (b : Block) → all_straight f b ≡ true → all_straight g b ≡ true
+pub all_weaker : (f g : Instruction → Bool) → ((i : Instruction) → f i ≡ true → g i ≡ true)
+    → (b : Block) → all_straight f b ≡ true → all_straight g b ≡ true
 all_weaker f g weaker block.Nothing h = refl
 all_weaker f g weaker (block.Straight i) h = weaker i h
 all_weaker f g weaker (block.Then x y) h =
-    let parts = both_of (all_straight f x) (all_straight f y) h in both_true (all_weaker f g weaker x parts.0) (all_weaker f g weaker y parts.1)
+    let parts = both_of (all_straight f x) (all_straight f y) h in both_true
+    (all_weaker f g weaker x parts.0) (all_weaker f g weaker y parts.1)
 all_weaker f g weaker (block.WhenNotZero x) h = all_weaker f g weaker x h
 all_weaker f g weaker (block.WhenZero x) h = all_weaker f g weaker x h
 all_weaker f g weaker (block.Either x y) h =
-    let parts = both_of (all_straight f x) (all_straight f y) h in both_true (all_weaker f g weaker x parts.0) (all_weaker f g weaker y parts.1)
+    let parts = both_of (all_straight f x) (all_straight f y) h in both_true
+    (all_weaker f g weaker x parts.0) (all_weaker f g weaker y parts.1)
 all_weaker f g weaker (block.Match label x y) h =
-    let parts = both_of (all_straight f x) (all_straight f y) h in both_true (all_weaker f g weaker x parts.0) (all_weaker f g weaker y parts.1)
+    let parts = both_of (all_straight f x) (all_straight f y) h in both_true
+    (all_weaker f g weaker x parts.0) (all_weaker f g weaker y parts.1)
 
 module _ (unit : Description Target) (strings later : List Words) where
   abbrev now : Instruction → Bool
@@ -38,27 +42,35 @@ module _ (unit : Description Target) (strings later : List Words) where
   abbrev then : Instruction → Bool
   then i = names_exist (attribute_context unit (strings ++ later)) i
 
-  string_still : (s : StrNo) → nat_lt s.0 (length strings) ≡ true → nat_lt s.0 (length (strings ++ later)) ≡ true
-  string_still s h = lt-ltb s.0 (length (strings ++ later)) (omega (arith, ltb-true s.0 (length strings) h, length-append strings later))
+  string_still : (s : StrNo) → nat_lt s.0 (length strings) ≡ true
+      → nat_lt s.0 (length (strings ++ later)) ≡ true
+  string_still s h = lt-ltb s.0 (length (strings ++ later))
+      (omega (arith, ltb-true s.0 (length strings) h, length-append strings later))
 
-  optional_still : (o : Option StrNo) → optional_string_exists (attribute_context unit strings).counts o ≡ true → optional_string_exists (attribute_context unit (strings ++ later)).counts o ≡ true
+  optional_still : (o : Option StrNo)
+      → optional_string_exists (attribute_context unit strings).counts o ≡ true
+      → optional_string_exists (attribute_context unit (strings ++ later)).counts o ≡ true
   optional_still None h = refl
   optional_still (Some s) h = string_still s h
 
-  item_still : (i : ItemNo) → item_exists (attribute_context unit strings).counts i ≡ true → item_exists (attribute_context unit (strings ++ later)).counts i ≡ true
+  item_still : (i : ItemNo) → item_exists (attribute_context unit strings).counts i ≡ true
+      → item_exists (attribute_context unit (strings ++ later)).counts i ≡ true
   item_still (items.Variable n) h = h
   item_still (items.Command n) h = h
   item_still (items.Menu n) h = h
   item_still (items.Collection n) h = h
   item_still (items.Method n) h = h
 
-  request_still : (a : Ask) → request_exists (attribute_context unit strings).counts a ≡ true → request_exists (attribute_context unit (strings ++ later)).counts a ≡ true
+  request_still : (a : Ask) → request_exists (attribute_context unit strings).counts a ≡ true
+      → request_exists (attribute_context unit (strings ++ later)).counts a ≡ true
   request_still (ask.PutMessage s) h = string_still s h
   request_still (ask.Acknowledge s) h = string_still s h
   request_still (ask.Delay s) h = string_still s h
-  request_still (ask.GetDevVarValue s v) h = let parts = both_of (nat_lt s.0 (length strings)) _ h in both_true (string_still s parts.0) parts.1
+  request_still (ask.GetDevVarValue s v) h = let parts = both_of (nat_lt s.0 (length strings)) _
+      h in both_true (string_still s parts.0) parts.1
   request_still (ask.SelectFromList s t) h =
-      let parts = both_of (nat_lt s.0 (length strings)) (nat_lt t.0 (length strings)) h in both_true (string_still s parts.0) (string_still t parts.1)
+      let parts = both_of (nat_lt s.0 (length strings)) (nat_lt t.0 (length strings)) h in both_true
+      (string_still s parts.0) (string_still t parts.1)
   request_still ask.SendCommand h = refl
   request_still ask.SendCommandTrans h = refl
   request_still ask.SaveValues h = refl
@@ -87,15 +99,20 @@ module _ (unit : Description Target) (strings later : List Words) where
   names_still (instruction.DataConst n) h = refl
   names_still (instruction.DataVar v mask quals) h = h
   names_still (instruction.Enumerator n text help) h =
-      let parts = both_of (nat_lt text.0 (length strings)) _ h in both_true (string_still text parts.0) (optional_still help parts.1)
+      let parts = both_of (nat_lt text.0 (length strings)) _ h in both_true
+      (string_still text parts.0) (optional_still help parts.1)
   names_still (instruction.Response n class text) h = string_still text h
   names_still (instruction.Member name item label help) h =
       let named = both_of (nat_lt name.0 (length strings)) _ h in
       let found = both_of (item_exists (attribute_context unit strings).counts item) _ named.1 in
-      let told = both_of (optional_string_exists (attribute_context unit strings).counts label) _ found.1 in
-      both_true (string_still name named.0) (both_true (item_still item found.0) (both_true (optional_still label told.0) (optional_still help told.1)))
+      let told = both_of (optional_string_exists (attribute_context unit strings).counts label) _
+      found.1 in
+      both_true (string_still name named.0)
+      (both_true (item_still item found.0)
+      (both_true (optional_still label told.0) (optional_still help told.1)))
   names_still (instruction.Ask request) h = request_still request h
   names_still instruction.Abort h = refl
 
-  pub still_exist : (b : Block) → all_straight (names_exist (attribute_context unit strings)) b ≡ true → all_straight (names_exist (attribute_context unit (strings ++ later))) b ≡ true
+  pub still_exist : (b : Block) → all_straight (names_exist (attribute_context unit strings)) b
+      ≡ true → all_straight (names_exist (attribute_context unit (strings ++ later))) b ≡ true
   still_exist b h = all_weaker now then names_still b h

@@ -14,27 +14,32 @@ use Rattle.edd_attrs.specs.Trees.{Tree, Named, trees_of_attribute, trees_of, tra
 use Rattle.edd_attrs.specs.Rows.{trees_of_transaction}
 use Rattle.edd_code.proofs.BothTests.{both_of}
 
-pub all_append : {A : Type 0} (p : A → Bool) (xs ys : List A) → list_all p xs ≡ true → list_all p ys ≡ true → list_all p (xs ++ ys) ≡ true
+pub all_append : {A : Type 0} (p : A → Bool) (xs ys : List A) → list_all p xs ≡ true
+    → list_all p ys ≡ true → list_all p (xs ++ ys) ≡ true
 all_append p [] ys h k = k
-all_append p (x ∷ xs) ys h k = let parts = both_of (p x) (list_all p xs) h in rw parts.0 (all_append p xs ys parts.1 k)
+all_append p (x ∷ xs) ys h k = let parts = both_of (p x) (list_all p xs) h in rw parts.0
+    (all_append p xs ys parts.1 k)
 
 -- what holds of all elements holds of the one at a place
 abbrev pub if_there : {A : Type 0} → (A → Bool) → Option A → Bool
 if_there p None = true
 if_there p (Some x) = p x
 
-at_place : {A : Type 0} (p : A → Bool) (xs : List A) (n : ℕ) → list_all p xs ≡ true → if_there p (slice_get xs n) ≡ true
+at_place : {A : Type 0} (p : A → Bool) (xs : List A) (n : ℕ) → list_all p xs ≡ true
+    → if_there p (slice_get xs n) ≡ true
 at_place p [] n h = refl
 at_place p (x ∷ xs) zero h = (both_of (p x) (list_all p xs) h).0
 at_place p (x ∷ xs) (suc n) h = at_place p xs n (both_of (p x) (list_all p xs) h).1
 
-filtered : {A : Type 0} (p q : A → Bool) (xs : List A) → list_all p xs ≡ true → list_all p (filter q xs) ≡ true
+filtered : {A : Type 0} (p q : A → Bool) (xs : List A) → list_all p xs ≡ true
+    → list_all p (filter q xs) ≡ true
 filtered p q [] h = refl
 filtered p q (x ∷ xs) h =
     let parts = both_of (p x) (list_all p xs) h in
     here (q x) parts.0 (filtered p q xs parts.1)
   where
-    here : (b : Bool) → p x ≡ true → list_all p (filter q xs) ≡ true → list_all p (cond b (x ∷ filter q xs) (filter q xs)) ≡ true
+    here : (b : Bool) → p x ≡ true → list_all p (filter q xs) ≡ true
+        → list_all p (cond b (x ∷ filter q xs) (filter q xs)) ≡ true
     here true h k = rw h k
     here false h k = k
 
@@ -64,62 +69,101 @@ module _ (p : Tree → Bool) where
   abbrev pub throughout_item : Item Target → Bool
   throughout_item i = list_all throughout i.attributes
 
-  first_has : (a : Attr) (xs : List Named) → list_all named xs ≡ true → if_there p (first_tree a xs) ≡ true
+  first_has : (a : Attr) (xs : List Named) → list_all named xs ≡ true → if_there p (first_tree a xs)
+      ≡ true
   first_has a [] h = refl
   first_has a (x ∷ rest) h =
       let parts = both_of (named x) (list_all named rest) h in
       here (same_attr x.0 a) parts.0 (first_has a rest parts.1)
     where
-      here : (b : Bool) → p x.1 ≡ true → if_there p (first_tree a rest) ≡ true → if_there p (elim b as (λ _. Option Tree) [ true ↦ Some x.1 | false ↦ first_tree a rest ]) ≡ true
+      here : (b : Bool) → p x.1 ≡ true → if_there p (first_tree a rest) ≡ true
+          → if_there p (elim b as (λ _. Option Tree) [
+            | true ↦ Some x.1
+            | false ↦ first_tree a rest
+          ]) ≡ true
       here true h k = h
       here false h k = k
 
-  trees_have : (attributes : List (Attribute Target)) → list_all throughout attributes ≡ true → list_all named (trees_of attributes) ≡ true
+  trees_have : (attributes : List (Attribute Target)) → list_all throughout attributes ≡ true
+      → list_all named (trees_of attributes) ≡ true
   trees_have [] h = refl
   trees_have (a ∷ rest) h =
       let parts = both_of (throughout a) (list_all throughout rest) h in
-      let here = both_of (list_all named (trees_of_attribute a)) (list_all named (inside a)) parts.0 in
+      let here = both_of (list_all named (trees_of_attribute a)) (list_all named (inside a))
+      parts.0 in
       all_append named (trees_of_attribute a) (trees_of rest) here.0 (trees_have rest parts.1)
 
-  more : (a : Attribute Target) (rest : List (Attribute Target)) → (list_all throughout rest ≡ true → list_all (list_all named) (transaction_trees rest) ≡ true)
-      → list_all throughout (a ∷ rest) ≡ true → (list_all named (inside a) ≡ true) × (list_all (list_all named) (transaction_trees rest) ≡ true)
+  more : (a : Attribute Target) (rest : List (Attribute Target))
+      → (list_all throughout rest ≡ true → list_all (list_all named) (transaction_trees rest)
+      ≡ true)
+      → list_all throughout (a ∷ rest) ≡ true → (list_all named (inside a) ≡ true)
+      × (list_all (list_all named) (transaction_trees rest) ≡ true)
   more a rest others h =
-      let parts = both_of (throughout a) (list_all throughout rest) h in
-      ((both_of (list_all named (trees_of_attribute a)) (list_all named (inside a)) parts.0).1, others parts.1)
+      let parts = both_of (throughout a) (list_all throughout rest) h in (
+        (both_of (list_all named (trees_of_attribute a)) (list_all named (inside a)) parts.0).1,
+        others parts.1,
+      )
 
-  transactions_have : (attributes : List (Attribute Target)) → list_all throughout attributes ≡ true → list_all (list_all named) (transaction_trees attributes) ≡ true
+  transactions_have : (attributes : List (Attribute Target)) → list_all throughout attributes ≡ true
+      → list_all (list_all named) (transaction_trees attributes) ≡ true
   transactions_have [] h = refl
-  transactions_have (item.OneText which c ∷ rest) h = (more (item.OneText which c) rest (transactions_have rest) h).1
-  transactions_have (item.Class names ∷ rest) h = (more (item.Class names) rest (transactions_have rest) h).1
-  transactions_have (item.Handling c ∷ rest) h = (more (item.Handling c) rest (transactions_have rest) h).1
-  transactions_have (item.Validity c ∷ rest) h = (more (item.Validity c) rest (transactions_have rest) h).1
-  transactions_have (item.TypeOf word parts ∷ rest) h = (more (item.TypeOf word parts) rest (transactions_have rest) h).1
-  transactions_have (item.Number n ∷ rest) h = (more (item.Number n) rest (transactions_have rest) h).1
-  transactions_have (item.Operation o ∷ rest) h = (more (item.Operation o) rest (transactions_have rest) h).1
-  transactions_have (item.Transaction number parts ∷ rest) h = let both = more (item.Transaction number parts) rest (transactions_have rest) h in rw both.0 both.1
-  transactions_have (item.ResponseCodes responses ∷ rest) h = (more (item.ResponseCodes responses) rest (transactions_have rest) h).1
-  transactions_have (item.Items entries ∷ rest) h = (more (item.Items entries) rest (transactions_have rest) h).1
-  transactions_have (item.Members members ∷ rest) h = (more (item.Members members) rest (transactions_have rest) h).1
-  transactions_have (item.Definition body ∷ rest) h = (more (item.Definition body) rest (transactions_have rest) h).1
+  transactions_have (item.OneText which c ∷ rest) h =
+      (more (item.OneText which c) rest (transactions_have rest) h).1
+  transactions_have (item.Class names ∷ rest) h =
+      (more (item.Class names) rest (transactions_have rest) h).1
+  transactions_have (item.Handling c ∷ rest) h =
+      (more (item.Handling c) rest (transactions_have rest) h).1
+  transactions_have (item.Validity c ∷ rest) h =
+      (more (item.Validity c) rest (transactions_have rest) h).1
+  transactions_have (item.TypeOf word parts ∷ rest) h =
+      (more (item.TypeOf word parts) rest (transactions_have rest) h).1
+  transactions_have (item.Number n ∷ rest) h =
+      (more (item.Number n) rest (transactions_have rest) h).1
+  transactions_have (item.Operation o ∷ rest) h =
+      (more (item.Operation o) rest (transactions_have rest) h).1
+  transactions_have (item.Transaction number parts ∷ rest) h = let both =
+      more (item.Transaction number parts) rest (transactions_have rest) h in rw both.0 both.1
+  transactions_have (item.ResponseCodes responses ∷ rest) h =
+      (more (item.ResponseCodes responses) rest (transactions_have rest) h).1
+  transactions_have (item.Items entries ∷ rest) h =
+      (more (item.Items entries) rest (transactions_have rest) h).1
+  transactions_have (item.Members members ∷ rest) h =
+      (more (item.Members members) rest (transactions_have rest) h).1
+  transactions_have (item.Definition body ∷ rest) h =
+      (more (item.Definition body) rest (transactions_have rest) h).1
 
-  of_transaction : (a : Attr) (o : Option (List Named)) → if_there (list_all named) o ≡ true → if_there p (elim o as (λ _. Option Tree) [ Some trees ↦ first_tree a trees | None ↦ None ]) ≡ true
+  of_transaction : (a : Attr) (o : Option (List Named)) → if_there (list_all named) o ≡ true
+      → if_there p (elim o as (λ _. Option Tree) [ Some trees ↦ first_tree a trees | None ↦ None ])
+      ≡ true
   of_transaction a None k = refl
   of_transaction a (Some trees) k = first_has a trees k
 
-  either : (b : Bool) (s t : Option Tree) → if_there p s ≡ true → if_there p t ≡ true → if_there p (cond b s t) ≡ true
+  either : (b : Bool) (s t : Option Tree) → if_there p s ≡ true → if_there p t ≡ true
+      → if_there p (cond b s t) ≡ true
   either true s t h k = h
   either false s t h k = k
 
-  tree_in_has : (attributes : List (Attribute Target)) (a : Attr) (sub : ℕ) → list_all throughout attributes ≡ true → if_there p (tree_in attributes a sub) ≡ true
+  tree_in_has : (attributes : List (Attribute Target)) (a : Attr) (sub : ℕ)
+      → list_all throughout attributes ≡ true → if_there p (tree_in attributes a sub) ≡ true
   tree_in_has attributes a sub h =
-      either (is_of_transaction a) _ _ (of_transaction a (slice_get (transaction_trees attributes) sub) (at_place (list_all named) (transaction_trees attributes) sub (transactions_have attributes h)))
+      either (is_of_transaction a) _ _
+      (of_transaction a (slice_get (transaction_trees attributes) sub)
+      (at_place (list_all named) (transaction_trees attributes) sub
+      (transactions_have attributes h)))
       (first_has a (trees_of attributes) (trees_have attributes h))
 
-  of_item : (row : AttrRef) (o : Option (Item Target)) → if_there throughout_item o ≡ true → if_there p (elim o as (λ _. Option Tree) [ Some i ↦ tree_in i.attributes row.attr row.sub | None ↦ None ]) ≡ true
+  of_item : (row : AttrRef) (o : Option (Item Target)) → if_there throughout_item o ≡ true
+      → if_there p (elim o as (λ _. Option Tree) [
+        | Some i ↦ tree_in i.attributes row.attr row.sub
+        | None ↦ None
+      ]) ≡ true
   of_item row None k = refl
   of_item row (Some i) k = tree_in_has i.attributes row.attr row.sub k
 
-  pub tree_has : (d : Description Target) (row : AttrRef) → list_all throughout_item d.items ≡ true → if_there p (tree_at d row) ≡ true
+  pub tree_has : (d : Description Target) (row : AttrRef) → list_all throughout_item d.items ≡ true
+      → if_there p (tree_at d row) ≡ true
   unfolding tree_at
   tree_has d row all =
-      of_item row (item_at d row.item) (at_place throughout_item (items_of (kind_of row.item) d) (index_of row.item) (filtered throughout_item (λ i. same_kind (kind_of_item i.sort) (kind_of row.item)) d.items all))
+      of_item row (item_at d row.item) (at_place throughout_item (items_of (kind_of row.item) d)
+      (index_of row.item) (filtered throughout_item
+      (λ i. same_kind (kind_of_item i.sort) (kind_of row.item)) d.items all))

@@ -16,10 +16,15 @@ abbrev pub tree_found : Option (List (Attribute Target)) → AttrRef → Option 
 tree_found None row = None
 tree_found (Some attributes) row = tree_in attributes row.attr row.sub
 
-found : (o : Option (Item Target)) (row : AttrRef) → tree_found (option_map (λ i. i.attributes) o) row ≡ elim o [ Some i ↦ tree_in i.attributes row.attr row.sub | None ↦ None ]
+found : (o : Option (Item Target)) (row : AttrRef)
+    → tree_found (option_map (λ i. i.attributes) o) row
+    ≡ elim o [ Some i ↦ tree_in i.attributes row.attr row.sub | None ↦ None ]
 found None row = refl
 found (Some i) row = refl
 
-pub tree_of_row : (unit : Description Target) (row : AttrRef) → tree_found (slice_get (attributes_of_items (kind_of row.item) unit.items) (index_of row.item)) row ≡ tree_at unit row
+pub tree_of_row : (unit : Description Target) (row : AttrRef)
+    → tree_found (slice_get (attributes_of_items (kind_of row.item) unit.items) (index_of row.item))
+    row ≡ tree_at unit row
 unfolding tree_at
-tree_of_row unit row = ap (λ o. tree_found o row) (slice_get-map (λ i. i.attributes) _ (index_of row.item)) ∙ found (item_at unit row.item) row
+tree_of_row unit row = ap (λ o. tree_found o row)
+    (slice_get-map (λ i. i.attributes) _ (index_of row.item)) ∙ found (item_at unit row.item) row

@@ -75,26 +75,37 @@ module _ (unit : Description Target) where
   tree_kept (trees.Expressions c) h = refl
   tree_kept (trees.Enumerators parts) h =
       let tests = both_of (list_all (good_element count reads) parts) _ h in
-      all_good good_enumerator kept_enumerator (λ e k. (both_of _ (kept_enumerator e) k).1) (values_of (elements parts))
-      (all_values_pass reads good_enumerator (elements parts) (elements_tested count reads parts tests.0))
+      all_good good_enumerator kept_enumerator (λ e k. (both_of _ (kept_enumerator e) k).1)
+      (values_of (elements parts))
+      (all_values_pass reads good_enumerator (elements parts)
+      (elements_tested count reads parts tests.0))
   tree_kept (trees.Number n) h = refl
   tree_kept (trees.Operation o) h = refl
   tree_kept (trees.Transaction number) h = refl
-  tree_kept (trees.Data all) h = (both_of (list_all kept_data (values_of all)) (no_breach (conds_defaults all)) (both_of _ (is_ruled (trees.Data all)) h).1).0
-  tree_kept (trees.ResponseCodes responses) h = all_good good_response kept_response (λ r k. (both_of (is_small r.number) (kept_response r) k).1) responses (both_of (list_all good_response responses) true h).0
+  tree_kept (trees.Data all) h =
+      (both_of (list_all kept_data (values_of all)) (no_breach (conds_defaults all))
+      (both_of _ (is_ruled (trees.Data all)) h).1).0
+  tree_kept (trees.ResponseCodes responses) h = all_good good_response kept_response
+      (λ r k. (both_of (is_small r.number) (kept_response r) k).1) responses
+      (both_of (list_all good_response responses) true h).0
   tree_kept (trees.Items entries) h =
-      let tests = both_of (are_conds reads reads (good_entry count reads) entries && is_low (conds_height leaf entries)) _ h in
+      let tests = both_of (are_conds reads reads (good_entry count reads) entries
+      && is_low (conds_height leaf entries)) _ h in
       all_good (good_entry count reads) kept_entry (entry_kept unit reads) (values_of entries)
-      (all_values_pass reads (good_entry count reads) entries (both_of (are_conds reads reads (good_entry count reads) entries) _ tests.0).0)
+      (all_values_pass reads (good_entry count reads) entries
+      (both_of (are_conds reads reads (good_entry count reads) entries) _ tests.0).0)
   tree_kept (trees.Members members) h =
-      all_good (good_member count reads) kept_member (λ m k. (both_of _ (kept_member m) k).1) members (both_of (list_all (good_member count reads) members) true h).0
+      all_good (good_member count reads) kept_member (λ m k. (both_of _ (kept_member m) k).1)
+      members (both_of (list_all (good_member count reads) members) true h).0
 
   row_kept : (t : Option Tree) → if_there (is_whole unit) t ≡ true → is_kept_row t ≡ true
   row_kept None h = refl
   row_kept (Some t) h = tree_kept t h
 
-pub kept_when_checked : (unit : Description Target) (row : AttrRef) → ∥ IsChecked unit ∥₁ → is_kept_row (tree_at unit row) ≡ true
-kept_when_checked unit row checked = row_kept unit (tree_at unit row) (whole_when_checked unit row checked)
+pub kept_when_checked : (unit : Description Target) (row : AttrRef) → ∥ IsChecked unit ∥₁
+    → is_kept_row (tree_at unit row) ≡ true
+kept_when_checked unit row checked =
+    row_kept unit (tree_at unit row) (whole_when_checked unit row checked)
 
 -- ---- the length of code
 
@@ -114,7 +125,8 @@ limit_small (trees.ResponseCodes responses) n h = omega (arith, h)
 limit_small (trees.Items entries) n h = omega (arith, h)
 limit_small (trees.Members members) n h = omega (arith, h)
 
-limit_at : (o : Option Tree) (n : ℕ) → ((t : Tree) → o ≡ Some t → tree_nodes t ≤ n) → length_limit o ≤ 32 * n + 30
+limit_at : (o : Option Tree) (n : ℕ) → ((t : Tree) → o ≡ Some t → tree_nodes t ≤ n)
+    → length_limit o ≤ 32 * n + 30
 unfolding length_limit
 limit_at None n h = omega arith
 limit_at (Some t) n h = limit_small t n (h t refl)
@@ -129,23 +141,28 @@ module _ (unit : Description Target) (checked : ∥ IsChecked unit ∥₁) (row 
   whole = whole_when_checked unit row checked
 
   -- too many strings are too many different ones
-  pub overflowing : (old : List Words) → AreDifferent old → OverflowsTree old (tree_at unit row) → 65535 < length (different (old ++ strings_at unit row))
+  pub overflowing : (old : List Words) → AreDifferent old → OverflowsTree old (tree_at unit row)
+      → 65535 < length (different (old ++ strings_at unit row))
   overflowing old d over =
       let all = over.held d in
       omega (arith, all.2, fewer_different (old ++ strings_at unit row) all.0 all.1 all.3)
 
-  module _ (old new : List Words) (code : List ℕ) (lowered : LowersTree old (tree_at unit row) new code) where
+  module _ (old new : List Words) (code : List ℕ)
+      (lowered : LowersTree old (tree_at unit row) new code) where
     abbrev b : Block
     b = lowered.block
 
     now : IsBlockOf (string_of_table new) (tree_at unit row) b
-    now = subst (λ (t : List Words). IsBlockOf (string_of_table t) (tree_at unit row) b) (append-nil new) (lowered.is [])
+    now = subst (λ (t : List Words). IsBlockOf (string_of_table t) (tree_at unit row) b)
+        (append-nil new) (lowered.is [])
 
     module _ (few_old : length old ≤ 65535) where
       few_new : length new ≤ 65535
       few_new = lowered.table.few few_old
 
-      sound_of : (o : Option Tree) → if_there (is_whole unit) o ≡ true → IsBlockOf (string_of_table new) o b → IsSoundUnit unit (few_when_checked unit checked) new few_new b o
+      sound_of : (o : Option Tree) → if_there (is_whole unit) o ≡ true
+          → IsBlockOf (string_of_table new) o b
+          → IsSoundUnit unit (few_when_checked unit checked) new few_new b o
       unfolding length_limit
       sound_of None w is =
           subst (λ c. IsSoundUnit unit (few_when_checked unit checked) new few_new c None) (sym is)
@@ -156,58 +173,100 @@ module _ (unit : Description Target) (checked : ∥ IsChecked unit ∥₁) (row 
       sound = sound_of (tree_at unit row) whole now
 
       small : size b < 2 ^ 31
-      small = omega (arith, sound.short, limit_at (tree_at unit row) (unit_nodes unit) (λ t is. few_at unit row t is), few_nodes unit checked)
+      small = omega (
+        arith,
+        sound.short,
+        limit_at (tree_at unit row) (unit_nodes unit)
+            (λ t is. few_at unit row t is),
+        few_nodes unit checked,
+      )
 
       valid : (later : List Words) → IsValidUnit (attribute_context unit (new ++ later)) code
       valid later =
-          subst (λ (bs : List ℕ). IsValidUnit (attribute_context unit (new ++ later)) bs) (sym lowered.is_unit)
-          (unit_is_valid (attribute_context unit (new ++ later)) b sound.spelled sound.flows sound.even small (still_exist unit new later b sound.exist))
+          subst (λ (bs : List ℕ). IsValidUnit (attribute_context unit (new ++ later)) bs)
+          (sym lowered.is_unit)
+          (unit_is_valid (attribute_context unit (new ++ later)) b sound.spelled sound.flows
+          sound.even small (still_exist unit new later b sound.exist))
 
-      means_in : (later : List Words) (values : List ℤ) → (t : Trapping (List source.Record)) → SameOutcome (string_of_table (new ++ later)) t (does (record { types = (environment unit).variables }) values b [])
+      means_in : (later : List Words) (values : List ℤ) → (t : Trapping (List source.Record))
+          → SameOutcome (string_of_table (new ++ later)) t
+          (does (record { types = (environment unit).variables }) values b [])
           → (n : ℕ) × (given : Result (List Record) Trap)
-          × (given_within n (record { types = (environment unit).variables }) (opening (record { sort = Attribute; code = code }) 0 values) ≡ Some given)
+          × (given_within n (record { types = (environment unit).variables })
+          (opening (record { sort = Attribute; code = code }) 0 values) ≡ Some given)
           × SameRun (string_of_table (new ++ later)) t given
       means_in later values (Ok xs) same =
-          let run = unit_goes (record { types = (environment unit).variables }) values b sound.spelled sound.flows small same.0 same.1 in
+          let run = unit_goes (record { types = (environment unit).variables }) values b
+          sound.spelled sound.flows small same.0 same.1 in
           (run.0, Ok same.0, here run.0 (Ok same.0) run.1, (same.0, refl, same.2))
         where
-          here : (n : ℕ) (given : Result (List Record) Trap) → given_within n (record { types = (environment unit).variables }) (opening (record { sort = Attribute; code = unit_code b }) 0 values) ≡ Some given
-              → given_within n (record { types = (environment unit).variables }) (opening (record { sort = Attribute; code = code }) 0 values) ≡ Some given
-          here n given h = ap (λ (bs : List ℕ). given_within n (record { types = (environment unit).variables }) (opening (record { sort = Attribute; code = bs }) 0 values)) lowered.is_unit ∙ h
+          here : (n : ℕ) (given : Result (List Record) Trap)
+              → given_within n (record { types = (environment unit).variables })
+              (opening (record { sort = Attribute; code = unit_code b }) 0 values) ≡ Some given
+              → given_within n (record { types = (environment unit).variables })
+              (opening (record { sort = Attribute; code = code }) 0 values) ≡ Some given
+          here n given h = ap (λ (bs : List ℕ). given_within n
+              (record { types = (environment unit).variables })
+              (opening (record { sort = Attribute; code = bs }) 0 values)) lowered.is_unit ∙ h
       means_in later values (Err why) same =
-          let run = unit_traps (record { types = (environment unit).variables }) values b sound.spelled sound.flows small why same in
+          let run = unit_traps (record { types = (environment unit).variables }) values b
+          sound.spelled sound.flows small why same in
           (run.0, Err why, here run.0 (Err why) run.1, refl)
         where
-          here : (n : ℕ) (given : Result (List Record) Trap) → given_within n (record { types = (environment unit).variables }) (opening (record { sort = Attribute; code = unit_code b }) 0 values) ≡ Some given
-              → given_within n (record { types = (environment unit).variables }) (opening (record { sort = Attribute; code = code }) 0 values) ≡ Some given
-          here n given h = ap (λ (bs : List ℕ). given_within n (record { types = (environment unit).variables }) (opening (record { sort = Attribute; code = bs }) 0 values)) lowered.is_unit ∙ h
+          here : (n : ℕ) (given : Result (List Record) Trap)
+              → given_within n (record { types = (environment unit).variables })
+              (opening (record { sort = Attribute; code = unit_code b }) 0 values) ≡ Some given
+              → given_within n (record { types = (environment unit).variables })
+              (opening (record { sort = Attribute; code = code }) 0 values) ≡ Some given
+          here n given h = ap (λ (bs : List ℕ). given_within n
+              (record { types = (environment unit).variables })
+              (opening (record { sort = Attribute; code = bs }) 0 values)) lowered.is_unit ∙ h
 
-      means : (later : List Words) → UnitMeans (environment unit).variables (string_of_table (new ++ later)) (tree_meaning unit row) code
+      means : (later : List Words)
+          → UnitMeans (environment unit).variables (string_of_table (new ++ later))
+          (tree_meaning unit row) code
       means later values are =
           means_in later values (tree_meaning unit row values)
-          (subst (λ (m : source.Meaning). SameOutcome (string_of_table (new ++ later)) (m values) (does (record { types = (environment unit).variables }) values b [])) (sym (unit_means unit row))
-          (block_means unit (new ++ later) (record { types = (environment unit).variables }) (environment unit) values (tree_at unit row) b whole (lowered.is later)))
+          (subst (λ (m : source.Meaning). SameOutcome (string_of_table (new ++ later)) (m values)
+          (does (record { types = (environment unit).variables }) values b []))
+          (sym (unit_means unit row))
+          (block_means unit (new ++ later) (record { types = (environment unit).variables })
+          (environment unit) values (tree_at unit row) b whole (lowered.is later)))
 
       pub lowered_means : (later : List Words) → IsAttributeCode unit (new ++ later) row code
       lowered_means later = record { valid = valid later; means = means later }
 
       pub lowered_short : length code ≤ length_limit (tree_at unit row)
-      lowered_short = omega (arith, sound.short, ap length lowered.is_unit, length-append (bytes_at 0 b) (spelling instruction.End), lengths 0 b)
+      lowered_short = omega (
+        arith,
+        sound.short,
+        ap length lowered.is_unit,
+        length-append (bytes_at 0 b) (spelling instruction.End),
+        lengths 0 b,
+      )
 
-    pub lowered_strings : (w : Words) → Contains new w ↔ (Contains old w ⊎ Contains (strings_at unit row) w)
+    pub lowered_strings : (w : Words)
+        → Contains new w ↔ (Contains old w ⊎ Contains (strings_at unit row) w)
     lowered_strings w = (
-      λ held. elim (Contains-append_cases old lowered.table.more w (subst (λ (t : List Words). Contains t w) lowered.table.grown held)) [ inl h ↦ inl h | inr h ↦ inr (lowered.table.only w h) ],
+      λ held. elim (Contains-append_cases old lowered.table.more w
+          (subst (λ (t : List Words). Contains t w) lowered.table.grown held)) [
+            | inl h ↦ inl h
+            | inr h ↦ inr (lowered.table.only w h)
+          ],
       λ h. elim h [
-        | inl held ↦ subst (λ (t : List Words). Contains t w) (sym lowered.table.grown) (Contains-append_left old lowered.table.more w held)
+        | inl held ↦ subst (λ (t : List Words). Contains t w) (sym lowered.table.grown)
+            (Contains-append_left old lowered.table.more w held)
         | inr held ↦ block_held unit new (tree_at unit row) b whole now w held
       ],
     )
 
 -- the strings that were there are the first ones of the table that grew
-pub cut_back : (old grown cut : List Words) (n : ℕ) → Grows old grown → n ≡ length old → cut ≡ take n grown → cut ≡ old
+pub cut_back : (old grown cut : List Words) (n : ℕ) → Grows old grown → n ≡ length old
+    → cut ≡ take n grown → cut ≡ old
 cut_back old grown cut n grows same is =
     is ∙ ap (take n) grows.1 ∙ take_at old grows.0 n (sym same)
 
-pub then_on_ok : {X E : Type 0} {P : X → Type 0} {Q : Type 0} (r : Result X E) → ((x : X) → P x → Q) → IfOk r P → OnOk r Q
+pub then_on_ok : {X E : Type 0} {P : X → Type 0} {Q : Type 0} (r : Result X E) → ((x : X) → P x → Q)
+    → IfOk r P → OnOk r Q
 then_on_ok (Ok x) f h = f x h
 then_on_ok (Err e) f h = tt

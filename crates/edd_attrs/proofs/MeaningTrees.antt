@@ -1,4 +1,5 @@
--- The block of a tree of a checked description means the tree, and the table holds the tree's strings.
+-- The block of a tree of a checked description means the tree, and the table holds the tree's
+-- strings.
 use Rattle.std.proofs.Common.{◌≡◌, refl, sym, ap, subst, ◌∙◌, ℕ, Bool, true, ℤ, pos, List, [], ◌∷◌, map, Option, Some, None}
 use Rattle.std.specs.Prelude.{◌&&◌, Ok, Err}
 use Rattle.std.specs.List.{list_all}
@@ -66,7 +67,8 @@ module _ (unit : Description Target) (strings : List Words) where
     abbrev Same : Trapping (List source.Record) → Block → Type 0
     Same t b = SameOutcome (string_of_table strings) t (does machine d b [])
 
-    module _ {V : Type 0} (f : V → source.Record) (p : V → Bool) (fine : (v : V) → p v ≡ true → is_fine unit (f v) ≡ true) where
+    module _ {V : Type 0} (f : V → source.Record) (p : V → Bool) (fine : (v : V) → p v ≡ true
+        → is_fine unit (f v) ≡ true) where
       abbrev Gives : V → Block → Type 0
       Gives v b = Giving (string_of_table strings) f v b
 
@@ -76,97 +78,154 @@ module _ (unit : Description Target) (strings : List Words) where
       value_means : (v : V) (b : Block) → Gives v b → p v ≡ true → Same (one_record v) b
       value_means v b is h = record_means unit strings machine d (f v) b (fine v h) is
 
-      one_means : (c : Cond Target V) (b : Block) → IsCondBlock Gives c b → good_cond reads p leaf c ≡ true → Same (each f (chosen env d c)) b
+      one_means : (c : Cond Target V) (b : Block) → IsCondBlock Gives c b → good_cond reads p leaf c
+          ≡ true → Same (each f (chosen env d c)) b
       one_means c b is h =
           subst (λ t. Same t b) (given_are_chosen env d f c)
-          (cond_means (string_of_table strings) machine env d (means machine env d) reads Gives p one_record value_means c b is (both_of (is_cond reads reads p c) (is_low (cond_height leaf c)) h).0)
+          (cond_means (string_of_table strings) machine env d (means machine env d) reads Gives p
+          one_record value_means c b is
+          (both_of (is_cond reads reads p c) (is_low (cond_height leaf c)) h).0)
 
-      list_means : (c : Conds Target V) (b : Block) → IsCondsBlock Gives c b → are_conds reads reads p c ≡ true → Same (each f (all_chosen env d c)) b
+      list_means : (c : Conds Target V) (b : Block) → IsCondsBlock Gives c b
+          → are_conds reads reads p c ≡ true → Same (each f (all_chosen env d c)) b
       list_means c b is h =
           subst (λ t. Same t b) (all_are_chosen env d f c)
-          (conds_mean (string_of_table strings) machine env d (means machine env d) reads Gives p one_record value_means c b is h)
+          (conds_mean (string_of_table strings) machine env d (means machine env d) reads Gives p
+          one_record value_means c b is h)
 
-      in_line : (vs : List V) (b : Block) → IsLineBlock Gives vs b → list_all p vs ≡ true → Same (Ok (map f vs)) b
-      in_line vs b is h = line_means (string_of_table strings) machine env d (means machine env d) Gives p f value_means vs b is h
+      in_line : (vs : List V) (b : Block) → IsLineBlock Gives vs b → list_all p vs ≡ true
+          → Same (Ok (map f vs)) b
+      in_line vs b is h = line_means (string_of_table strings) machine env d (means machine env d)
+          Gives p f value_means vs b is h
 
-    expression_means : (e : Expr Target) (b : Block) → IsValueBlock e b → good_expression count reads e ≡ true → Same (expression_given env d e) b
+    expression_means : (e : Expr Target) (b : Block) → IsValueBlock e b
+        → good_expression count reads e ≡ true → Same (expression_given env d e) b
     unfolding does act
     expression_means e b is h =
-        subst (Same (expression_given env d e)) (sym is) (here (value env d e) (means machine env d e []))
+        subst (Same (expression_given env d e)) (sym is)
+        (here (value env d e) (means machine env d e []))
       where
         here : (v : Trapping ℤ) → does machine d (expression_block e) [] ≡ of_value v []
-            → SameOutcome (string_of_table strings) (v >>= λ z. Ok (source.Number z ∷ [])) (and_then (does machine d (expression_block e) []) (does machine d (block.Straight instruction.Number)))
-        here (Err why) e = ap (λ o. and_then o (does machine d (block.Straight instruction.Number))) e
-        here (Ok z) e = (_, ap (λ o. and_then o (does machine d (block.Straight instruction.Number))) e, (refl, tt))
+            → SameOutcome (string_of_table strings) (v >>= λ z. Ok (source.Number z ∷ []))
+            (and_then (does machine d (expression_block e) [])
+            (does machine d (block.Straight instruction.Number)))
+        here (Err why) e = ap (λ o. and_then o (does machine d (block.Straight instruction.Number)))
+            e
+        here (Ok z) e = (
+          _,
+          ap (λ o. and_then o
+              (does machine d (block.Straight instruction.Number))) e,
+          (refl, tt),
+        )
 
-    transaction_means : (number : Option ℕ) (b : Block) → Whole (trees.Transaction number) → IsTreeBlock (string_of_table strings) (trees.Transaction number) b → Same (meaning env (trees.Transaction number) d) b
+    transaction_means : (number : Option ℕ) (b : Block) → Whole (trees.Transaction number)
+        → IsTreeBlock (string_of_table strings) (trees.Transaction number) b
+        → Same (meaning env (trees.Transaction number) d) b
     unfolding IsTreeBlock
-    transaction_means None b h is = subst (Same (Ok [])) (sym is) (nothing_means (string_of_table strings) machine env d (means machine env d))
-    transaction_means (Some n) b h is = record_means unit strings machine d (source.Number (pos n)) b (good (trees.Transaction (Some n)) h) is
+    transaction_means None b h is =
+        subst (Same (Ok [])) (sym is) (nothing_means (string_of_table strings) machine env d
+        (means machine env d))
+    transaction_means (Some n) b h is = record_means unit strings machine d (source.Number (pos n))
+        b (good (trees.Transaction (Some n)) h) is
 
-    tree_means : (t : Tree) (b : Block) → Whole t → IsTreeBlock (string_of_table strings) t b → Same (meaning env t d) b
+    tree_means : (t : Tree) (b : Block) → Whole t → IsTreeBlock (string_of_table strings) t b
+        → Same (meaning env t d) b
     unfolding IsTreeBlock
-    tree_means (trees.Texts c) b h is = one_means text_record is_text (λ t k. refl) c b is (good (trees.Texts c) h)
-    tree_means (trees.Class names) b h is = in_line class_record any_value (λ n k. refl) names b is (always names)
-    tree_means (trees.Handling c) b h is = one_means handling_record any_value (λ v k. handling_small v) c b is (good (trees.Handling c) h)
-    tree_means (trees.Validity c) b h is = one_means validity_record any_value (λ v k. bit_small v) c b is (good (trees.Validity c) h)
+    tree_means (trees.Texts c) b h is = one_means text_record is_text (λ t k. refl) c b is
+        (good (trees.Texts c) h)
+    tree_means (trees.Class names) b h is = in_line class_record any_value (λ n k. refl) names b is
+        (always names)
+    tree_means (trees.Handling c) b h is = one_means handling_record any_value
+        (λ v k. handling_small v) c b is (good (trees.Handling c) h)
+    tree_means (trees.Validity c) b h is = one_means validity_record any_value (λ v k. bit_small v)
+        c b is (good (trees.Validity c) h)
     tree_means (trees.Expressions c) b h is =
-        let tests = both_of (good_cond reads (good_expression count reads) height c) (is_single reads reads c) (good (trees.Expressions c) h) in
-        let parts = both_of (is_cond reads reads (good_expression count reads) c) (is_low (cond_height height c)) tests.0 in
+        let tests = both_of (good_cond reads (good_expression count reads) height c)
+        (is_single reads reads c) (good (trees.Expressions c) h) in
+        let parts = both_of (is_cond reads reads (good_expression count reads) c)
+        (is_low (cond_height height c)) tests.0 in
         subst (λ t. Same t b) (expression_is_chosen env d reads c tests.1)
-        (cond_means (string_of_table strings) machine env d (means machine env d) reads IsValueBlock (good_expression count reads) (expression_given env d) expression_means c b is parts.0)
+        (cond_means (string_of_table strings) machine env d (means machine env d) reads IsValueBlock
+        (good_expression count reads) (expression_given env d) expression_means c b is parts.0)
     tree_means (trees.Enumerators parts) b h is =
-        subst (λ (all : Conds Target item.Enumerator). Same (each enumerator (all_chosen env d all)) b) (sym (elements_same env parts))
-        (list_means enumerator good_enumerator (enumerator_fine unit reads) (elements parts) b is (elements_tested count reads parts (good (trees.Enumerators parts) h)))
-    tree_means (trees.Number n) b h is = record_means unit strings machine d (source.Number (pos n)) b (good (trees.Number n) h) is
-    tree_means (trees.Operation o) b h is = record_means unit strings machine d (source.Number (pos (operation_number o))) b (operation_small o) is
+        subst (λ (all : Conds Target item.Enumerator). Same (each enumerator (all_chosen env d all))
+        b) (sym (elements_same env parts))
+        (list_means enumerator good_enumerator (enumerator_fine unit reads) (elements parts) b is
+        (elements_tested count reads parts (good (trees.Enumerators parts) h)))
+    tree_means (trees.Number n) b h is = record_means unit strings machine d (source.Number (pos n))
+        b (good (trees.Number n) h) is
+    tree_means (trees.Operation o) b h is = record_means unit strings machine d
+        (source.Number (pos (operation_number o))) b (operation_small o) is
     tree_means (trees.Transaction number) b h is = transaction_means number b h is
     tree_means (trees.Data all) b h is =
-        let tests = both_of (are_conds reads reads (good_data count reads) all) (is_low (conds_height leaf all)) (good (trees.Data all) h) in
-        let rules = both_of (list_all kept_data (values_of all)) (no_breach (conds_defaults all)) (ruled (trees.Data all) h) in
-        list_means data_item (λ x. good_data count reads x && kept_data x) (data_fine unit reads) all b is (conds_both reads (good_data count reads) kept_data all tests.0 rules.0)
-    tree_means (trees.ResponseCodes responses) b h is = in_line response good_response (response_fine unit reads) responses b is (good (trees.ResponseCodes responses) h)
+        let tests = both_of (are_conds reads reads (good_data count reads) all)
+        (is_low (conds_height leaf all)) (good (trees.Data all) h) in
+        let rules = both_of (list_all kept_data (values_of all)) (no_breach (conds_defaults all))
+        (ruled (trees.Data all) h) in
+        list_means data_item (λ x. good_data count reads x && kept_data x) (data_fine unit reads)
+        all b is (conds_both reads (good_data count reads) kept_data all tests.0 rules.0)
+    tree_means (trees.ResponseCodes responses) b h is =
+        in_line response good_response (response_fine unit reads) responses b is
+        (good (trees.ResponseCodes responses) h)
     tree_means (trees.Items entries) b h is =
-        list_means entry (good_entry count reads) (entry_fine unit reads) entries b is (both_of (are_conds reads reads (good_entry count reads) entries) (is_low (conds_height leaf entries)) (good (trees.Items entries) h)).0
-    tree_means (trees.Members members) b h is = in_line member (good_member count reads) (member_fine unit reads) members b is (good (trees.Members members) h)
+        list_means entry (good_entry count reads) (entry_fine unit reads) entries b is
+        (both_of (are_conds reads reads (good_entry count reads) entries)
+        (is_low (conds_height leaf entries)) (good (trees.Items entries) h)).0
+    tree_means (trees.Members members) b h is = in_line member (good_member count reads)
+        (member_fine unit reads) members b is (good (trees.Members members) h)
 
     -- a tree that isn't there gives nothing
-    pub block_means : (t : Option Tree) (b : Block) → if_there (is_whole unit) t ≡ true → IsBlockOf (string_of_table strings) t b → Same (meaning_at env t d) b
-    block_means None b h is = subst (Same (Ok [])) (sym is) (nothing_means (string_of_table strings) machine env d (means machine env d))
+    pub block_means : (t : Option Tree) (b : Block) → if_there (is_whole unit) t ≡ true
+        → IsBlockOf (string_of_table strings) t b → Same (meaning_at env t d) b
+    block_means None b h is =
+        subst (Same (Ok [])) (sym is) (nothing_means (string_of_table strings) machine env d
+        (means machine env d))
     block_means (Some t) b h is = tree_means t b h is
 
   -- ---- strings
 
-  no_defaults : {V : Type 0} (c : Cond Target V) → no_breach (cond_defaults c) ≡ true → cond_defaults c ≡ []
+  no_defaults : {V : Type 0} (c : Cond Target V) → no_breach (cond_defaults c) ≡ true
+      → cond_defaults c ≡ []
   no_defaults c h = none_broken (cond_defaults c) h
 
-  texts_held : (c : Cond Target _) (b : Block) → Whole (trees.Texts c) → IsTreeBlock (string_of_table strings) (trees.Texts c) b → Held strings (tree_strings (trees.Texts c))
+  texts_held : (c : Cond Target _) (b : Block) → Whole (trees.Texts c)
+      → IsTreeBlock (string_of_table strings) (trees.Texts c) b
+      → Held strings (tree_strings (trees.Texts c))
   unfolding IsTreeBlock tree_strings
-  texts_held c b h is = subst (Held strings) (texts_strings (values_in c)) (cond_held strings text_record c b is (no_defaults c (ruled (trees.Texts c) h)))
+  texts_held c b h is = subst (Held strings) (texts_strings (values_in c))
+      (cond_held strings text_record c b is (no_defaults c (ruled (trees.Texts c) h)))
 
   nothing_held : Held strings []
   nothing_held v held = none_in strings v held
 
-  tree_held : (t : Tree) (b : Block) → Whole t → IsTreeBlock (string_of_table strings) t b → Held strings (tree_strings t)
+  tree_held : (t : Tree) (b : Block) → Whole t → IsTreeBlock (string_of_table strings) t b
+      → Held strings (tree_strings t)
   unfolding IsTreeBlock tree_strings
   tree_held (trees.Texts c) b h is = texts_held c b h is
-  tree_held (trees.Class names) b h is = subst (Held strings) (classes_strings names) (line_held strings class_record names b is)
+  tree_held (trees.Class names) b h is = subst (Held strings) (classes_strings names)
+      (line_held strings class_record names b is)
   tree_held (trees.Handling c) b h is = nothing_held
   tree_held (trees.Validity c) b h is = nothing_held
   tree_held (trees.Expressions c) b h is = nothing_held
   tree_held (trees.Enumerators parts) b h is =
-      subst (Held strings) (strings_by enumerator enumerator_texts enumerator_strings (values_of (elements parts)) ∙ ap strings_of_texts (sym (elements_texts parts)))
-      (conds_held strings enumerator (elements parts) b is (elements_ruled parts (ruled (trees.Enumerators parts) h)))
+      subst (Held strings) (strings_by enumerator enumerator_texts enumerator_strings
+      (values_of (elements parts)) ∙ ap strings_of_texts (sym (elements_texts parts)))
+      (conds_held strings enumerator (elements parts) b is
+      (elements_ruled parts (ruled (trees.Enumerators parts) h)))
   tree_held (trees.Number n) b h is = nothing_held
   tree_held (trees.Operation o) b h is = nothing_held
   tree_held (trees.Transaction number) b h is = nothing_held
   tree_held (trees.Data all) b h is = nothing_held
-  tree_held (trees.ResponseCodes responses) b h is = subst (Held strings) (responses_strings responses) (line_held strings response responses b is)
+  tree_held (trees.ResponseCodes responses) b h is =
+      subst (Held strings) (responses_strings responses) (line_held strings response responses b is)
   tree_held (trees.Items entries) b h is =
       subst (Held strings) (strings_by entry entry_texts entry_strings (values_of entries))
-      (conds_held strings entry entries b is (none_broken (conds_defaults entries) (ruled (trees.Items entries) h)))
-  tree_held (trees.Members members) b h is = subst (Held strings) (members_strings members) (line_held strings member members b is)
+      (conds_held strings entry entries b is
+      (none_broken (conds_defaults entries) (ruled (trees.Items entries) h)))
+  tree_held (trees.Members members) b h is = subst (Held strings) (members_strings members)
+      (line_held strings member members b is)
 
-  pub block_held : (t : Option Tree) (b : Block) → if_there (is_whole unit) t ≡ true → IsBlockOf (string_of_table strings) t b → Held strings (strings_of_tree t)
+  pub block_held : (t : Option Tree) (b : Block) → if_there (is_whole unit) t ≡ true
+      → IsBlockOf (string_of_table strings) t b → Held strings (strings_of_tree t)
   block_held None b h is = nothing_held
   block_held (Some t) b h is = tree_held t b h is

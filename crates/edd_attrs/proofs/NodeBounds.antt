@@ -30,15 +30,25 @@ element_fewer (item.DisplayFormat c) = omega arith
 element_fewer (item.EditFormat c) = omega arith
 element_fewer (item.Element c) = omega arith
 
-elements_fewer : (parts : List (TypePart Target)) → sum (map element_nodes parts) ≤ sum (map type_part_nodes parts)
+elements_fewer : (parts : List (TypePart Target)) → sum (map element_nodes parts)
+    ≤ sum (map type_part_nodes parts)
 elements_fewer [] = omega arith
 elements_fewer (p ∷ rest) =
-    omega (arith, element_fewer p, elements_fewer rest, sum_by-cons (λ x. x) (element_nodes p) (map element_nodes rest), sum_by-cons (λ x. x) (type_part_nodes p) (map type_part_nodes rest))
+    omega (
+      arith,
+      element_fewer p,
+      elements_fewer rest,
+      sum_by-cons (λ x. x) (element_nodes p)
+          (map element_nodes rest),
+      sum_by-cons (λ x. x) (type_part_nodes p)
+          (map type_part_nodes rest),
+    )
 
 alone : {b : Bool} → b ≡ true → (b && true) ≡ true
 alone h = rw h refl
 
-part_within : (n : ℕ) (p : TypePart Target) → type_part_nodes p ≤ n → list_all (named (is_within n)) (trees_of_part p) ≡ true
+part_within : (n : ℕ) (p : TypePart Target) → type_part_nodes p ≤ n
+    → list_all (named (is_within n)) (trees_of_part p) ≡ true
 unfolding tree_nodes
 part_within n (item.DefaultValue c) h = alone (within n (trees.Expressions c) h)
 part_within n (item.MinValue c) h = alone (within n (trees.Expressions c) h)
@@ -47,59 +57,78 @@ part_within n (item.DisplayFormat c) h = alone (within n (trees.Texts c) h)
 part_within n (item.EditFormat c) h = alone (within n (trees.Texts c) h)
 part_within n (item.Element c) h = refl
 
-parts_within : (n : ℕ) (parts : List (TypePart Target)) → sum (map type_part_nodes parts) ≤ n → list_all (named (is_within n)) (trees_of_parts parts) ≡ true
+parts_within : (n : ℕ) (parts : List (TypePart Target)) → sum (map type_part_nodes parts) ≤ n
+    → list_all (named (is_within n)) (trees_of_parts parts) ≡ true
 parts_within n [] h = refl
 parts_within n (p ∷ rest) h =
     let split = sum_by-cons (λ x. x) (type_part_nodes p) (map type_part_nodes rest) in
-    all_append (named (is_within n)) (trees_of_part p) (trees_of_parts rest) (part_within n p (omega (arith, h, split))) (parts_within n rest (omega (arith, h, split)))
+    all_append (named (is_within n)) (trees_of_part p) (trees_of_parts rest)
+    (part_within n p (omega (arith, h, split))) (parts_within n rest (omega (arith, h, split)))
 
-transaction_part_within : (n : ℕ) (p : TransactionPart Target) → transaction_part_nodes p ≤ n → named (is_within n) (tree_of_transaction_part p) ≡ true
+transaction_part_within : (n : ℕ) (p : TransactionPart Target) → transaction_part_nodes p ≤ n
+    → named (is_within n) (tree_of_transaction_part p) ≡ true
 unfolding tree_nodes
 transaction_part_within n (item.Request all) h = within n (trees.Data all) h
 transaction_part_within n (item.Reply all) h = within n (trees.Data all) h
 
-transaction_parts_within : (n : ℕ) (parts : List (TransactionPart Target)) → sum (map transaction_part_nodes parts) ≤ n → list_all (named (is_within n)) (map tree_of_transaction_part parts) ≡ true
+transaction_parts_within : (n : ℕ) (parts : List (TransactionPart Target))
+    → sum (map transaction_part_nodes parts) ≤ n
+    → list_all (named (is_within n)) (map tree_of_transaction_part parts) ≡ true
 transaction_parts_within n [] h = refl
 transaction_parts_within n (p ∷ rest) h =
     let split = sum_by-cons (λ x. x) (transaction_part_nodes p) (map transaction_part_nodes rest) in
-    both_true (transaction_part_within n p (omega (arith, h, split))) (transaction_parts_within n rest (omega (arith, h, split)))
+    both_true (transaction_part_within n p (omega (arith, h, split)))
+    (transaction_parts_within n rest (omega (arith, h, split)))
 
 -- one tree, and none inside
 single : (n : ℕ) (t : Tree) → tree_nodes t ≤ n → ((is_within n t && true) && true) ≡ true
 single n t h = rw (within n t h) refl
 
-attribute_within : (n : ℕ) (a : Attribute Target) → attribute_nodes a ≤ n → throughout (is_within n) a ≡ true
+attribute_within : (n : ℕ) (a : Attribute Target) → attribute_nodes a ≤ n
+    → throughout (is_within n) a ≡ true
 unfolding tree_nodes
 attribute_within n (item.OneText which c) h = single n (trees.Texts c) h
 attribute_within n (item.Class words) h = single n (trees.Class words) h
 attribute_within n (item.Handling c) h = single n (trees.Handling c) h
 attribute_within n (item.Validity c) h = single n (trees.Validity c) h
 attribute_within n (item.TypeOf word parts) h =
-    both_true (both_true (within n (trees.Enumerators parts) (omega (arith, h, elements_fewer parts))) (parts_within n parts (omega (arith, h)))) refl
+    both_true (both_true (within n (trees.Enumerators parts)
+    (omega (arith, h, elements_fewer parts))) (parts_within n parts (omega (arith, h)))) refl
 attribute_within n (item.Number m) h = single n (trees.Number m) h
 attribute_within n (item.Operation o) h = single n (trees.Operation o) h
-attribute_within n (item.Transaction number parts) h = both_true refl (both_true (within n (trees.Transaction number) (omega (arith, h))) (transaction_parts_within n parts (omega (arith, h))))
+attribute_within n (item.Transaction number parts) h =
+    both_true refl (both_true (within n (trees.Transaction number) (omega (arith, h)))
+    (transaction_parts_within n parts (omega (arith, h))))
 attribute_within n (item.ResponseCodes responses) h = single n (trees.ResponseCodes responses) h
 attribute_within n (item.Items entries) h = single n (trees.Items entries) h
 attribute_within n (item.Members members) h = single n (trees.Members members) h
 attribute_within n (item.Definition body) h = refl
 
-attributes_within : (n : ℕ) (attributes : List (Attribute Target)) → sum (map attribute_nodes attributes) ≤ n → list_all (throughout (is_within n)) attributes ≡ true
+attributes_within : (n : ℕ) (attributes : List (Attribute Target))
+    → sum (map attribute_nodes attributes) ≤ n → list_all (throughout (is_within n)) attributes
+    ≡ true
 attributes_within n [] h = refl
 attributes_within n (a ∷ rest) h =
     let split = sum_by-cons (λ x. x) (attribute_nodes a) (map attribute_nodes rest) in
-    both_true (attribute_within n a (omega (arith, h, split))) (attributes_within n rest (omega (arith, h, split)))
+    both_true (attribute_within n a (omega (arith, h, split)))
+    (attributes_within n rest (omega (arith, h, split)))
 
-items_within : (n : ℕ) (items : List (Item Target)) → sum (map item_nodes items) ≤ n → list_all (throughout_item (is_within n)) items ≡ true
+items_within : (n : ℕ) (items : List (Item Target)) → sum (map item_nodes items) ≤ n
+    → list_all (throughout_item (is_within n)) items ≡ true
 items_within n [] h = refl
 items_within n (i ∷ rest) h =
     let split = sum_by-cons (λ x. x) (item_nodes i) (map item_nodes rest) in
-    both_true (attributes_within n i.attributes (omega (arith, h, split))) (items_within n rest (omega (arith, h, split)))
+    both_true (attributes_within n i.attributes (omega (arith, h, split)))
+    (items_within n rest (omega (arith, h, split)))
 
-nodes_at : (d : Description Target) (row : AttrRef) → if_there (is_within (unit_nodes d)) (tree_at d row) ≡ true
-nodes_at d row = tree_has (is_within (unit_nodes d)) d row (items_within (unit_nodes d) d.items (omega arith))
+nodes_at : (d : Description Target) (row : AttrRef)
+    → if_there (is_within (unit_nodes d)) (tree_at d row) ≡ true
+nodes_at d row = tree_has (is_within (unit_nodes d)) d row
+    (items_within (unit_nodes d) d.items (omega arith))
 
 -- ---- as a bound
 
-pub few_at : (d : Description Target) (row : AttrRef) (t : Tree) → tree_at d row ≡ Some t → tree_nodes t ≤ unit_nodes d
-few_at d row t is = leb-true (tree_nodes t) (unit_nodes d) (subst (λ o. if_there (is_within (unit_nodes d)) o ≡ true) is (nodes_at d row))
+pub few_at : (d : Description Target) (row : AttrRef) (t : Tree) → tree_at d row ≡ Some t
+    → tree_nodes t ≤ unit_nodes d
+few_at d row t is = leb-true (tree_nodes t) (unit_nodes d)
+    (subst (λ o. if_there (is_within (unit_nodes d)) o ≡ true) is (nodes_at d row))

@@ -7,7 +7,8 @@ use Rattle.edd_syntax.specs.Item.{Attribute}
 use Rattle.edd_attrs.specs.Trees.{transaction_trees}
 use Rattle.edd_attrs.specs.Rows.{transaction_in}
 
-pub transactions_split : (y : Attribute Target) (ys : List (Attribute Target)) → transaction_trees (y ∷ ys) ≡ option_to_list (transaction_in y) ++ transaction_trees ys
+pub transactions_split : (y : Attribute Target) (ys : List (Attribute Target))
+    → transaction_trees (y ∷ ys) ≡ option_to_list (transaction_in y) ++ transaction_trees ys
 transactions_split (item.OneText which c) ys = refl
 transactions_split (item.Class words) ys = refl
 transactions_split (item.Handling c) ys = refl

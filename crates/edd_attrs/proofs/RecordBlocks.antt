@@ -31,13 +31,16 @@ line_spelled : (is : List Instruction) → AllByRecursion IsSpelled is → AreSp
 line_spelled [] h = tt
 line_spelled (i ∷ is) h = (h.0, line_spelled is h.1)
 
-line_passes : (f : Instruction → Bool) (is : List Instruction) → list_all f is ≡ true → all_straight f (straight_line is) ≡ true
+line_passes : (f : Instruction → Bool) (is : List Instruction) → list_all f is ≡ true
+    → all_straight f (straight_line is) ≡ true
 line_passes f [] h = refl
-line_passes f (i ∷ is) h = let parts = both_of (f i) (list_all f is) h in rw (parts.0, line_passes f is parts.1) refl
+line_passes f (i ∷ is) h = let parts = both_of (f i) (list_all f is) h in rw
+    (parts.0, line_passes f is parts.1) refl
 
 record_flows : (r : Record) → Flows (straight_line (giving r)) 0
 record_flows (records.Words s) = ((refl, omega arith, omega arith), tt)
-record_flows (records.Number z) = ((refl, omega arith, omega arith), ((refl, omega arith, omega arith), tt))
+record_flows (records.Number z) =
+    ((refl, omega arith, omega arith), ((refl, omega arith, omega arith), tt))
 record_flows (records.Entry item quals) = ((refl, omega arith, omega arith), tt)
 record_flows (records.DataConst n) = ((refl, omega arith, omega arith), tt)
 record_flows (records.DataVar v mask quals) = ((refl, omega arith, omega arith), tt)
@@ -66,11 +69,13 @@ line_short (records.Response n class text) = omega arith
 line_short (records.Member name item label help) = omega arith
 
 module _ (env : Environment) (d : List ℤ) where
-  record_does : (r : Record) → IsSayable r → does env d (straight_line (giving r)) [] ≡ Goes (r ∷ []) []
+  record_does : (r : Record) → IsSayable r → does env d (straight_line (giving r)) []
+      ≡ Goes (r ∷ []) []
   unfolding does act
   record_does (records.Words s) h = refl
   record_does (records.Number z) h =
-      subst (λ (y : ℤ). does env d (straight_line (giving (records.Number y))) [] ≡ Goes (records.Number y ∷ []) []) (sym h.1)
+      subst (λ (y : ℤ). does env d (straight_line (giving (records.Number y))) []
+      ≡ Goes (records.Number y ∷ []) []) (sym h.1)
       (ap (λ (y : ℤ). Goes (records.Number y ∷ []) []) (wrap_small h.0 h.2))
   record_does (records.Entry item quals) h = refl
   record_does (records.DataConst n) h = refl
@@ -81,9 +86,11 @@ module _ (env : Environment) (d : List ℤ) where
 
 -- a number is one of 32 bits
 module _ (unit : Description Target) (strings : List Words) where
-  sayable : (x : source.Record) (r : Record) → is_fine unit x ≡ true → SameRecord (string_of_table strings) x r → IsSayable r
+  sayable : (x : source.Record) (r : Record) → is_fine unit x ≡ true
+      → SameRecord (string_of_table strings) x r → IsSayable r
   sayable (source.Words w) r fine same = subst IsSayable (sym same.1) tt
-  sayable (source.Number z) r fine same = let n = number_is z fine in subst IsSayable (sym (same ∙ ap records.Number n.1)) (n.0, refl, n.2)
+  sayable (source.Number z) r fine same = let n = number_is z fine in subst IsSayable
+      (sym (same ∙ ap records.Number n.1)) (n.0, refl, n.2)
   sayable (source.Entry item quals) r fine same = subst IsSayable (sym same) tt
   sayable (source.DataConst n) r fine same = subst IsSayable (sym same) tt
   sayable (source.DataVar v mask quals) r fine same = subst IsSayable (sym same) tt
@@ -91,13 +98,21 @@ module _ (unit : Description Target) (strings : List Words) where
   sayable (source.Response number class text) r fine same = subst IsSayable (sym same.1) tt
   sayable (source.Member name item label help) r fine same = subst IsSayable (sym same.3) tt
 
-  pub record_means : (env : Environment) (d : List ℤ) (x : source.Record) (b : Block) → is_fine unit x ≡ true → IsRecordBlock (string_of_table strings) x b
+  pub record_means : (env : Environment) (d : List ℤ) (x : source.Record) (b : Block)
+      → is_fine unit x ≡ true → IsRecordBlock (string_of_table strings) x b
       → SameOutcome (string_of_table strings) (Ok (x ∷ [])) (does env d b [])
-  record_means env d x b fine is = (is.0 ∷ [], ap (λ c. does env d c []) is.2 ∙ record_does env d is.0 (sayable x is.0 fine is.1), (is.1, tt))
+  record_means env d x b fine is = (
+    is.0 ∷ [],
+    ap (λ c. does env d c []) is.2
+        ∙ record_does env d is.0 (sayable x is.0 fine is.1),
+    (is.1, tt),
+  )
 
-module _ (unit : Description Target) (few : (k : Kind) → count_of k unit.items ≤ 4096) (strings : List Words) (few_strings : length strings ≤ 65535) where
+module _ (unit : Description Target) (few : (k : Kind) → count_of k unit.items ≤ 4096)
+    (strings : List Words) (few_strings : length strings ≤ 65535) where
   -- with strings by their numbers in a table that begins with these
-  pub record_is_sound : (x : source.Record) (b : Block) → is_fine unit x ≡ true → IsRecordBlock (string_of_table strings) x b → IsSound (attribute_context unit strings) b 1
+  pub record_is_sound : (x : source.Record) (b : Block) → is_fine unit x ≡ true
+      → IsRecordBlock (string_of_table strings) x b → IsSound (attribute_context unit strings) b 1
   record_is_sound x b fine is =
       let spelled = record_spelled unit few strings few_strings x is.0 fine is.1 in
       let exist = record_exists unit few strings x is.0 fine is.1 in

@@ -60,7 +60,13 @@ bit_small true = omega arith
 bit_small false = omega arith
 
 menu_small : (q : MenuQualifiers) → menu_bits q < 16
-menu_small q = omega (arith, bit_small q.display_value, bit_small q.read_only, bit_small q.hidden, bit_small q.review)
+menu_small q = omega (
+  arith,
+  bit_small q.display_value,
+  bit_small q.read_only,
+  bit_small q.hidden,
+  bit_small q.review,
+)
 
 data_small : (q : DataQualifiers) → data_bits q < 4
 data_small q = omega (arith, bit_small q.info, bit_small q.index)
@@ -86,17 +92,32 @@ number_is (negsuc n) h = absurd cc
 
 module _ (unit : Description Target) (few : (k : Kind) → count_of k unit.items ≤ 4096) where
   index_small : (item : ItemNo) → item_exists (counts_in unit) item ≡ true → index_of item < 2 ^ 16
-  index_small (items.Variable n) h = omega (arith, ltb-true n.0 (count_of kind.Variable unit.items) h, few kind.Variable)
-  index_small (items.Command n) h = omega (arith, ltb-true n.0 (count_of kind.Command unit.items) h, few kind.Command)
-  index_small (items.Menu n) h = omega (arith, ltb-true n.0 (count_of kind.Menu unit.items) h, few kind.Menu)
-  index_small (items.Collection n) h = omega (arith, ltb-true n.0 (count_of kind.Collection unit.items) h, few kind.Collection)
-  index_small (items.Method n) h = omega (arith, ltb-true n.0 (count_of kind.Method unit.items) h, few kind.Method)
+  index_small (items.Variable n) h =
+      omega (arith, ltb-true n.0 (count_of kind.Variable unit.items) h, few kind.Variable)
+  index_small (items.Command n) h = omega (
+    arith,
+    ltb-true n.0 (count_of kind.Command unit.items) h,
+    few kind.Command,
+  )
+  index_small (items.Menu n) h = omega (
+    arith,
+    ltb-true n.0 (count_of kind.Menu unit.items) h,
+    few kind.Menu,
+  )
+  index_small (items.Collection n) h =
+      omega (arith, ltb-true n.0 (count_of kind.Collection unit.items) h, few kind.Collection)
+  index_small (items.Method n) h = omega (
+    arith,
+    ltb-true n.0 (count_of kind.Method unit.items) h,
+    few kind.Method,
+  )
 
   module _ (strings : List Words) (few_strings : length strings ≤ 65535) where
     string_small : (w : Words) (s : StrNo) → IsString (string_of_table strings) w s → s.0 < 65535
     string_small w s is = omega (arith, slice_get_within strings s.0 w is, few_strings)
 
-    optional_small : (o : Option Words) (s : Option StrNo) → IsOptionalString (string_of_table strings) o s → IsOptional s
+    optional_small : (o : Option Words) (s : Option StrNo)
+        → IsOptionalString (string_of_table strings) o s → IsOptional s
     optional_small None None is = tt
     optional_small None (Some s) is = absurd is
     optional_small (Some w) None is = absurd is
@@ -105,40 +126,89 @@ module _ (unit : Description Target) (few : (k : Kind) → count_of k unit.items
     abbrev IsSpelledRecord : Record → Type 0
     IsSpelledRecord r = AllByRecursion IsSpelled (giving r) × IsSayable r
 
-    pub record_spelled : (x : source.Record) (r : Record) → is_fine unit x ≡ true → SameRecord (string_of_table strings) x r → IsSpelledRecord r
+    pub record_spelled : (x : source.Record) (r : Record) → is_fine unit x ≡ true
+        → SameRecord (string_of_table strings) x r → IsSpelledRecord r
     record_spelled (source.Words w) r fine same =
         subst IsSpelledRecord (sym same.1) ((omega (arith, string_small w same.0 same.2), tt), tt)
     record_spelled (source.Number z) r fine same =
         let n = number_is z fine in
-        subst IsSpelledRecord (sym (same ∙ ap records.Number n.1)) ((n.2, (tt, tt)), (n.0, refl, n.2))
+        subst IsSpelledRecord (sym (same ∙ ap records.Number n.1))
+        ((n.2, (tt, tt)), (n.0, refl, n.2))
     record_spelled (source.Entry item quals) r fine same =
         subst IsSpelledRecord (sym same) (((index_small item fine, menu_small quals), tt), tt)
-    record_spelled (source.DataConst n) r fine same = subst IsSpelledRecord (sym same) ((ltb-true n 256 fine, tt), tt)
+    record_spelled (source.DataConst n) r fine same =
+        subst IsSpelledRecord (sym same) ((ltb-true n 256 fine, tt), tt)
     record_spelled (source.DataVar v mask quals) r fine same =
-        let parts = both_of (variable_exists (counts_in unit) v) (nat_lt (mask_number mask) (2 ^ 32)) fine in
-        subst IsSpelledRecord (sym same) (((index_small (items.Variable v) parts.0, ltb-true (mask_number mask) (2 ^ 32) parts.1, data_small quals), tt), tt)
+        let parts = both_of (variable_exists (counts_in unit) v)
+        (nat_lt (mask_number mask) (2 ^ 32)) fine in
+        subst IsSpelledRecord (sym same) (
+          (
+            (
+              index_small (items.Variable v) parts.0,
+              ltb-true (mask_number mask) (2 ^ 32) parts.1,
+              data_small quals,
+            ),
+            tt,
+          ),
+          tt,
+        )
     record_spelled (source.Enumerator value text help) r fine same =
-        subst IsSpelledRecord (sym same.2) (((label_fits value fine, omega (arith, string_small text same.0 same.3), optional_small help same.1 same.4), tt), tt)
+        subst IsSpelledRecord (sym same.2) (
+          (
+            (
+              label_fits value fine,
+              omega (arith, string_small text same.0 same.3),
+              optional_small help same.1 same.4,
+            ),
+            tt,
+          ),
+          tt,
+        )
     record_spelled (source.Response number class text) r fine same =
-        subst IsSpelledRecord (sym same.1) (((ltb-true number (2 ^ 32) fine, class_small class, omega (arith, string_small text same.0 same.2)), tt), tt)
+        subst IsSpelledRecord (sym same.1) (
+          (
+            (
+              ltb-true number (2 ^ 32) fine,
+              class_small class,
+              omega (arith, string_small text same.0 same.2),
+            ),
+            tt,
+          ),
+          tt,
+        )
     record_spelled (source.Member name item label help) r fine same =
-        subst IsSpelledRecord (sym same.3) (((omega (arith, string_small name same.0 same.4), index_small item fine, optional_small label same.1 same.5, optional_small help same.2 same.6), tt), tt)
+        subst IsSpelledRecord (sym same.3) (
+          (
+            (
+              omega (arith, string_small name same.0 same.4),
+              index_small item fine,
+              optional_small label same.1 same.5,
+              optional_small help same.2 same.6,
+            ),
+            tt,
+          ),
+          tt,
+        )
 
   module _ (strings : List Words) where
     abbrev context : Context
     context = attribute_context unit strings
 
-    string_there : (w : Words) (s : StrNo) → IsString (string_of_table strings) w s → nat_lt s.0 (length strings) ≡ true
+    string_there : (w : Words) (s : StrNo) → IsString (string_of_table strings) w s
+        → nat_lt s.0 (length strings) ≡ true
     string_there w s is = lt-ltb s.0 (length strings) (slice_get_within strings s.0 w is)
 
-    optional_there : (o : Option Words) (s : Option StrNo) → IsOptionalString (string_of_table strings) o s → optional_string_exists context.counts s ≡ true
+    optional_there : (o : Option Words) (s : Option StrNo)
+        → IsOptionalString (string_of_table strings) o s → optional_string_exists context.counts s
+        ≡ true
     optional_there None None is = refl
     optional_there None (Some s) is = absurd is
     optional_there (Some w) None is = absurd is
     optional_there (Some w) (Some s) is = string_there w s is
 
     -- that an item exists has nothing to do with the strings
-    item_there : (item : ItemNo) → item_exists (counts_in unit) item ≡ true → item_exists context.counts item ≡ true
+    item_there : (item : ItemNo) → item_exists (counts_in unit) item ≡ true
+        → item_exists context.counts item ≡ true
     item_there (items.Variable n) h = h
     item_there (items.Command n) h = h
     item_there (items.Menu n) h = h
@@ -148,14 +218,29 @@ module _ (unit : Description Target) (few : (k : Kind) → count_of k unit.items
     abbrev Exists : Record → Type 0
     Exists r = list_all (names_exist context) (giving r) ≡ true
 
-    pub record_exists : (x : source.Record) (r : Record) → is_fine unit x ≡ true → SameRecord (string_of_table strings) x r → Exists r
-    record_exists (source.Words w) r fine same = subst Exists (sym same.1) (rw (string_there w same.0 same.2) refl)
+    pub record_exists : (x : source.Record) (r : Record) → is_fine unit x ≡ true
+        → SameRecord (string_of_table strings) x r → Exists r
+    record_exists (source.Words w) r fine same =
+        subst Exists (sym same.1) (rw (string_there w same.0 same.2) refl)
     record_exists (source.Number z) r fine same = subst Exists (sym same) refl
-    record_exists (source.Entry item quals) r fine same = subst Exists (sym same) (rw (item_there item fine) refl)
+    record_exists (source.Entry item quals) r fine same =
+        subst Exists (sym same) (rw (item_there item fine) refl)
     record_exists (source.DataConst n) r fine same = subst Exists (sym same) refl
-    record_exists (source.DataVar v mask quals) r fine same = subst Exists (sym same) (rw ((both_of (variable_exists (counts_in unit) v) (nat_lt (mask_number mask) (2 ^ 32)) fine).0) refl)
+    record_exists (source.DataVar v mask quals) r fine same =
+        subst Exists (sym same) (rw
+        ((both_of (variable_exists (counts_in unit) v) (nat_lt (mask_number mask) (2 ^ 32)) fine).0)
+        refl)
     record_exists (source.Enumerator value text help) r fine same =
-        subst Exists (sym same.2) (rw (string_there text same.0 same.3, optional_there help same.1 same.4) refl)
-    record_exists (source.Response number class text) r fine same = subst Exists (sym same.1) (rw (string_there text same.0 same.2) refl)
+        subst Exists (sym same.2)
+        (rw (string_there text same.0 same.3, optional_there help same.1 same.4) refl)
+    record_exists (source.Response number class text) r fine same =
+        subst Exists (sym same.1) (rw (string_there text same.0 same.2) refl)
     record_exists (source.Member name item label help) r fine same =
-        subst Exists (sym same.3) (rw (string_there name same.0 same.4, item_there item fine, optional_there label same.1 same.5, optional_there help same.2 same.6) refl)
+        subst Exists (sym same.3)
+        (rw (
+          string_there name same.0 same.4,
+          item_there item fine,
+          optional_there label same.1
+              same.5,
+          optional_there help same.2 same.6,
+        ) refl)

@@ -20,10 +20,13 @@ use Rattle.edd_code.proofs.BothTests.{both_of, both_true}
 
 -- what is known of the blocks of expressions
 pub record ExpressionFacts (context : Context) (reads : Target → Bool) : Type 0 where
-  pub flows : (e : Expr Target) (d : ℕ) → d + height e ≤ 128 → Flows (expression_block e) d × (depth_after (expression_block e) d ≡ suc d)
+  pub flows : (e : Expr Target) (d : ℕ) → d + height e ≤ 128 → Flows (expression_block e) d
+      × (depth_after (expression_block e) d ≡ suc d)
   pub short : (e : Expr Target) → size (expression_block e) ≤ 32 * nodes e
-  pub spelled : (e : Expr Target) → is_pure_expr reads reads e ≡ true → AreSpelled (expression_block e)
-  pub exist : (e : Expr Target) → is_pure_expr reads reads e ≡ true → all_straight (names_exist context) (expression_block e) ≡ true
+  pub spelled : (e : Expr Target) → is_pure_expr reads reads e ≡ true
+      → AreSpelled (expression_block e)
+  pub exist : (e : Expr Target) → is_pure_expr reads reads e ≡ true
+      → all_straight (names_exist context) (expression_block e) ≡ true
 
 module _ (context : Context) where
   -- a block that stands alone, of so many nodes
@@ -43,15 +46,34 @@ module _ (context : Context) where
     short : size b ≤ n
 
   may_be_longer : (b : Block) (m n : ℕ) → m ≤ n → TakesOne b m → TakesOne b n
-  may_be_longer b m n le t = record { flows = t.flows; even = t.even; spelled = t.spelled; exist = t.exist; short = omega (arith, t.short, le) }
+  may_be_longer b m n le t = record {
+    flows = t.flows;
+    even = t.even;
+    spelled = t.spelled;
+    exist = t.exist;
+    short = omega (arith, t.short, le);
+  }
 
   pub nothing_sound : (n : ℕ) → IsSound block.Nothing n
-  nothing_sound n = record { flows = tt; even = refl; spelled = tt; exist = refl; short = omega arith }
+  nothing_sound n = record {
+    flows = tt;
+    even = refl;
+    spelled = tt;
+    exist = refl;
+    short = omega arith;
+  }
 
   pub more_nodes : (b : Block) (m n : ℕ) → m ≤ n → IsSound b m → IsSound b n
-  more_nodes b m n le s = record { flows = s.flows; even = s.even; spelled = s.spelled; exist = s.exist; short = omega (arith, s.short, le) }
+  more_nodes b m n le s = record {
+    flows = s.flows;
+    even = s.even;
+    spelled = s.spelled;
+    exist = s.exist;
+    short = omega (arith, s.short, le);
+  }
 
-  pub then_sound : (x y : Block) (m n : ℕ) → IsSound x m → IsSound y n → IsSound (block.Then x y) (m + n)
+  pub then_sound : (x y : Block) (m n : ℕ) → IsSound x m → IsSound y n
+      → IsSound (block.Then x y) (m + n)
   then_sound x y m n s t = record {
     flows = (s.flows, subst (Flows y) (sym s.even) t.flows);
     even = ap (depth_after y) s.even ∙ t.even;
@@ -62,7 +84,9 @@ module _ (context : Context) where
 
   module _ (reads : Target → Bool) (facts : ExpressionFacts context reads) where
     -- an expression, and behind it what takes its value
-    on_value : (e : Expr Target) (b : Block) (n : ℕ) → is_pure_expr reads reads e ≡ true → height e ≤ 99 → TakesOne b n → n ≤ 32 * (1 + n) → (m : ℕ) → 32 * nodes e + n ≤ 32 * m → IsSound (block.Then (expression_block e) b) m
+    on_value : (e : Expr Target) (b : Block) (n : ℕ) → is_pure_expr reads reads e ≡ true
+        → height e ≤ 99 → TakesOne b n → n ≤ 32 * (1 + n) → (m : ℕ) → 32 * nodes e + n ≤ 32 * m
+        → IsSound (block.Then (expression_block e) b) m
     on_value e b n pure low t trivial m few =
         let flows = facts.flows e 0 (omega (arith, low)) in
         record {
@@ -73,16 +97,25 @@ module _ (context : Context) where
           short = omega (arith, facts.short e, t.short, few);
         }
 
-    either_takes : (x y : Block) (m n : ℕ) → IsSound x m → IsSound y n → TakesOne (block.Either x y) (10 + (32 * m + 32 * n))
+    either_takes : (x y : Block) (m n : ℕ) → IsSound x m → IsSound y n
+        → TakesOne (block.Either x y) (10 + (32 * m + 32 * n))
     either_takes x y m n s t = record {
-      flows = (omega arith, omega arith, s.flows, t.flows, t.even ∙ sym s.even, omega (arith, s.even));
+      flows = (
+        omega arith,
+        omega arith,
+        s.flows,
+        t.flows,
+        t.even ∙ sym s.even,
+        omega (arith, s.even),
+      );
       even = s.even;
       spelled = (s.spelled, t.spelled);
       exist = both_true s.exist t.exist;
       short = omega (arith, s.short, t.short);
     }
 
-    drop_takes : (y : Block) (n : ℕ) → IsSound y n → TakesOne (block.Then (block.Straight instruction.Pop) y) (1 + 32 * n)
+    drop_takes : (y : Block) (n : ℕ) → IsSound y n
+        → TakesOne (block.Then (block.Straight instruction.Pop) y) (1 + 32 * n)
     drop_takes y n t = record {
       flows = ((refl, omega arith, omega arith), t.flows);
       even = t.even;
@@ -91,9 +124,17 @@ module _ (context : Context) where
       short = omega (arith, t.short);
     }
 
-    match_takes : (label : _) (x z : Block) (m n : ℕ) → is_label label ≡ true → IsSound x m → TakesOne z n → TakesOne (block.Match label x z) (18 + (32 * m + n))
+    match_takes : (label : _) (x z : Block) (m n : ℕ) → is_label label ≡ true → IsSound x m
+        → TakesOne z n → TakesOne (block.Match label x z) (18 + (32 * m + n))
     match_takes label x z m n fits s t = record {
-      flows = (omega arith, omega arith, s.flows, t.flows, t.even ∙ sym s.even, omega (arith, t.even));
+      flows = (
+        omega arith,
+        omega arith,
+        s.flows,
+        t.flows,
+        t.even ∙ sym s.even,
+        omega (arith, t.even),
+      );
       even = s.even;
       spelled = (label_fits label fits, s.spelled, t.spelled);
       exist = both_true s.exist t.exist;
@@ -103,69 +144,110 @@ module _ (context : Context) where
     -- ---- conditionals, whose values are sound
 
     module _ {V : Type 0} (of : V → Block → Type 0) (p : V → Bool) (h w : V → ℕ)
-        (values : (v : V) (b : Block) → of v b → p v ≡ true → 1 + h v ≤ 100 → IsSound b (1 + w v)) where
-      -- the nodes of the CASEs, and of the first DEFAULT
-      abbrev case_nodes : Arms Target V → ℕ
-      case_nodes NoArms = 0
-      case_nodes (ConsArm (Case label body) rest) = 1 + (conds_nodes w body + case_nodes rest)
-      case_nodes (ConsArm (Default body) rest) = case_nodes rest
+        (values : (v : V) (b : Block) → of v b → p v ≡ true → 1 + h v ≤ 100 → IsSound b (1 + w v))
+      where
+        -- the nodes of the CASEs, and of the first DEFAULT
+        abbrev case_nodes : Arms Target V → ℕ
+        case_nodes NoArms = 0
+        case_nodes (ConsArm (Case label body) rest) = 1 + (conds_nodes w body + case_nodes rest)
+        case_nodes (ConsArm (Default body) rest) = case_nodes rest
 
-      abbrev default_nodes : Arms Target V → ℕ
-      default_nodes NoArms = 0
-      default_nodes (ConsArm (Case label body) rest) = default_nodes rest
-      default_nodes (ConsArm (Default body) rest) = conds_nodes w body
+        abbrev default_nodes : Arms Target V → ℕ
+        default_nodes NoArms = 0
+        default_nodes (ConsArm (Case label body) rest) = default_nodes rest
+        default_nodes (ConsArm (Default body) rest) = conds_nodes w body
 
-      parts_of_nodes : (arms : Arms Target V) → case_nodes arms + default_nodes arms ≤ arms_nodes w arms
-      parts_of_nodes NoArms = omega arith
-      parts_of_nodes (ConsArm (Case label body) rest) = omega (arith, parts_of_nodes rest)
-      parts_of_nodes (ConsArm (Default body) rest) = omega (arith, parts_of_nodes rest)
+        parts_of_nodes : (arms : Arms Target V) → case_nodes arms + default_nodes arms
+            ≤ arms_nodes w arms
+        parts_of_nodes NoArms = omega arith
+        parts_of_nodes (ConsArm (Case label body) rest) = omega (arith, parts_of_nodes rest)
+        parts_of_nodes (ConsArm (Default body) rest) = omega (arith, parts_of_nodes rest)
 
-      mutual
-        pub cond_sound : (c : Cond Target V) (b : Block) → IsCondBlock of c b → is_cond reads reads p c ≡ true → cond_height h c ≤ 100 → IsSound b (cond_nodes w c)
-        cond_sound (Value v) b is t l = values v b is t l
-        cond_sound (If condition first otherwise) b is t l =
-            let tests = both_of _ (are_conds reads reads p otherwise) t in
-            let front = both_of (is_pure_expr reads reads condition) (are_conds reads reads p first) tests.0 in
-            let inner = max (conds_height h first) (conds_height h otherwise) in
-            let x = conds_sound first is.0 is.3 front.1 (omega (arith, l, le-max_right (height condition) inner, le-max_left (conds_height h first) (conds_height h otherwise))) in
-            let y = conds_sound otherwise is.1 is.4 tests.1 (omega (arith, l, le-max_right (height condition) inner, le-max_right (conds_height h first) (conds_height h otherwise))) in
-            subst (λ c. IsSound c (cond_nodes w (If condition first otherwise))) (sym is.2)
-            (on_value condition (block.Either is.0 is.1) _ front.0 (omega (arith, l, le-max_left (height condition) inner)) (either_takes is.0 is.1 (conds_nodes w first) (conds_nodes w otherwise) x y) (omega arith) _ (omega arith))
-        cond_sound (Select on arms) b is t l =
-            let tests = both_of (is_pure_expr reads reads on) (are_arms reads reads p arms) t in
-            let low : arms_height h arms ≤ 100 = omega (arith, l, le-max_right (height on) (arms_height h arms)) in
-            let y = default_sound arms is.1 is.3 tests.1 low in
-            let x = arms_sound arms is.1 (default_nodes arms) y is.0 is.4 tests.1 low in
-            subst (λ c. IsSound c (cond_nodes w (Select on arms))) (sym is.2)
-            (on_value on is.0 _ tests.0 (omega (arith, l, le-max_left (height on) (arms_height h arms))) x (omega arith) _ (omega (arith, parts_of_nodes arms)))
+        mutual
+          pub cond_sound : (c : Cond Target V) (b : Block) → IsCondBlock of c b
+              → is_cond reads reads p c ≡ true → cond_height h c ≤ 100 → IsSound b (cond_nodes w c)
+          cond_sound (Value v) b is t l = values v b is t l
+          cond_sound (If condition first otherwise) b is t l =
+              let tests = both_of _ (are_conds reads reads p otherwise) t in
+              let front = both_of (is_pure_expr reads reads condition)
+              (are_conds reads reads p first)
+              tests.0 in
+              let inner = max (conds_height h first) (conds_height h otherwise) in
+              let x = conds_sound first is.0 is.3 front.1
+              (omega (
+                arith,
+                l,
+                le-max_right (height condition) inner,
+                le-max_left (conds_height h first) (conds_height h otherwise),
+              )) in
+              let y = conds_sound otherwise is.1 is.4 tests.1
+              (omega (
+                arith,
+                l,
+                le-max_right (height condition) inner,
+                le-max_right (conds_height h first) (conds_height h otherwise),
+              )) in
+              subst (λ c. IsSound c (cond_nodes w (If condition first otherwise))) (sym is.2)
+              (on_value condition (block.Either is.0 is.1) _ front.0
+              (omega (arith, l, le-max_left (height condition) inner))
+              (either_takes is.0 is.1 (conds_nodes w first) (conds_nodes w otherwise) x y)
+              (omega arith) _ (omega arith))
+          cond_sound (Select on arms) b is t l =
+              let tests = both_of (is_pure_expr reads reads on) (are_arms reads reads p arms) t in
+              let low : arms_height h arms ≤ 100 =
+              omega (arith, l, le-max_right (height on) (arms_height h arms)) in
+              let y = default_sound arms is.1 is.3 tests.1 low in
+              let x = arms_sound arms is.1 (default_nodes arms) y is.0 is.4 tests.1 low in
+              subst (λ c. IsSound c (cond_nodes w (Select on arms))) (sym is.2)
+              (on_value on is.0 _ tests.0
+              (omega (arith, l, le-max_left (height on) (arms_height h arms))) x (omega arith) _
+              (omega (arith, parts_of_nodes arms)))
 
-        pub conds_sound : (c : Conds Target V) (b : Block) → IsCondsBlock of c b → are_conds reads reads p c ≡ true → conds_height h c ≤ 100 → IsSound b (conds_nodes w c)
-        conds_sound Nil b is t l = subst (λ c. IsSound c 0) (sym is) (nothing_sound 0)
-        conds_sound (Cons first rest) b is t l =
-            let tests = both_of (is_cond reads reads p first) (are_conds reads reads p rest) t in
-            subst (λ c. IsSound c (conds_nodes w (Cons first rest))) (sym is.2)
-            (then_sound is.0 is.1 (cond_nodes w first) (conds_nodes w rest) (cond_sound first is.0 is.3 tests.0 (omega (arith, l, le-max_left (cond_height h first) (conds_height h rest)))) (conds_sound rest is.1 is.4 tests.1 (omega (arith, l, le-max_right (cond_height h first) (conds_height h rest)))))
+          pub conds_sound : (c : Conds Target V) (b : Block) → IsCondsBlock of c b
+              → are_conds reads reads p c ≡ true → conds_height h c ≤ 100
+              → IsSound b (conds_nodes w c)
+          conds_sound Nil b is t l = subst (λ c. IsSound c 0) (sym is) (nothing_sound 0)
+          conds_sound (Cons first rest) b is t l =
+              let tests = both_of (is_cond reads reads p first) (are_conds reads reads p rest) t in
+              subst (λ c. IsSound c (conds_nodes w (Cons first rest))) (sym is.2)
+              (then_sound is.0 is.1 (cond_nodes w first) (conds_nodes w rest)
+              (cond_sound first is.0 is.3 tests.0
+              (omega (arith, l, le-max_left (cond_height h first) (conds_height h rest))))
+              (conds_sound rest is.1 is.4 tests.1
+              (omega (arith, l, le-max_right (cond_height h first) (conds_height h rest)))))
 
-        default_sound : (arms : Arms Target V) (y : Block) → IsDefaultBlock of arms y → are_arms reads reads p arms ≡ true → arms_height h arms ≤ 100 → IsSound y (default_nodes arms)
-        default_sound NoArms y is t l = subst (λ c. IsSound c 0) (sym is) (nothing_sound 0)
-        default_sound (ConsArm (Case label body) rest) y is t l =
-            let tests = both_of _ (are_arms reads reads p rest) t in
-            default_sound rest y is tests.1 (omega (arith, l, le-max_right (conds_height h body) (arms_height h rest)))
-        default_sound (ConsArm (Default body) rest) y is t l =
-            let tests = both_of (are_conds reads reads p body) (are_arms reads reads p rest) t in
-            conds_sound body y is tests.0 (omega (arith, l, le-max_left (conds_height h body) (arms_height h rest)))
+          default_sound : (arms : Arms Target V) (y : Block) → IsDefaultBlock of arms y
+              → are_arms reads reads p arms ≡ true → arms_height h arms ≤ 100
+              → IsSound y (default_nodes arms)
+          default_sound NoArms y is t l = subst (λ c. IsSound c 0) (sym is) (nothing_sound 0)
+          default_sound (ConsArm (Case label body) rest) y is t l =
+              let tests = both_of _ (are_arms reads reads p rest) t in
+              default_sound rest y is tests.1
+              (omega (arith, l, le-max_right (conds_height h body) (arms_height h rest)))
+          default_sound (ConsArm (Default body) rest) y is t l =
+              let tests = both_of (are_conds reads reads p body) (are_arms reads reads p rest) t in
+              conds_sound body y is tests.0
+              (omega (arith, l, le-max_left (conds_height h body) (arms_height h rest)))
 
-        arms_sound : (arms : Arms Target V) (y : Block) (n : ℕ) → IsSound y n → (b : Block) → IsArmsBlock of y arms b → are_arms reads reads p arms ≡ true → arms_height h arms ≤ 100
-            → TakesOne b (32 * case_nodes arms + (1 + 32 * n))
-        arms_sound NoArms y n sound b is t l = subst (λ c. TakesOne c (32 * case_nodes NoArms + (1 + 32 * n))) (sym is) (may_be_longer _ (1 + 32 * n) _ (omega arith) (drop_takes y n sound))
-        arms_sound (ConsArm (Case label body) rest) y n sound b is t l =
-            let tests = both_of _ (are_arms reads reads p rest) t in
-            let front = both_of (is_label label) (are_conds reads reads p body) tests.0 in
-            let x = conds_sound body is.0 is.3 front.1 (omega (arith, l, le-max_left (conds_height h body) (arms_height h rest))) in
-            let z = arms_sound rest y n sound is.1 is.4 tests.1 (omega (arith, l, le-max_right (conds_height h body) (arms_height h rest))) in
-            let whole = match_takes label is.0 is.1 (conds_nodes w body) _ front.0 x z in
-            subst (λ c. TakesOne c (32 * case_nodes (ConsArm (Case label body) rest) + (1 + 32 * n))) (sym is.2)
-            (may_be_longer _ _ _ (omega arith) whole)
-        arms_sound (ConsArm (Default body) rest) y n sound b is t l =
-            let tests = both_of (are_conds reads reads p body) (are_arms reads reads p rest) t in
-            arms_sound rest y n sound b is tests.1 (omega (arith, l, le-max_right (conds_height h body) (arms_height h rest)))
+          arms_sound : (arms : Arms Target V) (y : Block) (n : ℕ) → IsSound y n → (b : Block)
+              → IsArmsBlock of y arms b → are_arms reads reads p arms ≡ true
+              → arms_height h arms ≤ 100
+              → TakesOne b (32 * case_nodes arms + (1 + 32 * n))
+          arms_sound NoArms y n sound b is t l =
+              subst (λ c. TakesOne c (32 * case_nodes NoArms + (1 + 32 * n))) (sym is)
+              (may_be_longer _ (1 + 32 * n) _ (omega arith) (drop_takes y n sound))
+          arms_sound (ConsArm (Case label body) rest) y n sound b is t l =
+              let tests = both_of _ (are_arms reads reads p rest) t in
+              let front = both_of (is_label label) (are_conds reads reads p body) tests.0 in
+              let x = conds_sound body is.0 is.3 front.1
+              (omega (arith, l, le-max_left (conds_height h body) (arms_height h rest))) in
+              let z = arms_sound rest y n sound is.1 is.4 tests.1
+              (omega (arith, l, le-max_right (conds_height h body) (arms_height h rest))) in
+              let whole = match_takes label is.0 is.1 (conds_nodes w body) _ front.0 x z in
+              subst (λ c. TakesOne c (32 * case_nodes (ConsArm (Case label body) rest)
+              + (1 + 32 * n))) (sym is.2)
+              (may_be_longer _ _ _ (omega arith) whole)
+          arms_sound (ConsArm (Default body) rest) y n sound b is t l =
+              let tests = both_of (are_conds reads reads p body) (are_arms reads reads p rest) t in
+              arms_sound rest y n sound b is tests.1
+              (omega (arith, l, le-max_right (conds_height h body) (arms_height h rest)))

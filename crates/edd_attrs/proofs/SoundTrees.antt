@@ -1,4 +1,5 @@
--- The block of a tree of a checked description: it is sound, means the tree, and its strings are the tree's.
+-- The block of a tree of a checked description: it is sound, means the tree, and its strings are
+-- the tree's.
 use Rattle.std.proofs.Common.{◌≡◌, refl, sym, ap, subst, ℕ, ◌+◌, ◌*◌, ◌≤◌, Bool, true, false, pos, List, [], ◌∷◌, length, Option, Some, None, arith}
 use Rattle.std.specs.Prelude.{◌&&◌}
 use Rattle.std.specs.List.{list_all}
@@ -72,10 +73,12 @@ module _ (unit : Description Target) (few : (k : Kind) → count_of k unit.items
   abbrev reads : Target → Bool
   reads t = reads_of count t
 
-  same_reads : (strings : List Words) → reads ≡ reads_existing (attribute_context unit strings).counts
+  same_reads : (strings : List Words)
+      → reads ≡ reads_existing (attribute_context unit strings).counts
   same_reads strings = fun_ext here
     where
-      of_item : (i : ItemNo) → reads (target.Item i) ≡ reads_existing (attribute_context unit strings).counts (target.Item i)
+      of_item : (i : ItemNo) → reads (target.Item i)
+          ≡ reads_existing (attribute_context unit strings).counts (target.Item i)
       of_item (item_no.Variable v) = refl
       of_item (item_no.Command n) = refl
       of_item (item_no.Menu n) = refl
@@ -87,14 +90,16 @@ module _ (unit : Description Target) (few : (k : Kind) → count_of k unit.items
       here (target.Local slot) = refl
       here (target.Function f) = refl
 
-  pure_there : (strings : List Words) (e : Expr Target) → is_pure_expr reads reads e ≡ true → is_pure_expr (reads_existing (attribute_context unit strings).counts) reads e ≡ true
+  pure_there : (strings : List Words) (e : Expr Target) → is_pure_expr reads reads e ≡ true
+      → is_pure_expr (reads_existing (attribute_context unit strings).counts) reads e ≡ true
   pure_there strings e h = subst (λ r. is_pure_expr r reads e ≡ true) (same_reads strings) h
 
   facts : (strings : List Words) → ExpressionFacts (attribute_context unit strings) reads
   facts strings = record {
     flows = λ e d h. let runs = expression_runs e d h in (runs.flows, runs.after);
     short = is_short;
-    spelled = λ e h. is_spelled (attribute_context unit strings).counts reads (omega (arith, few kind.Variable)) e (pure_there strings e h);
+    spelled = λ e h. is_spelled (attribute_context unit strings).counts reads
+        (omega (arith, few kind.Variable)) e (pure_there strings e h);
     exist = λ e h. is_named (attribute_context unit strings) reads e (pure_there strings e h);
   }
 
@@ -115,58 +120,106 @@ module _ (unit : Description Target) (few : (k : Kind) → count_of k unit.items
       pub exist : all_straight (names_exist context) b ≡ true
       pub short : size b + 1 ≤ length_limit t
 
-    sound_unit : (b : Block) (t : Tree) (n : ℕ) → 32 * n + 1 ≤ length_limit (Some t) → IsSound context b n → IsSoundUnit b (Some t)
-    sound_unit b t n le s = record { flows = s.flows; even = s.even; spelled = s.spelled; exist = s.exist; short = omega (arith, s.short, le) }
+    sound_unit : (b : Block) (t : Tree) (n : ℕ) → 32 * n + 1 ≤ length_limit (Some t)
+        → IsSound context b n → IsSoundUnit b (Some t)
+    sound_unit b t n le s = record {
+      flows = s.flows;
+      even = s.even;
+      spelled = s.spelled;
+      exist = s.exist;
+      short = omega (arith, s.short, le);
+    }
 
-    module _ {V : Type 0} (f : V → source.Record) (p : V → Bool) (fine : (v : V) → p v ≡ true → is_fine unit (f v) ≡ true) where
+    module _ {V : Type 0} (f : V → source.Record) (p : V → Bool) (fine : (v : V) → p v ≡ true
+        → is_fine unit (f v) ≡ true) where
       abbrev Gives : V → Block → Type 0
       Gives v b = Giving (string_of_table strings) f v b
 
-      value_sound : (v : V) (b : Block) → Gives v b → p v ≡ true → 1 + leaf v ≤ 100 → IsSound context b (1 + leaf v)
+      value_sound : (v : V) (b : Block) → Gives v b → p v ≡ true → 1 + leaf v ≤ 100
+          → IsSound context b (1 + leaf v)
       value_sound v b is h low = record_is_sound unit few strings few_strings (f v) b (fine v h) is
 
-      one_sound : (c : Cond Target V) (b : Block) → IsCondBlock Gives c b → good_cond reads p leaf c ≡ true → IsSound context b (cond_nodes leaf c)
+      one_sound : (c : Cond Target V) (b : Block) → IsCondBlock Gives c b → good_cond reads p leaf c
+          ≡ true → IsSound context b (cond_nodes leaf c)
       one_sound c b is h =
           let parts = both_of (is_cond reads reads p c) (is_low (cond_height leaf c)) h in
-          cond_sound context reads (facts strings) Gives p leaf leaf value_sound c b is parts.0 (leb-true (cond_height leaf c) 100 parts.1)
+          cond_sound context reads (facts strings) Gives p leaf leaf value_sound c b is parts.0
+          (leb-true (cond_height leaf c) 100 parts.1)
 
-      list_sound : (c : Conds Target V) (b : Block) → IsCondsBlock Gives c b → are_conds reads reads p c ≡ true → conds_height leaf c ≤ 100 → IsSound context b (conds_nodes leaf c)
-      list_sound c b is h low = conds_sound context reads (facts strings) Gives p leaf leaf value_sound c b is h low
+      list_sound : (c : Conds Target V) (b : Block) → IsCondsBlock Gives c b
+          → are_conds reads reads p c ≡ true → conds_height leaf c ≤ 100
+          → IsSound context b (conds_nodes leaf c)
+      list_sound c b is h low = conds_sound context reads (facts strings) Gives p leaf leaf
+          value_sound c b is h low
 
-      line_sound : (vs : List V) (b : Block) → IsLineBlock Gives vs b → list_all p vs ≡ true → IsSound context b (length vs)
+      line_sound : (vs : List V) (b : Block) → IsLineBlock Gives vs b → list_all p vs ≡ true
+          → IsSound context b (length vs)
       line_sound [] b is h = subst (λ c. IsSound context c 0) (sym is) (nothing_sound context 0)
       line_sound (v ∷ vs) b is h =
           let parts = both_of (p v) (list_all p vs) h in
           subst (λ c. IsSound context c (length (v ∷ vs))) (sym is.2)
-          (again (then_sound context is.0 is.1 1 (length vs) (value_sound v is.0 is.3 parts.0 (omega arith)) (line_sound vs is.1 is.4 parts.1)))
+          (again (then_sound context is.0 is.1 1 (length vs)
+          (value_sound v is.0 is.3 parts.0 (omega arith)) (line_sound vs is.1 is.4 parts.1)))
         where
-          again : {x : Block} → IsSound context x (1 + length vs) → IsSound context x (length (v ∷ vs))
-          again s = record { flows = s.flows; even = s.even; spelled = s.spelled; exist = s.exist; short = omega (arith, s.short) }
+          again : {x : Block} → IsSound context x (1 + length vs)
+              → IsSound context x (length (v ∷ vs))
+          again s = record {
+            flows = s.flows;
+            even = s.even;
+            spelled = s.spelled;
+            exist = s.exist;
+            short = omega (arith, s.short);
+          }
 
-    expression_sound : (e : Expr Target) (b : Block) → IsValueBlock e b → good_expression count reads e ≡ true → 1 + height e ≤ 100 → IsSound context b (1 + nodes e)
+    expression_sound : (e : Expr Target) (b : Block) → IsValueBlock e b
+        → good_expression count reads e ≡ true → 1 + height e ≤ 100
+        → IsSound context b (1 + nodes e)
     expression_sound e b is h low =
         let all = facts strings in
         let flows = all.flows e 0 (omega (arith, low)) in
         subst (λ c. IsSound context c (1 + nodes e)) (sym is) (record {
-          flows = (flows.0, subst (Flows (block.Straight instruction.Number)) (sym flows.1) (refl, omega arith, omega arith));
+          flows = (
+            flows.0,
+            subst (Flows (block.Straight instruction.Number)) (sym flows.1)
+                (refl, omega arith, omega arith),
+          );
           even = ap (depth_after (block.Straight instruction.Number)) flows.1;
           spelled = (all.spelled e h, tt);
           exist = rw (all.exist e h) refl;
           short = omega (arith, all.short e);
         })
 
-    one_number : (b : Block) (n : ℕ) → is_small n ≡ true → IsRecordBlock (string_of_table strings) (source.Number (pos n)) b → IsSound context b 1
-    one_number b n h is = record_is_sound unit few strings few_strings (source.Number (pos n)) b h is
+    one_number : (b : Block) (n : ℕ) → is_small n ≡ true
+        → IsRecordBlock (string_of_table strings) (source.Number (pos n)) b → IsSound context b 1
+    one_number b n h is = record_is_sound unit few strings few_strings (source.Number (pos n)) b h
+        is
 
-    number_sound : (t : Tree) (b : Block) (n : ℕ) → 30 ≤ length_limit (Some t) → is_small n ≡ true → IsRecordBlock (string_of_table strings) (source.Number (pos n)) b → IsSoundUnit b (Some t)
+    number_sound : (t : Tree) (b : Block) (n : ℕ) → 30 ≤ length_limit (Some t) → is_small n ≡ true
+        → IsRecordBlock (string_of_table strings) (source.Number (pos n)) b → IsSoundUnit b (Some t)
     number_sound t b n le h is =
         let s = one_number b n h is in
-        record { flows = s.flows; even = s.even; spelled = s.spelled; exist = s.exist; short = omega (arith, le, line_short is.0, ap size is.2) }
+        record {
+          flows = s.flows;
+          even = s.even;
+          spelled = s.spelled;
+          exist = s.exist;
+          short = omega (arith, le, line_short is.0, ap size is.2);
+        }
 
-    transaction_sound : (number : Option ℕ) (b : Block) → if_some is_small number ≡ true → IsTreeBlock (string_of_table strings) (trees.Transaction number) b → IsSoundUnit b (Some (trees.Transaction number))
+    transaction_sound : (number : Option ℕ) (b : Block) → if_some is_small number ≡ true
+        → IsTreeBlock (string_of_table strings) (trees.Transaction number) b
+        → IsSoundUnit b (Some (trees.Transaction number))
     unfolding IsTreeBlock length_limit
-    transaction_sound None b h is = subst (λ c. IsSoundUnit c (Some (trees.Transaction None))) (sym is) (record { flows = tt; even = refl; spelled = tt; exist = refl; short = omega arith })
-    transaction_sound (Some n) b h is = number_sound (trees.Transaction (Some n)) b n (omega arith) h is
+    transaction_sound None b h is = subst (λ c. IsSoundUnit c (Some (trees.Transaction None)))
+        (sym is) (record {
+          flows = tt;
+          even = refl;
+          spelled = tt;
+          exist = refl;
+          short = omega arith;
+        })
+    transaction_sound (Some n) b h is = number_sound (trees.Transaction (Some n)) b n (omega arith)
+        h is
 
     abbrev Whole : Tree → Type 0
     Whole t = is_whole unit t ≡ true
@@ -177,33 +230,61 @@ module _ (unit : Description Target) (few : (k : Kind) → count_of k unit.items
     ruled : (t : Tree) → Whole t → is_ruled t ≡ true
     ruled t h = (both_of (is_good count reads t) (is_ruled t) h).1
 
-    pub tree_sound : (t : Tree) (b : Block) → Whole t → IsTreeBlock (string_of_table strings) t b → IsSoundUnit b (Some t)
+    pub tree_sound : (t : Tree) (b : Block) → Whole t → IsTreeBlock (string_of_table strings) t b
+        → IsSoundUnit b (Some t)
     unfolding IsTreeBlock length_limit tree_nodes
-    tree_sound (trees.Texts c) b h is = sound_unit b _ _ (omega arith) (one_sound text_record is_text (λ t k. refl) c b is (good (trees.Texts c) h))
-    tree_sound (trees.Class names) b h is = sound_unit b _ _ (omega arith) (line_sound class_record any_value (λ n k. refl) names b is (always names))
-    tree_sound (trees.Handling c) b h is = sound_unit b _ _ (omega arith) (one_sound handling_record any_value (λ v k. handling_small v) c b is (good (trees.Handling c) h))
-    tree_sound (trees.Validity c) b h is = sound_unit b _ _ (omega arith) (one_sound validity_record any_value (λ v k. bit_small v) c b is (good (trees.Validity c) h))
-    tree_sound (trees.Expressions c) b h is =
-        let tests = both_of (good_cond reads (good_expression count reads) height c) (is_single reads reads c) (good (trees.Expressions c) h) in
-        let parts = both_of (is_cond reads reads (good_expression count reads) c) (is_low (cond_height height c)) tests.0 in
+    tree_sound (trees.Texts c) b h is =
+        sound_unit b _ _ (omega arith) (one_sound text_record is_text (λ t k. refl) c b is
+        (good (trees.Texts c) h))
+    tree_sound (trees.Class names) b h is =
+        sound_unit b _ _ (omega arith) (line_sound class_record any_value (λ n k. refl) names b is
+        (always names))
+    tree_sound (trees.Handling c) b h is =
         sound_unit b _ _ (omega arith)
-        (cond_sound context reads (facts strings) IsValueBlock (good_expression count reads) height nodes expression_sound c b is parts.0 (leb-true (cond_height height c) 100 parts.1))
+        (one_sound handling_record any_value (λ v k. handling_small v) c b is
+        (good (trees.Handling c) h))
+    tree_sound (trees.Validity c) b h is =
+        sound_unit b _ _ (omega arith) (one_sound validity_record any_value (λ v k. bit_small v) c b
+        is (good (trees.Validity c) h))
+    tree_sound (trees.Expressions c) b h is =
+        let tests = both_of (good_cond reads (good_expression count reads) height c)
+        (is_single reads reads c) (good (trees.Expressions c) h) in
+        let parts = both_of (is_cond reads reads (good_expression count reads) c)
+        (is_low (cond_height height c)) tests.0 in
+        sound_unit b _ _ (omega arith)
+        (cond_sound context reads (facts strings) IsValueBlock (good_expression count reads) height
+        nodes expression_sound c b is parts.0 (leb-true (cond_height height c) 100 parts.1))
     tree_sound (trees.Enumerators parts) b h is =
         let tests = good (trees.Enumerators parts) h in
         sound_unit b _ _ (omega (arith, elements_nodes parts))
-        (list_sound enumerator good_enumerator (enumerator_fine unit reads) (elements parts) b is (elements_tested count reads parts tests) (elements_low count reads parts tests))
-    tree_sound (trees.Number n) b h is = number_sound (trees.Number n) b n (omega arith) (good (trees.Number n) h) is
-    tree_sound (trees.Operation o) b h is = number_sound (trees.Operation o) b (operation_number o) (omega arith) (operation_small o) is
-    tree_sound (trees.Transaction number) b h is = transaction_sound number b (good (trees.Transaction number) h) is
+        (list_sound enumerator good_enumerator (enumerator_fine unit reads) (elements parts) b is
+        (elements_tested count reads parts tests) (elements_low count reads parts tests))
+    tree_sound (trees.Number n) b h is = number_sound (trees.Number n) b n (omega arith)
+        (good (trees.Number n) h) is
+    tree_sound (trees.Operation o) b h is = number_sound (trees.Operation o) b (operation_number o)
+        (omega arith) (operation_small o) is
+    tree_sound (trees.Transaction number) b h is =
+        transaction_sound number b (good (trees.Transaction number) h) is
     tree_sound (trees.Data all) b h is =
-        let tests = both_of (are_conds reads reads (good_data count reads) all) (is_low (conds_height leaf all)) (good (trees.Data all) h) in
-        let rules = both_of (list_all kept_data (values_of all)) (no_breach (conds_defaults all)) (ruled (trees.Data all) h) in
+        let tests = both_of (are_conds reads reads (good_data count reads) all)
+        (is_low (conds_height leaf all)) (good (trees.Data all) h) in
+        let rules = both_of (list_all kept_data (values_of all)) (no_breach (conds_defaults all))
+        (ruled (trees.Data all) h) in
         sound_unit b _ _ (omega arith)
-        (list_sound data_item (λ d. good_data count reads d && kept_data d) (data_fine unit reads) all b is
-        (conds_both reads (good_data count reads) kept_data all tests.0 rules.0) (leb-true (conds_height leaf all) 100 tests.1))
-    tree_sound (trees.ResponseCodes responses) b h is = sound_unit b _ _ (omega arith) (line_sound response good_response (response_fine unit reads) responses b is (good (trees.ResponseCodes responses) h))
+        (list_sound data_item (λ d. good_data count reads d && kept_data d) (data_fine unit reads)
+        all b is
+        (conds_both reads (good_data count reads) kept_data all tests.0 rules.0)
+        (leb-true (conds_height leaf all) 100 tests.1))
+    tree_sound (trees.ResponseCodes responses) b h is =
+        sound_unit b _ _ (omega arith) (line_sound response good_response (response_fine unit reads)
+        responses b is (good (trees.ResponseCodes responses) h))
     tree_sound (trees.Items entries) b h is =
-        let tests = both_of (are_conds reads reads (good_entry count reads) entries) (is_low (conds_height leaf entries)) (good (trees.Items entries) h) in
+        let tests = both_of (are_conds reads reads (good_entry count reads) entries)
+        (is_low (conds_height leaf entries)) (good (trees.Items entries) h) in
         sound_unit b _ _ (omega arith)
-        (list_sound entry (good_entry count reads) (entry_fine unit reads) entries b is tests.0 (leb-true (conds_height leaf entries) 100 tests.1))
-    tree_sound (trees.Members members) b h is = sound_unit b _ _ (omega arith) (line_sound member (good_member count reads) (member_fine unit reads) members b is (good (trees.Members members) h))
+        (list_sound entry (good_entry count reads) (entry_fine unit reads) entries b is tests.0
+        (leb-true (conds_height leaf entries) 100 tests.1))
+    tree_sound (trees.Members members) b h is =
+        sound_unit b _ _ (omega arith)
+        (line_sound member (good_member count reads) (member_fine unit reads) members b is
+        (good (trees.Members members) h))

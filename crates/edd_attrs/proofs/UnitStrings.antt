@@ -18,21 +18,26 @@ use Rattle.edd_code.proofs.BothTests.{both_of, both_true}
 
 -- ---- tests on all elements
 
-all_parts : {A : Type 0} (p : A → Bool) (xs ys : List A) → list_all p (xs ++ ys) ≡ true → (list_all p xs ≡ true) × (list_all p ys ≡ true)
+all_parts : {A : Type 0} (p : A → Bool) (xs ys : List A) → list_all p (xs ++ ys) ≡ true
+    → (list_all p xs ≡ true) × (list_all p ys ≡ true)
 all_parts p [] ys h = (refl, h)
 all_parts p (x ∷ xs) ys h =
     let first = both_of (p x) (list_all p (xs ++ ys)) h in
     let rest = all_parts p xs ys first.1 in
     (both_true first.0 rest.0, rest.1)
 
-all_flat : {A B : Type 0} (p : B → Bool) (f : A → List B) (xs : List A) → list_all p (flat_map f xs) ≡ true → list_all (λ x. list_all p (f x)) xs ≡ true
+all_flat : {A B : Type 0} (p : B → Bool) (f : A → List B) (xs : List A) → list_all p (flat_map f xs)
+    ≡ true → list_all (λ x. list_all p (f x)) xs ≡ true
 all_flat p f [] h = refl
-all_flat p f (x ∷ xs) h = let parts = all_parts p (f x) (flat_map f xs) h in both_true parts.0 (all_flat p f xs parts.1)
+all_flat p f (x ∷ xs) h = let parts = all_parts p (f x) (flat_map f xs) h in both_true parts.0
+    (all_flat p f xs parts.1)
 
-all_has : (ws strings : List Words) → ((w : Words) → has w ws ≡ true → has w strings ≡ true) → list_all (λ w. has w strings) ws ≡ true
+all_has : (ws strings : List Words) → ((w : Words) → has w ws ≡ true → has w strings ≡ true)
+    → list_all (λ w. has w strings) ws ≡ true
 all_has [] strings within = refl
 all_has (w ∷ ws) strings within =
-    both_true (within w (first (has w ws) (words_refl w))) (all_has ws strings (λ v h. within v (later (same_words v w) (has v ws) h)))
+    both_true (within w (first (has w ws) (words_refl w)))
+    (all_has ws strings (λ v h. within v (later (same_words v w) (has v ws) h)))
   where
     first : {a : Bool} (b : Bool) → a ≡ true → (a || b) ≡ true
     first b h = rw h refl
@@ -41,13 +46,15 @@ all_has (w ∷ ws) strings within =
     later true b h = refl
     later false b h = h
 
-one_has : (strings ws : List Words) (w : Words) → list_all (λ v. has v strings) ws ≡ true → has w ws ≡ true → has w strings ≡ true
+one_has : (strings ws : List Words) (w : Words) → list_all (λ v. has v strings) ws ≡ true
+    → has w ws ≡ true → has w strings ≡ true
 one_has strings [] w all h = absurd cc
 one_has strings (x ∷ ws) w all h =
     let parts = both_of (has x strings) (list_all (λ v. has v strings) ws) all in
     here (same_words w x) refl parts.0 (one_has strings ws w parts.1) h
   where
-    here : (b : Bool) → same_words w x ≡ b → has x strings ≡ true → (has w ws ≡ true → has w strings ≡ true) → (b || has w ws) ≡ true → has w strings ≡ true
+    here : (b : Bool) → same_words w x ≡ b → has x strings ≡ true
+        → (has w ws ≡ true → has w strings ≡ true) → (b || has w ws) ≡ true → has w strings ≡ true
     here true is k rest h = subst (λ v. has v strings ≡ true) (sym (words_same w x is)) k
     here false is k rest h = rest h
 
@@ -64,7 +71,8 @@ module _ (test : Words → Bool) where
   abbrev part_passes : TypePart Target → Bool
   part_passes p = list_all test (strings_of_texts (type_part_texts p))
 
-  element_passes : (p : TypePart Target) → part_passes p ≡ true → list_all test (strings_of_texts (element_texts p)) ≡ true
+  element_passes : (p : TypePart Target) → part_passes p ≡ true
+      → list_all test (strings_of_texts (element_texts p)) ≡ true
   element_passes (item.DefaultValue c) h = refl
   element_passes (item.MinValue c) h = refl
   element_passes (item.MaxValue c) h = refl
@@ -72,7 +80,8 @@ module _ (test : Words → Bool) where
   element_passes (item.EditFormat c) h = refl
   element_passes (item.Element c) h = h
 
-  option_passes : (p : TypePart Target) → part_passes p ≡ true → list_all (named passes) (trees_of_part p) ≡ true
+  option_passes : (p : TypePart Target) → part_passes p ≡ true
+      → list_all (named passes) (trees_of_part p) ≡ true
   unfolding tree_strings
   option_passes (item.DefaultValue c) h = refl
   option_passes (item.MinValue c) h = refl
@@ -81,38 +90,52 @@ module _ (test : Words → Bool) where
   option_passes (item.EditFormat c) h = both_true h refl
   option_passes (item.Element c) h = refl
 
-  split : (p : TypePart Target) (rest : List (TypePart Target)) → list_all test (strings_of_texts (flat_map type_part_texts (p ∷ rest))) ≡ true
-      → (part_passes p ≡ true) × (list_all test (strings_of_texts (flat_map type_part_texts rest)) ≡ true)
+  split : (p : TypePart Target) (rest : List (TypePart Target))
+      → list_all test (strings_of_texts (flat_map type_part_texts (p ∷ rest))) ≡ true
+      → (part_passes p ≡ true) × (list_all test (strings_of_texts (flat_map type_part_texts rest))
+      ≡ true)
   split p rest h =
-      all_parts test (strings_of_texts (type_part_texts p)) (strings_of_texts (flat_map type_part_texts rest))
-      (ap (list_all test) (sym (map-append words_of (type_part_texts p) (flat_map type_part_texts rest))) ∙ h)
+      all_parts test (strings_of_texts (type_part_texts p))
+      (strings_of_texts (flat_map type_part_texts rest))
+      (ap (list_all test) (sym
+      (map-append words_of (type_part_texts p) (flat_map type_part_texts rest))) ∙ h)
 
-  elements_pass : (parts : List (TypePart Target)) → list_all test (strings_of_texts (flat_map type_part_texts parts)) ≡ true → list_all test (strings_of_texts (flat_map element_texts parts)) ≡ true
+  elements_pass : (parts : List (TypePart Target))
+      → list_all test (strings_of_texts (flat_map type_part_texts parts)) ≡ true
+      → list_all test (strings_of_texts (flat_map element_texts parts)) ≡ true
   elements_pass [] h = refl
   elements_pass (p ∷ rest) h =
       let both = split p rest h in
       ap (list_all test) (map-append words_of (element_texts p) (flat_map element_texts rest))
-      ∙ all_append test (strings_of_texts (element_texts p)) (strings_of_texts (flat_map element_texts rest)) (element_passes p both.0) (elements_pass rest both.1)
+      ∙ all_append test (strings_of_texts (element_texts p))
+      (strings_of_texts (flat_map element_texts rest)) (element_passes p both.0)
+      (elements_pass rest both.1)
 
-  options_pass : (parts : List (TypePart Target)) → list_all test (strings_of_texts (flat_map type_part_texts parts)) ≡ true → list_all (named passes) (trees_of_parts parts) ≡ true
+  options_pass : (parts : List (TypePart Target))
+      → list_all test (strings_of_texts (flat_map type_part_texts parts)) ≡ true
+      → list_all (named passes) (trees_of_parts parts) ≡ true
   options_pass [] h = refl
   options_pass (p ∷ rest) h =
       let both = split p rest h in
-      all_append (named passes) (trees_of_part p) (trees_of_parts rest) (option_passes p both.0) (options_pass rest both.1)
+      all_append (named passes) (trees_of_part p) (trees_of_parts rest) (option_passes p both.0)
+      (options_pass rest both.1)
 
-  transaction_passes : (parts : List (TransactionPart Target)) → list_all (named passes) (map tree_of_transaction_part parts) ≡ true
+  transaction_passes : (parts : List (TransactionPart Target))
+      → list_all (named passes) (map tree_of_transaction_part parts) ≡ true
   unfolding tree_strings
   transaction_passes [] = refl
   transaction_passes (item.Request all ∷ rest) = transaction_passes rest
   transaction_passes (item.Reply all ∷ rest) = transaction_passes rest
 
-  attribute_passes : (a : Attribute Target) → list_all test (attribute_strings a) ≡ true → throughout passes a ≡ true
+  attribute_passes : (a : Attribute Target) → list_all test (attribute_strings a) ≡ true
+      → throughout passes a ≡ true
   unfolding tree_strings
   attribute_passes (item.OneText which c) h = alone h
   attribute_passes (item.Class words) h = alone h
   attribute_passes (item.Handling c) h = refl
   attribute_passes (item.Validity c) h = refl
-  attribute_passes (item.TypeOf word parts) h = both_true (both_true (elements_pass parts h) (options_pass parts h)) refl
+  attribute_passes (item.TypeOf word parts) h =
+      both_true (both_true (elements_pass parts h) (options_pass parts h)) refl
   attribute_passes (item.Number n) h = refl
   attribute_passes (item.Operation o) h = refl
   attribute_passes (item.Transaction number parts) h = transaction_passes parts
@@ -121,23 +144,33 @@ module _ (test : Words → Bool) where
   attribute_passes (item.Members members) h = alone h
   attribute_passes (item.Definition body) h = refl
 
-  attributes_pass : (attributes : List (Attribute Target)) → list_all (λ a. list_all test (attribute_strings a)) attributes ≡ true → list_all (throughout passes) attributes ≡ true
+  attributes_pass : (attributes : List (Attribute Target))
+      → list_all (λ a. list_all test (attribute_strings a)) attributes ≡ true
+      → list_all (throughout passes) attributes ≡ true
   attributes_pass [] h = refl
-  attributes_pass (a ∷ rest) h = let parts = both_of (list_all test (attribute_strings a)) _ h in both_true (attribute_passes a parts.0) (attributes_pass rest parts.1)
+  attributes_pass (a ∷ rest) h = let parts = both_of (list_all test (attribute_strings a)) _
+      h in both_true (attribute_passes a parts.0) (attributes_pass rest parts.1)
 
-  items_pass : (items : List (Item Target)) → list_all (λ a. list_all test (attribute_strings a)) (flat_map (λ i. i.attributes) items) ≡ true → list_all (throughout_item passes) items ≡ true
+  items_pass : (items : List (Item Target)) → list_all (λ a. list_all test (attribute_strings a))
+      (flat_map (λ i. i.attributes) items) ≡ true → list_all (throughout_item passes) items ≡ true
   items_pass [] h = refl
   items_pass (i ∷ rest) h =
-      let parts = all_parts (λ a. list_all test (attribute_strings a)) i.attributes (flat_map (λ j. j.attributes) rest) h in
+      let parts = all_parts (λ a. list_all test (attribute_strings a)) i.attributes
+      (flat_map (λ j. j.attributes) rest) h in
       both_true (attributes_pass i.attributes parts.0) (items_pass rest parts.1)
 
-pub strings_in_unit : (unit : Description Target) (row : AttrRef) (w : Words) → Contains (strings_at unit row) w → Contains (unit_strings unit) w
+pub strings_in_unit : (unit : Description Target) (row : AttrRef) (w : Words)
+    → Contains (strings_at unit row) w → Contains (unit_strings unit) w
 strings_in_unit unit row w held =
     let strings = unit_strings unit in
     let all : list_all (λ v. has v strings) strings ≡ true = all_has strings strings (λ v h. h) in
-    let each = items_pass (λ v. has v strings) unit.items (all_flat (λ v. has v strings) attribute_strings (attributes_of unit) all) in
-    has-Contains strings w (of_tree (tree_at unit row) (tree_has (passes (λ v. has v strings)) unit row each) (Contains-has (strings_at unit row) w held))
+    let each = items_pass (λ v. has v strings) unit.items
+    (all_flat (λ v. has v strings) attribute_strings (attributes_of unit) all) in
+    has-Contains strings w (of_tree (tree_at unit row)
+    (tree_has (passes (λ v. has v strings)) unit row each)
+    (Contains-has (strings_at unit row) w held))
   where
-    of_tree : (o : Option Tree) → if_there (passes (λ v. has v (unit_strings unit))) o ≡ true → has w (strings_of_tree o) ≡ true → has w (unit_strings unit) ≡ true
+    of_tree : (o : Option Tree) → if_there (passes (λ v. has v (unit_strings unit))) o ≡ true
+        → has w (strings_of_tree o) ≡ true → has w (unit_strings unit) ≡ true
     of_tree None h k = absurd cc
     of_tree (Some t) h k = one_has (unit_strings unit) (tree_strings t) w h k

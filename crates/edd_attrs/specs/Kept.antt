@@ -1,4 +1,5 @@
--- What lowering needs of a tree: in texts each backslash begins an escape, keys are names, and constants are octets.
+-- What lowering needs of a tree: in texts each backslash begins an escape, keys are names, and
+-- constants are octets.
 use Rattle.std.specs.Prelude.{Bool, true, Option, Some, None}
 use Rattle.std.specs.List.{list_all}
 use Rattle.edd_syntax.specs.WellFormed.{is_text}

@@ -10,7 +10,8 @@ use Rattle.edd_attrs.specs.Trees.{Tree}
 use Rattle.edd_attrs.specs.TreeBlocks.{IsBlockOf}
 
 -- the code is the unit of the tree's block, and the table grew by the tree's strings
-pub record LowersTree (old : List Words) (tree : Option Tree) (new : List Words) (code : List ℕ) : Type 0 where
+pub record LowersTree (old : List Words) (tree : Option Tree) (new : List Words)
+    (code : List ℕ) : Type 0 where
   pub table : GrowsBy old (strings_of_tree tree) new
   pub block : Block
   pub is_unit : code ≡ unit_code block

@@ -39,7 +39,8 @@ strings_of_record (DataConst n) = []
 strings_of_record (DataVar v mask quals) = []
 strings_of_record (Enumerator value text help) = text ∷ option_to_list help
 strings_of_record (Response number class text) = text ∷ []
-strings_of_record (Member name item label help) = name ∷ (option_to_list label ++ option_to_list help)
+strings_of_record (Member name item label help) = name
+    ∷ (option_to_list label ++ option_to_list help)
 
 abbrev pub strings_of : List Record → List words.Words
 strings_of rs = flat_map strings_of_record rs
@@ -63,7 +64,8 @@ is_fine unit (Words w) = true
 is_fine unit (Number z) = is_number z
 is_fine unit (Entry item quals) = item_exists (counts_in unit) item
 is_fine unit (DataConst n) = nat_lt n 256
-is_fine unit (DataVar v mask quals) = variable_exists (counts_in unit) v && nat_lt (mask_number mask) (2 ^ 32)
+is_fine unit (DataVar v mask quals) = variable_exists (counts_in unit) v
+    && nat_lt (mask_number mask) (2 ^ 32)
 is_fine unit (Enumerator value text help) = is_label value
 is_fine unit (Response number class text) = nat_lt number (2 ^ 32)
 is_fine unit (Member name item label help) = item_exists (counts_in unit) item

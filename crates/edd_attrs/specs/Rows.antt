@@ -7,7 +7,8 @@ use Rattle.edd_syntax.specs.Item.{TransactionPart, Attribute}
 use Rattle.edd_attrs.specs.Trees.{Named, Transaction, tree_of_transaction_part}
 
 abbrev pub trees_of_transaction : Option ℕ → List (TransactionPart Target) → List Named
-trees_of_transaction number parts = (attr.Transaction, Transaction number) ∷ map tree_of_transaction_part parts
+trees_of_transaction number parts = (attr.Transaction, Transaction number)
+    ∷ map tree_of_transaction_part parts
 
 abbrev pub transaction_in : Attribute Target → Option (List Named)
 transaction_in (item.Transaction number parts) = Some (trees_of_transaction number parts)

@@ -72,7 +72,8 @@ tree_nodes (ResponseCodes responses) = 1 + length responses
 tree_nodes (Items entries) = 1 + conds_nodes leaf entries
 tree_nodes (Members members) = 1 + length members
 
--- ---- the length of code: 32 bytes a node, a transaction's number 30, and 1 for an attribute that isn't written
+-- ---- the length of code: 32 bytes a node, a transaction's number 30, and 1 for an attribute that
+-- isn't written
 
 unfoldable pub length_limit : Option Tree → ℕ
 length_limit None = 1

@@ -32,20 +32,24 @@ module _ {V : Type 0} (of : V → Block → Type 0) where
     pub IsCondBlock : Cond Target V → Block → Type 0
     IsCondBlock (Value v) b = of v b
     IsCondBlock (If condition first otherwise) b =
-        (x y : Block) × (b ≡ block.Then (expression_block condition) (block.Either x y)) × IsCondsBlock first x × IsCondsBlock otherwise y
+        (x y : Block) × (b ≡ block.Then (expression_block condition) (block.Either x y))
+        × IsCondsBlock first x × IsCondsBlock otherwise y
     IsCondBlock (Select on arms) b =
-        (x y : Block) × (b ≡ block.Then (expression_block on) x) × IsDefaultBlock arms y × IsArmsBlock y arms x
+        (x y : Block) × (b ≡ block.Then (expression_block on) x) × IsDefaultBlock arms y
+        × IsArmsBlock y arms x
 
     -- one behind the other
     pub IsCondsBlock : Conds Target V → Block → Type 0
     IsCondsBlock Nil b = b ≡ block.Nothing
-    IsCondsBlock (Cons first rest) b = (x y : Block) × (b ≡ block.Then x y) × IsCondBlock first x × IsCondsBlock rest y
+    IsCondsBlock (Cons first rest) b = (x y : Block) × (b ≡ block.Then x y) × IsCondBlock first x
+        × IsCondsBlock rest y
 
     -- each CASE in turn, with what comes of DEFAULT at the end, where the operand is dropped
     pub IsArmsBlock : (otherwise : Block) → Arms Target V → Block → Type 0
     IsArmsBlock otherwise NoArms b = b ≡ block.Then (block.Straight instruction.Pop) otherwise
     IsArmsBlock otherwise (ConsArm (Case label body) rest) b =
-        (x y : Block) × (b ≡ block.Match label x y) × IsCondsBlock body x × IsArmsBlock otherwise rest y
+        (x y : Block) × (b ≡ block.Match label x y) × IsCondsBlock body x
+        × IsArmsBlock otherwise rest y
     IsArmsBlock otherwise (ConsArm (Default body) rest) b = IsArmsBlock otherwise rest b
 
     -- the first DEFAULT, wherever it stands

@@ -47,17 +47,20 @@ abbrev pub trees_of_parts : List (TypePart Target) → List Named
 trees_of_parts [] = []
 trees_of_parts (p ∷ rest) = trees_of_part p ++ trees_of_parts rest
 
--- the trees that one written attribute stands for; a TYPE stands for its list of enumerators, which may be empty, and its options
+-- the trees that one written attribute stands for; a TYPE stands for its list of enumerators, which
+-- may be empty, and its options
 abbrev pub trees_of_attribute : Attribute Target → List Named
 trees_of_attribute (item.OneText which c) = (text_attr which, Texts c) ∷ []
 trees_of_attribute (item.Class names) = (attr.Class, Class names) ∷ []
 trees_of_attribute (item.Handling c) = (attr.Handling, Handling c) ∷ []
 trees_of_attribute (item.Validity c) = (attr.Validity, Validity c) ∷ []
-trees_of_attribute (item.TypeOf word parts) = (attr.Enumerators, Enumerators parts) ∷ trees_of_parts parts
+trees_of_attribute (item.TypeOf word parts) = (attr.Enumerators, Enumerators parts)
+    ∷ trees_of_parts parts
 trees_of_attribute (item.Number n) = (attr.Number, Number n) ∷ []
 trees_of_attribute (item.Operation o) = (attr.Operation, Operation o) ∷ []
 trees_of_attribute (item.Transaction number parts) = []
-trees_of_attribute (item.ResponseCodes responses) = (attr.ResponseCodes, ResponseCodes responses) ∷ []
+trees_of_attribute (item.ResponseCodes responses) = (attr.ResponseCodes, ResponseCodes responses)
+    ∷ []
 trees_of_attribute (item.Items entries) = (attr.Items, Items entries) ∷ []
 trees_of_attribute (item.Members members) = (attr.Members, Members members) ∷ []
 trees_of_attribute (item.Definition body) = []
@@ -74,7 +77,8 @@ tree_of_transaction_part (item.Reply all) = (attr.Reply, Data all)
 abbrev pub transaction_trees : List (Attribute Target) → List (List Named)
 transaction_trees [] = []
 transaction_trees (item.Transaction number parts ∷ rest) =
-    ((attr.Transaction, Transaction number) ∷ map tree_of_transaction_part parts) ∷ transaction_trees rest
+    ((attr.Transaction, Transaction number) ∷ map tree_of_transaction_part parts)
+    ∷ transaction_trees rest
 transaction_trees (_ ∷ rest) = transaction_trees rest
 
 -- the first of an attribute
@@ -85,9 +89,15 @@ first_tree a (x ∷ rest) = elim (same_attr x.0 a) [ true ↦ Some x.1 | false �
 abbrev pub tree_in : List (Attribute Target) → Attr → (sub : ℕ) → Option Tree
 tree_in attributes a sub =
     if is_of_transaction a
-    then elim (slice_get (transaction_trees attributes) sub) [ Some trees ↦ first_tree a trees | None ↦ None ]
+    then elim (slice_get (transaction_trees attributes) sub) [
+      | Some trees ↦ first_tree a trees
+      | None ↦ None
+    ]
     else first_tree a (trees_of attributes)
 
 -- the tree of an attribute, if it is written; a DEFINITION has none, since its code is a method's
 unfoldable pub tree_at : Description Target → AttrRef → Option Tree
-tree_at unit ref = elim (item_at unit ref.item) [ Some i ↦ tree_in i.attributes ref.attr ref.sub | None ↦ None ]
+tree_at unit ref = elim (item_at unit ref.item) [
+  | Some i ↦ tree_in i.attributes ref.attr ref.sub
+  | None ↦ None
+]

@@ -21,9 +21,11 @@ use Rattle.edd_attrs.specs.Records.{kept_enumerator, strings_of_record}
 use Rattle.edd_attrs.specs.TreeBlocks.{Giving, IsRecordBlock, IsCondBlock, IsArmsBlock}
 
 -- one record
-abbrev pub WritesRecord : (old : List Words) → (before : List ℕ) → source.Record → (new : List Words) → (after : List ℕ) → Type 0
+abbrev pub WritesRecord : (old : List Words) → (before : List ℕ) → source.Record
+    → (new : List Words) → (after : List ℕ) → Type 0
 WritesRecord old before x new after =
-    WritesBlock old before (strings_of_record x) (λ string_numbered b. IsRecordBlock string_numbered x b) new after
+    WritesBlock old before (strings_of_record x) (λ string_numbered b. IsRecordBlock string_numbered
+    x b) new after
 
 -- ---- the strings of all branches
 
@@ -66,33 +68,47 @@ holes_of place (arm ∷ rest) = hole_of place arm ∷ holes_of (place + length (
 -- behind the code a jump over the body, which is the target of the CASE
 abbrev pub with_body : (code : List ℕ) (hole : ℕ) → Block → List ℕ
 with_body code hole body =
-    let opened = closed (code ++ spelling (instruction.Jump 0)) hole in closed (opened ++ bytes_at (length opened) body) (length code + 1)
+    let opened = closed (code ++ spelling (instruction.Jump 0)) hole in closed
+    (opened ++ bytes_at (length opened) body) (length code + 1)
 
-pub record WritesBody (old : List Words) (before : List ℕ) (hole : ℕ) (strings : List Words) (of : (StrNo → Option Words) → Block → Type 0) (new : List Words) (after : List ℕ) : Type 0 where
-  pub table : GrowsBy old strings new
-  pub block : Block
-  pub written : after ≡ with_body before hole block
-  pub is : (later : List Words) → of (string_of_table (new ++ later)) block
+pub record WritesBody (old : List Words) (before : List ℕ) (hole : ℕ) (strings : List Words)
+    (of : (StrNo → Option Words) → Block → Type 0) (new : List Words) (after : List ℕ) : Type 0
+  where
+    pub table : GrowsBy old strings new
+    pub block : Block
+    pub written : after ≡ with_body before hole block
+    pub is : (later : List Words) → of (string_of_table (new ++ later)) block
 
-module _ {V : Type 0} (strings : V → List Words) (is_block : (StrNo → Option Words) → V → Block → Type 0) where
-  -- The body of an arm is written, whose CASE has the open target: the block of the rest became that of the arm and the rest.
-  pub record WritesArm (old : List Words) (before : List ℕ) (hole : Option ℕ) (arm : Arm Target V) (new : List Words) (after : List ℕ) : Type 0 where
+module _ {V : Type 0} (strings : V → List Words) (is_block : (StrNo → Option Words) → V → Block
+    → Type 0) where
+  -- The body of an arm is written, whose CASE has the open target: the block of the rest became
+  -- that of the arm and the rest.
+  pub record WritesArm (old : List Words) (before : List ℕ) (hole : Option ℕ) (arm : Arm Target V)
+      (new : List Words) (after : List ℕ) : Type 0 where
     pub table : GrowsBy old (arms_strings strings (ConsArm arm NoArms)) new
     pub longer : length before ≤ length after
     pub around : Block → Block
-    pub written : (front : List ℕ) (rest : Block) → before ≡ (front ++ header arm) ++ bytes_at (length (front ++ header arm)) rest
+    pub written : (front : List ℕ) (rest : Block) → before ≡ (front ++ header arm)
+        ++ bytes_at (length (front ++ header arm)) rest
         → hole ≡ hole_of (length front) arm → after ≡ front ++ bytes_at (length front) (around rest)
-    pub is : (later : List Words) (otherwise : Block) (rest : Arms Target V) (b : Block) → IsArmsBlock (is_block (string_of_table (new ++ later))) otherwise rest b
-        → IsArmsBlock (is_block (string_of_table (new ++ later))) otherwise (ConsArm arm rest) (around b)
+    pub is : (later : List Words) (otherwise : Block) (rest : Arms Target V) (b : Block)
+        → IsArmsBlock (is_block (string_of_table (new ++ later))) otherwise rest b
+        → IsArmsBlock (is_block (string_of_table (new ++ later))) otherwise (ConsArm arm rest)
+        (around b)
 
   -- the same of all arms
-  pub record WritesArms (old : List Words) (before : List ℕ) (holes : List (Option ℕ)) (arms : List (Arm Target V)) (new : List Words) (after : List ℕ) : Type 0 where
+  pub record WritesArms (old : List Words) (before : List ℕ) (holes : List (Option ℕ))
+      (arms : List (Arm Target V)) (new : List Words) (after : List ℕ) : Type 0 where
     pub table : GrowsBy old (arms_strings strings (arms_from arms)) new
     pub around : Block → Block
-    pub written : (front : List ℕ) (rest : Block) → before ≡ (front ++ headers arms) ++ bytes_at (length (front ++ headers arms)) rest
-        → holes ≡ holes_of (length front) arms → after ≡ front ++ bytes_at (length front) (around rest)
-    pub is : (later : List Words) (otherwise : Block) (b : Block) → IsArmsBlock (is_block (string_of_table (new ++ later))) otherwise NoArms b
-        → IsArmsBlock (is_block (string_of_table (new ++ later))) otherwise (arms_from arms) (around b)
+    pub written : (front : List ℕ) (rest : Block) → before ≡ (front ++ headers arms)
+        ++ bytes_at (length (front ++ headers arms)) rest
+        → holes ≡ holes_of (length front) arms
+        → after ≡ front ++ bytes_at (length front) (around rest)
+    pub is : (later : List Words) (otherwise : Block) (b : Block)
+        → IsArmsBlock (is_block (string_of_table (new ++ later))) otherwise NoArms b
+        → IsArmsBlock (is_block (string_of_table (new ++ later))) otherwise (arms_from arms)
+        (around b)
 
 -- ---- the elements of a type's list
 
@@ -116,15 +132,18 @@ is_kept_part (item.EditFormat c) = true
 is_kept_part (item.Element c) = list_all kept_enumerator (values_in c)
 
 -- the table and the code stay as they are
-abbrev pub WritesNothing : (old : List Words) (before : List ℕ) (new : List Words) (after : List ℕ) → Type 0
+abbrev pub WritesNothing : (old : List Words) (before : List ℕ) (new : List Words) (after : List ℕ)
+    → Type 0
 WritesNothing old before new after = (new ≡ old) × (after ≡ before)
 
 -- a part that is no element gives nothing
-abbrev pub WritesPart : (old : List Words) (before : List ℕ) → TypePart Target → (new : List Words) (after : List ℕ) → Type 0
+abbrev pub WritesPart : (old : List Words) (before : List ℕ) → TypePart Target
+    → (new : List Words) (after : List ℕ) → Type 0
 WritesPart old before (item.DefaultValue c) new after = WritesNothing old before new after
 WritesPart old before (item.MinValue c) new after = WritesNothing old before new after
 WritesPart old before (item.MaxValue c) new after = WritesNothing old before new after
 WritesPart old before (item.DisplayFormat c) new after = WritesNothing old before new after
 WritesPart old before (item.EditFormat c) new after = WritesNothing old before new after
 WritesPart old before (item.Element c) new after =
-    WritesBlock old before (cond_strings enumerator_strings c) (λ numbered b. IsCondBlock (Giving numbered enumerator) c b) new after
+    WritesBlock old before (cond_strings enumerator_strings c)
+    (λ numbered b. IsCondBlock (Giving numbered enumerator) c b) new after

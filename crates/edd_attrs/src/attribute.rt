@@ -10,7 +10,7 @@ ghost use Rattle.edd_attrs.specs.Sizes.{strings_at, length_limit};
 ghost use Rattle.edd_attrs.specs.Trees as trees;
 ghost use Rattle.edd_code.specs.Places.{IsIndexOf};
 ghost use Rattle.edd_attrs.specs.Views.{tree_of};
-ghost use Rattle.edd_code.specs.Units.{unit_of};
+ghost use Rattle.edd_code.specs.Units.{description_of};
 
 use crate::items::{tree_at, tree_by};
 use crate::lowering::lower_tree;
@@ -29,15 +29,18 @@ fn lower_found(
     tree: Option<Tree>,
     table: &mut Table,
 ) -> Result<Vec<u8>, LowerFault>
-    requires { option_map tree_of tree ≡ trees.tree_at (unit_of checked.now) row }
-    ensures code { IfOk result (λ code. (more : List Words) → IsAttributeCode (unit_of checked.now) (table.new ++ more) row code.items) }
+    requires { option_map tree_of tree ≡ trees.tree_at (description_of checked.now) row }
+    ensures sound { IfOk result (λ code. (more : List Words)
+        → IsAttributeCode (description_of checked.now) (table.new ++ more) row code.items) }
     ensures begins { OnOk result (Grows table.old table.new) }
     ensures strings { OnOk result
-        ((w : Words) → Contains table.new w ↔ (Contains table.old w ⊎ Contains (strings_at (unit_of checked.now) row) w)) }
-    ensures too_many { IsErrOf result LowerFault.TooMany
-        → 65535 < length (different (table.old ++ strings_at (unit_of checked.now) row)) }
-    ensures err { OnErr result (table.new ≡ table.old) }
-    ensures size { IfOk result (λ code. length code.items ≤ length_limit (trees.tree_at (unit_of checked.now) row)) }
+        ((w : Words) → Contains table.new w
+        ↔ (Contains table.old w ⊎ Contains (strings_at (description_of checked.now) row) w)) }
+    ensures refused { IsErrOf result LowerFault.TooMany
+        → 65535 < length (different (table.old ++ strings_at (description_of checked.now) row)) }
+    ensures kept { OnErr result (table.new ≡ table.old) }
+    ensures size { IfOk result (λ code. length code.items
+        ≤ length_limit (trees.tree_at (description_of checked.now) row)) }
 {
     let held = table.words().len() as u16;
     let result = lower_tree(alloc, table, tree);
@@ -47,22 +50,26 @@ fn lower_found(
     result
 }
 
-/// The code of an attribute, with its strings by their numbers in the table, which gets those that it doesn't hold yet. After a
-/// refusal the table is as before. A row that isn't written gives nothing; so does a DEFINITION, whose code is a method's.
+/// The code of an attribute, with its strings by their numbers in the table, which gets those that
+/// it doesn't hold yet. After a refusal the table is as before. A row that isn't written gives
+/// nothing; so does a DEFINITION, whose code is a method's.
 pub fn lower_attribute(
     alloc: Global,
     checked: &Checked,
     row: AttrRef,
     table: &mut Table,
 ) -> Result<Vec<u8>, LowerFault>
-    ensures code { IfOk result (λ code. (more : List Words) → IsAttributeCode (unit_of checked.now) (table.new ++ more) row code.items) }
+    ensures sound { IfOk result (λ code. (more : List Words)
+        → IsAttributeCode (description_of checked.now) (table.new ++ more) row code.items) }
     ensures begins { OnOk result (Grows table.old table.new) }
     ensures strings { OnOk result
-        ((w : Words) → Contains table.new w ↔ (Contains table.old w ⊎ Contains (strings_at (unit_of checked.now) row) w)) }
-    ensures too_many { IsErrOf result LowerFault.TooMany
-        → 65535 < length (different (table.old ++ strings_at (unit_of checked.now) row)) }
-    ensures err { OnErr result (table.new ≡ table.old) }
-    ensures size { IfOk result (λ code. length code.items ≤ length_limit (trees.tree_at (unit_of checked.now) row)) }
+        ((w : Words) → Contains table.new w
+        ↔ (Contains table.old w ⊎ Contains (strings_at (description_of checked.now) row) w)) }
+    ensures refused { IsErrOf result LowerFault.TooMany
+        → 65535 < length (different (table.old ++ strings_at (description_of checked.now) row)) }
+    ensures kept { OnErr result (table.new ≡ table.old) }
+    ensures size { IfOk result (λ code. length code.items
+        ≤ length_limit (trees.tree_at (description_of checked.now) row)) }
 {
     let tree = tree_at(checked.identification, &checked.items, row);
     lower_found(alloc, checked, row, tree, table)
@@ -76,15 +83,18 @@ pub fn lower_indexed(
     row: AttrRef,
     table: &mut Table,
 ) -> Result<Vec<u8>, LowerFault>
-    requires index_of_its_items { IsIndexOf (unit_of checked.now).items index.now }
-    ensures code { IfOk result (λ code. (more : List Words) → IsAttributeCode (unit_of checked.now) (table.new ++ more) row code.items) }
+    requires index_of_its_items { IsIndexOf (description_of checked.now).items index.now }
+    ensures sound { IfOk result (λ code. (more : List Words)
+        → IsAttributeCode (description_of checked.now) (table.new ++ more) row code.items) }
     ensures begins { OnOk result (Grows table.old table.new) }
     ensures strings { OnOk result
-        ((w : Words) → Contains table.new w ↔ (Contains table.old w ⊎ Contains (strings_at (unit_of checked.now) row) w)) }
-    ensures too_many { IsErrOf result LowerFault.TooMany
-        → 65535 < length (different (table.old ++ strings_at (unit_of checked.now) row)) }
-    ensures err { OnErr result (table.new ≡ table.old) }
-    ensures size { IfOk result (λ code. length code.items ≤ length_limit (trees.tree_at (unit_of checked.now) row)) }
+        ((w : Words) → Contains table.new w
+        ↔ (Contains table.old w ⊎ Contains (strings_at (description_of checked.now) row) w)) }
+    ensures refused { IsErrOf result LowerFault.TooMany
+        → 65535 < length (different (table.old ++ strings_at (description_of checked.now) row)) }
+    ensures kept { OnErr result (table.new ≡ table.old) }
+    ensures size { IfOk result (λ code. length code.items
+        ≤ length_limit (trees.tree_at (description_of checked.now) row)) }
 {
     let tree = tree_by(index, checked.identification, &checked.items, row);
     lower_found(alloc, checked, row, tree, table)

@@ -1,11 +1,12 @@
-//! The code of conditionals. A jump is written with an open target, which is closed when the place behind is known.
+//! The code of conditionals. A jump is written with an open target, which is closed when the place
+//! behind is known.
 
 ghost use Rattle.std.specs.Prelude.{◌≡◌, ℕ, ◌+◌, ◌≤◌, ◌++◌, IfOk, IsErrOf, IsTrue, OnOk, length, map, option_map};
 ghost use Rattle.std.specs.List.{list_all};
 ghost use Rattle.edd_syntax.specs.Conditional.{If, Select, NoArms, ConsArm, conds_from, arms_from};
-ghost use Rattle.edd_syntax.specs.ItemView.{cond_of, conds_of, arm_of};
+ghost use Rattle.edd_syntax.specs.ItemView.{numbered_arm, numbered_cond, numbered_conds};
 ghost use Rattle.edd_syntax.specs.SubsetRules.{values_in, values_of, values_under};
-ghost use Rattle.edd_syntax.specs.TreeView.{expr_of};
+ghost use Rattle.edd_syntax.specs.TreeView.{numbered_expr};
 ghost use Rattle.edd_code.specs.Tables.{Grows, Overflows};
 ghost use Rattle.edd_code.specs.Written.{WritesBlock};
 ghost use Rattle.edd_attrs.specs.TreeBlocks.{IsCondBlock, IsCondsBlock, IsDefaultBlock};
@@ -28,11 +29,14 @@ pub fn write_cond<V: Element>(
     table: &mut Table,
     c: &Cond<Target, V>,
 ) -> Result<(), LowerFault>
-    requires { IsTrue (list_all V.is_kept (values_in (cond_of (λ r. r) V.view c.now))) }
-    ensures ok { OnOk result (WritesBlock table.old code.old (cond_strings V.strings (cond_of (λ r. r) V.view c.now))
-        (λ numbered b. IsCondBlock (V.is_block numbered) (cond_of (λ r. r) V.view c.now) b) table.new code.new) }
+    requires { IsTrue (list_all V.is_kept (values_in (numbered_cond V.view c.now))) }
+    ensures sound { OnOk result
+        (WritesBlock table.old code.old (cond_strings V.strings (numbered_cond V.view c.now))
+        (λ numbered b. IsCondBlock (V.is_block numbered) (numbered_cond V.view c.now) b) table.new
+        code.new) }
     ensures grows { Grows table.old table.new }
-    ensures too_many { IsErrOf result LowerFault.TooMany → Overflows table.old (cond_strings V.strings (cond_of (λ r. r) V.view c.now)) }
+    ensures refused { IsErrOf result LowerFault.TooMany
+        → Overflows table.old (cond_strings V.strings (numbered_cond V.view c.now)) }
 {
     match c {
         Cond::Value(v) => v.write(alloc, code, table),
@@ -54,15 +58,20 @@ fn write_if<V: Element>(
     first: &[Cond<Target, V>],
     otherwise: &[Cond<Target, V>],
 ) -> Result<(), LowerFault>
-    requires first { IsTrue (list_all V.is_kept (values_of (conds_of (λ r. r) V.view first.now))) }
-    requires otherwise { IsTrue (list_all V.is_kept (values_of (conds_of (λ r. r) V.view otherwise.now))) }
-    ensures ok { OnOk result (WritesBlock table.old code.old
-        (cond_strings V.strings (If (expr_of (λ r. r) condition.now) (conds_of (λ r. r) V.view first.now) (conds_of (λ r. r) V.view otherwise.now)))
-        (λ numbered b. IsCondBlock (V.is_block numbered) (If (expr_of (λ r. r) condition.now) (conds_of (λ r. r) V.view first.now) (conds_of (λ r. r) V.view otherwise.now)) b)
+    requires first { IsTrue (list_all V.is_kept (values_of (numbered_conds V.view first.now))) }
+    requires otherwise { IsTrue
+        (list_all V.is_kept (values_of (numbered_conds V.view otherwise.now))) }
+    ensures sound { OnOk result (WritesBlock table.old code.old
+        (cond_strings V.strings (If (numbered_expr condition.now) (numbered_conds V.view first.now)
+        (numbered_conds V.view otherwise.now)))
+        (λ numbered b. IsCondBlock (V.is_block numbered)
+        (If (numbered_expr condition.now) (numbered_conds V.view first.now)
+        (numbered_conds V.view otherwise.now)) b)
         table.new code.new) }
     ensures grows { Grows table.old table.new }
-    ensures too_many { IsErrOf result LowerFault.TooMany → Overflows table.old
-        (cond_strings V.strings (If (expr_of (λ r. r) condition.now) (conds_of (λ r. r) V.view first.now) (conds_of (λ r. r) V.view otherwise.now))) }
+    ensures refused { IsErrOf result LowerFault.TooMany → Overflows table.old
+        (cond_strings V.strings (If (numbered_expr condition.now) (numbered_conds V.view first.now)
+        (numbered_conds V.view otherwise.now))) }
 {
     write_expression(code, condition)?;
     let otherwise_hole = open(code, Jump::IfZero)?;
@@ -82,11 +91,14 @@ pub fn write_conds<V: Element>(
     table: &mut Table,
     all: &[Cond<Target, V>],
 ) -> Result<(), LowerFault>
-    requires { IsTrue (list_all V.is_kept (values_of (conds_of (λ r. r) V.view all.now))) }
-    ensures ok { OnOk result (WritesBlock table.old code.old (conds_strings V.strings (conds_of (λ r. r) V.view all.now))
-        (λ numbered b. IsCondsBlock (V.is_block numbered) (conds_of (λ r. r) V.view all.now) b) table.new code.new) }
+    requires { IsTrue (list_all V.is_kept (values_of (numbered_conds V.view all.now))) }
+    ensures sound { OnOk result
+        (WritesBlock table.old code.old (conds_strings V.strings (numbered_conds V.view all.now))
+        (λ numbered b. IsCondsBlock (V.is_block numbered) (numbered_conds V.view all.now) b)
+        table.new code.new) }
     ensures grows { Grows table.old table.new }
-    ensures too_many { IsErrOf result LowerFault.TooMany → Overflows table.old (conds_strings V.strings (conds_of (λ r. r) V.view all.now)) }
+    ensures refused { IsErrOf result LowerFault.TooMany
+        → Overflows table.old (conds_strings V.strings (numbered_conds V.view all.now)) }
 {
     for c in all {
         write_cond(alloc, code, table, c)?;
@@ -94,7 +106,8 @@ pub fn write_conds<V: Element>(
     Ok(())
 }
 
-// Each CASE in turn with an open target, what DEFAULT gives, and then the bodies, from the last to the first.
+// Each CASE in turn with an open target, what DEFAULT gives, and then the bodies, from the last to
+// the first.
 #[cycle(conditions)]
 fn write_select<V: Element>(
     alloc: Global,
@@ -103,13 +116,18 @@ fn write_select<V: Element>(
     on: &Expr<Target>,
     arms: &[Arm<Target, V>],
 ) -> Result<(), LowerFault>
-    requires { IsTrue (list_all V.is_kept (values_under (arms_from (map (arm_of (λ r. r) V.view) arms.now)))) }
-    ensures ok { OnOk result (WritesBlock table.old code.old (arms_strings V.strings (arms_from (map (arm_of (λ r. r) V.view) arms.now)))
-        (λ numbered b. IsCondBlock (V.is_block numbered) (Select (expr_of (λ r. r) on.now) (arms_from (map (arm_of (λ r. r) V.view) arms.now))) b)
+    requires { IsTrue (list_all V.is_kept
+        (values_under (arms_from (map (numbered_arm V.view) arms.now)))) }
+    ensures sound { OnOk result
+        (WritesBlock table.old code.old
+        (arms_strings V.strings (arms_from (map (numbered_arm V.view) arms.now)))
+        (λ numbered b. IsCondBlock (V.is_block numbered)
+        (Select (numbered_expr on.now) (arms_from (map (numbered_arm V.view) arms.now))) b)
         table.new code.new) }
     ensures grows { Grows table.old table.new }
-    ensures too_many { IsErrOf result LowerFault.TooMany
-        → Overflows table.old (arms_strings V.strings (arms_from (map (arm_of (λ r. r) V.view) arms.now))) }
+    ensures refused { IsErrOf result LowerFault.TooMany
+        → Overflows table.old (arms_strings V.strings
+        (arms_from (map (numbered_arm V.view) arms.now))) }
 {
     write_expression(code, on)?;
     let mut holes = open_cases(alloc, code, arms)?;
@@ -123,8 +141,9 @@ fn open_arm<V: Element>(
     code: &mut Emitter,
     arm: &Arm<Target, V>,
 ) -> Result<Option<Hole>, AllocError>
-    ensures code { OnOk result (code.new ≡ code.old ++ header (arm_of (λ r. r) V.view arm.now)) }
-    ensures hole { IfOk result (λ hole. hole ≡ hole_of (length code.old) (arm_of (λ r. r) V.view arm.now)) }
+    ensures code { OnOk result (code.new ≡ code.old ++ header (numbered_arm V.view arm.now)) }
+    ensures hole { IfOk result
+        (λ hole. hole ≡ hole_of (length code.old) (numbered_arm V.view arm.now)) }
 {
     match arm {
         Arm::Case { label, .. } => Ok(Some(open(code, Jump::IfLabel(*label))?)),
@@ -138,8 +157,10 @@ fn open_cases<V: Element>(
     code: &mut Emitter,
     arms: &[Arm<Target, V>],
 ) -> Result<Vec<Option<Hole>>, AllocError>
-    ensures code { OnOk result (code.new ≡ code.old ++ headers (map (arm_of (λ r. r) V.view) arms.now)) }
-    ensures holes { IfOk result (λ holes. holes.items ≡ holes_of (length code.old) (map (arm_of (λ r. r) V.view) arms.now)) }
+    ensures code { OnOk result (code.new ≡ code.old
+        ++ headers (map (numbered_arm V.view) arms.now)) }
+    ensures holes { IfOk result (λ holes. holes.items
+        ≡ holes_of (length code.old) (map (numbered_arm V.view) arms.now)) }
 {
     let mut holes = Vec::new(alloc);
     for arm in arms {
@@ -150,7 +171,8 @@ fn open_cases<V: Element>(
 
 // The body of an arm that is a DEFAULT.
 fn default_in<'a, V: Element>(arm: &'a Arm<Target, V>) -> Option<&'a [Cond<Target, V>]>
-    ensures { option_map (λ body. conds_of (λ r. r) V.view body.now) result ≡ default_of (ConsArm (arm_of (λ r. r) V.view arm.now) NoArms) }
+    ensures { option_map (λ body. numbered_conds V.view body.now) result
+        ≡ default_of (ConsArm (numbered_arm V.view arm.now) NoArms) }
 {
     match arm {
         Arm::Case { .. } => None,
@@ -160,7 +182,8 @@ fn default_in<'a, V: Element>(arm: &'a Arm<Target, V>) -> Option<&'a [Cond<Targe
 
 // The body of the first DEFAULT.
 fn default_among<'a, V: Element>(arms: &'a [Arm<Target, V>]) -> Option<&'a [Cond<Target, V>]>
-    ensures { option_map (λ body. conds_of (λ r. r) V.view body.now) result ≡ default_of (arms_from (map (arm_of (λ r. r) V.view) arms.now)) }
+    ensures { option_map (λ body. numbered_conds V.view body.now) result
+        ≡ default_of (arms_from (map (numbered_arm V.view) arms.now)) }
 {
     for arm in arms {
         if let Some(body) = default_in(arm) {
@@ -178,12 +201,17 @@ fn write_default<V: Element>(
     table: &mut Table,
     arms: &[Arm<Target, V>],
 ) -> Result<(), LowerFault>
-    requires { IsTrue (list_all V.is_kept (values_under (arms_from (map (arm_of (λ r. r) V.view) arms.now)))) }
-    ensures ok { OnOk result (WritesBlock table.old code.old (arms_strings V.strings (arms_from (map (arm_of (λ r. r) V.view) arms.now)))
-        (λ numbered b. IsDefaultBlock (V.is_block numbered) (arms_from (map (arm_of (λ r. r) V.view) arms.now)) b) table.new code.new) }
+    requires { IsTrue (list_all V.is_kept
+        (values_under (arms_from (map (numbered_arm V.view) arms.now)))) }
+    ensures sound { OnOk result
+        (WritesBlock table.old code.old
+        (arms_strings V.strings (arms_from (map (numbered_arm V.view) arms.now)))
+        (λ numbered b. IsDefaultBlock (V.is_block numbered)
+        (arms_from (map (numbered_arm V.view) arms.now)) b) table.new code.new) }
     ensures grows { Grows table.old table.new }
-    ensures too_many { IsErrOf result LowerFault.TooMany
-        → Overflows table.old (arms_strings V.strings (arms_from (map (arm_of (λ r. r) V.view) arms.now))) }
+    ensures refused { IsErrOf result LowerFault.TooMany
+        → Overflows table.old (arms_strings V.strings
+        (arms_from (map (numbered_arm V.view) arms.now))) }
 {
     match default_among(arms) {
         None => Ok(()),
@@ -200,14 +228,18 @@ fn write_bodies<V: Element>(
     holes: &mut Vec<Option<Hole>>,
     arms: &[Arm<Target, V>],
 ) -> Result<(), LowerFault>
-    requires kept { IsTrue (list_all V.is_kept (values_under (arms_from (map (arm_of (λ r. r) V.view) arms.now)))) }
-    requires holes { (place : ℕ) × (holes.old.items ≡ holes_of place (map (arm_of (λ r. r) V.view) arms.now))
-        × (place + length (headers (map (arm_of (λ r. r) V.view) arms.now)) ≤ length code.old) }
-    ensures ok { OnOk result
-        (WritesArms V.strings V.is_block table.old code.old holes.old.items (map (arm_of (λ r. r) V.view) arms.now) table.new code.new) }
+    requires kept { IsTrue (list_all V.is_kept
+        (values_under (arms_from (map (numbered_arm V.view) arms.now)))) }
+    requires holes { (place : ℕ)
+        × (holes.old.items ≡ holes_of place (map (numbered_arm V.view) arms.now))
+        × (place + length (headers (map (numbered_arm V.view) arms.now)) ≤ length code.old) }
+    ensures sound { OnOk result
+        (WritesArms V.strings V.is_block table.old code.old holes.old.items
+        (map (numbered_arm V.view) arms.now) table.new code.new) }
     ensures grows { Grows table.old table.new }
-    ensures too_many { IsErrOf result LowerFault.TooMany
-        → Overflows table.old (arms_strings V.strings (arms_from (map (arm_of (λ r. r) V.view) arms.now))) }
+    ensures refused { IsErrOf result LowerFault.TooMany
+        → Overflows table.old (arms_strings V.strings
+        (arms_from (map (numbered_arm V.view) arms.now))) }
 {
     let mut left = arms.len();
     while left > 0 {
@@ -229,12 +261,16 @@ fn write_arm<V: Element>(
     hole: Option<Hole>,
     arm: &Arm<Target, V>,
 ) -> Result<(), LowerFault>
-    requires kept { IsTrue (list_all V.is_kept (values_under (ConsArm (arm_of (λ r. r) V.view arm.now) NoArms))) }
-    requires hole { (place : ℕ) × (hole ≡ hole_of place (arm_of (λ r. r) V.view arm.now)) × (place + length (header (arm_of (λ r. r) V.view arm.now)) ≤ length code.old) }
-    ensures ok { OnOk result (WritesArm V.strings V.is_block table.old code.old hole (arm_of (λ r. r) V.view arm.now) table.new code.new) }
+    requires kept { IsTrue (list_all V.is_kept
+        (values_under (ConsArm (numbered_arm V.view arm.now) NoArms))) }
+    requires hole { (place : ℕ) × (hole ≡ hole_of place (numbered_arm V.view arm.now))
+        × (place + length (header (numbered_arm V.view arm.now)) ≤ length code.old) }
+    ensures sound { OnOk result (WritesArm V.strings V.is_block table.old code.old hole
+        (numbered_arm V.view arm.now) table.new code.new) }
     ensures grows { Grows table.old table.new }
-    ensures too_many { IsErrOf result LowerFault.TooMany
-        → Overflows table.old (arms_strings V.strings (ConsArm (arm_of (λ r. r) V.view arm.now) NoArms)) }
+    ensures refused { IsErrOf result LowerFault.TooMany
+        → Overflows table.old (arms_strings V.strings
+        (ConsArm (numbered_arm V.view arm.now) NoArms)) }
 {
     match (arm, hole) {
         (Arm::Case { body, .. }, Some(hole)) => write_body(alloc, code, table, hole, body),
@@ -252,12 +288,16 @@ fn write_body<V: Element>(
     case_hole: Hole,
     body: &[Cond<Target, V>],
 ) -> Result<(), LowerFault>
-    requires kept { IsTrue (list_all V.is_kept (values_of (conds_of (λ r. r) V.view body.now))) }
+    requires kept { IsTrue (list_all V.is_kept (values_of (numbered_conds V.view body.now))) }
     requires inside { case_hole + 4 ≤ length code.old }
-    ensures ok { OnOk result (WritesBody table.old code.old case_hole (conds_strings V.strings (conds_of (λ r. r) V.view body.now))
-        (λ numbered b. IsCondsBlock (V.is_block numbered) (conds_of (λ r. r) V.view body.now) b) table.new code.new) }
+    ensures sound { OnOk result
+        (WritesBody table.old code.old case_hole
+        (conds_strings V.strings (numbered_conds V.view body.now))
+        (λ numbered b. IsCondsBlock (V.is_block numbered) (numbered_conds V.view body.now) b)
+        table.new code.new) }
     ensures grows { Grows table.old table.new }
-    ensures too_many { IsErrOf result LowerFault.TooMany → Overflows table.old (conds_strings V.strings (conds_of (λ r. r) V.view body.now)) }
+    ensures refused { IsErrOf result LowerFault.TooMany
+        → Overflows table.old (conds_strings V.strings (numbered_conds V.view body.now)) }
 {
     let jump_hole = open(code, Jump::Always)?;
     close(code, case_hole);

@@ -7,9 +7,9 @@ ghost use Rattle.edd_syntax.specs.declared.types.Handling.{Handling};
 ghost use Rattle.edd_syntax.specs.Attributes as source;
 ghost use Rattle.edd_syntax.specs.Expression as expression;
 ghost use Rattle.edd_syntax.specs.Item as item;
-ghost use Rattle.edd_syntax.specs.ItemView.{data_item_of, entry_of, enumerator_of, member_of, response_code_of};
+ghost use Rattle.edd_syntax.specs.ItemView.{enumerator_of, response_code_of, numbered_data_item, numbered_entry, numbered_member};
 ghost use Rattle.edd_syntax.specs.Text as texts;
-ghost use Rattle.edd_syntax.specs.TreeView.{expr_of};
+ghost use Rattle.edd_syntax.specs.TreeView.{numbered_expr};
 ghost use Rattle.edd_syntax.specs.WellFormed.{is_text};
 ghost use Rattle.edd_syntax.specs.Words.{Words};
 ghost use Rattle.edd_syntax.specs.WordsView.{text_of};
@@ -51,10 +51,12 @@ pub trait Element {
     /// Writes the code that gives its record.
     fn write(&self, alloc: Global, code: &mut Emitter, table: &mut Table) -> Result<(), LowerFault>
         requires { IsTrue (is_kept (view self.now)) }
-        ensures ok { OnOk result (WritesBlock table.old code.old (strings (view self.now)) (λ numbered b. is_block numbered (view self.now) b)
+        ensures sound { OnOk result (WritesBlock table.old code.old (strings (view self.now))
+            (λ numbered b. is_block numbered (view self.now) b)
             table.new code.new) }
         ensures grows { Grows table.old table.new }
-        ensures too_many { IsErrOf result LowerFault.TooMany → Overflows table.old (strings (view self.now)) };
+        ensures refused { IsErrOf result LowerFault.TooMany
+            → Overflows table.old (strings (view self.now)) };
 }
 
 // ---- numbers
@@ -63,7 +65,8 @@ pub trait Element {
 #[tactic(auto, using(crate::proofs::Written::number_written))]
 pub fn write_number(code: &mut Emitter, number: u32) -> Result<(), AllocError>
     ensures { OnOk result
-        ((table : List Words) → WritesRecord table code.old (source.Number (pos number)) table code.new) }
+        ((table : List Words) → WritesRecord table code.old (source.Number (pos number)) table
+        code.new) }
 {
     put(code, Instruction::Push(number))?;
     put(code, Instruction::Number)
@@ -130,7 +133,7 @@ impl Element for bool {
 impl Element for Expr<Target> {
     ghost Meant = { expression.Expr Target };
 
-    ghost view = { expr_of (λ r. r) };
+    ghost view = { numbered_expr };
 
     ghost strings = { λ e. [] };
 
@@ -227,7 +230,8 @@ fn item_of(target: Target) -> ItemNo
 #[tactic(auto, using(crate::proofs::Written::item_written))]
 fn write_item(code: &mut Emitter, to: Target, qualifiers: MenuQualifiers) -> Result<(), AllocError>
     ensures { OnOk result
-        ((table : List Words) → WritesRecord table code.old (source.Entry (source.item_of to) qualifiers) table code.new) }
+        ((table : List Words) → WritesRecord table code.old
+        (source.Entry (source.item_of to) qualifiers) table code.new) }
 {
     let (item, quals) = (item_of(to), menu_bits(qualifiers));
     put(code, Instruction::Item { item, quals })
@@ -236,7 +240,7 @@ fn write_item(code: &mut Emitter, to: Target, qualifiers: MenuQualifiers) -> Res
 impl Element for MenuEntry<Target> {
     ghost Meant = { item.MenuEntry Target };
 
-    ghost view = { entry_of (λ r. r) };
+    ghost view = { numbered_entry };
 
     ghost strings = { λ v. strings_of_record (source.entry v) };
 
@@ -294,7 +298,8 @@ fn write_variable(
     qualifiers: DataQualifiers,
 ) -> Result<(), AllocError>
     ensures { OnOk result
-        ((table : List Words) → WritesRecord table code.old (source.DataVar (source.variable_of variable) mask qualifiers) table code.new) }
+        ((table : List Words) → WritesRecord table code.old
+        (source.DataVar (source.variable_of variable) mask qualifiers) table code.new) }
 {
     put(
         code,
@@ -310,7 +315,8 @@ fn write_variable(
 fn write_constant(code: &mut Emitter, value: u32) -> Result<(), AllocError>
     requires { value < 256 }
     ensures { OnOk result
-        ((table : List Words) → WritesRecord table code.old (source.DataConst value) table code.new) }
+        ((table : List Words) → WritesRecord table code.old (source.DataConst value) table
+        code.new) }
 {
     put(code, Instruction::DataConst(value as u8))
 }
@@ -318,7 +324,7 @@ fn write_constant(code: &mut Emitter, value: u32) -> Result<(), AllocError>
 impl Element for DataItem<Target> {
     ghost Meant = { item.DataItem Target };
 
-    ghost view = { data_item_of (λ r. r) };
+    ghost view = { numbered_data_item };
 
     ghost strings = { λ v. strings_of_record (source.data_item v) };
 
@@ -429,7 +435,7 @@ impl Element for ResponseCode {
 impl Element for Member<Target> {
     ghost Meant = { item.Member Target };
 
-    ghost view = { member_of (λ r. r) };
+    ghost view = { numbered_member };
 
     ghost strings = { λ v. strings_of_record (source.member v) };
 

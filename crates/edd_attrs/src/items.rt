@@ -1,7 +1,7 @@
 //! The tree of a row in its item.
 
 ghost use Rattle.std.specs.Prelude.{◌≡◌, ◌∷◌, map, option_map, slice_get};
-ghost use Rattle.edd_syntax.specs.ItemView.{attribute_of, identification_of, item_of, transaction_part_of};
+ghost use Rattle.edd_syntax.specs.ItemView.{identification_of, numbered_attribute, numbered_item, numbered_transaction_part};
 ghost use Rattle.edd_syntax.specs.Resolved.{description};
 ghost use Rattle.edd_code.specs.Places.{IsIndexOf};
 ghost use Rattle.edd_attrs.specs.Rows as rows;
@@ -17,7 +17,8 @@ use edd_syntax::reference::Target;
 type Transaction<'a> = (Option<u32>, &'a [TransactionPart<Target>]);
 
 fn transaction_in<'a>(attribute: &'a Attribute<Target>) -> Option<Transaction<'a>>
-    ensures { option_map views.transaction_of result ≡ rows.transaction_in (attribute_of (λ r. r) attribute.now) }
+    ensures { option_map views.transaction_of result
+        ≡ rows.transaction_in (numbered_attribute attribute.now) }
 {
     match attribute {
         Attribute::Transaction { number, parts } => Some((*number, parts)),
@@ -27,7 +28,8 @@ fn transaction_in<'a>(attribute: &'a Attribute<Target>) -> Option<Transaction<'a
 
 // A transaction by its position.
 fn transaction_at<'a>(attributes: &'a [Attribute<Target>], sub: u16) -> Option<Transaction<'a>>
-    ensures { option_map views.transaction_of result ≡ slice_get (trees.transaction_trees (map (attribute_of (λ r. r)) attributes.now)) sub }
+    ensures { option_map views.transaction_of result
+        ≡ slice_get (trees.transaction_trees (map numbered_attribute attributes.now)) sub }
 {
     let mut left = sub;
     for attribute in attributes {
@@ -43,7 +45,7 @@ fn transaction_at<'a>(attributes: &'a [Attribute<Target>], sub: u16) -> Option<T
 
 fn tree_of_transaction_part<'a>(part: &'a TransactionPart<Target>, attr: Attr) -> Option<Tree<'a>>
     ensures { option_map views.tree_of result
-        ≡ trees.first_tree attr (rows.one_part (transaction_part_of (λ r. r) part.now)) }
+        ≡ trees.first_tree attr (rows.one_part (numbered_transaction_part part.now)) }
 {
     let (of, tree) = match part {
         TransactionPart::Request(all) => (Attr::Request, Tree::Data(all)),
@@ -57,7 +59,8 @@ fn tree_among_transaction_parts<'a>(
     attr: Attr,
 ) -> Option<Tree<'a>>
     ensures { option_map views.tree_of result
-        ≡ trees.first_tree attr (map trees.tree_of_transaction_part (map (transaction_part_of (λ r. r)) parts.now)) }
+        ≡ trees.first_tree attr (map trees.tree_of_transaction_part
+        (map numbered_transaction_part parts.now)) }
 {
     for part in parts {
         if let Some(tree) = tree_of_transaction_part(part, attr) {
@@ -68,7 +71,8 @@ fn tree_among_transaction_parts<'a>(
 }
 
 fn tree_of_transaction<'a>(transaction: Transaction<'a>, attr: Attr) -> Option<Tree<'a>>
-    ensures { option_map views.tree_of result ≡ trees.first_tree attr (views.transaction_of transaction.entry) }
+    ensures { option_map views.tree_of result
+        ≡ trees.first_tree attr (views.transaction_of transaction.entry) }
 {
     let (number, parts) = transaction;
     if attr == Attr::Transaction {
@@ -80,7 +84,8 @@ fn tree_of_transaction<'a>(transaction: Transaction<'a>, attr: Attr) -> Option<T
 
 /// The tree of an attribute among these.
 pub fn tree_in<'a>(attributes: &'a [Attribute<Target>], attr: Attr, sub: u16) -> Option<Tree<'a>>
-    ensures { option_map views.tree_of result ≡ trees.tree_in (map (attribute_of (λ r. r)) attributes.now) attr sub }
+    ensures { option_map views.tree_of result
+        ≡ trees.tree_in (map numbered_attribute attributes.now) attr sub }
 {
     if attr.is_of_transaction() {
         let transaction = transaction_at(attributes, sub)?;
@@ -98,7 +103,8 @@ pub fn tree_at<'a>(
     row: AttrRef,
 ) -> Option<Tree<'a>>
     ensures { option_map views.tree_of result
-        ≡ trees.tree_at (description (identification_of identification) (map (item_of (λ r. r)) items.now)) row }
+        ≡ trees.tree_at (description (identification_of identification)
+        (map numbered_item items.now)) row }
 {
     let attributes = attributes_at(items, row.item.kind(), row.item.index())?;
     tree_in(attributes, row.attr, row.sub)
@@ -112,9 +118,10 @@ pub fn tree_by<'a>(
     items: &'a [Item<Target>],
     row: AttrRef,
 ) -> Option<Tree<'a>>
-    requires { IsIndexOf (map (item_of (λ r. r)) items.now) index.now }
+    requires { IsIndexOf (map numbered_item items.now) index.now }
     ensures { option_map views.tree_of result
-        ≡ trees.tree_at (description (identification_of identification) (map (item_of (λ r. r)) items.now)) row }
+        ≡ trees.tree_at (description (identification_of identification)
+        (map numbered_item items.now)) row }
 {
     let attributes = attributes_by(index, items, row.item.kind(), row.item.index())?;
     tree_in(attributes, row.attr, row.sub)

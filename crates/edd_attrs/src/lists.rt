@@ -20,10 +20,13 @@ pub fn write_all<V: Element>(
     all: &[V],
 ) -> Result<(), LowerFault>
     requires { IsTrue (list_all V.is_kept (map V.view all.now)) }
-    ensures ok { OnOk result (WritesBlock table.old code.old (flat_map V.strings (map V.view all.now))
-        (λ numbered b. IsLineBlock (V.is_block numbered) (map V.view all.now) b) table.new code.new) }
+    ensures sound { OnOk result
+        (WritesBlock table.old code.old (flat_map V.strings (map V.view all.now))
+        (λ numbered b. IsLineBlock (V.is_block numbered) (map V.view all.now) b) table.new
+        code.new) }
     ensures grows { Grows table.old table.new }
-    ensures too_many { IsErrOf result LowerFault.TooMany → Overflows table.old (flat_map V.strings (map V.view all.now)) }
+    ensures refused { IsErrOf result LowerFault.TooMany
+        → Overflows table.old (flat_map V.strings (map V.view all.now)) }
 {
     for v in all {
         v.write(alloc, code, table)?;

@@ -3,7 +3,7 @@
 ghost use Rattle.std.specs.Prelude.{◌≡◌, [], IfOk, IsErrOf, IsTrue, List, OnOk, map, option_map};
 ghost use Rattle.std.specs.List.{list_all};
 ghost use Rattle.edd_syntax.specs.Attributes as source;
-ghost use Rattle.edd_syntax.specs.ItemView.{type_part_of};
+ghost use Rattle.edd_syntax.specs.ItemView.{numbered_type_part};
 ghost use Rattle.edd_syntax.specs.SubsetRules.{values_of};
 ghost use Rattle.edd_syntax.specs.Words.{Words};
 ghost use Rattle.edd_code.specs.Tables.{Grows, Overflows};
@@ -43,7 +43,8 @@ fn operation_number(operation: Operation) -> u32
 #[tactic(auto, unfolding(crate::specs::TreeBlocks::IsTreeBlock))]
 fn write_optional_number(code: &mut Emitter, number: Option<u32>) -> Result<(), AllocError>
     ensures { OnOk result ((table : List Words)
-        → WritesBlock table code.old [] (λ numbered b. IsTreeBlock numbered (trees.Transaction number) b) table code.new) }
+        → WritesBlock table code.old []
+        (λ numbered b. IsTreeBlock numbered (trees.Transaction number) b) table code.new) }
 {
     match number {
         None => Ok(()),
@@ -59,10 +60,12 @@ fn write_part(
     table: &mut Table,
     part: &TypePart<Target>,
 ) -> Result<(), LowerFault>
-    requires { IsTrue (is_kept_part (type_part_of (λ r. r) part.now)) }
-    ensures ok { OnOk result (WritesPart table.old code.old (type_part_of (λ r. r) part.now) table.new code.new) }
+    requires { IsTrue (is_kept_part (numbered_type_part part.now)) }
+    ensures sound { OnOk result (WritesPart table.old code.old (numbered_type_part part.now)
+        table.new code.new) }
     ensures grows { Grows table.old table.new }
-    ensures too_many { IsErrOf result LowerFault.TooMany → Overflows table.old (element_strings (type_part_of (λ r. r) part.now)) }
+    ensures refused { IsErrOf result LowerFault.TooMany
+        → Overflows table.old (element_strings (numbered_type_part part.now)) }
 {
     match part {
         TypePart::Element(element) => write_cond(alloc, code, table, element),
@@ -76,13 +79,18 @@ fn write_parts(
     table: &mut Table,
     parts: &[TypePart<Target>],
 ) -> Result<(), LowerFault>
-    requires { IsTrue (list_all kept_enumerator (values_of (elements (map (type_part_of (λ r. r)) parts.now)))) }
-    ensures ok { OnOk result (WritesBlock table.old code.old (conds_strings enumerator_strings (elements (map (type_part_of (λ r. r)) parts.now)))
-        (λ numbered b. IsCondsBlock (Giving numbered source.enumerator) (elements (map (type_part_of (λ r. r)) parts.now)) b)
+    requires { IsTrue (list_all kept_enumerator
+        (values_of (elements (map numbered_type_part parts.now)))) }
+    ensures sound { OnOk result
+        (WritesBlock table.old code.old
+        (conds_strings enumerator_strings (elements (map numbered_type_part parts.now)))
+        (λ numbered b. IsCondsBlock (Giving numbered source.enumerator)
+        (elements (map numbered_type_part parts.now)) b)
         table.new code.new) }
     ensures grows { Grows table.old table.new }
-    ensures too_many { IsErrOf result LowerFault.TooMany
-        → Overflows table.old (conds_strings enumerator_strings (elements (map (type_part_of (λ r. r)) parts.now))) }
+    ensures refused { IsErrOf result LowerFault.TooMany
+        → Overflows table.old (conds_strings enumerator_strings
+        (elements (map numbered_type_part parts.now))) }
 {
     for part in parts {
         write_part(alloc, code, table, part)?;
@@ -99,10 +107,12 @@ fn write_tree(
     tree: Tree,
 ) -> Result<(), LowerFault>
     requires { IsTrue (is_kept_tree (views.tree_of tree)) }
-    ensures ok { OnOk result (WritesBlock table.old code.old (tree_strings (views.tree_of tree.entry))
+    ensures sound { OnOk result
+        (WritesBlock table.old code.old (tree_strings (views.tree_of tree.entry))
         (λ numbered b. IsTreeBlock numbered (views.tree_of tree.entry) b) table.new code.new) }
     ensures grows { Grows table.old table.new }
-    ensures too_many { IsErrOf result LowerFault.TooMany → Overflows table.old (tree_strings (views.tree_of tree.entry)) }
+    ensures refused { IsErrOf result LowerFault.TooMany
+        → Overflows table.old (tree_strings (views.tree_of tree.entry)) }
 {
     match tree {
         Tree::Texts(c) => write_cond(alloc, code, table, c),
@@ -128,9 +138,11 @@ pub fn lower_tree(
     tree: Option<Tree>,
 ) -> Result<Vec<u8>, LowerFault>
     requires { IsTrue (is_kept_row (option_map views.tree_of tree)) }
-    ensures ok { IfOk result (λ code. LowersTree table.old (option_map views.tree_of tree.entry) table.new code.items) }
+    ensures sound { IfOk result (λ code. LowersTree table.old (option_map views.tree_of tree.entry)
+        table.new code.items) }
     ensures grows { Grows table.old table.new }
-    ensures too_many { IsErrOf result LowerFault.TooMany → OverflowsTree table.old (option_map views.tree_of tree.entry) }
+    ensures refused { IsErrOf result LowerFault.TooMany
+        → OverflowsTree table.old (option_map views.tree_of tree.entry) }
 {
     let mut code = Emitter::new(alloc);
     if let Some(tree) = tree {

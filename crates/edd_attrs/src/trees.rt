@@ -1,7 +1,7 @@
 //! The tree of an attribute: what is written for it, wherever it stands in its item.
 
 ghost use Rattle.std.specs.Prelude.{◌≡◌, map, option_map};
-ghost use Rattle.edd_syntax.specs.ItemView.{attribute_of, type_part_of};
+ghost use Rattle.edd_syntax.specs.ItemView.{numbered_attribute, numbered_type_part};
 ghost use Rattle.edd_attrs.specs.Trees as trees;
 ghost use Rattle.edd_attrs.specs.Views as views;
 
@@ -34,7 +34,8 @@ pub enum Tree<'a> {
 
 // The tree of a part of a type.
 fn tree_of_part<'a>(part: &'a TypePart<Target>, attr: Attr) -> Option<Tree<'a>>
-    ensures { option_map views.tree_of result ≡ trees.first_tree attr (trees.trees_of_part (type_part_of (λ r. r) part.now)) }
+    ensures { option_map views.tree_of result
+        ≡ trees.first_tree attr (trees.trees_of_part (numbered_type_part part.now)) }
 {
     let (of, tree) = match part {
         TypePart::DefaultValue { value, .. } => (Attr::DefaultValue, Tree::Expressions(value)),
@@ -48,7 +49,8 @@ fn tree_of_part<'a>(part: &'a TypePart<Target>, attr: Attr) -> Option<Tree<'a>>
 }
 
 fn tree_among_parts<'a>(parts: &'a [TypePart<Target>], attr: Attr) -> Option<Tree<'a>>
-    ensures { option_map views.tree_of result ≡ trees.first_tree attr (trees.trees_of_parts (map (type_part_of (λ r. r)) parts.now)) }
+    ensures { option_map views.tree_of result
+        ≡ trees.first_tree attr (trees.trees_of_parts (map numbered_type_part parts.now)) }
 {
     for part in parts {
         if let Some(tree) = tree_of_part(part, attr) {
@@ -60,7 +62,8 @@ fn tree_among_parts<'a>(parts: &'a [TypePart<Target>], attr: Attr) -> Option<Tre
 
 // The tree of a written attribute.
 fn tree_of<'a>(attribute: &'a Attribute<Target>, attr: Attr) -> Option<Tree<'a>>
-    ensures { option_map views.tree_of result ≡ trees.first_tree attr (trees.trees_of_attribute (attribute_of (λ r. r) attribute.now)) }
+    ensures { option_map views.tree_of result
+        ≡ trees.first_tree attr (trees.trees_of_attribute (numbered_attribute attribute.now)) }
 {
     let (of, tree) = match attribute {
         Attribute::OneText(which, c) => (which.attr(), Tree::Texts(c)),
@@ -85,7 +88,8 @@ fn tree_of<'a>(attribute: &'a Attribute<Target>, attr: Attr) -> Option<Tree<'a>>
 
 /// The tree of an attribute other than those of transactions.
 pub fn tree_among<'a>(attributes: &'a [Attribute<Target>], attr: Attr) -> Option<Tree<'a>>
-    ensures { option_map views.tree_of result ≡ trees.first_tree attr (trees.trees_of (map (attribute_of (λ r. r)) attributes.now)) }
+    ensures { option_map views.tree_of result
+        ≡ trees.first_tree attr (trees.trees_of (map numbered_attribute attributes.now)) }
 {
     for attribute in attributes {
         if let Some(tree) = tree_of(attribute, attr) {

@@ -30,17 +30,23 @@ counted_once b n = omega arith
 abbrev pub first_cost : List Named → Attr → ℕ
 first_cost xs a = cost_of (first_tree a xs)
 
-one_more : (x : Named) (xs : List Named) (a : Attr) → first_cost (x ∷ xs) a ≤ only_at x.0 (weight_of x) a + first_cost xs a
+one_more : (x : Named) (xs : List Named) (a : Attr) → first_cost (x ∷ xs) a
+    ≤ only_at x.0 (weight_of x) a + first_cost xs a
 one_more x xs a = here (same_attr x.0 a)
   where
-    here : (b : Bool) → cost_of (elim b as (λ _. Option Tree) [ true ↦ Some x.1 | false ↦ first_tree a xs ]) ≤ (if b then weight_of x else 0) + first_cost xs a
+    here : (b : Bool) → cost_of (elim b as (λ _. Option Tree) [
+      | true ↦ Some x.1
+      | false ↦ first_tree a xs
+    ]) ≤ (if b then weight_of x else 0) + first_cost xs a
     here true = omega arith
     here false = omega arith
 
 pub first_costs : (xs : List Named) → total (first_cost xs) attributes_in_order ≤ weight xs
 first_costs [] = omega arith
 first_costs (x ∷ xs) =
-    let less : total (first_cost (x ∷ xs)) attributes_in_order ≤ total (λ a. only_at x.0 (weight_of x) a + first_cost xs a) attributes_in_order =
-    total_le (first_cost (x ∷ xs)) (λ a. only_at x.0 (weight_of x) a + first_cost xs a) (one_more x xs) attributes_in_order in
+    let less : total (first_cost (x ∷ xs)) attributes_in_order
+    ≤ total (λ a. only_at x.0 (weight_of x) a + first_cost xs a) attributes_in_order =
+    total_le (first_cost (x ∷ xs)) (λ a. only_at x.0 (weight_of x) a + first_cost xs a)
+    (one_more x xs) attributes_in_order in
     let split = total_plus (only_at x.0 (weight_of x)) (first_cost xs) attributes_in_order in
     omega (arith, less, split, counted_once x.0 (weight_of x), first_costs xs)

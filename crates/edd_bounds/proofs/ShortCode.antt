@@ -9,5 +9,6 @@ use Rattle.edd_code.proofs.FewNodes.{few_nodes}
 use Rattle.edd_bounds.specs.RowContents.{limit_of_row}
 use Rattle.edd_bounds.proofs.RowLimits.{all_rows_limit}
 
-pub short_code : (d : Description Target) → ∥ IsChecked d ∥₁ → sum (map (λ r. limit_of_row d r) (rows d.items)) ≤ 16777216
+pub short_code : (d : Description Target) → ∥ IsChecked d ∥₁
+    → sum (map (λ r. limit_of_row d r) (rows d.items)) ≤ 16777216
 short_code d checked = omega (arith, all_rows_limit d, few_nodes d checked)

@@ -24,19 +24,34 @@ use Rattle.edd_bounds.specs.RowContents.{strings_of_row, limit_of_row}
 abbrev item_with : item.ItemKind → List (Attribute Target) → Item Target
 item_with sort attributes = record { sort = sort; name = codes "i"; attributes = attributes }
 
--- an enumerated variable with a label and a default value, a command with an empty transaction, a method that shows a text
+-- an enumerated variable with a label and a default value, a command with an empty transaction, a
+-- method that shows a text
 abbrev small : Description Target
 small = record {
-  identification = record { manufacturer = 1; device_type = 2; device_revision = 3; dd_revision = 4 };
+  identification = record {
+    manufacturer = 1;
+    device_type = 2;
+    device_revision = 3;
+    dd_revision = 4;
+  };
   items =
       item_with item.VariableItem (
       item.OneText text_attribute.Label (Value (texts.Key (codes "a")))
       ∷ item.TypeOf (item.Known var_type.Enumerated None) (
-      item.Element (Value (record { value = pos 1; text = texts.Key (codes "b"); help = Some (texts.Key (codes "k")) }))
+      item.Element (Value (record {
+        value = pos 1;
+        text = texts.Key (codes "b");
+        help = Some (texts.Key (codes "k"));
+      }))
       ∷ item.DefaultValue (Value (Literal 5)) ∷ [])
       ∷ [])
-      ∷ item_with item.CommandItem (item.Number 1 ∷ item.Operation operation.Read ∷ item.Transaction None [] ∷ [])
-      ∷ item_with item.MethodItem (item.Definition (s.Cons (s.Statement (s.Evaluate (Call (Function builtin.Acknowledge) (expr.Cons (expr.Text (texts.Key (codes "c"))) expr.Nil)))) s.Nil) ∷ [])
+      ∷ item_with item.CommandItem (item.Number 1 ∷ item.Operation operation.Read
+      ∷ item.Transaction None [] ∷ [])
+      ∷ item_with item.MethodItem
+      (item.Definition (s.Cons
+      (s.Statement (s.Evaluate
+      (Call (Function builtin.Acknowledge)
+      (expr.Cons (expr.Text (texts.Key (codes "c"))) expr.Nil)))) s.Nil) ∷ [])
       ∷ [];
 }
 
@@ -48,7 +63,8 @@ strings_at_rows : map (strings_of_row small) (rows small.items)
 unfolding rows_of_kind rows_at stands_for tree_at tree_strings words_of
 strings_at_rows = refl
 
-limits_at_rows : map (limit_of_row small) (rows small.items) ≡ 64 ∷ 96 ∷ 64 ∷ 32 ∷ 32 ∷ 30 ∷ 1 ∷ 1 ∷ 96 ∷ []
+limits_at_rows : map (limit_of_row small) (rows small.items) ≡ 64 ∷ 96 ∷ 64 ∷ 32 ∷ 32 ∷ 30 ∷ 1 ∷ 1
+    ∷ 96 ∷ []
 unfolding rows_of_kind rows_at stands_for tree_at tree_nodes length_limit
 limits_at_rows = refl
 

@@ -1,4 +1,5 @@
--- What stands at a row of a description: the strings of its attribute or body, and how long its code may be.
+-- What stands at a row of a description: the strings of its attribute or body, and how long its
+-- code may be.
 use Rattle.std.specs.Prelude.{ℕ, ◌*◌, List, if◌then◌else◌, Some, None}
 use Rattle.edd_syntax.specs.declared.numbers.Attr.TheVariants as attr
 use Rattle.edd_syntax.specs.declared.numbers.AttrRef.{AttrRef}
@@ -24,8 +25,10 @@ abbrev definition_at : Description Target → AttrRef → Attribute Target
 definition_at unit row = item.Definition (body_at unit row.item)
 
 abbrev pub strings_of_row : Description Target → AttrRef → List Words
-strings_of_row unit row = if same_attr row.attr attr.Definition then attribute_strings (definition_at unit row) else strings_at unit row
+strings_of_row unit row = if same_attr row.attr attr.Definition then attribute_strings
+    (definition_at unit row) else strings_at unit row
 
 -- 32 octets a node of a body, as of an attribute
 abbrev pub limit_of_row : Description Target → AttrRef → ℕ
-limit_of_row unit row = if same_attr row.attr attr.Definition then 32 * attribute_nodes (definition_at unit row) else length_limit (tree_at unit row)
+limit_of_row unit row = if same_attr row.attr attr.Definition then 32 * attribute_nodes
+    (definition_at unit row) else length_limit (tree_at unit row)

@@ -12,7 +12,8 @@ const VARIABLE: ItemNo = ItemNo::Variable(VarNo(0));
 
 const COMMAND: ItemNo = ItemNo::Command(CmdNo(0));
 
-// How many strings the table holds before, an attribute, its code at position 0, and how many strings the table holds then.
+// How many strings the table holds before, an attribute, its code at position 0, and how many
+// strings the table holds then.
 type Row = (usize, ItemNo, Attr, &'static [u8], usize);
 
 // Adds texts until the table holds so many strings.

@@ -6,7 +6,8 @@ use std::alloc::{AllocError, Global};
 use std::io::{Error, ErrorKind, Read};
 use std::test::Fail;
 
-// Every name is that of one file, which begins with the identification. Nothing is kept of what is saved.
+// Every name is that of one file, which begins with the identification. Nothing is kept of what is
+// saved.
 #[derive(Clone, Copy)]
 struct OneFile {
     not_opened: Option<FileFault>,

@@ -11,7 +11,8 @@ use Rattle.edd_image.specs.declared.instruction.Instruction.TheVariants as instr
 use Rattle.edd_code.specs.Blocks.{Straight}
 use Rattle.edd_code.specs.MethodExpressions.{method_block, call_block}
 
-pub is_abort_alone : (number : Words → StrNo) (f : Builtin) → is_abort f ≡ true → method_block number (Call (Function f) Nil) ≡ Straight instruction.Abort
+pub is_abort_alone : (number : Words → StrNo) (f : Builtin) → is_abort f ≡ true
+    → method_block number (Call (Function f) Nil) ≡ Straight instruction.Abort
 unfolding method_block call_block
 is_abort_alone number builtin.Abort is = refl
 is_abort_alone number builtin.ProcessAbort is = refl

@@ -11,39 +11,58 @@ use Rattle.edd_code.specs.BlockEffects as blocks
 use Rattle.edd_code.specs.BlockEffects.{Outcome, Goes, Stops, Stuck, and_then}
 use Rattle.edd_code.specs.AttributeEffects.{behind, does}
 
-behind_both : (given records : List Record) (o : attribute.Outcome) → behind (given ++ records) o ≡ behind given (attribute.behind records o)
-behind_both given records (attribute.Goes more operands) = ap (λ (rs : List Record). Goes operands rs) (append_assoc given records more)
+behind_both : (given records : List Record) (o : attribute.Outcome) → behind (given ++ records) o
+    ≡ behind given (attribute.behind records o)
+behind_both given records (attribute.Goes more operands) =
+    ap (λ (rs : List Record). Goes operands rs) (append_assoc given records more)
 behind_both given records (attribute.Traps why) = refl
 behind_both given records attribute.Stuck = refl
 
-both : (given : List Record) (o : attribute.Outcome) (next : List ℤ → attribute.Outcome) (then : List ℤ → List Record → Outcome (List Record) Trap)
-    → ((operands : List ℤ) (rs : List Record) → then operands rs ≡ behind rs (next operands)) → and_then (behind given o) then ≡ behind given (attribute.and_then o next)
-both given (attribute.Goes records operands) next then same = same operands (given ++ records) ∙ behind_both given records (next operands)
+both : (given : List Record) (o : attribute.Outcome) (next : List ℤ → attribute.Outcome)
+    (then : List ℤ → List Record → Outcome (List Record) Trap)
+    → ((operands : List ℤ) (rs : List Record) → then operands rs ≡ behind rs (next operands))
+    → and_then (behind given o) then ≡ behind given (attribute.and_then o next)
+both given (attribute.Goes records operands) next then same = same operands (given ++ records)
+    ∙ behind_both given records (next operands)
 both given (attribute.Traps why) next then same = refl
 both given attribute.Stuck next then same = refl
 
-tested : (b : Bool) (given : List Record) (o p : attribute.Outcome) (x y : Outcome (List Record) Trap) → x ≡ behind given o → y ≡ behind given p
-    → (elim b as (λ _. Outcome (List Record) Trap) [ true ↦ x | false ↦ y ]) ≡ behind given (elim b as (λ _. attribute.Outcome) [ true ↦ o | false ↦ p ])
+tested : (b : Bool) (given : List Record) (o p : attribute.Outcome)
+    (x y : Outcome (List Record) Trap) → x ≡ behind given o → y ≡ behind given p
+    → (elim b as (λ _. Outcome (List Record) Trap) [ true ↦ x | false ↦ y ])
+    ≡ behind given (elim b as (λ _. attribute.Outcome) [ true ↦ o | false ↦ p ])
 tested true given o p x y one two = one
 tested false given o p x y one two = two
 
 module _ (env : Environment) (values : List ℤ) where
-  pub same_in_attributes : (b : Block) (operands : List ℤ) (given : List Record) → does env values b operands given ≡ behind given (attribute.does env values b operands)
+  pub same_in_attributes : (b : Block) (operands : List ℤ) (given : List Record)
+      → does env values b operands given ≡ behind given (attribute.does env values b operands)
   unfolding blocks.does attribute.does
-  same_in_attributes Nothing operands given = ap (λ (rs : List Record). Goes operands rs) (sym (append-nil given))
+  same_in_attributes Nothing operands given = ap (λ (rs : List Record). Goes operands rs)
+      (sym (append-nil given))
   same_in_attributes (Straight i) operands given = refl
   same_in_attributes (Then first second) operands given =
-      ap (λ (o : Outcome (List Record) Trap). and_then o (does env values second)) (same_in_attributes first operands given)
-      ∙ both given (attribute.does env values first operands) (attribute.does env values second) (does env values second) (same_in_attributes second)
+      ap (λ (o : Outcome (List Record) Trap). and_then o (does env values second))
+      (same_in_attributes first operands given)
+      ∙ both given (attribute.does env values first operands) (attribute.does env values second)
+      (does env values second) (same_in_attributes second)
   same_in_attributes (WhenNotZero body) [] given = refl
   same_in_attributes (WhenNotZero body) (a ∷ below) given =
-      tested (is_zero a) given (attribute.Goes [] below) (attribute.does env values body below) _ _ (ap (λ (rs : List Record). Goes below rs) (sym (append-nil given))) (same_in_attributes body below given)
+      tested (is_zero a) given (attribute.Goes [] below) (attribute.does env values body below) _ _
+      (ap (λ (rs : List Record). Goes below rs) (sym (append-nil given)))
+      (same_in_attributes body below given)
   same_in_attributes (WhenZero body) [] given = refl
   same_in_attributes (WhenZero body) (a ∷ below) given =
-      tested (is_zero a) given (attribute.does env values body below) (attribute.Goes [] below) _ _ (same_in_attributes body below given) (ap (λ (rs : List Record). Goes below rs) (sym (append-nil given)))
+      tested (is_zero a) given (attribute.does env values body below) (attribute.Goes [] below) _ _
+      (same_in_attributes body below given)
+      (ap (λ (rs : List Record). Goes below rs) (sym (append-nil given)))
   same_in_attributes (Either first otherwise) [] given = refl
   same_in_attributes (Either first otherwise) (a ∷ below) given =
-      tested (is_zero a) given (attribute.does env values otherwise below) (attribute.does env values first below) _ _ (same_in_attributes otherwise below given) (same_in_attributes first below given)
+      tested (is_zero a) given (attribute.does env values otherwise below)
+      (attribute.does env values first below) _ _ (same_in_attributes otherwise below given)
+      (same_in_attributes first below given)
   same_in_attributes (Match label body rest) [] given = refl
   same_in_attributes (Match label body rest) (a ∷ below) given =
-      tested (int_eq a label) given (attribute.does env values body below) (attribute.does env values rest (a ∷ below)) _ _ (same_in_attributes body below given) (same_in_attributes rest (a ∷ below) given)
+      tested (int_eq a label) given (attribute.does env values body below)
+      (attribute.does env values rest (a ∷ below)) _ _ (same_in_attributes body below given)
+      (same_in_attributes rest (a ∷ below) given)

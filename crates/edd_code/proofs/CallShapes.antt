@@ -43,7 +43,8 @@ target_is (Value (CompoundAssign op place value)) to h = absurd cc
 target_is (Value (Increment op place)) to h = absurd cc
 target_is (Value (Call function arguments)) to h = absurd cc
 
-variable_is : (x : Argument Target) (v : VarNo) → as_variable x ≡ Some v → x ≡ Value (Reference (Item (item_no.Variable v)))
+variable_is : (x : Argument Target) (v : VarNo) → as_variable x ≡ Some v
+    → x ≡ Value (Reference (Item (item_no.Variable v)))
 variable_is (Text t) v h = absurd cc
 variable_is (Value (Reference (Item (item_no.Variable w)))) v h = cc
 variable_is (Value (Reference (Item (item_no.Command n)))) v h = absurd cc
@@ -69,54 +70,79 @@ variable_is (Value (Call function arguments)) v h = absurd cc
 -- ---- all arguments
 
 module _ {A : Type 0} (kind : Argument Target → Option A) where
-  only_is : (a : Arguments Target) (y : A) → Some y ≡ only kind a → (x : Argument Target) × (a ≡ Cons x Nil) × (kind x ≡ Some y)
+  only_is : (a : Arguments Target) (y : A) → Some y ≡ only kind a → (x : Argument Target)
+      × (a ≡ Cons x Nil) × (kind x ≡ Some y)
   only_is Nil y h = absurd cc
   only_is (Cons x Nil) y h = (x, refl, cc)
   only_is (Cons x (Cons z rest)) y h = absurd cc
 
-pair_is : {A B : Type 0} (o : Option A) (p : Option B) (y : A) (z : B) → Some (y, z) ≡ pair o p → (o ≡ Some y) × (p ≡ Some z)
+pair_is : {A B : Type 0} (o : Option A) (p : Option B) (y : A) (z : B) → Some (y, z) ≡ pair o p
+    → (o ≡ Some y) × (p ≡ Some z)
 pair_is None p y z h = absurd cc
 pair_is (Some a) None y z h = absurd cc
-pair_is {A} {B} (Some a) (Some b) y z h = let e : (y, z) ≡ (a, b) = cc in (ap (λ (p : A × B). Some p.0) (sym e), ap (λ (p : A × B). Some p.1) (sym e))
+pair_is {A} {B} (Some a) (Some b) y z h = let e : (y, z) ≡ (a, b) =
+    cc in (ap (λ (p : A × B). Some p.0) (sym e), ap (λ (p : A × B). Some p.1) (sym e))
 
-module _ {A B : Type 0} (kind : Argument Target → Option A) (other : Argument Target → Option B) where
-  both_are : (a : Arguments Target) (y : A) (z : B) → Some (y, z) ≡ both kind other a
-      → (x : Argument Target) × (w : Argument Target) × (a ≡ Cons x (Cons w Nil)) × (kind x ≡ Some y) × (other w ≡ Some z)
-  both_are Nil y z h = absurd cc
-  both_are (Cons x Nil) y z h = absurd cc
-  both_are (Cons x (Cons w Nil)) y z h = let parts = pair_is (kind x) (other w) y z h in (x, w, refl, parts.0, parts.1)
-  both_are (Cons x (Cons w (Cons v rest))) y z h = absurd cc
+module _ {A B : Type 0} (kind : Argument Target → Option A) (other : Argument Target → Option B)
+  where
+    both_are : (a : Arguments Target) (y : A) (z : B) → Some (y, z) ≡ both kind other a
+        → (x : Argument Target) × (w : Argument Target) × (a ≡ Cons x (Cons w Nil))
+        × (kind x ≡ Some y) × (other w ≡ Some z)
+    both_are Nil y z h = absurd cc
+    both_are (Cons x Nil) y z h = absurd cc
+    both_are (Cons x (Cons w Nil)) y z h = let parts =
+        pair_is (kind x) (other w) y z h in (x, w, refl, parts.0, parts.1)
+    both_are (Cons x (Cons w (Cons v rest))) y z h = absurd cc
 
-pub only_text_is : (a : Arguments Target) (t : texts.Text) → Some t ≡ only as_text a → a ≡ Cons (Text t) Nil
-only_text_is a t h = let all = only_is as_text a t h in all.1 ∙ ap (λ (x : Argument Target). Cons x Nil) (text_is all.0 t all.2)
+pub only_text_is : (a : Arguments Target) (t : texts.Text) → Some t ≡ only as_text a
+    → a ≡ Cons (Text t) Nil
+only_text_is a t h = let all = only_is as_text a t h in all.1
+    ∙ ap (λ (x : Argument Target). Cons x Nil) (text_is all.0 t all.2)
 
-pub only_value_is : (a : Arguments Target) (e : Expr Target) → Some e ≡ only as_value a → a ≡ Cons (Value e) Nil
-only_value_is a e h = let all = only_is as_value a e h in all.1 ∙ ap (λ (x : Argument Target). Cons x Nil) (value_is all.0 e all.2)
+pub only_value_is : (a : Arguments Target) (e : Expr Target) → Some e ≡ only as_value a
+    → a ≡ Cons (Value e) Nil
+only_value_is a e h = let all = only_is as_value a e h in all.1
+    ∙ ap (λ (x : Argument Target). Cons x Nil) (value_is all.0 e all.2)
 
-two_are : (a : Arguments Target) (x y z w : Argument Target) → a ≡ Cons x (Cons y Nil) → x ≡ z → y ≡ w → a ≡ Cons z (Cons w Nil)
+two_are : (a : Arguments Target) (x y z w : Argument Target) → a ≡ Cons x (Cons y Nil) → x ≡ z
+    → y ≡ w → a ≡ Cons z (Cons w Nil)
 two_are a x y z w is one other = cc
 
-pub two_texts_are : (a : Arguments Target) (t u : texts.Text) → Some (t, u) ≡ both as_text as_text a → a ≡ Cons (Text t) (Cons (Text u) Nil)
-two_texts_are a t u h = let all = both_are as_text as_text a t u h in two_are a all.0 all.1 (Text t) (Text u) all.2 (text_is all.0 t all.3) (text_is all.1 u all.4)
+pub two_texts_are : (a : Arguments Target) (t u : texts.Text) → Some (t, u) ≡ both as_text as_text a
+    → a ≡ Cons (Text t) (Cons (Text u) Nil)
+two_texts_are a t u h = let all = both_are as_text as_text a t u h in two_are a all.0 all.1 (Text t)
+    (Text u) all.2 (text_is all.0 t all.3) (text_is all.1 u all.4)
 
-pub two_values_are : (a : Arguments Target) (e f : Expr Target) → Some (e, f) ≡ both as_value as_value a → a ≡ Cons (Value e) (Cons (Value f) Nil)
-two_values_are a e f h = let all = both_are as_value as_value a e f h in two_are a all.0 all.1 (Value e) (Value f) all.2 (value_is all.0 e all.3) (value_is all.1 f all.4)
+pub two_values_are : (a : Arguments Target) (e f : Expr Target)
+    → Some (e, f) ≡ both as_value as_value a → a ≡ Cons (Value e) (Cons (Value f) Nil)
+two_values_are a e f h = let all = both_are as_value as_value a e f h in two_are a all.0 all.1
+    (Value e) (Value f) all.2 (value_is all.0 e all.3) (value_is all.1 f all.4)
 
-pub value_and_text_are : (a : Arguments Target) (e : Expr Target) (t : texts.Text) → Some (e, t) ≡ both as_value as_text a → a ≡ Cons (Value e) (Cons (Text t) Nil)
-value_and_text_are a e t h = let all = both_are as_value as_text a e t h in two_are a all.0 all.1 (Value e) (Text t) all.2 (value_is all.0 e all.3) (text_is all.1 t all.4)
+pub value_and_text_are : (a : Arguments Target) (e : Expr Target) (t : texts.Text)
+    → Some (e, t) ≡ both as_value as_text a → a ≡ Cons (Value e) (Cons (Text t) Nil)
+value_and_text_are a e t h = let all = both_are as_value as_text a e t h in two_are a all.0 all.1
+    (Value e) (Text t) all.2 (value_is all.0 e all.3) (text_is all.1 t all.4)
 
-pub text_and_variable_are : (a : Arguments Target) (t : texts.Text) (v : VarNo) → Some (t, v) ≡ both as_text as_variable a → a ≡ Cons (Text t) (Cons (Value (Reference (Item (item_no.Variable v)))) Nil)
+pub text_and_variable_are : (a : Arguments Target) (t : texts.Text) (v : VarNo)
+    → Some (t, v) ≡ both as_text as_variable a
+    → a ≡ Cons (Text t) (Cons (Value (Reference (Item (item_no.Variable v)))) Nil)
 text_and_variable_are a t v h =
-    let all = both_are as_text as_variable a t v h in two_are a all.0 all.1 (Text t) (Value (Reference (Item (item_no.Variable v)))) all.2 (text_is all.0 t all.3) (variable_is all.1 v all.4)
+    let all = both_are as_text as_variable a t v h in two_are a all.0 all.1 (Text t)
+    (Value (Reference (Item (item_no.Variable v)))) all.2 (text_is all.0 t all.3)
+    (variable_is all.1 v all.4)
 
-pub target_and_value_are : (a : Arguments Target) (to : Target) (e : Expr Target) → Some (to, e) ≡ both as_target as_value a → a ≡ Cons (Value (Reference to)) (Cons (Value e) Nil)
+pub target_and_value_are : (a : Arguments Target) (to : Target) (e : Expr Target)
+    → Some (to, e) ≡ both as_target as_value a
+    → a ≡ Cons (Value (Reference to)) (Cons (Value e) Nil)
 target_and_value_are a to e h =
-    let all = both_are as_target as_value a to e h in two_are a all.0 all.1 (Value (Reference to)) (Value e) all.2 (target_is all.0 to all.3) (value_is all.1 e all.4)
+    let all = both_are as_target as_value a to e h in two_are a all.0 all.1 (Value (Reference to))
+    (Value e) all.2 (target_is all.0 to all.3) (value_is all.1 e all.4)
 
 -- ---- calls that don't fit
 
 module _ (number : Words → StrNo) where
-  pub no_message : (a : Arguments Target) → None ≡ only as_text a → call_block number builtin.PutMessage a ≡ no_value
+  pub no_message : (a : Arguments Target) → None ≡ only as_text a
+      → call_block number builtin.PutMessage a ≡ no_value
   unfolding call_block
   no_message Nil h = refl
   no_message (Cons (Text t) Nil) h = absurd cc
@@ -124,7 +150,8 @@ module _ (number : Words → StrNo) where
   no_message (Cons (Text t) (Cons y rest)) h = refl
   no_message (Cons (Value e) (Cons y rest)) h = refl
 
-  pub no_acknowledge : (a : Arguments Target) → None ≡ only as_text a → call_block number builtin.Acknowledge a ≡ no_value
+  pub no_acknowledge : (a : Arguments Target) → None ≡ only as_text a
+      → call_block number builtin.Acknowledge a ≡ no_value
   unfolding call_block
   no_acknowledge Nil h = refl
   no_acknowledge (Cons (Text t) Nil) h = absurd cc
@@ -132,7 +159,8 @@ module _ (number : Words → StrNo) where
   no_acknowledge (Cons (Text t) (Cons y rest)) h = refl
   no_acknowledge (Cons (Value e) (Cons y rest)) h = refl
 
-  pub no_send : (a : Arguments Target) → None ≡ only as_value a → call_block number builtin.SendCommand a ≡ no_value
+  pub no_send : (a : Arguments Target) → None ≡ only as_value a
+      → call_block number builtin.SendCommand a ≡ no_value
   unfolding call_block
   no_send Nil h = refl
   no_send (Cons (Value e) Nil) h = absurd cc
@@ -140,7 +168,8 @@ module _ (number : Words → StrNo) where
   no_send (Cons (Value e) (Cons y rest)) h = refl
   no_send (Cons (Text t) (Cons y rest)) h = refl
 
-  pub no_value_alone : (a : Arguments Target) → None ≡ only as_value a → call_block number builtin.IvarValue a ≡ no_value
+  pub no_value_alone : (a : Arguments Target) → None ≡ only as_value a
+      → call_block number builtin.IvarValue a ≡ no_value
   unfolding call_block
   no_value_alone Nil h = refl
   no_value_alone (Cons (Value e) Nil) h = absurd cc
@@ -148,7 +177,8 @@ module _ (number : Words → StrNo) where
   no_value_alone (Cons (Value e) (Cons y rest)) h = refl
   no_value_alone (Cons (Text t) (Cons y rest)) h = refl
 
-  pub no_delay : (a : Arguments Target) → None ≡ both as_value as_text a → call_block number builtin.Delay a ≡ no_value
+  pub no_delay : (a : Arguments Target) → None ≡ both as_value as_text a
+      → call_block number builtin.Delay a ≡ no_value
   unfolding call_block
   no_delay Nil h = refl
   no_delay (Cons (Text t) rest) h = refl
@@ -157,7 +187,8 @@ module _ (number : Words → StrNo) where
   no_delay (Cons (Value e) (Cons (Text u) Nil)) h = absurd cc
   no_delay (Cons (Value e) (Cons (Text u) (Cons z rest))) h = refl
 
-  pub no_select : (a : Arguments Target) → None ≡ both as_text as_text a → call_block number builtin.SelectFromList a ≡ no_value
+  pub no_select : (a : Arguments Target) → None ≡ both as_text as_text a
+      → call_block number builtin.SelectFromList a ≡ no_value
   unfolding call_block
   no_select Nil h = refl
   no_select (Cons (Value e) rest) h = refl
@@ -166,7 +197,8 @@ module _ (number : Words → StrNo) where
   no_select (Cons (Text t) (Cons (Text u) Nil)) h = absurd cc
   no_select (Cons (Text t) (Cons (Text u) (Cons z rest))) h = refl
 
-  pub no_transaction : (a : Arguments Target) → None ≡ both as_value as_value a → call_block number builtin.SendCommandTrans a ≡ no_value
+  pub no_transaction : (a : Arguments Target) → None ≡ both as_value as_value a
+      → call_block number builtin.SendCommandTrans a ≡ no_value
   unfolding call_block
   no_transaction Nil h = refl
   no_transaction (Cons (Text t) rest) h = refl
@@ -175,14 +207,16 @@ module _ (number : Words → StrNo) where
   no_transaction (Cons (Value e) (Cons (Value f) Nil)) h = absurd cc
   no_transaction (Cons (Value e) (Cons (Value f) (Cons z rest))) h = refl
 
-  pub no_get : (a : Arguments Target) → None ≡ both as_text as_variable a → call_block number builtin.GetDevVarValue a ≡ no_value
+  pub no_get : (a : Arguments Target) → None ≡ both as_text as_variable a
+      → call_block number builtin.GetDevVarValue a ≡ no_value
   unfolding call_block
   no_get Nil h = refl
   no_get (Cons (Value e) rest) h = refl
   no_get (Cons (Text t) Nil) h = refl
   no_get (Cons (Text t) (Cons (Text u) rest)) h = refl
   no_get (Cons (Text t) (Cons (Value (Reference (Item (item_no.Variable v)))) Nil)) h = absurd cc
-  no_get (Cons (Text t) (Cons (Value (Reference (Item (item_no.Variable v)))) (Cons z rest))) h = refl
+  no_get (Cons (Text t) (Cons (Value (Reference (Item (item_no.Variable v)))) (Cons z rest))) h =
+      refl
   no_get (Cons (Text t) (Cons (Value (Reference (Item (item_no.Command n)))) rest)) h = refl
   no_get (Cons (Text t) (Cons (Value (Reference (Item (item_no.Menu n)))) rest)) h = refl
   no_get (Cons (Text t) (Cons (Value (Reference (Item (item_no.Collection n)))) rest)) h = refl
@@ -203,7 +237,8 @@ module _ (number : Words → StrNo) where
   no_get (Cons (Text t) (Cons (Value (Increment op to)) rest)) h = refl
   no_get (Cons (Text t) (Cons (Value (Call function arguments)) rest)) h = refl
 
-  pub no_assignment : (a : Arguments Target) → None ≡ both as_target as_value a → call_block number builtin.Iassign a ≡ no_value
+  pub no_assignment : (a : Arguments Target) → None ≡ both as_target as_value a
+      → call_block number builtin.Iassign a ≡ no_value
   unfolding call_block
   no_assignment Nil h = refl
   no_assignment (Cons (Text t) rest) h = refl
@@ -227,14 +262,16 @@ module _ (number : Words → StrNo) where
 
   -- ---- functions that differ in name alone
 
-  pub same_value : (a : Arguments Target) → call_block number builtin.IvarValue a ≡ call_block number builtin.LvarValue a
+  pub same_value : (a : Arguments Target) → call_block number builtin.IvarValue a
+      ≡ call_block number builtin.LvarValue a
   unfolding call_block
   same_value Nil = refl
   same_value (Cons (Text t) rest) = refl
   same_value (Cons (Value e) Nil) = refl
   same_value (Cons (Value e) (Cons y rest)) = refl
 
-  pub same_assignment : (a : Arguments Target) → call_block number builtin.Iassign a ≡ call_block number builtin.Lassign a
+  pub same_assignment : (a : Arguments Target) → call_block number builtin.Iassign a
+      ≡ call_block number builtin.Lassign a
   unfolding call_block
   same_assignment Nil = refl
   same_assignment (Cons (Text t) rest) = refl
@@ -256,17 +293,20 @@ module _ (number : Words → StrNo) where
   same_assignment (Cons (Value (Increment op to)) rest) = refl
   same_assignment (Cons (Value (Call function arguments)) rest) = refl
 
-  pub save_alone : (a : Arguments Target) → alone_block (instruction.Ask ask.SaveValues) a ≡ call_block number builtin.SaveValues a
+  pub save_alone : (a : Arguments Target) → alone_block (instruction.Ask ask.SaveValues) a
+      ≡ call_block number builtin.SaveValues a
   unfolding call_block
   save_alone Nil = refl
   save_alone (Cons x rest) = refl
 
-  pub abort_alone : (a : Arguments Target) → alone_block (instruction.Abort) a ≡ call_block number builtin.Abort a
+  pub abort_alone : (a : Arguments Target) → alone_block (instruction.Abort) a
+      ≡ call_block number builtin.Abort a
   unfolding call_block
   abort_alone Nil = refl
   abort_alone (Cons x rest) = refl
 
-  pub process_abort_alone : (a : Arguments Target) → alone_block (instruction.Abort) a ≡ call_block number builtin.ProcessAbort a
+  pub process_abort_alone : (a : Arguments Target) → alone_block (instruction.Abort) a
+      ≡ call_block number builtin.ProcessAbort a
   unfolding call_block
   process_abort_alone Nil = refl
   process_abort_alone (Cons x rest) = refl

@@ -19,7 +19,8 @@ variants_same [] [] h = refl
 variants_same [] (w ∷ ws) h = absurd cc
 variants_same (v ∷ vs) [] h = absurd cc
 variants_same (v ∷ vs) (w ∷ ws) h =
-    let parts = both_of (bytes_eq v.code w.code && bytes_eq v.text w.text) (same_variants vs ws) h in
+    let parts = both_of (bytes_eq v.code w.code && bytes_eq v.text w.text) (same_variants vs ws)
+    h in
     let first = both_of (bytes_eq v.code w.code) (bytes_eq v.text w.text) parts.0 in
     let code = (bytes_eq-Decides v.code w.code).0 first.0 in
     let text = (bytes_eq-Decides v.text w.text).0 first.1 in
@@ -57,7 +58,8 @@ or_cases false b h = inr h
 pub Contains-has : (ws : List Words) (w : Words) → Contains ws w → has w ws ≡ true
 Contains-has [] w held = absurd (omega (arith, held.1))
 Contains-has (x ∷ ws) w (zero, below, is) = rw (ap (same_words w) is ∙ words_refl w) refl
-Contains-has (x ∷ ws) w (suc k, below, is) = or_right (same_words w x) (has w ws) (Contains-has ws w (k, omega arith, is))
+Contains-has (x ∷ ws) w (suc k, below, is) = or_right (same_words w x) (has w ws)
+    (Contains-has ws w (k, omega arith, is))
 
 pub has-Contains : (ws : List Words) (w : Words) → has w ws ≡ true → Contains ws w
 has-Contains [] w h = absurd cc
@@ -81,7 +83,8 @@ out_length : (w : Words) (xs : List Words) → length xs ≤ length (out w xs) +
 out_length w [] = omega arith
 out_length w (x ∷ xs) = here (same_words w x) (out_length w xs)
   where
-    here : (b : Bool) → length xs ≤ length (out w xs) + 1 → length (x ∷ xs) ≤ length (cond b xs (x ∷ out w xs)) + 1
+    here : (b : Bool) → length xs ≤ length (out w xs) + 1
+        → length (x ∷ xs) ≤ length (cond b xs (x ∷ out w xs)) + 1
     here true h = omega arith
     here false h = omega (arith, h)
 
@@ -89,7 +92,8 @@ out_keeps : (w v : Words) (xs : List Words) → has v (out w xs) ≡ true → ha
 out_keeps w v [] h = h
 out_keeps w v (x ∷ xs) h = here (same_words w x) (out_keeps w v xs) h
   where
-    here : (b : Bool) → (has v (out w xs) ≡ true → has v xs ≡ true) → has v (cond b xs (x ∷ out w xs)) ≡ true → has v (x ∷ xs) ≡ true
+    here : (b : Bool) → (has v (out w xs) ≡ true → has v xs ≡ true)
+        → has v (cond b xs (x ∷ out w xs)) ≡ true → has v (x ∷ xs) ≡ true
     here true keeps h = or_right (same_words v x) (has v xs) h
     here false keeps h = elim (or_cases (same_words v x) (has v (out w xs)) h) [
       | inl e ↦ rw e refl
@@ -116,25 +120,35 @@ out_gone : (w : Words) (xs : List Words) → Apart xs → has w (out w xs) ≡ f
 out_gone w [] a = refl
 out_gone w (x ∷ xs) a = here (same_words w x) refl (out_gone w xs a.1)
   where
-    here : (b : Bool) → same_words w x ≡ b → has w (out w xs) ≡ false → has w (cond b xs (x ∷ out w xs)) ≡ false
+    here : (b : Bool) → same_words w x ≡ b → has w (out w xs) ≡ false
+        → has w (cond b xs (x ∷ out w xs)) ≡ false
     here true is h = subst (λ (v : Words). has v xs ≡ false) (sym (words_same w x is)) a.0
     here false is h = rw is h
 
 -- ---- different strings of a list are no more than its different strings
 
-fewer : (ys zs : List Words) → Apart zs → ((w : Words) → has w zs ≡ true → has w ys ≡ true) → length zs ≤ length (different ys)
+fewer : (ys zs : List Words) → Apart zs → ((w : Words) → has w zs ≡ true → has w ys ≡ true)
+    → length zs ≤ length (different ys)
 fewer [] [] a within = omega arith
 fewer [] (z ∷ zs) a within = absurd (cc (within z (ap (λ b. b || has z zs) (words_refl z))))
 fewer (y ∷ ys) zs a within = here (has y ys) refl (fewer ys)
   where
-    here : (b : Bool) → has y ys ≡ b → ((zs : List Words) → Apart zs → ((w : Words) → has w zs ≡ true → has w ys ≡ true) → length zs ≤ length (different ys)) → length zs ≤ length (cond b (different ys) (y ∷ different ys))
+    here : (b : Bool) → has y ys ≡ b
+        → ((zs : List Words) → Apart zs → ((w : Words) → has w zs ≡ true → has w ys ≡ true)
+        → length zs ≤ length (different ys))
+        → length zs ≤ length (cond b (different ys) (y ∷ different ys))
     here true is less = less zs a (λ w h. elim (or_cases (same_words w y) (has w ys) (within w h)) [
       | inl e ↦ subst (λ (v : Words). has v ys ≡ true) (sym (words_same w y e)) is
       | inr e ↦ e
     ])
     here false is less =
-        let short = less (out y zs) (out_apart y zs a) (λ w h. elim (or_cases (same_words w y) (has w ys) (within w (out_keeps y w zs h))) [
-          | inl e ↦ absurd (cc (h, subst (λ (v : Words). has v (out y zs) ≡ false) (sym (words_same w y e)) (out_gone y zs a)))
+        let short = less (out y zs) (out_apart y zs a)
+        (λ w h. elim (or_cases (same_words w y) (has w ys) (within w (out_keeps y w zs h))) [
+          | inl e ↦ absurd (cc (
+            h,
+            subst (λ (v : Words). has v (out y zs) ≡ false)
+                (sym (words_same w y e)) (out_gone y zs a),
+          ))
           | inr e ↦ e
         ]) in
         omega (arith, short, out_length y zs)
@@ -151,5 +165,7 @@ apart (x ∷ ws) d = (
     here : Contains ws x → ⊥
     here held = d 0 (suc held.0) x (omega arith) (omega (arith, held.1)) (sym held.2)
 
-pub fewer_different : (ys zs : List Words) → AreDifferent zs → ((w : Words) → Contains zs w → Contains ys w) → length zs ≤ length (different ys)
-fewer_different ys zs d within = fewer ys zs (apart zs d) (λ w h. Contains-has ys w (within w (has-Contains zs w h)))
+pub fewer_different : (ys zs : List Words) → AreDifferent zs
+    → ((w : Words) → Contains zs w → Contains ys w) → length zs ≤ length (different ys)
+fewer_different ys zs d within =
+    fewer ys zs (apart zs d) (λ w h. Contains-has ys w (within w (has-Contains zs w h)))

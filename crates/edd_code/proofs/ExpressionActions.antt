@@ -44,32 +44,43 @@ module _ (text : StrNo → Option Words) (around : device.Environment) where
 
   -- the same in place of the topmost operand, and of the two topmost
   abbrev pub MeansOfOne : Block → (ℤ → Action ℤ) → Type 0
-  MeansOfOne b f = (a : ℤ) (operands : List ℤ) (s : State) → runs b (a ∷ operands) s ≡ pushed operands (f a s)
+  MeansOfOne b f = (a : ℤ) (operands : List ℤ) (s : State) → runs b (a ∷ operands) s
+      ≡ pushed operands (f a s)
 
   abbrev pub MeansOfTwo : Block → (ℤ → ℤ → Action ℤ) → Type 0
-  MeansOfTwo b f = (a c : ℤ) (operands : List ℤ) (s : State) → runs b (c ∷ a ∷ operands) s ≡ pushed operands (f a c s)
+  MeansOfTwo b f = (a c : ℤ) (operands : List ℤ) (s : State) → runs b (c ∷ a ∷ operands) s
+      ≡ pushed operands (f a c s)
 
   -- ---- one behind the other
 
   -- where a block goes on, the next one finds what it leaves
-  then_does : (a b : Block) (operands left : List ℤ) (s t : State) → runs a operands s ≡ Goes left t → runs (Then a b) operands s ≡ runs b left t
+  then_does : (a b : Block) (operands left : List ℤ) (s t : State) → runs a operands s ≡ Goes left t
+      → runs (Then a b) operands s ≡ runs b left t
   unfolding blocks.does
   then_does a b operands left s t goes = ap (λ (o : Outcome State Halted). and_then o (runs b)) goes
 
-  then_value : (a b : Block) (operands base under : List ℤ) (s : State) (o : source.Outcome ℤ) (f : ℤ → Action ℤ) → runs a operands s ≡ pushed base o
-      → ((z : ℤ) (t : State) → runs b (z ∷ base) t ≡ pushed under (f z t)) → runs (Then a b) operands s ≡ pushed under (source.and_then o f)
+  then_value : (a b : Block) (operands base under : List ℤ) (s : State) (o : source.Outcome ℤ)
+      (f : ℤ → Action ℤ) → runs a operands s ≡ pushed base o
+      → ((z : ℤ) (t : State) → runs b (z ∷ base) t ≡ pushed under (f z t))
+      → runs (Then a b) operands s ≡ pushed under (source.and_then o f)
   unfolding blocks.does
-  then_value a b operands base under s (Done z t) f first second = ap (λ (o : Outcome State Halted). and_then o (runs b)) first ∙ second z t
-  then_value a b operands base under s (Stopped why t) f first second = ap (λ (o : Outcome State Halted). and_then o (runs b)) first
+  then_value a b operands base under s (Done z t) f first second =
+      ap (λ (o : Outcome State Halted). and_then o (runs b)) first ∙ second z t
+  then_value a b operands base under s (Stopped why t) f first second =
+      ap (λ (o : Outcome State Halted). and_then o (runs b)) first
 
-  pub one_means : (a b : Block) (m : Action ℤ) (f : ℤ → Action ℤ) → Means a m → MeansOfOne b f → Means (Then a b) (m >>= f)
-  one_means a b m f first second = λ operands s. then_value a b operands operands operands s (m s) f (first operands s) (λ z t. second z operands t)
+  pub one_means : (a b : Block) (m : Action ℤ) (f : ℤ → Action ℤ) → Means a m → MeansOfOne b f
+      → Means (Then a b) (m >>= f)
+  one_means a b m f first second = λ operands s. then_value a b operands operands operands s (m s) f
+      (first operands s) (λ z t. second z operands t)
 
   -- the second operand is above the first
-  pub two_mean : (a b c : Block) (m n : Action ℤ) (f : ℤ → ℤ → Action ℤ) → Means a m → Means b n → MeansOfTwo c f → Means (Then a (Then b c)) (m >>= λ x. n >>= f x)
+  pub two_mean : (a b c : Block) (m n : Action ℤ) (f : ℤ → ℤ → Action ℤ) → Means a m → Means b n
+      → MeansOfTwo c f → Means (Then a (Then b c)) (m >>= λ x. n >>= f x)
   two_mean a b c m n f first second third =
       one_means a (Then b c) m (λ x. n >>= f x) first
-      (λ x operands s. then_value b c (x ∷ operands) (x ∷ operands) operands s (n s) (f x) (second (x ∷ operands) s) (λ y t. third x y operands t))
+      (λ x operands s. then_value b c (x ∷ operands) (x ∷ operands) operands s (n s) (f x)
+      (second (x ∷ operands) s) (λ y t. third x y operands t))
 
   -- ---- numbers, locals and variables
 
@@ -95,7 +106,8 @@ module _ (text : StrNo → Option Words) (around : device.Environment) where
   read_means (Item i) operands s = item_means i operands s
   read_means (Function f) operands s = no_value_means operands s
 
-  pop_does : (a : ℤ) (operands : List ℤ) (s : State) → runs (Straight instruction.Pop) (a ∷ operands) s ≡ Goes operands s
+  pop_does : (a : ℤ) (operands : List ℤ) (s : State)
+      → runs (Straight instruction.Pop) (a ∷ operands) s ≡ Goes operands s
   unfolding blocks.does act
   pop_does a operands s = refl
 
@@ -110,10 +122,14 @@ module _ (text : StrNo → Option Words) (around : device.Environment) where
   store_means (Function f) z operands s = refl
 
   -- a variable gets the topmost operand, and in its place is 0
-  pub store_means_zero : (to : Target) → MeansOfOne (Then (store_block to) (Then (Straight instruction.Pop) no_value)) (λ a. assign around to a >> pure (pos 0))
+  pub store_means_zero : (to : Target)
+      → MeansOfOne (Then (store_block to) (Then (Straight instruction.Pop) no_value))
+      (λ a. assign around to a >> pure (pos 0))
   store_means_zero to a operands s =
-      then_value (store_block to) (Then (Straight instruction.Pop) no_value) (a ∷ operands) operands operands s (assign around to a s) (λ z. pure (pos 0)) (store_means to a operands s)
-      (λ z t. then_does (Straight instruction.Pop) no_value (z ∷ operands) operands t t (pop_does z operands t) ∙ no_value_means operands t)
+      then_value (store_block to) (Then (Straight instruction.Pop) no_value) (a ∷ operands) operands
+      operands s (assign around to a s) (λ z. pure (pos 0)) (store_means to a operands s)
+      (λ z t. then_does (Straight instruction.Pop) no_value (z ∷ operands) operands t t
+      (pop_does z operands t) ∙ no_value_means operands t)
 
   -- ---- operators
 
@@ -124,23 +140,31 @@ module _ (text : StrNo → Option Words) (around : device.Environment) where
   unary_means unary_operator.Not a operands s = refl
   unary_means unary_operator.Complement a operands s = refl
 
-  operate_is : (op : Operator) (r : Result ℤ _) (a c : ℤ) (operands : List ℤ) (s : State) → operate 32 op a c ≡ r
-      → runs (Straight (instruction.Operate op)) (c ∷ a ∷ operands) s ≡ pushed operands (source.number r s)
+  operate_is : (op : Operator) (r : Result ℤ _) (a c : ℤ) (operands : List ℤ) (s : State)
+      → operate 32 op a c ≡ r
+      → runs (Straight (instruction.Operate op)) (c ∷ a ∷ operands) s
+      ≡ pushed operands (source.number r s)
   unfolding blocks.does act
   operate_is op (Ok z) a c operands s is = rw is refl
   operate_is op (Err why) a c operands s is = rw is refl
 
-  pub operate_means : (op : Operator) → MeansOfTwo (Straight (instruction.Operate op)) (λ a c. source.number (operate 32 op a c))
+  pub operate_means : (op : Operator)
+      → MeansOfTwo (Straight (instruction.Operate op)) (λ a c. source.number (operate 32 op a c))
   operate_means op a c operands s = operate_is op (operate 32 op a c) a c operands s refl
 
-  pub compare_means : (by : Comparison) → MeansOfTwo (Straight (instruction.Compare by)) (λ a c. pure (compare by a c))
+  pub compare_means : (by : Comparison)
+      → MeansOfTwo (Straight (instruction.Compare by)) (λ a c. pure (compare by a c))
   unfolding blocks.does act
   compare_means by a c operands s = refl
 
   -- an operator, and what takes its value
-  pub operate_then : (op : Operator) (b : Block) (f : ℤ → Action ℤ) → MeansOfOne b f → MeansOfTwo (Then (Straight (instruction.Operate op)) b) (λ a c. source.number (operate 32 op a c) >>= f)
+  pub operate_then : (op : Operator) (b : Block) (f : ℤ → Action ℤ) → MeansOfOne b f
+      → MeansOfTwo (Then (Straight (instruction.Operate op)) b)
+      (λ a c. source.number (operate 32 op a c) >>= f)
   operate_then op b f is = λ a c operands s.
-      then_value (Straight (instruction.Operate op)) b (c ∷ a ∷ operands) operands operands s (source.number (operate 32 op a c) s) f (operate_means op a c operands s) (λ z t. is z operands t)
+      then_value (Straight (instruction.Operate op)) b (c ∷ a ∷ operands) operands operands s
+      (source.number (operate 32 op a c) s) f (operate_means op a c operands s)
+      (λ z t. is z operands t)
 
   -- ---- `++` and `--`
 
@@ -148,31 +172,50 @@ module _ (text : StrNo → Option Words) (around : device.Environment) where
   unfolding wrap
   one_is = refl
 
-  store_next_means : (op : Operator) (to : Target) → MeansOfOne (store_next_block op to) (λ old. source.number (operate 32 op old (pos 1)) >>= assign around to)
+  store_next_means : (op : Operator) (to : Target)
+      → MeansOfOne (store_next_block op to) (λ old. source.number (operate 32 op old (pos 1))
+      >>= assign around to)
   store_next_means op to old operands s =
-      then_does (Straight (instruction.Push 1)) (Then (Straight (instruction.Operate op)) (store_block to)) (old ∷ operands) (pos 1 ∷ old ∷ operands) s s
+      then_does (Straight (instruction.Push 1))
+      (Then (Straight (instruction.Operate op)) (store_block to)) (old ∷ operands)
+      (pos 1 ∷ old ∷ operands) s s
       (push_means 1 (old ∷ operands) s ∙ ap (λ (z : ℤ). Goes (z ∷ old ∷ operands) s) one_is)
       ∙ operate_then op (store_block to) (assign around to) (store_means to) old (pos 1) operands s
 
-  duplicate_does : (a : ℤ) (operands : List ℤ) (s : State) → runs (Straight instruction.Duplicate) (a ∷ operands) s ≡ Goes (a ∷ a ∷ operands) s
+  duplicate_does : (a : ℤ) (operands : List ℤ) (s : State)
+      → runs (Straight instruction.Duplicate) (a ∷ operands) s ≡ Goes (a ∷ a ∷ operands) s
   unfolding blocks.does act
   duplicate_does a operands s = refl
 
-  store_behind_means : (op : Operator) (to : Target) → MeansOfOne (store_behind_block op to) (λ old. (source.number (operate 32 op old (pos 1)) >>= assign around to) >> pure old)
+  store_behind_means : (op : Operator) (to : Target)
+      → MeansOfOne (store_behind_block op to)
+      (λ old. (source.number (operate 32 op old (pos 1)) >>= assign around to) >> pure old)
   store_behind_means op to old operands s =
-      then_does (Straight instruction.Duplicate) (Then (store_next_block op to) (Straight instruction.Pop)) (old ∷ operands) (old ∷ old ∷ operands) s s (duplicate_does old operands s)
-      ∙ then_value (store_next_block op to) (Straight instruction.Pop) (old ∷ old ∷ operands) (old ∷ operands) operands s _ (λ z. pure old) (store_next_means op to old (old ∷ operands) s) (λ z t. pop_does z (old ∷ operands) t)
+      then_does (Straight instruction.Duplicate)
+      (Then (store_next_block op to) (Straight instruction.Pop)) (old ∷ operands)
+      (old ∷ old ∷ operands) s s (duplicate_does old operands s)
+      ∙ then_value (store_next_block op to) (Straight instruction.Pop) (old ∷ old ∷ operands)
+      (old ∷ operands) operands s _ (λ z. pure old)
+      (store_next_means op to old (old ∷ operands) s) (λ z t. pop_does z (old ∷ operands) t)
 
-  pub increment_means : (op : IncrementOperator) (to : Target) → Means (increment_block op to) (increment around op to)
+  pub increment_means : (op : IncrementOperator) (to : Target)
+      → Means (increment_block op to) (increment around op to)
   unfolding operate
-  increment_means PreIncrement to = one_means (load_block to) (store_next_block operator.Add to) (read to) _ (read_means to) (store_next_means operator.Add to)
-  increment_means PostIncrement to = one_means (load_block to) (store_behind_block operator.Add to) (read to) _ (read_means to) (store_behind_means operator.Add to)
-  increment_means PreDecrement to = one_means (load_block to) (store_next_block operator.Subtract to) (read to) _ (read_means to) (store_next_means operator.Subtract to)
-  increment_means PostDecrement to = one_means (load_block to) (store_behind_block operator.Subtract to) (read to) _ (read_means to) (store_behind_means operator.Subtract to)
+  increment_means PreIncrement to = one_means (load_block to) (store_next_block operator.Add to)
+      (read to) _ (read_means to) (store_next_means operator.Add to)
+  increment_means PostIncrement to = one_means (load_block to) (store_behind_block operator.Add to)
+      (read to) _ (read_means to) (store_behind_means operator.Add to)
+  increment_means PreDecrement to =
+      one_means (load_block to) (store_next_block operator.Subtract to) (read to) _ (read_means to)
+      (store_next_means operator.Subtract to)
+  increment_means PostDecrement to =
+      one_means (load_block to) (store_behind_block operator.Subtract to) (read to) _
+      (read_means to) (store_behind_means operator.Subtract to)
 
   -- ---- `&&`, `||` and `?`
 
-  not_does : (a : ℤ) (operands : List ℤ) (s : State) → runs (Straight instruction.Not) (a ∷ operands) s ≡ Goes (truth (is_zero a) ∷ operands) s
+  not_does : (a : ℤ) (operands : List ℤ) (s : State)
+      → runs (Straight instruction.Not) (a ∷ operands) s ≡ Goes (truth (is_zero a) ∷ operands) s
   unfolding blocks.does act apply
   not_does a operands s = refl
 
@@ -180,9 +223,11 @@ module _ (text : StrNo → Option Words) (around : device.Environment) where
   not_again true = refl
   not_again false = refl
 
-  truth_does : (a : ℤ) (operands : List ℤ) (s : State) → runs truth_block (a ∷ operands) s ≡ Goes (truth (not (is_zero a)) ∷ operands) s
+  truth_does : (a : ℤ) (operands : List ℤ) (s : State) → runs truth_block (a ∷ operands) s
+      ≡ Goes (truth (not (is_zero a)) ∷ operands) s
   truth_does a operands s =
-      then_does (Straight instruction.Not) (Straight instruction.Not) (a ∷ operands) (truth (is_zero a) ∷ operands) s s (not_does a operands s)
+      then_does (Straight instruction.Not) (Straight instruction.Not) (a ∷ operands)
+      (truth (is_zero a) ∷ operands) s s (not_does a operands s)
       ∙ not_does (truth (is_zero a)) operands s
       ∙ ap (λ (z : ℤ). Goes (z ∷ operands) s) (not_again (is_zero a))
 
@@ -191,42 +236,62 @@ module _ (text : StrNo → Option Words) (around : device.Environment) where
   truth_of m = m >>= λ b. pure (truth (not (is_zero b)))
 
   module _ (right : Block) (m : Action ℤ) (is : Means right m) where
-    instead_means : (a : ℤ) (operands : List ℤ) (s : State) → runs (instead right) (a ∷ operands) s ≡ pushed operands (truth_of m s)
+    instead_means : (a : ℤ) (operands : List ℤ) (s : State) → runs (instead right) (a ∷ operands) s
+        ≡ pushed operands (truth_of m s)
     instead_means a operands s =
-        then_does (Straight instruction.Pop) (Then right truth_block) (a ∷ operands) operands s s (pop_does a operands s)
-        ∙ one_means right truth_block m (λ b. pure (truth (not (is_zero b)))) is truth_does operands s
+        then_does (Straight instruction.Pop) (Then right truth_block) (a ∷ operands) operands s s
+        (pop_does a operands s)
+        ∙ one_means right truth_block m (λ b. pure (truth (not (is_zero b)))) is truth_does operands
+        s
 
     and_choice : (a : ℤ) (b : Bool) → is_zero a ≡ b → (operands : List ℤ) (s : State)
-        → (elim b as (λ _. Outcome State Halted) [ true ↦ Goes (a ∷ operands) s | false ↦ runs (instead right) (a ∷ operands) s ])
-        ≡ pushed operands ((elim b as (λ _. Action ℤ) [ true ↦ pure (pos 0) | false ↦ truth_of m ]) s)
+        → (elim b as (λ _. Outcome State Halted) [
+          | true ↦ Goes (a ∷ operands) s
+          | false ↦ runs (instead right) (a ∷ operands) s
+        ])
+        ≡ pushed operands ((elim b as (λ _. Action ℤ) [ true ↦ pure (pos 0) | false ↦ truth_of m ])
+        s)
     and_choice a true at operands s = ap (λ (z : ℤ). Goes (z ∷ operands) s) (zero_is a at)
     and_choice a false at operands s = instead_means a operands s
 
-    pub and_means : MeansOfOne (then_test (WhenNotZero (instead right))) (λ a. elim (is_zero a) [ true ↦ pure (pos 0) | false ↦ truth_of m ])
+    pub and_means : MeansOfOne (then_test (WhenNotZero (instead right)))
+        (λ a. elim (is_zero a) [ true ↦ pure (pos 0) | false ↦ truth_of m ])
     unfolding blocks.does
     and_means a operands s =
-        then_does (Straight instruction.Duplicate) (WhenNotZero (instead right)) (a ∷ operands) (a ∷ a ∷ operands) s s (duplicate_does a operands s)
+        then_does (Straight instruction.Duplicate) (WhenNotZero (instead right)) (a ∷ operands)
+        (a ∷ a ∷ operands) s s (duplicate_does a operands s)
         ∙ and_choice a (is_zero a) refl operands s
 
     -- 1 or 0, in front of the test
     or_test : (b : Bool) (operands : List ℤ) (s : State)
-        → runs (WhenZero (instead right)) (truth (not b) ∷ truth (not b) ∷ operands) s ≡ pushed operands ((elim b as (λ _. Action ℤ) [ true ↦ truth_of m | false ↦ pure (pos 1) ]) s)
+        → runs (WhenZero (instead right)) (truth (not b) ∷ truth (not b) ∷ operands) s
+        ≡ pushed operands ((elim b as (λ _. Action ℤ) [
+          | true ↦ truth_of m
+          | false ↦ pure (pos 1)
+        ]) s)
     unfolding blocks.does
     or_test true operands s = instead_means (pos 0) operands s
     or_test false operands s = refl
 
-    pub or_means : MeansOfOne (Then truth_block (then_test (WhenZero (instead right)))) (λ a. elim (is_zero a) [ true ↦ truth_of m | false ↦ pure (pos 1) ])
+    pub or_means : MeansOfOne (Then truth_block (then_test (WhenZero (instead right))))
+        (λ a. elim (is_zero a) [ true ↦ truth_of m | false ↦ pure (pos 1) ])
     or_means a operands s =
         let z = truth (not (is_zero a)) in
-        then_does truth_block (then_test (WhenZero (instead right))) (a ∷ operands) (z ∷ operands) s s (truth_does a operands s)
-        ∙ then_does (Straight instruction.Duplicate) (WhenZero (instead right)) (z ∷ operands) (z ∷ z ∷ operands) s s (duplicate_does z operands s)
+        then_does truth_block (then_test (WhenZero (instead right))) (a ∷ operands) (z ∷ operands) s
+        s (truth_does a operands s)
+        ∙ then_does (Straight instruction.Duplicate) (WhenZero (instead right)) (z ∷ operands)
+        (z ∷ z ∷ operands) s s (duplicate_does z operands s)
         ∙ or_test (is_zero a) operands s
 
-  either_choice : (b : Bool) (o u : Outcome State Halted) (m n : Action ℤ) (operands : List ℤ) (s : State) → o ≡ pushed operands (m s) → u ≡ pushed operands (n s)
-      → (elim b as (λ _. Outcome State Halted) [ true ↦ u | false ↦ o ]) ≡ pushed operands ((elim b as (λ _. Action ℤ) [ true ↦ n | false ↦ m ]) s)
+  either_choice : (b : Bool) (o u : Outcome State Halted) (m n : Action ℤ) (operands : List ℤ)
+      (s : State) → o ≡ pushed operands (m s) → u ≡ pushed operands (n s)
+      → (elim b as (λ _. Outcome State Halted) [ true ↦ u | false ↦ o ])
+      ≡ pushed operands ((elim b as (λ _. Action ℤ) [ true ↦ n | false ↦ m ]) s)
   either_choice true o u m n operands s p q = q
   either_choice false o u m n operands s p q = p
 
-  pub either_means : (first second : Block) (m n : Action ℤ) → Means first m → Means second n → MeansOfOne (Either first second) (λ a. elim (is_zero a) [ true ↦ n | false ↦ m ])
+  pub either_means : (first second : Block) (m n : Action ℤ) → Means first m → Means second n
+      → MeansOfOne (Either first second) (λ a. elim (is_zero a) [ true ↦ n | false ↦ m ])
   unfolding blocks.does
-  either_means first second m n p q a operands s = either_choice (is_zero a) _ _ m n operands s (p operands s) (q operands s)
+  either_means first second m n p q a operands s = either_choice (is_zero a) _ _ m n operands s
+      (p operands s) (q operands s)

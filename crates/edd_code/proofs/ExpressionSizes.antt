@@ -39,7 +39,8 @@ is_short (Binary op left right) = omega (arith, is_short left, is_short right)
 is_short (Compare by left right) = omega (arith, is_short left, is_short right)
 is_short (LogicalAnd left right) = omega (arith, is_short left, is_short right)
 is_short (LogicalOr left right) = omega (arith, is_short left, is_short right)
-is_short (Conditional test first second) = omega (arith, is_short test, is_short first, is_short second)
+is_short (Conditional test first second) =
+    omega (arith, is_short test, is_short first, is_short second)
 is_short Decimal = omega arith
 is_short (Assign to by) = omega arith
 is_short (CompoundAssign op to by) = omega arith

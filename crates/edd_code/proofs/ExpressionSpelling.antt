@@ -29,14 +29,17 @@ and_is p q = rw (p, q) refl
 no_value_spelled : AreSpelled no_value
 no_value_spelled = omega arith
 
-item_spelled : (counts : Counts) (i : ItemNo) → counts.variables ≤ 65536 → item_is_there counts i ≡ true → AreSpelled (item_block i)
-item_spelled counts (item_no.Variable v) few is = let below = ltb-true v.0 counts.variables is in omega arith
+item_spelled : (counts : Counts) (i : ItemNo) → counts.variables ≤ 65536 → item_is_there counts i
+    ≡ true → AreSpelled (item_block i)
+item_spelled counts (item_no.Variable v) few is = let below =
+    ltb-true v.0 counts.variables is in omega arith
 item_spelled counts (item_no.Command n) few is = no_value_spelled
 item_spelled counts (item_no.Menu n) few is = no_value_spelled
 item_spelled counts (item_no.Collection n) few is = no_value_spelled
 item_spelled counts (item_no.Method n) few is = no_value_spelled
 
-read_spelled : (counts : Counts) (t : Target) → counts.variables ≤ 65536 → reads_existing counts t ≡ true → AreSpelled (read_block t)
+read_spelled : (counts : Counts) (t : Target) → counts.variables ≤ 65536 → reads_existing counts t
+    ≡ true → AreSpelled (read_block t)
 read_spelled counts (Item i) few is = item_spelled counts i few is
 read_spelled counts (Local slot) few is = no_value_spelled
 read_spelled counts (Function f) few is = no_value_spelled
@@ -48,16 +51,21 @@ unary_spelled unary_operator.Not = tt
 unary_spelled unary_operator.Complement = tt
 
 module _ (counts : Counts) (plain : Target → Bool) (few : counts.variables ≤ 65536) where
-  pub is_spelled : (e : Expr Target) → is_pure_expr (reads_existing counts) plain e ≡ true → AreSpelled (expression_block e)
+  pub is_spelled : (e : Expr Target) → is_pure_expr (reads_existing counts) plain e ≡ true
+      → AreSpelled (expression_block e)
   unfolding expression_block
   is_spelled (Literal value) is = ltb-true value (2 ^ 32) is
   is_spelled (Reference from) is = read_spelled counts from few is
   is_spelled (Parentheses inner) is = is_spelled inner is
   is_spelled (Unary op operand) is = (is_spelled operand is, unary_spelled op)
-  is_spelled (Binary op left right) is = let p = both _ _ is in (is_spelled left p.0, (is_spelled right p.1, tt))
-  is_spelled (Compare by left right) is = let p = both _ _ is in (is_spelled left p.0, (is_spelled right p.1, tt))
-  is_spelled (LogicalAnd left right) is = let p = both _ _ is in (is_spelled left p.0, (tt, (tt, (is_spelled right p.1, (tt, tt)))))
-  is_spelled (LogicalOr left right) is = let p = both _ _ is in (is_spelled left p.0, ((tt, tt), (tt, (tt, (is_spelled right p.1, (tt, tt))))))
+  is_spelled (Binary op left right) is = let p =
+      both _ _ is in (is_spelled left p.0, (is_spelled right p.1, tt))
+  is_spelled (Compare by left right) is = let p =
+      both _ _ is in (is_spelled left p.0, (is_spelled right p.1, tt))
+  is_spelled (LogicalAnd left right) is = let p =
+      both _ _ is in (is_spelled left p.0, (tt, (tt, (is_spelled right p.1, (tt, tt)))))
+  is_spelled (LogicalOr left right) is = let p =
+      both _ _ is in (is_spelled left p.0, ((tt, tt), (tt, (tt, (is_spelled right p.1, (tt, tt))))))
   is_spelled (Conditional test first second) is =
       let p = both _ _ is in
       let q = both _ _ p.0 in
@@ -71,14 +79,16 @@ module _ (counts : Counts) (plain : Target → Bool) (few : counts.variables ≤
 -- ---- names
 
 module _ (context : Context) (plain : Target → Bool) where
-  item_named : (i : ItemNo) → item_is_there context.counts i ≡ true → all_straight (names_exist context) (item_block i) ≡ true
+  item_named : (i : ItemNo) → item_is_there context.counts i ≡ true
+      → all_straight (names_exist context) (item_block i) ≡ true
   item_named (item_no.Variable v) is = is
   item_named (item_no.Command n) is = refl
   item_named (item_no.Menu n) is = refl
   item_named (item_no.Collection n) is = refl
   item_named (item_no.Method n) is = refl
 
-  read_named : (t : Target) → reads_existing context.counts t ≡ true → all_straight (names_exist context) (read_block t) ≡ true
+  read_named : (t : Target) → reads_existing context.counts t ≡ true
+      → all_straight (names_exist context) (read_block t) ≡ true
   read_named (Item i) is = item_named i is
   read_named (Local slot) is = refl
   read_named (Function f) is = refl
@@ -89,16 +99,21 @@ module _ (context : Context) (plain : Target → Bool) where
   unary_named unary_operator.Not = refl
   unary_named unary_operator.Complement = refl
 
-  pub is_named : (e : Expr Target) → is_pure_expr (reads_existing context.counts) plain e ≡ true → all_straight (names_exist context) (expression_block e) ≡ true
+  pub is_named : (e : Expr Target) → is_pure_expr (reads_existing context.counts) plain e ≡ true
+      → all_straight (names_exist context) (expression_block e) ≡ true
   unfolding expression_block
   is_named (Literal value) is = refl
   is_named (Reference from) is = read_named from is
   is_named (Parentheses inner) is = is_named inner is
   is_named (Unary op operand) is = and_is (is_named operand is) (unary_named op)
-  is_named (Binary op left right) is = let p = both _ _ is in and_is (is_named left p.0) (and_is (is_named right p.1) refl)
-  is_named (Compare by left right) is = let p = both _ _ is in and_is (is_named left p.0) (and_is (is_named right p.1) refl)
-  is_named (LogicalAnd left right) is = let p = both _ _ is in and_is (is_named left p.0) (and_is (is_named right p.1) refl)
-  is_named (LogicalOr left right) is = let p = both _ _ is in and_is (is_named left p.0) (and_is (is_named right p.1) refl)
+  is_named (Binary op left right) is = let p = both _ _ is in and_is (is_named left p.0)
+      (and_is (is_named right p.1) refl)
+  is_named (Compare by left right) is = let p = both _ _ is in and_is (is_named left p.0)
+      (and_is (is_named right p.1) refl)
+  is_named (LogicalAnd left right) is = let p = both _ _ is in and_is (is_named left p.0)
+      (and_is (is_named right p.1) refl)
+  is_named (LogicalOr left right) is = let p = both _ _ is in and_is (is_named left p.0)
+      (and_is (is_named right p.1) refl)
   is_named (Conditional test first second) is =
       let p = both _ _ is in
       let q = both _ _ p.0 in

@@ -33,26 +33,35 @@ zero_is z is = (Decides-int_eq z (pos 0)).0 is
 
 module _ (machine : Environment) (d : List ℤ) where
   -- where a block goes on, the next one finds what it leaves
-  then_does : (a b : Block) (operands left : List ℤ) → does machine d a operands ≡ Goes [] left → does machine d (Then a b) operands ≡ does machine d b left
+  then_does : (a b : Block) (operands left : List ℤ) → does machine d a operands ≡ Goes [] left
+      → does machine d (Then a b) operands ≡ does machine d b left
   unfolding does
-  then_does a b operands left goes = ap (λ o. and_then o (does machine d b)) goes ∙ nothing_in_front (does machine d b left)
+  then_does a b operands left goes = ap (λ o. and_then o (does machine d b)) goes
+      ∙ nothing_in_front (does machine d b left)
 
   -- a block that comes to a value, and one that goes on with it
-  with_value : (a b : Block) (operands under : List ℤ) (r : Result ℤ Trap) (f : ℤ → Result ℤ Trap) → does machine d a operands ≡ of_value r operands
-      → ((z : ℤ) → does machine d b (z ∷ operands) ≡ of_value (f z) under) → does machine d (Then a b) operands ≡ of_value (r >>= f) under
+  with_value : (a b : Block) (operands under : List ℤ) (r : Result ℤ Trap) (f : ℤ → Result ℤ Trap)
+      → does machine d a operands ≡ of_value r operands
+      → ((z : ℤ) → does machine d b (z ∷ operands) ≡ of_value (f z) under)
+      → does machine d (Then a b) operands ≡ of_value (r >>= f) under
   unfolding does
-  with_value a b operands under (Ok z) f first second = then_does a b operands (z ∷ operands) first ∙ second z
-  with_value a b operands under (Err why) f first second = ap (λ o. and_then o (does machine d b)) first
+  with_value a b operands under (Ok z) f first second = then_does a b operands (z ∷ operands) first
+      ∙ second z
+  with_value a b operands under (Err why) f first second = ap (λ o. and_then o (does machine d b))
+      first
 
-  push_does : (n : ℕ) (operands : List ℤ) → does machine d (Straight (instruction.Push n)) operands ≡ Goes [] (wrap 64 (pos n) ∷ operands)
+  push_does : (n : ℕ) (operands : List ℤ) → does machine d (Straight (instruction.Push n)) operands
+      ≡ Goes [] (wrap 64 (pos n) ∷ operands)
   unfolding does act
   push_does n operands = refl
 
-  no_value_does : (operands : List ℤ) → does machine d no_value operands ≡ Goes [] (pos 0 ∷ operands)
+  no_value_does : (operands : List ℤ) → does machine d no_value operands
+      ≡ Goes [] (pos 0 ∷ operands)
   unfolding does act wrap
   no_value_does operands = refl
 
-  item_does : (i : ItemNo) (operands : List ℤ) → does machine d (item_block i) operands ≡ Goes [] (item_value d i ∷ operands)
+  item_does : (i : ItemNo) (operands : List ℤ) → does machine d (item_block i) operands
+      ≡ Goes [] (item_value d i ∷ operands)
   unfolding does act
   item_does (item_no.Variable v) operands = refl
   item_does (item_no.Command n) operands = no_value_does operands
@@ -60,12 +69,14 @@ module _ (machine : Environment) (d : List ℤ) where
   item_does (item_no.Collection n) operands = no_value_does operands
   item_does (item_no.Method n) operands = no_value_does operands
 
-  read_does : (t : Target) (operands : List ℤ) → does machine d (read_block t) operands ≡ Goes [] (read d t ∷ operands)
+  read_does : (t : Target) (operands : List ℤ) → does machine d (read_block t) operands
+      ≡ Goes [] (read d t ∷ operands)
   read_does (Item i) operands = item_does i operands
   read_does (Local slot) operands = no_value_does operands
   read_does (Function f) operands = no_value_does operands
 
-  unary_does : (op : UnaryOperator) (a : ℤ) (operands : List ℤ) → does machine d (unary_block op) (a ∷ operands) ≡ Goes [] (apply 64 op a ∷ operands)
+  unary_does : (op : UnaryOperator) (a : ℤ) (operands : List ℤ)
+      → does machine d (unary_block op) (a ∷ operands) ≡ Goes [] (apply 64 op a ∷ operands)
   unfolding does act apply
   unary_does unary_operator.Plus a operands = refl
   unary_does unary_operator.Minus a operands = refl
@@ -74,7 +85,8 @@ module _ (machine : Environment) (d : List ℤ) where
 
   -- ---- the truth of a number
 
-  not_does : (a : ℤ) (operands : List ℤ) → does machine d (Straight instruction.Not) (a ∷ operands) ≡ Goes [] (truth (is_zero a) ∷ operands)
+  not_does : (a : ℤ) (operands : List ℤ) → does machine d (Straight instruction.Not) (a ∷ operands)
+      ≡ Goes [] (truth (is_zero a) ∷ operands)
   unfolding does act apply
   not_does a operands = refl
 
@@ -82,99 +94,166 @@ module _ (machine : Environment) (d : List ℤ) where
   not_again true = refl
   not_again false = refl
 
-  truth_does : (a : ℤ) (operands : List ℤ) → does machine d truth_block (a ∷ operands) ≡ Goes [] (truth (not (is_zero a)) ∷ operands)
+  truth_does : (a : ℤ) (operands : List ℤ) → does machine d truth_block (a ∷ operands)
+      ≡ Goes [] (truth (not (is_zero a)) ∷ operands)
   truth_does a operands =
-      then_does (Straight instruction.Not) (Straight instruction.Not) (a ∷ operands) (truth (is_zero a) ∷ operands) (not_does a operands)
+      then_does (Straight instruction.Not) (Straight instruction.Not) (a ∷ operands)
+      (truth (is_zero a) ∷ operands) (not_does a operands)
       ∙ not_does (truth (is_zero a)) operands
       ∙ ap (λ z. Goes [] (z ∷ operands)) (not_again (is_zero a))
 
-  duplicate_does : (a : ℤ) (operands : List ℤ) → does machine d (Straight instruction.Duplicate) (a ∷ operands) ≡ Goes [] (a ∷ a ∷ operands)
+  duplicate_does : (a : ℤ) (operands : List ℤ)
+      → does machine d (Straight instruction.Duplicate) (a ∷ operands) ≡ Goes [] (a ∷ a ∷ operands)
   unfolding does act
   duplicate_does a operands = refl
 
-  pop_does : (a : ℤ) (operands : List ℤ) → does machine d (Straight instruction.Pop) (a ∷ operands) ≡ Goes [] operands
+  pop_does : (a : ℤ) (operands : List ℤ) → does machine d (Straight instruction.Pop) (a ∷ operands)
+      ≡ Goes [] operands
   unfolding does act
   pop_does a operands = refl
 
   -- the truth of the right side
-  instead_does : (right : Block) (r : Result ℤ Trap) (a : ℤ) (operands : List ℤ) → does machine d right operands ≡ of_value r operands
-      → does machine d (instead right) (a ∷ operands) ≡ of_value (r >>= λ b. Ok (truth (not (is_zero b)))) operands
+  instead_does : (right : Block) (r : Result ℤ Trap) (a : ℤ) (operands : List ℤ)
+      → does machine d right operands ≡ of_value r operands
+      → does machine d (instead right) (a ∷ operands)
+      ≡ of_value (r >>= λ b. Ok (truth (not (is_zero b)))) operands
   instead_does right r a operands is =
-      then_does (Straight instruction.Pop) (Then right truth_block) (a ∷ operands) operands (pop_does a operands)
-      ∙ with_value right truth_block operands operands r (λ b. Ok (truth (not (is_zero b)))) is (λ b. truth_does b operands)
+      then_does (Straight instruction.Pop) (Then right truth_block) (a ∷ operands) operands
+      (pop_does a operands)
+      ∙ with_value right truth_block operands operands r (λ b. Ok (truth (not (is_zero b)))) is
+      (λ b. truth_does b operands)
 
   -- ---- `&&` and `||`
 
-  and_choice : (right : Block) (r : Result ℤ Trap) (a : ℤ) (b : Bool) → is_zero a ≡ b → (operands : List ℤ) → does machine d right operands ≡ of_value r operands
-      → elim b [ true ↦ Goes [] (a ∷ operands) | false ↦ does machine d (instead right) (a ∷ operands) ] ≡ of_value (elim b [ true ↦ Ok (pos 0) | false ↦ (r >>= λ x. Ok (truth (not (is_zero x)))) ]) operands
+  and_choice : (right : Block) (r : Result ℤ Trap) (a : ℤ) (b : Bool) → is_zero a ≡ b
+      → (operands : List ℤ) → does machine d right operands ≡ of_value r operands
+      → elim b [
+        | true ↦ Goes [] (a ∷ operands)
+        | false ↦ does machine d (instead right) (a ∷ operands)
+      ]
+      ≡ of_value (elim b [
+        | true ↦ Ok (pos 0)
+        | false ↦ (r >>= λ x. Ok (truth (not (is_zero x))))
+      ]) operands
   and_choice right r a true at operands is = ap (λ z. Goes [] (z ∷ operands)) (zero_is a at)
   and_choice right r a false at operands is = instead_does right r a operands is
 
-  and_does : (right : Block) (r : Result ℤ Trap) (a : ℤ) (operands : List ℤ) → does machine d right operands ≡ of_value r operands
-      → does machine d (then_test (WhenNotZero (instead right))) (a ∷ operands) ≡ of_value (elim (is_zero a) [ true ↦ Ok (pos 0) | false ↦ (r >>= λ b. Ok (truth (not (is_zero b)))) ]) operands
+  and_does : (right : Block) (r : Result ℤ Trap) (a : ℤ) (operands : List ℤ)
+      → does machine d right operands ≡ of_value r operands
+      → does machine d (then_test (WhenNotZero (instead right))) (a ∷ operands)
+      ≡ of_value (elim (is_zero a) [
+        | true ↦ Ok (pos 0)
+        | false ↦ (r >>= λ b. Ok (truth (not (is_zero b))))
+      ]) operands
   unfolding does
   and_does right r a operands is =
-      then_does (Straight instruction.Duplicate) (WhenNotZero (instead right)) (a ∷ operands) (a ∷ a ∷ operands) (duplicate_does a operands)
+      then_does (Straight instruction.Duplicate) (WhenNotZero (instead right)) (a ∷ operands)
+      (a ∷ a ∷ operands) (duplicate_does a operands)
       ∙ and_choice right r a (is_zero a) refl operands is
 
   -- 1 or 0, in front of the test
-  or_test : (right : Block) (r : Result ℤ Trap) (b : Bool) (operands : List ℤ) → does machine d right operands ≡ of_value r operands
-      → does machine d (WhenZero (instead right)) (truth (not b) ∷ truth (not b) ∷ operands) ≡ of_value (elim b [ true ↦ (r >>= λ x. Ok (truth (not (is_zero x)))) | false ↦ Ok (pos 1) ]) operands
+  or_test : (right : Block) (r : Result ℤ Trap) (b : Bool) (operands : List ℤ)
+      → does machine d right operands ≡ of_value r operands
+      → does machine d (WhenZero (instead right)) (truth (not b) ∷ truth (not b) ∷ operands)
+      ≡ of_value (elim b [
+        | true ↦ (r >>= λ x. Ok (truth (not (is_zero x))))
+        | false ↦ Ok (pos 1)
+      ]) operands
   unfolding does
   or_test right r true operands is = instead_does right r (pos 0) operands is
   or_test right r false operands is = refl
 
-  or_does : (right : Block) (r : Result ℤ Trap) (a : ℤ) (operands : List ℤ) → does machine d right operands ≡ of_value r operands
-      → does machine d (Then truth_block (then_test (WhenZero (instead right)))) (a ∷ operands) ≡ of_value (elim (is_zero a) [ true ↦ (r >>= λ x. Ok (truth (not (is_zero x)))) | false ↦ Ok (pos 1) ]) operands
+  or_does : (right : Block) (r : Result ℤ Trap) (a : ℤ) (operands : List ℤ)
+      → does machine d right operands ≡ of_value r operands
+      → does machine d (Then truth_block (then_test (WhenZero (instead right)))) (a ∷ operands)
+      ≡ of_value (elim (is_zero a) [
+        | true ↦ (r >>= λ x. Ok (truth (not (is_zero x))))
+        | false ↦ Ok (pos 1)
+      ]) operands
   or_does right r a operands is =
       let z = truth (not (is_zero a)) in
-      then_does truth_block (then_test (WhenZero (instead right))) (a ∷ operands) (z ∷ operands) (truth_does a operands)
-      ∙ then_does (Straight instruction.Duplicate) (WhenZero (instead right)) (z ∷ operands) (z ∷ z ∷ operands) (duplicate_does z operands)
+      then_does truth_block (then_test (WhenZero (instead right))) (a ∷ operands) (z ∷ operands)
+      (truth_does a operands)
+      ∙ then_does (Straight instruction.Duplicate) (WhenZero (instead right)) (z ∷ operands)
+      (z ∷ z ∷ operands) (duplicate_does z operands)
       ∙ or_test right r (is_zero a) operands is
 
   -- ---- the rest
 
-  operate_does : (op : Operator) (r : Result ℤ Trap) (a b : ℤ) (operands : List ℤ) → operate 64 op a b ≡ r → does machine d (Straight (instruction.Operate op)) (b ∷ a ∷ operands) ≡ of_value r operands
+  operate_does : (op : Operator) (r : Result ℤ Trap) (a b : ℤ) (operands : List ℤ)
+      → operate 64 op a b ≡ r → does machine d (Straight (instruction.Operate op))
+      (b ∷ a ∷ operands) ≡ of_value r operands
   unfolding does act
   operate_does op (Ok z) a b operands is = rw is refl
   operate_does op (Err why) a b operands is = rw is refl
 
-  compare_does : (by : _) (a b : ℤ) (operands : List ℤ) → does machine d (Straight (instruction.Compare by)) (b ∷ a ∷ operands) ≡ Goes [] (compare by a b ∷ operands)
+  compare_does : (by : _) (a b : ℤ) (operands : List ℤ)
+      → does machine d (Straight (instruction.Compare by)) (b ∷ a ∷ operands)
+      ≡ Goes [] (compare by a b ∷ operands)
   unfolding does act
   compare_does by a b operands = refl
 
-  either_choice : (b : Bool) (o u : Outcome) (r s : Result ℤ Trap) (operands : List ℤ) → o ≡ of_value r operands → u ≡ of_value s operands → elim b [ true ↦ u | false ↦ o ] ≡ of_value (elim b [ true ↦ s | false ↦ r ]) operands
+  either_choice : (b : Bool) (o u : Outcome) (r s : Result ℤ Trap) (operands : List ℤ)
+      → o ≡ of_value r operands → u ≡ of_value s operands → elim b [ true ↦ u | false ↦ o ]
+      ≡ of_value (elim b [ true ↦ s | false ↦ r ]) operands
   either_choice true o u r s operands p q = q
   either_choice false o u r s operands p q = p
 
-  either_does : (first second : Block) (r s : Result ℤ Trap) (a : ℤ) (operands : List ℤ) → does machine d first operands ≡ of_value r operands → does machine d second operands ≡ of_value s operands
-      → does machine d (Either first second) (a ∷ operands) ≡ of_value (elim (is_zero a) [ true ↦ s | false ↦ r ]) operands
+  either_does : (first second : Block) (r s : Result ℤ Trap) (a : ℤ) (operands : List ℤ)
+      → does machine d first operands ≡ of_value r operands → does machine d second operands
+      ≡ of_value s operands
+      → does machine d (Either first second) (a ∷ operands)
+      ≡ of_value (elim (is_zero a) [ true ↦ s | false ↦ r ]) operands
   unfolding does
   either_does first second r s a operands p q = either_choice (is_zero a) _ _ r s operands p q
 
 module _ (machine : Environment) (around : device.Environment) (d : List ℤ) where
-  pub means : (e : Expr Target) (operands : List ℤ) → does machine d (expression_block e) operands ≡ of_value (value around d e) operands
+  pub means : (e : Expr Target) (operands : List ℤ) → does machine d (expression_block e) operands
+      ≡ of_value (value around d e) operands
   unfolding expression_block value
   means (Literal n) operands = push_does machine d n operands
   means (Reference from) operands = read_does machine d from operands
   means (Parentheses inner) operands = means inner operands
   means (Unary op operand) operands =
-      with_value machine d (expression_block operand) (unary_block op) operands operands (value around d operand) (λ a. Ok (apply 64 op a)) (means operand operands) (λ a. unary_does machine d op a operands)
+      with_value machine d (expression_block operand) (unary_block op) operands operands
+      (value around d operand) (λ a. Ok (apply 64 op a)) (means operand operands)
+      (λ a. unary_does machine d op a operands)
   means (Binary op left right) operands =
-      with_value machine d (expression_block left) (Then (expression_block right) (Straight (instruction.Operate op))) operands operands (value around d left) (λ a. value around d right >>= λ b. operate 64 op a b) (means left operands)
-      (λ a. with_value machine d (expression_block right) (Straight (instruction.Operate op)) (a ∷ operands) operands (value around d right) (λ b. operate 64 op a b) (means right (a ∷ operands)) (λ b. operate_does machine d op (operate 64 op a b) a b operands refl))
+      with_value machine d (expression_block left)
+      (Then (expression_block right) (Straight (instruction.Operate op))) operands operands
+      (value around d left) (λ a. value around d right >>= λ b. operate 64 op a b)
+      (means left operands)
+      (λ a. with_value machine d (expression_block right) (Straight (instruction.Operate op))
+      (a ∷ operands) operands (value around d right) (λ b. operate 64 op a b)
+      (means right (a ∷ operands)) (λ b. operate_does machine d op (operate 64 op a b) a b
+      operands refl))
   means (Compare by left right) operands =
-      with_value machine d (expression_block left) (Then (expression_block right) (Straight (instruction.Compare by))) operands operands (value around d left) (λ a. value around d right >>= λ b. Ok (compare by a b)) (means left operands)
-      (λ a. with_value machine d (expression_block right) (Straight (instruction.Compare by)) (a ∷ operands) operands (value around d right) (λ b. Ok (compare by a b)) (means right (a ∷ operands)) (λ b. compare_does machine d by a b operands))
+      with_value machine d (expression_block left)
+      (Then (expression_block right) (Straight (instruction.Compare by))) operands operands
+      (value around d left) (λ a. value around d right >>= λ b. Ok (compare by a b))
+      (means left operands)
+      (λ a. with_value machine d (expression_block right) (Straight (instruction.Compare by))
+      (a ∷ operands) operands (value around d right) (λ b. Ok (compare by a b))
+      (means right (a ∷ operands)) (λ b. compare_does machine d by a b operands))
   means (LogicalAnd left right) operands =
-      with_value machine d (expression_block left) (then_test (WhenNotZero (instead (expression_block right)))) operands operands (value around d left) _ (means left operands)
-      (λ a. and_does machine d (expression_block right) (value around d right) a operands (means right operands))
+      with_value machine d (expression_block left)
+      (then_test (WhenNotZero (instead (expression_block right)))) operands operands
+      (value around d left) _ (means left operands)
+      (λ a. and_does machine d (expression_block right) (value around d right) a operands
+      (means right operands))
   means (LogicalOr left right) operands =
-      with_value machine d (expression_block left) (Then truth_block (then_test (WhenZero (instead (expression_block right))))) operands operands (value around d left) _ (means left operands)
-      (λ a. or_does machine d (expression_block right) (value around d right) a operands (means right operands))
+      with_value machine d (expression_block left)
+      (Then truth_block (then_test (WhenZero (instead (expression_block right))))) operands
+      operands (value around d left) _ (means left operands)
+      (λ a. or_does machine d (expression_block right) (value around d right) a operands
+      (means right operands))
   means (Conditional test first second) operands =
-      with_value machine d (expression_block test) (Either (expression_block first) (expression_block second)) operands operands (value around d test) _ (means test operands)
-      (λ a. either_does machine d (expression_block first) (expression_block second) (value around d first) (value around d second) a operands (means first operands) (means second operands))
+      with_value machine d (expression_block test)
+      (Either (expression_block first) (expression_block second)) operands operands
+      (value around d test) _ (means test operands)
+      (λ a. either_does machine d (expression_block first) (expression_block second)
+      (value around d first) (value around d second) a operands (means first operands)
+      (means second operands))
   means Decimal operands = no_value_does machine d operands
   means (Assign to by) operands = no_value_does machine d operands
   means (CompoundAssign op to by) operands = no_value_does machine d operands

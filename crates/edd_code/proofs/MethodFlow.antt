@@ -50,40 +50,73 @@ module _ (number : Words → StrNo) where
   AreRun (Cons (Value e) rest) = IsRun e × AreRun rest
 
   abbrev CallRuns : Builtin → Arguments Target → Type 0
-  CallRuns f arguments = AreRun arguments → (d : ℕ) → d + (1 + argument_height arguments) + 2 ≤ 128 → Runs (call_block number f arguments) d (suc d)
+  CallRuns f arguments = AreRun arguments → (d : ℕ) → d + (1 + argument_height arguments) + 2 ≤ 128
+      → Runs (call_block number f arguments) d (suc d)
 
   -- ---- calls
 
   zero_behind : (e : Expr Target) (to : Target) → IsRun e → (d : ℕ) → d + height e + 2 ≤ 128
-      → Runs (Then (method_block number e) (Then (store_block to) (Then (Straight instruction.Pop) no_value))) d (suc d)
+      → Runs (Then (method_block number e)
+      (Then (store_block to) (Then (Straight instruction.Pop) no_value))) d (suc d)
   zero_behind e to is d few =
-      then_runs (method_block number e) (Then (store_block to) (Then (Straight instruction.Pop) no_value)) d (suc d) (suc d) (is d few)
-      (then_runs (store_block to) (Then (Straight instruction.Pop) no_value) (suc d) (suc d) (suc d) (store_runs to d (omega arith))
-      (then_runs (Straight instruction.Pop) no_value (suc d) d (suc d) (pop_runs d (omega arith)) (no_value_runs d (omega arith))))
+      then_runs (method_block number e)
+      (Then (store_block to) (Then (Straight instruction.Pop) no_value)) d (suc d) (suc d)
+      (is d few)
+      (then_runs (store_block to) (Then (Straight instruction.Pop) no_value) (suc d) (suc d) (suc d)
+      (store_runs to d (omega arith))
+      (then_runs (Straight instruction.Pop) no_value (suc d) d (suc d) (pop_runs d (omega arith))
+      (no_value_runs d (omega arith))))
 
-  call_runs : (f : Builtin) (arguments : Arguments Target) → is_abort f ≡ false → all_fit (parameters f) arguments ≡ true → CallRuns f arguments
+  call_runs : (f : Builtin) (arguments : Arguments Target) → is_abort f ≡ false
+      → all_fit (parameters f) arguments ≡ true → CallRuns f arguments
   unfolding method_block call_block
-  call_runs builtin.PutMessage arguments here is = of_text (CallRuns builtin.PutMessage) (λ t run d few. push_runs (instruction.Ask (ask.PutMessage (number (words_of t)))) d refl refl refl (omega arith)) arguments is
-  call_runs builtin.Acknowledge arguments here is = of_text (CallRuns builtin.Acknowledge) (λ t run d few. push_runs (instruction.Ask (ask.Acknowledge (number (words_of t)))) d refl refl refl (omega arith)) arguments is
+  call_runs builtin.PutMessage arguments here is = of_text (CallRuns builtin.PutMessage)
+      (λ t run d few. push_runs (instruction.Ask (ask.PutMessage (number (words_of t)))) d refl refl
+      refl (omega arith)) arguments is
+  call_runs builtin.Acknowledge arguments here is = of_text (CallRuns builtin.Acknowledge)
+      (λ t run d few. push_runs (instruction.Ask (ask.Acknowledge (number (words_of t)))) d refl
+      refl refl (omega arith)) arguments is
   call_runs builtin.Delay arguments here is =
       of_number_text (CallRuns builtin.Delay)
-      (λ e t run d few. then_runs (method_block number e) (ask_block (ask.Delay (number (words_of t)))) d (suc d) (suc d) (run.0 d (omega arith)) (change_runs (instruction.Ask (ask.Delay (number (words_of t)))) d refl refl refl (omega arith)))
+      (λ e t run d few. then_runs (method_block number e)
+      (ask_block (ask.Delay (number (words_of t)))) d (suc d) (suc d) (run.0 d (omega arith))
+      (change_runs (instruction.Ask (ask.Delay (number (words_of t)))) d refl refl refl
+      (omega arith)))
       arguments is
-  call_runs builtin.GetDevVarValue arguments here is = of_text_variable (CallRuns builtin.GetDevVarValue) (λ t v run d few. push_runs (instruction.Ask (ask.GetDevVarValue (number (words_of t)) v)) d refl refl refl (omega arith)) arguments is
-  call_runs builtin.SelectFromList arguments here is = of_texts (CallRuns builtin.SelectFromList) (λ t u run d few. push_runs (instruction.Ask (ask.SelectFromList (number (words_of t)) (number (words_of u)))) d refl refl refl (omega arith)) arguments is
+  call_runs builtin.GetDevVarValue arguments here is =
+      of_text_variable (CallRuns builtin.GetDevVarValue)
+      (λ t v run d few. push_runs (instruction.Ask (ask.GetDevVarValue (number (words_of t)) v)) d
+      refl refl refl (omega arith)) arguments is
+  call_runs builtin.SelectFromList arguments here is = of_texts (CallRuns builtin.SelectFromList)
+      (λ t u run d few. push_runs
+      (instruction.Ask (ask.SelectFromList (number (words_of t)) (number (words_of u)))) d refl refl
+      refl (omega arith)) arguments is
   call_runs builtin.SendCommand arguments here is =
       of_number (CallRuns builtin.SendCommand)
-      (λ e run d few. then_runs (method_block number e) (ask_block ask.SendCommand) d (suc d) (suc d) (run.0 d (omega arith)) (change_runs (instruction.Ask ask.SendCommand) d refl refl refl (omega arith)))
+      (λ e run d few. then_runs (method_block number e) (ask_block ask.SendCommand) d (suc d)
+      (suc d) (run.0 d (omega arith)) (change_runs (instruction.Ask ask.SendCommand) d refl refl
+      refl (omega arith)))
       arguments is
   call_runs builtin.SendCommandTrans arguments here is =
       of_numbers (CallRuns builtin.SendCommandTrans)
-      (λ e x run d few. two_run (method_block number e) (method_block number x) (ask_block ask.SendCommandTrans) d (run.0 d (omega arith)) (run.1.0 (suc d) (omega arith)) (join_runs (instruction.Ask ask.SendCommandTrans) d refl refl refl (omega (arith, high x))))
+      (λ e x run d few. two_run (method_block number e) (method_block number x)
+      (ask_block ask.SendCommandTrans) d (run.0 d (omega arith)) (run.1.0 (suc d) (omega arith))
+      (join_runs (instruction.Ask ask.SendCommandTrans) d refl refl refl
+      (omega (arith, high x))))
       arguments is
-  call_runs builtin.SaveValues arguments here is = of_none (CallRuns builtin.SaveValues) (λ run d few. push_runs (instruction.Ask ask.SaveValues) d refl refl refl (omega arith)) arguments is
-  call_runs builtin.IvarValue arguments here is = of_variable (CallRuns builtin.IvarValue) (λ v run d few. read_runs (Item (item_no.Variable v)) d (omega arith)) arguments is
-  call_runs builtin.LvarValue arguments here is = of_variable (CallRuns builtin.LvarValue) (λ v run d few. read_runs (Item (item_no.Variable v)) d (omega arith)) arguments is
-  call_runs builtin.Iassign arguments here is = of_variable_number (CallRuns builtin.Iassign) (λ v e run d few. zero_behind e (Item (item_no.Variable v)) run.1.0 d (omega arith)) arguments is
-  call_runs builtin.Lassign arguments here is = of_variable_number (CallRuns builtin.Lassign) (λ v e run d few. zero_behind e (Item (item_no.Variable v)) run.1.0 d (omega arith)) arguments is
+  call_runs builtin.SaveValues arguments here is = of_none (CallRuns builtin.SaveValues)
+      (λ run d few. push_runs (instruction.Ask ask.SaveValues) d refl refl refl (omega arith))
+      arguments is
+  call_runs builtin.IvarValue arguments here is = of_variable (CallRuns builtin.IvarValue)
+      (λ v run d few. read_runs (Item (item_no.Variable v)) d (omega arith)) arguments is
+  call_runs builtin.LvarValue arguments here is = of_variable (CallRuns builtin.LvarValue)
+      (λ v run d few. read_runs (Item (item_no.Variable v)) d (omega arith)) arguments is
+  call_runs builtin.Iassign arguments here is = of_variable_number (CallRuns builtin.Iassign)
+      (λ v e run d few. zero_behind e (Item (item_no.Variable v)) run.1.0 d (omega arith)) arguments
+      is
+  call_runs builtin.Lassign arguments here is = of_variable_number (CallRuns builtin.Lassign)
+      (λ v e run d few. zero_behind e (Item (item_no.Variable v)) run.1.0 d (omega arith)) arguments
+      is
   call_runs builtin.Abort arguments here is = absurd cc
   call_runs builtin.ProcessAbort arguments here is = absurd cc
 
@@ -93,41 +126,65 @@ module _ (number : Words → StrNo) where
     unfolding method_block
 
     pub method_runs : (e : Expr Target) → call_mismatches false e ≡ [] → IsRun e
-    method_runs (Literal value) fit d h = push_runs (instruction.Push value) d refl refl refl (omega arith)
+    method_runs (Literal value) fit d h = push_runs (instruction.Push value) d refl refl refl
+        (omega arith)
     method_runs Decimal fit d h = no_value_runs d (omega arith)
     method_runs (Reference from) fit d h = read_runs from d (omega arith)
     method_runs (Parentheses inner) fit d h = method_runs inner fit d (omega arith)
-    method_runs (Unary op operand) fit d h = then_runs (method_block number operand) (unary_block op) d (suc d) (suc d) (method_runs operand fit d (omega arith)) (unary_runs op d (omega arith))
+    method_runs (Unary op operand) fit d h = then_runs (method_block number operand)
+        (unary_block op) d (suc d) (suc d) (method_runs operand fit d (omega arith))
+        (unary_runs op d (omega arith))
     method_runs (Binary op left right) fit d h =
         let fits = front_none (call_mismatches false left) (call_mismatches false right) fit in
-        two_run (method_block number left) (method_block number right) (Straight (instruction.Operate op)) d (method_runs left fits.0 d (omega arith)) (method_runs right fits.1 (suc d) (omega arith))
+        two_run (method_block number left) (method_block number right)
+        (Straight (instruction.Operate op)) d (method_runs left fits.0 d (omega arith))
+        (method_runs right fits.1 (suc d) (omega arith))
         (operate_runs op d (omega (arith, high right)))
     method_runs (Compare by left right) fit d h =
         let fits = front_none (call_mismatches false left) (call_mismatches false right) fit in
-        two_run (method_block number left) (method_block number right) (Straight (instruction.Compare by)) d (method_runs left fits.0 d (omega arith)) (method_runs right fits.1 (suc d) (omega arith))
+        two_run (method_block number left) (method_block number right)
+        (Straight (instruction.Compare by)) d (method_runs left fits.0 d (omega arith))
+        (method_runs right fits.1 (suc d) (omega arith))
         (join_runs (instruction.Compare by) d refl refl refl (omega (arith, high right)))
     method_runs (LogicalAnd left right) fit d h =
         let fits = front_none (call_mismatches false left) (call_mismatches false right) fit in
-        then_runs (method_block number left) (then_test (WhenNotZero (instead (method_block number right)))) d (suc d) (suc d) (method_runs left fits.0 d (omega arith))
-        (and_runs (method_block number right) d (omega arith) (method_runs right fits.1 d (omega arith)))
+        then_runs (method_block number left)
+        (then_test (WhenNotZero (instead (method_block number right)))) d (suc d) (suc d)
+        (method_runs left fits.0 d (omega arith))
+        (and_runs (method_block number right) d (omega arith)
+        (method_runs right fits.1 d (omega arith)))
     method_runs (LogicalOr left right) fit d h =
         let fits = front_none (call_mismatches false left) (call_mismatches false right) fit in
-        then_runs (method_block number left) (Then truth_block (then_test (WhenZero (instead (method_block number right))))) d (suc d) (suc d) (method_runs left fits.0 d (omega arith))
-        (or_runs (method_block number right) d (omega arith) (method_runs right fits.1 d (omega arith)))
+        then_runs (method_block number left)
+        (Then truth_block (then_test (WhenZero (instead (method_block number right))))) d
+        (suc d) (suc d) (method_runs left fits.0 d (omega arith))
+        (or_runs (method_block number right) d (omega arith)
+        (method_runs right fits.1 d (omega arith)))
     method_runs (Conditional test first second) fit d h =
-        let fits = front_none (call_mismatches false test) (call_mismatches false first ++ call_mismatches false second) fit in
+        let fits = front_none (call_mismatches false test) (call_mismatches false first
+        ++ call_mismatches false second) fit in
         let both = front_none (call_mismatches false first) (call_mismatches false second) fits.1 in
-        then_runs (method_block number test) (Either (method_block number first) (method_block number second)) d (suc d) (suc d) (method_runs test fits.0 d (omega arith))
-        (either_runs (method_block number first) (method_block number second) (suc d) d (suc d) refl (omega arith) (omega arith) (method_runs first both.0 d (omega arith)) (method_runs second both.1 d (omega arith)))
-    method_runs (Assign to value) fit d h = then_runs (method_block number value) (store_block to) d (suc d) (suc d) (method_runs value fit d (omega arith)) (store_runs to d (omega arith))
+        then_runs (method_block number test)
+        (Either (method_block number first) (method_block number second)) d (suc d) (suc d)
+        (method_runs test fits.0 d (omega arith))
+        (either_runs (method_block number first) (method_block number second) (suc d) d (suc d) refl
+        (omega arith) (omega arith) (method_runs first both.0 d (omega arith))
+        (method_runs second both.1 d (omega arith)))
+    method_runs (Assign to value) fit d h = then_runs (method_block number value) (store_block to) d
+        (suc d) (suc d) (method_runs value fit d (omega arith)) (store_runs to d (omega arith))
     method_runs (CompoundAssign op to value) fit d h =
-        two_run (load_block to) (method_block number value) (Then (Straight (instruction.Operate op)) (store_block to)) d (read_runs to d (omega arith)) (method_runs value fit (suc d) (omega arith))
-        (then_runs (Straight (instruction.Operate op)) (store_block to) (suc (suc d)) (suc d) (suc d) (operate_runs op d (omega arith)) (store_runs to d (omega arith)))
+        two_run (load_block to) (method_block number value)
+        (Then (Straight (instruction.Operate op)) (store_block to)) d
+        (read_runs to d (omega arith)) (method_runs value fit (suc d) (omega arith))
+        (then_runs (Straight (instruction.Operate op)) (store_block to) (suc (suc d)) (suc d)
+        (suc d) (operate_runs op d (omega arith)) (store_runs to d (omega arith)))
     method_runs (Increment op to) fit d h = increment_runs op to d (omega arith)
     method_runs (Call (Function f) arguments) fit d h =
-        let parts = front_none (call_breaches false (Function f) arguments) (argument_mismatches arguments) fit in
+        let parts = front_none (call_breaches false (Function f) arguments)
+        (argument_mismatches arguments) fit in
         let fitting = fits false f arguments parts.0 in
-        call_runs f arguments (no_abort (is_abort f) fitting.1) fitting.0 (all_run arguments parts.1) d h
+        call_runs f arguments (no_abort (is_abort f) fitting.1) fitting.0
+        (all_run arguments parts.1) d h
     method_runs (Call (Local slot) arguments) fit d h = absurd cc
     method_runs (Call (Item i) arguments) fit d h = absurd cc
 

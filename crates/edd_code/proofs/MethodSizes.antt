@@ -68,29 +68,39 @@ module _ (number : Words → StrNo) where
   AreShort (Cons (Value e) rest) = IsShort e × AreShort rest
 
   abbrev CallShort : Builtin → Arguments Target → Type 0
-  CallShort f arguments = AreShort arguments → size (call_block number f arguments) ≤ 32 * (1 + argument_nodes arguments)
+  CallShort f arguments = AreShort arguments → size (call_block number f arguments)
+      ≤ 32 * (1 + argument_nodes arguments)
 
-  call_short : (f : Builtin) (arguments : Arguments Target) → all_fit (parameters f) arguments ≡ true → CallShort f arguments
+  call_short : (f : Builtin) (arguments : Arguments Target) → all_fit (parameters f) arguments
+      ≡ true → CallShort f arguments
   unfolding method_block call_block
   call_short builtin.PutMessage = of_text (CallShort builtin.PutMessage) (λ t short. omega arith)
   call_short builtin.Acknowledge = of_text (CallShort builtin.Acknowledge) (λ t short. omega arith)
-  call_short builtin.Delay = of_number_text (CallShort builtin.Delay) (λ e t short. omega (arith, short.0))
-  call_short builtin.GetDevVarValue = of_text_variable (CallShort builtin.GetDevVarValue) (λ t v short. omega arith)
-  call_short builtin.SelectFromList = of_texts (CallShort builtin.SelectFromList) (λ t u short. omega arith)
-  call_short builtin.SendCommand = of_number (CallShort builtin.SendCommand) (λ e short. omega (arith, short.0))
-  call_short builtin.SendCommandTrans = of_numbers (CallShort builtin.SendCommandTrans) (λ e x short. omega (arith, short.0, short.1.0))
+  call_short builtin.Delay = of_number_text (CallShort builtin.Delay)
+      (λ e t short. omega (arith, short.0))
+  call_short builtin.GetDevVarValue = of_text_variable (CallShort builtin.GetDevVarValue)
+      (λ t v short. omega arith)
+  call_short builtin.SelectFromList = of_texts (CallShort builtin.SelectFromList)
+      (λ t u short. omega arith)
+  call_short builtin.SendCommand = of_number (CallShort builtin.SendCommand)
+      (λ e short. omega (arith, short.0))
+  call_short builtin.SendCommandTrans = of_numbers (CallShort builtin.SendCommandTrans)
+      (λ e x short. omega (arith, short.0, short.1.0))
   call_short builtin.SaveValues = of_none (CallShort builtin.SaveValues) (λ short. omega arith)
   call_short builtin.IvarValue = of_variable (CallShort builtin.IvarValue) (λ v short. omega arith)
   call_short builtin.LvarValue = of_variable (CallShort builtin.LvarValue) (λ v short. omega arith)
-  call_short builtin.Iassign = of_variable_number (CallShort builtin.Iassign) (λ v e short. omega (arith, short.1.0))
-  call_short builtin.Lassign = of_variable_number (CallShort builtin.Lassign) (λ v e short. omega (arith, short.1.0))
+  call_short builtin.Iassign = of_variable_number (CallShort builtin.Iassign)
+      (λ v e short. omega (arith, short.1.0))
+  call_short builtin.Lassign = of_variable_number (CallShort builtin.Lassign)
+      (λ v e short. omega (arith, short.1.0))
   call_short builtin.Abort = of_none (CallShort builtin.Abort) (λ short. omega arith)
   call_short builtin.ProcessAbort = of_none (CallShort builtin.ProcessAbort) (λ short. omega arith)
 
   mutual
     unfolding method_block
 
-    pub is_short : (is_statement : Bool) (e : Expr Target) → call_mismatches is_statement e ≡ [] → IsShort e
+    pub is_short : (is_statement : Bool) (e : Expr Target) → call_mismatches is_statement e ≡ []
+        → IsShort e
     is_short b (Literal value) fit = omega arith
     is_short b Decimal fit = omega arith
     is_short b (Reference from) fit = omega (arith, read_size from)
@@ -109,19 +119,28 @@ module _ (number : Words → StrNo) where
         let fits = front_none (call_mismatches false left) (call_mismatches false right) fit in
         omega (arith, is_short false left fits.0, is_short false right fits.1)
     is_short b (Conditional test first second) fit =
-        let fits = front_none (call_mismatches false test) (call_mismatches false first ++ call_mismatches false second) fit in
+        let fits = front_none (call_mismatches false test) (call_mismatches false first
+        ++ call_mismatches false second) fit in
         let both = front_none (call_mismatches false first) (call_mismatches false second) fits.1 in
-        omega (arith, is_short false test fits.0, is_short false first both.0, is_short false second both.1)
+        omega (
+          arith,
+          is_short false test fits.0,
+          is_short false first both.0,
+          is_short false second both.1,
+        )
     is_short b (Assign to value) fit = omega (arith, is_short false value fit, store_size to)
-    is_short b (CompoundAssign op to value) fit = omega (arith, is_short false value fit, read_size to, store_size to)
+    is_short b (CompoundAssign op to value) fit =
+        omega (arith, is_short false value fit, read_size to, store_size to)
     is_short b (Increment op to) fit = omega (arith, increment_size op to)
     is_short b (Call (Function f) arguments) fit =
-        let parts = front_none (call_breaches b (Function f) arguments) (argument_mismatches arguments) fit in
+        let parts = front_none (call_breaches b (Function f) arguments)
+        (argument_mismatches arguments) fit in
         call_short f arguments (fits b f arguments parts.0).0 (all_short arguments parts.1)
     is_short b (Call (Local slot) arguments) fit = absurd cc
     is_short b (Call (Item i) arguments) fit = absurd cc
 
-    all_short : (arguments : Arguments Target) → argument_mismatches arguments ≡ [] → AreShort arguments
+    all_short : (arguments : Arguments Target) → argument_mismatches arguments ≡ []
+        → AreShort arguments
     all_short Nil fit = tt
     all_short (Cons (Text t) rest) fit = all_short rest fit
     all_short (Cons (Value e) rest) fit =

@@ -1,4 +1,5 @@
--- The operands of the block of an expression of a method are in their ranges, and what it names exists.
+-- The operands of the block of an expression of a method are in their ranges, and what it names
+-- exists.
 use Rattle.std.proofs.Common.{◌≡◌, refl, ℕ, ◌<◌, ◌≤◌, ◌^◌, Bool, true, false, List, [], ◌++◌, arith}
 use Rattle.std.specs.Prelude.{◌&&◌}
 use Rattle.std.specs.List.{AllByRecursion}
@@ -36,7 +37,8 @@ use Rattle.edd_code.specs.MethodExpressions.{load_block, store_item_block, store
 use Rattle.edd_code.specs.MethodReads.{uses_existing}
 use Rattle.edd_code.proofs.Fitting.{front_none, all_parts, fits, of_none, of_text, of_number, of_number_text, of_texts, of_numbers, of_variable, of_variable_number, of_text_variable}
 
-module _ (context : Context) (variables : context.counts.variables ≤ 65536) (strings : context.counts.strings ≤ 65536) (slots : context.slots ≤ 65536) where
+module _ (context : Context) (variables : context.counts.variables ≤ 65536)
+    (strings : context.counts.strings ≤ 65536) (slots : context.slots ≤ 65536) where
   -- each operand is in its range, and what is named exists
   pub record Stands (b : Block) : Type 0 where
     pub spelled : AreSpelled b
@@ -57,10 +59,12 @@ module _ (context : Context) (variables : context.counts.variables ≤ 65536) (s
   no_value_stands = one_stands (instruction.Push 0) (omega arith) refl
 
   short_variable : (v : VarNo) → variable_exists context.counts v ≡ true → v.0 < 2 ^ 16
-  short_variable v is = let below = ltb-true v.0 context.counts.variables is in omega (arith, variables, below)
+  short_variable v is = let below = ltb-true v.0 context.counts.variables is in omega
+      (arith, variables, below)
 
   short_string : (n : StrNo) → string_exists context.counts n ≡ true → n.0 < 2 ^ 16
-  short_string n is = let below = ltb-true n.0 context.counts.strings is in omega (arith, strings, below)
+  short_string n is = let below = ltb-true n.0 context.counts.strings is in omega
+      (arith, strings, below)
 
   short_slot : (slot : ℕ) → uses_existing context (Local slot) ≡ true → slot < 2 ^ 16
   short_slot slot is = let below = ltb-true slot context.slots is in omega (arith, slots, below)
@@ -77,8 +81,10 @@ module _ (context : Context) (variables : context.counts.variables ≤ 65536) (s
   read_stands (Item i) is = item_stands i is
   read_stands (Function f) is = no_value_stands
 
-  store_item_stands : (i : ItemNo) → item_is_there context.counts i ≡ true → Stands (store_item_block i)
-  store_item_stands (item_no.Variable v) is = one_stands (instruction.Store v) (short_variable v is) is
+  store_item_stands : (i : ItemNo) → item_is_there context.counts i ≡ true
+      → Stands (store_item_block i)
+  store_item_stands (item_no.Variable v) is = one_stands (instruction.Store v) (short_variable v is)
+      is
   store_item_stands (item_no.Command n) is = nothing_stands
   store_item_stands (item_no.Menu n) is = nothing_stands
   store_item_stands (item_no.Collection n) is = nothing_stands
@@ -98,39 +104,61 @@ module _ (context : Context) (variables : context.counts.variables ≤ 65536) (s
   unary_stands unary_operator.Complement = one_stands instruction.Complement tt refl
 
   truth_stands : Stands truth_block
-  truth_stands = then_stand (one_stands instruction.Not tt refl) (one_stands instruction.Not tt refl)
+  truth_stands = then_stand (one_stands instruction.Not tt refl)
+      (one_stands instruction.Not tt refl)
 
   instead_stands : {right : Block} → Stands right → Stands (instead right)
   instead_stands is = then_stand (one_stands instruction.Pop tt refl) (then_stand is truth_stands)
 
   and_stands : {right : Block} → Stands right → Stands (then_test (WhenNotZero (instead right)))
-  and_stands is = let body = instead_stands is in then_stand (one_stands instruction.Duplicate tt refl) (record { spelled = body.spelled; named = body.named })
+  and_stands is = let body =
+      instead_stands is in then_stand (one_stands instruction.Duplicate tt refl)
+      (record { spelled = body.spelled; named = body.named })
 
-  or_stands : {right : Block} → Stands right → Stands (Then truth_block (then_test (WhenZero (instead right))))
-  or_stands is = let body = instead_stands is in then_stand truth_stands (then_stand (one_stands instruction.Duplicate tt refl) (record { spelled = body.spelled; named = body.named }))
+  or_stands : {right : Block} → Stands right
+      → Stands (Then truth_block (then_test (WhenZero (instead right))))
+  or_stands is = let body = instead_stands is in then_stand truth_stands
+      (then_stand (one_stands instruction.Duplicate tt refl)
+      (record { spelled = body.spelled; named = body.named }))
 
-  either_stand : {first second : Block} → Stands first → Stands second → Stands (Either first second)
-  either_stand p q = record { spelled = (p.spelled, q.spelled); named = and_from _ _ p.named q.named }
+  either_stand : {first second : Block} → Stands first → Stands second
+      → Stands (Either first second)
+  either_stand p q = record {
+    spelled = (p.spelled, q.spelled);
+    named = and_from _ _ p.named q.named;
+  }
 
   operate_stands : (op : Operator) → Stands (Straight (instruction.Operate op))
   operate_stands op = one_stands (instruction.Operate op) tt refl
 
-  store_next_stands : (op : Operator) (to : Target) → uses_existing context to ≡ true → Stands (store_next_block op to)
-  store_next_stands op to is = then_stand (one_stands (instruction.Push 1) (omega arith) refl) (then_stand (operate_stands op) (store_stands to is))
+  store_next_stands : (op : Operator) (to : Target) → uses_existing context to ≡ true
+      → Stands (store_next_block op to)
+  store_next_stands op to is = then_stand (one_stands (instruction.Push 1) (omega arith) refl)
+      (then_stand (operate_stands op) (store_stands to is))
 
-  store_behind_stands : (op : Operator) (to : Target) → uses_existing context to ≡ true → Stands (store_behind_block op to)
-  store_behind_stands op to is = then_stand (one_stands instruction.Duplicate tt refl) (then_stand (store_next_stands op to is) (one_stands instruction.Pop tt refl))
+  store_behind_stands : (op : Operator) (to : Target) → uses_existing context to ≡ true
+      → Stands (store_behind_block op to)
+  store_behind_stands op to is = then_stand (one_stands instruction.Duplicate tt refl)
+      (then_stand (store_next_stands op to is) (one_stands instruction.Pop tt refl))
 
-  increment_stands : (op : IncrementOperator) (to : Target) → uses_existing context to ≡ true → Stands (increment_block op to)
-  increment_stands PreIncrement to is = then_stand (read_stands to is) (store_next_stands operator.Add to is)
-  increment_stands PostIncrement to is = then_stand (read_stands to is) (store_behind_stands operator.Add to is)
-  increment_stands PreDecrement to is = then_stand (read_stands to is) (store_next_stands operator.Subtract to is)
-  increment_stands PostDecrement to is = then_stand (read_stands to is) (store_behind_stands operator.Subtract to is)
+  increment_stands : (op : IncrementOperator) (to : Target) → uses_existing context to ≡ true
+      → Stands (increment_block op to)
+  increment_stands PreIncrement to is =
+      then_stand (read_stands to is) (store_next_stands operator.Add to is)
+  increment_stands PostIncrement to is =
+      then_stand (read_stands to is) (store_behind_stands operator.Add to is)
+  increment_stands PreDecrement to is =
+      then_stand (read_stands to is) (store_next_stands operator.Subtract to is)
+  increment_stands PostDecrement to is =
+      then_stand (read_stands to is) (store_behind_stands operator.Subtract to is)
 
   -- a variable gets the value, and in its place is 0
   zero_stands : (v : VarNo) {b : Block} → variable_exists context.counts v ≡ true → Stands b
-      → Stands (Then b (Then (store_block (Item (item_no.Variable v))) (Then (Straight instruction.Pop) no_value)))
-  zero_stands v there is = then_stand is (then_stand (store_stands (Item (item_no.Variable v)) there) (then_stand (one_stands instruction.Pop tt refl) no_value_stands))
+      → Stands (Then b (Then (store_block (Item (item_no.Variable v)))
+      (Then (Straight instruction.Pop) no_value)))
+  zero_stands v there is =
+      then_stand is (then_stand (store_stands (Item (item_no.Variable v)) there)
+      (then_stand (one_stands instruction.Pop tt refl) no_value_stands))
 
   module _ (number : Words → StrNo) (plain : Target → Bool) where
     abbrev TextStands : texts.Text → Type 0
@@ -149,41 +177,62 @@ module _ (context : Context) (variables : context.counts.variables ≤ 65536) (s
     string_short : (t : texts.Text) → TextStands t → (number (words_of t)).0 < 2 ^ 16
     string_short t is = short_string (number (words_of t)) is
 
-    variable_there : (v : VarNo) → Stands (method_block number (Reference (Item (item_no.Variable v)))) → variable_exists context.counts v ≡ true
+    variable_there : (v : VarNo)
+        → Stands (method_block number (Reference (Item (item_no.Variable v))))
+        → variable_exists context.counts v ≡ true
     unfolding method_block
     variable_there v is = is.named
 
-    call_stands : (f : Builtin) (arguments : Arguments Target) → all_fit (parameters f) arguments ≡ true → CallStands f arguments
+    call_stands : (f : Builtin) (arguments : Arguments Target) → all_fit (parameters f) arguments
+        ≡ true → CallStands f arguments
     unfolding method_block call_block
-    call_stands builtin.PutMessage = of_text (CallStands builtin.PutMessage) (λ t is. one_stands _ (string_short t is.0) is.0)
-    call_stands builtin.Acknowledge = of_text (CallStands builtin.Acknowledge) (λ t is. one_stands _ (string_short t is.0) is.0)
-    call_stands builtin.Delay = of_number_text (CallStands builtin.Delay) (λ e t is. then_stand is.0 (one_stands _ (string_short t is.1.0) is.1.0))
+    call_stands builtin.PutMessage = of_text (CallStands builtin.PutMessage)
+        (λ t is. one_stands _ (string_short t is.0) is.0)
+    call_stands builtin.Acknowledge = of_text (CallStands builtin.Acknowledge)
+        (λ t is. one_stands _ (string_short t is.0) is.0)
+    call_stands builtin.Delay = of_number_text (CallStands builtin.Delay)
+        (λ e t is. then_stand is.0 (one_stands _ (string_short t is.1.0) is.1.0))
     call_stands builtin.GetDevVarValue =
         of_text_variable (CallStands builtin.GetDevVarValue)
-        (λ t v is. let there = variable_there v is.1.0 in one_stands _ (string_short t is.0, short_variable v there) (and_from _ _ is.0 there))
-    call_stands builtin.SelectFromList = of_texts (CallStands builtin.SelectFromList) (λ t u is. one_stands _ (string_short t is.0, string_short u is.1.0) (and_from _ _ is.0 is.1.0))
-    call_stands builtin.SendCommand = of_number (CallStands builtin.SendCommand) (λ e is. then_stand is.0 (one_stands _ tt refl))
-    call_stands builtin.SendCommandTrans = of_numbers (CallStands builtin.SendCommandTrans) (λ e x is. then_stand is.0 (then_stand is.1.0 (one_stands _ tt refl)))
-    call_stands builtin.SaveValues = of_none (CallStands builtin.SaveValues) (λ is. one_stands _ tt refl)
+        (λ t v is. let there = variable_there v is.1.0 in one_stands _
+        (string_short t is.0, short_variable v there) (and_from _ _ is.0 there))
+    call_stands builtin.SelectFromList = of_texts (CallStands builtin.SelectFromList)
+        (λ t u is. one_stands _ (string_short t is.0, string_short u is.1.0)
+        (and_from _ _ is.0 is.1.0))
+    call_stands builtin.SendCommand = of_number (CallStands builtin.SendCommand)
+        (λ e is. then_stand is.0 (one_stands _ tt refl))
+    call_stands builtin.SendCommandTrans = of_numbers (CallStands builtin.SendCommandTrans)
+        (λ e x is. then_stand is.0 (then_stand is.1.0 (one_stands _ tt refl)))
+    call_stands builtin.SaveValues = of_none (CallStands builtin.SaveValues)
+        (λ is. one_stands _ tt refl)
     call_stands builtin.IvarValue = of_variable (CallStands builtin.IvarValue) (λ v is. is.0)
     call_stands builtin.LvarValue = of_variable (CallStands builtin.LvarValue) (λ v is. is.0)
-    call_stands builtin.Iassign = of_variable_number (CallStands builtin.Iassign) (λ v e is. zero_stands v (variable_there v is.0) is.1.0)
-    call_stands builtin.Lassign = of_variable_number (CallStands builtin.Lassign) (λ v e is. zero_stands v (variable_there v is.0) is.1.0)
-    call_stands builtin.Abort = of_none (CallStands builtin.Abort) (λ is. one_stands instruction.Abort tt refl)
-    call_stands builtin.ProcessAbort = of_none (CallStands builtin.ProcessAbort) (λ is. one_stands instruction.Abort tt refl)
+    call_stands builtin.Iassign = of_variable_number (CallStands builtin.Iassign)
+        (λ v e is. zero_stands v (variable_there v is.0) is.1.0)
+    call_stands builtin.Lassign = of_variable_number (CallStands builtin.Lassign)
+        (λ v e is. zero_stands v (variable_there v is.0) is.1.0)
+    call_stands builtin.Abort = of_none (CallStands builtin.Abort)
+        (λ is. one_stands instruction.Abort tt refl)
+    call_stands builtin.ProcessAbort = of_none (CallStands builtin.ProcessAbort)
+        (λ is. one_stands instruction.Abort tt refl)
 
     -- ---- expressions
 
-    text_parts : (xs ys : List texts.Text) → AllByRecursion TextStands (xs ++ ys) → AllByRecursion TextStands xs × AllByRecursion TextStands ys
+    text_parts : (xs ys : List texts.Text) → AllByRecursion TextStands (xs ++ ys)
+        → AllByRecursion TextStands xs × AllByRecursion TextStands ys
     text_parts = all_parts TextStands
 
     -- the premises of an expression
     abbrev IsChecked : Expr Target → Type 0
-    IsChecked e = (call_mismatches false e ≡ []) × (is_expr (uses_existing context) plain e ≡ true) × AllByRecursion TextStands (expr_texts e)
+    IsChecked e = (call_mismatches false e ≡ []) × (is_expr (uses_existing context) plain e ≡ true)
+        × AllByRecursion TextStands (expr_texts e)
 
-    both_checked : (left right : Expr Target) → call_mismatches false left ++ call_mismatches false right ≡ []
-        → (is_expr (uses_existing context) plain left && is_expr (uses_existing context) plain right) ≡ true
-        → AllByRecursion TextStands (expr_texts left ++ expr_texts right) → IsChecked left × IsChecked right
+    both_checked : (left right : Expr Target) → call_mismatches false left
+        ++ call_mismatches false right ≡ []
+        → (is_expr (uses_existing context) plain left && is_expr (uses_existing context) plain
+        right) ≡ true
+        → AllByRecursion TextStands (expr_texts left ++ expr_texts right)
+        → IsChecked left × IsChecked right
     both_checked left right fit is known =
         let fits = front_none (call_mismatches false left) (call_mismatches false right) fit in
         let are = and_parts _ _ is in
@@ -193,52 +242,68 @@ module _ (context : Context) (variables : context.counts.variables ≤ 65536) (s
     mutual
       unfolding method_block
 
-      pub method_stands : (is_statement : Bool) (e : Expr Target) → call_mismatches is_statement e ≡ [] → is_expr (uses_existing context) plain e ≡ true
+      pub method_stands : (is_statement : Bool) (e : Expr Target) → call_mismatches is_statement e
+          ≡ [] → is_expr (uses_existing context) plain e ≡ true
           → AllByRecursion TextStands (expr_texts e) → Stands (method_block number e)
-      method_stands b (Literal value) fit is known = one_stands (instruction.Push value) (ltb-true value (2 ^ 32) is) refl
+      method_stands b (Literal value) fit is known = one_stands (instruction.Push value)
+          (ltb-true value (2 ^ 32) is) refl
       method_stands b Decimal fit is known = no_value_stands
       method_stands b (Reference from) fit is known = read_stands from is
       method_stands b (Parentheses inner) fit is known = method_stands false inner fit is known
-      method_stands b (Unary op operand) fit is known = then_stand (method_stands false operand fit is known) (unary_stands op)
+      method_stands b (Unary op operand) fit is known =
+          then_stand (method_stands false operand fit is known) (unary_stands op)
       method_stands b (Binary op left right) fit is known =
           let p = both_checked left right fit is known in
-          then_stand (method_stands false left p.0.0 p.0.1 p.0.2) (then_stand (method_stands false right p.1.0 p.1.1 p.1.2) (operate_stands op))
+          then_stand (method_stands false left p.0.0 p.0.1 p.0.2)
+          (then_stand (method_stands false right p.1.0 p.1.1 p.1.2) (operate_stands op))
       method_stands b (Compare by left right) fit is known =
           let p = both_checked left right fit is known in
-          then_stand (method_stands false left p.0.0 p.0.1 p.0.2) (then_stand (method_stands false right p.1.0 p.1.1 p.1.2) (one_stands (instruction.Compare by) tt refl))
+          then_stand (method_stands false left p.0.0 p.0.1 p.0.2)
+          (then_stand (method_stands false right p.1.0 p.1.1 p.1.2)
+          (one_stands (instruction.Compare by) tt refl))
       method_stands b (LogicalAnd left right) fit is known =
           let p = both_checked left right fit is known in
-          then_stand (method_stands false left p.0.0 p.0.1 p.0.2) (and_stands (method_stands false right p.1.0 p.1.1 p.1.2))
+          then_stand (method_stands false left p.0.0 p.0.1 p.0.2)
+          (and_stands (method_stands false right p.1.0 p.1.1 p.1.2))
       method_stands b (LogicalOr left right) fit is known =
           let p = both_checked left right fit is known in
-          then_stand (method_stands false left p.0.0 p.0.1 p.0.2) (or_stands (method_stands false right p.1.0 p.1.1 p.1.2))
+          then_stand (method_stands false left p.0.0 p.0.1 p.0.2)
+          (or_stands (method_stands false right p.1.0 p.1.1 p.1.2))
       method_stands b (Conditional test first second) fit is known =
-          let fits = front_none (call_mismatches false test) (call_mismatches false first ++ call_mismatches false second) fit in
-          let fits_behind = front_none (call_mismatches false first) (call_mismatches false second) fits.1 in
+          let fits = front_none (call_mismatches false test) (call_mismatches false first
+          ++ call_mismatches false second) fit in
+          let fits_behind = front_none (call_mismatches false first) (call_mismatches false second)
+          fits.1 in
           let are = and_parts _ _ is in
           let are_front = and_parts _ _ are.0 in
           let parts = text_parts (expr_texts test) (expr_texts first ++ expr_texts second) known in
           let parts_behind = text_parts (expr_texts first) (expr_texts second) parts.1 in
           then_stand (method_stands false test fits.0 are_front.0 parts.0)
-          (either_stand (method_stands false first fits_behind.0 are_front.1 parts_behind.0) (method_stands false second fits_behind.1 are.1 parts_behind.1))
+          (either_stand (method_stands false first fits_behind.0 are_front.1 parts_behind.0)
+          (method_stands false second fits_behind.1 are.1 parts_behind.1))
       method_stands b (Assign to value) fit is known =
           let are = and_parts _ _ is in
           then_stand (method_stands false value fit are.1 known) (store_stands to are.0)
       method_stands b (CompoundAssign op to value) fit is known =
           let are = and_parts _ _ is in
-          then_stand (read_stands to are.0) (then_stand (method_stands false value fit are.1 known) (then_stand (operate_stands op) (store_stands to are.0)))
+          then_stand (read_stands to are.0) (then_stand (method_stands false value fit are.1 known)
+          (then_stand (operate_stands op) (store_stands to are.0)))
       method_stands b (Increment op to) fit is known = increment_stands op to is
       method_stands b (Call (Function f) arguments) fit is known =
-          let parts = front_none (call_breaches b (Function f) arguments) (argument_mismatches arguments) fit in
+          let parts = front_none (call_breaches b (Function f) arguments)
+          (argument_mismatches arguments) fit in
           let are = and_parts _ _ is in
-          call_stands f arguments (fits b f arguments parts.0).0 (all_stand arguments parts.1 are.1 known)
+          call_stands f arguments (fits b f arguments parts.0).0
+          (all_stand arguments parts.1 are.1 known)
       method_stands b (Call (Local slot) arguments) fit is known = absurd cc
       method_stands b (Call (Item i) arguments) fit is known = absurd cc
 
-      all_stand : (arguments : Arguments Target) → argument_mismatches arguments ≡ [] → are_arguments (uses_existing context) plain arguments ≡ true
+      all_stand : (arguments : Arguments Target) → argument_mismatches arguments ≡ []
+          → are_arguments (uses_existing context) plain arguments ≡ true
           → AllByRecursion TextStands (argument_texts arguments) → AllStand arguments
       all_stand Nil fit is known = tt
-      all_stand (Cons (Text t) rest) fit is known = (known.0, all_stand rest fit (and_parts (is_text t) _ is).1 known.1)
+      all_stand (Cons (Text t) rest) fit is known =
+          (known.0, all_stand rest fit (and_parts (is_text t) _ is).1 known.1)
       all_stand (Cons (Value e) rest) fit is known =
           let parts = front_none (call_mismatches false e) (argument_mismatches rest) fit in
           let are = and_parts _ _ is in

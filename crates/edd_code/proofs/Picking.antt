@@ -10,38 +10,55 @@ use Rattle.edd_syntax.specs.Item.{kind_of_item, Item}
 use Rattle.edd_syntax.specs.Numbers.{same_kind}
 use Rattle.edd_code.specs.Places.{attributes_of_items, attributes_of_kind}
 
-module _ {X Y Z : Type 0} (view : X → Y) (pick : Y → Option Z) (all : List Y → List Z) (splits : (y : Y) (ys : List Y) → all (y ∷ ys) ≡ option_to_list (pick y) ++ all ys) where
+module _ {X Y Z : Type 0} (view : X → Y) (pick : Y → Option Z) (all : List Y → List Z)
+    (splits : (y : Y) (ys : List Y) → all (y ∷ ys) ≡ option_to_list (pick y) ++ all ys) where
   -- the n-th of the elements from the i-th on
   abbrev pub picked_from : (n i : ℕ) → List X → Option Z
   picked_from n i xs = slice_get (all (map view (drop i xs))) n
 
-  next_picked : (n i : ℕ) (xs : List X) (x : X) → i < length xs → x ≡ get_or xs i x → picked_from n i xs ≡ slice_get (option_to_list (pick (view x)) ++ all (map view (drop (i + 1) xs))) n
+  next_picked : (n i : ℕ) (xs : List X) (x : X) → i < length xs → x ≡ get_or xs i x
+      → picked_from n i xs ≡ slice_get (option_to_list (pick (view x))
+      ++ all (map view (drop (i + 1) xs))) n
   next_picked n i xs x h is =
       at_drop_more (λ zs. slice_get (all (map view zs)) n) xs i x h
       ∙ ap (λ zs. slice_get zs n) (splits _ _)
-      ∙ ap (λ y. slice_get (option_to_list (pick (view y)) ++ all (map view (drop (i + 1) xs))) n) (sym is)
+      ∙ ap (λ y. slice_get (option_to_list (pick (view y)) ++ all (map view (drop (i + 1) xs))) n)
+      (sym is)
 
-  pub passes : (n i : ℕ) (xs : List X) (x : X) (o : Option Z) → i < length xs → x ≡ get_or xs i x → None ≡ pick (view x) → picked_from n i xs ≡ o → picked_from n (i + 1) xs ≡ o
-  passes n i xs x o h is none invariant = ap (λ p. slice_get (option_to_list p ++ all (map view (drop (i + 1) xs))) n) none ∙ sym (next_picked n i xs x h is) ∙ invariant
+  pub passes : (n i : ℕ) (xs : List X) (x : X) (o : Option Z) → i < length xs → x ≡ get_or xs i x
+      → None ≡ pick (view x) → picked_from n i xs ≡ o → picked_from n (i + 1) xs ≡ o
+  passes n i xs x o h is none invariant =
+      ap (λ p. slice_get (option_to_list p ++ all (map view (drop (i + 1) xs))) n) none
+      ∙ sym (next_picked n i xs x h is) ∙ invariant
 
-  pub counts : (n m i : ℕ) (xs : List X) (x : X) (z : Z) (o : Option Z) → i < length xs → x ≡ get_or xs i x → Some z ≡ pick (view x) → n ≡ suc m → picked_from n i xs ≡ o → picked_from m (i + 1) xs ≡ o
+  pub counts : (n m i : ℕ) (xs : List X) (x : X) (z : Z) (o : Option Z) → i < length xs
+      → x ≡ get_or xs i x → Some z ≡ pick (view x) → n ≡ suc m → picked_from n i xs ≡ o
+      → picked_from m (i + 1) xs ≡ o
   counts n m i xs x z o h is some down invariant =
       ap (λ p. slice_get (option_to_list p ++ all (map view (drop (i + 1) xs))) (suc m)) some
-      ∙ ap (λ k. slice_get (option_to_list (pick (view x)) ++ all (map view (drop (i + 1) xs))) k) (sym down)
+      ∙ ap (λ k. slice_get (option_to_list (pick (view x)) ++ all (map view (drop (i + 1) xs))) k)
+      (sym down)
       ∙ sym (next_picked n i xs x h is) ∙ invariant
 
-  pub stops : (n i : ℕ) (xs : List X) (x : X) (z : Z) (o : Option Z) → i < length xs → x ≡ get_or xs i x → Some z ≡ pick (view x) → n ≡ 0 → picked_from n i xs ≡ o → Some z ≡ o
+  pub stops : (n i : ℕ) (xs : List X) (x : X) (z : Z) (o : Option Z) → i < length xs
+      → x ≡ get_or xs i x → Some z ≡ pick (view x) → n ≡ 0 → picked_from n i xs ≡ o → Some z ≡ o
   stops n i xs x z o h is some none_left invariant =
       ap (λ p. slice_get (option_to_list p ++ all (map view (drop (i + 1) xs))) 0) some
-      ∙ ap (λ k. slice_get (option_to_list (pick (view x)) ++ all (map view (drop (i + 1) xs))) k) (sym none_left)
+      ∙ ap (λ k. slice_get (option_to_list (pick (view x)) ++ all (map view (drop (i + 1) xs))) k)
+      (sym none_left)
       ∙ sym (next_picked n i xs x h is) ∙ invariant
 
-  pub none_picked : (n i : ℕ) (xs : List X) (o : Option Z) → length xs ≤ i → all [] ≡ [] → picked_from n i xs ≡ o → None ≡ o
-  none_picked n i xs o h none invariant = sym (ap (λ zs. slice_get zs n) none) ∙ ap (λ zs. slice_get (all (map view zs)) n) (sym (drop_of_length-le xs h)) ∙ invariant
+  pub none_picked : (n i : ℕ) (xs : List X) (o : Option Z) → length xs ≤ i → all [] ≡ []
+      → picked_from n i xs ≡ o → None ≡ o
+  none_picked n i xs o h none invariant = sym (ap (λ zs. slice_get zs n) none)
+      ∙ ap (λ zs. slice_get (all (map view zs)) n) (sym (drop_of_length-le xs h)) ∙ invariant
 
-pub items_split : (k : Kind) (y : Item Target) (ys : List (Item Target)) → attributes_of_items k (y ∷ ys) ≡ option_to_list (attributes_of_kind k y) ++ attributes_of_items k ys
+pub items_split : (k : Kind) (y : Item Target) (ys : List (Item Target))
+    → attributes_of_items k (y ∷ ys) ≡ option_to_list (attributes_of_kind k y)
+    ++ attributes_of_items k ys
 items_split k y ys = by_kind (same_kind (kind_of_item y.sort) k) refl
   where
-    by_kind : (b : Bool) → same_kind (kind_of_item y.sort) k ≡ b → attributes_of_items k (y ∷ ys) ≡ option_to_list (attributes_of_kind k y) ++ attributes_of_items k ys
+    by_kind : (b : Bool) → same_kind (kind_of_item y.sort) k ≡ b → attributes_of_items k (y ∷ ys)
+        ≡ option_to_list (attributes_of_kind k y) ++ attributes_of_items k ys
     by_kind true is = rw is refl
     by_kind false is = rw is refl

@@ -23,29 +23,36 @@ read_same (Item i) is = refl
 read_same (Function f) is = refl
 
 module _ (number : Words → StrNo) (plain : Target → Bool) where
-  pub same_block : (e : Expr Target) → is_pure_expr is_no_local plain e ≡ true → method_block number e ≡ expression_block e
+  pub same_block : (e : Expr Target) → is_pure_expr is_no_local plain e ≡ true
+      → method_block number e ≡ expression_block e
   unfolding method_block expression_block
   same_block (Literal value) is = refl
   same_block Decimal is = refl
   same_block (Reference from) is = read_same from is
   same_block (Parentheses inner) is = same_block inner is
-  same_block (Unary op operand) is = ap (λ (b : Block). Then b (unary_block op)) (same_block operand is)
+  same_block (Unary op operand) is = ap (λ (b : Block). Then b (unary_block op))
+      (same_block operand is)
   same_block (Binary op left right) is =
       let are = and_parts _ _ is in
-      two_same (λ a b. Then a (Then b (Straight (instruction.Operate op)))) (same_block left are.0) (same_block right are.1)
+      two_same (λ a b. Then a (Then b (Straight (instruction.Operate op)))) (same_block left are.0)
+      (same_block right are.1)
   same_block (Compare by left right) is =
       let are = and_parts _ _ is in
-      two_same (λ a b. Then a (Then b (Straight (instruction.Compare by)))) (same_block left are.0) (same_block right are.1)
+      two_same (λ a b. Then a (Then b (Straight (instruction.Compare by)))) (same_block left are.0)
+      (same_block right are.1)
   same_block (LogicalAnd left right) is =
       let are = and_parts _ _ is in
-      two_same (λ a b. Then a (then_test (WhenNotZero (instead b)))) (same_block left are.0) (same_block right are.1)
+      two_same (λ a b. Then a (then_test (WhenNotZero (instead b)))) (same_block left are.0)
+      (same_block right are.1)
   same_block (LogicalOr left right) is =
       let are = and_parts _ _ is in
-      two_same (λ a b. Then a (Then truth_block (then_test (WhenZero (instead b))))) (same_block left are.0) (same_block right are.1)
+      two_same (λ a b. Then a (Then truth_block (then_test (WhenZero (instead b)))))
+      (same_block left are.0) (same_block right are.1)
   same_block (Conditional test first second) is =
       let are = and_parts _ _ is in
       let front = and_parts _ _ are.0 in
-      two_same Then (same_block test front.0) (two_same Either (same_block first front.1) (same_block second are.1))
+      two_same Then (same_block test front.0)
+      (two_same Either (same_block first front.1) (same_block second are.1))
   same_block (Assign to value) is = absurd cc
   same_block (CompoundAssign op to value) is = absurd cc
   same_block (Increment op to) is = absurd cc

@@ -1,4 +1,5 @@
--- Expressions, conditionals and statements keep the number of their nodes with the meaning of each name in its place.
+-- Expressions, conditionals and statements keep the number of their nodes with the meaning of each
+-- name in its place.
 use Rattle.std.proofs.Common.{◌≡◌, refl, ap, ℕ, ◌+◌, List, [], ◌∷◌, length, Option, Some, None, arith}
 use Rattle.edd_syntax.specs.Reference.{Path}
 use Rattle.edd_syntax.specs.declared.reference.Target.{Target}
@@ -19,116 +20,222 @@ module _ (at : Path → Option Target) where
   mutual
     unfolding resolved_expr resolved_arguments
 
-    pub expr_keeps : (e : Expr Path) (e' : Expr Target) → resolved_expr at e ≡ Some e' → nodes e' ≡ nodes e
+    pub expr_keeps : (e : Expr Path) (e' : Expr Target) → resolved_expr at e ≡ Some e'
+        → nodes e' ≡ nodes e
     expr_keeps (Literal value) e' h = stays nodes (Literal value) e' h
     expr_keeps Decimal e' h = stays nodes Decimal e' h
     expr_keeps (Reference from) e' h = made nodes (at from) Reference e' _ (λ x p. refl) h
-    expr_keeps (Parentheses inner) e' h = made nodes (resolved_expr at inner) Parentheses e' _ (λ x p. ap (λ n. 1 + n) (expr_keeps inner x p)) h
-    expr_keeps (Unary op operand) e' h = made nodes (resolved_expr at operand) (Unary op) e' _ (λ x p. ap (λ n. 1 + n) (expr_keeps operand x p)) h
+    expr_keeps (Parentheses inner) e' h = made nodes (resolved_expr at inner) Parentheses e' _
+        (λ x p. ap (λ n. 1 + n) (expr_keeps inner x p)) h
+    expr_keeps (Unary op operand) e' h = made nodes (resolved_expr at operand) (Unary op) e' _
+        (λ x p. ap (λ n. 1 + n) (expr_keeps operand x p)) h
     expr_keeps (Binary op left right) e' h =
-        made_of_two nodes (resolved_expr at left) (resolved_expr at right) (Binary op) e' _ (λ x y p q. omega (arith, expr_keeps left x p, expr_keeps right y q)) h
+        made_of_two nodes (resolved_expr at left) (resolved_expr at right) (Binary op) e' _
+        (λ x y p q. omega (arith, expr_keeps left x p, expr_keeps right y q)) h
     expr_keeps (Compare by left right) e' h =
-        made_of_two nodes (resolved_expr at left) (resolved_expr at right) (Compare by) e' _ (λ x y p q. omega (arith, expr_keeps left x p, expr_keeps right y q)) h
+        made_of_two nodes (resolved_expr at left) (resolved_expr at right) (Compare by) e' _
+        (λ x y p q. omega (arith, expr_keeps left x p, expr_keeps right y q)) h
     expr_keeps (LogicalAnd left right) e' h =
-        made_of_two nodes (resolved_expr at left) (resolved_expr at right) LogicalAnd e' _ (λ x y p q. omega (arith, expr_keeps left x p, expr_keeps right y q)) h
+        made_of_two nodes (resolved_expr at left) (resolved_expr at right) LogicalAnd e' _
+        (λ x y p q. omega (arith, expr_keeps left x p, expr_keeps right y q)) h
     expr_keeps (LogicalOr left right) e' h =
-        made_of_two nodes (resolved_expr at left) (resolved_expr at right) LogicalOr e' _ (λ x y p q. omega (arith, expr_keeps left x p, expr_keeps right y q)) h
+        made_of_two nodes (resolved_expr at left) (resolved_expr at right) LogicalOr e' _
+        (λ x y p q. omega (arith, expr_keeps left x p, expr_keeps right y q)) h
     expr_keeps (Conditional test first second) e' h =
-        made_of_three nodes (resolved_expr at test) (resolved_expr at first) (resolved_expr at second) Conditional e' _
-        (λ x y z p q r. omega (arith, expr_keeps test x p, expr_keeps first y q, expr_keeps second z r)) h
-    expr_keeps (Assign to value) e' h = made_of_two nodes (at to) (resolved_expr at value) Assign e' _ (λ x y p q. ap (λ n. 1 + n) (expr_keeps value y q)) h
-    expr_keeps (CompoundAssign op to value) e' h = made_of_two nodes (at to) (resolved_expr at value) (CompoundAssign op) e' _ (λ x y p q. ap (λ n. 1 + n) (expr_keeps value y q)) h
+        made_of_three nodes (resolved_expr at test) (resolved_expr at first)
+        (resolved_expr at second) Conditional e' _
+        (λ x y z p q r. omega (
+          arith,
+          expr_keeps test x p,
+          expr_keeps first y q,
+          expr_keeps second z r,
+        )) h
+    expr_keeps (Assign to value) e' h = made_of_two nodes (at to) (resolved_expr at value) Assign e'
+        _ (λ x y p q. ap (λ n. 1 + n) (expr_keeps value y q)) h
+    expr_keeps (CompoundAssign op to value) e' h =
+        made_of_two nodes (at to) (resolved_expr at value) (CompoundAssign op) e' _
+        (λ x y p q. ap (λ n. 1 + n) (expr_keeps value y q)) h
     expr_keeps (Increment op to) e' h = made nodes (at to) (Increment op) e' _ (λ x p. refl) h
     expr_keeps (Call name arguments) e' h =
-        made_of_two nodes (function_meant name) (resolved_arguments at arguments) Call e' _ (λ x y p q. ap (λ n. 1 + n) (arguments_keep arguments y q)) h
+        made_of_two nodes (function_meant name) (resolved_arguments at arguments) Call e' _
+        (λ x y p q. ap (λ n. 1 + n) (arguments_keep arguments y q)) h
 
-    pub arguments_keep : (all : Arguments Path) (all' : Arguments Target) → resolved_arguments at all ≡ Some all' → argument_nodes all' ≡ argument_nodes all
+    pub arguments_keep : (all : Arguments Path) (all' : Arguments Target)
+        → resolved_arguments at all ≡ Some all' → argument_nodes all' ≡ argument_nodes all
     arguments_keep expr.Nil all' h = stays argument_nodes expr.Nil all' h
-    arguments_keep (expr.Cons (Text text) rest) all' h = made argument_nodes (resolved_arguments at rest) (expr.Cons (Text text)) all' _ (λ x p. arguments_keep rest x p) h
+    arguments_keep (expr.Cons (Text text) rest) all' h =
+        made argument_nodes (resolved_arguments at rest) (expr.Cons (Text text)) all' _
+        (λ x p. arguments_keep rest x p) h
     arguments_keep (expr.Cons (expr.Value e) rest) all' h =
-        made_of_two argument_nodes (resolved_expr at e) (resolved_arguments at rest) (λ e' rest'. expr.Cons (expr.Value e') rest') all' _
+        made_of_two argument_nodes (resolved_expr at e) (resolved_arguments at rest)
+        (λ e' rest'. expr.Cons (expr.Value e') rest') all' _
         (λ x y p q. omega (arith, expr_keeps e x p, arguments_keep rest y q)) h
 
-  pub optional_keeps : (o : Option (Expr Path)) (o' : Option (Expr Target)) → resolved_optional at o ≡ Some o' → optional_nodes o' ≡ optional_nodes o
+  pub optional_keeps : (o : Option (Expr Path)) (o' : Option (Expr Target)) → resolved_optional at o
+      ≡ Some o' → optional_nodes o' ≡ optional_nodes o
   optional_keeps None o' h = stays optional_nodes None o' h
-  optional_keeps (Some e) o' h = made optional_nodes (resolved_expr at e) Some o' _ (λ x p. expr_keeps e x p) h
+  optional_keeps (Some e) o' h = made optional_nodes (resolved_expr at e) Some o' _
+      (λ x p. expr_keeps e x p) h
 
   -- ---- conditionals, whose values keep theirs
 
-  module _ {V W : Type 0} (of : V → Option W) (f : V → ℕ) (g : W → ℕ) (keeps : (v : V) (w : W) → of v ≡ Some w → g w ≡ f v) where
+  module _ {V W : Type 0} (of : V → Option W) (f : V → ℕ) (g : W → ℕ) (keeps : (v : V) (w : W)
+      → of v ≡ Some w → g w ≡ f v) where
     mutual
       unfolding resolved_cond resolved_conds resolved_arms
 
-      pub cond_keeps : (c : Cond Path V) (c' : Cond Target W) → resolved_cond at of c ≡ Some c' → cond_nodes g c' ≡ cond_nodes f c
-      cond_keeps (Value v) c' h = made (cond_nodes g) (of v) Value c' _ (λ w p. ap (λ n. 1 + n) (keeps v w p)) h
+      pub cond_keeps : (c : Cond Path V) (c' : Cond Target W) → resolved_cond at of c ≡ Some c'
+          → cond_nodes g c' ≡ cond_nodes f c
+      cond_keeps (Value v) c' h = made (cond_nodes g) (of v) Value c' _
+          (λ w p. ap (λ n. 1 + n) (keeps v w p)) h
       cond_keeps (If condition first otherwise) c' h =
-          made_of_three (cond_nodes g) (resolved_expr at condition) (resolved_conds at of first) (resolved_conds at of otherwise) If c' _
-          (λ x y z p q r. omega (arith, expr_keeps condition x p, conds_keep first y q, conds_keep otherwise z r)) h
+          made_of_three (cond_nodes g) (resolved_expr at condition) (resolved_conds at of first)
+          (resolved_conds at of otherwise) If c' _
+          (λ x y z p q r. omega (
+            arith,
+            expr_keeps condition x p,
+            conds_keep first y q,
+            conds_keep otherwise z r,
+          )) h
       cond_keeps (Select on arms) c' h =
           made_of_two (cond_nodes g) (resolved_expr at on) (resolved_arms at of arms) Select c' _
           (λ x y p q. omega (arith, expr_keeps on x p, arms_keep arms y q)) h
 
-      pub conds_keep : (all : Conds Path V) (all' : Conds Target W) → resolved_conds at of all ≡ Some all' → conds_nodes g all' ≡ conds_nodes f all
+      pub conds_keep : (all : Conds Path V) (all' : Conds Target W) → resolved_conds at of all
+          ≡ Some all' → conds_nodes g all' ≡ conds_nodes f all
       conds_keep cond.Nil all' h = stays (conds_nodes g) cond.Nil all' h
       conds_keep (cond.Cons first rest) all' h =
-          made_of_two (conds_nodes g) (resolved_cond at of first) (resolved_conds at of rest) cond.Cons all' _
+          made_of_two (conds_nodes g) (resolved_cond at of first) (resolved_conds at of rest)
+          cond.Cons all' _
           (λ x y p q. omega (arith, cond_keeps first x p, conds_keep rest y q)) h
 
-      pub arms_keep : (arms : Arms Path V) (arms' : Arms Target W) → resolved_arms at of arms ≡ Some arms' → arms_nodes g arms' ≡ arms_nodes f arms
+      pub arms_keep : (arms : Arms Path V) (arms' : Arms Target W) → resolved_arms at of arms
+          ≡ Some arms' → arms_nodes g arms' ≡ arms_nodes f arms
       arms_keep NoArms arms' h = stays (arms_nodes g) NoArms arms' h
       arms_keep (ConsArm (Case label body) rest) arms' h =
-          made_of_two (arms_nodes g) (resolved_conds at of body) (resolved_arms at of rest) (λ body' rest'. ConsArm (Case label body') rest') arms' _
+          made_of_two (arms_nodes g) (resolved_conds at of body) (resolved_arms at of rest)
+          (λ body' rest'. ConsArm (Case label body') rest') arms' _
           (λ x y p q. omega (arith, conds_keep body x p, arms_keep rest y q)) h
       arms_keep (ConsArm (Default body) rest) arms' h =
-          made_of_two (arms_nodes g) (resolved_conds at of body) (resolved_arms at of rest) (λ body' rest'. ConsArm (Default body') rest') arms' _
+          made_of_two (arms_nodes g) (resolved_conds at of body) (resolved_arms at of rest)
+          (λ body' rest'. ConsArm (Default body') rest') arms' _
           (λ x y p q. omega (arith, conds_keep body x p, arms_keep rest y q)) h
 
 -- ---- statements
 
 module _ (unit : Description Path) where
-  pub declarators_keep : (scope : Scope) (next : ℕ) (ds : List (Declarator Path)) (ds' : List (Declarator Target)) → resolved_declarators unit scope next ds ≡ Some ds' → declarator_nodes ds' ≡ declarator_nodes ds
+  pub declarators_keep : (scope : Scope) (next : ℕ) (ds : List (Declarator Path))
+      (ds' : List (Declarator Target)) → resolved_declarators unit scope next ds ≡ Some ds'
+      → declarator_nodes ds' ≡ declarator_nodes ds
   declarators_keep scope next [] ds' h = stays declarator_nodes [] ds' h
   declarators_keep scope next (d ∷ rest) ds' h =
-      made_of_two declarator_nodes (resolved_optional (at_scope unit scope) d.value) (resolved_declarators unit (declared d.place next scope) (next + 1) rest)
+      made_of_two declarator_nodes (resolved_optional (at_scope unit scope) d.value)
+      (resolved_declarators unit (declared d.place next scope) (next + 1) rest)
       (λ value others. record { place = Local next; value = value } ∷ others) ds' _
-      (λ x y p q. omega (arith, optional_keeps (at_scope unit scope) d.value x p, declarators_keep (declared d.place next scope) (next + 1) rest y q)) h
+      (λ x y p q. omega (
+        arith,
+        optional_keeps (at_scope unit scope) d.value x p,
+        declarators_keep (declared d.place next scope) (next + 1) rest y q,
+      )) h
 
   mutual
     unfolding resolved_stmt resolved_body
 
-    pub statement_keeps : (t : Stmt Path) (scope : Scope) (next : ℕ) (t' : Stmt Target) → resolved_stmt unit t scope next ≡ Some t' → statement_nodes t' ≡ statement_nodes t
+    pub statement_keeps : (t : Stmt Path) (scope : Scope) (next : ℕ) (t' : Stmt Target)
+        → resolved_stmt unit t scope next ≡ Some t' → statement_nodes t' ≡ statement_nodes t
     statement_keeps s.Empty scope next t' h = stays statement_nodes s.Empty t' h
-    statement_keeps (s.Evaluate e) scope next t' h = made statement_nodes (resolved_expr (at_scope unit scope) e) s.Evaluate t' _ (λ x p. ap (λ n. 1 + n) (expr_keeps (at_scope unit scope) e x p)) h
-    statement_keeps (s.Block body) scope next t' h = made statement_nodes (resolved_body unit body scope next) s.Block t' _ (λ x p. ap (λ n. 1 + n) (body_keeps body scope next x p)) h
+    statement_keeps (s.Evaluate e) scope next t' h =
+        made statement_nodes (resolved_expr (at_scope unit scope) e) s.Evaluate t' _
+        (λ x p. ap (λ n. 1 + n) (expr_keeps (at_scope unit scope) e x p)) h
+    statement_keeps (s.Block body) scope next t' h =
+        made statement_nodes (resolved_body unit body scope next) s.Block t' _
+        (λ x p. ap (λ n. 1 + n) (body_keeps body scope next x p)) h
     statement_keeps (s.If condition first) scope next t' h =
-        made_of_two statement_nodes (resolved_expr (at_scope unit scope) condition) (resolved_stmt unit first scope next) s.If t' _
-        (λ x y p q. omega (arith, expr_keeps (at_scope unit scope) condition x p, statement_keeps first scope next y q)) h
+        made_of_two statement_nodes (resolved_expr (at_scope unit scope) condition)
+        (resolved_stmt unit first scope next) s.If t' _
+        (λ x y p q. omega (
+          arith,
+          expr_keeps (at_scope unit scope) condition x p,
+          statement_keeps first scope next y q,
+        )) h
     statement_keeps (s.IfElse condition first otherwise) scope next t' h =
-        made_of_three statement_nodes (resolved_expr (at_scope unit scope) condition) (resolved_stmt unit first scope next) (resolved_stmt unit otherwise scope (next + slots_of first)) s.IfElse t' _
-        (λ x y z p q r. omega (arith, expr_keeps (at_scope unit scope) condition x p, statement_keeps first scope next y q, statement_keeps otherwise scope (next + slots_of first) z r)) h
+        made_of_three statement_nodes (resolved_expr (at_scope unit scope) condition)
+        (resolved_stmt unit first scope next)
+        (resolved_stmt unit otherwise scope (next + slots_of first)) s.IfElse t' _
+        (λ x y z p q r. omega (
+          arith,
+          expr_keeps (at_scope unit scope) condition x p,
+          statement_keeps first scope next y q,
+          statement_keeps otherwise scope
+              (next + slots_of first) z r,
+        )) h
     statement_keeps (s.While condition body) scope next t' h =
-        made_of_two statement_nodes (resolved_expr (at_scope unit scope) condition) (resolved_stmt unit body scope next) s.While t' _
-        (λ x y p q. omega (arith, expr_keeps (at_scope unit scope) condition x p, statement_keeps body scope next y q)) h
+        made_of_two statement_nodes (resolved_expr (at_scope unit scope) condition)
+        (resolved_stmt unit body scope next) s.While t' _
+        (λ x y p q. omega (
+          arith,
+          expr_keeps (at_scope unit scope) condition x p,
+          statement_keeps body scope next y q,
+        )) h
     statement_keeps (s.Do body condition) scope next t' h =
-        made_of_two statement_nodes (resolved_stmt unit body scope next) (resolved_expr (at_scope unit scope) condition) s.Do t' _
-        (λ x y p q. omega (arith, statement_keeps body scope next x p, expr_keeps (at_scope unit scope) condition y q)) h
+        made_of_two statement_nodes (resolved_stmt unit body scope next)
+        (resolved_expr (at_scope unit scope) condition) s.Do t' _
+        (λ x y p q. omega (
+          arith,
+          statement_keeps body scope next x p,
+          expr_keeps (at_scope unit scope) condition y q,
+        )) h
     statement_keeps (s.For initial condition update body) scope next t' h =
-        made_of_four statement_nodes (resolved_optional (at_scope unit scope) initial) (resolved_optional (at_scope unit scope) condition) (resolved_optional (at_scope unit scope) update) (resolved_stmt unit body scope next) s.For t' _
-        (λ x y z u p q r m. omega (arith, optional_keeps (at_scope unit scope) initial x p, optional_keeps (at_scope unit scope) condition y q, optional_keeps (at_scope unit scope) update z r, statement_keeps body scope next u m)) h
+        made_of_four statement_nodes (resolved_optional (at_scope unit scope) initial)
+        (resolved_optional (at_scope unit scope) condition)
+        (resolved_optional (at_scope unit scope) update) (resolved_stmt unit body scope next)
+        s.For t' _
+        (λ x y z u p q r m. omega (
+          arith,
+          optional_keeps (at_scope unit scope) initial x p,
+          optional_keeps (at_scope unit scope) condition y q,
+          optional_keeps (at_scope unit scope)
+              update z r,
+          statement_keeps body scope next u m,
+        )) h
     statement_keeps (s.Switch on body) scope next t' h =
-        made_of_two statement_nodes (resolved_expr (at_scope unit scope) on) (resolved_body unit body scope next) s.Switch t' _
-        (λ x y p q. omega (arith, expr_keeps (at_scope unit scope) on x p, body_keeps body scope next y q)) h
+        made_of_two statement_nodes (resolved_expr (at_scope unit scope) on)
+        (resolved_body unit body scope next) s.Switch t' _
+        (λ x y p q. omega (
+          arith,
+          expr_keeps (at_scope unit scope) on x p,
+          body_keeps body scope next y q,
+        )) h
     statement_keeps s.Break scope next t' h = stays statement_nodes s.Break t' h
     statement_keeps s.Continue scope next t' h = stays statement_nodes s.Continue t' h
     statement_keeps s.Return scope next t' h = stays statement_nodes s.Return t' h
 
-    pub body_keeps : (b : Body Path) (scope : Scope) (next : ℕ) (b' : Body Target) → resolved_body unit b scope next ≡ Some b' → body_nodes b' ≡ body_nodes b
+    pub body_keeps : (b : Body Path) (scope : Scope) (next : ℕ) (b' : Body Target)
+        → resolved_body unit b scope next ≡ Some b' → body_nodes b' ≡ body_nodes b
     body_keeps Nil scope next b' h = stays body_nodes Nil b' h
     body_keeps (Cons (Declare declarators) rest) scope next b' h =
-        made_of_two body_nodes (resolved_declarators unit scope next declarators) (resolved_body unit rest (all_declared scope next declarators) (next + length declarators)) (λ declarators' rest'. Cons (Declare declarators') rest') b' _
-        (λ x y p q. omega (arith, declarators_keep scope next declarators x p, body_keeps rest (all_declared scope next declarators) (next + length declarators) y q)) h
+        made_of_two body_nodes (resolved_declarators unit scope next declarators)
+        (resolved_body unit rest (all_declared scope next declarators)
+        (next + length declarators)) (λ declarators' rest'. Cons (Declare declarators') rest')
+        b' _
+        (λ x y p q. omega (
+          arith,
+          declarators_keep scope next declarators x p,
+          body_keeps rest (all_declared scope next declarators) (next + length declarators) y q,
+        ))
+        h
     body_keeps (Cons (Statement first) rest) scope next b' h =
-        made_of_two body_nodes (resolved_stmt unit first scope next) (resolved_body unit rest scope (next + slots_of first)) (λ first' rest'. Cons (Statement first') rest') b' _
-        (λ x y p q. omega (arith, statement_keeps first scope next x p, body_keeps rest scope (next + slots_of first) y q)) h
-    body_keeps (Cons (CaseLabel label) rest) scope next b' h = made body_nodes (resolved_body unit rest scope next) (Cons (CaseLabel label)) b' _ (λ x p. ap (λ n. 1 + n) (body_keeps rest scope next x p)) h
-    body_keeps (Cons DefaultLabel rest) scope next b' h = made body_nodes (resolved_body unit rest scope next) (Cons DefaultLabel) b' _ (λ x p. ap (λ n. 1 + n) (body_keeps rest scope next x p)) h
+        made_of_two body_nodes (resolved_stmt unit first scope next)
+        (resolved_body unit rest scope (next + slots_of first))
+        (λ first' rest'. Cons (Statement first') rest') b' _
+        (λ x y p q. omega (
+          arith,
+          statement_keeps first scope next x p,
+          body_keeps rest scope (next + slots_of first) y q,
+        )) h
+    body_keeps (Cons (CaseLabel label) rest) scope next b' h =
+        made body_nodes (resolved_body unit rest scope next) (Cons (CaseLabel label)) b' _
+        (λ x p. ap (λ n. 1 + n) (body_keeps rest scope next x p)) h
+    body_keeps (Cons DefaultLabel rest) scope next b' h =
+        made body_nodes (resolved_body unit rest scope next) (Cons DefaultLabel) b' _
+        (λ x p. ap (λ n. 1 + n) (body_keeps rest scope next x p)) h

@@ -22,34 +22,48 @@ use Rattle.edd_code.proofs.BlockRuns.{with_all, with_all-ok, Comes, IsRead, end_
 
 -- spelled instructions are read where they stand
 all_read : (front : List ℕ) (is : List Instruction) → AllSpelled is
-    → AllByRecursion (λ x. instruction_at (front ++ bytes_of is) x.place ≡ Some (x.instruction, x.next)) (placed (length front) is)
+    → AllByRecursion (λ x. instruction_at (front ++ bytes_of is) x.place
+    ≡ Some (x.instruction, x.next)) (placed (length front) is)
 unfolding bytes_of
 all_read front [] ok = tt
 all_read front (i ∷ is) ok = (
   stands_where_spelled front (bytes_of is) i ok.0,
-  subst (λ (code : List ℕ). AllByRecursion (λ x. instruction_at code x.place ≡ Some (x.instruction, x.next)) (placed (length front + length (spelling i)) is)) (append_assoc front (spelling i) (bytes_of is))
-      (subst (λ (p : ℕ). AllByRecursion (λ x. instruction_at ((front ++ spelling i) ++ bytes_of is) x.place ≡ Some (x.instruction, x.next)) (placed p is)) (length-append front (spelling i)) (all_read (front ++ spelling i) is ok.1)),
+  subst (λ (code : List ℕ). AllByRecursion (λ x. instruction_at code x.place
+      ≡ Some (x.instruction, x.next)) (placed (length front + length (spelling i)) is))
+      (append_assoc front (spelling i) (bytes_of is))
+      (subst (λ (p : ℕ). AllByRecursion (λ x. instruction_at ((front ++ spelling i) ++ bytes_of is)
+      x.place ≡ Some (x.instruction, x.next)) (placed p is)) (length-append front (spelling i))
+      (all_read (front ++ spelling i) is ok.1)),
 )
 
-module _ (env : Environment) (values : List ℤ) (b : Block) (spelled : AreSpelled b) (flows : Flows b 0) (small : size b < 2 ^ 31) where
+module _ (env : Environment) (values : List ℤ) (b : Block) (spelled : AreSpelled b)
+    (flows : Flows b 0) (small : size b < 2 ^ 31) where
   reads : AllByRecursion (IsRead env (unit_code b) values) (listed_in b)
   reads =
-      subst (λ (code : List ℕ). AllByRecursion (λ x. instruction_at code x.place ≡ Some (x.instruction, x.next)) (listed_in b)) (sym (unit_is b))
-      (subst (λ (xs : List Placed). AllByRecursion (λ x. instruction_at (bytes_of (in_unit b)) x.place ≡ Some (x.instruction, x.next)) xs) (unit_listed b small)
+      subst (λ (code : List ℕ). AllByRecursion (λ x. instruction_at code x.place
+      ≡ Some (x.instruction, x.next)) (listed_in b)) (sym (unit_is b))
+      (subst (λ (xs : List Placed). AllByRecursion
+      (λ x. instruction_at (bytes_of (in_unit b)) x.place ≡ Some (x.instruction, x.next)) xs)
+      (unit_listed b small)
       (all_read [] (in_unit b) (unit_spelled b spelled)))
 
-  comes : (o : Outcome) → does env values b [] ≡ o → Comes env (unit_code b) values 0 (0 + size b) [] o
+  comes : (o : Outcome) → does env values b [] ≡ o
+      → Comes env (unit_code b) values 0 (0 + size b) [] o
   comes o is =
       subst (λ (x : Outcome). Comes env (unit_code b) values 0 (0 + size b) [] x) is
-      (block_comes env (unit_code b) values 0 0 b flows (all_in (IsRead env (unit_code b) values) 0 b (the_end b ∷ []) reads).0 [])
+      (block_comes env (unit_code b) values 0 0 b flows
+      (all_in (IsRead env (unit_code b) values) 0 b (the_end b ∷ []) reads).0 [])
 
   pub unit_goes : (records : List Record) → does env values b [] ≡ Goes records []
-      → (n : ℕ) × (given_within n env (opening (record { sort = Attribute; code = unit_code b }) 0 values) ≡ Some (Ok records))
+      → (n : ℕ) × (given_within n env (opening (record { sort = Attribute; code = unit_code b }) 0
+      values) ≡ Some (Ok records))
   unit_goes records is =
-      let ending = end_step env (unit_code b) values (0 + size b) (0 + size b + 1) (all_in (IsRead env (unit_code b) values) 0 b (the_end b ∷ []) reads).1.0 in
+      let ending = end_step env (unit_code b) values (0 + size b) (0 + size b + 1)
+      (all_in (IsRead env (unit_code b) values) 0 b (the_end b ∷ []) reads).1.0 in
       let run = comes (Goes records []) is 1 in
       (run.0, run.1 ∙ ap (with_all records) ending ∙ with_all-ok records)
 
   pub unit_traps : (why : Trap) → does env values b [] ≡ Traps why
-      → (n : ℕ) × (given_within n env (opening (record { sort = Attribute; code = unit_code b }) 0 values) ≡ Some (Err why))
+      → (n : ℕ) × (given_within n env (opening (record { sort = Attribute; code = unit_code b }) 0
+      values) ≡ Some (Err why))
   unit_traps why is = comes (Traps why) is

@@ -44,7 +44,8 @@ pair (Some a) None = None
 pair (Some a) (Some b) = Some (a, b)
 
 -- what both arguments are, where there are two and each is of its kind
-abbrev pub both : {A B : Type 0} → (Argument Target → Option A) → (Argument Target → Option B) → Arguments Target → Option (A × B)
+abbrev pub both : {A B : Type 0} → (Argument Target → Option A) → (Argument Target → Option B)
+    → Arguments Target → Option (A × B)
 both kind other Nil = None
 both kind other (Cons first Nil) = None
 both kind other (Cons first (Cons second Nil)) = pair (kind first) (other second)

@@ -30,8 +30,23 @@ module _ {W E : Type 0} (one : Instruction → List ℤ → W → Outcome W E) w
   does Nothing operands w = Goes operands w
   does (Straight i) operands w = one i operands w
   does (Then first second) operands w = and_then (does first operands w) (does second)
-  does (WhenNotZero body) operands w = on_topmost operands (λ a below. elim (is_zero a) [ true ↦ Goes below w | false ↦ does body below w ])
-  does (WhenZero body) operands w = on_topmost operands (λ a below. elim (is_zero a) [ true ↦ does body below w | false ↦ Goes below w ])
-  does (Either first otherwise) operands w = on_topmost operands (λ a below. elim (is_zero a) [ true ↦ does otherwise below w | false ↦ does first below w ])
+  does (WhenNotZero body) operands w =
+      on_topmost operands (λ a below. elim (is_zero a) [
+        | true ↦ Goes below w
+        | false ↦ does body below w
+      ])
+  does (WhenZero body) operands w =
+      on_topmost operands (λ a below. elim (is_zero a) [
+        | true ↦ does body below w
+        | false ↦ Goes below w
+      ])
+  does (Either first otherwise) operands w =
+      on_topmost operands (λ a below. elim (is_zero a) [
+        | true ↦ does otherwise below w
+        | false ↦ does first below w
+      ])
   does (Match label body rest) operands w =
-      on_topmost operands (λ a below. elim (int_eq a label) [ true ↦ does body below w | false ↦ does rest operands w ])
+      on_topmost operands (λ a below. elim (int_eq a label) [
+        | true ↦ does body below w
+        | false ↦ does rest operands w
+      ])

@@ -1,4 +1,5 @@
--- Code in blocks. A block stands from one place to another and its jumps stay inside, so it may stand anywhere.
+-- Code in blocks. A block stands from one place to another and its jumps stay inside, so it may
+-- stand anywhere.
 use Rattle.std.specs.Prelude.{ℕ, ◌+◌, ◌%◌, ◌^◌, ℤ, List, [], ◌∷◌, ◌++◌, length}
 use Rattle.std.specs.List.{flat_map}
 use Rattle.edd_image.specs.declared.instruction.Instruction.{Instruction}
@@ -17,7 +18,8 @@ pub data Block : Type 0 where
   WhenZero : (body : Block) → Block
   -- takes the topmost operand; the first follows where it isn't 0, else the other
   Either : (first otherwise : Block) → Block
-  -- where the topmost operand is the label, it is taken and the body follows; else the rest, which finds it still there
+  -- where the topmost operand is the label, it is taken and the body follows; else the rest, which
+  -- finds it still there
   Match : (label : ℤ) → (body rest : Block) → Block
 
 -- how many bytes a block has
@@ -34,19 +36,24 @@ size (Match label body rest) = 13 + (size rest + (5 + size body))
 abbrev pub target : ℕ → ℕ
 target place = place % 2 ^ 32
 
--- The instructions of a block that stands at a place. A jump leads over the part that isn't to follow.
+-- The instructions of a block that stands at a place. A jump leads over the part that isn't to
+-- follow.
 unfoldable pub emitted : (place : ℕ) → Block → List Instruction
 emitted p Nothing = []
 emitted p (Straight i) = i ∷ []
 emitted p (Then first second) = emitted p first ++ emitted (p + size first) second
-emitted p (WhenNotZero body) = instruction.JumpIfZero (target (p + (5 + size body))) ∷ emitted (p + 5) body
-emitted p (WhenZero body) = instruction.JumpIfNotZero (target (p + (5 + size body))) ∷ emitted (p + 5) body
+emitted p (WhenNotZero body) = instruction.JumpIfZero (target (p + (5 + size body)))
+    ∷ emitted (p + 5) body
+emitted p (WhenZero body) = instruction.JumpIfNotZero (target (p + (5 + size body)))
+    ∷ emitted (p + 5) body
 emitted p (Either first otherwise) =
     instruction.JumpIfZero (target (p + (5 + (size first + 5)))) ∷ (emitted (p + 5) first
-    ++ (instruction.Jump (target (p + (5 + (size first + (5 + size otherwise))))) ∷ emitted (p + (5 + (size first + 5))) otherwise))
+    ++ (instruction.Jump (target (p + (5 + (size first + (5 + size otherwise)))))
+    ∷ emitted (p + (5 + (size first + 5))) otherwise))
 emitted p (Match label body rest) =
     instruction.Case label (target (p + (13 + (size rest + 5)))) ∷ (emitted (p + 13) rest
-    ++ (instruction.Jump (target (p + (13 + (size rest + (5 + size body))))) ∷ emitted (p + (13 + (size rest + 5))) body))
+    ++ (instruction.Jump (target (p + (13 + (size rest + (5 + size body)))))
+    ∷ emitted (p + (13 + (size rest + 5))) body))
 
 -- the bytes of instructions
 unfoldable pub bytes_of : List Instruction → List ℕ

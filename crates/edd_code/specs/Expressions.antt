@@ -1,4 +1,5 @@
--- The block of an expression of an attribute, which leaves its value on top. What stands in methods alone has the block of 0.
+-- The block of an expression of an attribute, which leaves its value on top. What stands in methods
+-- alone has the block of 0.
 use Rattle.edd_syntax.specs.declared.numbers.ItemNo.{ItemNo}
 use Rattle.edd_syntax.specs.declared.numbers.ItemNo.TheVariants as item_no
 use Rattle.edd_syntax.specs.declared.operators.UnaryOperator.{UnaryOperator}
@@ -46,17 +47,24 @@ then_test next = Then (Straight instruction.Duplicate) next
 abbrev pub instead : Block → Block
 instead right = Then (Straight instruction.Pop) (Then right truth_block)
 
--- the operands from left to right; the right side of `&&` and `||` only where the left side doesn't decide
+-- the operands from left to right; the right side of `&&` and `||` only where the left side doesn't
+-- decide
 unfoldable pub expression_block : Expr Target → Block
 expression_block (Literal value) = Straight (instruction.Push value)
 expression_block (Reference from) = read_block from
 expression_block (Parentheses inner) = expression_block inner
 expression_block (Unary op operand) = Then (expression_block operand) (unary_block op)
-expression_block (Binary op left right) = Then (expression_block left) (Then (expression_block right) (Straight (instruction.Operate op)))
-expression_block (Compare by left right) = Then (expression_block left) (Then (expression_block right) (Straight (instruction.Compare by)))
-expression_block (LogicalAnd left right) = Then (expression_block left) (then_test (WhenNotZero (instead (expression_block right))))
-expression_block (LogicalOr left right) = Then (expression_block left) (Then truth_block (then_test (WhenZero (instead (expression_block right)))))
-expression_block (Conditional test first second) = Then (expression_block test) (Either (expression_block first) (expression_block second))
+expression_block (Binary op left right) =
+    Then (expression_block left) (Then (expression_block right) (Straight (instruction.Operate op)))
+expression_block (Compare by left right) =
+    Then (expression_block left) (Then (expression_block right) (Straight (instruction.Compare by)))
+expression_block (LogicalAnd left right) =
+    Then (expression_block left) (then_test (WhenNotZero (instead (expression_block right))))
+expression_block (LogicalOr left right) =
+    Then (expression_block left)
+    (Then truth_block (then_test (WhenZero (instead (expression_block right)))))
+expression_block (Conditional test first second) =
+    Then (expression_block test) (Either (expression_block first) (expression_block second))
 -- these stand in no attribute of a checked description
 expression_block Decimal = no_value
 expression_block (Assign to by) = no_value

@@ -1,4 +1,5 @@
--- What a block needs so that its unit is valid: operands that are there, and instructions that are allowed.
+-- What a block needs so that its unit is valid: operands that are there, and instructions that are
+-- allowed.
 use Rattle.std.specs.Prelude.{◌≡◌, ℕ, ◌+◌, ◌-◌, ◌≤◌, Bool, true, ◌&&◌, ⊤, FitsSigned, IsTrue, Option, Some, None, is_some, is_none}
 use Rattle.std.specs.Int.{w64}
 use Rattle.edd_image.specs.declared.instruction.Instruction.{Instruction}
@@ -26,22 +27,28 @@ depth_after (Either first otherwise) d = depth_after first (d - 1)
 depth_after (Match label body rest) d = depth_after body (d - 1)
 
 module _ (version : Version) (sort : Sort) where
-  -- an instruction that may stand in such a unit, and that goes on to the one behind it and nowhere else
+  -- an instruction that may stand in such a unit, and that goes on to the one behind it and nowhere
+  -- else
   abbrev pub is_straight_in : Instruction → Bool
   is_straight_in i = is_allowed version sort i && (is_some (leaves i) && is_none (jump i))
 
-  -- Each instruction finds the operands that it takes, and at most as many as the stack holds; parts that come together leave as many.
+  -- Each instruction finds the operands that it takes, and at most as many as the stack holds;
+  -- parts that come together leave as many.
   abbrev pub FlowsIn : Block → ℕ → Type 0
   FlowsIn Nothing d = ⊤
   FlowsIn (Straight i) d = IsTrue (is_straight_in i) × (takes i ≤ d) × (d ≤ 128)
   FlowsIn (Then first second) d = FlowsIn first d × FlowsIn second (depth_after first d)
-  FlowsIn (WhenNotZero body) d = (1 ≤ d) × (d ≤ 128) × FlowsIn body (d - 1) × (depth_after body (d - 1) ≡ d - 1)
-  FlowsIn (WhenZero body) d = (1 ≤ d) × (d ≤ 128) × FlowsIn body (d - 1) × (depth_after body (d - 1) ≡ d - 1)
+  FlowsIn (WhenNotZero body) d = (1 ≤ d) × (d ≤ 128) × FlowsIn body (d - 1)
+      × (depth_after body (d - 1) ≡ d - 1)
+  FlowsIn (WhenZero body) d = (1 ≤ d) × (d ≤ 128) × FlowsIn body (d - 1)
+      × (depth_after body (d - 1) ≡ d - 1)
   FlowsIn (Either first otherwise) d =
-      (1 ≤ d) × (d ≤ 128) × FlowsIn first (d - 1) × FlowsIn otherwise (d - 1) × (depth_after otherwise (d - 1) ≡ depth_after first (d - 1))
+      (1 ≤ d) × (d ≤ 128) × FlowsIn first (d - 1) × FlowsIn otherwise (d - 1)
+      × (depth_after otherwise (d - 1) ≡ depth_after first (d - 1))
       × (depth_after first (d - 1) ≤ 128)
   FlowsIn (Match label body rest) d =
-      (1 ≤ d) × (d ≤ 128) × FlowsIn body (d - 1) × FlowsIn rest d × (depth_after rest d ≡ depth_after body (d - 1)) × (depth_after rest d ≤ 128)
+      (1 ≤ d) × (d ≤ 128) × FlowsIn body (d - 1) × FlowsIn rest d
+      × (depth_after rest d ≡ depth_after body (d - 1)) × (depth_after rest d ≤ 128)
 
 -- the same in an attribute
 abbrev pub is_straight : Instruction → Bool

@@ -1,4 +1,5 @@
--- What a block comes to in a method: the operands that it leaves and the state of the method, or a stop.
+-- What a block comes to in a method: the operands that it leaves and the state of the method, or a
+-- stop.
 use Rattle.std.specs.Prelude.{◌≡◌, ℕ, ◌≤◌, ℤ, List, [], ◌∷◌, ◌++◌, Option, Some, None}
 use Rattle.std.specs.List.{AllByRecursion}
 use Rattle.edd_syntax.specs.declared.numbers.StrNo.{StrNo}
@@ -67,7 +68,8 @@ module _ (text : StrNo → Option Words) (env : Environment) where
   -- what the effect of an instruction comes to, by the state that was before it
   abbrev pub outcome_of : State → Option Effect → Outcome State Halted
   outcome_of s None = Stuck
-  outcome_of s (Some e) = with_answer e.state.status e.state.operands (noted e.changes (record s { slots = e.state.slots; values = e.state.values }))
+  outcome_of s (Some e) = with_answer e.state.status e.state.operands
+      (noted e.changes (record s { slots = e.state.slots; values = e.state.values }))
 
   -- what a straight instruction comes to does not depend on where it stands
   abbrev pub does_one : Instruction → List ℤ → State → Outcome State Halted
@@ -77,10 +79,15 @@ module _ (text : StrNo → Option Words) (env : Environment) where
   abbrev pub does : Block → List ℤ → State → Outcome State Halted
   does b operands s = blocks.does does_one b operands s
 
-  -- From a place with these operands the run goes on to another place, with the operands and the state of the outcome, or comes to
-  -- its stop: for any number of steps behind it, from there at least as many.
-  abbrev pub Comes : (code : List ℕ) → (from to : ℕ) → (operands : List ℤ) → State → Outcome State Halted → Type 0
+  -- From a place with these operands the run goes on to another place, with the operands and the
+  -- state of the outcome, or comes to its stop: for any number of steps behind it, from there at
+  -- least as many.
+  abbrev pub Comes : (code : List ℕ) → (from to : ℕ) → (operands : List ℤ) → State
+      → Outcome State Halted → Type 0
   Comes code p q operands s (Goes left t) =
-      CanBeTaken env t.answers × ((k : ℕ) → (n : ℕ) × (k ≤ n) × (report text env code n p operands s ≡ report text env code k q left t))
-  Comes code p q operands s (Stops x) = (k : ℕ) → (n : ℕ) × (k ≤ n) × (report text env code n p operands s ≡ stopped x.why x.state)
+      CanBeTaken env t.answers
+      × ((k : ℕ) → (n : ℕ) × (k ≤ n)
+      × (report text env code n p operands s ≡ report text env code k q left t))
+  Comes code p q operands s (Stops x) = (k : ℕ)
+      → (n : ℕ) × (k ≤ n) × (report text env code n p operands s ≡ stopped x.why x.state)
   Comes code p q operands s Stuck = Unit {0}

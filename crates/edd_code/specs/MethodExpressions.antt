@@ -1,4 +1,5 @@
--- The block of an expression of a method, which leaves its value on top. What no checked description has is the block of 0.
+-- The block of an expression of a method, which leaves its value on top. What no checked
+-- description has is the block of 0.
 use Rattle.edd_syntax.specs.declared.numbers.ItemNo.{ItemNo}
 use Rattle.edd_syntax.specs.declared.numbers.ItemNo.TheVariants as item_no
 use Rattle.edd_syntax.specs.declared.numbers.StrNo.{StrNo}
@@ -42,11 +43,13 @@ store_block (Function f) = Nothing
 
 -- 1 more or 1 less than the topmost operand is stored
 abbrev pub store_next_block : Operator → Target → Block
-store_next_block op to = Then (Straight (instruction.Push 1)) (Then (Straight (instruction.Operate op)) (store_block to))
+store_next_block op to = Then (Straight (instruction.Push 1))
+    (Then (Straight (instruction.Operate op)) (store_block to))
 
 -- the same, and what was on top stays there
 abbrev pub store_behind_block : Operator → Target → Block
-store_behind_block op to = Then (Straight instruction.Duplicate) (Then (store_next_block op to) (Straight instruction.Pop))
+store_behind_block op to = Then (Straight instruction.Duplicate)
+    (Then (store_next_block op to) (Straight instruction.Pop))
 
 -- `++` and `--`, in front and behind
 abbrev pub increment_block : IncrementOperator → Target → Block
@@ -64,8 +67,9 @@ ask_block a = Straight (instruction.Ask a)
 -- ---- expressions
 
 module _ (number : Words → StrNo) where
-  -- The operands from left to right, and what is read before a right side is read in front of it. A call that aborts is ABORT and
-  -- leaves nothing; in a checked description it is a whole statement, behind which no POP may stand.
+  -- The operands from left to right, and what is read before a right side is read in front of it. A
+  -- call that aborts is ABORT and leaves nothing; in a checked description it is a whole statement,
+  -- behind which no POP may stand.
   unfoldable mutual
     pub method_block : Expr Target → Block
     method_block (Literal value) = Straight (instruction.Push value)
@@ -73,30 +77,42 @@ module _ (number : Words → StrNo) where
     method_block (Reference from) = load_block from
     method_block (Parentheses inner) = method_block inner
     method_block (Unary op operand) = Then (method_block operand) (unary_block op)
-    method_block (Binary op left right) = Then (method_block left) (Then (method_block right) (Straight (instruction.Operate op)))
-    method_block (Compare by left right) = Then (method_block left) (Then (method_block right) (Straight (instruction.Compare by)))
-    method_block (LogicalAnd left right) = Then (method_block left) (then_test (WhenNotZero (instead (method_block right))))
-    method_block (LogicalOr left right) = Then (method_block left) (Then truth_block (then_test (WhenZero (instead (method_block right)))))
-    method_block (Conditional test first second) = Then (method_block test) (Either (method_block first) (method_block second))
+    method_block (Binary op left right) =
+        Then (method_block left) (Then (method_block right) (Straight (instruction.Operate op)))
+    method_block (Compare by left right) =
+        Then (method_block left) (Then (method_block right) (Straight (instruction.Compare by)))
+    method_block (LogicalAnd left right) =
+        Then (method_block left) (then_test (WhenNotZero (instead (method_block right))))
+    method_block (LogicalOr left right) =
+        Then (method_block left)
+        (Then truth_block (then_test (WhenZero (instead (method_block right)))))
+    method_block (Conditional test first second) =
+        Then (method_block test) (Either (method_block first) (method_block second))
     method_block (Assign to value) = Then (method_block value) (store_block to)
     method_block (CompoundAssign op to value) =
-        Then (load_block to) (Then (method_block value) (Then (Straight (instruction.Operate op)) (store_block to)))
+        Then (load_block to) (Then (method_block value)
+        (Then (Straight (instruction.Operate op)) (store_block to)))
     method_block (Increment op to) = increment_block op to
     method_block (Call (Function f) arguments) = call_block f arguments
     method_block (Call (Local slot) arguments) = no_value
     method_block (Call (Item i) arguments) = no_value
 
-    -- its numbers in their order, and the request or the store; the value of an assignment by a function is 0
+    -- its numbers in their order, and the request or the store; the value of an assignment by a
+    -- function is 0
     pub call_block : Builtin → Arguments Target → Block
-    call_block builtin.PutMessage (Cons (Text text) Nil) = ask_block (ask.PutMessage (number (words_of text)))
-    call_block builtin.Acknowledge (Cons (Text text) Nil) = ask_block (ask.Acknowledge (number (words_of text)))
+    call_block builtin.PutMessage (Cons (Text text) Nil) =
+        ask_block (ask.PutMessage (number (words_of text)))
+    call_block builtin.Acknowledge (Cons (Text text) Nil) =
+        ask_block (ask.Acknowledge (number (words_of text)))
     call_block builtin.Delay (Cons (Value seconds) (Cons (Text text) Nil)) =
         Then (method_block seconds) (ask_block (ask.Delay (number (words_of text))))
-    call_block builtin.GetDevVarValue (Cons (Text text) (Cons (Value (Reference (Item (item_no.Variable v)))) Nil)) =
+    call_block builtin.GetDevVarValue
+        (Cons (Text text) (Cons (Value (Reference (Item (item_no.Variable v)))) Nil)) =
         ask_block (ask.GetDevVarValue (number (words_of text)) v)
     call_block builtin.SelectFromList (Cons (Text text) (Cons (Text choices) Nil)) =
         ask_block (ask.SelectFromList (number (words_of text)) (number (words_of choices)))
-    call_block builtin.SendCommand (Cons (Value n) Nil) = Then (method_block n) (ask_block ask.SendCommand)
+    call_block builtin.SendCommand (Cons (Value n) Nil) =
+        Then (method_block n) (ask_block ask.SendCommand)
     call_block builtin.SendCommandTrans (Cons (Value n) (Cons (Value transaction) Nil)) =
         Then (method_block n) (Then (method_block transaction) (ask_block ask.SendCommandTrans))
     call_block builtin.SaveValues Nil = ask_block ask.SaveValues

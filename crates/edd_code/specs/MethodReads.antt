@@ -21,7 +21,8 @@ uses_existing context (Function f) = true
 
 -- each text has the number of a string that exists
 abbrev pub HasStrings : Context → (number : Words → StrNo) → Expr Target → Type 0
-HasStrings context number e = AllByRecursion (λ t. string_exists context.counts (number (words_of t)) ≡ true) (expr_texts e)
+HasStrings context number e =
+    AllByRecursion (λ t. string_exists context.counts (number (words_of t)) ≡ true) (expr_texts e)
 
 -- expressions of attributes refer to no local
 abbrev pub is_no_local : Target → Bool
@@ -31,4 +32,5 @@ is_no_local (Function f) = true
 
 -- the calls of each expression of an attribute fit, and so do those of a method's body
 abbrev pub CallsFit : Attribute Target → Type 0
-CallsFit a = AllByRecursion (λ p. call_mismatches p.is_statement p.expression ≡ []) (attribute_expressions a)
+CallsFit a = AllByRecursion (λ p. call_mismatches p.is_statement p.expression ≡ [])
+    (attribute_expressions a)

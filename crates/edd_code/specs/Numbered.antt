@@ -1,4 +1,5 @@
--- What stands round an expression of a method: the numbers of its texts, and the types of the variables.
+-- What stands round an expression of a method: the numbers of its texts, and the types of the
+-- variables.
 use Rattle.std.specs.Prelude.{◌≡◌, Option, Some}
 use Rattle.std.specs.List.{AllByRecursion}
 use Rattle.edd_syntax.specs.declared.numbers.StrNo.{StrNo}

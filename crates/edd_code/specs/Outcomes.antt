@@ -1,4 +1,5 @@
--- What a block comes to in an attribute: the records that it gives and the operands that it leaves, or a trap.
+-- What a block comes to in an attribute: the records that it gives and the operands that it leaves,
+-- or a trap.
 use Rattle.std.specs.Prelude.{ℕ, true, false, ℤ, List, [], ◌∷◌, ◌++◌, Option, Some, None}
 use Rattle.std.specs.Ordering.{int_eq}
 use Rattle.edd_syntax.specs.declared.answer.Trap.{Trap}
@@ -72,8 +73,23 @@ module _ (env : Environment) (values : List ℤ) where
   does Nothing operands = Goes [] operands
   does (Straight i) operands = does_one i operands
   does (Then first second) operands = and_then (does first operands) (does second)
-  does (WhenNotZero body) operands = on_topmost operands (λ a below. elim (is_zero a) [ true ↦ Goes [] below | false ↦ does body below ])
-  does (WhenZero body) operands = on_topmost operands (λ a below. elim (is_zero a) [ true ↦ does body below | false ↦ Goes [] below ])
-  does (Either first otherwise) operands = on_topmost operands (λ a below. elim (is_zero a) [ true ↦ does otherwise below | false ↦ does first below ])
+  does (WhenNotZero body) operands =
+      on_topmost operands (λ a below. elim (is_zero a) [
+        | true ↦ Goes [] below
+        | false ↦ does body below
+      ])
+  does (WhenZero body) operands =
+      on_topmost operands (λ a below. elim (is_zero a) [
+        | true ↦ does body below
+        | false ↦ Goes [] below
+      ])
+  does (Either first otherwise) operands =
+      on_topmost operands (λ a below. elim (is_zero a) [
+        | true ↦ does otherwise below
+        | false ↦ does first below
+      ])
   does (Match label body rest) operands =
-      on_topmost operands (λ a below. elim (int_eq a label) [ true ↦ does body below | false ↦ does rest operands ])
+      on_topmost operands (λ a below. elim (int_eq a label) [
+        | true ↦ does body below
+        | false ↦ does rest operands
+      ])

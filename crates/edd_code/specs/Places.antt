@@ -22,7 +22,8 @@ attributes_at_place items place = option_map (λ i. i.attributes) (slice_get ite
 
 -- these are the places of the items of a kind, in their order
 abbrev pub ArePlaces : Kind → List (Item Target) → List ℕ → Type 0
-ArePlaces k items places = map (attributes_at_place items) places ≡ map Some (attributes_of_items k items)
+ArePlaces k items places = map (attributes_at_place items) places
+    ≡ map Some (attributes_of_items k items)
 
 -- one place more, where it is one of the kind
 abbrev pub with_place : Bool → List ℕ → ℕ → List ℕ

@@ -1,4 +1,5 @@
--- What a host sees of a method's run: by the machine that runs it, and by the state that the source comes to.
+-- What a host sees of a method's run: by the machine that runs it, and by the state that the source
+-- comes to.
 use Rattle.std.specs.Prelude.{ℕ, ℤ, List, ◌++◌, map, Option, Some, None, option_map}
 use Rattle.edd_syntax.specs.declared.numbers.StrNo.{StrNo}
 use Rattle.edd_syntax.specs.Words.{Words}
@@ -13,7 +14,8 @@ use Rattle.edd_image.specs.Steps.{State, Environment}
 use Rattle.edd_image.specs.Execution.{Ending, Outcome, execute}
 use Rattle.edd_image.specs.MethodAgreement.{ending_of}
 
--- the requests, the changes, the device's values, the answers left, and how the run ends; a request with an unknown string is none
+-- the requests, the changes, the device's values, the answers left, and how the run ends; a request
+-- with an unknown string is none
 pub record Report : Type 0 where
   pub requests : List (Option source.Request)
   pub changes : List Change
@@ -25,7 +27,13 @@ pub record Report : Type 0 where
 
 -- what a transcript says
 abbrev pub told : Transcript → Report
-told t = record { requests = map Some t.requests; changes = t.changes; values = t.values; answers = t.answers; ending = ending_of t.ending }
+told t = record {
+  requests = map Some t.requests;
+  changes = t.changes;
+  values = t.values;
+  answers = t.answers;
+  ending = ending_of t.ending;
+}
 
 -- ---- by the machine
 
@@ -48,7 +56,8 @@ module _ (text : StrNo → Option Words) where
   worded (asks.Acknowledge t) = option_map source.Acknowledge (text t)
   worded (asks.Delay seconds t) = option_map (source.Delay seconds) (text t)
   worded (asks.GetDevVarValue t v) = option_map (λ w. source.GetDevVarValue w v) (text t)
-  worded (asks.SelectFromList t u) = elim (text t) [ None ↦ None | Some w ↦ option_map (source.SelectFromList w) (text u) ]
+  worded (asks.SelectFromList t u) =
+      elim (text t) [ None ↦ None | Some w ↦ option_map (source.SelectFromList w) (text u) ]
   worded (asks.SendCommand n) = Some (source.SendCommand n)
   worded (asks.SendCommandTrans n transaction) = Some (source.SendCommandTrans n transaction)
   worded asks.SaveValues = Some source.SaveValues
@@ -64,5 +73,6 @@ module _ (text : StrNo → Option Words) where
   }
 
   -- what at most n steps from a place give, with these operands and this state of the method
-  abbrev pub report : Environment → (code : List ℕ) → (n place : ℕ) → (operands : List ℤ) → source.State → Report
+  abbrev pub report : Environment → (code : List ℕ) → (n place : ℕ) → (operands : List ℤ)
+      → source.State → Report
   report env code n place operands s = behind s (execute env n (at code place operands s) s.answers)

@@ -23,11 +23,13 @@ abbrev pub Keeps : (table : List Words) → Words → StrNo → Type 0
 Keeps table w n = (later : List Words) → IsString (string_of_table (table ++ later)) w n
 
 abbrev pub KeepsOptional : (table : List Words) → Option Words → Option StrNo → Type 0
-KeepsOptional table o n = (later : List Words) → IsOptionalString (string_of_table (table ++ later)) o n
+KeepsOptional table o n = (later : List Words) → IsOptionalString (string_of_table (table ++ later))
+    o n
 
 -- more than 65,535 different strings stand among those of the table and these
 pub record Overflows (old strings : List Words) : Type 0 where
-  pub held : AreDifferent old → (held : List Words) × AreDifferent held × (65535 < length held) × ((w : Words) → Contains held w → Contains (old ++ strings) w)
+  pub held : AreDifferent old → (held : List Words) × AreDifferent held × (65535 < length held)
+      × ((w : Words) → Contains held w → Contains (old ++ strings) w)
 
 -- the strings of the table keep their numbers
 abbrev pub Grows : (old new : List Words) → Type 0

@@ -6,5 +6,6 @@ use Rattle.edd_syntax.specs.ItemView.{identification_of, numbered_items}
 use Rattle.edd_syntax.specs.Resolved.{description}
 
 -- its items are those that the rules were checked on
-abbrev pub unit_of : Checked → Description Target
-unit_of checked = description (identification_of checked.identification) (numbered_items checked.items.value.items)
+abbrev pub description_of : Checked → Description Target
+description_of checked = description (identification_of checked.identification)
+    (numbered_items checked.items.value.items)

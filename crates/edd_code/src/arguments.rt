@@ -2,7 +2,7 @@
 
 ghost use Rattle.std.specs.Prelude.{◌≡◌, map, option_map};
 ghost use Rattle.edd_syntax.specs.Expression.{arguments_from};
-ghost use Rattle.edd_syntax.specs.TreeView.{argument_of, expr_of};
+ghost use Rattle.edd_syntax.specs.TreeView.{numbered_argument, numbered_expr};
 ghost use Rattle.edd_syntax.specs.WordsView.{text_of};
 ghost use Rattle.edd_code.specs.Arguments as kinds;
 ghost use Rattle.edd_code.specs.Arguments.{both, only};
@@ -13,7 +13,8 @@ use edd_syntax::reference::Target;
 use edd_syntax::text::Text;
 
 fn as_text<'a>(argument: &'a Argument<Target>) -> Option<&'a Text>
-    ensures { option_map (λ t. text_of t.now) result ≡ kinds.as_text (argument_of (λ r. r) argument.now) }
+    ensures { option_map (λ t. text_of t.now) result
+        ≡ kinds.as_text (numbered_argument argument.now) }
 {
     match argument {
         Argument::Text(text) => Some(text),
@@ -22,7 +23,8 @@ fn as_text<'a>(argument: &'a Argument<Target>) -> Option<&'a Text>
 }
 
 fn as_value<'a>(argument: &'a Argument<Target>) -> Option<&'a Expr<Target>>
-    ensures { option_map (λ e. expr_of (λ r. r) e.now) result ≡ kinds.as_value (argument_of (λ r. r) argument.now) }
+    ensures { option_map (λ e. numbered_expr e.now) result
+        ≡ kinds.as_value (numbered_argument argument.now) }
 {
     match argument {
         Argument::Text(_) => None,
@@ -32,7 +34,7 @@ fn as_value<'a>(argument: &'a Argument<Target>) -> Option<&'a Expr<Target>>
 
 // A plain reference.
 fn as_target(argument: &Argument<Target>) -> Option<Target>
-    ensures { result ≡ kinds.as_target (argument_of (λ r. r) argument.now) }
+    ensures { result ≡ kinds.as_target (numbered_argument argument.now) }
 {
     match argument {
         Argument::Value(Expr::Reference(to)) => Some(*to),
@@ -42,7 +44,7 @@ fn as_target(argument: &Argument<Target>) -> Option<Target>
 
 // A plain reference to a variable.
 fn as_variable(argument: &Argument<Target>) -> Option<VarNo>
-    ensures { result ≡ kinds.as_variable (argument_of (λ r. r) argument.now) }
+    ensures { result ≡ kinds.as_variable (numbered_argument argument.now) }
 {
     match argument {
         Argument::Value(Expr::Reference(Target::Item(ItemNo::Variable(variable)))) => {
@@ -55,7 +57,8 @@ fn as_variable(argument: &Argument<Target>) -> Option<VarNo>
 /// The text, where it is the only argument.
 #[tactic(auto, using(crate::proofs::FewArguments::not_one))]
 pub(crate) fn only_text<'a>(arguments: &'a [Argument<Target>]) -> Option<&'a Text>
-    ensures { option_map (λ t. text_of t.now) result ≡ only kinds.as_text (arguments_from (map (argument_of (λ r. r)) arguments.now)) }
+    ensures { option_map (λ t. text_of t.now) result
+        ≡ only kinds.as_text (arguments_from (map numbered_argument arguments.now)) }
 {
     match arguments {
         [only] => as_text(only),
@@ -66,7 +69,8 @@ pub(crate) fn only_text<'a>(arguments: &'a [Argument<Target>]) -> Option<&'a Tex
 /// The value, where it is the only argument.
 #[tactic(auto, using(crate::proofs::FewArguments::not_one))]
 pub(crate) fn only_value<'a>(arguments: &'a [Argument<Target>]) -> Option<&'a Expr<Target>>
-    ensures { option_map (λ e. expr_of (λ r. r) e.now) result ≡ only kinds.as_value (arguments_from (map (argument_of (λ r. r)) arguments.now)) }
+    ensures { option_map (λ e. numbered_expr e.now) result
+        ≡ only kinds.as_value (arguments_from (map numbered_argument arguments.now)) }
 {
     match arguments {
         [only] => as_value(only),
@@ -77,7 +81,8 @@ pub(crate) fn only_value<'a>(arguments: &'a [Argument<Target>]) -> Option<&'a Ex
 /// Two texts.
 #[tactic(auto, using(crate::proofs::FewArguments::not_two))]
 pub(crate) fn two_texts<'a>(arguments: &'a [Argument<Target>]) -> Option<(&'a Text, &'a Text)>
-    ensures { option_map (λ p. (text_of p.0.now, text_of p.1.now)) result ≡ both kinds.as_text kinds.as_text (arguments_from (map (argument_of (λ r. r)) arguments.now)) }
+    ensures { option_map (λ p. (text_of p.0.now, text_of p.1.now)) result
+        ≡ both kinds.as_text kinds.as_text (arguments_from (map numbered_argument arguments.now)) }
 {
     match arguments {
         [first, second] => Some((as_text(first)?, as_text(second)?)),
@@ -90,7 +95,9 @@ pub(crate) fn two_texts<'a>(arguments: &'a [Argument<Target>]) -> Option<(&'a Te
 pub(crate) fn two_values<'a>(
     arguments: &'a [Argument<Target>],
 ) -> Option<(&'a Expr<Target>, &'a Expr<Target>)>
-    ensures { option_map (λ p. (expr_of (λ r. r) p.0.now, expr_of (λ r. r) p.1.now)) result ≡ both kinds.as_value kinds.as_value (arguments_from (map (argument_of (λ r. r)) arguments.now)) }
+    ensures { option_map (λ p. (numbered_expr p.0.now, numbered_expr p.1.now)) result
+        ≡ both kinds.as_value kinds.as_value
+        (arguments_from (map numbered_argument arguments.now)) }
 {
     match arguments {
         [first, second] => Some((as_value(first)?, as_value(second)?)),
@@ -103,7 +110,8 @@ pub(crate) fn two_values<'a>(
 pub(crate) fn value_and_text<'a>(
     arguments: &'a [Argument<Target>],
 ) -> Option<(&'a Expr<Target>, &'a Text)>
-    ensures { option_map (λ p. (expr_of (λ r. r) p.0.now, text_of p.1.now)) result ≡ both kinds.as_value kinds.as_text (arguments_from (map (argument_of (λ r. r)) arguments.now)) }
+    ensures { option_map (λ p. (numbered_expr p.0.now, text_of p.1.now)) result
+        ≡ both kinds.as_value kinds.as_text (arguments_from (map numbered_argument arguments.now)) }
 {
     match arguments {
         [first, second] => Some((as_value(first)?, as_text(second)?)),
@@ -114,7 +122,8 @@ pub(crate) fn value_and_text<'a>(
 /// A text, and a plain reference to a variable.
 #[tactic(auto, using(crate::proofs::FewArguments::not_two))]
 pub(crate) fn text_and_variable<'a>(arguments: &'a [Argument<Target>]) -> Option<(&'a Text, VarNo)>
-    ensures { option_map (λ p. (text_of p.0.now, p.1)) result ≡ both kinds.as_text kinds.as_variable (arguments_from (map (argument_of (λ r. r)) arguments.now)) }
+    ensures { option_map (λ p. (text_of p.0.now, p.1)) result ≡ both kinds.as_text kinds.as_variable
+        (arguments_from (map numbered_argument arguments.now)) }
 {
     match arguments {
         [first, second] => Some((as_text(first)?, as_variable(second)?)),
@@ -127,7 +136,9 @@ pub(crate) fn text_and_variable<'a>(arguments: &'a [Argument<Target>]) -> Option
 pub(crate) fn target_and_value<'a>(
     arguments: &'a [Argument<Target>],
 ) -> Option<(Target, &'a Expr<Target>)>
-    ensures { option_map (λ p. (p.0, expr_of (λ r. r) p.1.now)) result ≡ both kinds.as_target kinds.as_value (arguments_from (map (argument_of (λ r. r)) arguments.now)) }
+    ensures { option_map (λ p. (p.0, numbered_expr p.1.now)) result
+        ≡ both kinds.as_target kinds.as_value
+        (arguments_from (map numbered_argument arguments.now)) }
 {
     match arguments {
         [first, second] => Some((as_target(first)?, as_value(second)?)),

@@ -1,7 +1,7 @@
 //! The code of expressions.
 
 ghost use Rattle.std.specs.Prelude.{◌≡◌, ◌++◌, length, OnOk};
-ghost use Rattle.edd_syntax.specs.TreeView.{expr_of};
+ghost use Rattle.edd_syntax.specs.TreeView.{numbered_expr};
 ghost use Rattle.edd_code.specs.Blocks.{WhenNotZero, WhenZero, Either, Straight, Then, bytes_at};
 ghost use Rattle.edd_code.specs.Expressions.{item_block, read_block, unary_block, truth_block, then_test, instead, no_value, expression_block};
 
@@ -60,7 +60,7 @@ pub(crate) fn write_truth(code: &mut Emitter) -> Result<(), AllocError>
 #[tactic(auto, using(crate::proofs::Writing::goes_on, crate::proofs::Writing::one_more), unfolding(crate::specs::Expressions::expression_block))]
 pub fn write_expression(code: &mut Emitter, e: &Expr<Target>) -> Result<(), AllocError>
     ensures { OnOk result (code.new
-        ≡ code.old ++ bytes_at (length code.old) (expression_block (expr_of (λ r. r) e.now))) }
+        ≡ code.old ++ bytes_at (length code.old) (expression_block (numbered_expr e.now))) }
 {
     match e {
         Expr::Literal(value) => put(code, Instruction::Push(*value)),
@@ -106,7 +106,8 @@ fn write_two(
     right: &Expr<Target>,
 ) -> Result<(), AllocError>
     ensures { OnOk result (code.new ≡ code.old ++ bytes_at (length code.old)
-        (Then (expression_block (expr_of (λ r. r) left.now)) (expression_block (expr_of (λ r. r) right.now)))) }
+        (Then (expression_block (numbered_expr left.now))
+        (expression_block (numbered_expr right.now)))) }
 {
     write_expression(code, left)?;
     write_expression(code, right)
@@ -116,7 +117,7 @@ fn write_two(
 #[cycle(expressions)]
 fn write_and(code: &mut Emitter, right: &Expr<Target>) -> Result<(), AllocError>
     ensures { OnOk result (code.new ≡ code.old ++ bytes_at (length code.old)
-        (then_test (WhenNotZero (instead (expression_block (expr_of (λ r. r) right.now)))))) }
+        (then_test (WhenNotZero (instead (expression_block (numbered_expr right.now)))))) }
 {
     put(code, Instruction::Duplicate)?;
     let hole = open(code, Jump::IfZero)?;
@@ -129,7 +130,8 @@ fn write_and(code: &mut Emitter, right: &Expr<Target>) -> Result<(), AllocError>
 #[cycle(expressions)]
 fn write_or(code: &mut Emitter, right: &Expr<Target>) -> Result<(), AllocError>
     ensures { OnOk result (code.new ≡ code.old ++ bytes_at (length code.old)
-        (Then truth_block (then_test (WhenZero (instead (expression_block (expr_of (λ r. r) right.now))))))) }
+        (Then truth_block (then_test
+        (WhenZero (instead (expression_block (numbered_expr right.now))))))) }
 {
     write_truth(code)?;
     put(code, Instruction::Duplicate)?;
@@ -143,7 +145,7 @@ fn write_or(code: &mut Emitter, right: &Expr<Target>) -> Result<(), AllocError>
 #[cycle(expressions)]
 fn write_instead(code: &mut Emitter, right: &Expr<Target>) -> Result<(), AllocError>
     ensures { OnOk result (code.new ≡ code.old ++ bytes_at (length code.old)
-        (instead (expression_block (expr_of (λ r. r) right.now)))) }
+        (instead (expression_block (numbered_expr right.now)))) }
 {
     put(code, Instruction::Pop)?;
     write_expression(code, right)?;
@@ -158,7 +160,8 @@ fn write_either(
     second: &Expr<Target>,
 ) -> Result<(), AllocError>
     ensures { OnOk result (code.new ≡ code.old ++ bytes_at (length code.old)
-        (Either (expression_block (expr_of (λ r. r) first.now)) (expression_block (expr_of (λ r. r) second.now)))) }
+        (Either (expression_block (numbered_expr first.now))
+        (expression_block (numbered_expr second.now)))) }
 {
     let otherwise = open(code, Jump::IfZero)?;
     write_expression(code, first)?;

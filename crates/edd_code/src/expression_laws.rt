@@ -18,16 +18,20 @@ ghost use Rattle.edd_code.specs.Flow.{AreSpelled, Flows, all_straight, depth_aft
 ghost use Rattle.edd_code.specs.Outcomes.{does};
 ghost use Rattle.edd_code.specs.Reads.{reads_existing};
 
-/// The block of an expression leaves the expression's value on top of the operands, or comes to its trap.
+/// The block of an expression leaves the expression's value on top of the operands, or comes to its
+/// trap.
 pub fn expressions_mean_their_values()
-    ensures { (image_env : Environment) (env : device.Environment) (d : List ℤ) (e : Expr Target) (operands : List ℤ)
+    ensures { (image_env : Environment) (env : device.Environment) (d : List ℤ) (e : Expr Target)
+        (operands : List ℤ)
         → does image_env d (expression_block e) operands ≡ of_value (value env d e) operands }
 {}
 
-/// The block of an expression needs no more operands at once than the expression is high, and leaves one.
+/// The block of an expression needs no more operands at once than the expression is high, and
+/// leaves one.
 pub fn expressions_flow()
     ensures flows { (e : Expr Target) (d : ℕ) → d + height e ≤ 128 → Flows (expression_block e) d }
-    ensures leaves { (e : Expr Target) (d : ℕ) → d + height e ≤ 128 → depth_after (expression_block e) d ≡ suc d }
+    ensures leaves { (e : Expr Target) (d : ℕ) → d + height e ≤ 128
+        → depth_after (expression_block e) d ≡ suc d }
 {}
 
 /// The block of an expression has at most 32 bytes for each of its nodes.
@@ -35,10 +39,13 @@ pub fn expressions_are_short()
     ensures { (e : Expr Target) → size (expression_block e) ≤ 32 * nodes e }
 {}
 
-/// The block of an expression of an attribute has its operands in their ranges, and the variables that it names exist.
+/// The block of an expression of an attribute has its operands in their ranges, and the variables
+/// that it names exist.
 pub fn expressions_are_spelled()
-    ensures spelled { (counts : Counts) (plain : Target → Bool) (e : Expr Target) → counts.variables ≤ 65536
+    ensures spelled { (counts : Counts) (plain : Target → Bool) (e : Expr Target)
+        → counts.variables ≤ 65536
         → is_pure_expr (reads_existing counts) plain e ≡ true → AreSpelled (expression_block e) }
     ensures named { (context : Context) (plain : Target → Bool) (e : Expr Target)
-        → is_pure_expr (reads_existing context.counts) plain e ≡ true → all_straight (names_exist context) (expression_block e) ≡ true }
+        → is_pure_expr (reads_existing context.counts) plain e ≡ true
+        → all_straight (names_exist context) (expression_block e) ≡ true }
 {}

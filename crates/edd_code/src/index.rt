@@ -1,9 +1,10 @@
-//! Where the items of each kind stand among all items, so that an item is found by its number at once.
+//! Where the items of each kind stand among all items, so that an item is found by its number at
+//! once.
 
 ghost use Rattle.std.specs.Prelude.{◌≡◌, IfOk, OnOk, map, option_map, slice_get};
 ghost use Rattle.edd_syntax.specs.Item.{kind_of_item};
 ghost use Rattle.edd_syntax.specs.Numbers.{same_kind};
-ghost use Rattle.edd_syntax.specs.ItemView.{attribute_of, item_of};
+ghost use Rattle.edd_syntax.specs.ItemView.{numbered_attribute, numbered_item};
 ghost use Rattle.edd_code.specs.Places.{ArePlaces, IsIndexOf, attributes_at_place, attributes_of_items, places_of, with_place};
 
 use edd_syntax::item::{Attribute, Item};
@@ -28,7 +29,9 @@ fn add_place(
     kind: Kind,
     place: usize,
 ) -> Result<(), AllocError>
-    ensures { OnOk result (places.new.items ≡ with_place (same_kind (kind_of_item (item_of (λ r. r) item.now).sort) kind) places.old.items place) }
+    ensures { OnOk result (places.new.items
+        ≡ with_place (same_kind (kind_of_item (numbered_item item.now).sort) kind) places.old.items
+        place) }
 {
     if item.kind() == kind {
         places.push(place)?;
@@ -42,7 +45,7 @@ fn places_of_kind(
     items: &[Item<Target>],
     kind: Kind,
 ) -> Result<Vec<usize>, AllocError>
-    ensures { IfOk result (λ places. ArePlaces kind (map (item_of (λ r. r)) items.now) places.items) }
+    ensures { IfOk result (λ places. ArePlaces kind (map numbered_item items.now) places.items) }
 {
     let mut places = Vec::new(alloc);
     for place in 0..items.len() {
@@ -54,7 +57,7 @@ fn places_of_kind(
 impl ItemIndex {
     /// The index of these items.
     pub fn new(alloc: Global, items: &[Item<Target>]) -> Result<ItemIndex, AllocError>
-        ensures { IfOk result (λ index. IsIndexOf (map (item_of (λ r. r)) items.now) index) }
+        ensures { IfOk result (λ index. IsIndexOf (map numbered_item items.now) index) }
     {
         Ok(ItemIndex {
             variables: places_of_kind(alloc, items, Kind::Variable)?,
@@ -80,7 +83,8 @@ impl ItemIndex {
 
 // The attributes of the item at a place.
 fn at_place(items: &[Item<Target>], place: usize) -> Option<&[Attribute<Target>]>
-    ensures { option_map (λ a. map (attribute_of (λ r. r)) a.now) result ≡ attributes_at_place (map (item_of (λ r. r)) items.now) place }
+    ensures { option_map (λ a. map numbered_attribute a.now) result
+        ≡ attributes_at_place (map numbered_item items.now) place }
 {
     Some(items.get(place)?.attributes())
 }
@@ -93,9 +97,9 @@ pub fn attributes_by<'a>(
     kind: Kind,
     number: u16,
 ) -> Option<&'a [Attribute<Target>]>
-    requires { IsIndexOf (map (item_of (λ r. r)) items.now) index.now }
-    ensures { option_map (λ a. map (attribute_of (λ r. r)) a.now) result
-        ≡ slice_get (attributes_of_items kind (map (item_of (λ r. r)) items.now)) number }
+    requires { IsIndexOf (map numbered_item items.now) index.now }
+    ensures { option_map (λ a. map numbered_attribute a.now) result
+        ≡ slice_get (attributes_of_items kind (map numbered_item items.now)) number }
 {
     let place = *index.places(kind).get(number as usize)?;
     at_place(items, place)

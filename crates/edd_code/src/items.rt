@@ -2,7 +2,7 @@
 
 ghost use Rattle.std.specs.Prelude.{◌≡◌, map, option_map, slice_get};
 ghost use Rattle.edd_syntax.specs.Item.{kind_of_item};
-ghost use Rattle.edd_syntax.specs.ItemView.{attribute_of, item_of};
+ghost use Rattle.edd_syntax.specs.ItemView.{numbered_attribute, numbered_item};
 ghost use Rattle.edd_syntax.specs.Numbers as numbers;
 ghost use Rattle.edd_code.specs.Places.{attributes_of_items, attributes_of_kind};
 
@@ -12,7 +12,8 @@ use edd_syntax::reference::Target;
 
 // The attributes of an item of this kind.
 fn attributes_of_kind<'a>(item: &'a Item<Target>, kind: Kind) -> Option<&'a [Attribute<Target>]>
-    ensures { option_map (λ a. map (attribute_of (λ r. r)) a.now) result ≡ attributes_of_kind kind (item_of (λ r. r) item.now) }
+    ensures { option_map (λ a. map numbered_attribute a.now) result
+        ≡ attributes_of_kind kind (numbered_item item.now) }
 {
     if item.kind() == kind {
         Some(item.attributes())
@@ -21,14 +22,15 @@ fn attributes_of_kind<'a>(item: &'a Item<Target>, kind: Kind) -> Option<&'a [Att
     }
 }
 
-/// The attributes of an item by its number among those of its kind, of which it is found after the others before it.
+/// The attributes of an item by its number among those of its kind, of which it is found after the
+/// others before it.
 pub fn attributes_at<'a>(
     items: &'a [Item<Target>],
     kind: Kind,
     index: u16,
 ) -> Option<&'a [Attribute<Target>]>
-    ensures { option_map (λ a. map (attribute_of (λ r. r)) a.now) result
-        ≡ slice_get (attributes_of_items kind (map (item_of (λ r. r)) items.now)) index }
+    ensures { option_map (λ a. map numbered_attribute a.now) result
+        ≡ slice_get (attributes_of_items kind (map numbered_item items.now)) index }
 {
     let mut left = index;
     for item in items {

@@ -24,10 +24,12 @@ pub fn sizes_are_lengths()
     ensures { (place : ℕ) (b : Block) → length (bytes_at place b) ≡ size b }
 {}
 
-/// The unit of a block that finds its operands and leaves none, and whose names exist, is a valid unit of its version and sort.
+/// The unit of a block that finds its operands and leaves none, and whose names exist, is a valid
+/// unit of its version and sort.
 pub fn blocks_are_valid()
     ensures { (context : Context) (b : Block)
-        → AreSpelled b → FlowsIn context.version context.sort b 0 → depth_after b 0 ≡ 0 → size b < 2 ^ 31 → all_straight (names_exist context) b ≡ true
+        → AreSpelled b → FlowsIn context.version context.sort b 0 → depth_after b 0 ≡ 0
+        → size b < 2 ^ 31 → all_straight (names_exist context) b ≡ true
         → IsValidUnit context (unit_code b) }
 {}
 
@@ -35,23 +37,31 @@ pub fn blocks_are_valid()
 pub fn blocks_are_followed()
     ensures goes { (env : Environment) (values : List ℤ) (b : Block) (records : List Record)
         → AreSpelled b → Flows b 0 → size b < 2 ^ 31 → does env values b [] ≡ Goes records []
-        → (n : ℕ) × (given_within n env (opening (record { sort = Attribute; code = unit_code b }) 0 values) ≡ Some (Ok records)) }
+        → (n : ℕ) × (given_within n env (opening (record { sort = Attribute; code = unit_code b }) 0
+        values) ≡ Some (Ok records)) }
     ensures traps { (env : Environment) (values : List ℤ) (b : Block) (why : Trap)
         → AreSpelled b → Flows b 0 → size b < 2 ^ 31 → does env values b [] ≡ Traps why
-        → (n : ℕ) × (given_within n env (opening (record { sort = Attribute; code = unit_code b }) 0 values) ≡ Some (Err why)) }
+        → (n : ℕ) × (given_within n env (opening (record { sort = Attribute; code = unit_code b }) 0
+        values) ≡ Some (Err why)) }
 {}
 
-/// What a block comes to in an attribute is the general meaning of blocks, with the records so far carried along.
+/// What a block comes to in an attribute is the general meaning of blocks, with the records so far
+/// carried along.
 pub fn attributes_are_a_case()
-    ensures { (env : Environment) (values : List ℤ) (b : Block) (operands : List ℤ) (given : List Record)
-        → attributes.does env values b operands given ≡ attributes.behind given (does env values b operands) }
+    ensures { (env : Environment) (values : List ℤ) (b : Block) (operands : List ℤ)
+        (given : List Record)
+        → attributes.does env values b operands given
+        ≡ attributes.behind given (does env values b operands) }
 {}
 
-/// Wherever the bytes of a block stand in a method, the machine goes on from their first to the place behind them, or to the stop, as
-/// the block does; for any number of steps behind it, from its first byte in at least as many.
+/// Wherever the bytes of a block stand in a method, the machine goes on from their first to the
+/// place behind them, or to the stop, as the block does; for any number of steps behind it, from
+/// its first byte in at least as many.
 pub fn blocks_come_to_their_outcomes()
-    ensures { (text : StrNo → Option Words) (env : Environment) (before after : List ℕ) (b : Block) (operands : List ℤ) (s : source.State)
+    ensures { (text : StrNo → Option Words) (env : Environment) (before after : List ℕ) (b : Block)
+        (operands : List ℤ) (s : source.State)
         → AreSpelled b → length before + size b < 2 ^ 32 → CanBeTaken env s.answers
-        → Comes text env (before ++ (bytes_at (length before) b ++ after)) (length before) (length before + size b)
+        → Comes text env (before ++ (bytes_at (length before) b ++ after)) (length before)
+        (length before + size b)
         operands s (methods.does text env b operands s) }
 {}

@@ -28,52 +28,67 @@ ghost use Rattle.edd_code.specs.MethodExpressions.{method_block};
 ghost use Rattle.edd_code.specs.MethodReads.{uses_existing, is_no_local, CallsFit, HasStrings};
 ghost use Rattle.edd_code.specs.Numbered.{HasNumbers, machine_of};
 
-/// The block of an expression of a method leaves the expression's value on top of the operands and the state that the expression
-/// leaves, or comes to its stop.
+/// The block of an expression of a method leaves the expression's value on top of the operands and
+/// the state that the expression leaves, or comes to its stop.
 pub fn method_expressions_mean_their_values()
-    ensures { (text : StrNo → Option Words) (number : Words → StrNo) (env : device.Environment) (is_statement : Bool) (e : Expr Target)
-        → call_mismatches is_statement e ≡ [] → HasNumbers text number e → (operands : List ℤ) (s : State)
-        → does text (machine_of env) (method_block number e) operands s ≡ pushed operands (evaluate env e s) }
+    ensures { (text : StrNo → Option Words) (number : Words → StrNo) (env : device.Environment)
+        (is_statement : Bool) (e : Expr Target)
+        → call_mismatches is_statement e ≡ [] → HasNumbers text number e
+        → (operands : List ℤ) (s : State)
+        → does text (machine_of env) (method_block number e) operands s
+        ≡ pushed operands (evaluate env e s) }
 {}
 
-/// The block of an expression that aborts nowhere needs at most two operands more at once than the expression is high, and leaves one.
+/// The block of an expression that aborts nowhere needs at most two operands more at once than the
+/// expression is high, and leaves one.
 pub fn method_expressions_flow()
-    ensures flows { (number : Words → StrNo) (e : Expr Target) → call_mismatches false e ≡ [] → (d : ℕ) → d + height e + 2 ≤ 128
+    ensures flows { (number : Words → StrNo) (e : Expr Target) → call_mismatches false e ≡ []
+        → (d : ℕ) → d + height e + 2 ≤ 128
         → FlowsIn One Method (method_block number e) d }
-    ensures leaves { (number : Words → StrNo) (e : Expr Target) → call_mismatches false e ≡ [] → (d : ℕ) → d + height e + 2 ≤ 128
+    ensures leaves { (number : Words → StrNo) (e : Expr Target) → call_mismatches false e ≡ []
+        → (d : ℕ) → d + height e + 2 ≤ 128
         → depth_after (method_block number e) d ≡ suc d }
 {}
 
 /// The block of an expression of a method has at most 32 bytes for each of its nodes.
 pub fn method_expressions_are_short()
-    ensures { (number : Words → StrNo) (is_statement : Bool) (e : Expr Target) → call_mismatches is_statement e ≡ []
+    ensures { (number : Words → StrNo) (is_statement : Bool) (e : Expr Target)
+        → call_mismatches is_statement e ≡ []
         → size (method_block number e) ≤ 32 * nodes e }
 {}
 
-/// The block of an expression of a method has its operands in their ranges, and the variables, slots and strings that it names exist.
+/// The block of an expression of a method has its operands in their ranges, and the variables,
+/// slots and strings that it names exist.
 pub fn method_expressions_are_spelled()
-    ensures spelled { (context : Context) (number : Words → StrNo) (plain : Target → Bool) (is_statement : Bool) (e : Expr Target)
+    ensures spelled { (context : Context) (number : Words → StrNo) (plain : Target → Bool)
+        (is_statement : Bool) (e : Expr Target)
         → context.counts.variables ≤ 65536 → context.counts.strings ≤ 65536 → context.slots ≤ 65536
-        → call_mismatches is_statement e ≡ [] → is_expr (uses_existing context) plain e ≡ true → HasStrings context number e
+        → call_mismatches is_statement e ≡ [] → is_expr (uses_existing context) plain e ≡ true
+        → HasStrings context number e
         → AreSpelled (method_block number e) }
-    ensures named { (context : Context) (number : Words → StrNo) (plain : Target → Bool) (is_statement : Bool) (e : Expr Target)
+    ensures named { (context : Context) (number : Words → StrNo) (plain : Target → Bool)
+        (is_statement : Bool) (e : Expr Target)
         → context.counts.variables ≤ 65536 → context.counts.strings ≤ 65536 → context.slots ≤ 65536
-        → call_mismatches is_statement e ≡ [] → is_expr (uses_existing context) plain e ≡ true → HasStrings context number e
+        → call_mismatches is_statement e ≡ [] → is_expr (uses_existing context) plain e ≡ true
+        → HasStrings context number e
         → all_straight (names_exist context) (method_block number e) ≡ true }
 {}
 
 /// An expression that an attribute may have has the same block in attributes and in methods.
 pub fn attributes_have_the_same_blocks()
-    ensures { (number : Words → StrNo) (plain : Target → Bool) (e : Expr Target) → is_pure_expr is_no_local plain e ≡ true
+    ensures { (number : Words → StrNo) (plain : Target → Bool) (e : Expr Target)
+        → is_pure_expr is_no_local plain e ≡ true
         → method_block number e ≡ expression_block e }
 {}
 
 /// A call that aborts is one instruction, which leaves no operand to pop.
 pub fn aborts_are_one_instruction()
-    ensures { (number : Words → StrNo) (f : Builtin) → is_abort f ≡ true → method_block number (Call (Function f) Nil) ≡ Straight instruction.Abort }
+    ensures { (number : Words → StrNo) (f : Builtin) → is_abort f ≡ true
+        → method_block number (Call (Function f) Nil) ≡ Straight instruction.Abort }
 {}
 
 /// In a checked description the calls of each expression fit.
 pub fn checked_calls_fit()
-    ensures { (unit : Description Target) → mismatches unit ≡ [] → AllByRecursion CallsFit (attributes_of unit) }
+    ensures { (unit : Description Target) → mismatches unit ≡ []
+        → AllByRecursion CallsFit (attributes_of unit) }
 {}

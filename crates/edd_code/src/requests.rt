@@ -4,7 +4,7 @@ ghost use Rattle.std.specs.Prelude.{◌≤◌, IsErrOf, IsTrue, OnOk, length, ma
 ghost use Rattle.std.specs.List.{list_all};
 ghost use Rattle.edd_syntax.specs.Expression.{arguments_from};
 ghost use Rattle.edd_syntax.specs.Strings.{argument_texts, strings_of_texts};
-ghost use Rattle.edd_syntax.specs.TreeView.{argument_of};
+ghost use Rattle.edd_syntax.specs.TreeView.{numbered_argument};
 ghost use Rattle.edd_syntax.specs.WellFormed.{is_text};
 ghost use Rattle.edd_code.specs.Expressions.{no_value};
 ghost use Rattle.edd_code.specs.Arguments.{alone_block};
@@ -32,10 +32,16 @@ pub(crate) fn write_misfit(
     table: &mut Table,
     arguments: &[Argument<Target>],
 ) -> Result<(), LowerFault>
-    requires { IsTrue (list_all is_text (argument_texts (arguments_from (map (argument_of (λ r. r)) arguments.now)))) }
-    ensures ok { OnOk result (WritesPart table.old code.old (argument_texts (arguments_from (map (argument_of (λ r. r)) arguments.now))) (λ number. no_value) table.new code.new) }
+    requires { IsTrue (list_all is_text
+        (argument_texts (arguments_from (map numbered_argument arguments.now)))) }
+    ensures sound { OnOk result
+        (WritesPart table.old code.old
+        (argument_texts (arguments_from (map numbered_argument arguments.now))) (λ number. no_value)
+        table.new code.new) }
     ensures grows { Grows table.old table.new }
-    ensures too_many { IsErrOf result LowerFault.TooMany → Overflows table.old (strings_of_texts (argument_texts (arguments_from (map (argument_of (λ r. r)) arguments.now)))) }
+    ensures refused { IsErrOf result LowerFault.TooMany
+        → Overflows table.old (strings_of_texts
+        (argument_texts (arguments_from (map numbered_argument arguments.now)))) }
     ensures longer { OnOk result (length code.old ≤ length code.new) }
 {
     add_argument_texts(alloc, table, arguments)?;
@@ -51,10 +57,17 @@ pub(crate) fn write_alone(
     instruction: Instruction,
     arguments: &[Argument<Target>],
 ) -> Result<(), LowerFault>
-    requires { IsTrue (list_all is_text (argument_texts (arguments_from (map (argument_of (λ r. r)) arguments.now)))) }
-    ensures ok { OnOk result (WritesPart table.old code.old (argument_texts (arguments_from (map (argument_of (λ r. r)) arguments.now))) (λ number. alone_block instruction (arguments_from (map (argument_of (λ r. r)) arguments.now))) table.new code.new) }
+    requires { IsTrue (list_all is_text
+        (argument_texts (arguments_from (map numbered_argument arguments.now)))) }
+    ensures sound { OnOk result
+        (WritesPart table.old code.old
+        (argument_texts (arguments_from (map numbered_argument arguments.now)))
+        (λ number. alone_block instruction (arguments_from (map numbered_argument arguments.now)))
+        table.new code.new) }
     ensures grows { Grows table.old table.new }
-    ensures too_many { IsErrOf result LowerFault.TooMany → Overflows table.old (strings_of_texts (argument_texts (arguments_from (map (argument_of (λ r. r)) arguments.now)))) }
+    ensures refused { IsErrOf result LowerFault.TooMany
+        → Overflows table.old (strings_of_texts
+        (argument_texts (arguments_from (map numbered_argument arguments.now)))) }
     ensures longer { OnOk result (length code.old ≤ length code.new) }
 {
     match arguments {
@@ -71,10 +84,17 @@ pub(crate) fn write_message(
     table: &mut Table,
     arguments: &[Argument<Target>],
 ) -> Result<(), LowerFault>
-    requires { IsTrue (list_all is_text (argument_texts (arguments_from (map (argument_of (λ r. r)) arguments.now)))) }
-    ensures ok { OnOk result (WritesPart table.old code.old (argument_texts (arguments_from (map (argument_of (λ r. r)) arguments.now))) (λ number. call_block number Builtin.PutMessage (arguments_from (map (argument_of (λ r. r)) arguments.now))) table.new code.new) }
+    requires { IsTrue (list_all is_text
+        (argument_texts (arguments_from (map numbered_argument arguments.now)))) }
+    ensures sound { OnOk result
+        (WritesPart table.old code.old
+        (argument_texts (arguments_from (map numbered_argument arguments.now)))
+        (λ number. call_block number Builtin.PutMessage
+        (arguments_from (map numbered_argument arguments.now))) table.new code.new) }
     ensures grows { Grows table.old table.new }
-    ensures too_many { IsErrOf result LowerFault.TooMany → Overflows table.old (strings_of_texts (argument_texts (arguments_from (map (argument_of (λ r. r)) arguments.now)))) }
+    ensures refused { IsErrOf result LowerFault.TooMany
+        → Overflows table.old (strings_of_texts
+        (argument_texts (arguments_from (map numbered_argument arguments.now)))) }
     ensures longer { OnOk result (length code.old ≤ length code.new) }
 {
     match only_text(arguments) {
@@ -94,10 +114,17 @@ pub(crate) fn write_acknowledge(
     table: &mut Table,
     arguments: &[Argument<Target>],
 ) -> Result<(), LowerFault>
-    requires { IsTrue (list_all is_text (argument_texts (arguments_from (map (argument_of (λ r. r)) arguments.now)))) }
-    ensures ok { OnOk result (WritesPart table.old code.old (argument_texts (arguments_from (map (argument_of (λ r. r)) arguments.now))) (λ number. call_block number Builtin.Acknowledge (arguments_from (map (argument_of (λ r. r)) arguments.now))) table.new code.new) }
+    requires { IsTrue (list_all is_text
+        (argument_texts (arguments_from (map numbered_argument arguments.now)))) }
+    ensures sound { OnOk result
+        (WritesPart table.old code.old
+        (argument_texts (arguments_from (map numbered_argument arguments.now)))
+        (λ number. call_block number Builtin.Acknowledge
+        (arguments_from (map numbered_argument arguments.now))) table.new code.new) }
     ensures grows { Grows table.old table.new }
-    ensures too_many { IsErrOf result LowerFault.TooMany → Overflows table.old (strings_of_texts (argument_texts (arguments_from (map (argument_of (λ r. r)) arguments.now)))) }
+    ensures refused { IsErrOf result LowerFault.TooMany
+        → Overflows table.old (strings_of_texts
+        (argument_texts (arguments_from (map numbered_argument arguments.now)))) }
     ensures longer { OnOk result (length code.old ≤ length code.new) }
 {
     match only_text(arguments) {
@@ -117,10 +144,17 @@ pub(crate) fn write_get(
     table: &mut Table,
     arguments: &[Argument<Target>],
 ) -> Result<(), LowerFault>
-    requires { IsTrue (list_all is_text (argument_texts (arguments_from (map (argument_of (λ r. r)) arguments.now)))) }
-    ensures ok { OnOk result (WritesPart table.old code.old (argument_texts (arguments_from (map (argument_of (λ r. r)) arguments.now))) (λ number. call_block number Builtin.GetDevVarValue (arguments_from (map (argument_of (λ r. r)) arguments.now))) table.new code.new) }
+    requires { IsTrue (list_all is_text
+        (argument_texts (arguments_from (map numbered_argument arguments.now)))) }
+    ensures sound { OnOk result
+        (WritesPart table.old code.old
+        (argument_texts (arguments_from (map numbered_argument arguments.now)))
+        (λ number. call_block number Builtin.GetDevVarValue
+        (arguments_from (map numbered_argument arguments.now))) table.new code.new) }
     ensures grows { Grows table.old table.new }
-    ensures too_many { IsErrOf result LowerFault.TooMany → Overflows table.old (strings_of_texts (argument_texts (arguments_from (map (argument_of (λ r. r)) arguments.now)))) }
+    ensures refused { IsErrOf result LowerFault.TooMany
+        → Overflows table.old (strings_of_texts
+        (argument_texts (arguments_from (map numbered_argument arguments.now)))) }
     ensures longer { OnOk result (length code.old ≤ length code.new) }
 {
     match text_and_variable(arguments) {
@@ -143,10 +177,17 @@ pub(crate) fn write_select(
     table: &mut Table,
     arguments: &[Argument<Target>],
 ) -> Result<(), LowerFault>
-    requires { IsTrue (list_all is_text (argument_texts (arguments_from (map (argument_of (λ r. r)) arguments.now)))) }
-    ensures ok { OnOk result (WritesPart table.old code.old (argument_texts (arguments_from (map (argument_of (λ r. r)) arguments.now))) (λ number. call_block number Builtin.SelectFromList (arguments_from (map (argument_of (λ r. r)) arguments.now))) table.new code.new) }
+    requires { IsTrue (list_all is_text
+        (argument_texts (arguments_from (map numbered_argument arguments.now)))) }
+    ensures sound { OnOk result
+        (WritesPart table.old code.old
+        (argument_texts (arguments_from (map numbered_argument arguments.now)))
+        (λ number. call_block number Builtin.SelectFromList
+        (arguments_from (map numbered_argument arguments.now))) table.new code.new) }
     ensures grows { Grows table.old table.new }
-    ensures too_many { IsErrOf result LowerFault.TooMany → Overflows table.old (strings_of_texts (argument_texts (arguments_from (map (argument_of (λ r. r)) arguments.now)))) }
+    ensures refused { IsErrOf result LowerFault.TooMany
+        → Overflows table.old (strings_of_texts
+        (argument_texts (arguments_from (map numbered_argument arguments.now)))) }
     ensures longer { OnOk result (length code.old ≤ length code.new) }
 {
     match two_texts(arguments) {

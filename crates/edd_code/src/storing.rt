@@ -39,7 +39,8 @@ pub fn write_store(code: &mut Emitter, to: Target) -> Result<(), AllocError>
 // Stores 1 more or 1 less than the topmost operand.
 #[tactic(auto, using(crate::proofs::Writing::goes_on, crate::proofs::Writing::one_more))]
 fn write_next(code: &mut Emitter, op: Operator, to: Target) -> Result<(), AllocError>
-    ensures { OnOk result (code.new ≡ code.old ++ bytes_at (length code.old) (store_next_block op to)) }
+    ensures { OnOk result (code.new ≡ code.old
+        ++ bytes_at (length code.old) (store_next_block op to)) }
 {
     put(code, Instruction::Push(1))?;
     put(code, Instruction::Operate(op))?;
@@ -49,7 +50,8 @@ fn write_next(code: &mut Emitter, op: Operator, to: Target) -> Result<(), AllocE
 // Does the same, and what was on top stays there.
 #[tactic(auto, using(crate::proofs::Writing::goes_on, crate::proofs::Writing::one_more))]
 fn write_behind(code: &mut Emitter, op: Operator, to: Target) -> Result<(), AllocError>
-    ensures { OnOk result (code.new ≡ code.old ++ bytes_at (length code.old) (store_behind_block op to)) }
+    ensures { OnOk result (code.new ≡ code.old
+        ++ bytes_at (length code.old) (store_behind_block op to)) }
 {
     put(code, Instruction::Duplicate)?;
     write_next(code, op, to)?;
@@ -63,7 +65,8 @@ pub(crate) fn write_increment(
     op: IncrementOperator,
     to: Target,
 ) -> Result<(), AllocError>
-    ensures { OnOk result (code.new ≡ code.old ++ bytes_at (length code.old) (increment_block op to)) }
+    ensures { OnOk result (code.new ≡ code.old
+        ++ bytes_at (length code.old) (increment_block op to)) }
 {
     write_load(code, to)?;
     match op {

@@ -45,7 +45,8 @@ fn add(table: &mut Table, words: Words) -> Result<StrNo, LowerFault>
     ensures table { IfOk result (λ number. GrowsBy table.old (string_of words ∷ []) table.new) }
     ensures number { IfOk result (λ number. Keeps table.new (string_of words) number) }
     ensures grows { Grows table.old table.new }
-    ensures too_many { IsErrOf result LowerFault.TooMany → Overflows table.old (string_of words ∷ []) }
+    ensures refused { IsErrOf result LowerFault.TooMany
+        → Overflows table.old (string_of words ∷ []) }
 {
     Ok(table.add(words)?)
 }
@@ -54,10 +55,12 @@ fn add(table: &mut Table, words: Words) -> Result<StrNo, LowerFault>
 #[tactic(auto, using(crate::proofs::Growing::no_growth))]
 pub fn add_text(alloc: Global, table: &mut Table, text: &Text) -> Result<StrNo, LowerFault>
     requires { IsTrue (is_text (text_of text.now)) }
-    ensures table { IfOk result (λ number. GrowsBy table.old (words_of (text_of text.now) ∷ []) table.new) }
+    ensures table { IfOk result (λ number. GrowsBy table.old (words_of (text_of text.now) ∷ [])
+        table.new) }
     ensures number { IfOk result (λ number. Keeps table.new (words_of (text_of text.now)) number) }
     ensures grows { Grows table.old table.new }
-    ensures too_many { IsErrOf result LowerFault.TooMany → Overflows table.old (words_of (text_of text.now) ∷ []) }
+    ensures refused { IsErrOf result LowerFault.TooMany
+        → Overflows table.old (words_of (text_of text.now) ∷ []) }
 {
     let words = words_of(alloc, text)?;
     add(table, words)
@@ -71,10 +74,14 @@ pub fn add_optional(
     text: &Option<Text>,
 ) -> Result<Option<StrNo>, LowerFault>
     requires { IsTrue (if_some is_text (option_map text_of text.now)) }
-    ensures table { IfOk result (λ number. GrowsBy table.old (option_to_list (option_map words_of (option_map text_of text.now))) table.new) }
-    ensures number { IfOk result (λ number. KeepsOptional table.new (option_map words_of (option_map text_of text.now)) number) }
+    ensures table { IfOk result
+        (λ number. GrowsBy table.old
+        (option_to_list (option_map words_of (option_map text_of text.now))) table.new) }
+    ensures number { IfOk result
+        (λ number. KeepsOptional table.new (option_map words_of (option_map text_of text.now))
+        number) }
     ensures grows { Grows table.old table.new }
-    ensures too_many { IsErrOf result LowerFault.TooMany
+    ensures refused { IsErrOf result LowerFault.TooMany
         → Overflows table.old (option_to_list (option_map words_of (option_map text_of text.now))) }
 {
     match text {
@@ -89,7 +96,8 @@ pub fn add_name(alloc: Global, table: &mut Table, name: &str) -> Result<StrNo, L
     ensures table { IfOk result (λ number. GrowsBy table.old (name_words name.now ∷ []) table.new) }
     ensures number { IfOk result (λ number. Keeps table.new (name_words name.now) number) }
     ensures grows { Grows table.old table.new }
-    ensures too_many { IsErrOf result LowerFault.TooMany → Overflows table.old (name_words name.now ∷ []) }
+    ensures refused { IsErrOf result LowerFault.TooMany
+        → Overflows table.old (name_words name.now ∷ []) }
 {
     let words = name_words(alloc, name)?;
     add(table, words)

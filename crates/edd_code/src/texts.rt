@@ -1,10 +1,11 @@
-//! The texts among the arguments of calls, added to the table of strings. A call whose arguments don't fit has no code for them.
+//! The texts among the arguments of calls, added to the table of strings. A call whose arguments
+//! don't fit has no code for them.
 
 ghost use Rattle.std.specs.Prelude.{[], ◌∷◌, ◌++◌, IsErrOf, IsTrue, OnOk, map};
 ghost use Rattle.std.specs.List.{list_all};
 ghost use Rattle.edd_syntax.specs.Expression.{arguments_from};
 ghost use Rattle.edd_syntax.specs.Strings.{argument_texts, expr_texts, strings_of_texts};
-ghost use Rattle.edd_syntax.specs.TreeView.{argument_of, expr_of};
+ghost use Rattle.edd_syntax.specs.TreeView.{numbered_argument, numbered_expr};
 ghost use Rattle.edd_syntax.specs.WellFormed.{is_text};
 ghost use Rattle.edd_code.specs.Tables.{Grows, Overflows};
 ghost use Rattle.edd_code.specs.Written.{HoldsTexts};
@@ -20,10 +21,12 @@ use std::alloc::Global;
 #[cycle(texts)]
 #[tactic(auto, using(crate::proofs::TextsHeld::holding))]
 fn add_texts(alloc: Global, table: &mut Table, e: &Expr<Target>) -> Result<(), LowerFault>
-    requires { IsTrue (list_all is_text (expr_texts (expr_of (λ r. r) e.now))) }
-    ensures ok { OnOk result (HoldsTexts table.old (expr_texts (expr_of (λ r. r) e.now)) table.new) }
+    requires { IsTrue (list_all is_text (expr_texts (numbered_expr e.now))) }
+    ensures sound { OnOk result (HoldsTexts table.old (expr_texts (numbered_expr e.now))
+        table.new) }
     ensures grows { Grows table.old table.new }
-    ensures too_many { IsErrOf result LowerFault.TooMany → Overflows table.old (strings_of_texts (expr_texts (expr_of (λ r. r) e.now))) }
+    ensures refused { IsErrOf result LowerFault.TooMany
+        → Overflows table.old (strings_of_texts (expr_texts (numbered_expr e.now))) }
 {
     match e {
         Expr::Literal(_) | Expr::Decimal { .. } | Expr::Reference(_) | Expr::Increment(_, _) => {
@@ -54,12 +57,15 @@ fn add_both(
     left: &Expr<Target>,
     right: &Expr<Target>,
 ) -> Result<(), LowerFault>
-    requires left { IsTrue (list_all is_text (expr_texts (expr_of (λ r. r) left.now))) }
-    requires right { IsTrue (list_all is_text (expr_texts (expr_of (λ r. r) right.now))) }
-    ensures ok { OnOk result (HoldsTexts table.old (expr_texts (expr_of (λ r. r) left.now) ++ expr_texts (expr_of (λ r. r) right.now)) table.new) }
+    requires left { IsTrue (list_all is_text (expr_texts (numbered_expr left.now))) }
+    requires right { IsTrue (list_all is_text (expr_texts (numbered_expr right.now))) }
+    ensures sound { OnOk result
+        (HoldsTexts table.old (expr_texts (numbered_expr left.now)
+        ++ expr_texts (numbered_expr right.now)) table.new) }
     ensures grows { Grows table.old table.new }
-    ensures too_many { IsErrOf result LowerFault.TooMany
-        → Overflows table.old (strings_of_texts (expr_texts (expr_of (λ r. r) left.now) ++ expr_texts (expr_of (λ r. r) right.now))) }
+    ensures refused { IsErrOf result LowerFault.TooMany
+        → Overflows table.old (strings_of_texts (expr_texts (numbered_expr left.now)
+        ++ expr_texts (numbered_expr right.now))) }
 {
     add_texts(alloc, table, left)?;
     add_texts(alloc, table, right)
@@ -73,11 +79,15 @@ pub(crate) fn add_argument_texts(
     table: &mut Table,
     arguments: &[Argument<Target>],
 ) -> Result<(), LowerFault>
-    requires { IsTrue (list_all is_text (argument_texts (arguments_from (map (argument_of (λ r. r)) arguments.now)))) }
-    ensures ok { OnOk result (HoldsTexts table.old (argument_texts (arguments_from (map (argument_of (λ r. r)) arguments.now))) table.new) }
+    requires { IsTrue (list_all is_text
+        (argument_texts (arguments_from (map numbered_argument arguments.now)))) }
+    ensures sound { OnOk result
+        (HoldsTexts table.old (argument_texts
+        (arguments_from (map numbered_argument arguments.now))) table.new) }
     ensures grows { Grows table.old table.new }
-    ensures too_many { IsErrOf result LowerFault.TooMany
-        → Overflows table.old (strings_of_texts (argument_texts (arguments_from (map (argument_of (λ r. r)) arguments.now)))) }
+    ensures refused { IsErrOf result LowerFault.TooMany
+        → Overflows table.old (strings_of_texts
+        (argument_texts (arguments_from (map numbered_argument arguments.now)))) }
 {
     for argument in arguments {
         add_argument(alloc, table, argument)?;
@@ -93,11 +103,15 @@ fn add_argument(
     table: &mut Table,
     argument: &Argument<Target>,
 ) -> Result<(), LowerFault>
-    requires { IsTrue (list_all is_text (argument_texts (arguments_from (argument_of (λ r. r) argument.now ∷ [])))) }
-    ensures ok { OnOk result (HoldsTexts table.old (argument_texts (arguments_from (argument_of (λ r. r) argument.now ∷ []))) table.new) }
+    requires { IsTrue (list_all is_text
+        (argument_texts (arguments_from (numbered_argument argument.now ∷ [])))) }
+    ensures sound { OnOk result
+        (HoldsTexts table.old (argument_texts
+        (arguments_from (numbered_argument argument.now ∷ []))) table.new) }
     ensures grows { Grows table.old table.new }
-    ensures too_many { IsErrOf result LowerFault.TooMany
-        → Overflows table.old (strings_of_texts (argument_texts (arguments_from (argument_of (λ r. r) argument.now ∷ [])))) }
+    ensures refused { IsErrOf result LowerFault.TooMany
+        → Overflows table.old (strings_of_texts
+        (argument_texts (arguments_from (numbered_argument argument.now ∷ [])))) }
 {
     match argument {
         Argument::Text(text) => {

@@ -4,7 +4,7 @@ ghost use Rattle.std.specs.Prelude.{◌≤◌, ◌++◌, IsErrOf, IsTrue, OnOk, 
 ghost use Rattle.std.specs.List.{list_all};
 ghost use Rattle.edd_syntax.specs.Expression.{Call, arguments_from};
 ghost use Rattle.edd_syntax.specs.Strings.{argument_texts, expr_texts, strings_of_texts};
-ghost use Rattle.edd_syntax.specs.TreeView.{argument_of, expr_of};
+ghost use Rattle.edd_syntax.specs.TreeView.{numbered_argument, numbered_expr};
 ghost use Rattle.edd_syntax.specs.WellFormed.{is_text};
 ghost use Rattle.edd_code.specs.Blocks.{Either, Straight, Then, WhenNotZero, WhenZero, bytes_at};
 ghost use Rattle.edd_code.specs.Expressions.{instead, then_test, truth_block};
@@ -37,11 +37,14 @@ pub fn write_value(
     table: &mut Table,
     e: &Expr<Target>,
 ) -> Result<(), LowerFault>
-    requires { IsTrue (list_all is_text (expr_texts (expr_of (λ r. r) e.now))) }
-    ensures ok { OnOk result (WritesNumbered table.old code.old (strings_of_texts (expr_texts (expr_of (λ r. r) e.now)))
-        (λ number place. bytes_at place (method_block number (expr_of (λ r. r) e.now))) table.new code.new) }
+    requires { IsTrue (list_all is_text (expr_texts (numbered_expr e.now))) }
+    ensures sound { OnOk result
+        (WritesNumbered table.old code.old (strings_of_texts (expr_texts (numbered_expr e.now)))
+        (λ number place. bytes_at place (method_block number (numbered_expr e.now))) table.new
+        code.new) }
     ensures grows { Grows table.old table.new }
-    ensures too_many { IsErrOf result LowerFault.TooMany → Overflows table.old (strings_of_texts (expr_texts (expr_of (λ r. r) e.now))) }
+    ensures refused { IsErrOf result LowerFault.TooMany
+        → Overflows table.old (strings_of_texts (expr_texts (numbered_expr e.now))) }
     ensures longer { OnOk result (length code.old ≤ length code.new) }
 {
     match e {
@@ -91,11 +94,18 @@ fn write_operands(
     right: &Expr<Target>,
     instruction: Instruction,
 ) -> Result<(), LowerFault>
-    requires left { IsTrue (list_all is_text (expr_texts (expr_of (λ r. r) left.now))) }
-    requires right { IsTrue (list_all is_text (expr_texts (expr_of (λ r. r) right.now))) }
-    ensures ok { OnOk result (WritesPart table.old code.old (expr_texts (expr_of (λ r. r) left.now) ++ expr_texts (expr_of (λ r. r) right.now)) (λ number. Then (method_block number (expr_of (λ r. r) left.now)) (Then (method_block number (expr_of (λ r. r) right.now)) (Straight instruction))) table.new code.new) }
+    requires left { IsTrue (list_all is_text (expr_texts (numbered_expr left.now))) }
+    requires right { IsTrue (list_all is_text (expr_texts (numbered_expr right.now))) }
+    ensures sound { OnOk result
+        (WritesPart table.old code.old (expr_texts (numbered_expr left.now)
+        ++ expr_texts (numbered_expr right.now))
+        (λ number. Then (method_block number (numbered_expr left.now))
+        (Then (method_block number (numbered_expr right.now)) (Straight instruction))) table.new
+        code.new) }
     ensures grows { Grows table.old table.new }
-    ensures too_many { IsErrOf result LowerFault.TooMany → Overflows table.old (strings_of_texts (expr_texts (expr_of (λ r. r) left.now) ++ expr_texts (expr_of (λ r. r) right.now))) }
+    ensures refused { IsErrOf result LowerFault.TooMany
+        → Overflows table.old (strings_of_texts (expr_texts (numbered_expr left.now)
+        ++ expr_texts (numbered_expr right.now))) }
     ensures longer { OnOk result (length code.old ≤ length code.new) }
 {
     write_value(alloc, code, table, left)?;
@@ -113,11 +123,18 @@ fn write_and(
     left: &Expr<Target>,
     right: &Expr<Target>,
 ) -> Result<(), LowerFault>
-    requires left { IsTrue (list_all is_text (expr_texts (expr_of (λ r. r) left.now))) }
-    requires right { IsTrue (list_all is_text (expr_texts (expr_of (λ r. r) right.now))) }
-    ensures ok { OnOk result (WritesPart table.old code.old (expr_texts (expr_of (λ r. r) left.now) ++ expr_texts (expr_of (λ r. r) right.now)) (λ number. Then (method_block number (expr_of (λ r. r) left.now)) (then_test (WhenNotZero (instead (method_block number (expr_of (λ r. r) right.now)))))) table.new code.new) }
+    requires left { IsTrue (list_all is_text (expr_texts (numbered_expr left.now))) }
+    requires right { IsTrue (list_all is_text (expr_texts (numbered_expr right.now))) }
+    ensures sound { OnOk result
+        (WritesPart table.old code.old (expr_texts (numbered_expr left.now)
+        ++ expr_texts (numbered_expr right.now))
+        (λ number. Then (method_block number (numbered_expr left.now))
+        (then_test (WhenNotZero (instead (method_block number (numbered_expr right.now))))))
+        table.new code.new) }
     ensures grows { Grows table.old table.new }
-    ensures too_many { IsErrOf result LowerFault.TooMany → Overflows table.old (strings_of_texts (expr_texts (expr_of (λ r. r) left.now) ++ expr_texts (expr_of (λ r. r) right.now))) }
+    ensures refused { IsErrOf result LowerFault.TooMany
+        → Overflows table.old (strings_of_texts (expr_texts (numbered_expr left.now)
+        ++ expr_texts (numbered_expr right.now))) }
     ensures longer { OnOk result (length code.old ≤ length code.new) }
 {
     write_value(alloc, code, table, left)?;
@@ -138,11 +155,19 @@ fn write_or(
     left: &Expr<Target>,
     right: &Expr<Target>,
 ) -> Result<(), LowerFault>
-    requires left { IsTrue (list_all is_text (expr_texts (expr_of (λ r. r) left.now))) }
-    requires right { IsTrue (list_all is_text (expr_texts (expr_of (λ r. r) right.now))) }
-    ensures ok { OnOk result (WritesPart table.old code.old (expr_texts (expr_of (λ r. r) left.now) ++ expr_texts (expr_of (λ r. r) right.now)) (λ number. Then (method_block number (expr_of (λ r. r) left.now)) (Then truth_block (then_test (WhenZero (instead (method_block number (expr_of (λ r. r) right.now))))))) table.new code.new) }
+    requires left { IsTrue (list_all is_text (expr_texts (numbered_expr left.now))) }
+    requires right { IsTrue (list_all is_text (expr_texts (numbered_expr right.now))) }
+    ensures sound { OnOk result
+        (WritesPart table.old code.old (expr_texts (numbered_expr left.now)
+        ++ expr_texts (numbered_expr right.now))
+        (λ number. Then (method_block number (numbered_expr left.now))
+        (Then truth_block (then_test
+        (WhenZero (instead (method_block number (numbered_expr right.now))))))) table.new
+        code.new) }
     ensures grows { Grows table.old table.new }
-    ensures too_many { IsErrOf result LowerFault.TooMany → Overflows table.old (strings_of_texts (expr_texts (expr_of (λ r. r) left.now) ++ expr_texts (expr_of (λ r. r) right.now))) }
+    ensures refused { IsErrOf result LowerFault.TooMany
+        → Overflows table.old (strings_of_texts (expr_texts (numbered_expr left.now)
+        ++ expr_texts (numbered_expr right.now))) }
     ensures longer { OnOk result (length code.old ≤ length code.new) }
 {
     write_value(alloc, code, table, left)?;
@@ -163,10 +188,13 @@ fn write_instead(
     table: &mut Table,
     right: &Expr<Target>,
 ) -> Result<(), LowerFault>
-    requires { IsTrue (list_all is_text (expr_texts (expr_of (λ r. r) right.now))) }
-    ensures ok { OnOk result (WritesPart table.old code.old (expr_texts (expr_of (λ r. r) right.now)) (λ number. instead (method_block number (expr_of (λ r. r) right.now))) table.new code.new) }
+    requires { IsTrue (list_all is_text (expr_texts (numbered_expr right.now))) }
+    ensures sound { OnOk result
+        (WritesPart table.old code.old (expr_texts (numbered_expr right.now))
+        (λ number. instead (method_block number (numbered_expr right.now))) table.new code.new) }
     ensures grows { Grows table.old table.new }
-    ensures too_many { IsErrOf result LowerFault.TooMany → Overflows table.old (strings_of_texts (expr_texts (expr_of (λ r. r) right.now))) }
+    ensures refused { IsErrOf result LowerFault.TooMany
+        → Overflows table.old (strings_of_texts (expr_texts (numbered_expr right.now))) }
     ensures longer { OnOk result (length code.old ≤ length code.new) }
 {
     put(code, Instruction::Pop)?;
@@ -184,11 +212,17 @@ fn write_either(
     first: &Expr<Target>,
     second: &Expr<Target>,
 ) -> Result<(), LowerFault>
-    requires first { IsTrue (list_all is_text (expr_texts (expr_of (λ r. r) first.now))) }
-    requires second { IsTrue (list_all is_text (expr_texts (expr_of (λ r. r) second.now))) }
-    ensures ok { OnOk result (WritesPart table.old code.old (expr_texts (expr_of (λ r. r) first.now) ++ expr_texts (expr_of (λ r. r) second.now)) (λ number. Either (method_block number (expr_of (λ r. r) first.now)) (method_block number (expr_of (λ r. r) second.now))) table.new code.new) }
+    requires first { IsTrue (list_all is_text (expr_texts (numbered_expr first.now))) }
+    requires second { IsTrue (list_all is_text (expr_texts (numbered_expr second.now))) }
+    ensures sound { OnOk result
+        (WritesPart table.old code.old (expr_texts (numbered_expr first.now)
+        ++ expr_texts (numbered_expr second.now))
+        (λ number. Either (method_block number (numbered_expr first.now))
+        (method_block number (numbered_expr second.now))) table.new code.new) }
     ensures grows { Grows table.old table.new }
-    ensures too_many { IsErrOf result LowerFault.TooMany → Overflows table.old (strings_of_texts (expr_texts (expr_of (λ r. r) first.now) ++ expr_texts (expr_of (λ r. r) second.now))) }
+    ensures refused { IsErrOf result LowerFault.TooMany
+        → Overflows table.old (strings_of_texts (expr_texts (numbered_expr first.now)
+        ++ expr_texts (numbered_expr second.now))) }
     ensures longer { OnOk result (length code.old ≤ length code.new) }
 {
     let otherwise = open(code, Jump::IfZero)?;
@@ -211,10 +245,14 @@ fn write_compound(
     to: Target,
     value: &Expr<Target>,
 ) -> Result<(), LowerFault>
-    requires { IsTrue (list_all is_text (expr_texts (expr_of (λ r. r) value.now))) }
-    ensures ok { OnOk result (WritesPart table.old code.old (expr_texts (expr_of (λ r. r) value.now)) (λ number. Then (load_block to) (Then (method_block number (expr_of (λ r. r) value.now)) (Then (Straight (Instruction.Operate op)) (store_block to)))) table.new code.new) }
+    requires { IsTrue (list_all is_text (expr_texts (numbered_expr value.now))) }
+    ensures sound { OnOk result
+        (WritesPart table.old code.old (expr_texts (numbered_expr value.now))
+        (λ number. Then (load_block to) (Then (method_block number (numbered_expr value.now))
+        (Then (Straight (Instruction.Operate op)) (store_block to)))) table.new code.new) }
     ensures grows { Grows table.old table.new }
-    ensures too_many { IsErrOf result LowerFault.TooMany → Overflows table.old (strings_of_texts (expr_texts (expr_of (λ r. r) value.now))) }
+    ensures refused { IsErrOf result LowerFault.TooMany
+        → Overflows table.old (strings_of_texts (expr_texts (numbered_expr value.now))) }
     ensures longer { OnOk result (length code.old ≤ length code.new) }
 {
     write_load(code, to)?;
@@ -233,10 +271,18 @@ fn write_call(
     function: Target,
     arguments: &[Argument<Target>],
 ) -> Result<(), LowerFault>
-    requires { IsTrue (list_all is_text (argument_texts (arguments_from (map (argument_of (λ r. r)) arguments.now)))) }
-    ensures ok { OnOk result (WritesPart table.old code.old (argument_texts (arguments_from (map (argument_of (λ r. r)) arguments.now))) (λ number. method_block number (Call function (arguments_from (map (argument_of (λ r. r)) arguments.now)))) table.new code.new) }
+    requires { IsTrue (list_all is_text
+        (argument_texts (arguments_from (map numbered_argument arguments.now)))) }
+    ensures sound { OnOk result
+        (WritesPart table.old code.old
+        (argument_texts (arguments_from (map numbered_argument arguments.now)))
+        (λ number. method_block number
+        (Call function (arguments_from (map numbered_argument arguments.now)))) table.new
+        code.new) }
     ensures grows { Grows table.old table.new }
-    ensures too_many { IsErrOf result LowerFault.TooMany → Overflows table.old (strings_of_texts (argument_texts (arguments_from (map (argument_of (λ r. r)) arguments.now)))) }
+    ensures refused { IsErrOf result LowerFault.TooMany
+        → Overflows table.old (strings_of_texts
+        (argument_texts (arguments_from (map numbered_argument arguments.now)))) }
     ensures longer { OnOk result (length code.old ≤ length code.new) }
 {
     match function {
@@ -256,10 +302,17 @@ fn write_builtin(
     f: Builtin,
     arguments: &[Argument<Target>],
 ) -> Result<(), LowerFault>
-    requires { IsTrue (list_all is_text (argument_texts (arguments_from (map (argument_of (λ r. r)) arguments.now)))) }
-    ensures ok { OnOk result (WritesPart table.old code.old (argument_texts (arguments_from (map (argument_of (λ r. r)) arguments.now))) (λ number. call_block number f (arguments_from (map (argument_of (λ r. r)) arguments.now))) table.new code.new) }
+    requires { IsTrue (list_all is_text
+        (argument_texts (arguments_from (map numbered_argument arguments.now)))) }
+    ensures sound { OnOk result
+        (WritesPart table.old code.old
+        (argument_texts (arguments_from (map numbered_argument arguments.now)))
+        (λ number. call_block number f (arguments_from (map numbered_argument arguments.now)))
+        table.new code.new) }
     ensures grows { Grows table.old table.new }
-    ensures too_many { IsErrOf result LowerFault.TooMany → Overflows table.old (strings_of_texts (argument_texts (arguments_from (map (argument_of (λ r. r)) arguments.now)))) }
+    ensures refused { IsErrOf result LowerFault.TooMany
+        → Overflows table.old (strings_of_texts
+        (argument_texts (arguments_from (map numbered_argument arguments.now)))) }
     ensures longer { OnOk result (length code.old ≤ length code.new) }
 {
     match f {
@@ -297,10 +350,17 @@ fn write_delay(
     table: &mut Table,
     arguments: &[Argument<Target>],
 ) -> Result<(), LowerFault>
-    requires { IsTrue (list_all is_text (argument_texts (arguments_from (map (argument_of (λ r. r)) arguments.now)))) }
-    ensures ok { OnOk result (WritesPart table.old code.old (argument_texts (arguments_from (map (argument_of (λ r. r)) arguments.now))) (λ number. call_block number Builtin.Delay (arguments_from (map (argument_of (λ r. r)) arguments.now))) table.new code.new) }
+    requires { IsTrue (list_all is_text
+        (argument_texts (arguments_from (map numbered_argument arguments.now)))) }
+    ensures sound { OnOk result
+        (WritesPart table.old code.old
+        (argument_texts (arguments_from (map numbered_argument arguments.now)))
+        (λ number. call_block number Builtin.Delay
+        (arguments_from (map numbered_argument arguments.now))) table.new code.new) }
     ensures grows { Grows table.old table.new }
-    ensures too_many { IsErrOf result LowerFault.TooMany → Overflows table.old (strings_of_texts (argument_texts (arguments_from (map (argument_of (λ r. r)) arguments.now)))) }
+    ensures refused { IsErrOf result LowerFault.TooMany
+        → Overflows table.old (strings_of_texts
+        (argument_texts (arguments_from (map numbered_argument arguments.now)))) }
     ensures longer { OnOk result (length code.old ≤ length code.new) }
 {
     match value_and_text(arguments) {
@@ -322,10 +382,17 @@ fn write_send(
     table: &mut Table,
     arguments: &[Argument<Target>],
 ) -> Result<(), LowerFault>
-    requires { IsTrue (list_all is_text (argument_texts (arguments_from (map (argument_of (λ r. r)) arguments.now)))) }
-    ensures ok { OnOk result (WritesPart table.old code.old (argument_texts (arguments_from (map (argument_of (λ r. r)) arguments.now))) (λ number. call_block number Builtin.SendCommand (arguments_from (map (argument_of (λ r. r)) arguments.now))) table.new code.new) }
+    requires { IsTrue (list_all is_text
+        (argument_texts (arguments_from (map numbered_argument arguments.now)))) }
+    ensures sound { OnOk result
+        (WritesPart table.old code.old
+        (argument_texts (arguments_from (map numbered_argument arguments.now)))
+        (λ number. call_block number Builtin.SendCommand
+        (arguments_from (map numbered_argument arguments.now))) table.new code.new) }
     ensures grows { Grows table.old table.new }
-    ensures too_many { IsErrOf result LowerFault.TooMany → Overflows table.old (strings_of_texts (argument_texts (arguments_from (map (argument_of (λ r. r)) arguments.now)))) }
+    ensures refused { IsErrOf result LowerFault.TooMany
+        → Overflows table.old (strings_of_texts
+        (argument_texts (arguments_from (map numbered_argument arguments.now)))) }
     ensures longer { OnOk result (length code.old ≤ length code.new) }
 {
     match only_value(arguments) {
@@ -346,10 +413,17 @@ fn write_transaction(
     table: &mut Table,
     arguments: &[Argument<Target>],
 ) -> Result<(), LowerFault>
-    requires { IsTrue (list_all is_text (argument_texts (arguments_from (map (argument_of (λ r. r)) arguments.now)))) }
-    ensures ok { OnOk result (WritesPart table.old code.old (argument_texts (arguments_from (map (argument_of (λ r. r)) arguments.now))) (λ number. call_block number Builtin.SendCommandTrans (arguments_from (map (argument_of (λ r. r)) arguments.now))) table.new code.new) }
+    requires { IsTrue (list_all is_text
+        (argument_texts (arguments_from (map numbered_argument arguments.now)))) }
+    ensures sound { OnOk result
+        (WritesPart table.old code.old
+        (argument_texts (arguments_from (map numbered_argument arguments.now)))
+        (λ number. call_block number Builtin.SendCommandTrans
+        (arguments_from (map numbered_argument arguments.now))) table.new code.new) }
     ensures grows { Grows table.old table.new }
-    ensures too_many { IsErrOf result LowerFault.TooMany → Overflows table.old (strings_of_texts (argument_texts (arguments_from (map (argument_of (λ r. r)) arguments.now)))) }
+    ensures refused { IsErrOf result LowerFault.TooMany
+        → Overflows table.old (strings_of_texts
+        (argument_texts (arguments_from (map numbered_argument arguments.now)))) }
     ensures longer { OnOk result (length code.old ≤ length code.new) }
 {
     match two_values(arguments) {
@@ -374,10 +448,17 @@ fn write_only(
     table: &mut Table,
     arguments: &[Argument<Target>],
 ) -> Result<(), LowerFault>
-    requires { IsTrue (list_all is_text (argument_texts (arguments_from (map (argument_of (λ r. r)) arguments.now)))) }
-    ensures ok { OnOk result (WritesPart table.old code.old (argument_texts (arguments_from (map (argument_of (λ r. r)) arguments.now))) (λ number. call_block number Builtin.IvarValue (arguments_from (map (argument_of (λ r. r)) arguments.now))) table.new code.new) }
+    requires { IsTrue (list_all is_text
+        (argument_texts (arguments_from (map numbered_argument arguments.now)))) }
+    ensures sound { OnOk result
+        (WritesPart table.old code.old
+        (argument_texts (arguments_from (map numbered_argument arguments.now)))
+        (λ number. call_block number Builtin.IvarValue
+        (arguments_from (map numbered_argument arguments.now))) table.new code.new) }
     ensures grows { Grows table.old table.new }
-    ensures too_many { IsErrOf result LowerFault.TooMany → Overflows table.old (strings_of_texts (argument_texts (arguments_from (map (argument_of (λ r. r)) arguments.now)))) }
+    ensures refused { IsErrOf result LowerFault.TooMany
+        → Overflows table.old (strings_of_texts
+        (argument_texts (arguments_from (map numbered_argument arguments.now)))) }
     ensures longer { OnOk result (length code.old ≤ length code.new) }
 {
     match only_value(arguments) {
@@ -395,10 +476,17 @@ fn write_assigned(
     table: &mut Table,
     arguments: &[Argument<Target>],
 ) -> Result<(), LowerFault>
-    requires { IsTrue (list_all is_text (argument_texts (arguments_from (map (argument_of (λ r. r)) arguments.now)))) }
-    ensures ok { OnOk result (WritesPart table.old code.old (argument_texts (arguments_from (map (argument_of (λ r. r)) arguments.now))) (λ number. call_block number Builtin.Iassign (arguments_from (map (argument_of (λ r. r)) arguments.now))) table.new code.new) }
+    requires { IsTrue (list_all is_text
+        (argument_texts (arguments_from (map numbered_argument arguments.now)))) }
+    ensures sound { OnOk result
+        (WritesPart table.old code.old
+        (argument_texts (arguments_from (map numbered_argument arguments.now)))
+        (λ number. call_block number Builtin.Iassign
+        (arguments_from (map numbered_argument arguments.now))) table.new code.new) }
     ensures grows { Grows table.old table.new }
-    ensures too_many { IsErrOf result LowerFault.TooMany → Overflows table.old (strings_of_texts (argument_texts (arguments_from (map (argument_of (λ r. r)) arguments.now)))) }
+    ensures refused { IsErrOf result LowerFault.TooMany
+        → Overflows table.old (strings_of_texts
+        (argument_texts (arguments_from (map numbered_argument arguments.now)))) }
     ensures longer { OnOk result (length code.old ≤ length code.new) }
 {
     match target_and_value(arguments) {

@@ -15,14 +15,17 @@ use Rattle.edd_name_meanings.specs.Faults.{IsFound, IsFirst}
 use Rattle.edd_compiler.specs.Faults.{of_name, Explains}
 use Rattle.edd_compiler.specs.Sources.{IsUnitOf}
 
-first_stays : {A : Type 0} (xs ys : List A) (x : A) → first_of xs ≡ Some x → first_of (xs ++ ys) ≡ Some x
+first_stays : {A : Type 0} (xs ys : List A) (x : A) → first_of xs ≡ Some x
+    → first_of (xs ++ ys) ≡ Some x
 first_stays [] ys x is = grind (arith, common_steps)
 first_stays (y ∷ xs) ys x is = is
 
 module _ (text : List ℕ) (unit : Description Path) (spelled : IsUnitOf text unit) where
   -- a rule on counts, names and attributes comes before all others
-  broken_name_rule : (why : Refusal) → first_of (name_breaches unit) ≡ Some why → refusal unit ≡ Some why
-  broken_name_rule why is = first_stays (name_breaches unit) (profile_breaches (resolved_unit unit)) why is
+  broken_name_rule : (why : Refusal) → first_of (name_breaches unit) ≡ Some why
+      → refusal unit ≡ Some why
+  broken_name_rule why is = first_stays (name_breaches unit) (profile_breaches (resolved_unit unit))
+      why is
 
   pub name_refused : (e : NameFault) → IsFirst e (name_breaches unit) → Explains text (of_name e)
   unfolding IsFound
@@ -34,7 +37,9 @@ module _ (text : List ℕ) (unit : Description Path) (spelled : IsUnitOf text un
   name_refused (name.WrongKind n) is = (unit, spelled, broken_name_rule _ is)
   name_refused name.Memory is = tt
 
-  module _ (d : Description Target) (meanings : resolved_unit unit ≡ Some d) (no_breach : name_breaches unit ≡ []) where
+  module _ (d : Description Target) (meanings : resolved_unit unit ≡ Some d)
+      (no_breach : name_breaches unit ≡ []) where
     -- where no rule on names is broken, the rules of the profile decide
     pub profile_decides : refusal unit ≡ first_of (subset_breaches d ++ too_many_strings d)
-    profile_decides = ap (λ xs. first_of (xs ++ profile_breaches (resolved_unit unit))) no_breach ∙ ap (λ m. first_of (profile_breaches m)) meanings
+    profile_decides = ap (λ xs. first_of (xs ++ profile_breaches (resolved_unit unit))) no_breach
+        ∙ ap (λ m. first_of (profile_breaches m)) meanings

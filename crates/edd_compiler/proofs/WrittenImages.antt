@@ -24,17 +24,22 @@ use Rattle.edd_compiler.specs.Lowering.{HasLowered}
 use Rattle.edd_compiler.proofs.ImageParts.{are_methods, are_units, code_within}
 
 -- what is said of a table and its units is said of the words and the units that are handed on
-pub handed_on : (d : Description Target) {table : List Words} (words : List in_code.Words) (units given : List in_code_units.Lowered)
-    → HasLowered d (rows d.items) table (map lowered_of units) → map string_of words ≡ table → given ≡ units
+pub handed_on : (d : Description Target) {table : List Words} (words : List in_code.Words)
+    (units given : List in_code_units.Lowered)
+    → HasLowered d (rows d.items) table (map lowered_of units) → map string_of words ≡ table
+    → given ≡ units
     → HasLowered d (rows d.items) (map string_of words) (map lowered_of given)
 handed_on d words units given has table same =
     subst (λ us. HasLowered d (rows d.items) (map string_of words) (map lowered_of us)) (sym same)
     (subst (λ t. HasLowered d (rows d.items) t (map lowered_of units)) (sym table) has)
 
 module _ (d : Description Target) (words : List in_code.Words) (units : List Lowered)
-    (has : HasLowered d (rows d.items) (map string_of words) units) (s : Sections) (made : s ≡ assembled d units (map string_of words))
+    (has : HasLowered d (rows d.items) (map string_of words) units) (s : Sections)
+    (made : s ≡ assembled d units (map string_of words))
     (few : length (map string_of words) ≤ 65535) (checked : ∥ IsChecked d ∥₁)
-    (bodies : (m : MethNo) (slots : ℕ) (code : List ℕ) → IsMethodCode d (map string_of words) m slots code → IsBodyCode d (map string_of words) slots code) where
+    (bodies : (m : MethNo) (slots : ℕ) (code : List ℕ)
+    → IsMethodCode d (map string_of words) m slots code
+    → IsBodyCode d (map string_of words) slots code) where
   their_units : AreUnitsOf d (map string_of words) units
   their_units = are_units d (map string_of words) few bodies units has
 
@@ -54,26 +59,37 @@ module _ (d : Description Target) (words : List in_code.Words) (units : List Low
     never_longer longer = let within = is_short in omega arith
 
     pub is_valid : AreSections s
-        → ((lowered : List Lowered) (ws : List in_code.Words) → ∥ IsChecked d ∥₁ → AreUnitsOf d (map string_of ws) lowered
-        → AreSections (assembled d lowered (map string_of ws)) → IsSound (contents_of (assembled d lowered (map string_of ws))))
-        → ((x : Sections) → AreSections x → length x.code ≤ code_limit → IsSound (contents_of x) → IsValid (layout x))
+        → ((lowered : List Lowered) (ws : List in_code.Words) → ∥ IsChecked d ∥₁
+        → AreUnitsOf d (map string_of ws) lowered
+        → AreSections (assembled d lowered (map string_of ws))
+        → IsSound (contents_of (assembled d lowered (map string_of ws))))
+        → ((x : Sections) → AreSections x → length x.code ≤ code_limit → IsSound (contents_of x)
+        → IsValid (layout x))
         → IsValid (layout s)
     is_valid fit sound valid = valid s fit is_short
-        (subst (λ x. IsSound (contents_of x)) (sym made) (sound units words checked their_units (subst AreSections made fit)))
+        (subst (λ x. IsSound (contents_of x)) (sym made)
+        (sound units words checked their_units (subst AreSections made fit)))
 
-  same_contents : AreSections s → ((x : Sections) → AreSections x → contents_in (layout x) ≡ contents_of x) → contents_of (assembled d units (map string_of words)) ≡ contents_in (layout s)
+  same_contents : AreSections s
+      → ((x : Sections) → AreSections x → contents_in (layout x) ≡ contents_of x)
+      → contents_of (assembled d units (map string_of words)) ≡ contents_in (layout s)
   same_contents fit read = ap contents_of (sym made) ∙ sym (read s fit)
 
   pub agrees : AreSections s
-      → ((lowered : List Lowered) (ws : List in_code.Words) → AreUnitsOf d (map string_of ws) lowered
-      → AreSections (assembled d lowered (map string_of ws)) → AgreesOnData d (contents_of (assembled d lowered (map string_of ws))))
-      → ((lowered : List Lowered) (ws : List in_code.Words) → ∥ IsChecked d ∥₁ → AreUnitsOf d (map string_of ws) lowered → All (IsMethodOf d (map string_of ws)) lowered
-      → AreSections (assembled d lowered (map string_of ws)) → AgreesOnMethods d (contents_of (assembled d lowered (map string_of ws))))
+      → ((lowered : List Lowered) (ws : List in_code.Words)
+      → AreUnitsOf d (map string_of ws) lowered
+      → AreSections (assembled d lowered (map string_of ws))
+      → AgreesOnData d (contents_of (assembled d lowered (map string_of ws))))
+      → ((lowered : List Lowered) (ws : List in_code.Words) → ∥ IsChecked d ∥₁
+      → AreUnitsOf d (map string_of ws) lowered → All (IsMethodOf d (map string_of ws)) lowered
+      → AreSections (assembled d lowered (map string_of ws))
+      → AgreesOnMethods d (contents_of (assembled d lowered (map string_of ws))))
       → ((x : Sections) → AreSections x → contents_in (layout x) ≡ contents_of x)
       → Agrees d (contents_in (layout s))
   agrees fit agree run read =
       let there = subst AreSections made fit in
       subst (Agrees d) (same_contents fit read) (record {
         on_data = agree units words their_units there;
-        on_methods = run units words checked their_units (are_methods d (map string_of words) few units has) there;
+        on_methods = run units words checked their_units
+            (are_methods d (map string_of words) few units has) there;
       })

@@ -73,8 +73,9 @@ IsOfLowering over (fault.Type e) = ⊥
 IsOfLowering over fault.TooManyStrings = over
 IsOfLowering over fault.Memory = ⊤
 
--- A lexical fault is the text's. A syntax fault comes only where its tokens spell no unit. A broken rule is the first of a unit
--- that it spells. Nothing is said of memory, want of which is one fault, whoever met it.
+-- A lexical fault is the text's. A syntax fault comes only where its tokens spell no unit. A broken
+-- rule is the first of a unit that it spells. Nothing is said of memory, want of which is one
+-- fault, whoever met it.
 abbrev pub Explains : List ℕ → Fault → Type 0
 Explains text (fault.Lex e) = IsSomeAnd (fault_of e) (LexicalFault text)
 Explains text (fault.Parse parse.Memory) = ⊥

@@ -8,8 +8,8 @@ use Rattle.edd_image.specs.MethodAgreement.{Agrees}
 use Rattle.edd_image.specs.Validity.{IsValid}
 use Rattle.edd_compiler.specs.Sources.{IsUnitOf}
 
--- The tokens of the text spell a unit that is accepted, and the bytes are a valid image that says and does what the unit means:
--- all that is read of it agrees, and every method runs alike.
+-- The tokens of the text spell a unit that is accepted, and the bytes are a valid image that says
+-- and does what the unit means: all that is read of it agrees, and every method runs alike.
 pub record IsImageOf (text bytes : List ℕ) : Type 0 where
   pub unit : Description Path
   pub spelled : IsUnitOf text unit

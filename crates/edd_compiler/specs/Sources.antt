@@ -11,9 +11,11 @@ use Rattle.edd_lexer.specs.Tokens.{Lexeme, AreTokens}
 
 -- its tokens spell the unit
 abbrev pub IsUnitOf : List ℕ → Description Path → Type 0
-IsUnitOf text unit = (lexemes : List Lexeme) × AreTokens text lexemes × Spells (map (λ l. l.token) lexemes) unit
+IsUnitOf text unit = (lexemes : List Lexeme) × AreTokens text lexemes
+    × Spells (map (λ l. l.token) lexemes) unit
 
--- The text spells the unit that this description comes from, and no rule is broken, but perhaps the one on the number of strings.
+-- The text spells the unit that this description comes from, and no rule is broken, but perhaps the
+-- one on the number of strings.
 abbrev pub IsDescriptionOf : List ℕ → Description Target → Type 0
 IsDescriptionOf text d = (checked : IsChecked d) × IsUnitOf text checked.is_resolved.unit
 

@@ -10,7 +10,7 @@ ghost use Rattle.edd_image.specs.MethodAgreement.{Agrees};
 ghost use Rattle.edd_image.specs.Validity.{IsValid};
 ghost use Rattle.edd_syntax.specs.Rows.{rows};
 ghost use Rattle.edd_assembly.specs.Views.{lowered_of};
-ghost use Rattle.edd_code.specs.Units.{unit_of};
+ghost use Rattle.edd_code.specs.Units.{description_of};
 ghost use Rattle.edd_compiler.specs.declared.fault.Fault.TheVariants.{Memory};
 ghost use Rattle.edd_compiler.specs.Faults.{IsOfLowering, Explains};
 ghost use Rattle.edd_compiler.specs.Images.{IsImageOf};
@@ -29,10 +29,13 @@ use std::alloc::Global;
 
 // The image of a description, whose rows have this code.
 fn write_image(alloc: Global, checked: &Checked, lowering: &Lowering) -> Result<Vec<u8>, Fault>
-    requires lowered { HasLowered (unit_of checked.now) (rows (unit_of checked.now).items) lowering.now.table (map lowered_of lowering.now.units.items) }
+    requires lowered { HasLowered (description_of checked.now)
+        (rows (description_of checked.now).items)
+        lowering.now.table (map lowered_of lowering.now.units.items) }
     ensures valid { IfOk result (λ bytes. IsValid bytes.items) }
-    ensures agrees { IfOk result (λ bytes. Agrees (unit_of checked.now) (contents_in bytes.items)) }
-    ensures few_strings { OnOk result (too_many_strings (unit_of checked.now) ≡ []) }
+    ensures agrees { IfOk result
+        (λ bytes. Agrees (description_of checked.now) (contents_in bytes.items)) }
+    ensures few_strings { OnOk result (too_many_strings (description_of checked.now) ≡ []) }
     ensures refused { IfErr result (λ e. e ≡ Memory) }
 {
     different_strings_count();
@@ -55,8 +58,13 @@ fn write_image(alloc: Global, checked: &Checked, lowering: &Lowering) -> Result<
 
 // The code of a description, unless it has more strings than a table holds.
 fn lower(alloc: Global, checked: &Checked) -> Result<Lowering, Fault>
-    ensures lowered { IfOk result (λ l. HasLowered (unit_of checked.now) (rows (unit_of checked.now).items) l.table (map lowered_of l.units.items)) }
-    ensures refused { IfErr result (IsOfLowering (too_many_strings (unit_of checked.now) ≡ TooMany limit.Strings ∷ [])) }
+    ensures lowered { IfOk result
+        (λ l. HasLowered (description_of checked.now) (rows (description_of checked.now).items)
+        l.table
+        (map lowered_of l.units.items)) }
+    ensures refused { IfErr result
+        (IsOfLowering (too_many_strings (description_of checked.now) ≡ TooMany limit.Strings
+        ∷ [])) }
 {
     different_strings_count();
     strings_stand_in_rows();
@@ -64,11 +72,11 @@ fn lower(alloc: Global, checked: &Checked) -> Result<Lowering, Fault>
     lower_rows(alloc, checked, &rows)
 }
 
-/// The bytes of the image of a text: a valid image, which says and does what the description says and does that the text stands for.
-/// A text that has no image is refused with its lexical fault, a syntax fault, or the first rule that it breaks; any text may be
-/// refused where memory is.
+/// The bytes of the image of a text: a valid image, which says and does what the description says
+/// and does that the text stands for. A text that has no image is refused with its lexical fault, a
+/// syntax fault, or the first rule that it breaks; any text may be refused where memory is.
 pub fn compile(alloc: Global, text: &[u8]) -> Result<Vec<u8>, Fault>
-    ensures image { IfOk result (λ bytes. IsImageOf text.now bytes.items) }
+    ensures sound { IfOk result (λ bytes. IsImageOf text.now bytes.items) }
     ensures refused { IfErr result (Explains text.now) }
 {
     let checked = checked_of(alloc, text)?;

@@ -12,7 +12,7 @@ ghost use Rattle.edd_assembly.specs.Views.{lowered_of};
 ghost use Rattle.edd_bounds.specs.RowContents.{strings_of_row};
 ghost use Rattle.edd_code.specs.Places.{IsIndexOf};
 ghost use Rattle.edd_code.specs.Tables.{Grows};
-ghost use Rattle.edd_code.specs.Units.{unit_of};
+ghost use Rattle.edd_code.specs.Units.{description_of};
 ghost use Rattle.edd_compiler.specs.Faults.{IsOfLowering};
 ghost use Rattle.edd_compiler.specs.Lowering.{AddsRow, HasLowered, HasTooMany, IsCodeOf, IsPlain};
 
@@ -47,13 +47,17 @@ fn lower_attribute(
     table: &mut Table,
 ) -> Result<Lowered, Fault>
     requires no_body { same_attr row.attr attr.Definition ≡ false }
-    requires index { IsIndexOf (unit_of checked.now).items index.now }
+    requires index { IsIndexOf (description_of checked.now).items index.now }
     ensures row { IfOk result (λ l. plain_row (lowered_of l) ≡ row) }
-    ensures code { IfOk result (λ l. IsCodeOf (unit_of checked.now) table.new (lowered_of l)) }
+    ensures code { IfOk result (λ l. IsCodeOf (description_of checked.now) table.new
+        (lowered_of l)) }
     ensures grows { OnOk result (Grows table.old table.new) }
     ensures strings { OnOk result
-        ((w : Words) → Contains table.new w ↔ (Contains table.old w ⊎ Contains (strings_of_row (unit_of checked.now) row) w)) }
-    ensures refused { IfErr result (IsOfLowering (65535 < length (different (table.old ++ strings_of_row (unit_of checked.now) row)))) }
+        ((w : Words) → Contains table.new w
+        ↔ (Contains table.old w ⊎ Contains (strings_of_row (description_of checked.now) row) w)) }
+    ensures refused { IfErr result
+        (IsOfLowering (65535 < length
+        (different (table.old ++ strings_of_row (description_of checked.now) row)))) }
 {
     let code = edd_attrs::lower_indexed(alloc, checked, index, row, table)?;
     Ok(Lowered { row, code })
@@ -67,14 +71,19 @@ fn lower_method(
     method: MethNo,
     table: &mut Table,
 ) -> Result<Lowered, Fault>
-    requires index { IsIndexOf (unit_of checked.now).items index.now }
-    ensures row { IfOk result (λ l. plain_row (lowered_of l) ≡ record { item = items.Method method; attr = attr.Definition; sub = 0 }) }
-    ensures code { IfOk result (λ l. IsCodeOf (unit_of checked.now) table.new (lowered_of l)) }
+    requires index { IsIndexOf (description_of checked.now).items index.now }
+    ensures row { IfOk result (λ l. plain_row (lowered_of l)
+        ≡ record { item = items.Method method; attr = attr.Definition; sub = 0 }) }
+    ensures code { IfOk result (λ l. IsCodeOf (description_of checked.now) table.new
+        (lowered_of l)) }
     ensures grows { OnOk result (Grows table.old table.new) }
     ensures strings { OnOk result ((w : Words) → Contains table.new w
-        ↔ (Contains table.old w ⊎ Contains (strings_of_row (unit_of checked.now) (record { item = items.Method method; attr = attr.Definition; sub = 0 })) w)) }
+        ↔ (Contains table.old w ⊎ Contains
+        (strings_of_row (description_of checked.now)
+        (record { item = items.Method method; attr = attr.Definition; sub = 0 })) w)) }
     ensures refused { IfErr result (IsOfLowering (65535 < length (different
-        (table.old ++ strings_of_row (unit_of checked.now) (record { item = items.Method method; attr = attr.Definition; sub = 0 }))))) }
+        (table.old ++ strings_of_row (description_of checked.now)
+        (record { item = items.Method method; attr = attr.Definition; sub = 0 }))))) }
 {
     let made = edd_methods::lower_indexed(alloc, checked, index, method, table)?;
     let row = AttrRef {
@@ -97,13 +106,17 @@ fn lower_row(
     table: &mut Table,
 ) -> Result<Lowered, Fault>
     requires plain { IsPlain row }
-    requires index { IsIndexOf (unit_of checked.now).items index.now }
+    requires index { IsIndexOf (description_of checked.now).items index.now }
     ensures row { IfOk result (λ l. plain_row (lowered_of l) ≡ row) }
-    ensures code { IfOk result (λ l. IsCodeOf (unit_of checked.now) table.new (lowered_of l)) }
+    ensures code { IfOk result (λ l. IsCodeOf (description_of checked.now) table.new
+        (lowered_of l)) }
     ensures grows { OnOk result (Grows table.old table.new) }
     ensures strings { OnOk result
-        ((w : Words) → Contains table.new w ↔ (Contains table.old w ⊎ Contains (strings_of_row (unit_of checked.now) row) w)) }
-    ensures refused { IfErr result (IsOfLowering (65535 < length (different (table.old ++ strings_of_row (unit_of checked.now) row)))) }
+        ((w : Words) → Contains table.new w
+        ↔ (Contains table.old w ⊎ Contains (strings_of_row (description_of checked.now) row) w)) }
+    ensures refused { IfErr result
+        (IsOfLowering (65535 < length
+        (different (table.old ++ strings_of_row (description_of checked.now) row)))) }
 {
     if !is_body(row) {
         return lower_attribute(alloc, checked, index, row, table);
@@ -133,10 +146,14 @@ impl Lowering {
         row: AttrRef,
     ) -> Result<(), Fault>
         requires plain { IsPlain row }
-        requires index { IsIndexOf (unit_of checked.now).items index.now }
-        ensures adds { OnOk result (AddsRow (unit_of checked.now) row self.old.table (map lowered_of self.old.units.items)
+        requires index { IsIndexOf (description_of checked.now).items index.now }
+        ensures adds { OnOk result
+            (AddsRow (description_of checked.now) row self.old.table
+            (map lowered_of self.old.units.items)
             self.new.table (map lowered_of self.new.units.items)) }
-        ensures refused { IfErr result (IsOfLowering (65535 < length (different (self.old.table ++ strings_of_row (unit_of checked.now) row)))) }
+        ensures refused { IfErr result
+            (IsOfLowering (65535 < length
+            (different (self.old.table ++ strings_of_row (description_of checked.now) row)))) }
     {
         let unit = lower_row(alloc, checked, index, row, &mut self.table)?;
         self.units.push(unit)?;
@@ -147,8 +164,9 @@ impl Lowering {
 /// The code of these rows of a description.
 pub fn lower_rows(alloc: Global, checked: &Checked, rows: &[AttrRef]) -> Result<Lowering, Fault>
     requires { All IsPlain rows.now }
-    ensures lowered { IfOk result (λ l. HasLowered (unit_of checked.now) rows.now l.table (map lowered_of l.units.items)) }
-    ensures refused { IfErr result (IsOfLowering (HasTooMany (unit_of checked.now))) }
+    ensures lowered { IfOk result (λ l. HasLowered (description_of checked.now) rows.now l.table
+        (map lowered_of l.units.items)) }
+    ensures refused { IfErr result (IsOfLowering (HasTooMany (description_of checked.now))) }
 {
     let index = ItemIndex::new(alloc, &checked.items)?;
     let mut lowering = Lowering::new(alloc);

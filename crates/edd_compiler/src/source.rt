@@ -21,18 +21,21 @@ use std::alloc::Global;
 
 /// The unit that the tokens of a text spell. There is at most one.
 pub fn unit_of(alloc: Global, text: &[u8]) -> Result<Unit, Fault>
-    ensures unit { IfOk result (λ u. IsUnitOf text.now (unit_view u)) }
+    ensures sound { IfOk result (λ u. IsUnitOf text.now (unit_view u)) }
     ensures refused { IfErr result (Explains text.now) }
-    ensures only_unit { (unit : Description Path) → IsUnitOf text.now unit
+    ensures complete { (unit : Description Path) → IsUnitOf text.now unit
         → MatchResult result (λ u. unit_view u ≡ unit) (λ e. e ≡ Memory) }
 {
     let tokens = lex(alloc, text)?;
     Ok(parse(alloc, text, &tokens)?)
 }
 
-/// The description that a text stands for, if no rule is broken. Strings are counted where they are written.
+/// The description that a text stands for, if no rule is broken. Strings are counted where they are
+/// written.
 pub fn checked_of(alloc: Global, text: &[u8]) -> Result<Checked, Fault>
-    ensures description { IfOk result (λ c. IsDescriptionOf text.now (description (identification_of c.identification) (numbered_items c.items.value.items))) }
+    ensures sound { IfOk result
+        (λ c. IsDescriptionOf text.now
+        (description (identification_of c.identification) (numbered_items c.items.value.items))) }
     ensures refused { IfErr result (Explains text.now) }
 {
     let unit = unit_of(alloc, text)?;

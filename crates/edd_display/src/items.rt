@@ -192,8 +192,8 @@ fn print_head<W: Write>(
     }
 }
 
-// `are_good` says whether the values are those of a device of this description. Each item has an attribute that is read, so
-// with other values none gets past its first line.
+// `are_good` says whether the values are those of a device of this description. Each item has an
+// attribute that is read, so with other values none gets past its first line.
 fn print_item<W: Write>(
     alloc: Global,
     page: &Page<'_, '_>,
@@ -203,7 +203,8 @@ fn print_item<W: Write>(
     number: u16,
     out: &mut W,
 ) -> Result<(), ShowFault>
-    requires { IsTrue are_good → AreDeviceValues (types_in page.now.image.now) values.now.numbers.items }
+    requires { IsTrue are_good
+        → AreDeviceValues (types_in page.now.image.now) values.now.numbers.items }
 {
     let item = kind.item(number);
     print_head(alloc, page, kind, item, out)?;
@@ -231,7 +232,8 @@ fn print_kind<W: Write>(
     kind: Kind,
     out: &mut W,
 ) -> Result<(), ShowFault>
-    requires { IsTrue are_good → AreDeviceValues (types_in page.now.image.now) values.now.numbers.items }
+    requires { IsTrue are_good
+        → AreDeviceValues (types_in page.now.image.now) values.now.numbers.items }
 {
     let count = count_of(&page.image.counts(), kind);
     for number in 0..count {

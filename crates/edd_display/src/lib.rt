@@ -1,5 +1,5 @@
-//! What an image shows: its items and their attributes as lines, under the values of variables that a script sets, and what its
-//! methods do.
+//! What an image shows: its items and their attributes as lines, under the values of variables that
+//! a script sets, and what its methods do.
 #![tactic(auto)]
 
 mod fault;

@@ -133,7 +133,8 @@ fn print_values<W: Write>(
     Ok(())
 }
 
-/// Prints what a method did: a line for each request, one for its end, and one for the value of each variable.
+/// Prints what a method did: a line for each request, one for its end, and one for the value of
+/// each variable.
 pub fn show_play<W: Write>(
     alloc: Global,
     image: &Image<'_>,

@@ -11,7 +11,8 @@ use std::alloc::{AllocError, Global};
 /// The most operands.
 const MOST_OPERANDS: u8 = 128;
 
-// What is known of the places of a unit: where instructions start, and how many operands were brought to them.
+// What is known of the places of a unit: where instructions start, and how many operands were
+// brought to them.
 #[derive(Drop)]
 struct Places {
     starts: Vec<bool>,

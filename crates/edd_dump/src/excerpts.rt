@@ -7,7 +7,8 @@ use edd_syntax::numbers::StrNo;
 use std::alloc::{AllocError, Global};
 use std::fmt::Write as _;
 
-/// How many bytes of a text are shown beside an instruction, at most. Code can name one string millions of times.
+/// How many bytes of a text are shown beside an instruction, at most. Code can name one string
+/// millions of times.
 const MOST: usize = 60;
 
 /// What a string says, for a reader of its number.

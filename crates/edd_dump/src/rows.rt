@@ -59,7 +59,8 @@ pub fn print_rows<W: Write>(
     Ok(())
 }
 
-/// Prints all attribute rows, and the instructions of each one's unit. The units may not overlap, or it would take long.
+/// Prints all attribute rows, and the instructions of each one's unit. The units may not overlap,
+/// or it would take long.
 pub fn print_units<W: Write>(
     alloc: Global,
     sections: &Sections<'_>,

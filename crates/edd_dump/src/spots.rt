@@ -19,7 +19,8 @@ use std::alloc::{AllocError, Global};
 use std::fmt::Write as _;
 use std::io::Write;
 
-/// Where a fault is. Numbers count from 0; a row of the number of all rows stands for the end of their section.
+/// Where a fault is. Numbers count from 0; a row of the number of all rows stands for the end of
+/// their section.
 #[derive(Clone, Copy)]
 pub enum Spot {
     /// A field of the header, of which so many fields can be read.
@@ -35,7 +36,8 @@ pub enum Spot {
     Instruction { row: usize, place: usize, depth: u8 },
 }
 
-// Which of the lengths in the header is wrong: that of the whole, those of the sections, or that of the code.
+// Which of the lengths in the header is wrong: that of the whole, those of the sections, or that of
+// the code.
 fn wrong_length(bytes: &[u8]) -> usize {
     if bytes.len() < HEADER_LENGTH || total_length(bytes) as usize != bytes.len() {
         return LENGTH;

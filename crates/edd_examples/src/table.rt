@@ -1,4 +1,5 @@
-//! The parts of the table: each begins with a word and an argument on a line that an @ begins, and has a text below.
+//! The parts of the table: each begins with a word and an argument on a line that an @ begins, and
+//! has a text below.
 
 use std::alloc::Global;
 use std::{fs, io};
@@ -61,9 +62,9 @@ fn say(rt: HostRuntime, is_right: bool, printed: &Printed) -> io::Result<()> {
     }
 }
 
-/// Takes a part: `file NAME` writes its text to a file, `run WORDS` runs `edd`, `prints` says that these are the lines that it
-/// printed, `begins` that these are the first of them, and `shows` that these stand together among them. Any other part is a
-/// heading.
+/// Takes a part: `file NAME` writes its text to a file, `run WORDS` runs `edd`, `prints` says that
+/// these are the lines that it printed, `begins` that these are the first of them, and `shows` that
+/// these stand together among them. Any other part is a heading.
 pub fn take(rt: HostRuntime, part: &str, printed: &mut Printed) -> io::Result<()> {
     let (head, below) = part.split_once('\n').unwrap_or((part, ""));
     let (kind, rest) = head.split_once(' ').unwrap_or((head, ""));

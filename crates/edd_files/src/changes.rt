@@ -9,7 +9,8 @@ fn mode(digits: &str) -> Permissions {
     Permissions::from_mode(u32::from_str_radix(digits, 8).unwrap_or(0))
 }
 
-/// Takes the step, if it is one: `folder NAME`, `text NAME TEXT`, `copy NAME FILE`, `soft NAME TARGET`, `hard NAME FILE` or
+/// Takes the step, if it is one: `folder NAME`, `text NAME TEXT`, `copy NAME FILE`, `soft NAME
+/// TARGET`, `hard NAME FILE` or
 /// `mode NAME DIGITS`.
 pub fn is_made(rt: HostRuntime, kind: &str, words: &str) -> io::Result<bool> {
     let (name, rest) = words.split_once(' ').unwrap_or((words, ""));

@@ -1,6 +1,6 @@
-//! Runs the steps of the table on the standard input over real files, in the folder where it runs, and prints each step and
-//! what it comes to: a step that makes or changes files prints nothing more, `run` and `pipe` run the program `edd`, and `show`
-//! and `list` print what stands there.
+//! Runs the steps of the table on the standard input over real files, in the folder where it runs,
+//! and prints each step and what it comes to: a step that makes or changes files prints nothing
+//! more, `run` and `pipe` run the program `edd`, and `show` and `list` print what stands there.
 #![tactic(auto)]
 
 mod changes;
@@ -26,7 +26,8 @@ fn main(rt: HostRuntime) -> io::Result<ExitCode> {
     Ok(ExitCode::SUCCESS)
 }
 
-// Takes the step of a line, if it is one. Blank lines and those that begin with a # are none, and passed over.
+// Takes the step of a line, if it is one. Blank lines and those that begin with a # are none, and
+// passed over.
 fn is_done(rt: HostRuntime, line: &str) -> io::Result<bool> {
     if line.is_empty() || line.starts_with('#') {
         return Ok(true);

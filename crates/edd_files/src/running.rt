@@ -21,7 +21,8 @@ pub fn run(rt: HostRuntime, text: &str) -> io::Result<()> {
     println!(rt; "status {status}")
 }
 
-/// Runs `edd` with these words and the name of a pipe behind them, and prints how many bytes the pipe took.
+/// Runs `edd` with these words and the name of a pipe behind them, and prints how many bytes the
+/// pipe took.
 pub fn run_into_pipe(rt: HostRuntime, text: &str) -> io::Result<()> {
     let (mut reader, writer) = io::pipe(&rt)?;
     let number = writer.as_raw_fd();

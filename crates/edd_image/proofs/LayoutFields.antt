@@ -11,9 +11,33 @@ use Rattle.edd_image.proofs.LayoutRows.{part_read, variables_read, names_read, a
 
 -- ---- the header
 
-same_counts : {a a' b b' c c' d d' e e' f f' g g' h h' i i' j j' : ℕ} → a ≡ a' → b ≡ b' → c ≡ c' → d ≡ d' → e ≡ e' → f ≡ f' → g ≡ g' → h ≡ h' → i ≡ i' → j ≡ j'
-    → ◌≡◌ {A = Counts} (record { variables = a; commands = b; menus = c; collections = d; methods = e; strings = f; manufacturer = g; device_type = h; device_revision = i; dd_revision = j })
-    (record { variables = a'; commands = b'; menus = c'; collections = d'; methods = e'; strings = f'; manufacturer = g'; device_type = h'; device_revision = i'; dd_revision = j' })
+same_counts : {a a' b b' c c' d d' e e' f f' g g' h h' i i' j j' : ℕ} → a ≡ a' → b ≡ b' → c ≡ c'
+    → d ≡ d' → e ≡ e' → f ≡ f' → g ≡ g' → h ≡ h' → i ≡ i' → j ≡ j'
+    → ◌≡◌ {A = Counts} (record {
+      variables = a;
+      commands = b;
+      menus = c;
+      collections = d;
+      methods = e;
+      strings = f;
+      manufacturer = g;
+      device_type = h;
+      device_revision =
+          i;
+      dd_revision = j;
+    })
+    (record {
+      variables = a';
+      commands = b';
+      menus = c';
+      collections = d';
+      methods = e';
+      strings = f';
+      manufacturer = g';
+      device_type = h';
+      device_revision = i';
+      dd_revision = j';
+    })
 same_counts p q r s t u v w x y = cc
 
 counts_read : (s : Sections) → AreSections s → counts_in (layout s) ≡ s.counts
@@ -38,21 +62,27 @@ pub total_read : (s : Sections) → AreSections s → total_length (layout s) �
 unfolding layout header magic identification counts lengths number_at
 total_read s are = from_be_bytes-to_be_bytes_4 (layout_length s) are.total_fits
 
-attribute_count_read : (s : Sections) → AreSections s → attribute_count (layout s) ≡ length s.attributes
+attribute_count_read : (s : Sections) → AreSections s → attribute_count (layout s)
+    ≡ length s.attributes
 unfolding layout header magic identification counts lengths number_at
-attribute_count_read s are = from_be_bytes-to_be_bytes_4 (length s.attributes) (let h = are.total_fits in omega arith)
+attribute_count_read s are = from_be_bytes-to_be_bytes_4 (length s.attributes)
+    (let h = are.total_fits in omega arith)
 
 names_length_read : (s : Sections) → AreSections s → names_length (layout s) ≡ length s.name_bytes
 unfolding layout header magic identification counts lengths number_at
-names_length_read s are = from_be_bytes-to_be_bytes_4 (length s.name_bytes) (let h = are.total_fits in omega arith)
+names_length_read s are = from_be_bytes-to_be_bytes_4 (length s.name_bytes)
+    (let h = are.total_fits in omega arith)
 
 pub code_length_read : (s : Sections) → AreSections s → code_length (layout s) ≡ length s.code
 unfolding layout header magic identification counts lengths number_at
-code_length_read s are = from_be_bytes-to_be_bytes_4 (length s.code) (let h = are.total_fits in omega arith)
+code_length_read s are = from_be_bytes-to_be_bytes_4 (length s.code)
+    (let h = are.total_fits in omega arith)
 
-strings_length_read : (s : Sections) → AreSections s → strings_length (layout s) ≡ length s.string_bytes
+strings_length_read : (s : Sections) → AreSections s → strings_length (layout s)
+    ≡ length s.string_bytes
 unfolding layout header magic identification counts lengths number_at
-strings_length_read s are = from_be_bytes-to_be_bytes_4 (length s.string_bytes) (let h = are.total_fits in omega arith)
+strings_length_read s are = from_be_bytes-to_be_bytes_4 (length s.string_bytes)
+    (let h = are.total_fits in omega arith)
 
 pub header_length_is : (s : Sections) → length (header s) ≡ 56
 unfolding header magic identification counts lengths
@@ -60,14 +90,16 @@ header_length_is s = refl
 
 -- ---- where the sections start
 
-name_rows_read : (s : Sections) → AreSections s → name_rows_start (layout s) ≡ 56 + 4 * length s.variables
+name_rows_read : (s : Sections) → AreSections s → name_rows_start (layout s) ≡ 56
+    + 4 * length s.variables
 unfolding name_rows_start
 name_rows_read s are =
     let c = ap (λ (x : Counts). x.variables) (counts_read s are) in
     let n = are.variables_counted in
     omega arith
 
-attribute_rows_read : (s : Sections) → AreSections s → attribute_rows_start (layout s) ≡ 56 + 4 * length s.variables + 8 * length s.names
+attribute_rows_read : (s : Sections) → AreSections s → attribute_rows_start (layout s) ≡ 56
+    + 4 * length s.variables + 8 * length s.names
 unfolding attribute_rows_start
 attribute_rows_read s are =
     let c = ap (λ (x : Counts). item_count x) (counts_read s are) in
@@ -75,21 +107,25 @@ attribute_rows_read s are =
     let p = name_rows_read s are in
     omega arith
 
-code_read : (s : Sections) → AreSections s → code_start (layout s) ≡ 56 + 4 * length s.variables + 8 * length s.names + 16 * length s.attributes
+code_read : (s : Sections) → AreSections s → code_start (layout s) ≡ 56 + 4 * length s.variables
+    + 8 * length s.names + 16 * length s.attributes
 unfolding code_start
 code_read s are =
     let c = attribute_count_read s are in
     let p = attribute_rows_read s are in
     omega arith
 
-string_rows_read : (s : Sections) → AreSections s → string_rows_start (layout s) ≡ 56 + 4 * length s.variables + 8 * length s.names + 16 * length s.attributes + length s.code
+string_rows_read : (s : Sections) → AreSections s → string_rows_start (layout s) ≡ 56
+    + 4 * length s.variables + 8 * length s.names + 16 * length s.attributes + length s.code
 unfolding string_rows_start
 string_rows_read s are =
     let c = code_length_read s are in
     let p = code_read s are in
     omega arith
 
-name_bytes_read : (s : Sections) → AreSections s → name_bytes_start (layout s) ≡ 56 + 4 * length s.variables + 8 * length s.names + 16 * length s.attributes + length s.code + 8 * length s.strings
+name_bytes_read : (s : Sections) → AreSections s → name_bytes_start (layout s) ≡ 56
+    + 4 * length s.variables + 8 * length s.names + 16 * length s.attributes + length s.code
+    + 8 * length s.strings
 unfolding name_bytes_start
 name_bytes_read s are =
     let c = ap (λ (x : Counts). x.strings) (counts_read s are) in
@@ -97,7 +133,9 @@ name_bytes_read s are =
     let p = string_rows_read s are in
     omega arith
 
-string_bytes_read : (s : Sections) → AreSections s → string_bytes_start (layout s) ≡ 56 + 4 * length s.variables + 8 * length s.names + 16 * length s.attributes + length s.code + 8 * length s.strings + length s.name_bytes
+string_bytes_read : (s : Sections) → AreSections s → string_bytes_start (layout s) ≡ 56
+    + 4 * length s.variables + 8 * length s.names + 16 * length s.attributes + length s.code
+    + 8 * length s.strings + length s.name_bytes
 unfolding string_bytes_start
 string_bytes_read s are =
     let c = names_length_read s are in
@@ -122,14 +160,17 @@ split_3 a b c rest = simp append_assoc
 split_4 : (a b c d rest : List ℕ) → a ++ (b ++ (c ++ (d ++ rest))) ≡ (a ++ (b ++ (c ++ d))) ++ rest
 split_4 a b c d rest = simp append_assoc
 
-split_5 : (a b c d e rest : List ℕ) → a ++ (b ++ (c ++ (d ++ (e ++ rest)))) ≡ (a ++ (b ++ (c ++ (d ++ e)))) ++ rest
+split_5 : (a b c d e rest : List ℕ) → a ++ (b ++ (c ++ (d ++ (e ++ rest))))
+    ≡ (a ++ (b ++ (c ++ (d ++ e)))) ++ rest
 split_5 a b c d e rest = simp append_assoc
 
-split_6 : (a b c d e f rest : List ℕ) → a ++ (b ++ (c ++ (d ++ (e ++ (f ++ rest))))) ≡ (a ++ (b ++ (c ++ (d ++ (e ++ f))))) ++ rest
+split_6 : (a b c d e f rest : List ℕ) → a ++ (b ++ (c ++ (d ++ (e ++ (f ++ rest)))))
+    ≡ (a ++ (b ++ (c ++ (d ++ (e ++ f))))) ++ rest
 split_6 a b c d e f rest = simp append_assoc
 
 -- the last piece, with nothing behind it
-split_7 : (a b c d e f g h : List ℕ) → a ++ (b ++ (c ++ (d ++ (e ++ (f ++ (g ++ h)))))) ≡ (a ++ (b ++ (c ++ (d ++ (e ++ (f ++ g)))))) ++ (h ++ [])
+split_7 : (a b c d e f g h : List ℕ) → a ++ (b ++ (c ++ (d ++ (e ++ (f ++ (g ++ h))))))
+    ≡ (a ++ (b ++ (c ++ (d ++ (e ++ (f ++ g)))))) ++ (h ++ [])
 split_7 a b c d e f g h = simp (append_assoc, append-nil)
 
 -- ---- the sections
@@ -137,7 +178,9 @@ split_7 a b c d e f g h = simp (append_assoc, append-nil)
 module _ (s : Sections) (are : AreSections s) where
   variables_are : (contents_in (layout s)).variables ≡ (contents_of s).variables
   unfolding contents_in layout
-  variables_are = variables_read (layout s) _ 56 s.variables (header s) _ refl (ap (λ (c : Counts). c.variables) (counts_read s are) ∙ are.variables_counted) (sym (header_length_is s))
+  variables_are = variables_read (layout s) _ 56 s.variables (header s) _ refl
+      (ap (λ (c : Counts). c.variables) (counts_read s are) ∙ are.variables_counted)
+      (sym (header_length_is s))
 
   names_are : (contents_in (layout s)).names ≡ (contents_of s).names
   unfolding contents_in layout
@@ -148,7 +191,8 @@ module _ (s : Sections) (are : AreSections s) where
       let sizes = length-append a b in
       let head = header_length_is s in
       let start = name_rows_read s are in
-      names_read (layout s) _ _ s.names are.names_fit (a ++ b) _ (split_2 a b _) (ap (λ (c : Counts). item_count c) (counts_read s are) ∙ are.names_counted) (omega arith)
+      names_read (layout s) _ _ s.names are.names_fit (a ++ b) _ (split_2 a b _)
+      (ap (λ (c : Counts). item_count c) (counts_read s are) ∙ are.names_counted) (omega arith)
 
   attributes_are : (contents_in (layout s)).attributes ≡ (contents_of s).attributes
   unfolding contents_in layout
@@ -160,7 +204,9 @@ module _ (s : Sections) (are : AreSections s) where
       let size = variables_length s.variables in
       let size_names = names_length_is s.names in
       let start = attribute_rows_read s are in
-      attributes_read (layout s) _ _ s.attributes are.attributes_fit (a ++ (b ++ c)) _ (split_3 a b c _) (attribute_count_read s are) (omega (arith, length-append a (b ++ c), length-append b c))
+      attributes_read (layout s) _ _ s.attributes are.attributes_fit (a ++ (b ++ c)) _
+      (split_3 a b c _) (attribute_count_read s are)
+      (omega (arith, length-append a (b ++ c), length-append b c))
 
   code_is : (contents_in (layout s)).code ≡ s.code
   unfolding contents_in layout
@@ -174,7 +220,13 @@ module _ (s : Sections) (are : AreSections s) where
       let size_names = names_length_is s.names in
       let size_attributes = attributes_length s.attributes in
       let start = code_read s are in
-      part_read (layout s) _ _ (a ++ (b ++ (c ++ d))) s.code _ (split_4 a b c d _) (omega (arith, length-append a (b ++ (c ++ d)), length-append b (c ++ d), length-append c d)) (code_length_read s are)
+      part_read (layout s) _ _ (a ++ (b ++ (c ++ d))) s.code _ (split_4 a b c d _)
+      (omega (
+        arith,
+        length-append a (b ++ (c ++ d)),
+        length-append b (c ++ d),
+        length-append c d,
+      )) (code_length_read s are)
 
   strings_are : (contents_in (layout s)).strings ≡ (contents_of s).strings
   unfolding contents_in layout
@@ -189,8 +241,16 @@ module _ (s : Sections) (are : AreSections s) where
       let size_names = names_length_is s.names in
       let size_attributes = attributes_length s.attributes in
       let start = string_rows_read s are in
-      strings_read (layout s) _ _ s.strings are.strings_fit (a ++ (b ++ (c ++ (d ++ e)))) _ (split_5 a b c d e _) (ap (λ (n : Counts). n.strings) (counts_read s are) ∙ are.strings_counted)
-      (omega (arith, length-append a (b ++ (c ++ (d ++ e))), length-append b (c ++ (d ++ e)), length-append c (d ++ e), length-append d e))
+      strings_read (layout s) _ _ s.strings are.strings_fit (a ++ (b ++ (c ++ (d ++ e)))) _
+      (split_5 a b c d e _) (ap (λ (n : Counts). n.strings) (counts_read s are)
+      ∙ are.strings_counted)
+      (omega (
+        arith,
+        length-append a (b ++ (c ++ (d ++ e))),
+        length-append b (c ++ (d ++ e)),
+        length-append c (d ++ e),
+        length-append d e,
+      ))
 
   name_bytes_are : (contents_in (layout s)).name_bytes ≡ s.name_bytes
   unfolding contents_in layout
@@ -207,8 +267,16 @@ module _ (s : Sections) (are : AreSections s) where
       let size_attributes = attributes_length s.attributes in
       let size_strings = strings_length_is s.strings in
       let start = name_bytes_read s are in
-      part_read (layout s) _ _ (a ++ (b ++ (c ++ (d ++ (e ++ f))))) s.name_bytes s.string_bytes (split_6 a b c d e f _)
-      (omega (arith, length-append a (b ++ (c ++ (d ++ (e ++ f)))), length-append b (c ++ (d ++ (e ++ f))), length-append c (d ++ (e ++ f)), length-append d (e ++ f), length-append e f))
+      part_read (layout s) _ _ (a ++ (b ++ (c ++ (d ++ (e ++ f))))) s.name_bytes s.string_bytes
+      (split_6 a b c d e f _)
+      (omega (
+        arith,
+        length-append a (b ++ (c ++ (d ++ (e ++ f)))),
+        length-append b (c ++ (d ++ (e ++ f))),
+        length-append c (d ++ (e ++ f)),
+        length-append d (e ++ f),
+        length-append e f,
+      ))
       (names_length_read s are)
 
   string_bytes_are : (contents_in (layout s)).string_bytes ≡ s.string_bytes
@@ -227,16 +295,50 @@ module _ (s : Sections) (are : AreSections s) where
       let size_attributes = attributes_length s.attributes in
       let size_strings = strings_length_is s.strings in
       let start = string_bytes_read s are in
-      part_read (layout s) _ _ (a ++ (b ++ (c ++ (d ++ (e ++ (f ++ g)))))) s.string_bytes [] (split_7 a b c d e f g s.string_bytes)
-      (omega (arith, length-append a (b ++ (c ++ (d ++ (e ++ (f ++ g))))), length-append b (c ++ (d ++ (e ++ (f ++ g)))), length-append c (d ++ (e ++ (f ++ g))), length-append d (e ++ (f ++ g)), length-append e (f ++ g), length-append f g))
+      part_read (layout s) _ _ (a ++ (b ++ (c ++ (d ++ (e ++ (f ++ g)))))) s.string_bytes []
+      (split_7 a b c d e f g s.string_bytes)
+      (omega (
+        arith,
+        length-append a (b ++ (c ++ (d ++ (e ++ (f ++ g))))),
+        length-append b (c ++ (d ++ (e ++ (f ++ g)))),
+        length-append c (d ++ (e ++ (f ++ g))),
+        length-append d (e ++ (f ++ g)),
+        length-append e (f ++ g),
+        length-append f g,
+      ))
       (strings_length_read s are)
 
 -- ---- together
 
-same_contents : {v v' : Version} {p p' : ℕ} {c c' : Counts} {vs vs' : List VariableFields} {ns ns' : List NameFields} {rs rs' : List AttributeFields} {xs xs' : List ℕ} {ss ss' : List Span} {nb nb' sb sb' : List ℕ}
-    → v ≡ v' → p ≡ p' → c ≡ c' → vs ≡ vs' → ns ≡ ns' → rs ≡ rs' → xs ≡ xs' → ss ≡ ss' → nb ≡ nb' → sb ≡ sb'
-    → ◌≡◌ {A = Contents} (record { version = v; padding = p; counts = c; variables = vs; names = ns; attributes = rs; code = xs; strings = ss; name_bytes = nb; string_bytes = sb })
-    (record { version = v'; padding = p'; counts = c'; variables = vs'; names = ns'; attributes = rs'; code = xs'; strings = ss'; name_bytes = nb'; string_bytes = sb' })
+same_contents : {v v' : Version} {p p' : ℕ} {c c' : Counts} {vs vs' : List VariableFields}
+    {ns ns' : List NameFields} {rs rs' : List AttributeFields} {xs xs' : List ℕ}
+    {ss ss' : List Span} {nb nb' sb sb' : List ℕ}
+    → v ≡ v' → p ≡ p' → c ≡ c' → vs ≡ vs' → ns ≡ ns' → rs ≡ rs' → xs ≡ xs' → ss ≡ ss' → nb ≡ nb'
+    → sb ≡ sb'
+    → ◌≡◌ {A = Contents} (record {
+      version = v;
+      padding = p;
+      counts = c;
+      variables = vs;
+      names = ns;
+      attributes = rs;
+      code = xs;
+      strings = ss;
+      name_bytes = nb;
+      string_bytes = sb;
+    })
+    (record {
+      version = v';
+      padding = p';
+      counts = c';
+      variables = vs';
+      names = ns';
+      attributes = rs';
+      code = xs';
+      strings = ss';
+      name_bytes = nb';
+      string_bytes = sb';
+    })
 same_contents a b d e f g h i j k = cc
 
 version_read : (s : Sections) → (contents_in (layout s)).version ≡ (contents_of s).version
@@ -245,4 +347,6 @@ version_read s = refl
 
 pub contents_are : (s : Sections) → AreSections s → contents_in (layout s) ≡ contents_of s
 unfolding contents_in
-contents_are s are = same_contents (version_read s) (zero_read s) (counts_read s are) (variables_are s are) (names_are s are) (attributes_are s are) (code_is s are) (strings_are s are) (name_bytes_are s are) (string_bytes_are s are)
+contents_are s are = same_contents (version_read s) (zero_read s) (counts_read s are)
+    (variables_are s are) (names_are s are) (attributes_are s are) (code_is s are)
+    (strings_are s are) (name_bytes_are s are) (string_bytes_are s are)

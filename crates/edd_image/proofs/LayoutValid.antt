@@ -30,22 +30,35 @@ length_is s =
     let size_names = names_length_is s.names in
     let size_attributes = attributes_length s.attributes in
     let size_strings = strings_length_is s.strings in
-    omega (arith, length-append a (b ++ (c ++ (d ++ (e ++ (f ++ (g ++ h)))))), length-append b (c ++ (d ++ (e ++ (f ++ (g ++ h))))), length-append c (d ++ (e ++ (f ++ (g ++ h)))), length-append d (e ++ (f ++ (g ++ h))), length-append e (f ++ (g ++ h)), length-append f (g ++ h), length-append g h)
+    omega (
+      arith,
+      length-append a (b ++ (c ++ (d ++ (e ++ (f ++ (g ++ h)))))),
+      length-append b (c ++ (d ++ (e ++ (f ++ (g ++ h))))),
+      length-append c (d ++ (e ++ (f ++ (g ++ h)))),
+      length-append d (e ++ (f ++ (g ++ h))),
+      length-append e (f ++ (g ++ h)),
+      length-append f (g ++ h),
+      length-append g h,
+    )
 
 both : {a b : Bool} → a ≡ true → b ≡ true → (a && b) ≡ true
 both p q = rw (p, q) refl
 
-keeps_of : (which : UnitRule) (u : PlacedUnit) → IsValidUnit u.context u.code → UnitKeeps u.context u.code which
+keeps_of : (which : UnitRule) (u : PlacedUnit) → IsValidUnit u.context u.code
+    → UnitKeeps u.context u.code which
 keeps_of unit_rule.Chain u valid = valid.chain
 keeps_of unit_rule.Jump u valid = valid.jumps
 keeps_of unit_rule.Depth u valid = valid.depths
 keeps_of unit_rule.Reference u valid = valid.references
 
-all_keep : (which : UnitRule) (us : List PlacedUnit) → AllByRecursion (λ u. IsValidUnit u.context u.code) us → AllByRecursion (λ u. UnitKeeps u.context u.code which) us
+all_keep : (which : UnitRule) (us : List PlacedUnit)
+    → AllByRecursion (λ u. IsValidUnit u.context u.code) us
+    → AllByRecursion (λ u. UnitKeeps u.context u.code which) us
 all_keep which [] valid = tt
 all_keep which (u ∷ us) valid = (keeps_of which u valid.0, all_keep which us valid.1)
 
-lengths_do : (s : Sections) → AreSections s → length s.code ≤ code_limit → lengths_agree (layout s) ≡ true
+lengths_do : (s : Sections) → AreSections s → length s.code ≤ code_limit → lengths_agree (layout s)
+    ≡ true
 lengths_do s are short =
     let size = length_is s in
     let code = code_length_read s are in
@@ -53,13 +66,19 @@ lengths_do s are short =
     (both (eq-eqb (sections_end (layout s)) (length (layout s)) (end_read s are ∙ sym size))
     (le-leb (code_length (layout s)) code_limit (omega arith)))
 
-pub is_valid : (s : Sections) → AreSections s → length s.code ≤ code_limit → IsSound (contents_of s) → IsValid (layout s)
+pub is_valid : (s : Sections) → AreSections s → length s.code ≤ code_limit → IsSound (contents_of s)
+    → IsValid (layout s)
 unfolding layout header magic identification counts lengths number_at
-is_valid s are short sound rule.Short = le-leb header_length (length (layout s)) (let size = length_is s in omega arith)
+is_valid s are short sound rule.Short = le-leb header_length (length (layout s))
+    (let size = length_is s in omega arith)
 is_valid s are short sound rule.Magic = refl
 is_valid s are short sound rule.Version = refl
 is_valid s are short sound rule.Length = lengths_do s are short
-is_valid s are short sound rule.Row = subst (λ (c : Contents). IsTrue (are_rows c)) (sym (contents_are s are)) sound.rows
-is_valid s are short sound rule.Name = subst (λ (c : Contents). IsTrue (are_names c)) (sym (contents_are s are)) sound.names
-is_valid s are short sound rule.Text = subst (λ (c : Contents). IsTrue (are_strings c)) (sym (contents_are s are)) sound.strings
-is_valid s are short sound (rule.Unit which) = subst (λ (c : Contents). UnitsKeep c which) (sym (contents_are s are)) (all_keep which _ sound.valid_units)
+is_valid s are short sound rule.Row = subst (λ (c : Contents). IsTrue (are_rows c))
+    (sym (contents_are s are)) sound.rows
+is_valid s are short sound rule.Name = subst (λ (c : Contents). IsTrue (are_names c))
+    (sym (contents_are s are)) sound.names
+is_valid s are short sound rule.Text = subst (λ (c : Contents). IsTrue (are_strings c))
+    (sym (contents_are s are)) sound.strings
+is_valid s are short sound (rule.Unit which) = subst (λ (c : Contents). UnitsKeep c which)
+    (sym (contents_are s are)) (all_keep which _ sound.valid_units)

@@ -21,7 +21,10 @@ reached_not : false ≡ true → ⊥
 reached_not e = cc
 
 pub first_55_short : BreaksFirst (take 55 loop_image) rule.Short
-unfolding contents_in rows_from number_at name_rows_start attribute_rows_start code_start string_rows_start name_bytes_start string_bytes_start sections_end string_in variants_from is_utf8 chars encode_utf8 instructions instructions_from instruction_at instruction_from basic_from unary_of jump_from record_from entry_from byte_from number_from signed_from item_from
+unfolding contents_in rows_from number_at name_rows_start attribute_rows_start code_start
+    string_rows_start name_bytes_start string_bytes_start sections_end string_in variants_from
+    is_utf8 chars encode_utf8 instructions instructions_from instruction_at instruction_from
+    basic_from unary_of jump_from record_from entry_from byte_from number_from signed_from item_from
 first_55_short = (earlier, λ h. cc)
   where
     earlier : (e : Rule) → fault_number e < 101 → Keeps (take 55 loop_image) e
@@ -38,7 +41,10 @@ first_55_short = (earlier, λ h. cc)
     earlier (rule.Unit unit_rule.Reference) h = absurd (omega arith)
 
 pub first_85_length : BreaksFirst (take 85 loop_image) rule.Length
-unfolding contents_in rows_from number_at name_rows_start attribute_rows_start code_start string_rows_start name_bytes_start string_bytes_start sections_end string_in variants_from is_utf8 chars encode_utf8 instructions instructions_from instruction_at instruction_from basic_from unary_of jump_from record_from entry_from byte_from number_from signed_from item_from
+unfolding contents_in rows_from number_at name_rows_start attribute_rows_start code_start
+    string_rows_start name_bytes_start string_bytes_start sections_end string_in variants_from
+    is_utf8 chars encode_utf8 instructions instructions_from instruction_at instruction_from
+    basic_from unary_of jump_from record_from entry_from byte_from number_from signed_from item_from
 first_85_length = (earlier, λ h. cc)
   where
     earlier : (e : Rule) → fault_number e < 104 → Keeps (take 85 loop_image) e
@@ -55,7 +61,10 @@ first_85_length = (earlier, λ h. cc)
     earlier (rule.Unit unit_rule.Reference) h = absurd (omega arith)
 
 pub other_magic : BreaksFirst (slice_set loop_image 0 0x00) rule.Magic
-unfolding contents_in rows_from number_at name_rows_start attribute_rows_start code_start string_rows_start name_bytes_start string_bytes_start sections_end string_in variants_from is_utf8 chars encode_utf8 instructions instructions_from instruction_at instruction_from basic_from unary_of jump_from record_from entry_from byte_from number_from signed_from item_from
+unfolding contents_in rows_from number_at name_rows_start attribute_rows_start code_start
+    string_rows_start name_bytes_start string_bytes_start sections_end string_in variants_from
+    is_utf8 chars encode_utf8 instructions instructions_from instruction_at instruction_from
+    basic_from unary_of jump_from record_from entry_from byte_from number_from signed_from item_from
 other_magic = (earlier, λ h. cc)
   where
     earlier : (e : Rule) → fault_number e < 102 → Keeps (slice_set loop_image 0 0x00) e
@@ -72,7 +81,10 @@ other_magic = (earlier, λ h. cc)
     earlier (rule.Unit unit_rule.Reference) h = absurd (omega arith)
 
 pub other_version : BreaksFirst (slice_set loop_image 5 0x03) rule.Version
-unfolding contents_in rows_from number_at name_rows_start attribute_rows_start code_start string_rows_start name_bytes_start string_bytes_start sections_end string_in variants_from is_utf8 chars encode_utf8 instructions instructions_from instruction_at instruction_from basic_from unary_of jump_from record_from entry_from byte_from number_from signed_from item_from
+unfolding contents_in rows_from number_at name_rows_start attribute_rows_start code_start
+    string_rows_start name_bytes_start string_bytes_start sections_end string_in variants_from
+    is_utf8 chars encode_utf8 instructions instructions_from instruction_at instruction_from
+    basic_from unary_of jump_from record_from entry_from byte_from number_from signed_from item_from
 other_version = (earlier, λ h. cc)
   where
     earlier : (e : Rule) → fault_number e < 103 → Keeps (slice_set loop_image 5 0x03) e
@@ -89,7 +101,10 @@ other_version = (earlier, λ h. cc)
     earlier (rule.Unit unit_rule.Reference) h = absurd (omega arith)
 
 pub unknown_kind : BreaksFirst (slice_set loop_image 64 0x09) rule.Row
-unfolding contents_in rows_from number_at name_rows_start attribute_rows_start code_start string_rows_start name_bytes_start string_bytes_start sections_end string_in variants_from is_utf8 chars encode_utf8 instructions instructions_from instruction_at instruction_from basic_from unary_of jump_from record_from entry_from byte_from number_from signed_from item_from
+unfolding contents_in rows_from number_at name_rows_start attribute_rows_start code_start
+    string_rows_start name_bytes_start string_bytes_start sections_end string_in variants_from
+    is_utf8 chars encode_utf8 instructions instructions_from instruction_at instruction_from
+    basic_from unary_of jump_from record_from entry_from byte_from number_from signed_from item_from
 unknown_kind = (earlier, λ h. cc)
   where
     earlier : (e : Rule) → fault_number e < 105 → Keeps (slice_set loop_image 64 0x09) e
@@ -106,7 +121,10 @@ unknown_kind = (earlier, λ h. cc)
     earlier (rule.Unit unit_rule.Reference) h = absurd (omega arith)
 
 pub blank_name : BreaksFirst (slice_set loop_image 85 0x20) rule.Name
-unfolding contents_in rows_from number_at name_rows_start attribute_rows_start code_start string_rows_start name_bytes_start string_bytes_start sections_end string_in variants_from is_utf8 chars encode_utf8 instructions instructions_from instruction_at instruction_from basic_from unary_of jump_from record_from entry_from byte_from number_from signed_from item_from
+unfolding contents_in rows_from number_at name_rows_start attribute_rows_start code_start
+    string_rows_start name_bytes_start string_bytes_start sections_end string_in variants_from
+    is_utf8 chars encode_utf8 instructions instructions_from instruction_at instruction_from
+    basic_from unary_of jump_from record_from entry_from byte_from number_from signed_from item_from
 blank_name = (earlier, λ h. cc)
   where
     earlier : (e : Rule) → fault_number e < 106 → Keeps (slice_set loop_image 85 0x20) e
@@ -123,7 +141,10 @@ blank_name = (earlier, λ h. cc)
     earlier (rule.Unit unit_rule.Reference) h = absurd (omega arith)
 
 pub unknown_tag : BreaksFirst (slice_set label_image 97 0x02) rule.Text
-unfolding contents_in rows_from number_at name_rows_start attribute_rows_start code_start string_rows_start name_bytes_start string_bytes_start sections_end string_in variants_from is_utf8 chars encode_utf8 instructions instructions_from instruction_at instruction_from basic_from unary_of jump_from record_from entry_from byte_from number_from signed_from item_from
+unfolding contents_in rows_from number_at name_rows_start attribute_rows_start code_start
+    string_rows_start name_bytes_start string_bytes_start sections_end string_in variants_from
+    is_utf8 chars encode_utf8 instructions instructions_from instruction_at instruction_from
+    basic_from unary_of jump_from record_from entry_from byte_from number_from signed_from item_from
 unknown_tag = (earlier, λ h. cc)
   where
     earlier : (e : Rule) → fault_number e < 107 → Keeps (slice_set label_image 97 0x02) e
@@ -140,7 +161,10 @@ unknown_tag = (earlier, λ h. cc)
     earlier (rule.Unit unit_rule.Reference) h = absurd (omega arith)
 
 pub unknown_instruction : BreaksFirst (slice_set loop_image 80 0xff) (rule.Unit unit_rule.Chain)
-unfolding contents_in rows_from number_at name_rows_start attribute_rows_start code_start string_rows_start name_bytes_start string_bytes_start sections_end string_in variants_from is_utf8 chars encode_utf8 instructions instructions_from instruction_at instruction_from basic_from unary_of jump_from record_from entry_from byte_from number_from signed_from item_from
+unfolding contents_in rows_from number_at name_rows_start attribute_rows_start code_start
+    string_rows_start name_bytes_start string_bytes_start sections_end string_in variants_from
+    is_utf8 chars encode_utf8 instructions instructions_from instruction_at instruction_from
+    basic_from unary_of jump_from record_from entry_from byte_from number_from signed_from item_from
 unknown_instruction = (earlier, λ h. reached_not h.0)
   where
     earlier : (e : Rule) → fault_number e < 108 → Keeps (slice_set loop_image 80 0xff) e
@@ -157,7 +181,10 @@ unknown_instruction = (earlier, λ h. reached_not h.0)
     earlier (rule.Unit unit_rule.Reference) h = absurd (omega arith)
 
 pub jump_between : BreaksFirst (slice_set loop_image 84 0x01) (rule.Unit unit_rule.Jump)
-unfolding contents_in rows_from number_at name_rows_start attribute_rows_start code_start string_rows_start name_bytes_start string_bytes_start sections_end string_in variants_from is_utf8 chars encode_utf8 instructions instructions_from instruction_at instruction_from basic_from unary_of jump_from record_from entry_from byte_from number_from signed_from item_from
+unfolding contents_in rows_from number_at name_rows_start attribute_rows_start code_start
+    string_rows_start name_bytes_start string_bytes_start sections_end string_in variants_from
+    is_utf8 chars encode_utf8 instructions instructions_from instruction_at instruction_from
+    basic_from unary_of jump_from record_from entry_from byte_from number_from signed_from item_from
 jump_between = (earlier, λ h. reached_not h.0)
   where
     earlier : (e : Rule) → fault_number e < 109 → Keeps (slice_set loop_image 84 0x01) e
@@ -174,7 +201,10 @@ jump_between = (earlier, λ h. reached_not h.0)
     earlier (rule.Unit unit_rule.Reference) h = absurd (omega arith)
 
 pub attribute_loops : BreaksFirst (slice_set loop_image 65 0x06) (rule.Unit unit_rule.Jump)
-unfolding contents_in rows_from number_at name_rows_start attribute_rows_start code_start string_rows_start name_bytes_start string_bytes_start sections_end string_in variants_from is_utf8 chars encode_utf8 instructions instructions_from instruction_at instruction_from basic_from unary_of jump_from record_from entry_from byte_from number_from signed_from item_from
+unfolding contents_in rows_from number_at name_rows_start attribute_rows_start code_start
+    string_rows_start name_bytes_start string_bytes_start sections_end string_in variants_from
+    is_utf8 chars encode_utf8 instructions instructions_from instruction_at instruction_from
+    basic_from unary_of jump_from record_from entry_from byte_from number_from signed_from item_from
 attribute_loops = (earlier, λ h. reached_not h.0)
   where
     earlier : (e : Rule) → fault_number e < 109 → Keeps (slice_set loop_image 65 0x06) e
@@ -191,8 +221,22 @@ attribute_loops = (earlier, λ h. reached_not h.0)
     earlier (rule.Unit unit_rule.Reference) h = absurd (omega arith)
 
 pub pop_of_nothing : BreaksFirst (with_code 0x06 0x00 0x00 0x00 0x00) (rule.Unit unit_rule.Depth)
-unfolding contents_in rows_from number_at name_rows_start attribute_rows_start code_start string_rows_start name_bytes_start string_bytes_start sections_end string_in variants_from is_utf8 chars encode_utf8 instructions instructions_from instruction_at instruction_from basic_from unary_of jump_from record_from entry_from byte_from number_from signed_from item_from
-pop_of_nothing = (earlier, λ h. let some : 1 ≤ h.0.0 0 = h.0.1.enough.0 in let none : h.0.0 0 ≡ 0 = h.0.1.fresh.0 (λ h. absurd (omega arith), (λ h. absurd (omega arith), (λ h. absurd (omega arith), (λ h. absurd (omega arith), (λ h. absurd (omega arith), tt))))) in absurd (omega arith))
+unfolding contents_in rows_from number_at name_rows_start attribute_rows_start code_start
+    string_rows_start name_bytes_start string_bytes_start sections_end string_in variants_from
+    is_utf8 chars encode_utf8 instructions instructions_from instruction_at instruction_from
+    basic_from unary_of jump_from record_from entry_from byte_from number_from signed_from item_from
+pop_of_nothing = (
+  earlier,
+  λ h. let some : 1 ≤ h.0.0 0 = h.0.1.enough.0 in let none : h.0.0 0
+      ≡ 0 = h.0.1.fresh.0 (
+        λ h. absurd (omega arith),
+        (
+          λ h. absurd (omega arith),
+          (λ h. absurd (omega arith), (λ h. absurd (omega arith), (λ h. absurd (omega arith), tt))),
+        ),
+      )
+      in absurd (omega arith),
+)
   where
     earlier : (e : Rule) → fault_number e < 110 → Keeps (with_code 0x06 0x00 0x00 0x00 0x00) e
     earlier rule.Short h = refl
@@ -207,9 +251,24 @@ pop_of_nothing = (earlier, λ h. let some : 1 ≤ h.0.0 0 = h.0.1.enough.0 in le
     earlier (rule.Unit unit_rule.Depth) h = absurd (omega arith)
     earlier (rule.Unit unit_rule.Reference) h = absurd (omega arith)
 
-pub duplicate_of_nothing : BreaksFirst (with_code 0x07 0x00 0x00 0x00 0x00) (rule.Unit unit_rule.Depth)
-unfolding contents_in rows_from number_at name_rows_start attribute_rows_start code_start string_rows_start name_bytes_start string_bytes_start sections_end string_in variants_from is_utf8 chars encode_utf8 instructions instructions_from instruction_at instruction_from basic_from unary_of jump_from record_from entry_from byte_from number_from signed_from item_from
-duplicate_of_nothing = (earlier, λ h. let some : 1 ≤ h.0.0 0 = h.0.1.enough.0 in let none : h.0.0 0 ≡ 0 = h.0.1.fresh.0 (λ h. absurd (omega arith), (λ h. absurd (omega arith), (λ h. absurd (omega arith), (λ h. absurd (omega arith), (λ h. absurd (omega arith), tt))))) in absurd (omega arith))
+pub duplicate_of_nothing : BreaksFirst (with_code 0x07 0x00 0x00 0x00 0x00)
+    (rule.Unit unit_rule.Depth)
+unfolding contents_in rows_from number_at name_rows_start attribute_rows_start code_start
+    string_rows_start name_bytes_start string_bytes_start sections_end string_in variants_from
+    is_utf8 chars encode_utf8 instructions instructions_from instruction_at instruction_from
+    basic_from unary_of jump_from record_from entry_from byte_from number_from signed_from item_from
+duplicate_of_nothing = (
+  earlier,
+  λ h. let some : 1 ≤ h.0.0 0 = h.0.1.enough.0 in let none : h.0.0 0
+      ≡ 0 = h.0.1.fresh.0 (
+        λ h. absurd (omega arith),
+        (
+          λ h. absurd (omega arith),
+          (λ h. absurd (omega arith), (λ h. absurd (omega arith), (λ h. absurd (omega arith), tt))),
+        ),
+      )
+      in absurd (omega arith),
+)
   where
     earlier : (e : Rule) → fault_number e < 110 → Keeps (with_code 0x07 0x00 0x00 0x00 0x00) e
     earlier rule.Short h = refl
@@ -224,8 +283,12 @@ duplicate_of_nothing = (earlier, λ h. let some : 1 ≤ h.0.0 0 = h.0.1.enough.0
     earlier (rule.Unit unit_rule.Depth) h = absurd (omega arith)
     earlier (rule.Unit unit_rule.Reference) h = absurd (omega arith)
 
-pub variable_missing : BreaksFirst (with_code 0x02 0x00 0x00 0x06 0x00) (rule.Unit unit_rule.Reference)
-unfolding contents_in rows_from number_at name_rows_start attribute_rows_start code_start string_rows_start name_bytes_start string_bytes_start sections_end string_in variants_from is_utf8 chars encode_utf8 instructions instructions_from instruction_at instruction_from basic_from unary_of jump_from record_from entry_from byte_from number_from signed_from item_from
+pub variable_missing : BreaksFirst (with_code 0x02 0x00 0x00 0x06 0x00)
+    (rule.Unit unit_rule.Reference)
+unfolding contents_in rows_from number_at name_rows_start attribute_rows_start code_start
+    string_rows_start name_bytes_start string_bytes_start sections_end string_in variants_from
+    is_utf8 chars encode_utf8 instructions instructions_from instruction_at instruction_from
+    basic_from unary_of jump_from record_from entry_from byte_from number_from signed_from item_from
 variable_missing = (earlier, λ h. reached_not h.0)
   where
     earlier : (e : Rule) → fault_number e < 111 → Keeps (with_code 0x02 0x00 0x00 0x06 0x00) e
@@ -238,5 +301,18 @@ variable_missing = (earlier, λ h. reached_not h.0)
     earlier rule.Text h = refl
     earlier (rule.Unit unit_rule.Chain) h = (refl, tt)
     earlier (rule.Unit unit_rule.Jump) h = (refl, tt)
-    earlier (rule.Unit unit_rule.Depth) h = ((λ place. if place == 3 then 1 else 0, record { enough = (omega arith, (omega arith, (omega arith, tt))); bounded = (omega arith, (omega arith, (omega arith, tt))); agree = ((refl, tt), ((refl, tt), (tt, tt))); fresh = (λ h. refl, (λ h. absurd (reached (h.0 (omega arith))), (λ h. refl, tt))) }), tt)
+    earlier (rule.Unit unit_rule.Depth) h = (
+      (
+        λ place. if place == 3 then 1 else 0,
+        record {
+          enough = (omega arith, (omega arith, (omega arith, tt)));
+          bounded = (omega arith, (omega arith, (omega arith, tt)));
+          agree =
+              ((refl, tt), ((refl, tt), (tt, tt)));
+          fresh =
+              (λ h. refl, (λ h. absurd (reached (h.0 (omega arith))), (λ h. refl, tt)));
+        },
+      ),
+      tt,
+    )
     earlier (rule.Unit unit_rule.Reference) h = absurd (omega arith)

@@ -29,7 +29,10 @@ unfolding layout header magic identification counts lengths
 label_layout = refl
 
 pub empty_valid : IsValid empty_image
-unfolding contents_in rows_from number_at name_rows_start attribute_rows_start code_start string_rows_start name_bytes_start string_bytes_start sections_end string_in variants_from is_utf8 chars encode_utf8 instructions instructions_from instruction_at instruction_from basic_from unary_of jump_from record_from entry_from byte_from number_from signed_from item_from
+unfolding contents_in rows_from number_at name_rows_start attribute_rows_start code_start
+    string_rows_start name_bytes_start string_bytes_start sections_end string_in variants_from
+    is_utf8 chars encode_utf8 instructions instructions_from instruction_at instruction_from
+    basic_from unary_of jump_from record_from entry_from byte_from number_from signed_from item_from
 empty_valid rule.Short = refl
 empty_valid rule.Magic = refl
 empty_valid rule.Version = refl
@@ -43,7 +46,10 @@ empty_valid (rule.Unit unit_rule.Depth) = tt
 empty_valid (rule.Unit unit_rule.Reference) = tt
 
 pub loop_valid : IsValid loop_image
-unfolding contents_in rows_from number_at name_rows_start attribute_rows_start code_start string_rows_start name_bytes_start string_bytes_start sections_end string_in variants_from is_utf8 chars encode_utf8 instructions instructions_from instruction_at instruction_from basic_from unary_of jump_from record_from entry_from byte_from number_from signed_from item_from
+unfolding contents_in rows_from number_at name_rows_start attribute_rows_start code_start
+    string_rows_start name_bytes_start string_bytes_start sections_end string_in variants_from
+    is_utf8 chars encode_utf8 instructions instructions_from instruction_at instruction_from
+    basic_from unary_of jump_from record_from entry_from byte_from number_from signed_from item_from
 loop_valid rule.Short = refl
 loop_valid rule.Magic = refl
 loop_valid rule.Version = refl
@@ -53,11 +59,25 @@ loop_valid rule.Name = refl
 loop_valid rule.Text = refl
 loop_valid (rule.Unit unit_rule.Chain) = (refl, tt)
 loop_valid (rule.Unit unit_rule.Jump) = (refl, tt)
-loop_valid (rule.Unit unit_rule.Depth) = ((λ place. 0, record { enough = (omega arith, tt); bounded = (omega arith, tt); agree = ((refl, tt), tt); fresh = (λ h. refl, tt) }), tt)
+loop_valid (rule.Unit unit_rule.Depth) = (
+  (
+    λ place. 0,
+    record {
+      enough = (omega arith, tt);
+      bounded = (omega arith, tt);
+      agree = ((refl, tt), tt);
+      fresh = (λ h. refl, tt);
+    },
+  ),
+  tt,
+)
 loop_valid (rule.Unit unit_rule.Reference) = (refl, tt)
 
 pub label_valid : IsValid label_image
-unfolding contents_in rows_from number_at name_rows_start attribute_rows_start code_start string_rows_start name_bytes_start string_bytes_start sections_end string_in variants_from is_utf8 chars encode_utf8 instructions instructions_from instruction_at instruction_from basic_from unary_of jump_from record_from entry_from byte_from number_from signed_from item_from
+unfolding contents_in rows_from number_at name_rows_start attribute_rows_start code_start
+    string_rows_start name_bytes_start string_bytes_start sections_end string_in variants_from
+    is_utf8 chars encode_utf8 instructions instructions_from instruction_at instruction_from
+    basic_from unary_of jump_from record_from entry_from byte_from number_from signed_from item_from
 label_valid rule.Short = refl
 label_valid rule.Magic = refl
 label_valid rule.Version = refl
@@ -67,19 +87,39 @@ label_valid rule.Name = refl
 label_valid rule.Text = refl
 label_valid (rule.Unit unit_rule.Chain) = (refl, tt)
 label_valid (rule.Unit unit_rule.Jump) = (refl, tt)
-label_valid (rule.Unit unit_rule.Depth) = ((λ place. 0, record { enough = (omega arith, (omega arith, tt)); bounded = (omega arith, (omega arith, tt)); agree = ((refl, tt), (tt, tt)); fresh = (λ h. refl, (λ h. refl, tt)) }), tt)
+label_valid (rule.Unit unit_rule.Depth) = (
+  (
+    λ place. 0,
+    record {
+      enough = (omega arith, (omega arith, tt));
+      bounded = (omega arith, (omega arith, tt));
+      agree = ((refl, tt), (tt, tt));
+      fresh =
+          (λ h. refl, (λ h. refl, tt));
+    },
+  ),
+  tt,
+)
 label_valid (rule.Unit unit_rule.Reference) = (refl, tt)
 
 -- ---- what is read of the variable
 
-pub label_read : IsReading label_image (label_of 0) (pos 0 ∷ []) (Records (records.Words (record { 0 = 0 }) ∷ []))
-unfolding contents_in rows_from number_at name_rows_start attribute_rows_start code_start string_rows_start name_bytes_start string_bytes_start sections_end instruction_at instruction_from basic_from record_from number_from act step given_within
+pub label_read : IsReading label_image (label_of 0) (pos 0 ∷ [])
+    (Records (records.Words (record { 0 = 0 }) ∷ []))
+unfolding contents_in rows_from number_at name_rows_start attribute_rows_start code_start
+    string_rows_start name_bytes_start string_bytes_start sections_end instruction_at
+    instruction_from basic_from record_from number_from act step given_within
 label_read = (2, refl)
 
-pub handling_read : IsReading label_image (handling_of 0) (pos 0 ∷ []) (Records (records.Number (pos 3) ∷ []))
-unfolding contents_in rows_from number_at name_rows_start attribute_rows_start code_start string_rows_start name_bytes_start string_bytes_start sections_end instruction_at instruction_from basic_from record_from number_from act step given_within
+pub handling_read : IsReading label_image (handling_of 0) (pos 0 ∷ [])
+    (Records (records.Number (pos 3) ∷ []))
+unfolding contents_in rows_from number_at name_rows_start attribute_rows_start code_start
+    string_rows_start name_bytes_start string_bytes_start sections_end instruction_at
+    instruction_from basic_from record_from number_from act step given_within
 handling_read = (2, refl)
 
 pub missing_read : IsReading label_image (label_of 1) (pos 0 ∷ []) NoItem
-unfolding contents_in rows_from number_at name_rows_start attribute_rows_start code_start string_rows_start name_bytes_start string_bytes_start sections_end instruction_at instruction_from basic_from record_from number_from act step given_within
+unfolding contents_in rows_from number_at name_rows_start attribute_rows_start code_start
+    string_rows_start name_bytes_start string_bytes_start sections_end instruction_at
+    instruction_from basic_from record_from number_from act step given_within
 missing_read = (2, refl)

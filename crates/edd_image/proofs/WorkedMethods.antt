@@ -1,4 +1,5 @@
--- The worked image with a loop does what a method that never ends does; with an end in its place it doesn't.
+-- The worked image with a loop does what a method that never ends does; with an end in its place it
+-- doesn't.
 use Rattle.std.proofs.Common.{◌≡◌, refl, sym, ap, subst, ◌∙◌, ℕ, zero, suc, ℤ, List, [], ◌∷◌, Some, arith}
 use Rattle.std.proofs.lemmas.Bool.Decides.{nat_tests}
 use Rattle.std.specs.Prelude.{nat_lt, IsTrue}
@@ -32,94 +33,143 @@ first = record { 0 = 0 }
 
 -- ---- the source goes on, however many turns there are
 
-loop_goes_on : (n : ℕ) (s : State) → execute (environment loop_unit) (While (Literal 1) (Block Nil)) n s ≡ Stopped source.OutOfTurns s
+loop_goes_on : (n : ℕ) (s : State) → execute (environment loop_unit) (While (Literal 1) (Block Nil))
+    n s ≡ Stopped source.OutOfTurns s
 unfolding execute turns evaluate wrap
 loop_goes_on zero s = refl
 loop_goes_on (suc n) s = loop_goes_on n s
 
 abbrev in_turns : List ℤ → List Answer → Transcript
-in_turns values answers = record { requests = []; changes = []; values = values; answers = answers; ending = run.OutOfTurns }
+in_turns values answers = record {
+  requests = [];
+  changes = [];
+  values = values;
+  answers = answers;
+  ending = run.OutOfTurns;
+}
 
-source_goes_on : (n : ℕ) (values : List ℤ) (answers : List Answer) → run.run n loop_unit first values answers ≡ in_turns values answers
+source_goes_on : (n : ℕ) (values : List ℤ) (answers : List Answer)
+    → run.run n loop_unit first values answers ≡ in_turns values answers
 unfolding run.run run_body execute slots_in
 source_goes_on n values answers =
-    ap (λ o. run.ended (source.and_then o (run.next (source.pure run.Normal)))) (loop_goes_on n (run.opening 0 values answers))
+    ap (λ o. run.ended (source.and_then o (run.next (source.pure run.Normal))))
+    (loop_goes_on n (run.opening 0 values answers))
 
 -- ---- so does the machine, however many steps
 
 abbrev looping : List ℤ → steps.State
-looping values = opening (record { sort = sort.Method; code = 0x30 ∷ 0x00 ∷ 0x00 ∷ 0x00 ∷ 0x00 ∷ [] }) 0 values
+looping values = opening
+    (record { sort = sort.Method; code = 0x30 ∷ 0x00 ∷ 0x00 ∷ 0x00 ∷ 0x00 ∷ [] }) 0 values
 
 abbrev in_steps : ℕ → List ℤ → List Answer → Outcome
-in_steps k values answers = record { requests = []; changes = []; state = looping values; answers = answers; ending = OutOfSteps; steps = k }
+in_steps k values answers = record {
+  requests = [];
+  changes = [];
+  state = looping values;
+  answers = answers;
+  ending = OutOfSteps;
+  steps = k;
+}
 
-machine_goes_on : (env : Environment) (k : ℕ) (values : List ℤ) (answers : List Answer) → image.execute env k (looping values) answers ≡ in_steps k values answers
-unfolding image.execute image.execute_following step act instruction_at instruction_from basic_from unary_of jump_from number_from
+machine_goes_on : (env : Environment) (k : ℕ) (values : List ℤ) (answers : List Answer)
+    → image.execute env k (looping values) answers ≡ in_steps k values answers
+unfolding image.execute image.execute_following step act instruction_at instruction_from basic_from
+    unary_of jump_from number_from
 machine_goes_on env zero values answers = refl
-machine_goes_on env (suc k) values answers = ap (λ (o : Outcome). stepped (preceded [] [] o)) (machine_goes_on env k values answers)
+machine_goes_on env (suc k) values answers = ap (λ (o : Outcome). stepped (preceded [] [] o))
+    (machine_goes_on env k values answers)
 
 -- ---- the row of the body
 
 abbrev body : AttributeFields
-body = record { kind = 5; attribute = 21; item = 0; sub = 0; padding = 0; span = record { start = 0; size = 5 } }
+body = record {
+  kind = 5;
+  attribute = 21;
+  item = 0;
+  sub = 0;
+  padding = 0;
+  span = record { start = 0; size = 5 };
+}
 
 loop_found : reading.body_of (contents_in loop_image) first ≡ Some body
-unfolding contents_in rows_from number_at name_rows_start attribute_rows_start code_start string_rows_start name_bytes_start string_bytes_start sections_end
+unfolding contents_in rows_from number_at name_rows_start attribute_rows_start code_start
+    string_rows_start name_bytes_start string_bytes_start sections_end
 loop_found = refl
 
-loop_opens : (values : List ℤ) → reading.opening_of (contents_in loop_image) body values ≡ looping values
-unfolding contents_in rows_from number_at name_rows_start attribute_rows_start code_start string_rows_start name_bytes_start string_bytes_start sections_end
+loop_opens : (values : List ℤ) → reading.opening_of (contents_in loop_image) body values
+    ≡ looping values
+unfolding contents_in rows_from number_at name_rows_start attribute_rows_start code_start
+    string_rows_start name_bytes_start string_bytes_start sections_end
 loop_opens values = refl
 
 -- ---- the image does what the method does
 
-goes_on_so : (env : Environment) (k : ℕ) (values : List ℤ) (answers : List Answer) → image.execute env k (reading.opening_of (contents_in loop_image) body values) answers ≡ in_steps k values answers
-goes_on_so env k values answers = ap (λ (s : steps.State). image.execute env k s answers) (loop_opens values) ∙ machine_goes_on env k values answers
+goes_on_so : (env : Environment) (k : ℕ) (values : List ℤ) (answers : List Answer)
+    → image.execute env k (reading.opening_of (contents_in loop_image) body values) answers
+    ≡ in_steps k values answers
+goes_on_so env k values answers = ap (λ (s : steps.State). image.execute env k s answers)
+    (loop_opens values) ∙ machine_goes_on env k values answers
 
 loop_agrees : AgreesOnMethod loop_unit (contents_in loop_image) first
 loop_agrees = record {
   row = body;
   found = loop_found;
   agrees = record {
-    forward = λ values answers are valid n over. absurd (over (ap (λ (t : Transcript). t.ending) (source_goes_on n values answers)));
+    forward = λ values answers are valid n over. absurd
+        (over (ap (λ (t : Transcript). t.ending) (source_goes_on n values answers)));
     backward = λ values answers are valid k over.
-        absurd (over (ap (λ (o : Outcome). o.ending) (goes_on_so (reading.environment_of (contents_in loop_image)) k values answers)));
+        absurd (over (ap (λ (o : Outcome). o.ending)
+        (goes_on_so (reading.environment_of (contents_in loop_image)) k values answers)));
     in_progress = λ values answers are valid n e. (n, omega arith, same n values answers);
   };
 }
   where
-    same : (n : ℕ) (values : List ℤ) (answers : List Answer) → SameOutcome (string_numbered (contents_in loop_image)) (run.run n loop_unit first values answers)
-        (image.execute (reading.environment_of (contents_in loop_image)) n (reading.opening_of (contents_in loop_image) body values) answers)
+    same : (n : ℕ) (values : List ℤ) (answers : List Answer)
+        → SameOutcome (string_numbered (contents_in loop_image))
+        (run.run n loop_unit first values answers)
+        (image.execute (reading.environment_of (contents_in loop_image)) n
+        (reading.opening_of (contents_in loop_image) body values) answers)
     same n values answers =
-        subst (λ (t : Transcript). SameOutcome (string_numbered (contents_in loop_image)) t (image.execute (reading.environment_of (contents_in loop_image)) n (reading.opening_of (contents_in loop_image) body values) answers))
+        subst (λ (t : Transcript). SameOutcome (string_numbered (contents_in loop_image)) t
+        (image.execute (reading.environment_of (contents_in loop_image)) n
+        (reading.opening_of (contents_in loop_image) body values) answers))
         (sym (source_goes_on n values answers))
-        (subst (λ (o : Outcome). SameOutcome (string_numbered (contents_in loop_image)) (in_turns values answers) o)
+        (subst (λ (o : Outcome). SameOutcome (string_numbered (contents_in loop_image))
+        (in_turns values answers) o)
         (sym (goes_on_so (reading.environment_of (contents_in loop_image)) n values answers))
         (record { requests = tt; changes = refl; values = refl; answers = refl; ending = refl }))
 
 one_method : (contents_in loop_image).counts.methods ≡ 1
-unfolding contents_in rows_from number_at name_rows_start attribute_rows_start code_start string_rows_start name_bytes_start string_bytes_start sections_end
+unfolding contents_in rows_from number_at name_rows_start attribute_rows_start code_start
+    string_rows_start name_bytes_start string_bytes_start sections_end
 one_method = refl
 
-by_number : (n : ℕ) → IsTrue (nat_lt n 1) → AgreesOnMethod loop_unit (contents_in loop_image) (record { 0 = n })
+by_number : (n : ℕ) → IsTrue (nat_lt n 1)
+    → AgreesOnMethod loop_unit (contents_in loop_image) (record { 0 = n })
 by_number zero h = loop_agrees
 by_number (suc n) h = absurd (grind (arith, nat_tests))
 
 pub methods_agree : AgreesOnMethods loop_unit (contents_in loop_image)
-methods_agree method there = by_number method.0 (subst (λ (k : ℕ). IsTrue (nat_lt method.0 k)) one_method there)
+methods_agree method there =
+    by_number method.0 (subst (λ (k : ℕ). IsTrue (nat_lt method.0 k)) one_method there)
 
 -- ---- an end doesn't
 
 end_found : reading.body_of (contents_in end_image) first ≡ Some body
-unfolding contents_in rows_from number_at name_rows_start attribute_rows_start code_start string_rows_start name_bytes_start string_bytes_start sections_end
+unfolding contents_in rows_from number_at name_rows_start attribute_rows_start code_start
+    string_rows_start name_bytes_start string_bytes_start sections_end
 end_found = refl
 
-ends : (image.execute (reading.environment_of (contents_in end_image)) 1 (reading.opening_of (contents_in end_image) body []) []).ending ≡ Ended
-unfolding image.execute image.execute_following step act instruction_at instruction_from basic_from contents_in rows_from number_at name_rows_start attribute_rows_start code_start string_rows_start name_bytes_start string_bytes_start sections_end
+ends : (image.execute (reading.environment_of (contents_in end_image)) 1
+    (reading.opening_of (contents_in end_image) body []) []).ending ≡ Ended
+unfolding image.execute image.execute_following step act instruction_at instruction_from basic_from
+    contents_in rows_from number_at name_rows_start attribute_rows_start code_start
+    string_rows_start name_bytes_start string_bytes_start sections_end
 ends = refl
 
 one_method_ends : (contents_in end_image).counts.methods ≡ 1
-unfolding contents_in rows_from number_at name_rows_start attribute_rows_start code_start string_rows_start name_bytes_start string_bytes_start sections_end
+unfolding contents_in rows_from number_at name_rows_start attribute_rows_start code_start
+    string_rows_start name_bytes_start string_bytes_start sections_end
 one_method_ends = refl
 
 ended_is_not_out : Ended ≡ OutOfSteps → ⊥
@@ -129,9 +179,12 @@ pub not_by_an_end : AgreesOnMethods loop_unit (contents_in end_image) → ⊥
 not_by_an_end h =
     let here = h first (subst (λ (k : ℕ). IsTrue (nat_lt 0 k)) (sym one_method_ends) refl) in
     let is_body : body ≡ here.row = some_same (sym end_found ∙ here.found) in
-    let over = subst (λ (r : AttributeFields). (image.execute (reading.environment_of (contents_in end_image)) 1 (reading.opening_of (contents_in end_image) r []) []).ending ≡ Ended) is_body ends in
+    let over = subst (λ (r : AttributeFields).
+    (image.execute (reading.environment_of (contents_in end_image)) 1
+    (reading.opening_of (contents_in end_image) r []) []).ending ≡ Ended) is_body ends in
     let back = here.agrees.backward [] [] tt tt 1 (λ e. ended_is_not_out (sym over ∙ e)) in
-    ended_is_not_out (sym over ∙ back.1.ending ∙ ap (λ (t : Transcript). ending_of t.ending) (source_goes_on back.0 [] []))
+    ended_is_not_out (sym over ∙ back.1.ending ∙ ap (λ (t : Transcript). ending_of t.ending)
+    (source_goes_on back.0 [] []))
   where
     some_same : {x y : AttributeFields} → Some x ≡ Some y → x ≡ y
     some_same e = cc

@@ -1,4 +1,5 @@
--- When the code of an attribute, and a whole image, say what the tree of a description means, methods aside.
+-- When the code of an attribute, and a whole image, say what the tree of a description means,
+-- methods aside.
 use Rattle.std.specs.Prelude.{◌≡◌, ℕ, ◌+◌, ℤ, List, [], ◌∷◌, length, slice_get, Option, Some, None, option_map, Result, Ok, Err, if◌then◌else◌, ⊤}
 use Rattle.edd_syntax.specs.declared.answer.Trap.{Trap}
 use Rattle.edd_syntax.specs.declared.numbers.Kind.{Kind}
@@ -71,13 +72,16 @@ module _ (string_numbered : StrNo → Option Words) where
   SameRecord (source.Number z) r = r ≡ records.Number z
   SameRecord (source.Entry item quals) r = r ≡ records.Entry item (menu_bits quals)
   SameRecord (source.DataConst n) r = r ≡ records.DataConst n
-  SameRecord (source.DataVar var mask quals) r = r ≡ records.DataVar var (mask_number mask) (data_bits quals)
+  SameRecord (source.DataVar var mask quals) r = r ≡ records.DataVar var (mask_number mask)
+      (data_bits quals)
   SameRecord (source.Enumerator value text help) r =
-      (t : StrNo) × (h : Option StrNo) × (r ≡ records.Enumerator value t h) × IsString text t × IsOptionalString help h
+      (t : StrNo) × (h : Option StrNo) × (r ≡ records.Enumerator value t h) × IsString text t
+      × IsOptionalString help h
   SameRecord (source.Response number class text) r =
       (t : StrNo) × (r ≡ records.Response number (class_number class) t) × IsString text t
   SameRecord (source.Member name item label help) r =
-      (n : StrNo) × (l h : Option StrNo) × (r ≡ records.Member n item l h) × IsString name n × IsOptionalString label l × IsOptionalString help h
+      (n : StrNo) × (l h : Option StrNo) × (r ≡ records.Member n item l h) × IsString name n
+      × IsOptionalString label l × IsOptionalString help h
 
   abbrev pub SameRecords : List source.Record → List Record → Type 0
   SameRecords [] [] = ⊤
@@ -93,27 +97,34 @@ module _ (string_numbered : StrNo → Option Words) where
   -- what is read of the image is what the tree gives, refusals and traps included
   abbrev pub SameReading : source.Reading → image.Reading → Type 0
   SameReading source.NoItem r = r ≡ image.NoItem
-  SameReading (source.Gives (Ok xs)) r = (rs : List Record) × (r ≡ image.Records rs) × SameRecords xs rs
+  SameReading (source.Gives (Ok xs)) r = (rs : List Record) × (r ≡ image.Records rs)
+      × SameRecords xs rs
   SameReading (source.Gives (Err why)) r = r ≡ image.Fault why
 
 -- ---- the code of one attribute
 
--- what the tree of an item gives of an attribute before defaults; a transaction that isn't there gives nothing
+-- what the tree of an item gives of an attribute before defaults; a transaction that isn't there
+-- gives nothing
 abbrev pub item_meaning : device.Environment → Item Target → Attr → (sub : ℕ) → source.Meaning
 item_meaning env i a sub =
     if source.is_of_transaction a
-    then elim (slice_get (source.transactions env i.attributes) sub) [ Some transaction ↦ meaning_of a transaction | None ↦ source.constant [] ]
+    then elim (slice_get (source.transactions env i.attributes) sub)
+    [ Some transaction ↦ meaning_of a transaction | None ↦ source.constant [] ]
     else meaning_of a (source.of_attributes env i.attributes)
 
 -- what the tree of a description gives of an attribute before defaults
 unfoldable pub tree_meaning : Description Target → AttrRef → source.Meaning
-tree_meaning unit ref = elim (item_at unit ref.item) [ Some i ↦ item_meaning (environment unit) i ref.attr ref.sub | None ↦ source.constant [] ]
+tree_meaning unit ref = elim (item_at unit ref.item)
+    [ Some i ↦ item_meaning (environment unit) i ref.attr ref.sub | None ↦ source.constant [] ]
 
--- The unit, followed from its first byte to its end under any values of the device, gives what the tree means.
-abbrev pub UnitMeans : List VariableType → (StrNo → Option Words) → source.Meaning → (code : List ℕ) → Type 0
+-- The unit, followed from its first byte to its end under any values of the device, gives what the
+-- tree means.
+abbrev pub UnitMeans : List VariableType → (StrNo → Option Words) → source.Meaning → (code : List ℕ)
+    → Type 0
 UnitMeans types string_numbered meaning code = (values : List ℤ) → AreDeviceValues types values
     → (n : ℕ) × (given : Result (List Record) Trap)
-    × (given_within n (record { types = types }) (opening (record { sort = Attribute; code = code }) 0 values) ≡ Some given)
+    × (given_within n (record { types = types }) (opening (record { sort = Attribute; code = code })
+    0 values) ≡ Some given)
     × SameRun string_numbered (meaning values) given
 
 -- the string of a number in a table
@@ -136,7 +147,8 @@ counts_of i items strings = record {
 }
 
 -- where a unit stands in an image of a version
-abbrev pub unit_context : Version → Description Target → (strings : List Words) → Sort → (slots : ℕ) → Context
+abbrev pub unit_context : Version → Description Target → (strings : List Words) → Sort → (slots : ℕ)
+    → Context
 unit_context version unit strings sort slots = record {
   version = version;
   counts = counts_of unit.identification unit.items (length strings);
@@ -148,10 +160,13 @@ unit_context version unit strings sort slots = record {
 abbrev pub attribute_context : Description Target → (strings : List Words) → Context
 attribute_context unit strings = unit_context One unit strings Attribute 0
 
--- The code is a valid unit, and means what the tree of the attribute means, with strings by their numbers in this table.
-pub record IsAttributeCode (unit : Description Target) (strings : List Words) (ref : AttrRef) (code : List ℕ) : Type 0 where
+-- The code is a valid unit, and means what the tree of the attribute means, with strings by their
+-- numbers in this table.
+pub record IsAttributeCode (unit : Description Target) (strings : List Words) (ref : AttrRef)
+    (code : List ℕ) : Type 0 where
   pub valid : IsValidUnit (attribute_context unit strings) code
-  pub means : UnitMeans (environment unit).variables (string_of_table strings) (tree_meaning unit ref) code
+  pub means : UnitMeans (environment unit).variables (string_of_table strings)
+      (tree_meaning unit ref) code
 
 -- ---- names and strings of an image
 
@@ -165,7 +180,8 @@ place_of_item c (items.Method n) = c.variables + c.commands + c.menus + c.collec
 
 abbrev pub name_numbered : Contents → ItemNo → Option Name
 name_numbered c i =
-    if item_exists c.counts i then option_map (λ r. part r.span c.name_bytes) (slice_get c.names (place_of_item c.counts i)) else None
+    if item_exists c.counts i then option_map (λ r. part r.span c.name_bytes)
+    (slice_get c.names (place_of_item c.counts i)) else None
 
 abbrev pub string_numbered : Contents → StrNo → Option Words
 string_numbered c n = slice_get c.strings n.0 >>= λ span. string_in (part span c.string_bytes)
@@ -187,12 +203,14 @@ count_in c kind.Menu = c.menus
 count_in c kind.Collection = c.collections
 count_in c kind.Method = c.methods
 
--- Identification, counts, names, types, and every attribute for all values of a device are those of the description, and the
--- numbers of strings stand for its strings.
+-- Identification, counts, names, types, and every attribute for all values of a device are those of
+-- the description, and the numbers of strings stand for its strings.
 pub record AgreesOnData (unit : Description Target) (c : Contents) : Type 0 where
   pub identification : identification_in c ≡ unit.identification
   pub counts : (k : Kind) → count_in c.counts k ≡ count_of k unit.items
   pub names : (i : ItemNo) → name_numbered c i ≡ option_map (λ x. x.name) (item_at unit i)
   pub types : (environment_of c).types ≡ (environment unit).variables
-  pub attributes : (ref : AttrRef) (values : List ℤ) → AreDeviceValues (environment unit).variables values
-      → (n : ℕ) × (r : image.Reading) × (reading_within n c ref values ≡ Some r) × SameReading (string_numbered c) (read_attribute unit ref values) r
+  pub attributes : (ref : AttrRef) (values : List ℤ)
+      → AreDeviceValues (environment unit).variables values
+      → (n : ℕ) × (r : image.Reading) × (reading_within n c ref values ≡ Some r)
+      × SameReading (string_numbered c) (read_attribute unit ref values) r

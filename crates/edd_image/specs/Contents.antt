@@ -58,10 +58,17 @@ abbrev pub version_of : ℕ → Option Version
 version_of n = if n == 1 then Some One else None
 
 abbrev pub variable_fields : List ℕ → ℕ → VariableFields
-variable_fields b row = record { type_number = variable_type b row; size = variable_size b row; padding = variable_zero b row }
+variable_fields b row = record {
+  type_number = variable_type b row;
+  size = variable_size b row;
+  padding = variable_zero b row;
+}
 
 abbrev pub name_fields : List ℕ → ℕ → NameFields
-name_fields b row = record { span = record { start = name_start b row; size = name_length b row }; padding = name_zero b row }
+name_fields b row = record {
+  span = record { start = name_start b row; size = name_length b row };
+  padding = name_zero b row;
+}
 
 abbrev pub attribute_fields : List ℕ → ℕ → AttributeFields
 attribute_fields b row = record {

@@ -25,11 +25,13 @@ byte_from [] = None
 byte_from (b ∷ rest) = Some (b, rest)
 
 unfoldable pub number_from : Width → List ℕ → Option (ℕ × List ℕ)
-number_from w bytes = if nat_lt (length bytes) (byte_len w) then None else Some (from_be_bytes w (take (byte_len w) bytes), drop (byte_len w) bytes)
+number_from w bytes = if nat_lt (length bytes) (byte_len w) then None else Some
+    (from_be_bytes w (take (byte_len w) bytes), drop (byte_len w) bytes)
 
 -- the same of a signed number
 unfoldable pub signed_from : Width → List ℕ → Option (ℤ × List ℕ)
-signed_from w bytes = if nat_lt (length bytes) (byte_len w) then None else Some (cast_signed w (from_be_bytes w (take (byte_len w) bytes)), drop (byte_len w) bytes)
+signed_from w bytes = if nat_lt (length bytes) (byte_len w) then None else Some
+    (cast_signed w (from_be_bytes w (take (byte_len w) bytes)), drop (byte_len w) bytes)
 
 abbrev pub variable : ℕ → VarNo
 variable n = record { 0 = n }
@@ -56,8 +58,10 @@ unfoldable pub basic_from : ℕ → List ℕ → Option (Instruction × List ℕ
 basic_from code bytes =
     if code == 0x00 then Some (instruction.End, bytes) else
     if code == 0x01 then number_from w32 bytes >>= (λ n. Some (instruction.Push n.0, n.1)) else
-    if code == 0x02 then number_from w16 bytes >>= (λ n. Some (instruction.Variable (variable n.0), n.1)) else
-    if code == 0x03 then number_from w16 bytes >>= (λ n. Some (instruction.Store (variable n.0), n.1)) else
+    if code == 0x02 then number_from w16 bytes
+    >>= (λ n. Some (instruction.Variable (variable n.0), n.1)) else
+    if code == 0x03 then number_from w16 bytes
+    >>= (λ n. Some (instruction.Store (variable n.0), n.1)) else
     if code == 0x04 then number_from w16 bytes >>= (λ n. Some (instruction.GetLocal n.0, n.1)) else
     if code == 0x05 then number_from w16 bytes >>= (λ n. Some (instruction.SetLocal n.0, n.1)) else
     if code == 0x06 then Some (instruction.Pop, bytes) else
@@ -99,9 +103,13 @@ unary_of code =
 unfoldable pub jump_from : ℕ → List ℕ → Option (Instruction × List ℕ)
 jump_from code bytes =
     if code == 0x30 then number_from w32 bytes >>= (λ to. Some (instruction.Jump to.0, to.1)) else
-    if code == 0x31 then number_from w32 bytes >>= (λ to. Some (instruction.JumpIfZero to.0, to.1)) else
-    if code == 0x32 then number_from w32 bytes >>= (λ to. Some (instruction.JumpIfNotZero to.0, to.1)) else
-    if code == 0x33 then signed_from w64 bytes >>= (λ label. number_from w32 label.1 >>= (λ to. Some (instruction.Case label.0 to.0, to.1))) else
+    if code == 0x31 then number_from w32 bytes >>= (λ to. Some (instruction.JumpIfZero to.0, to.1))
+    else
+    if code == 0x32 then number_from w32 bytes
+    >>= (λ to. Some (instruction.JumpIfNotZero to.0, to.1)) else
+    if code == 0x33 then signed_from w64 bytes
+    >>= (λ label. number_from w32 label.1
+    >>= (λ to. Some (instruction.Case label.0 to.0, to.1))) else
     None
 
 -- DISPLAY_VALUE is 1, READ_ONLY 2, HIDDEN 4 and REVIEW 8
@@ -117,7 +125,8 @@ data_from bytes = do
   n ← number_from w16 bytes
   mask ← number_from w32 n.1
   quals ← byte_from mask.1
-  if nat_lt quals.0 4 then Some (instruction.DataVar (variable n.0) mask.0 quals.0, quals.1) else None
+  if nat_lt quals.0 4 then Some (instruction.DataVar (variable n.0) mask.0 quals.0, quals.1) else
+      None
 
 unfoldable pub enumerator_from : List ℕ → Option (Instruction × List ℕ)
 enumerator_from bytes = do
@@ -140,12 +149,17 @@ member_from bytes = do
   item ← item_from name.1
   label ← number_from w16 item.1
   help ← number_from w16 label.1
-  Some (instruction.Member (string name.0) item.0 (optional_string label.0) (optional_string help.0), help.1)
+  Some (
+    instruction.Member (string name.0) item.0 (optional_string label.0)
+        (optional_string help.0),
+    help.1,
+  )
 
 -- the records of an attribute
 unfoldable pub record_from : ℕ → List ℕ → Option (Instruction × List ℕ)
 record_from code bytes =
-    if code == 0x40 then number_from w16 bytes >>= (λ n. Some (instruction.Text (string n.0), n.1)) else
+    if code == 0x40 then number_from w16 bytes >>= (λ n. Some (instruction.Text (string n.0), n.1))
+    else
     if code == 0x41 then Some (instruction.Number, bytes) else
     if code == 0x42 then entry_from bytes else
     if code == 0x43 then byte_from bytes >>= (λ n. Some (instruction.DataConst n.0, n.1)) else
@@ -183,8 +197,10 @@ unfoldable pub instruction_from : List ℕ → Option (Instruction × List ℕ)
 instruction_from [] = None
 instruction_from (code ∷ bytes) =
     if nat_lt code 0x10 then basic_from code bytes else
-    if nat_lt code 0x1a then option_map (λ op. (instruction.Operate op, bytes)) (operator_of code) else
-    if nat_lt code 0x20 then option_map (λ op. (instruction.Compare op, bytes)) (comparison_of code) else
+    if nat_lt code 0x1a then option_map (λ op. (instruction.Operate op, bytes)) (operator_of code)
+    else
+    if nat_lt code 0x20 then option_map (λ op. (instruction.Compare op, bytes)) (comparison_of code)
+    else
     if nat_lt code 0x30 then option_map (λ i. (i, bytes)) (unary_of code) else
     if nat_lt code 0x40 then jump_from code bytes else
     if nat_lt code 0x50 then record_from code bytes else
@@ -194,4 +210,5 @@ instruction_from (code ∷ bytes) =
 
 -- the instruction at a place, and the place after it
 unfoldable pub instruction_at : List ℕ → ℕ → Option (Instruction × ℕ)
-instruction_at code place = option_map (λ found. (found.0, length code - length found.1)) (instruction_from (drop place code))
+instruction_at code place = option_map (λ found. (found.0, length code - length found.1))
+    (instruction_from (drop place code))

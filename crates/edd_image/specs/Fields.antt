@@ -15,7 +15,8 @@ header_length = 56
 
 -- `EDI1`
 abbrev pub has_magic : List ℕ → Bool
-has_magic b = slice_index b 0 == 0x45 && (slice_index b 1 == 0x44 && (slice_index b 2 == 0x49 && slice_index b 3 == 0x31))
+has_magic b = slice_index b 0 == 0x45
+    && (slice_index b 1 == 0x44 && (slice_index b 2 == 0x49 && slice_index b 3 == 0x31))
 
 abbrev pub version_number : List ℕ → ℕ
 version_number b = number_at w16 b 4

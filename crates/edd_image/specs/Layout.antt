@@ -60,7 +60,8 @@ name_row r = u32 r.start ++ (u16 r.length ++ u16 0)
 
 -- kind, attribute, item and sub, by which the rows rise
 abbrev pub attribute_key : AttributeRow → List ℕ
-attribute_key r = kind_number (kind_of r.item) ∷ attr_number r.attr ∷ (u16 (index_of r.item) ++ (u16 r.sub ++ u16 0))
+attribute_key r = kind_number (kind_of r.item) ∷ attr_number r.attr
+    ∷ (u16 (index_of r.item) ++ (u16 r.sub ++ u16 0))
 
 abbrev pub attribute_row : AttributeRow → List ℕ
 attribute_row r = attribute_key r ++ (u32 r.start ++ u32 r.length)
@@ -74,7 +75,8 @@ abbrev pub NameFits : NameRow → Type 0
 NameFits r = (r.start < 2 ^ 32) × (r.length < 2 ^ 16)
 
 abbrev pub AttributeFits : AttributeRow → Type 0
-AttributeFits r = (index_of r.item < 2 ^ 16) × (r.sub < 2 ^ 16) × (r.start < 2 ^ 32) × (r.length < 2 ^ 32)
+AttributeFits r = (index_of r.item < 2 ^ 16) × (r.sub < 2 ^ 16) × (r.start < 2 ^ 32)
+    × (r.length < 2 ^ 32)
 
 abbrev pub StringFits : StringRow → Type 0
 StringFits r = (r.start < 2 ^ 32) × (r.length < 2 ^ 32)
@@ -95,7 +97,8 @@ pub record CountsFit (c : Counts) : Type 0 where
 
 -- header and sections together
 abbrev pub layout_length : Sections → ℕ
-layout_length s = 56 + 4 * length s.variables + 8 * length s.names + 16 * length s.attributes + length s.code + 8 * length s.strings + length s.name_bytes + length s.string_bytes
+layout_length s = 56 + 4 * length s.variables + 8 * length s.names + 16 * length s.attributes
+    + length s.code + 8 * length s.strings + length s.name_bytes + length s.string_bytes
 
 abbrev pub item_count : Counts → ℕ
 item_count c = c.variables + c.commands + c.menus + c.collections + c.methods
@@ -116,18 +119,25 @@ unfoldable pub magic : List ℕ
 magic = 0x45 ∷ 0x44 ∷ 0x49 ∷ 0x31 ∷ u16 1 ++ u16 0
 
 unfoldable pub identification : Counts → List ℕ
-identification c = u32 c.manufacturer ++ (u32 c.device_type ++ (u32 c.device_revision ++ u32 c.dd_revision))
+identification c = u32 c.manufacturer
+    ++ (u32 c.device_type ++ (u32 c.device_revision ++ u32 c.dd_revision))
 
 unfoldable pub counts : Counts → List ℕ
-counts c = u16 c.variables ++ (u16 c.commands ++ (u16 c.menus ++ (u16 c.collections ++ (u16 c.methods ++ u16 c.strings))))
+counts c = u16 c.variables
+    ++ (u16 c.commands ++ (u16 c.menus ++ (u16 c.collections ++ (u16 c.methods ++ u16 c.strings))))
 
 unfoldable pub lengths : Sections → List ℕ
-lengths s = u32 (length s.attributes) ++ (u32 (length s.name_bytes) ++ (u32 (length s.code) ++ u32 (length s.string_bytes)))
+lengths s = u32 (length s.attributes)
+    ++ (u32 (length s.name_bytes) ++ (u32 (length s.code) ++ u32 (length s.string_bytes)))
 
 unfoldable pub header : Sections → List ℕ
-header s = magic ++ (u32 (layout_length s) ++ (identification s.counts ++ (counts s.counts ++ lengths s)))
+header s = magic ++ (u32 (layout_length s)
+    ++ (identification s.counts ++ (counts s.counts ++ lengths s)))
 
 -- ---- the image
 
 unfoldable pub layout : Sections → List ℕ
-layout s = header s ++ (flat_map variable_row s.variables ++ (flat_map name_row s.names ++ (flat_map attribute_row s.attributes ++ (s.code ++ (flat_map string_row s.strings ++ (s.name_bytes ++ s.string_bytes))))))
+layout s = header s ++ (flat_map variable_row s.variables
+    ++ (flat_map name_row s.names
+    ++ (flat_map attribute_row s.attributes
+    ++ (s.code ++ (flat_map string_row s.strings ++ (s.name_bytes ++ s.string_bytes))))))

@@ -41,14 +41,20 @@ ending_of run.OutOfTurns = OutOfSteps
 module _ (string_numbered : StrNo → Option Words) where
   -- the image's request asks the same as the source's, its texts by number
   abbrev pub SameRequest : source.Request → Request → Type 0
-  SameRequest (source.PutMessage text) r = (n : StrNo) × (r ≡ requests.PutMessage n) × IsString string_numbered text n
-  SameRequest (source.Acknowledge text) r = (n : StrNo) × (r ≡ requests.Acknowledge n) × IsString string_numbered text n
-  SameRequest (source.Delay seconds text) r = (n : StrNo) × (r ≡ requests.Delay seconds n) × IsString string_numbered text n
-  SameRequest (source.GetDevVarValue text variable) r = (n : StrNo) × (r ≡ requests.GetDevVarValue n variable) × IsString string_numbered text n
+  SameRequest (source.PutMessage text) r = (n : StrNo) × (r ≡ requests.PutMessage n)
+      × IsString string_numbered text n
+  SameRequest (source.Acknowledge text) r = (n : StrNo) × (r ≡ requests.Acknowledge n)
+      × IsString string_numbered text n
+  SameRequest (source.Delay seconds text) r = (n : StrNo) × (r ≡ requests.Delay seconds n)
+      × IsString string_numbered text n
+  SameRequest (source.GetDevVarValue text variable) r = (n : StrNo)
+      × (r ≡ requests.GetDevVarValue n variable) × IsString string_numbered text n
   SameRequest (source.SelectFromList text choices) r =
-      (n c : StrNo) × (r ≡ requests.SelectFromList n c) × IsString string_numbered text n × IsString string_numbered choices c
+      (n c : StrNo) × (r ≡ requests.SelectFromList n c) × IsString string_numbered text n
+      × IsString string_numbered choices c
   SameRequest (source.SendCommand number) r = r ≡ requests.SendCommand number
-  SameRequest (source.SendCommandTrans number transaction) r = r ≡ requests.SendCommandTrans number transaction
+  SameRequest (source.SendCommandTrans number transaction) r = r ≡ requests.SendCommandTrans number
+      transaction
   SameRequest source.SaveValues r = r ≡ requests.SaveValues
 
   abbrev pub SameRequests : List source.Request → List Request → Type 0
@@ -65,16 +71,23 @@ module _ (string_numbered : StrNo → Option Words) where
     pub answers : o.answers ≡ t.answers
     pub ending : o.ending ≡ ending_of t.ending
 
-  -- Under all values of a device and all valid answers: a run of the source that is over is one of the machine (forward), one of
-  -- the machine that is over is one of the source (backward), and where the source goes on for n turns, the machine goes on for
-  -- n steps or more with the same requests and changes so far (in progress).
-  pub record AgreesOnRuns (types : List VariableType) (source : (turns : ℕ) → List ℤ → List Answer → Transcript)
+  -- Under all values of a device and all valid answers: a run of the source that is over is one of
+  -- the machine (forward), one of the machine that is over is one of the source (backward), and
+  -- where the source goes on for n turns, the machine goes on for n steps or more with the same
+  -- requests and changes so far (in progress).
+  pub record AgreesOnRuns (types : List VariableType) (source : (turns : ℕ) → List ℤ → List Answer
+      → Transcript)
       (machine : (steps : ℕ) → List ℤ → List Answer → Outcome) : Type 0 where
-    pub forward : (values : List ℤ) (answers : List Answer) → AreDeviceValues types values → AllByRecursion (IsValidAnswer types) answers
-        → (n : ℕ) → (source n values answers).ending ≢ run.OutOfTurns → (k : ℕ) × SameOutcome (source n values answers) (machine k values answers)
-    pub backward : (values : List ℤ) (answers : List Answer) → AreDeviceValues types values → AllByRecursion (IsValidAnswer types) answers
-        → (k : ℕ) → (machine k values answers).ending ≢ OutOfSteps → (n : ℕ) × SameOutcome (source n values answers) (machine k values answers)
-    pub in_progress : (values : List ℤ) (answers : List Answer) → AreDeviceValues types values → AllByRecursion (IsValidAnswer types) answers
+    pub forward : (values : List ℤ) (answers : List Answer) → AreDeviceValues types values
+        → AllByRecursion (IsValidAnswer types) answers
+        → (n : ℕ) → (source n values answers).ending ≢ run.OutOfTurns
+        → (k : ℕ) × SameOutcome (source n values answers) (machine k values answers)
+    pub backward : (values : List ℤ) (answers : List Answer) → AreDeviceValues types values
+        → AllByRecursion (IsValidAnswer types) answers
+        → (k : ℕ) → (machine k values answers).ending ≢ OutOfSteps
+        → (n : ℕ) × SameOutcome (source n values answers) (machine k values answers)
+    pub in_progress : (values : List ℤ) (answers : List Answer) → AreDeviceValues types values
+        → AllByRecursion (IsValidAnswer types) answers
         → (n : ℕ) → (source n values answers).ending ≡ run.OutOfTurns
         → (k : ℕ) × (n ≤ k) × SameOutcome (source n values answers) (machine k values answers)
 
@@ -84,28 +97,36 @@ module _ (string_numbered : StrNo → Option Words) where
 abbrev pub method_context : Description Target → (strings : List Words) → (slots : ℕ) → Context
 method_context unit strings slots = unit_context One unit strings sort.Method slots
 
--- The code is a valid unit with a slot for each declared local, and its runs are those of the method's body, with strings by their
--- numbers in this table.
-pub record IsMethodCode (unit : Description Target) (strings : List Words) (method : MethNo) (slots : ℕ) (code : List ℕ) : Type 0 where
+-- The code is a valid unit with a slot for each declared local, and its runs are those of the
+-- method's body, with strings by their numbers in this table.
+pub record IsMethodCode (unit : Description Target) (strings : List Words) (method : MethNo)
+    (slots : ℕ) (code : List ℕ) : Type 0 where
   pub locals : slots ≡ slots_in (body_of unit method)
   pub valid : IsValidUnit (method_context unit strings slots) code
-  pub agrees : AgreesOnRuns (string_of_table strings) (environment unit).variables (λ n values answers. run.run n unit method values answers)
-      (λ k values answers. execute (record { types = (environment unit).variables }) k (opening (record { sort = sort.Method; code = code }) slots values) answers)
+  pub agrees : AgreesOnRuns (string_of_table strings) (environment unit).variables
+      (λ n values answers. run.run n unit method values answers)
+      (λ k values answers. execute (record { types = (environment unit).variables }) k
+      (opening (record { sort = sort.Method; code = code }) slots values) answers)
 
 -- ---- the whole image
 
--- The body of a method in the image: the row of its code, whose runs from its start are those of the method.
-pub record AgreesOnMethod (unit : Description Target) (c : Contents) (method : MethNo) : Type 0 where
-  pub row : AttributeFields
-  pub found : image.body_of c method ≡ Some row
-  pub agrees : AgreesOnRuns (string_numbered c) (environment unit).variables (λ n values answers. run.run n unit method values answers)
-      (λ k values answers. execute (environment_of c) k (opening_of c row values) answers)
+-- The body of a method in the image: the row of its code, whose runs from its start are those of
+-- the method.
+pub record AgreesOnMethod (unit : Description Target) (c : Contents) (method : MethNo) : Type 0
+  where
+    pub row : AttributeFields
+    pub found : image.body_of c method ≡ Some row
+    pub agrees : AgreesOnRuns (string_numbered c) (environment unit).variables
+        (λ n values answers. run.run n unit method values answers)
+        (λ k values answers. execute (environment_of c) k (opening_of c row values) answers)
 
 -- each method that there is
 abbrev pub AgreesOnMethods : Description Target → Contents → Type 0
-AgreesOnMethods unit c = (method : MethNo) → IsTrue (item_exists c.counts (Method method)) → AgreesOnMethod unit c method
+AgreesOnMethods unit c = (method : MethNo) → IsTrue (item_exists c.counts (Method method))
+    → AgreesOnMethod unit c method
 
--- The image says and does what the description does: this is all that a compiled image promises of its unit.
+-- The image says and does what the description does: this is all that a compiled image promises of
+-- its unit.
 pub record Agrees (unit : Description Target) (c : Contents) : Type 0 where
   pub on_data : AgreesOnData unit c
   pub on_methods : AgreesOnMethods unit c

@@ -32,7 +32,8 @@ abbrev pub environment_of : Contents → Environment
 environment_of c = record { types = filter_map variable_type_of c.variables }
 
 abbrev pub is_row_of : ItemNo → Attr → AttributeFields → Bool
-is_row_of item a r = r.kind == kind_number (kind_of item) && (r.attribute == attr_number a && r.item == index_of item)
+is_row_of item a r = r.kind == kind_number (kind_of item)
+    && (r.attribute == attr_number a && r.item == index_of item)
 
 -- the row of an attribute
 abbrev pub row_of : Contents → AttrRef → Option AttributeFields
@@ -44,7 +45,8 @@ body_of c m = find (is_row_of (items.Method m) attr.Definition) c.attributes
 
 -- the state at the start of a row's unit
 abbrev pub opening_of : Contents → AttributeFields → List ℤ → State
-opening_of c r values = opening (record { sort = sort_of r; code = part r.span c.code }) (slots_of r) values
+opening_of c r values = opening (record { sort = sort_of r; code = part r.span c.code })
+    (slots_of r) values
 
 -- ---- what a unit gives
 
@@ -63,11 +65,13 @@ with_record (emitted.Record r) (Err why) = Err why
 with_record (emitted.Request r) given = given
 
 -- what comes of a step and of what is behind it; a state without a step is at the end
-abbrev pub given_by : Option Effect → Status → (Effect → Option (Result (List Record) Trap)) → Option (Result (List Record) Trap)
+abbrev pub given_by : Option Effect → Status → (Effect → Option (Result (List Record) Trap))
+    → Option (Result (List Record) Trap)
 given_by None status behind = at_end status
 given_by (Some e) status behind = option_map (with_record e.emitted) (behind e)
 
--- what at most n steps emit up to the end of the unit, or the trap that ends it; nothing where they don't come to the end
+-- what at most n steps emit up to the end of the unit, or the trap that ends it; nothing where they
+-- don't come to the end
 unfoldable pub given_within : (n : ℕ) → Environment → State → Option (Result (List Record) Trap)
 given_within zero env s = at_end s.status
 given_within (suc n) env s = given_by (step env s) s.status (λ e. given_within n env e.state)
@@ -92,8 +96,8 @@ reading_of a (Ok []) = Records (default_records a)
 reading_of a (Ok (r ∷ rest)) = Records (r ∷ rest)
 reading_of a (Err why) = Fault why
 
--- The item does not exist, or its kind has not the attribute; the body of a method is no attribute that is read; a transaction
--- exists where it has a row, and another attribute has the position 0.
+-- The item does not exist, or its kind has not the attribute; the body of a method is no attribute
+-- that is read; a transaction exists where it has a row, and another attribute has the position 0.
 abbrev pub is_no_item : Contents → AttrRef → Bool
 is_no_item c ref =
     not (item_exists c.counts ref.item)
@@ -107,7 +111,8 @@ reading_within n c ref values = elim (is_no_item c ref) [
   | true ↦ Some NoItem
   | false ↦ elim (row_of c ref) [
     | None ↦ Some (Records (default_records ref.attr))
-    | Some r ↦ option_map (reading_of ref.attr) (given_within n (environment_of c) (opening_of c r values))
+    | Some r ↦ option_map (reading_of ref.attr)
+        (given_within n (environment_of c) (opening_of c r values))
   ]
 ]
 

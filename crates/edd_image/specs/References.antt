@@ -62,8 +62,11 @@ names_exist context instruction.Number = true
 names_exist context (instruction.Item item quals) = item_exists context.counts item
 names_exist context (instruction.DataConst n) = true
 names_exist context (instruction.DataVar v mask quals) = variable_exists context.counts v
-names_exist context (instruction.Enumerator n text help) = string_exists context.counts text && optional_string_exists context.counts help
+names_exist context (instruction.Enumerator n text help) = string_exists context.counts text
+    && optional_string_exists context.counts help
 names_exist context (instruction.Response n class text) = string_exists context.counts text
-names_exist context (instruction.Member name item label help) = string_exists context.counts name && (item_exists context.counts item && (optional_string_exists context.counts label && optional_string_exists context.counts help))
+names_exist context (instruction.Member name item label help) = string_exists context.counts name
+    && (item_exists context.counts item
+    && (optional_string_exists context.counts label && optional_string_exists context.counts help))
 names_exist context (instruction.Ask request) = request_exists context.counts request
 names_exist context instruction.Abort = true

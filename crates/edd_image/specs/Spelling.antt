@@ -84,9 +84,11 @@ spelling instruction.Number = 0x41 ∷ []
 spelling (instruction.Item item quals) = 0x42 ∷ (item_bytes item ++ u16 quals)
 spelling (instruction.DataConst n) = 0x43 ∷ n ∷ []
 spelling (instruction.DataVar v mask quals) = 0x44 ∷ (u16 v.0 ++ (u32 mask ++ quals ∷ []))
-spelling (instruction.Enumerator n text help) = 0x45 ∷ (i64 n ++ (u16 text.0 ++ optional_bytes help))
+spelling (instruction.Enumerator n text help) = 0x45
+    ∷ (i64 n ++ (u16 text.0 ++ optional_bytes help))
 spelling (instruction.Response n class text) = 0x46 ∷ (u32 n ++ class ∷ u16 text.0)
-spelling (instruction.Member name item label help) = 0x47 ∷ (u16 name.0 ++ (item_bytes item ++ (optional_bytes label ++ optional_bytes help)))
+spelling (instruction.Member name item label help) = 0x47
+    ∷ (u16 name.0 ++ (item_bytes item ++ (optional_bytes label ++ optional_bytes help)))
 spelling (instruction.Ask request) = 0x50 ∷ ask_bytes request
 spelling instruction.Abort = 0x51 ∷ []
 
@@ -143,9 +145,11 @@ IsSpelled instruction.Number = ⊤
 IsSpelled (instruction.Item item quals) = (index_of item < 2 ^ 16) × (quals < 16)
 IsSpelled (instruction.DataConst n) = n < 256
 IsSpelled (instruction.DataVar v mask quals) = (v.0 < 2 ^ 16) × (mask < 2 ^ 32) × (quals < 4)
-IsSpelled (instruction.Enumerator n text help) = FitsSigned w64 n × (text.0 < 2 ^ 16) × IsOptional help
+IsSpelled (instruction.Enumerator n text help) = FitsSigned w64 n × (text.0 < 2 ^ 16)
+    × IsOptional help
 IsSpelled (instruction.Response n class text) = (n < 2 ^ 32) × (class < 7) × (text.0 < 2 ^ 16)
-IsSpelled (instruction.Member name item label help) = (name.0 < 2 ^ 16) × (index_of item < 2 ^ 16) × IsOptional label × IsOptional help
+IsSpelled (instruction.Member name item label help) = (name.0 < 2 ^ 16) × (index_of item < 2 ^ 16)
+    × IsOptional label × IsOptional help
 IsSpelled (instruction.Ask request) = IsAsk request
 IsSpelled instruction.Abort = ⊤
 

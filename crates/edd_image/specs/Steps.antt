@@ -46,8 +46,8 @@ pub record State : Type 0 where
 pub record Environment : Type 0 where
   pub types : List VariableType
 
--- What a step or an answer comes to. It emits nothing, one record or one request; each store, and each variable that an answer
--- sets, is one change.
+-- What a step or an answer comes to. It emits nothing, one record or one request; each store, and
+-- each variable that an answer sets, is one change.
 pub record Effect : Type 0 where
   pub state : State
   pub emitted : Emitted
@@ -116,7 +116,11 @@ push_or_trap s next below (Err why) = stop (record s { operands = below }) (Trap
 -- stores what the variable keeps of a, and pushes what is read back
 abbrev pub store_in : Environment → State → ℕ → List ℤ → (kept : ℤ) → Change → Option Effect
 store_in env s next below kept change = Some (record {
-  state = record s { place = next; operands = wrap (width_of s.unit.sort) kept ∷ below; values = slice_set s.values change.variable.0 kept };
+  state = record s {
+    place = next;
+    operands = wrap (width_of s.unit.sort) kept ∷ below;
+    values = slice_set s.values change.variable.0 kept;
+  };
   emitted = emitted.Nothing;
   changes = change ∷ [];
 })
@@ -126,43 +130,68 @@ store_in env s next below kept change = Some (record {
 abbrev pub act_ask : Ask → ℕ → State → Option Effect
 act_ask (ask.PutMessage t) next s = ask_for s next s.operands (request.PutMessage t)
 act_ask (ask.Acknowledge t) next s = ask_for s next s.operands (request.Acknowledge t)
-act_ask (ask.Delay t) next s = on_top s.operands (λ a below. ask_for s next below (request.Delay a t))
+act_ask (ask.Delay t) next s =
+    on_top s.operands (λ a below. ask_for s next below (request.Delay a t))
 act_ask (ask.GetDevVarValue t v) next s = ask_for s next s.operands (request.GetDevVarValue t v)
 act_ask (ask.SelectFromList t u) next s = ask_for s next s.operands (request.SelectFromList t u)
-act_ask ask.SendCommand next s = on_top s.operands (λ a below. ask_for s next below (request.SendCommand a))
-act_ask ask.SendCommandTrans next s = on_two s.operands (λ a b below. ask_for s next below (request.SendCommandTrans a b))
+act_ask ask.SendCommand next s =
+    on_top s.operands (λ a below. ask_for s next below (request.SendCommand a))
+act_ask ask.SendCommandTrans next s =
+    on_two s.operands (λ a b below. ask_for s next below (request.SendCommandTrans a b))
 act_ask ask.SaveValues next s = ask_for s next s.operands request.SaveValues
 
--- The effect of an instruction, behind which the place `next` lies, where it finds the operands that it needs.
+-- The effect of an instruction, behind which the place `next` lies, where it finds the operands
+-- that it needs.
 unfoldable pub act : Environment → Instruction → (next : ℕ) → State → Option Effect
 act env instruction.End next s = stop s Ended
 act env (instruction.Push n) next s = go s next (wrap (width_of s.unit.sort) (pos n) ∷ s.operands)
-act env (instruction.Variable v) next s = go s next (wrap (width_of s.unit.sort) (value_at s.values v) ∷ s.operands)
+act env (instruction.Variable v) next s =
+    go s next (wrap (width_of s.unit.sort) (value_at s.values v) ∷ s.operands)
 act env (instruction.Store v) next s = on_top s.operands (λ a below.
     let t = type_at env.types v in
     let kept = store t.type t.size a in
     store_in env s next below kept (record { variable = v; value = kept }))
-act env (instruction.GetLocal slot) next s = go s next (slice_index_or s.slots slot (pos 0) ∷ s.operands)
-act env (instruction.SetLocal slot) next s = on_top s.operands (λ a below. quietly (record s { place = next; slots = slice_set s.slots slot a }))
+act env (instruction.GetLocal slot) next s =
+    go s next (slice_index_or s.slots slot (pos 0) ∷ s.operands)
+act env (instruction.SetLocal slot) next s =
+    on_top s.operands (λ a below. quietly
+    (record s { place = next; slots = slice_set s.slots slot a }))
 act env instruction.Pop next s = on_top s.operands (λ a below. go s next below)
 act env instruction.Duplicate next s = on_top s.operands (λ a below. go s next (a ∷ a ∷ below))
-act env (instruction.Operate op) next s = on_two s.operands (λ a b below. push_or_trap s next below (operate (width_of s.unit.sort) op a b))
-act env (instruction.Compare op) next s = on_two s.operands (λ a b below. go s next (compare op a b ∷ below))
-act env instruction.Negate next s = on_top s.operands (λ a below. go s next (apply (width_of s.unit.sort) unary_operator.Minus a ∷ below))
-act env instruction.Not next s = on_top s.operands (λ a below. go s next (apply (width_of s.unit.sort) unary_operator.Not a ∷ below))
-act env instruction.Complement next s = on_top s.operands (λ a below. go s next (apply (width_of s.unit.sort) unary_operator.Complement a ∷ below))
+act env (instruction.Operate op) next s =
+    on_two s.operands (λ a b below. push_or_trap s next below
+    (operate (width_of s.unit.sort) op a b))
+act env (instruction.Compare op) next s =
+    on_two s.operands (λ a b below. go s next (compare op a b ∷ below))
+act env instruction.Negate next s =
+    on_top s.operands (λ a below. go s next (apply (width_of s.unit.sort) unary_operator.Minus a
+    ∷ below))
+act env instruction.Not next s =
+    on_top s.operands (λ a below. go s next (apply (width_of s.unit.sort) unary_operator.Not a
+    ∷ below))
+act env instruction.Complement next s =
+    on_top s.operands (λ a below. go s next (apply (width_of s.unit.sort) unary_operator.Complement
+    a ∷ below))
 act env (instruction.Jump to) next s = go s to s.operands
-act env (instruction.JumpIfZero to) next s = on_top s.operands (λ a below. go s (if is_zero a then to else next) below)
-act env (instruction.JumpIfNotZero to) next s = on_top s.operands (λ a below. go s (if is_zero a then next else to) below)
-act env (instruction.Case label to) next s = on_top s.operands (λ a below. if int_eq a label then go s to below else go s next s.operands)
+act env (instruction.JumpIfZero to) next s =
+    on_top s.operands (λ a below. go s (if is_zero a then to else next) below)
+act env (instruction.JumpIfNotZero to) next s =
+    on_top s.operands (λ a below. go s (if is_zero a then next else to) below)
+act env (instruction.Case label to) next s =
+    on_top s.operands (λ a below. if int_eq a label then go s to below else go s next s.operands)
 act env (instruction.Text t) next s = give s next s.operands (records.Words t)
-act env instruction.Number next s = on_top s.operands (λ a below. give s next below (records.Number a))
+act env instruction.Number next s =
+    on_top s.operands (λ a below. give s next below (records.Number a))
 act env (instruction.Item item quals) next s = give s next s.operands (records.Entry item quals)
 act env (instruction.DataConst n) next s = give s next s.operands (records.DataConst n)
-act env (instruction.DataVar v mask quals) next s = give s next s.operands (records.DataVar v mask quals)
-act env (instruction.Enumerator n text help) next s = give s next s.operands (records.Enumerator n text help)
-act env (instruction.Response n class text) next s = give s next s.operands (records.Response n class text)
-act env (instruction.Member name item label help) next s = give s next s.operands (records.Member name item label help)
+act env (instruction.DataVar v mask quals) next s =
+    give s next s.operands (records.DataVar v mask quals)
+act env (instruction.Enumerator n text help) next s =
+    give s next s.operands (records.Enumerator n text help)
+act env (instruction.Response n class text) next s =
+    give s next s.operands (records.Response n class text)
+act env (instruction.Member name item label help) next s =
+    give s next s.operands (records.Member name item label help)
 act env (instruction.Ask request) next s = act_ask request next s
 act env instruction.Abort next s = stop s Aborted
 
@@ -176,7 +205,8 @@ if_running (Trapped why) o = None
 
 -- the step of a state, if it has one
 unfoldable pub step : Environment → State → Option Effect
-step env s = if_running s.status (instruction_at s.unit.code s.place >>= λ found. act env found.0 found.1 s)
+step env s = if_running s.status (instruction_at s.unit.code s.place
+    >>= λ found. act env found.0 found.1 s)
 
 -- ---- what every state of a run in a valid unit keeps
 

@@ -27,14 +27,17 @@ pub record Placed : Type 0 where
 
 abbrev pub before : ℕ → Option (Instruction × ℕ) → (ℕ → List Placed) → List Placed
 before place None others = []
-before place (Some found) others = record { place = place; instruction = found.0; next = found.1 } ∷ others found.1
+before place (Some found) others = record { place = place; instruction = found.0; next = found.1 }
+    ∷ others found.1
 
 -- at most n instructions that stand one after the other from a place on
 unfoldable pub instructions_from : ℕ → List ℕ → ℕ → List Placed
 instructions_from zero code place = []
-instructions_from (suc n) code place = before place (instruction_at code place) (λ next. instructions_from n code next)
+instructions_from (suc n) code place = before place (instruction_at code place)
+    (λ next. instructions_from n code next)
 
--- the instructions that stand one after the other from the first byte on, as far as whole ones stand there
+-- the instructions that stand one after the other from the first byte on, as far as whole ones
+-- stand there
 unfoldable pub instructions : List ℕ → List Placed
 instructions code = instructions_from (length code) code 0
 
@@ -205,7 +208,9 @@ is_allowed version Method i = (allowed version i).in_methods
 
 -- the code is not empty, and its instructions fill it and are allowed
 abbrev pub is_chain : Context → List ℕ → Bool
-is_chain context code = nat_lt 0 (length code) && (end_of 0 (instructions code) == length code && list_all (λ x. is_allowed context.version context.sort x.instruction) (instructions code))
+is_chain context code = nat_lt 0 (length code)
+    && (end_of 0 (instructions code) == length code
+    && list_all (λ x. is_allowed context.version context.sort x.instruction) (instructions code))
 
 -- ---- the second rule: each way leads to an instruction
 
@@ -235,14 +240,17 @@ leads_to x place = list_any (λ w. w.to == place) (ways x)
 abbrev pub IsFresh : List Placed → ℕ → Type 0
 IsFresh xs place = AllByRecursion (λ y. y.place < place → leads_to y place ≡ false) xs
 
--- These are the numbers of operands before each instruction. The first instruction is fresh, so it has 0.
+-- These are the numbers of operands before each instruction. The first instruction is fresh, so it
+-- has 0.
 pub record AreDepths (xs : List Placed) (depth : ℕ → ℕ) : Type 0 where
   -- none takes or reads more than is there
   pub enough : AllByRecursion (λ x. takes x.instruction ≤ depth x.place) xs
   -- none exceeds the capacity of the operand stack
   pub bounded : AllByRecursion (λ x. depth x.place ≤ 128) xs
   -- every way to an instruction agrees
-  pub agree : AllByRecursion (λ x. AllByRecursion (λ w. depth w.to ≡ depth x.place - takes x.instruction + w.leaves) (ways x)) xs
+  pub agree : AllByRecursion
+      (λ x. AllByRecursion (λ w. depth w.to ≡ depth x.place - takes x.instruction + w.leaves)
+      (ways x)) xs
   -- an instruction that no earlier one leads to has 0
   pub fresh : AllByRecursion (λ x. IsFresh xs x.place → depth x.place ≡ 0) xs
 
@@ -272,5 +280,7 @@ pub record IsValidUnit (context : Context) (code : List ℕ) : Type 0 where
 abbrev pub UnitBreaksFirst : Context → List ℕ → UnitRule → Type 0
 UnitBreaksFirst context code Chain = ¬ UnitKeeps context code Chain
 UnitBreaksFirst context code Jump = UnitKeeps context code Chain × (¬ UnitKeeps context code Jump)
-UnitBreaksFirst context code Depth = UnitKeeps context code Chain × UnitKeeps context code Jump × (¬ UnitKeeps context code Depth)
-UnitBreaksFirst context code Reference = UnitKeeps context code Chain × UnitKeeps context code Jump × UnitKeeps context code Depth × (¬ UnitKeeps context code Reference)
+UnitBreaksFirst context code Depth = UnitKeeps context code Chain × UnitKeeps context code Jump
+    × (¬ UnitKeeps context code Depth)
+UnitBreaksFirst context code Reference = UnitKeeps context code Chain × UnitKeeps context code Jump
+    × UnitKeeps context code Depth × (¬ UnitKeeps context code Reference)

@@ -30,9 +30,11 @@ use Rattle.edd_image.specs.Units.{UnitKeeps, IsValidUnit}
 abbrev pub code_limit : ℕ
 code_limit = 16777216
 
--- the total length is the number of bytes, the sections add up to it, and the code is within its limit
+-- the total length is the number of bytes, the sections add up to it, and the code is within its
+-- limit
 abbrev pub lengths_agree : List ℕ → Bool
-lengths_agree b = total_length b == length b && (sections_end b == length b && nat_le (code_length b) code_limit)
+lengths_agree b = total_length b == length b
+    && (sections_end b == length b && nat_le (code_length b) code_limit)
 
 -- ---- the rows
 
@@ -57,19 +59,23 @@ abbrev pub are_variable_rows : Contents → Bool
 are_variable_rows c = list_all is_variable_row c.variables
 
 abbrev pub are_name_rows : Contents → Bool
-are_name_rows c = list_all (λ r. r.padding == 0) c.names && fills 0 (map (λ r. r.span) c.names) (length c.name_bytes)
+are_name_rows c = list_all (λ r. r.padding == 0) c.names && fills 0 (map (λ r. r.span) c.names)
+    (length c.name_bytes)
 
 -- a transaction's position, at most 64 slots of a method, else 0
 abbrev pub sub_fits : Attr → ℕ → Bool
-sub_fits a sub = is_of_transaction a || (if same_attr a attr.Definition then nat_le sub 64 else sub == 0)
+sub_fits a sub = is_of_transaction a
+    || (if same_attr a attr.Definition then nat_le sub 64 else sub == 0)
 
 -- the item exists and may have the attribute
 abbrev pub has_attribute : Counts → ItemNo → Attr → ℕ → Bool
-has_attribute counts item a sub = item_exists counts item && (has_attr (kind_of item) a && sub_fits a sub)
+has_attribute counts item a sub = item_exists counts item
+    && (has_attr (kind_of item) a && sub_fits a sub)
 
 abbrev pub is_attribute_row : Counts → AttributeFields → Bool
 is_attribute_row counts r =
-    option_map_or (λ item. option_map_or (λ a. has_attribute counts item a r.sub) (attr_from_number r.attribute) false) (item_from_numbers r.kind r.item) false
+    option_map_or (λ item. option_map_or (λ a. has_attribute counts item a r.sub)
+    (attr_from_number r.attribute) false) (item_from_numbers r.kind r.item) false
     && r.padding == 0
 
 -- rows rise by kind, attribute, item and sub, and a method has one body
@@ -86,13 +92,15 @@ rise (r ∷ []) = true
 rise (r ∷ next ∷ rest) = rises r next && rise (next ∷ rest)
 
 abbrev pub are_attribute_rows : Contents → Bool
-are_attribute_rows c = list_all (is_attribute_row c.counts) c.attributes && (rise c.attributes && fills 0 (map (λ r. r.span) c.attributes) (length c.code))
+are_attribute_rows c = list_all (is_attribute_row c.counts) c.attributes
+    && (rise c.attributes && fills 0 (map (λ r. r.span) c.attributes) (length c.code))
 
 abbrev pub are_string_rows : Contents → Bool
 are_string_rows c = fills 0 c.strings (length c.string_bytes)
 
 abbrev pub are_rows : Contents → Bool
-are_rows c = c.padding == 0 && (are_variable_rows c && (are_name_rows c && (are_attribute_rows c && are_string_rows c)))
+are_rows c = c.padding == 0
+    && (are_variable_rows c && (are_name_rows c && (are_attribute_rows c && are_string_rows c)))
 
 -- ---- names and strings
 
@@ -119,14 +127,14 @@ sort_of r = if is_body r then Method else Attribute
 abbrev pub slots_of : AttributeFields → ℕ
 slots_of r = if is_body r then r.sub else 0
 
-abbrev pub unit_of : Contents → AttributeFields → PlacedUnit
-unit_of c r = record {
+abbrev pub placed_unit : Contents → AttributeFields → PlacedUnit
+placed_unit c r = record {
   context = record { version = c.version; counts = c.counts; sort = sort_of r; slots = slots_of r };
   code = part r.span c.code;
 }
 
 abbrev pub units : Contents → List PlacedUnit
-units c = map (unit_of c) c.attributes
+units c = map (placed_unit c) c.attributes
 
 abbrev pub UnitsKeep : Contents → UnitRule → Type 0
 UnitsKeep c which = AllByRecursion (λ u. UnitKeeps u.context u.code which) (units c)
@@ -159,7 +167,8 @@ fault_number (rule.Unit unit_rule.Reference) = 111
 
 -- it breaks this rule, and none before it
 abbrev pub BreaksFirst : List ℕ → Rule → Type 0
-BreaksFirst b broken = ((earlier : Rule) → fault_number earlier < fault_number broken → Keeps b earlier) × (¬ Keeps b broken)
+BreaksFirst b broken = ((earlier : Rule) → fault_number earlier < fault_number broken
+    → Keeps b earlier) × (¬ Keeps b broken)
 
 abbrev pub IsValid : List ℕ → Type 0
 IsValid b = (which : Rule) → Keeps b which

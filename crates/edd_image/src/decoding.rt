@@ -360,12 +360,14 @@ fn placed(code: &[u8], found: Option<(Instruction, &[u8])>) -> Option<(Instructi
 
 // The instruction of a number whose operands stand from a place on, and the place behind them.
 //
-// Each arm takes the bytes of its operands by itself, so that an instruction of one byte costs no slice.
+// Each arm takes the bytes of its operands by itself, so that an instruction of one byte costs no
+// slice.
 #[inline(always)]
 #[tactic(auto, unfolding(crate::specs::Decoding::instruction_from, crate::specs::Decoding::basic_from, crate::specs::Decoding::operator_of, crate::specs::Decoding::comparison_of, crate::specs::Decoding::unary_of, crate::specs::Decoding::jump_from, crate::specs::Decoding::record_from))]
 fn numbered(number: u8, code: &[u8], next: usize) -> Option<(Instruction, usize)>
     requires { next ≤ length code.now }
-    ensures { result ≡ option_map (λ x. (x.0, length code.now - length x.1)) (instruction_from (number ∷ drop next code.now)) }
+    ensures { result ≡ option_map (λ x. (x.0, length code.now - length x.1))
+        (instruction_from (number ∷ drop next code.now)) }
 {
     match number {
         0x00 => Some((Instruction::End, next)),

@@ -20,7 +20,8 @@ impl Model for Emitter {
     ghost view = { λ emitter. emitter.bytes.items };
 }
 
-/// The place of a target that is still open. Contracts see it as that place. It is filled once, or dropped.
+/// The place of a target that is still open. Contracts see it as that place. It is filled once, or
+/// dropped.
 #[derive(Drop)]
 pub struct Hole {
     place: usize,

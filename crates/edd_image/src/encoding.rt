@@ -10,7 +10,8 @@ use arrayvec::ArrayVec;
 use edd_syntax::numbers::{ItemNo, StrNo, VarNo};
 use edd_syntax::operators::{Comparison, Operator};
 
-/// The bytes of an instruction. No instruction has more than a CASE and an enumerator, which have 13.
+/// The bytes of an instruction. No instruction has more than a CASE and an enumerator, which have
+/// 13.
 pub type Encoding = ArrayVec<u8, 13>;
 
 fn put(bytes: &mut Encoding, more: &[u8])

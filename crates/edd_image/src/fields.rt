@@ -1,4 +1,5 @@
-//! The numbers of an image, each read at its place. Places count bytes from 0, and numbers have their highest byte first.
+//! The numbers of an image, each read at its place. Places count bytes from 0, and numbers have
+//! their highest byte first.
 
 ghost use Rattle.std.specs.Prelude.{◌≡◌, ◌+◌, ◌≤◌, ◌<◌, length, slice_index};
 ghost use Rattle.std.specs.Int.{w16, w32};

@@ -16,7 +16,8 @@ pub enum Ask {
     SaveValues,
 }
 
-/// What leads to another place: always, where the topmost operand is 0 or isn't, or where it is a label, which is then taken.
+/// What leads to another place: always, where the topmost operand is 0 or isn't, or where it is a
+/// label, which is then taken.
 #[derive(Clone, Copy, PartialEq, Eq, Debug)]
 pub enum Jump {
     Always,

@@ -78,26 +78,33 @@ pub fn answers_keep_the_state()
         → IsState context env (answered s answer).state }
 {}
 
-/// A run that is out of steps after `j` goes on for `k` more as if it had not been cut. So does one in which something follows the
-/// steps and the answers, as long as that makes no request of its own.
+/// A run that is out of steps after `j` goes on for `k` more as if it had not been cut. So does one
+/// in which something follows the steps and the answers, as long as that makes no request of its
+/// own.
 pub fn runs_may_be_cut()
     ensures following { (follow : State → State) → AsksNothing follow
         → (env : Environment) (j k : ℕ) (s : State) (answers : List Answer)
         → (execute_following follow env j s answers).ending ≡ OutOfSteps
-        → execute_following follow env (j + k) s answers ≡ resumed_following follow env k (execute_following follow env j s answers) }
+        → execute_following follow env (j + k) s answers ≡ resumed_following follow env k
+        (execute_following follow env j s answers) }
     ensures alone { (env : Environment) (j k : ℕ) (s : State) (answers : List Answer)
         → (execute env j s answers).ending ≡ OutOfSteps
         → execute env (j + k) s answers ≡ resumed env k (execute env j s answers) }
 {}
 
-/// A request that stands is met by the next answer, whatever answers follow. The answer's sets are changes, and the run goes on
-/// from the state after them; an abort ends the run; without an answer the run waits.
+/// A request that stands is met by the next answer, whatever answers follow. The answer's sets are
+/// changes, and the run goes on from the state after them; an abort ends the run; without an answer
+/// the run waits.
 pub fn requests_are_met()
-    ensures goes_on { (env : Environment) (k : ℕ) (s : State) (r : Request) (code : ℤ) (sets : List Change) (rest : List Answer)
+    ensures goes_on { (env : Environment) (k : ℕ) (s : State) (r : Request) (code : ℤ)
+        (sets : List Change) (rest : List Answer)
         → s.status ≡ Asking r → answer_fault env.types (Go code sets) ≡ None
-        → execute env k s (Go code sets ∷ rest) ≡ preceded [] sets (execute env k (answered s (Go code sets)).state rest) }
-    ensures aborts { (env : Environment) (k : ℕ) (s : State) (r : Request) (rest : List Answer) → s.status ≡ Asking r
-        → execute env k s (Abort ∷ rest) ≡ closed (nothing_met (answered s Abort).state rest None) Aborted }
+        → execute env k s (Go code sets ∷ rest)
+        ≡ preceded [] sets (execute env k (answered s (Go code sets)).state rest) }
+    ensures aborts { (env : Environment) (k : ℕ) (s : State) (r : Request) (rest : List Answer)
+        → s.status ≡ Asking r
+        → execute env k s (Abort ∷ rest) ≡ closed (nothing_met (answered s Abort).state rest None)
+        Aborted }
     ensures waits { (env : Environment) (k : ℕ) (s : State) (r : Request) → s.status ≡ Asking r
         → execute env k s [] ≡ closed (nothing_met s [] None) Waiting }
 {}
@@ -105,10 +112,12 @@ pub fn requests_are_met()
 /// A run that is over comes to the same within more steps.
 pub fn what_is_over_stays()
     ensures { (env : Environment) (m n : ℕ) → m ≤ n → (s : State) (answers : List Answer)
-        → (execute env m s answers).ending ≢ OutOfSteps → execute env n s answers ≡ execute env m s answers }
+        → (execute env m s answers).ending ≢ OutOfSteps → execute env n s answers
+        ≡ execute env m s answers }
 {}
 
-/// A run takes at most as many steps as it may, and one that is out of steps has taken all of them. Answers are no steps.
+/// A run takes at most as many steps as it may, and one that is out of steps has taken all of them.
+/// Answers are no steps.
 pub fn steps_are_counted()
     ensures at_most { (env : Environment) (n : ℕ) (s : State) (answers : List Answer)
         → (execute env n s answers).steps ≤ n }
@@ -116,12 +125,14 @@ pub fn steps_are_counted()
         → (execute env n s answers).ending ≡ OutOfSteps → (execute env n s answers).steps ≡ n }
 {}
 
-/// From a state of a valid unit, under valid answers, a run comes to a state of the same unit. It is never stuck, and no answer is
-/// bad.
+/// From a state of a valid unit, under valid answers, a run comes to a state of the same unit. It
+/// is never stuck, and no answer is bad.
 pub fn runs_keep_the_state()
     ensures { (context : Context) (env : Environment) (n : ℕ) (s : State) (answers : List Answer)
-        → IsValidUnit context s.unit.code → IsState context env s → AllByRecursion (IsValidAnswer env.types) answers
-        → IsState context env (execute env n s answers).state × ((execute env n s answers).state.unit ≡ s.unit)
+        → IsValidUnit context s.unit.code → IsState context env s
+        → AllByRecursion (IsValidAnswer env.types) answers
+        → IsState context env (execute env n s answers).state
+        × ((execute env n s answers).state.unit ≡ s.unit)
         × IsGoodEnding (execute env n s answers).ending }
 {}
 
@@ -131,13 +142,17 @@ pub fn readings_are_unique()
         → IsReading b ref values r → IsReading b ref values q → r ≡ q }
 {}
 
-/// A unit that comes along with the source agrees with it on all runs: where for every number of turns the machine comes to the
-/// same within that many steps or more, what one of them comes to when it is over the other comes to as well.
+/// A unit that comes along with the source agrees with it on all runs: where for every number of
+/// turns the machine comes to the same within that many steps or more, what one of them comes to
+/// when it is over the other comes to as well.
 pub fn followed_runs_agree()
     ensures { (string_numbered : StrNo → Option Words) (types : List VariableType)
-        (source : (turns : ℕ) → List ℤ → List Answer → Transcript) (env : Environment) (start : List ℤ → State)
+        (source : (turns : ℕ) → List ℤ → List Answer → Transcript) (env : Environment)
+        (start : List ℤ → State)
         → ((values : List ℤ) (answers : List Answer) → AreDeviceValues types values
         → AllByRecursion (IsValidAnswer types) answers → (n : ℕ)
-        → (k : ℕ) × (n ≤ k) × SameOutcome string_numbered (source n values answers) (execute env k (start values) answers))
-        → AgreesOnRuns string_numbered types source (λ k values answers. execute env k (start values) answers) }
+        → (k : ℕ) × (n ≤ k) × SameOutcome string_numbered (source n values answers)
+        (execute env k (start values) answers))
+        → AgreesOnRuns string_numbered types source
+        (λ k values answers. execute env k (start values) answers) }
 {}

@@ -19,8 +19,8 @@ pub struct NameRow {
     pub length: u16,
 }
 
-/// An attribute of an item, and where its unit stands in the code. `sub` is a transaction's position for TRANSACTION,
-/// REQUEST and REPLY, the number of slots for DEFINITION, and else 0.
+/// An attribute of an item, and where its unit stands in the code. `sub` is a transaction's
+/// position for TRANSACTION, REQUEST and REPLY, the number of slots for DEFINITION, and else 0.
 #[derive(Clone, Copy, PartialEq, Eq, Debug)]
 pub struct AttributeRow {
     pub item: ItemNo,
@@ -64,9 +64,11 @@ pub struct Parts {
     pub name_bytes: Vec<u8>,
     pub string_bytes: Vec<u8>,
     ghost variables_counted: { counts.variables ≡ vec_len variables },
-    ghost names_counted: { counts.variables + counts.commands + counts.menus + counts.collections + counts.methods
+    ghost names_counted: { counts.variables + counts.commands + counts.menus + counts.collections
+        + counts.methods
         ≡ vec_len names },
     ghost strings_counted: { counts.strings ≡ vec_len strings },
-    ghost fits: { 56 + 4 * vec_len variables + 8 * vec_len names + 16 * vec_len attributes + vec_len code
+    ghost fits: { 56 + 4 * vec_len variables + 8 * vec_len names + 16 * vec_len attributes
+        + vec_len code
         + 8 * vec_len strings + vec_len name_bytes + vec_len string_bytes < 2 ^ 32 },
 }

@@ -8,13 +8,15 @@ use edd_syntax::numbers::{ItemNo, StrNo, VarNo};
 pub enum Record {
     Words(StrNo),
     Number(i64),
-    /// An entry of a menu. `quals` has the bits 1 DISPLAY_VALUE, 2 READ_ONLY, 4 HIDDEN and 8 REVIEW.
+    /// An entry of a menu. `quals` has the bits 1 DISPLAY_VALUE, 2 READ_ONLY, 4 HIDDEN and 8
+    /// REVIEW.
     Entry {
         item: ItemNo,
         quals: u16,
     },
     DataConst(u8),
-    /// A variable of a request or a reply. A mask of 0 is none; `quals` has the bits 1 INFO and 2 INDEX.
+    /// A variable of a request or a reply. A mask of 0 is none; `quals` has the bits 1 INFO and 2
+    /// INDEX.
     DataVar {
         var: VarNo,
         mask: u32,

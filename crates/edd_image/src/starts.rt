@@ -1,4 +1,5 @@
-//! Where the sections start. The variable rows stand behind the header, and each section behind the one before it.
+//! Where the sections start. The variable rows stand behind the header, and each section behind the
+//! one before it.
 
 ghost use Rattle.std.specs.Prelude.{◌≡◌, ◌≤◌, ◌<◌, ◌+◌, ◌*◌, ◌^◌, length};
 ghost use Rattle.edd_image.specs.Fields.{header_length, name_rows_start, attribute_rows_start, code_start, string_rows_start, name_bytes_start, string_bytes_start, sections_end};

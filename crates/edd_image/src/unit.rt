@@ -21,7 +21,8 @@ pub enum Sort {
     Method,
 }
 
-/// Where a unit stands: the image's version and counts, the unit's sort and, for a method, its number of slots.
+/// Where a unit stands: the image's version and counts, the unit's sort and, for a method, its
+/// number of slots.
 #[derive(Clone, Copy, PartialEq, Eq, Debug)]
 pub struct Context {
     pub version: Version,
@@ -30,7 +31,8 @@ pub struct Context {
     pub slots: u16,
 }
 
-/// A way from an instruction to the next: the place, and how many operands it puts there in place of those that it took.
+/// A way from an instruction to the next: the place, and how many operands it puts there in place
+/// of those that it took.
 #[derive(Clone, Copy, PartialEq, Eq, Debug)]
 pub struct Way {
     pub to: usize,

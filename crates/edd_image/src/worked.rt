@@ -1,5 +1,5 @@
-//! Small images by hand, as laws: the layouts of their parts, valid, with each edit the rule that it breaks, and what their
-//! methods do.
+//! Small images by hand, as laws: the layouts of their parts, valid, with each edit the rule that
+//! it breaks, and what their methods do.
 
 ghost use Rattle.std.specs.Prelude.{◌≡◌, [], ◌∷◌, pos, Some, take, slice_set};
 ghost use Rattle.edd_syntax.specs.declared.numbers.Attr.TheVariants as attr;
@@ -40,12 +40,17 @@ pub fn edits_break_their_rules()
     ensures unknown_kind { BreaksFirst (slice_set loop_image 64 0x09) rule.Row }
     ensures blank_name { BreaksFirst (slice_set loop_image 85 0x20) rule.Name }
     ensures unknown_tag { BreaksFirst (slice_set label_image 97 0x02) rule.Text }
-    ensures unknown_instruction { BreaksFirst (slice_set loop_image 80 0xff) (rule.Unit unit_rule.Chain) }
+    ensures unknown_instruction { BreaksFirst (slice_set loop_image 80 0xff)
+        (rule.Unit unit_rule.Chain) }
     ensures jump_between { BreaksFirst (slice_set loop_image 84 0x01) (rule.Unit unit_rule.Jump) }
-    ensures attribute_loops { BreaksFirst (slice_set loop_image 65 0x06) (rule.Unit unit_rule.Jump) }
-    ensures pop_of_nothing { BreaksFirst (with_code 0x06 0x00 0x00 0x00 0x00) (rule.Unit unit_rule.Depth) }
-    ensures duplicate_of_nothing { BreaksFirst (with_code 0x07 0x00 0x00 0x00 0x00) (rule.Unit unit_rule.Depth) }
-    ensures variable_missing { BreaksFirst (with_code 0x02 0x00 0x00 0x06 0x00) (rule.Unit unit_rule.Reference) }
+    ensures attribute_loops { BreaksFirst (slice_set loop_image 65 0x06)
+        (rule.Unit unit_rule.Jump) }
+    ensures pop_of_nothing { BreaksFirst (with_code 0x06 0x00 0x00 0x00 0x00)
+        (rule.Unit unit_rule.Depth) }
+    ensures duplicate_of_nothing { BreaksFirst (with_code 0x07 0x00 0x00 0x00 0x00)
+        (rule.Unit unit_rule.Depth) }
+    ensures variable_missing { BreaksFirst (with_code 0x02 0x00 0x00 0x06 0x00)
+        (rule.Unit unit_rule.Reference) }
 {}
 
 /// What is read of the variable `p` when it is 0.
@@ -57,16 +62,16 @@ pub fn label_is_read()
     ensures missing { IsReading label_image (label_of 1) (pos 0 ∷ []) NoItem }
 {}
 
-/// The image with a loop does what the method `while (1) { }` does: it goes on, and asks and changes nothing. With an end in place
-/// of the loop it doesn't.
+/// The image with a loop does what the method `while (1) { }` does: it goes on, and asks and
+/// changes nothing. With an end in place of the loop it doesn't.
 pub fn endless_loops_agree()
     ensures a_loop { AgreesOnMethods loop_unit (contents_in loop_image) }
     ensures an_end { AgreesOnMethods loop_unit (contents_in end_image) → ⊥ }
 {}
 
-/// The image with a loop over a value of the device does what its method does, under all values and all valid answers: the same
-/// request and the same two changes in each turn, and the same end. Two valid images don't: one that changes `y` before `x`, and
-/// one that asks nothing.
+/// The image with a loop over a value of the device does what its method does, under all values and
+/// all valid answers: the same request and the same two changes in each turn, and the same end. Two
+/// valid images don't: one that changes `y` before `x`, and one that asks nothing.
 pub fn asking_loops_agree()
     ensures asking { AgreesOnMethods asking_unit (contents_in asking_image) }
     ensures exchanged { IsValid (image_with exchanged_code)

@@ -203,10 +203,11 @@ fn put_sections(out: &mut Vec<u8>, parts: &Parts) -> Result<(), AllocError>
 
 /// The bytes of an image.
 pub fn write(alloc: Global, parts: &Parts) -> Result<Vec<u8>, WriteFault>
-    ensures layout { IfOk result (λ bytes. bytes.items ≡ layout (sections_of parts.now)) }
+    ensures sound { IfOk result (λ bytes. bytes.items ≡ layout (sections_of parts.now)) }
     ensures fit { OnOk result (AreSections (sections_of parts.now)) }
     ensures short { IsOk result → vec_len parts.now.code ≤ CODE_LIMIT }
-    ensures too_long { (result ≡ Err WriteFault.CodeTooLong) ↔ (CODE_LIMIT < vec_len parts.now.code) }
+    ensures refused { (result ≡ Err WriteFault.CodeTooLong)
+        ↔ (CODE_LIMIT < vec_len parts.now.code) }
 {
     if parts.code.len() > CODE_LIMIT {
         return Err(WriteFault::CodeTooLong);

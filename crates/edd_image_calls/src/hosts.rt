@@ -56,7 +56,8 @@ impl Host for Script {
     }
 }
 
-/// A host that answers each command with seven times its number. Before its first answer it fails as often as it is told.
+/// A host that answers each command with seven times its number. Before its first answer it fails
+/// as often as it is told.
 #[derive(Drop)]
 pub struct Device {
     pub failures_to_come: u8,

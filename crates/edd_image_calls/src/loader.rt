@@ -116,7 +116,8 @@ fn count_of(fault: LoadFault) -> usize {
     }
 }
 
-// Where the answer to these bytes is counted. An image has to give them back, and to be shown and run.
+// Where the answer to these bytes is counted. An image has to give them back, and to be shown and
+// run.
 fn answer_to(alloc: Global, bytes: &[u8]) -> Result<usize, Fail> {
     match load(alloc, bytes) {
         Ok(image) if image.bytes() != bytes => Err(Fail::from("other bytes")),
@@ -304,7 +305,8 @@ fn looks_up(rt: HostRuntime) -> Result<(), Fail> {
     Ok(())
 }
 
-// The name of variable 0 and the text of string 0 in German, of an image that is gone when they are used.
+// The name of variable 0 and the text of string 0 in German, of an image that is gone when they are
+// used.
 fn words_of(alloc: Global, bytes: &[u8]) -> Result<(Option<&str>, Option<Text<'_>>), LoadFault> {
     let image = load(alloc, bytes)?;
     let name = image.name(ItemNo::Variable(VarNo(0)));

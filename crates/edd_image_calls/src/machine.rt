@@ -186,8 +186,8 @@ fn after(alloc: Global, image: &Image<'_>, numbers: &[i64], steps: u8) -> Result
     Ok(machine)
 }
 
-// A code, and after three steps the place, the variable, the status and what was emitted last: an endless loop; x = 300;
-// send_command(7); 5 % 0.
+// A code, and after three steps the place, the variable, the status and what was emitted last: an
+// endless loop; x = 300; send_command(7); 5 % 0.
 const STEPS: [(&[u8], usize, i64, Status, Emitted); 4] = [
     (&[0x30, 0, 0, 0, 0], 0, 9, Status::Running, Emitted::Nothing),
     (

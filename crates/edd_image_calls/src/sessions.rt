@@ -20,8 +20,8 @@ const TWO_COMMANDS: [u8; 59] = [
     0x30, 0, 0, 0, 9, 0x00,
 ];
 
-// How many instructions it takes: 3 before the loop, 16 for each command, 5 at the end. Each command is made by the seventh
-// instruction of its turn.
+// How many instructions it takes: 3 before the loop, 16 for each command, 5 at the end. Each
+// command is made by the seventh instruction of its turn.
 const ALL_STEPS: u64 = 40;
 
 const STEPS_TO_FIRST_COMMAND: u64 = 10;

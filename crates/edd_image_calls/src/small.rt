@@ -9,8 +9,8 @@ pub const INTEGER: u8 = 1;
 
 pub const UNSIGNED: u8 = 2;
 
-/// The parts of a small image: rows of variables, how many methods there are, and attribute rows with their code. All names are
-/// one letter.
+/// The parts of a small image: rows of variables, how many methods there are, and attribute rows
+/// with their code. All names are one letter.
 #[derive(Clone, Copy)]
 pub struct Small<'a> {
     pub variables: &'a [[u8; 4]],

@@ -62,7 +62,8 @@ fn are_run(alloc: Global, image: &Image) -> Result<bool, Fail> {
     Ok(true)
 }
 
-/// Whether the image is shown where each variable is 0, each of its strings has a text, and each of its methods runs.
+/// Whether the image is shown where each variable is 0, each of its strings has a text, and each of
+/// its methods runs.
 pub fn is_usable(alloc: Global, image: &Image) -> Result<bool, Fail> {
     Ok(is_shown(alloc, image)? && has_texts(image) && are_run(alloc, image)?)
 }

@@ -16,27 +16,33 @@ abbrev Answer : Type 0
 Answer = Result (Vec Token Global) LexFault
 
 -- what the loop gives is an answer
-pub given : (text : List ℕ) (r : Answer) → length text ≤ text_limit → IsUtf8 text → Gives text r (tokens_of text) → Answers text r
+pub given : (text : List ℕ) (r : Answer) → length text ≤ text_limit → IsUtf8 text
+    → Gives text r (tokens_of text) → Answers text r
 given text (Ok list) fits utf8 e = tokens_sound text (map (lexeme_of text) list.items) fits utf8 e
 given text (Err e) fits utf8 f = go (fault_of e) f
   where
-    go : (o : Option Fault) → IfSome o (λ fault. tokens_of text ≡ Err fault) → IfSome o (λ fault. LexicalFault text fault)
+    go : (o : Option Fault) → IfSome o (λ fault. tokens_of text ≡ Err fault)
+        → IfSome o (λ fault. LexicalFault text fault)
     go None h = h
     go (Some fault) h = fault_sound text fault fits utf8 h
 
-pub answer_tokens : (text : List ℕ) (r : Answer) → Answers text r → IfOk r (λ list. AreTokens text (map (lexeme_of text) list.items))
+pub answer_tokens : (text : List ℕ) (r : Answer) → Answers text r
+    → IfOk r (λ list. AreTokens text (map (lexeme_of text) list.items))
 answer_tokens text (Ok list) a = a
 answer_tokens text (Err e) a = tt
 
-pub answer_fault : (text : List ℕ) (r : Answer) → Answers text r → IfErr r (λ e. IfSome (fault_of e) (λ fault. LexicalFault text fault))
+pub answer_fault : (text : List ℕ) (r : Answer) → Answers text r
+    → IfErr r (λ e. IfSome (fault_of e) (λ fault. LexicalFault text fault))
 answer_fault text (Ok list) a = tt
 answer_fault text (Err e) a = a
 
-pub answer_no_tokens : (text : List ℕ) (r : Answer) → Answers text r → IfErr r (λ e. IfSome (fault_of e) (λ _. (lexemes : List Lexeme) → ¬ (AreTokens text lexemes)))
+pub answer_no_tokens : (text : List ℕ) (r : Answer) → Answers text r
+    → IfErr r (λ e. IfSome (fault_of e) (λ _. (lexemes : List Lexeme) → ¬ (AreTokens text lexemes)))
 answer_no_tokens text (Ok list) a = tt
 answer_no_tokens text (Err e) a = go (fault_of e) a
   where
-    go : (o : Option Fault) → IfSome o (λ fault. LexicalFault text fault) → IfSome o (λ _. (lexemes : List Lexeme) → ¬ (AreTokens text lexemes))
+    go : (o : Option Fault) → IfSome o (λ fault. LexicalFault text fault)
+        → IfSome o (λ _. (lexemes : List Lexeme) → ¬ (AreTokens text lexemes))
     go None h = h
     go (Some fault) h = λ lexemes are. no_list text lexemes fault are h
 
@@ -52,20 +58,26 @@ memory_is (refused.BadNumber line) f = cc
 memory_is (refused.Directive line) f = cc
 memory_is refused.Memory f = refl
 
-pub answer_only_tokens : (text : List ℕ) (r : Answer) → Answers text r → (lexemes : List Lexeme) → AreTokens text lexemes
+pub answer_only_tokens : (text : List ℕ) (r : Answer) → Answers text r → (lexemes : List Lexeme)
+    → AreTokens text lexemes
     → MatchResult r (λ list. lexemes ≡ map (lexeme_of text) list.items) (λ e. e ≡ refused.Memory)
-answer_only_tokens text (Ok list) a lexemes are = one_list text lexemes (map (lexeme_of text) list.items) are a
+answer_only_tokens text (Ok list) a lexemes are =
+    one_list text lexemes (map (lexeme_of text) list.items) are a
 answer_only_tokens text (Err e) a lexemes are = go (fault_of e) refl a
   where
-    go : (o : Option Fault) → fault_of e ≡ o → IfSome o (λ fault. LexicalFault text fault) → e ≡ refused.Memory
+    go : (o : Option Fault) → fault_of e ≡ o → IfSome o (λ fault. LexicalFault text fault)
+        → e ≡ refused.Memory
     go None f h = memory_is e f
     go (Some fault) f h = absurd (no_list text lexemes fault are h)
 
-pub answer_only_fault : (text : List ℕ) (r : Answer) → Answers text r → (fault : Fault) → LexicalFault text fault
+pub answer_only_fault : (text : List ℕ) (r : Answer) → Answers text r → (fault : Fault)
+    → LexicalFault text fault
     → MatchResult r (λ _. ⊥) (λ e. (e ≡ refused.Memory) ⊎ (fault_of e ≡ Some fault))
-answer_only_fault text (Ok list) a fault is = no_list text (map (lexeme_of text) list.items) fault a is
+answer_only_fault text (Ok list) a fault is = no_list text (map (lexeme_of text) list.items) fault a
+    is
 answer_only_fault text (Err e) a fault is = go (fault_of e) refl a
   where
-    go : (o : Option Fault) → fault_of e ≡ o → IfSome o (λ other. LexicalFault text other) → (e ≡ refused.Memory) ⊎ (fault_of e ≡ Some fault)
+    go : (o : Option Fault) → fault_of e ≡ o → IfSome o (λ other. LexicalFault text other)
+        → (e ≡ refused.Memory) ⊎ (fault_of e ≡ Some fault)
     go None f h = inl (memory_is e f)
     go (Some other) f h = inr (f ∙ ap Some (one_fault text other fault h is))

@@ -52,15 +52,27 @@ pub record NoOther (b : ℕ) : Type 0 where
   pub hash : (b == 35) ≡ false
 
 pub name_no_other : (b : ℕ) → begins_name b ≡ true → NoOther b
-name_no_other b e = record { blank = grind arith; slash = grind arith; quote = grind arith; hash = grind arith }
+name_no_other b e = record {
+  blank = grind arith;
+  slash = grind arith;
+  quote = grind arith;
+  hash = grind arith;
+}
 
-pub name_no_number : (b : ℕ) → begins_name b ≡ true → (is_ascii_digit b ≡ false) × ((b == 46) ≡ false)
+pub name_no_number : (b : ℕ) → begins_name b ≡ true → (is_ascii_digit b ≡ false)
+    × ((b == 46) ≡ false)
 name_no_number b e = (grind arith, grind arith)
 
 pub digit_no_other : (b : ℕ) → is_ascii_digit b ≡ true → NoOther b
-digit_no_other b e = record { blank = grind arith; slash = grind arith; quote = grind arith; hash = grind arith }
+digit_no_other b e = record {
+  blank = grind arith;
+  slash = grind arith;
+  quote = grind arith;
+  hash = grind arith;
+}
 
-pub digit_no_name : (b : ℕ) → is_ascii_digit b ≡ true → (begins_name b ≡ false) × ((b == 46) ≡ false)
+pub digit_no_name : (b : ℕ) → is_ascii_digit b ≡ true → (begins_name b ≡ false)
+    × ((b == 46) ≡ false)
 digit_no_name b e = (grind arith, grind arith)
 
 pub name_goes_on : (b : ℕ) → begins_name b ≡ true → goes_on_name b ≡ true
@@ -87,7 +99,8 @@ digit_no_hex_letter b e = grind arith
 pub exponent_no_hex_letter : (b : ℕ) → is_exponent_letter b ≡ true → is_hex_letter b ≡ false
 exponent_no_hex_letter b e = grind arith
 
-pub exponent_no_digit : (b : ℕ) → is_exponent_letter b ≡ true → (is_ascii_digit b ≡ false) × ((b == 46) ≡ false)
+pub exponent_no_digit : (b : ℕ) → is_exponent_letter b ≡ true → (is_ascii_digit b ≡ false)
+    × ((b == 46) ≡ false)
 exponent_no_digit b e = (grind arith, grind arith)
 
 pub digit_no_sign : (b : ℕ) → is_ascii_digit b ≡ true → is_sign b ≡ false
@@ -99,15 +112,18 @@ pub next_here : (byte : ℕ) (here : List ℕ) → next_is byte here ≡ true �
 next_here byte [] e = absurd cc
 next_here byte (b ∷ here) e = ap (λ (c : ℕ). c ∷ here) (same_byte b byte e)
 
-pub first_here : (test : ℕ → Bool) (here : List ℕ) → begins test here ≡ true → (b : ℕ) × (here ≡ b ∷ drop 1 here) × (test b ≡ true)
+pub first_here : (test : ℕ → Bool) (here : List ℕ) → begins test here ≡ true
+    → (b : ℕ) × (here ≡ b ∷ drop 1 here) × (test b ≡ true)
 first_here test [] e = absurd cc
 first_here test (b ∷ here) e = (b, refl, e)
 
-pub neither : (p q : ℕ → Bool) (here : List ℕ) → begins p here ≡ false → begins q here ≡ false → begins (λ b. p b || q b) here ≡ false
+pub neither : (p q : ℕ → Bool) (here : List ℕ) → begins p here ≡ false → begins q here ≡ false
+    → begins (λ b. p b || q b) here ≡ false
 neither p q [] e f = refl
 neither p q (b ∷ here) e f = rw (e, f) refl
 
-pub neither_parts : (p q : ℕ → Bool) (here : List ℕ) → begins (λ b. p b || q b) here ≡ false → (begins p here ≡ false) × (begins q here ≡ false)
+pub neither_parts : (p q : ℕ → Bool) (here : List ℕ) → begins (λ b. p b || q b) here ≡ false
+    → (begins p here ≡ false) × (begins q here ≡ false)
 neither_parts p q [] e = (refl, refl)
 neither_parts p q (b ∷ here) e = or_parts (p b) (q b) e
 

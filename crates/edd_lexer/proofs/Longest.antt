@@ -14,16 +14,25 @@ use Rattle.edd_lexer.proofs.CompleteSigns.{token_again}
 
 pub alone : TokensStandAlone
 unfolding token_cut
-alone here rest t (word bytes whole name stop is) = (bytes, whole, word bytes (sym (append-nil bytes)) name refl is)
-alone here rest t (integer bytes n whole spelled fits free is) = (bytes, whole, integer bytes n (sym (append-nil bytes)) spelled fits refl is)
-alone here rest t (decimal bytes whole spelled free is) = (bytes, whole, decimal bytes (sym (append-nil bytes)) spelled refl is)
+alone here rest t (word bytes whole name stop is) =
+    (bytes, whole, word bytes (sym (append-nil bytes)) name refl is)
+alone here rest t (integer bytes n whole spelled fits free is) =
+    (bytes, whole, integer bytes n (sym (append-nil bytes)) spelled fits refl is)
+alone here rest t (decimal bytes whole spelled free is) =
+    (bytes, whole, decimal bytes (sym (append-nil bytes)) spelled refl is)
 alone here rest t (string inside raw whole closed good is) =
-    let cut = token_cut here t rest (string inside raw whole closed good is) in
-    (cut.0, cut.1, string (raw ++ quote ∷ []) raw refl (record { whole = refl; inside = closed.inside }) good is)
-alone here rest t (sign s whole free is) = (symbol_bytes s, whole, sign s (sym (append-nil (symbol_bytes s))) refl is)
+    let cut = token_cut here t rest (string inside raw whole closed good is) in (
+      cut.0,
+      cut.1,
+      string (raw ++ quote ∷ []) raw refl
+          (record { whole = refl; inside = closed.inside }) good is,
+    )
+alone here rest t (sign s whole free is) =
+    (symbol_bytes s, whole, sign s (sym (append-nil (symbol_bytes s))) refl is)
 
 -- a token stands as well where the text ends sooner behind it
-shorter : (here : List ℕ) (t : Token) (rest : List ℕ) (stands : Stands here t rest) (c : ℕ) (more behind : List ℕ) → rest ≡ c ∷ (more ++ behind)
+shorter : (here : List ℕ) (t : Token) (rest : List ℕ) (stands : Stands here t rest) (c : ℕ)
+    (more behind : List ℕ) → rest ≡ c ∷ (more ++ behind)
     → Stands ((token_cut here t rest stands).0 ++ c ∷ more) t (c ∷ more)
 unfolding token_cut
 shorter here t rest (word bytes whole name stop is) c more behind e =
@@ -33,32 +42,45 @@ shorter here t rest (integer bytes n whole spelled fits free is) c more behind e
 shorter here t rest (decimal bytes whole spelled free is) c more behind e =
     decimal bytes refl spelled (sym (ap (begins goes_on_number) e) ∙ free) is
 shorter here t rest (string inside raw whole closed good is) c more behind e =
-    string ((raw ++ quote ∷ []) ++ c ∷ more) raw refl (record { whole = append_assoc raw (quote ∷ []) (c ∷ more); inside = closed.inside }) good is
+    string ((raw ++ quote ∷ []) ++ c ∷ more) raw refl
+    (record { whole = append_assoc raw (quote ∷ []) (c ∷ more); inside = closed.inside }) good
+    is
 shorter here t rest (sign s whole free is) c more behind e =
     sign s refl (sym (ap (begins (lengthens s)) e) ∙ free) is
 
 -- of two beginnings of a text the second is no longer than the first, or goes on behind it
 parted : (a x b y : List ℕ) → a ++ x ≡ b ++ y
-    → (length x ≤ length y) ⊎ ((c : ℕ) × (more : List ℕ) × (b ≡ a ++ c ∷ more) × (x ≡ c ∷ (more ++ y)))
+    → (length x ≤ length y) ⊎ ((c : ℕ) × (more : List ℕ) × (b ≡ a ++ c ∷ more)
+    × (x ≡ c ∷ (more ++ y)))
 parted [] x [] y e = inl (omega (arith, ap length e))
 parted [] x (c ∷ b) y e = inr (c, b, refl, e)
 parted (p ∷ a) x [] y e = inl (omega (arith, ap length e, length-append a x))
 parted (p ∷ a) x (q ∷ b) y e = go (parted a x b y (ap (drop 1) e))
   where
-    go : (length x ≤ length y) ⊎ ((c : ℕ) × (more : List ℕ) × (b ≡ a ++ c ∷ more) × (x ≡ c ∷ (more ++ y)))
-        → (length x ≤ length y) ⊎ ((c : ℕ) × (more : List ℕ) × (q ∷ b ≡ p ∷ (a ++ c ∷ more)) × (x ≡ c ∷ (more ++ y)))
+    go : (length x ≤ length y) ⊎ ((c : ℕ) × (more : List ℕ) × (b ≡ a ++ c ∷ more)
+        × (x ≡ c ∷ (more ++ y)))
+        → (length x ≤ length y) ⊎ ((c : ℕ) × (more : List ℕ) × (q ∷ b ≡ p ∷ (a ++ c ∷ more))
+        × (x ≡ c ∷ (more ++ y)))
     go (inl h) = inl h
-    go (inr (c, more, f, g)) = let same : p ≡ q = cc in inr (c, more, ap (λ (h : ℕ). h ∷ b) (sym same) ∙ ap (λ (t : List ℕ). p ∷ t) f, g)
+    go (inr (c, more, f, g)) = let same : p ≡ q =
+        cc in inr (c, more, ap (λ (h : ℕ). h ∷ b) (sym same) ∙ ap (λ (t : List ℕ). p ∷ t) f, g)
 
 pub longest : TokensAreLongest
 longest here rest t stands bytes behind other whole is_alone =
-    let cut = token_cut here t rest stands in go (parted cut.0 rest bytes behind (sym cut.1 ∙ whole))
+    let cut = token_cut here t rest stands in go
+    (parted cut.0 rest bytes behind (sym cut.1 ∙ whole))
   where
-    go : (length rest ≤ length behind) ⊎ ((c : ℕ) × (more : List ℕ) × (bytes ≡ (token_cut here t rest stands).0 ++ c ∷ more) × (rest ≡ c ∷ (more ++ behind)))
+    go : (length rest ≤ length behind)
+        ⊎ ((c : ℕ) × (more : List ℕ) × (bytes ≡ (token_cut here t rest stands).0 ++ c ∷ more)
+        × (rest ≡ c ∷ (more ++ behind)))
         → length rest ≤ length behind
     go (inl h) = h
     go (inr (c, more, f, g)) =
-        let first : step_at false ((token_cut here t rest stands).0 ++ c ∷ more) ≡ token t (c ∷ more) = token_again false _ t (c ∷ more) (shorter here t rest stands c more behind g) in
-        let second : step_at false bytes ≡ token other [] = token_again false bytes other [] is_alone in
-        let both : token t (c ∷ more) ≡ token other [] = sym first ∙ (ap (step_at false) (sym f) ∙ second) in
+        let first : step_at false ((token_cut here t rest stands).0 ++ c ∷ more)
+        ≡ token t (c ∷ more) = token_again false _ t (c ∷ more)
+        (shorter here t rest stands c more behind g) in
+        let second : step_at false bytes ≡ token other [] =
+        token_again false bytes other [] is_alone in
+        let both : token t (c ∷ more) ≡ token other [] = sym first
+        ∙ (ap (step_at false) (sym f) ∙ second) in
         absurd cc

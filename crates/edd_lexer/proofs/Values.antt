@@ -14,12 +14,17 @@ number_grows base n (b ∷ digits) le =
     omega (arith, number_grows base (base * n + digit_value b) digits le)
 
 -- what a digit more makes of a number
-pub number_more : (base n i : ℕ) (digits : List ℕ) → i < length digits → number base n (drop i digits) ≡ number base (base * n + digit_value (get_or digits i 0)) (drop (i + 1) digits)
+pub number_more : (base n i : ℕ) (digits : List ℕ) → i < length digits
+    → number base n (drop i digits) ≡ number base (base * n + digit_value (get_or digits i 0))
+    (drop (i + 1) digits)
 number_more base n i digits lt = at_drop_more (number base n) digits i 0 lt
 
-pub number_over : (base n i limit : ℕ) (digits : List ℕ) → 1 ≤ base → i < length digits → limit < base * n + digit_value (get_or digits i 0) → limit < number base n (drop i digits)
+pub number_over : (base n i limit : ℕ) (digits : List ℕ) → 1 ≤ base → i < length digits
+    → limit < base * n + digit_value (get_or digits i 0) → limit < number base n (drop i digits)
 number_over base n i limit digits le lt over =
-    rw (number_more base n i digits lt) (let g = number_grows base (base * n + digit_value (get_or digits i 0)) (drop (i + 1) digits) le in omega arith)
+    rw (number_more base n i digits lt)
+    (let g = number_grows base (base * n + digit_value (get_or digits i 0))
+    (drop (i + 1) digits) le in omega arith)
 
 pub product_small : (base n : ℕ) → base ≤ 16 → base * n ≤ 16 * n
 product_small base n le = grind arith

@@ -14,7 +14,9 @@ hex_example = record {
   utf8 = (codes "x 0x1F", (refl, refl));
   read = behind_token (word (codes "x") refl refl refl refl) (omega arith) (omega arith)
       (behind_gap (blank refl)
-      (behind_token (integer (codes "0x1F") 31 refl (inr (120, 49 ∷ 70 ∷ [], refl, refl, (λ e. absurd cc), refl, refl)) (omega arith) refl refl) (omega arith) (omega arith)
+      (behind_token (integer (codes "0x1F") 31 refl
+      (inr (120, 49 ∷ 70 ∷ [], refl, refl, (λ e. absurd cc), refl, refl)) (omega arith) refl
+      refl) (omega arith) (omega arith)
       nothing));
 }
 
@@ -22,14 +24,16 @@ abbrev number_text : List ℕ
 number_text = codes "x 08 \"\\q\""
 
 pub number_example : NumberExample
-unfolding lib.Utf8.encode tokens_of tokens_at step_at word_at number_at number_from plain_integer exponent_end
+unfolding lib.Utf8.encode tokens_of tokens_at step_at word_at number_at number_from plain_integer
+    exponent_end
 number_example = fault_sound number_text BadNumber (omega arith) (number_text, (refl, refl)) refl
 
 abbrev escape_text : List ℕ
 escape_text = codes "1.5e3 \"a\\\"\\q\" ."
 
 pub escape_example : EscapeExample
-unfolding lib.Utf8.encode tokens_of tokens_at step_at number_at number_from decimal_to exponent_end string_at string_end
+unfolding lib.Utf8.encode tokens_of tokens_at step_at number_at number_from decimal_to exponent_end
+    string_at string_end
 escape_example = fault_sound escape_text BadEscape (omega arith) (escape_text, (refl, refl)) refl
 
 abbrev directive_text : List ℕ
@@ -37,8 +41,11 @@ directive_text = codes "# 1 \"a\"" ++ 10 ∷ codes " #include \"a\""
 
 pub directive_example : DirectiveExample
 unfolding lib.Utf8.encode tokens_of tokens_at step_at hash_at
-directive_example = fault_sound directive_text Directive (omega arith) (directive_text, (refl, refl)) refl
+directive_example = fault_sound directive_text Directive (omega arith)
+    (directive_text, (refl, refl)) refl
 
 pub pressure_example : PressureExample
-unfolding lib.Utf8.encode tokens_of tokens_at step_at word_at number_at number_from plain_integer exponent_end string_at string_end integer_of symbol_at single_symbol
-pressure_example = tokens_sound pressure_text pressure_tokens (omega arith) (pressure_text, (refl, refl)) refl
+unfolding lib.Utf8.encode tokens_of tokens_at step_at word_at number_at number_from plain_integer
+    exponent_end string_at string_end integer_of symbol_at single_symbol
+pressure_example = tokens_sound pressure_text pressure_tokens (omega arith)
+    (pressure_text, (refl, refl)) refl

@@ -31,7 +31,8 @@ of_four first word =
     else if first == 67 then only word keyword.Case
     else if first == 108 then only word keyword.Long
     else if first == 101 then only word keyword.MethodElse
-    else if first == 99 then (if slice_index word 2 == 115 then only word keyword.MethodCase else only word keyword.Char)
+    else if first == 99 then (if slice_index word 2 == 115 then only word keyword.MethodCase else
+    only word keyword.Char)
     else if first == 103 then only word keyword.Goto
     else None
 
@@ -52,7 +53,8 @@ of_six first word =
     if first == 77 then only word keyword.Method
     else if first == 78 then only word keyword.Number
     else if first == 83 then only word keyword.Select
-    else if first == 115 then (if slice_index word 2 == 105 then only word keyword.Switch else only word keyword.Signed)
+    else if first == 115 then (if slice_index word 2 == 105 then only word keyword.Switch else only
+    word keyword.Signed)
     else if first == 114 then only word keyword.Return
     else if first == 100 then only word keyword.Double
     else None
@@ -68,7 +70,8 @@ of_seven first word =
 
 unfoldable pub of_eight : (first : ℕ) → List ℕ → Option Keyword
 of_eight first word =
-    if first == 86 then (if slice_index word 2 == 82 then only word keyword.Variable else only word keyword.Validity)
+    if first == 86 then (if slice_index word 2 == 82 then only word keyword.Variable else only word
+    keyword.Validity)
     else if first == 72 then only word keyword.Handling
     else if first == 99 then only word keyword.Continue
     else if first == 117 then only word keyword.Unsigned
@@ -77,7 +80,8 @@ of_eight first word =
 unfoldable pub of_nine : (first : ℕ) → List ℕ → Option Keyword
 of_nine first word =
     if first == 79 then only word keyword.Operation
-    else if first == 77 then (if slice_index word 2 == 78 then only word keyword.MinValue else only word keyword.MaxValue)
+    else if first == 77 then (if slice_index word 2 == 78 then only word keyword.MinValue else only
+    word keyword.MaxValue)
     else None
 
 unfoldable pub of_ten : (first : ℕ) → List ℕ → Option Keyword
@@ -88,7 +92,8 @@ of_ten first word =
 
 unfoldable pub of_eleven : (first : ℕ) → List ℕ → Option Keyword
 of_eleven first word =
-    if first == 68 then (if slice_index word 2 == 86 then only word keyword.DeviceType else only word keyword.DdRevision)
+    if first == 68 then (if slice_index word 2 == 86 then only word keyword.DeviceType else only
+    word keyword.DdRevision)
     else if first == 84 then only word keyword.Transaction
     else if first == 69 then only word keyword.EditFormat
     else None

@@ -9,9 +9,11 @@ IsAlone bytes t = Stands bytes t []
 
 -- what a token takes of a text is the token also by itself
 abbrev pub TokensStandAlone : Type 0
-TokensStandAlone = (here rest : List ℕ) (t : Token) → Stands here t rest → (bytes : List ℕ) × (here ≡ bytes ++ rest) × IsAlone bytes t
+TokensStandAlone = (here rest : List ℕ) (t : Token) → Stands here t rest
+    → (bytes : List ℕ) × (here ≡ bytes ++ rest) × IsAlone bytes t
 
 -- what else is a token by itself and begins where a token stands leaves at least as much behind it
 abbrev pub TokensAreLongest : Type 0
 TokensAreLongest = (here rest : List ℕ) (t : Token) → Stands here t rest
-    → (bytes behind : List ℕ) (other : Token) → here ≡ bytes ++ behind → IsAlone bytes other → length rest ≤ length behind
+    → (bytes behind : List ℕ) (other : Token) → here ≡ bytes ++ behind → IsAlone bytes other
+    → length rest ≤ length behind

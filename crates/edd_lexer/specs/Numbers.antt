@@ -17,7 +17,8 @@ number base n (b ∷ digits) = number base (base * n + digit_value b) digits
 abbrev pub IsPlainInteger : List ℕ → ℕ → Type 0
 IsPlainInteger [] n = ⊥
 IsPlainInteger (b ∷ digits) n =
-    (list_all is_ascii_digit (b ∷ digits) ≡ true) × ((b ≢ 48) ⊎ (digits ≡ [])) × (n ≡ number 10 0 (b ∷ digits))
+    (list_all is_ascii_digit (b ∷ digits) ≡ true) × ((b ≢ 48) ⊎ (digits ≡ []))
+    × (n ≡ number 10 0 (b ∷ digits))
 
 -- `x` or `X`
 abbrev pub is_hex_letter : ℕ → Bool
@@ -26,7 +27,8 @@ is_hex_letter b = b == 120 || b == 88
 -- `0x` or `0X`, and hexadecimal digits
 abbrev pub IsHexInteger : List ℕ → ℕ → Type 0
 IsHexInteger bytes n =
-    (x : ℕ) × (digits : List ℕ) × (bytes ≡ 48 ∷ x ∷ digits) × (is_hex_letter x ≡ true) × (digits ≢ [])
+    (x : ℕ) × (digits : List ℕ) × (bytes ≡ 48 ∷ x ∷ digits) × (is_hex_letter x ≡ true)
+    × (digits ≢ [])
     × (list_all is_ascii_hexdigit digits ≡ true) × (n ≡ number 16 0 digits)
 
 abbrev pub IsInteger : List ℕ → ℕ → Type 0
@@ -52,17 +54,20 @@ is_sign b = b == 43 || b == 45
 -- digits, with a sign or none before them
 abbrev pub IsSigned : List ℕ → Type 0
 IsSigned bytes =
-    IsDigits bytes ⊎ ((sign : ℕ) × (digits : List ℕ) × (bytes ≡ sign ∷ digits) × (is_sign sign ≡ true) × IsDigits digits)
+    IsDigits bytes ⊎ ((sign : ℕ) × (digits : List ℕ) × (bytes ≡ sign ∷ digits)
+    × (is_sign sign ≡ true) × IsDigits digits)
 
 -- `e` or `E`, a sign or none, and digits
 abbrev pub IsExponent : List ℕ → Type 0
-IsExponent bytes = (letter : ℕ) × (power : List ℕ) × (bytes ≡ letter ∷ power) × (is_exponent_letter letter ≡ true) × IsSigned power
+IsExponent bytes = (letter : ℕ) × (power : List ℕ) × (bytes ≡ letter ∷ power)
+    × (is_exponent_letter letter ≡ true) × IsSigned power
 
 -- a fraction with or without an exponent, or digits with an exponent
 abbrev pub IsDecimal : List ℕ → Type 0
 IsDecimal bytes =
     IsFraction bytes
-    ⊎ ((before exponent : List ℕ) × (bytes ≡ before ++ exponent) × (IsFraction before ⊎ IsDigits before) × IsExponent exponent)
+    ⊎ ((before exponent : List ℕ) × (bytes ≡ before ++ exponent)
+    × (IsFraction before ⊎ IsDigits before) × IsExponent exponent)
 
 -- a number begins here: a digit, or `.` and a digit
 abbrev pub begins_number : List ℕ → Bool

@@ -35,7 +35,8 @@ sign_of None = reading.wrong BadCharacter
 sign_of (Some s) = reading.token (Sign s.0) s.1.now
 
 abbrev pub step_of : List ℕ → Step → reading.Step
-step_of here (code.Token k lines rest) = reading.token (token_of k (take (length here - length rest.now) here)) rest.now
+step_of here (code.Token k lines rest) =
+    reading.token (token_of k (take (length here - length rest.now) here)) rest.now
 step_of here (code.Gap fresh lines rest) = reading.gap fresh rest.now
 step_of here (code.Wrong fault) = reading.wrong fault
 

@@ -27,7 +27,8 @@ pub data Step : Type 0 where
 
 unfoldable pub word_at : List ℕ → Step
 word_at here =
-    if nat_le (length (front goes_on_name here)) 255 then token (word_token (front goes_on_name here)) (behind goes_on_name here)
+    if nat_le (length (front goes_on_name here)) 255 then token
+    (word_token (front goes_on_name here)) (behind goes_on_name here)
     else wrong BadCharacter
 
 -- ---- numbers
@@ -36,7 +37,8 @@ word_at here =
 unfoldable pub integer_of : (base : ℕ) → (digits rest : List ℕ) → Step
 integer_of base digits rest =
     if begins goes_on_number rest then wrong BadNumber
-    else if nat_le (number base 0 digits) 4294967295 then token (Integer (number base 0 digits)) rest
+    else if nat_le (number base 0 digits) 4294967295 then token (Integer (number base 0 digits))
+    rest
     else wrong BadNumber
 
 -- a `0` with more behind it
@@ -46,7 +48,8 @@ has_leading_zero (b ∷ []) = false
 has_leading_zero (b ∷ c ∷ digits) = b == 48
 
 unfoldable pub plain_integer : (digits rest : List ℕ) → Step
-plain_integer digits rest = if has_leading_zero digits then wrong BadNumber else integer_of 10 digits rest
+plain_integer digits rest = if has_leading_zero digits then wrong BadNumber else integer_of 10
+    digits rest
 
 -- `0x` and a hexadecimal digit
 abbrev pub is_hex : List ℕ → Bool
@@ -85,7 +88,8 @@ number_from whole here =
     else decimal_or (plain_integer whole here) (exponent_end here)
 
 unfoldable pub number_at : List ℕ → Step
-number_at here = if is_hex here then hex_integer (drop 2 here) else number_from (front is_ascii_digit here) (behind is_ascii_digit here)
+number_at here = if is_hex here then hex_integer (drop 2 here) else number_from
+    (front is_ascii_digit here) (behind is_ascii_digit here)
 
 -- ---- strings
 
@@ -94,7 +98,10 @@ unfoldable mutual
   pub string_end : (good : Bool) → List ℕ → Option (Bool × List ℕ)
   string_end good [] = None
   string_end good (b ∷ rest) =
-      elim (b == backslash) [ true ↦ escape_end good rest | false ↦ elim (b == quote) [ true ↦ Some (good, rest) | false ↦ string_end good rest ] ]
+      elim (b == backslash) [
+        | true ↦ escape_end good rest
+        | false ↦ elim (b == quote) [ true ↦ Some (good, rest) | false ↦ string_end good rest ]
+      ]
 
   pub escape_end : (good : Bool) → List ℕ → Option (Bool × List ℕ)
   escape_end good [] = None
@@ -106,7 +113,8 @@ inside_before here rest = take (length here - length rest - 1) here
 
 abbrev pub string_to : (here : List ℕ) → Option (Bool × List ℕ) → Step
 string_to here None = wrong OpenString
-string_to here (Some end) = if end.0 then token (String (inside_before here end.1)) end.1 else wrong BadEscape
+string_to here (Some end) = if end.0 then token (String (inside_before here end.1)) end.1 else wrong
+    BadEscape
 
 unfoldable pub string_at : List ℕ → Step
 string_at here = string_to here (string_end true here)
@@ -132,22 +140,28 @@ next_is byte here = begins (λ b. b == byte) here
 
 -- the sign `longer` if this byte is next, else what `other` is
 abbrev pub followed : (byte : ℕ) → (longer : Symbol) → (other : Step) → List ℕ → Step
-followed byte longer other here = if next_is byte here then token (Sign longer) (drop 1 here) else other
+followed byte longer other here = if next_is byte here then token (Sign longer) (drop 1 here) else
+    other
 
 -- the operator, or its assignment if `=` is next
 abbrev pub assigned : Operator → List ℕ → Step
 assigned o here = followed 61 (symbol.CompoundAssign o) (token (Sign (symbol.Operator o)) here) here
 
--- the shift if this byte is next, or its assignment; else the comparison with `=` behind it, or without
-abbrev pub shifted : (byte : ℕ) → (shift : Operator) → (with_equals alone : Comparison) → List ℕ → Step
+-- the shift if this byte is next, or its assignment; else the comparison with `=` behind it, or
+-- without
+abbrev pub shifted : (byte : ℕ) → (shift : Operator) → (with_equals alone : Comparison) → List ℕ
+    → Step
 shifted byte shift with_equals alone here =
     if next_is byte here then assigned shift (drop 1 here)
-    else followed 61 (symbol.Comparison with_equals) (token (Sign (symbol.Comparison alone)) here) here
+    else followed 61 (symbol.Comparison with_equals) (token (Sign (symbol.Comparison alone)) here)
+    here
 
 unfoldable pub operator_at : (first : ℕ) → List ℕ → Step
 operator_at first here =
-    if first == 61 then followed 61 (symbol.Comparison comparison.Equal) (token (Sign symbol.Equals) here) here
-    else if first == 33 then followed 61 (symbol.Comparison comparison.NotEqual) (token (Sign symbol.Exclamation) here) here
+    if first == 61 then followed 61 (symbol.Comparison comparison.Equal)
+    (token (Sign symbol.Equals) here) here
+    else if first == 33 then followed 61 (symbol.Comparison comparison.NotEqual)
+    (token (Sign symbol.Exclamation) here) here
     else if first == 43 then followed 43 symbol.Increment (assigned operator.Add here) here
     else if first == 45 then followed 45 symbol.Decrement (assigned operator.Subtract here) here
     else if first == 42 then assigned operator.Multiply here
@@ -155,8 +169,10 @@ operator_at first here =
     else if first == 94 then assigned operator.Xor here
     else if first == 38 then followed 38 symbol.LogicalAnd (assigned operator.And here) here
     else if first == 124 then followed 124 symbol.LogicalOr (assigned operator.Or here) here
-    else if first == 60 then shifted 60 operator.ShiftLeft comparison.LessOrEqual comparison.Less here
-    else if first == 62 then shifted 62 operator.ShiftRight comparison.GreaterOrEqual comparison.Greater here
+    else if first == 60 then shifted 60 operator.ShiftLeft comparison.LessOrEqual comparison.Less
+    here
+    else if first == 62 then shifted 62 operator.ShiftRight comparison.GreaterOrEqual
+    comparison.Greater here
     else wrong BadCharacter
 
 -- the signs that nothing makes longer; of `.` the digits are looked at before
@@ -177,7 +193,10 @@ single_symbol b =
     else None
 
 unfoldable pub symbol_at : (first : ℕ) → List ℕ → Step
-symbol_at first here = elim (single_symbol first) [ Some s ↦ token (Sign s) here | None ↦ operator_at first here ]
+symbol_at first here = elim (single_symbol first) [
+  | Some s ↦ token (Sign s) here
+  | None ↦ operator_at first here
+]
 
 -- ---- the whole text
 
@@ -204,17 +223,21 @@ with_first lexeme (Err fault) = Err fault
 with_first lexeme (Ok more) = Ok (lexeme ∷ more)
 
 -- what a step adds to what is read from behind it; `left` bytes of `total` begin with it
-abbrev pub after_step : (total left : ℕ) → Step → (Bool → List ℕ → Result (List Lexeme) Fault) → Result (List Lexeme) Fault
+abbrev pub after_step : (total left : ℕ) → Step → (Bool → List ℕ → Result (List Lexeme) Fault)
+    → Result (List Lexeme) Fault
 after_step total left (wrong fault) go = Err fault
 after_step total left (gap fresh rest) go = go fresh rest
-after_step total left (token t rest) go = with_first (record { token = t; start = total - left; end = total - length rest }) (go false rest)
+after_step total left (token t rest) go =
+    with_first (record { token = t; start = total - left; end = total - length rest })
+    (go false rest)
 
 -- the tokens from a place on, or the first fault; the second number bounds how many steps there are
 unfoldable pub tokens_at : (total steps : ℕ) → (fresh : Bool) → List ℕ → Result (List Lexeme) Fault
 tokens_at total steps fresh [] = Ok []
 tokens_at total zero fresh (b ∷ here) = Err BadCharacter
 tokens_at total (suc steps) fresh (b ∷ here) =
-    after_step total (length (b ∷ here)) (step_at fresh (b ∷ here)) (λ next rest. tokens_at total steps next rest)
+    after_step total (length (b ∷ here)) (step_at fresh (b ∷ here))
+    (λ next rest. tokens_at total steps next rest)
 
 unfoldable pub tokens_of : List ℕ → Result (List Lexeme) Fault
 tokens_of text = tokens_at (length text) (length text) true (behind_byte_order_mark text)

@@ -51,7 +51,8 @@ symbol_bytes (symbol.Operator o) = operator_bytes o
 symbol_bytes (symbol.Comparison c) = comparison_bytes c
 symbol_bytes (symbol.CompoundAssign o) = operator_bytes o ++ codes "="
 
--- ---- what makes something longer of a sign, if it follows directly: another sign, a comment, or a number
+-- ---- what makes something longer of a sign, if it follows directly: another sign, a comment, or
+-- a number
 
 abbrev is_equals : ℕ → Bool
 is_equals b = b == 61

@@ -10,7 +10,10 @@ quote = 34
 abbrev mutual
   pub is_inside : List ℕ → Bool
   is_inside [] = true
-  is_inside (b ∷ rest) = elim (b == backslash) [ true ↦ is_taken_along rest | false ↦ not (b == quote) && is_inside rest ]
+  is_inside (b ∷ rest) = elim (b == backslash) [
+    | true ↦ is_taken_along rest
+    | false ↦ not (b == quote) && is_inside rest
+  ]
 
   pub is_taken_along : List ℕ → Bool
   is_taken_along [] = false

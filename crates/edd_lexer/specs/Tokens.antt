@@ -11,13 +11,19 @@ use Rattle.edd_lexer.specs.Strings.{Closed, quote}
 use Rattle.edd_lexer.specs.Signs.{symbol_bytes, lengthens}
 use Rattle.edd_lexer.specs.Gaps.{Gap}
 
--- From `here` up to `rest` stands this token, and none that is longer: what would make it longer doesn't follow.
+-- From `here` up to `rest` stands this token, and none that is longer: what would make it longer
+-- doesn't follow.
 pub data Stands (here : List ℕ) (t : Token) (rest : List ℕ) : Type 0 where
-  word : (bytes : List ℕ) → here ≡ bytes ++ rest → is_name bytes ≡ true → begins goes_on_name rest ≡ false → t ≡ word_token bytes → Stands here t rest
-  integer : (bytes : List ℕ) (n : ℕ) → here ≡ bytes ++ rest → IsInteger bytes n → n ≤ 4294967295 → begins goes_on_number rest ≡ false → t ≡ token.Integer n → Stands here t rest
-  decimal : (bytes : List ℕ) → here ≡ bytes ++ rest → IsDecimal bytes → begins goes_on_number rest ≡ false → t ≡ token.Decimal → Stands here t rest
-  string : (inside raw : List ℕ) → here ≡ quote ∷ inside → Closed inside raw rest → has_escapes raw ≡ true → t ≡ token.String raw → Stands here t rest
-  sign : (s : Symbol) → here ≡ symbol_bytes s ++ rest → begins (lengthens s) rest ≡ false → t ≡ token.Sign s → Stands here t rest
+  word : (bytes : List ℕ) → here ≡ bytes ++ rest → is_name bytes ≡ true → begins goes_on_name rest
+      ≡ false → t ≡ word_token bytes → Stands here t rest
+  integer : (bytes : List ℕ) (n : ℕ) → here ≡ bytes ++ rest → IsInteger bytes n → n ≤ 4294967295
+      → begins goes_on_number rest ≡ false → t ≡ token.Integer n → Stands here t rest
+  decimal : (bytes : List ℕ) → here ≡ bytes ++ rest → IsDecimal bytes → begins goes_on_number rest
+      ≡ false → t ≡ token.Decimal → Stands here t rest
+  string : (inside raw : List ℕ) → here ≡ quote ∷ inside → Closed inside raw rest
+      → has_escapes raw ≡ true → t ≡ token.String raw → Stands here t rest
+  sign : (s : Symbol) → here ≡ symbol_bytes s ++ rest → begins (lengthens s) rest ≡ false
+      → t ≡ token.Sign s → Stands here t rest
 
 -- a token, and the bytes of the text that it takes: from `start` up to `end`
 pub record Lexeme : Type 0 where
@@ -29,15 +35,18 @@ pub record Lexeme : Type 0 where
 -- `fresh` says whether only blanks stand before `here` on its line.
 pub data TokensFrom (total : ℕ) : (fresh : Bool) → (here : List ℕ) → List Lexeme → Type 0 where
   nothing : {fresh : Bool} → TokensFrom total fresh [] []
-  behind_gap : {fresh next : Bool} {here rest : List ℕ} {more : List Lexeme} → Gap fresh here next rest
+  behind_gap : {fresh next : Bool} {here rest : List ℕ} {more : List Lexeme}
+      → Gap fresh here next rest
       → TokensFrom total next rest more → TokensFrom total fresh here more
-  behind_token : {fresh : Bool} {here rest : List ℕ} {lexeme : Lexeme} {more : List Lexeme} → Stands here lexeme.token rest
+  behind_token : {fresh : Bool} {here rest : List ℕ} {lexeme : Lexeme} {more : List Lexeme}
+      → Stands here lexeme.token rest
       → lexeme.start + length here ≡ total → lexeme.end + length rest ≡ total
       → TokensFrom total false rest more → TokensFrom total fresh here (lexeme ∷ more)
 
 -- a byte order mark at the very beginning counts as a blank
 abbrev pub behind_byte_order_mark : List ℕ → List ℕ
-behind_byte_order_mark text = if bytes_eq (take 3 text) (239 ∷ 187 ∷ 191 ∷ []) then drop 3 text else text
+behind_byte_order_mark text = if bytes_eq (take 3 text) (239 ∷ 187 ∷ 191 ∷ []) then drop 3 text else
+    text
 
 -- in bytes
 abbrev pub text_limit : ℕ

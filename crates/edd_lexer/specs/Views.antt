@@ -21,7 +21,11 @@ token_of (kind.Symbol s) bytes = pure.Sign s
 
 -- a token of this text, without its line
 abbrev pub lexeme_of : List ℕ → Token → Lexeme
-lexeme_of text t = record { token = token_of t.kind (slice_range text t.start t.end); start = t.start; end = t.end }
+lexeme_of text t = record {
+  token = token_of t.kind (slice_range text t.start t.end);
+  start = t.start;
+  end = t.end;
+}
 
 -- the fault of a refusal, without its line; want of memory is none
 abbrev pub fault_of : LexFault → Option Fault

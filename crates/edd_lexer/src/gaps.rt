@@ -6,8 +6,8 @@ ghost use Rattle.edd_lexer.specs.Parts.{close_of};
 
 use crate::bytes::{begins_digit, behind_line_blanks, is_blank, lines_after, next_is};
 
-/// What stands behind the `*/` that closes the comment whose opening stands before this text, if it has one, and how many lines end
-/// before that.
+/// What stands behind the `*/` that closes the comment whose opening stands before this text, if it
+/// has one, and how many lines end before that.
 pub fn behind_close(body: &[u8]) -> Option<(u32, &[u8])>
     ensures { close_of result ≡ gaps.behind_close body.now }
 {

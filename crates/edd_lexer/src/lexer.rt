@@ -27,7 +27,8 @@ use crate::symbols::{slash, symbol_at};
 use crate::token::{Token, TokenKind};
 use std::alloc::Global;
 
-// What begins at a place: a token or a gap, with how many lines end in it and what stands behind it, or a fault.
+// What begins at a place: a token or a gap, with how many lines end in it and what stands behind
+// it, or a fault.
 #[derive(Clone, Copy)]
 enum Step<'a> {
     Token(TokenKind, u32, &'a [u8]),
@@ -268,14 +269,17 @@ fn read(alloc: Global, text: &[u8]) -> Result<Vec<Token>, LexFault>
 
 /// The tokens of a text of the language: of at most 1,048,576 bytes, in UTF-8.
 ///
-/// Spans count bytes of the whole text, a byte order mark included. Lines count from 1, and LF alone ends one; a token, a comment or
-/// a fault of several lines has the line on which it begins.
+/// Spans count bytes of the whole text, a byte order mark included. Lines count from 1, and LF
+/// alone ends one; a token, a comment or a fault of several lines has the line on which it begins.
 pub fn lex(alloc: Global, text: &[u8]) -> Result<Vec<Token>, LexFault>
-    ensures tokens { IfOk result (λ list. AreTokens text.now (map (lexeme_of text.now) list.items)) }
-    ensures fault { IfErr result (λ e. IfSome (fault_of e) (λ fault. LexicalFault text.now fault)) }
-    ensures no_tokens { IfErr result (λ e. IfSome (fault_of e) (λ _. (lexemes : List Lexeme) → ¬ (AreTokens text.now lexemes))) }
-    ensures only_tokens { (lexemes : List Lexeme) → AreTokens text.now lexemes
-        → MatchResult result (λ list. lexemes ≡ map (lexeme_of text.now) list.items) (λ e. e ≡ Memory) }
+    ensures sound { IfOk result (λ list. AreTokens text.now (map (lexeme_of text.now) list.items)) }
+    ensures refused { IfErr result
+        (λ e. IfSome (fault_of e) (λ fault. LexicalFault text.now fault)) }
+    ensures no_tokens { IfErr result (λ e. IfSome (fault_of e) (λ _. (lexemes : List Lexeme)
+        → ¬ (AreTokens text.now lexemes))) }
+    ensures complete { (lexemes : List Lexeme) → AreTokens text.now lexemes
+        → MatchResult result (λ list. lexemes ≡ map (lexeme_of text.now) list.items)
+        (λ e. e ≡ Memory) }
     ensures only_fault { (fault : kinds.Fault) → LexicalFault text.now fault
         → MatchResult result (λ _. ⊥) (λ e. (e ≡ Memory) ⊎ (fault_of e ≡ Some fault)) }
 {

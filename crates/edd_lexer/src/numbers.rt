@@ -61,7 +61,8 @@ fn value(base: u32, digits: &[u8]) -> Option<u32>
     requires base { base ≤ 16 }
     requires some { 1 ≤ base }
     requires digits { list_all is_ascii_hexdigit digits.now ≡ true }
-    ensures { MatchOption result (4294967295 < spelled.number base 0 digits.now) (λ n. n ≡ spelled.number base 0 digits.now) }
+    ensures { MatchOption result (4294967295 < spelled.number base 0 digits.now)
+        (λ n. n ≡ spelled.number base 0 digits.now) }
 {
     let mut n: u32 = 0;
     for b in digits {

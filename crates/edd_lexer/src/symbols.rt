@@ -13,7 +13,8 @@ use edd_syntax::symbols::Symbol;
 
 // The sign `longer` if this byte is next, else the other.
 fn followed(byte: u8, longer: Symbol, other: Symbol, rest: &[u8]) -> (Symbol, &[u8])
-    ensures { sign_of (Some result) ≡ reading.followed byte longer (token (Sign other) rest.now) rest.now }
+    ensures { sign_of (Some result) ≡ reading.followed byte longer (token (Sign other) rest.now)
+        rest.now }
 {
     if next_is(byte, rest) {
         (longer, &rest[1..])
@@ -36,7 +37,8 @@ fn assigned(operator: Operator, rest: &[u8]) -> (Symbol, &[u8])
 
 // The operator twice, or else the operator or its assignment.
 fn doubled(byte: u8, twice: Symbol, operator: Operator, rest: &[u8]) -> (Symbol, &[u8])
-    ensures { sign_of (Some result) ≡ reading.followed byte twice (reading.assigned operator rest.now) rest.now }
+    ensures { sign_of (Some result)
+        ≡ reading.followed byte twice (reading.assigned operator rest.now) rest.now }
 {
     if next_is(byte, rest) {
         (twice, &rest[1..])
@@ -45,7 +47,8 @@ fn doubled(byte: u8, twice: Symbol, operator: Operator, rest: &[u8]) -> (Symbol,
     }
 }
 
-// The shift if this byte is next, or its assignment; else the comparison with `=` behind it, or without.
+// The shift if this byte is next, or its assignment; else the comparison with `=` behind it, or
+// without.
 fn shifted(
     byte: u8,
     shift: Operator,

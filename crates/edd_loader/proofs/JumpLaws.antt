@@ -6,7 +6,8 @@ use Rattle.edd_image.specs.declared.instruction.Instruction.TheVariants as instr
 use Rattle.edd_image.specs.declared.unit.Way.{Way}
 use Rattle.edd_image.specs.Units.{jump}
 
-pub jump_is_to : (i : Instruction) → jump i ≡ option_map (λ to. record { to = to; leaves = 0 }) (option_map (λ w. w.to) (jump i))
+pub jump_is_to : (i : Instruction) → jump i ≡ option_map (λ to. record { to = to; leaves = 0 })
+    (option_map (λ w. w.to) (jump i))
 jump_is_to instructions.End = refl
 jump_is_to (instructions.Push n) = refl
 jump_is_to (instructions.Variable v) = refl
@@ -36,6 +37,8 @@ jump_is_to (instructions.Ask request) = refl
 jump_is_to instructions.Abort = refl
 
 -- what is brought with the way to the next instruction
-pub brought_onward : (rest next : ℕ) (o : Option ℕ) → option_map (λ (w : Way). rest + w.leaves) (option_map (λ n. record { to = next; leaves = n }) o) ≡ option_map (λ n. rest + n) o
+pub brought_onward : (rest next : ℕ) (o : Option ℕ)
+    → option_map (λ (w : Way). rest + w.leaves) (option_map (λ n. record { to = next; leaves = n })
+    o) ≡ option_map (λ n. rest + n) o
 brought_onward rest next None = refl
 brought_onward rest next (Some n) = refl

@@ -29,7 +29,8 @@ use Rattle.edd_loader.proofs.Spaces.{rooms, spans, part_length}
 
 -- ---- rows by number
 
-pub row_get : {A : Type 0} (read : ℕ → A) (size count start k : ℕ) → k < count → slice_get (rows_from read size count start) k ≡ Some (read (start + size * k))
+pub row_get : {A : Type 0} (read : ℕ → A) (size count start k : ℕ) → k < count
+    → slice_get (rows_from read size count start) k ≡ Some (read (start + size * k))
 unfolding rows_from
 row_get read size zero start k h = absurd (omega arith)
 row_get read size (suc n) start zero h =
@@ -37,17 +38,21 @@ row_get read size (suc n) start zero h =
     rw first refl
 row_get read size (suc n) start (suc k) h =
     let further : (start + size) + size * k ≡ start + size * suc k = rw mul-suc (omega arith) in
-    row_get read size n (start + size) k (omega arith) ∙ ap (λ (place : ℕ). Some (read place)) further
+    row_get read size n (start + size) k (omega arith) ∙ ap (λ (place : ℕ). Some (read place))
+    further
 
-pub row_past : {A : Type 0} (read : ℕ → A) (size count start k : ℕ) → count ≤ k → slice_get (rows_from read size count start) k ≡ None
+pub row_past : {A : Type 0} (read : ℕ → A) (size count start k : ℕ) → count ≤ k
+    → slice_get (rows_from read size count start) k ≡ None
 unfolding rows_from
 row_past read size zero start k h = refl
 row_past read size (suc n) start zero h = absurd (omega arith)
 row_past read size (suc n) start (suc k) h = row_past read size n (start + size) k (omega arith)
 
-pub all_at : {A : Type 0} (p : A → Bool) (xs : List A) (k : ℕ) (x : A) → list_all p xs ≡ true → slice_get xs k ≡ Some x → p x ≡ true
+pub all_at : {A : Type 0} (p : A → Bool) (xs : List A) (k : ℕ) (x : A) → list_all p xs ≡ true
+    → slice_get xs k ≡ Some x → p x ≡ true
 all_at p [] k x h e = absurd cc
-all_at p (y ∷ ys) zero x h e = let same : y ≡ x = cc in subst (λ z. p z ≡ true) same (and_parts (p y) (list_all p ys) h).0
+all_at p (y ∷ ys) zero x h e = let same : y ≡ x = cc in subst (λ z. p z ≡ true) same
+    (and_parts (p y) (list_all p ys) h).0
 all_at p (y ∷ ys) (suc k) x h e = all_at p ys k x (and_parts (p y) (list_all p ys) h).1 e
 
 -- ---- names are UTF-8
@@ -71,38 +76,53 @@ small c h = elim (or_cases (begins_name c) (is_within 48 57 c) h) [
   | inr digit ↦ omega (arith, leb-true c 57 (and_parts (nat_le 48 c) (nat_le c 57) digit).1)
 ]
 
-rest_small : (rest : List ℕ) → list_all goes_on_name rest ≡ true → (i : ℕ) → slice_index rest i < 128
+rest_small : (rest : List ℕ) → list_all goes_on_name rest ≡ true → (i : ℕ)
+    → slice_index rest i < 128
 rest_small [] h i = omega arith
 rest_small (c ∷ rest) h zero = small c (and_parts (goes_on_name c) (list_all goes_on_name rest) h).0
-rest_small (c ∷ rest) h (suc i) = rest_small rest (and_parts (goes_on_name c) (list_all goes_on_name rest) h).1 i
+rest_small (c ∷ rest) h (suc i) =
+    rest_small rest (and_parts (goes_on_name c) (list_all goes_on_name rest) h).1 i
 
 name_ascii : (name : List ℕ) → is_name name ≡ true → IsAscii name
 name_ascii [] h i = absurd cc
-name_ascii (c ∷ rest) h zero = begins_small c (and_parts (begins_name c) (list_all goes_on_name rest) (and_parts (begins_name c && list_all goes_on_name rest) _ h).0).0
-name_ascii (c ∷ rest) h (suc i) = rest_small rest (and_parts (begins_name c) (list_all goes_on_name rest) (and_parts (begins_name c && list_all goes_on_name rest) _ h).0).1 i
+name_ascii (c ∷ rest) h zero =
+    begins_small c (and_parts (begins_name c) (list_all goes_on_name rest)
+    (and_parts (begins_name c && list_all goes_on_name rest) _ h).0).0
+name_ascii (c ∷ rest) h (suc i) =
+    rest_small rest (and_parts (begins_name c) (list_all goes_on_name rest)
+    (and_parts (begins_name c && list_all goes_on_name rest) _ h).0).1 i
 
 pub name_utf8 : (name : List ℕ) → is_name name ≡ true → is_utf8 name ≡ true
 name_utf8 name h = is_utf8-from_IsUtf8 name (IsUtf8-from_ascii name (name_ascii name h))
 
 -- ---- names by place
 
-pub name_row_at : (b : List ℕ) (place : ℕ) → place < item_count (counts_in b) → slice_get (contents_in b).names place ≡ Some (name_fields b (name_rows_start b + 8 * place))
+pub name_row_at : (b : List ℕ) (place : ℕ) → place < item_count (counts_in b)
+    → slice_get (contents_in b).names place ≡ Some (name_fields b (name_rows_start b + 8 * place))
 unfolding contents_in
-name_row_at b place h = row_get (name_fields b) 8 (item_count (counts_in b)) (name_rows_start b) place h
+name_row_at b place h = row_get (name_fields b) 8 (item_count (counts_in b)) (name_rows_start b)
+    place h
 
 -- a part of a part, by its place among all bytes
 part_of_part : (start size from long : ℕ) (b : List ℕ) → from + long ≤ size
-    → part (record { start = start + from; size = long }) b ≡ part (record { start = from; size = long }) (part (record { start = start; size = size }) b)
+    → part (record { start = start + from; size = long }) b
+    ≡ part (record { start = from; size = long })
+    (part (record { start = start; size = size }) b)
 part_of_part start size from long b inside =
     let whole : size ≡ from + (size - from) = omega (arith, inside) in
     let cut : drop from (take size (drop start b)) ≡ take (size - from) (drop from (drop start b)) =
-    ap (λ (k : ℕ). drop from (take k (drop start b))) whole ∙ drop-take from (size - from) (drop start b) in
+    ap (λ (k : ℕ). drop from (take k (drop start b))) whole ∙ drop-take from (size - from)
+    (drop start b) in
     let again : drop from (drop start b) ≡ drop (start + from) b = drop-drop from start b in
-    let shorter : take long (take (size - from) (drop from (drop start b))) ≡ take long (drop from (drop start b)) = take-take long (size - from) _ (omega (arith, inside)) in
+    let shorter : take long (take (size - from) (drop from (drop start b)))
+    ≡ take long (drop from (drop start b)) =
+    take-take long (size - from) _ (omega (arith, inside)) in
     sym (ap (take long) cut ∙ shorter ∙ ap (take long) again)
 
--- what is found by a row of a section, however it was come by: the row, the place among all bytes, and the part of them
-pub record IsFoundBy (b found : List ℕ) (rows bytes_start : List ℕ → ℕ) (start_of length_of : List ℕ → ℕ → ℕ) (place : ℕ) : Type 0 where
+-- what is found by a row of a section, however it was come by: the row, the place among all bytes,
+-- and the part of them
+pub record IsFoundBy (b found : List ℕ) (rows bytes_start : List ℕ → ℕ) (start_of length_of : List ℕ
+    → ℕ → ℕ) (place : ℕ) : Type 0 where
   pub row : ℕ
   pub row_is : row ≡ rows b + 8 * place
   pub from : ℕ
@@ -112,41 +132,65 @@ pub record IsFoundBy (b found : List ℕ) (rows bytes_start : List ℕ → ℕ) 
   pub found_is : found ≡ part (record { start = from; size = long }) b
 
 abbrev pub IsNameAt : (b found : List ℕ) (place : ℕ) → Type 0
-IsNameAt b found place = IsFoundBy b found name_rows_start name_bytes_start name_start name_length place
+IsNameAt b found place = IsFoundBy b found name_rows_start name_bytes_start name_start name_length
+    place
 
 abbrev pub IsStringAt : (b found : List ℕ) (place : ℕ) → Type 0
-IsStringAt b found place = IsFoundBy b found string_rows_start string_bytes_start string_start string_length place
+IsStringAt b found place = IsFoundBy b found string_rows_start string_bytes_start string_start
+    string_length place
 
-name_lies : (b : List ℕ) (place : ℕ) → IsValid b → place < item_count (counts_in b) → name_start b (name_rows_start b + 8 * place) + name_length b (name_rows_start b + 8 * place) ≤ names_length b
+name_lies : (b : List ℕ) (place : ℕ) → IsValid b → place < item_count (counts_in b)
+    → name_start b (name_rows_start b + 8 * place) + name_length b (name_rows_start b + 8 * place)
+    ≤ names_length b
 name_lies b place valid h =
     let row = name_rows_start b + 8 * place in
-    let lies = all_at (λ (r : NameFields). lies_within (names_length b) r.span) _ place _ (spans b (valid_sections b valid) (valid rule.Row)).names (row_get (name_fields b) 8 (item_count (counts_in b)) (name_rows_start b) place h) in
-    span_inside (name_start b row) (name_length b row) (names_length b) (name_fields b row).span refl refl lies
+    let lies = all_at (λ (r : NameFields). lies_within (names_length b) r.span) _ place _
+    (spans b (valid_sections b valid) (valid rule.Row)).names
+    (row_get (name_fields b) 8 (item_count (counts_in b)) (name_rows_start b) place h) in
+    span_inside (name_start b row) (name_length b row) (names_length b) (name_fields b row).span
+    refl refl lies
 
-found_in : (b found : List ℕ) (place : ℕ) → IsValid b → place < item_count (counts_in b) → IsNameAt b found place → found ≡ part (name_fields b (name_rows_start b + 8 * place)).span (contents_in b).name_bytes
+found_in : (b found : List ℕ) (place : ℕ) → IsValid b → place < item_count (counts_in b)
+    → IsNameAt b found place → found ≡ part (name_fields b (name_rows_start b + 8 * place)).span
+    (contents_in b).name_bytes
 unfolding contents_in
 found_in b found place valid h i =
     let row_is = i.row_is in
-    i.found_is ∙ rw (i.from_is, i.long_is, row_is) (part_of_part (name_bytes_start b) (names_length b) _ _ b (name_lies b place valid h))
+    i.found_is ∙ rw (i.from_is, i.long_is, row_is)
+    (part_of_part (name_bytes_start b) (names_length b) _ _ b (name_lies b place valid h))
 
-pub name_value : (b found : List ℕ) (place : ℕ) → IsValid b → place < item_count (counts_in b) → IsNameAt b found place → name_in_row (contents_in b) place ≡ Some found
+pub name_value : (b found : List ℕ) (place : ℕ) → IsValid b → place < item_count (counts_in b)
+    → IsNameAt b found place → name_in_row (contents_in b) place ≡ Some found
 name_value b found place valid h i =
-    ap (option_map (λ (r : NameFields). part r.span (contents_in b).name_bytes)) (name_row_at b place h)
+    ap (option_map (λ (r : NameFields). part r.span (contents_in b).name_bytes))
+    (name_row_at b place h)
     ∙ ap Some (sym (found_in b found place valid h i))
 
-pub name_valid : (b found : List ℕ) (place : ℕ) → IsValid b → place < item_count (counts_in b) → IsNameAt b found place → is_utf8 found ≡ true
+pub name_valid : (b found : List ℕ) (place : ℕ) → IsValid b → place < item_count (counts_in b)
+    → IsNameAt b found place → is_utf8 found ≡ true
 name_valid b found place valid h i =
-    let named = all_at (λ (r : NameFields). is_name (part r.span (contents_in b).name_bytes)) (contents_in b).names place _ (valid rule.Name) (name_row_at b place h) in
+    let named = all_at (λ (r : NameFields). is_name (part r.span (contents_in b).name_bytes))
+    (contents_in b).names place _ (valid rule.Name) (name_row_at b place h) in
     name_utf8 found (ap is_name (found_in b found place valid h i) ∙ named)
 
-pub name_inside : (b : List ℕ) (place row from long : ℕ) → IsValid b → place < item_count (counts_in b) → row ≡ name_rows_start b + 8 * place → from ≡ name_bytes_start b + name_start b row → long ≡ name_length b row
+pub name_inside : (b : List ℕ) (place row from long : ℕ) → IsValid b
+    → place < item_count (counts_in b) → row ≡ name_rows_start b + 8 * place
+    → from ≡ name_bytes_start b + name_start b row → long ≡ name_length b row
     → from + long ≤ length b
 name_inside b place row from long valid h r f l =
-    let at : from ≡ name_bytes_start b + name_start b (name_rows_start b + 8 * place) = f ∙ ap (λ (k : ℕ). name_bytes_start b + name_start b k) r in
+    let at : from ≡ name_bytes_start b + name_start b (name_rows_start b + 8 * place) =
+    f ∙ ap (λ (k : ℕ). name_bytes_start b + name_start b k) r in
     let size : long ≡ name_length b (name_rows_start b + 8 * place) = l ∙ ap (name_length b) r in
-    omega (arith, name_lies b place valid h, (rooms b (valid_sections b valid)).name_bytes, at, size)
+    omega (
+      arith,
+      name_lies b place valid h,
+      (rooms b (valid_sections b valid)).name_bytes,
+      at,
+      size,
+    )
 
-pub place_inside : (c : Counts) (item : ItemNo) → item_exists c item ≡ true → place_of_item c item < item_count c
+pub place_inside : (c : Counts) (item : ItemNo) → item_exists c item ≡ true
+    → place_of_item c item < item_count c
 place_inside c (items.Variable n) h = omega (arith, ltb-true n.0 c.variables h)
 place_inside c (items.Command n) h = omega (arith, ltb-true n.0 c.commands h)
 place_inside c (items.Menu n) h = omega (arith, ltb-true n.0 c.menus h)
@@ -154,28 +198,38 @@ place_inside c (items.Collection n) h = omega (arith, ltb-true n.0 c.collections
 place_inside c (items.Method n) h = omega (arith, ltb-true n.0 c.methods h)
 
 -- the name of an item stands in the row of its place, among the rows that there are
-pub name_in_place : (b : List ℕ) (item : ItemNo) (name : Name) → name_numbered (contents_in b) item ≡ Some name
-    → (place_of_item (counts_in b) item < item_count (counts_in b)) × (name_in_row (contents_in b) (place_of_item (counts_in b) item) ≡ Some name)
+pub name_in_place : (b : List ℕ) (item : ItemNo) (name : Name) → name_numbered (contents_in b) item
+    ≡ Some name
+    → (place_of_item (counts_in b) item < item_count (counts_in b))
+    × (name_in_row (contents_in b) (place_of_item (counts_in b) item) ≡ Some name)
 unfolding contents_in
 name_in_place b item name named = here (item_exists (counts_in b) item) refl named
   where
-    here : (there : Bool) → item_exists (counts_in b) item ≡ there → cond there (name_in_row (contents_in b) (place_of_item (counts_in b) item)) None ≡ Some name
-        → (place_of_item (counts_in b) item < item_count (counts_in b)) × (name_in_row (contents_in b) (place_of_item (counts_in b) item) ≡ Some name)
+    here : (there : Bool) → item_exists (counts_in b) item ≡ there
+        → cond there (name_in_row (contents_in b) (place_of_item (counts_in b) item)) None
+        ≡ Some name
+        → (place_of_item (counts_in b) item < item_count (counts_in b))
+        × (name_in_row (contents_in b) (place_of_item (counts_in b) item) ≡ Some name)
     here true is h = (place_inside (counts_in b) item is, h)
     here false is h = absurd cc
 
 -- an item that there is has the name in the row of its place
-pub named_in_place : (b : List ℕ) (item : ItemNo) → item_exists (counts_in b) item ≡ true → name_numbered (contents_in b) item ≡ name_in_row (contents_in b) (place_of_item (counts_in b) item)
+pub named_in_place : (b : List ℕ) (item : ItemNo) → item_exists (counts_in b) item ≡ true
+    → name_numbered (contents_in b) item
+    ≡ name_in_row (contents_in b) (place_of_item (counts_in b) item)
 unfolding contents_in
 named_in_place b item there = rw there refl
 
-pub no_name : (b : List ℕ) (item : ItemNo) → item_exists (counts_in b) item ≡ false → None ≡ name_numbered (contents_in b) item
+pub no_name : (b : List ℕ) (item : ItemNo) → item_exists (counts_in b) item ≡ false
+    → None ≡ name_numbered (contents_in b) item
 unfolding contents_in
 no_name b item there = rw there refl
 
 -- the item of a place before which the name doesn't stand
-pub first_named : (b : List ℕ) (item : ItemNo) (name : Name) (place : ℕ) → place_of_item (counts_in b) item ≡ place
-    → ((k : ℕ) → k < place → name_in_row (contents_in b) k ≡ Some name → ⊥) → IsFirstNamed (contents_in b) name item
+pub first_named : (b : List ℕ) (item : ItemNo) (name : Name) (place : ℕ)
+    → place_of_item (counts_in b) item ≡ place
+    → ((k : ℕ) → k < place → name_in_row (contents_in b) k ≡ Some name → ⊥)
+    → IsFirstNamed (contents_in b) name item
 unfolding contents_in
 first_named b item name place at before other named =
     let found = name_in_place b other name named in
@@ -186,26 +240,35 @@ first_named b item name place at before other named =
 
 -- ---- variables by number
 
-pub variable_row_at : (b : List ℕ) (n : ℕ) → n < (counts_in b).variables → slice_get (contents_in b).variables n ≡ Some (variable_fields b (56 + 4 * n))
+pub variable_row_at : (b : List ℕ) (n : ℕ) → n < (counts_in b).variables
+    → slice_get (contents_in b).variables n ≡ Some (variable_fields b (56 + 4 * n))
 unfolding contents_in
 variable_row_at b n h = row_get (variable_fields b) 4 (counts_in b).variables 56 n h
 
-variable_row_valid : (b : List ℕ) (n : ℕ) → IsValid b → n < (counts_in b).variables → is_variable_row (variable_fields b (56 + 4 * n)) ≡ true
+variable_row_valid : (b : List ℕ) (n : ℕ) → IsValid b → n < (counts_in b).variables
+    → is_variable_row (variable_fields b (56 + 4 * n)) ≡ true
 variable_row_valid b n valid h =
     let c = contents_in b in
-    let zero_first = and_parts (nat_eq c.padding 0) (are_variable_rows c && (are_name_rows c && (are_attribute_rows c && are_string_rows c))) (valid rule.Row) in
-    let variables_first = and_parts (are_variable_rows c) (are_name_rows c && (are_attribute_rows c && are_string_rows c)) zero_first.1 in
+    let zero_first = and_parts (nat_eq c.padding 0) (are_variable_rows c
+    && (are_name_rows c && (are_attribute_rows c && are_string_rows c))) (valid rule.Row) in
+    let variables_first = and_parts (are_variable_rows c)
+    (are_name_rows c && (are_attribute_rows c && are_string_rows c)) zero_first.1 in
     all_at is_variable_row c.variables n _ variables_first.0 (variable_row_at b n h)
 
-pub typed : (b : List ℕ) (n t : ℕ) → IsValid b → n < (counts_in b).variables → t ≡ variable_type b (56 + 4 * n) → type_of t ≡ None → ⊥
+pub typed : (b : List ℕ) (n t : ℕ) → IsValid b → n < (counts_in b).variables
+    → t ≡ variable_type b (56 + 4 * n) → type_of t ≡ None → ⊥
 typed b n t valid h e none =
     let row = variable_fields b (56 + 4 * n) in
-    let some : is_some (type_of row.type_number) ≡ true = (and_parts (is_some (type_of row.type_number)) (is_within 1 4 row.size && nat_eq row.padding 0) (variable_row_valid b n valid h)).0 in
-    let nothing : is_some (type_of row.type_number) ≡ false = ap (λ (k : ℕ). is_some (type_of k)) (sym e) ∙ ap is_some none in
+    let some : is_some (type_of row.type_number) ≡ true =
+    (and_parts (is_some (type_of row.type_number)) (is_within 1 4 row.size
+    && nat_eq row.padding 0) (variable_row_valid b n valid h)).0 in
+    let nothing : is_some (type_of row.type_number) ≡ false = ap (λ (k : ℕ). is_some (type_of k))
+    (sym e) ∙ ap is_some none in
     let contradiction : true ≡ false = sym some ∙ nothing in
     cc
 
-chosen : (b : Bool) (x : VarType) (o : Option VarType) (v : VarType) → cond b (Some x) o ≡ Some v → ((b ≡ true) × (x ≡ v)) ⊎ (o ≡ Some v)
+chosen : (b : Bool) (x : VarType) (o : Option VarType) (v : VarType) → cond b (Some x) o ≡ Some v
+    → ((b ≡ true) × (x ≡ v)) ⊎ (o ≡ Some v)
 chosen true x o v e = inl (refl, cc)
 chosen false x o v e = inr e
 
@@ -224,52 +287,84 @@ type_again n v e = elim (chosen (nat_eq n 1) Integer _ v e) [
   ]
 ]
 
-same_fields : (t u s z p q : ℕ) → t ≡ u → s ≡ z → p ≡ q → (let x : VariableFields = record { type_number = t; size = s; padding = p } in x) ≡ record { type_number = u; size = z; padding = q }
+same_fields : (t u s z p q : ℕ) → t ≡ u → s ≡ z → p ≡ q
+    → (let x : VariableFields = record { type_number = t; size = s; padding = p } in x)
+    ≡ record { type_number = u; size = z; padding = q }
 same_fields t u s z p q e f g = rw (e, f, g) refl
 
-pub kind_is : (b : List ℕ) (n t size : ℕ) (v : VarType) → IsValid b → n < (counts_in b).variables → t ≡ variable_type b (56 + 4 * n) → type_of t ≡ Some v → size ≡ variable_size b (56 + 4 * n)
-    → slice_get (contents_in b).variables n ≡ Some (fields_of_variable (record { var_type = v; size = size }))
+pub kind_is : (b : List ℕ) (n t size : ℕ) (v : VarType) → IsValid b → n < (counts_in b).variables
+    → t ≡ variable_type b (56 + 4 * n) → type_of t ≡ Some v → size ≡ variable_size b (56 + 4 * n)
+    → slice_get (contents_in b).variables n
+    ≡ Some (fields_of_variable (record { var_type = v; size = size }))
 kind_is b n t size v valid h e f g =
     let row = variable_fields b (56 + 4 * n) in
-    let parts = and_parts (is_some (type_of row.type_number)) (is_within 1 4 row.size && nat_eq row.padding 0) (variable_row_valid b n valid h) in
-    let none : row.padding ≡ 0 = eqb-true row.padding 0 (and_parts (is_within 1 4 row.size) (nat_eq row.padding 0) parts.1).1 in
+    let parts = and_parts (is_some (type_of row.type_number)) (is_within 1 4 row.size
+    && nat_eq row.padding 0) (variable_row_valid b n valid h) in
+    let none : row.padding ≡ 0 =
+    eqb-true row.padding 0 (and_parts (is_within 1 4 row.size) (nat_eq row.padding 0) parts.1).1
+    in
     let code : row.type_number ≡ type_code v = sym e ∙ type_again t v f in
     variable_row_at b n h ∙ ap Some (same_fields _ _ _ _ _ _ code (sym g) none)
 
 -- ---- strings by number
 
-pub string_row_at : (b : List ℕ) (n : ℕ) → n < (counts_in b).strings → slice_get (contents_in b).strings n ≡ Some (string_fields b (string_rows_start b + 8 * n))
+pub string_row_at : (b : List ℕ) (n : ℕ) → n < (counts_in b).strings
+    → slice_get (contents_in b).strings n ≡ Some (string_fields b (string_rows_start b + 8 * n))
 unfolding contents_in
 string_row_at b n h = row_get (string_fields b) 8 (counts_in b).strings (string_rows_start b) n h
 
-string_lies : (b : List ℕ) (place : ℕ) → IsValid b → place < (counts_in b).strings → string_start b (string_rows_start b + 8 * place) + string_length b (string_rows_start b + 8 * place) ≤ strings_length b
+string_lies : (b : List ℕ) (place : ℕ) → IsValid b → place < (counts_in b).strings
+    → string_start b (string_rows_start b + 8 * place)
+    + string_length b (string_rows_start b + 8 * place) ≤ strings_length b
 string_lies b place valid h =
     let row = string_rows_start b + 8 * place in
-    let lies = all_at (lies_within (strings_length b)) _ place _ (spans b (valid_sections b valid) (valid rule.Row)).strings (row_get (string_fields b) 8 (counts_in b).strings (string_rows_start b) place h) in
-    span_inside (string_start b row) (string_length b row) (strings_length b) (string_fields b row) refl refl lies
+    let lies = all_at (lies_within (strings_length b)) _ place _
+    (spans b (valid_sections b valid) (valid rule.Row)).strings
+    (row_get (string_fields b) 8 (counts_in b).strings (string_rows_start b) place h) in
+    span_inside (string_start b row) (string_length b row) (strings_length b) (string_fields b row)
+    refl refl lies
 
-string_found : (b found : List ℕ) (place : ℕ) → IsValid b → place < (counts_in b).strings → IsStringAt b found place → found ≡ part (string_fields b (string_rows_start b + 8 * place)) (contents_in b).string_bytes
+string_found : (b found : List ℕ) (place : ℕ) → IsValid b → place < (counts_in b).strings
+    → IsStringAt b found place → found ≡ part (string_fields b (string_rows_start b + 8 * place))
+    (contents_in b).string_bytes
 unfolding contents_in
 string_found b found place valid h i =
     let row_is = i.row_is in
-    i.found_is ∙ rw (i.from_is, i.long_is, row_is) (part_of_part (string_bytes_start b) (strings_length b) _ _ b (string_lies b place valid h))
+    i.found_is ∙ rw (i.from_is, i.long_is, row_is)
+    (part_of_part (string_bytes_start b) (strings_length b) _ _ b (string_lies b place valid h))
 
-pub string_value : (b found : List ℕ) (place : ℕ) → IsValid b → place < (counts_in b).strings → IsStringAt b found place → string_in_row (contents_in b) place ≡ Some found
+pub string_value : (b found : List ℕ) (place : ℕ) → IsValid b → place < (counts_in b).strings
+    → IsStringAt b found place → string_in_row (contents_in b) place ≡ Some found
 string_value b found place valid h i =
-    ap (option_map (λ (span : Span). part span (contents_in b).string_bytes)) (string_row_at b place h)
+    ap (option_map (λ (span : Span). part span (contents_in b).string_bytes))
+    (string_row_at b place h)
     ∙ ap Some (sym (string_found b found place valid h i))
 
-pub string_valid : (b found : List ℕ) (place : ℕ) → IsValid b → place < (counts_in b).strings → IsStringAt b found place → is_string found ≡ true
+pub string_valid : (b found : List ℕ) (place : ℕ) → IsValid b → place < (counts_in b).strings
+    → IsStringAt b found place → is_string found ≡ true
 string_valid b found place valid h i =
-    ap is_string (string_found b found place valid h i) ∙ all_at (λ (span : Span). is_string (part span (contents_in b).string_bytes)) (contents_in b).strings place _ (valid rule.Text) (string_row_at b place h)
+    ap is_string (string_found b found place valid h i)
+    ∙ all_at (λ (span : Span). is_string (part span (contents_in b).string_bytes))
+    (contents_in b).strings place _ (valid rule.Text) (string_row_at b place h)
 
-pub string_inside : (b : List ℕ) (place row from long : ℕ) → IsValid b → place < (counts_in b).strings → row ≡ string_rows_start b + 8 * place → from ≡ string_bytes_start b + string_start b row → long ≡ string_length b row
+pub string_inside : (b : List ℕ) (place row from long : ℕ) → IsValid b
+    → place < (counts_in b).strings → row ≡ string_rows_start b + 8 * place
+    → from ≡ string_bytes_start b + string_start b row → long ≡ string_length b row
     → from + long ≤ length b
 string_inside b place row from long valid h r f l =
-    let at : from ≡ string_bytes_start b + string_start b (string_rows_start b + 8 * place) = f ∙ ap (λ (k : ℕ). string_bytes_start b + string_start b k) r in
-    let size : long ≡ string_length b (string_rows_start b + 8 * place) = l ∙ ap (string_length b) r in
-    omega (arith, string_lies b place valid h, (rooms b (valid_sections b valid)).string_bytes, at, size)
+    let at : from ≡ string_bytes_start b + string_start b (string_rows_start b + 8 * place) =
+    f ∙ ap (λ (k : ℕ). string_bytes_start b + string_start b k) r in
+    let size : long ≡ string_length b (string_rows_start b + 8 * place) =
+    l ∙ ap (string_length b) r in
+    omega (
+      arith,
+      string_lies b place valid h,
+      (rooms b (valid_sections b valid)).string_bytes,
+      at,
+      size,
+    )
 
-pub strings_past : (b : List ℕ) (k : ℕ) → (counts_in b).strings ≤ k → slice_get (contents_in b).strings k ≡ None
+pub strings_past : (b : List ℕ) (k : ℕ) → (counts_in b).strings ≤ k
+    → slice_get (contents_in b).strings k ≡ None
 unfolding contents_in
 strings_past b k h = row_past (string_fields b) 8 (counts_in b).strings (string_rows_start b) k h

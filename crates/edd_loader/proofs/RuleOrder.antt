@@ -79,7 +79,8 @@ sections_fill b n enough below =
     let inner = (and_parts (nat_eq (total_length b) (length b)) _ agree).1 in
     record {
       header = leb-true 56 (length b) (below rule.Short (omega arith));
-      filled = eqb-true (sections_end b) (length b) (and_parts (nat_eq (sections_end b) (length b)) _ inner).0;
+      filled = eqb-true (sections_end b) (length b)
+          (and_parts (nat_eq (sections_end b) (length b)) _ inner).0;
     }
 
 pub valid_sections : (b : List ℕ) → IsValid b → AreSectionsOf b

@@ -22,7 +22,8 @@ pub record Rooms (b : List ℕ) : Type 0 where
   pub string_bytes : string_bytes_start b + strings_length b ≤ length b
 
 pub rooms : (b : List ℕ) → AreSectionsOf b → Rooms b
-unfolding name_rows_start attribute_rows_start code_start string_rows_start name_bytes_start string_bytes_start sections_end
+unfolding name_rows_start attribute_rows_start code_start string_rows_start name_bytes_start
+    string_bytes_start sections_end
 rooms b s =
     let filled = s.filled in
     record {
@@ -35,30 +36,42 @@ rooms b s =
       string_bytes = omega arith;
     }
 
-pub part_length : (start size : ℕ) (b : List ℕ) → start + size ≤ length b → length (part (record { start = start; size = size }) b) ≡ size
+pub part_length : (start size : ℕ) (b : List ℕ) → start + size ≤ length b
+    → length (part (record { start = start; size = size }) b) ≡ size
 part_length start size b inside = omega (arith, length-take {A = ℕ}, length-drop {A = ℕ}, inside)
 
 -- ---- the rows of the contents
 
-pub variable_rows_are : (b : List ℕ) (count : ℕ) → count ≡ (counts_in b).variables → list_all is_variable_row (rows_from (variable_fields b) 4 count 56) ≡ are_variable_rows (contents_in b)
+pub variable_rows_are : (b : List ℕ) (count : ℕ) → count ≡ (counts_in b).variables
+    → list_all is_variable_row (rows_from (variable_fields b) 4 count 56)
+    ≡ are_variable_rows (contents_in b)
 unfolding contents_in
 variable_rows_are b count e = rw e refl
 
-pub name_rows_are : (b : List ℕ) (start count end : ℕ) → AreSectionsOf b → start ≡ name_rows_start b → count ≡ item_count (counts_in b) → end ≡ names_length b
-    → (list_all (λ r. nat_eq r.padding 0) (rows_from (name_fields b) 8 count start) && fills 0 (map (λ r. r.span) (rows_from (name_fields b) 8 count start)) end) ≡ are_name_rows (contents_in b)
+pub name_rows_are : (b : List ℕ) (start count end : ℕ) → AreSectionsOf b → start ≡ name_rows_start b
+    → count ≡ item_count (counts_in b) → end ≡ names_length b
+    → (list_all (λ r. nat_eq r.padding 0) (rows_from (name_fields b) 8 count start)
+    && fills 0 (map (λ r. r.span) (rows_from (name_fields b) 8 count start)) end)
+    ≡ are_name_rows (contents_in b)
 unfolding contents_in
 name_rows_are b start count end s e f g =
     let long = part_length (name_bytes_start b) (names_length b) b (rooms b s).name_bytes in
     rw (e, f, g, long) refl
 
-pub attribute_rows_are : (b : List ℕ) (counts : Counts) (start count end : ℕ) → AreSectionsOf b → counts ≡ counts_in b → start ≡ attribute_rows_start b → count ≡ attribute_count b → end ≡ code_length b
-    → (list_all (is_attribute_row counts) (rows_from (attribute_fields b) 16 count start) && (rise (rows_from (attribute_fields b) 16 count start) && fills 0 (map (λ r. r.span) (rows_from (attribute_fields b) 16 count start)) end)) ≡ are_attribute_rows (contents_in b)
+pub attribute_rows_are : (b : List ℕ) (counts : Counts) (start count end : ℕ) → AreSectionsOf b
+    → counts ≡ counts_in b → start ≡ attribute_rows_start b → count ≡ attribute_count b
+    → end ≡ code_length b
+    → (list_all (is_attribute_row counts) (rows_from (attribute_fields b) 16 count start)
+    && (rise (rows_from (attribute_fields b) 16 count start)
+    && fills 0 (map (λ r. r.span) (rows_from (attribute_fields b) 16 count start)) end))
+    ≡ are_attribute_rows (contents_in b)
 unfolding contents_in
 attribute_rows_are b counts start count end s c e f g =
     let long = part_length (code_start b) (code_length b) b (rooms b s).code in
     rw (c, e, f, g, long) refl
 
-pub string_rows_are : (b : List ℕ) (start count end : ℕ) → AreSectionsOf b → start ≡ string_rows_start b → count ≡ (counts_in b).strings → end ≡ strings_length b
+pub string_rows_are : (b : List ℕ) (start count end : ℕ) → AreSectionsOf b
+    → start ≡ string_rows_start b → count ≡ (counts_in b).strings → end ≡ strings_length b
     → fills 0 (rows_from (string_fields b) 8 count start) end ≡ are_string_rows (contents_in b)
 unfolding contents_in
 string_rows_are b start count end s e f g =
@@ -73,7 +86,8 @@ fills_reach place end (x ∷ xs) h =
     let parts = and_parts (nat_eq x.start place) (fills (place + x.size) xs end) h in
     omega (arith, fills_reach (place + x.size) end xs parts.1)
 
-pub fills_within : (place end : ℕ) (spans : List Span) → fills place spans end ≡ true → list_all (lies_within end) spans ≡ true
+pub fills_within : (place end : ℕ) (spans : List Span) → fills place spans end ≡ true
+    → list_all (lies_within end) spans ≡ true
 fills_within place end [] h = refl
 fills_within place end (x ∷ xs) h =
     let parts = and_parts (nat_eq x.start place) (fills (place + x.size) xs end) h in
@@ -82,68 +96,105 @@ fills_within place end (x ∷ xs) h =
     let here : lies_within end x ≡ true = le-leb (x.start + x.size) end (omega arith) in
     rw here (fills_within (place + x.size) end xs parts.1)
 
-pub all_mapped : {A B : Type 0} (f : A → B) (p : B → Bool) (xs : List A) → list_all p (map f xs) ≡ list_all (λ x. p (f x)) xs
+pub all_mapped : {A B : Type 0} (f : A → B) (p : B → Bool) (xs : List A) → list_all p (map f xs)
+    ≡ list_all (λ x. p (f x)) xs
 all_mapped f p [] = refl
 all_mapped f p (x ∷ xs) = ap (λ (b : Bool). p (f x) && b) (all_mapped f p xs)
 
 -- ---- the spans of the rows of an image whose rows keep their rules
 
 pub record Spans (b : List ℕ) : Type 0 where
-  pub names : list_all (λ r. lies_within (names_length b) r.span) (rows_from (name_fields b) 8 (item_count (counts_in b)) (name_rows_start b)) ≡ true
-  pub units : list_all (λ r. lies_within (code_length b) r.span) (rows_from (attribute_fields b) 16 (attribute_count b) (attribute_rows_start b)) ≡ true
-  pub strings : list_all (lies_within (strings_length b)) (rows_from (string_fields b) 8 (counts_in b).strings (string_rows_start b)) ≡ true
+  pub names : list_all (λ r. lies_within (names_length b) r.span)
+      (rows_from (name_fields b) 8 (item_count (counts_in b)) (name_rows_start b)) ≡ true
+  pub units : list_all (λ r. lies_within (code_length b) r.span)
+      (rows_from (attribute_fields b) 16 (attribute_count b) (attribute_rows_start b)) ≡ true
+  pub strings : list_all (lies_within (strings_length b))
+      (rows_from (string_fields b) 8 (counts_in b).strings (string_rows_start b)) ≡ true
 
 pub spans : (b : List ℕ) → AreSectionsOf b → are_rows (contents_in b) ≡ true → Spans b
 unfolding contents_in
 spans b s h =
     let c = contents_in b in
-    let zero_first = and_parts (nat_eq c.padding 0) (are_variable_rows c && (are_name_rows c && (are_attribute_rows c && are_string_rows c))) h in
-    let variables_first = and_parts (are_variable_rows c) (are_name_rows c && (are_attribute_rows c && are_string_rows c)) zero_first.1 in
-    let names_first = and_parts (are_name_rows c) (are_attribute_rows c && are_string_rows c) variables_first.1 in
+    let zero_first = and_parts (nat_eq c.padding 0) (are_variable_rows c
+    && (are_name_rows c && (are_attribute_rows c && are_string_rows c))) h in
+    let variables_first = and_parts (are_variable_rows c)
+    (are_name_rows c && (are_attribute_rows c && are_string_rows c)) zero_first.1 in
+    let names_first = and_parts (are_name_rows c) (are_attribute_rows c && are_string_rows c)
+    variables_first.1 in
     let attributes_first = and_parts (are_attribute_rows c) (are_string_rows c) names_first.1 in
     let long_names = part_length (name_bytes_start b) (names_length b) b (rooms b s).name_bytes in
     let long_code = part_length (code_start b) (code_length b) b (rooms b s).code in
-    let long_strings = part_length (string_bytes_start b) (strings_length b) b (rooms b s).string_bytes in
+    let long_strings = part_length (string_bytes_start b) (strings_length b) b
+    (rooms b s).string_bytes in
     let name_rows = rows_from (name_fields b) 8 (item_count (counts_in b)) (name_rows_start b) in
-    let unit_rows = rows_from (attribute_fields b) 16 (attribute_count b) (attribute_rows_start b) in
+    let unit_rows = rows_from (attribute_fields b) 16 (attribute_count b) (attribute_rows_start b)
+    in
     let string_rows = rows_from (string_fields b) 8 (counts_in b).strings (string_rows_start b) in
-    let name_fill : fills 0 (map (λ r. r.span) name_rows) (names_length b) ≡ true = rw long_names at (and_parts (list_all (λ r. nat_eq r.padding 0) name_rows) _ names_first.0).1 in
-    let unit_fill : fills 0 (map (λ r. r.span) unit_rows) (code_length b) ≡ true = rw long_code at (and_parts (rise unit_rows) _ (and_parts (list_all (is_attribute_row (counts_in b)) unit_rows) _ attributes_first.0).1).1 in
-    let string_fill : fills 0 string_rows (strings_length b) ≡ true = rw long_strings at attributes_first.1 in
+    let name_fill : fills 0 (map (λ r. r.span) name_rows) (names_length b) ≡ true =
+    rw long_names at (and_parts (list_all (λ r. nat_eq r.padding 0) name_rows) _
+    names_first.0).1 in
+    let unit_fill : fills 0 (map (λ r. r.span) unit_rows) (code_length b) ≡ true =
+    rw long_code at (and_parts (rise unit_rows) _
+    (and_parts (list_all (is_attribute_row (counts_in b)) unit_rows) _ attributes_first.0).1).1
+    in
+    let string_fill : fills 0 string_rows (strings_length b) ≡ true =
+    rw long_strings at attributes_first.1 in
     record {
-      names = sym (all_mapped (λ (r : NameFields). r.span) (lies_within (names_length b)) name_rows) ∙ fills_within 0 (names_length b) (map (λ r. r.span) name_rows) name_fill;
-      units = sym (all_mapped (λ (r : AttributeFields). r.span) (lies_within (code_length b)) unit_rows) ∙ fills_within 0 (code_length b) (map (λ r. r.span) unit_rows) unit_fill;
+      names = sym (all_mapped (λ (r : NameFields). r.span) (lies_within (names_length b)) name_rows)
+          ∙ fills_within 0 (names_length b) (map (λ r. r.span) name_rows) name_fill;
+      units = sym (all_mapped (λ (r : AttributeFields). r.span) (lies_within (code_length b))
+          unit_rows) ∙ fills_within 0 (code_length b) (map (λ r. r.span) unit_rows) unit_fill;
       strings = fills_within 0 (strings_length b) string_rows string_fill;
     }
 
 -- ---- the names and strings of the contents
 
-pub names_are : (b names : List ℕ) (start count place size : ℕ) → names ≡ part (record { start = place; size = size }) b → place ≡ name_bytes_start b → size ≡ names_length b → start ≡ name_rows_start b → count ≡ item_count (counts_in b)
-    → list_all (λ r. is_name (part r.span names)) (rows_from (name_fields b) 8 count start) ≡ are_names (contents_in b)
+pub names_are : (b names : List ℕ) (start count place size : ℕ)
+    → names ≡ part (record { start = place; size = size }) b → place ≡ name_bytes_start b
+    → size ≡ names_length b → start ≡ name_rows_start b → count ≡ item_count (counts_in b)
+    → list_all (λ r. is_name (part r.span names)) (rows_from (name_fields b) 8 count start)
+    ≡ are_names (contents_in b)
 unfolding contents_in
 names_are b names start count place size n p s e f = rw (n, p, s, e, f) refl
 
-pub strings_are : (b strings : List ℕ) (start count place size : ℕ) → strings ≡ part (record { start = place; size = size }) b → place ≡ string_bytes_start b → size ≡ strings_length b → start ≡ string_rows_start b → count ≡ (counts_in b).strings
-    → list_all (λ span. is_string (part span strings)) (rows_from (string_fields b) 8 count start) ≡ are_strings (contents_in b)
+pub strings_are : (b strings : List ℕ) (start count place size : ℕ)
+    → strings ≡ part (record { start = place; size = size }) b → place ≡ string_bytes_start b
+    → size ≡ strings_length b → start ≡ string_rows_start b → count ≡ (counts_in b).strings
+    → list_all (λ span. is_string (part span strings)) (rows_from (string_fields b) 8 count start)
+    ≡ are_strings (contents_in b)
 unfolding contents_in
 strings_are b strings start count place size n p s e f = rw (n, p, s, e, f) refl
 
 -- the same of other words for the bytes, the rows and their ends
 
-pub names_lie : (b names : List ℕ) (start count place size : ℕ) → AreSectionsOf b → are_rows (contents_in b) ≡ true → names ≡ part (record { start = place; size = size }) b → place ≡ name_bytes_start b → size ≡ names_length b → start ≡ name_rows_start b → count ≡ item_count (counts_in b)
-    → list_all (λ r. lies_within (length names) r.span) (rows_from (name_fields b) 8 count start) ≡ true
+pub names_lie : (b names : List ℕ) (start count place size : ℕ) → AreSectionsOf b
+    → are_rows (contents_in b) ≡ true → names ≡ part (record { start = place; size = size }) b
+    → place ≡ name_bytes_start b → size ≡ names_length b → start ≡ name_rows_start b
+    → count ≡ item_count (counts_in b)
+    → list_all (λ r. lies_within (length names) r.span) (rows_from (name_fields b) 8 count start)
+    ≡ true
 names_lie b names start count place size sections rows n p s e f =
-    let long : length names ≡ names_length b = ap length (n ∙ rw (p, s) refl) ∙ part_length (name_bytes_start b) (names_length b) b (rooms b sections).name_bytes in
+    let long : length names ≡ names_length b = ap length (n ∙ rw (p, s) refl)
+    ∙ part_length (name_bytes_start b) (names_length b) b (rooms b sections).name_bytes in
     rw (long, e, f) (spans b sections rows).names
 
-pub strings_lie : (b strings : List ℕ) (start count place size : ℕ) → AreSectionsOf b → are_rows (contents_in b) ≡ true → strings ≡ part (record { start = place; size = size }) b → place ≡ string_bytes_start b → size ≡ strings_length b → start ≡ string_rows_start b → count ≡ (counts_in b).strings
+pub strings_lie : (b strings : List ℕ) (start count place size : ℕ) → AreSectionsOf b
+    → are_rows (contents_in b) ≡ true → strings ≡ part (record { start = place; size = size }) b
+    → place ≡ string_bytes_start b → size ≡ strings_length b → start ≡ string_rows_start b
+    → count ≡ (counts_in b).strings
     → list_all (lies_within (length strings)) (rows_from (string_fields b) 8 count start) ≡ true
 strings_lie b strings start count place size sections rows n p s e f =
-    let long : length strings ≡ strings_length b = ap length (n ∙ rw (p, s) refl) ∙ part_length (string_bytes_start b) (strings_length b) b (rooms b sections).string_bytes in
+    let long : length strings ≡ strings_length b = ap length (n ∙ rw (p, s) refl)
+    ∙ part_length (string_bytes_start b) (strings_length b) b (rooms b sections).string_bytes in
     rw (long, e, f) (spans b sections rows).strings
 
-pub units_lie : (b code : List ℕ) (start count place size : ℕ) → AreSectionsOf b → are_rows (contents_in b) ≡ true → code ≡ part (record { start = place; size = size }) b → place ≡ code_start b → size ≡ code_length b → start ≡ attribute_rows_start b → count ≡ attribute_count b
-    → list_all (λ r. lies_within (length code) r.span) (rows_from (attribute_fields b) 16 count start) ≡ true
+pub units_lie : (b code : List ℕ) (start count place size : ℕ) → AreSectionsOf b
+    → are_rows (contents_in b) ≡ true → code ≡ part (record { start = place; size = size }) b
+    → place ≡ code_start b → size ≡ code_length b → start ≡ attribute_rows_start b
+    → count ≡ attribute_count b
+    → list_all (λ r. lies_within (length code) r.span)
+    (rows_from (attribute_fields b) 16 count start) ≡ true
 units_lie b code start count place size sections rows n p s e f =
-    let long : length code ≡ code_length b = ap length (n ∙ rw (p, s) refl) ∙ part_length (code_start b) (code_length b) b (rooms b sections).code in
+    let long : length code ≡ code_length b = ap length (n ∙ rw (p, s) refl)
+    ∙ part_length (code_start b) (code_length b) b (rooms b sections).code in
     rw (long, e, f) (spans b sections rows).units

@@ -25,23 +25,31 @@ known_type var_type.Enumerated = refl
 known_type var_type.BitEnumerated = refl
 
 kind_type : (kind : VarKind) → variable_type_of (fields_of_variable kind) ≡ Some (type_of_kind kind)
-kind_type kind = ap (option_map (λ (t : VarType). record { type = t; size = kind.size })) (known_type kind.var_type)
+kind_type kind = ap (option_map (λ (t : VarType). record { type = t; size = kind.size }))
+    (known_type kind.var_type)
 
-has_type : (r : VariableFields) (o : Option VarType) → is_some o ≡ true → (t : VariableType) × (option_map (λ (x : VarType). record { type = x; size = r.size }) o ≡ Some t)
+has_type : (r : VariableFields) (o : Option VarType) → is_some o ≡ true
+    → (t : VariableType) × (option_map (λ (x : VarType). record { type = x; size = r.size }) o
+    ≡ Some t)
 has_type r None h = absurd cc
 has_type r (Some x) h = (record { type = x; size = r.size }, refl)
 
-row_type : (r : VariableFields) → is_variable_row r ≡ true → (t : VariableType) × (variable_type_of r ≡ Some t)
-row_type r h = has_type r (type_of r.type_number) (and_parts (is_some (type_of r.type_number)) _ h).0
+row_type : (r : VariableFields) → is_variable_row r ≡ true
+    → (t : VariableType) × (variable_type_of r ≡ Some t)
+row_type r h = has_type r (type_of r.type_number)
+    (and_parts (is_some (type_of r.type_number)) _ h).0
 
-pub all_typed : (rows : List VariableFields) → list_all is_variable_row rows ≡ true → length (filter_map variable_type_of rows) ≡ length rows
+pub all_typed : (rows : List VariableFields) → list_all is_variable_row rows ≡ true
+    → length (filter_map variable_type_of rows) ≡ length rows
 all_typed [] h = refl
 all_typed (r ∷ rest) h =
     let parts = and_parts (is_variable_row r) (list_all is_variable_row rest) h in
     let t = row_type r parts.0 in
     rw t.1 (ap suc (all_typed rest parts.1))
 
-typed_at : (rows : List VariableFields) (i : ℕ) (r : VariableFields) (t : VariableType) → list_all is_variable_row rows ≡ true → slice_get rows i ≡ Some r → variable_type_of r ≡ Some t → slice_get (filter_map variable_type_of rows) i ≡ Some t
+typed_at : (rows : List VariableFields) (i : ℕ) (r : VariableFields) (t : VariableType)
+    → list_all is_variable_row rows ≡ true → slice_get rows i ≡ Some r → variable_type_of r ≡ Some t
+    → slice_get (filter_map variable_type_of rows) i ≡ Some t
 typed_at [] i r t h e f = absurd cc
 typed_at (x ∷ rest) zero r t h e f =
     let same : x ≡ r = cc in
@@ -54,13 +62,17 @@ typed_at (x ∷ rest) (suc i) r t h e f =
 
 -- ---- a valid image
 
-pub variable_rows : (b : List ℕ) → IsValid b → list_all is_variable_row (contents_in b).variables ≡ true
+pub variable_rows : (b : List ℕ) → IsValid b → list_all is_variable_row (contents_in b).variables
+    ≡ true
 variable_rows b valid =
     let c = contents_in b in
-    let behind = and_parts (nat_eq c.padding 0) (are_variable_rows c && (are_name_rows c && (are_attribute_rows c && are_string_rows c))) (valid rule.Row) in
-    (and_parts (are_variable_rows c) (are_name_rows c && (are_attribute_rows c && are_string_rows c)) behind.1).0
+    let behind = and_parts (nat_eq c.padding 0) (are_variable_rows c
+    && (are_name_rows c && (are_attribute_rows c && are_string_rows c))) (valid rule.Row) in
+    (and_parts (are_variable_rows c)
+    (are_name_rows c && (are_attribute_rows c && are_string_rows c)) behind.1).0
 
-rows_counted : {A : Type 0} (read : ℕ → A) (size n place : ℕ) → length (rows_from read size n place) ≡ n
+rows_counted : {A : Type 0} (read : ℕ → A) (size n place : ℕ) → length (rows_from read size n place)
+    ≡ n
 unfolding rows_from
 rows_counted read size zero place = refl
 rows_counted read size (suc n) place = ap suc (rows_counted read size n (place + size))
@@ -69,12 +81,19 @@ counted : (b : List ℕ) → length (contents_in b).variables ≡ (counts_in b).
 unfolding contents_in
 counted b = rows_counted _ 4 (counts_in b).variables _
 
-pub types_counted : (b : List ℕ) → IsValid b → length (environment_of (contents_in b)).types ≡ (counts_in b).variables
+pub types_counted : (b : List ℕ) → IsValid b → length (environment_of (contents_in b)).types
+    ≡ (counts_in b).variables
 types_counted b valid = all_typed (contents_in b).variables (variable_rows b valid) ∙ counted b
 
-pub type_at_number : (b : List ℕ) (i : ℕ) (kind : VarKind) → IsValid b → slice_get (contents_in b).variables i ≡ Some (fields_of_variable kind) → slice_get (environment_of (contents_in b)).types i ≡ Some (type_of_kind kind)
-type_at_number b i kind valid e = typed_at (contents_in b).variables i (fields_of_variable kind) (type_of_kind kind) (variable_rows b valid) e (kind_type kind)
+pub type_at_number : (b : List ℕ) (i : ℕ) (kind : VarKind) → IsValid b
+    → slice_get (contents_in b).variables i ≡ Some (fields_of_variable kind)
+    → slice_get (environment_of (contents_in b)).types i ≡ Some (type_of_kind kind)
+type_at_number b i kind valid e = typed_at (contents_in b).variables i (fields_of_variable kind)
+    (type_of_kind kind) (variable_rows b valid) e (kind_type kind)
 
 -- a variable that there isn't has no type
-pub no_type : (b : List ℕ) (i : ℕ) → IsValid b → (counts_in b).variables ≤ i → None ≡ slice_get (environment_of (contents_in b)).types i
-no_type b i valid past = sym (slice_get_past (environment_of (contents_in b)).types i (omega (arith, types_counted b valid)))
+pub no_type : (b : List ℕ) (i : ℕ) → IsValid b → (counts_in b).variables ≤ i
+    → None ≡ slice_get (environment_of (contents_in b)).types i
+no_type b i valid past =
+    sym (slice_get_past (environment_of (contents_in b)).types i
+    (omega (arith, types_counted b valid)))

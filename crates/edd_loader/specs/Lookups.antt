@@ -22,4 +22,5 @@ string_in_row c row = option_map (λ span. part span c.string_bytes) (slice_get 
 
 -- no item of this name stands before that one, in the order of kinds and numbers
 abbrev pub IsFirstNamed : Contents → Name → ItemNo → Type 0
-IsFirstNamed c name item = (other : ItemNo) → name_numbered c other ≡ Some name → place_of_item c.counts item ≤ place_of_item c.counts other
+IsFirstNamed c name item = (other : ItemNo) → name_numbered c other ≡ Some name
+    → place_of_item c.counts item ≤ place_of_item c.counts other

@@ -32,8 +32,9 @@ stood_on marks = map is_stood_on marks
 abbrev pub brought : Bool → ℕ → Option ℕ
 brought goes_on depth = if goes_on then Some depth else None
 
--- How many operands there are where the instruction before brings so many, if it goes on, and so many are known: none where
--- nothing says how many, and no number where others are brought than are known.
+-- How many operands there are where the instruction before brings so many, if it goes on, and so
+-- many are known: none where nothing says how many, and no number where others are brought than are
+-- known.
 abbrev pub arrival : (brought known : Option ℕ) → Option ℕ
 arrival None None = Some 0
 arrival None (Some before) = Some before

@@ -29,4 +29,5 @@ jumps_to q x = option_map_or (λ w. w.to == q) (jump x.instruction) false
 
 -- so many operands are enough for it, and what it leaves has room
 abbrev pub fits : ℕ → Instruction → Bool
-fits depth i = nat_le (takes i) depth && option_map_or (λ n. nat_le (depth - takes i + n) 128) (leaves i) true
+fits depth i = nat_le (takes i) depth && option_map_or (λ n. nat_le (depth - takes i + n) 128)
+    (leaves i) true

@@ -12,16 +12,23 @@ use Rattle.edd_image.specs.Validity.{fault_number, sort_of, slots_of}
 
 -- where the unit of a row stands, in an image of this version with these counts
 abbrev pub context_of : Version → Counts → AttributeFields → Context
-context_of version counts r = record { version = version; counts = counts; sort = sort_of r; slots = slots_of r }
+context_of version counts r = record {
+  version = version;
+  counts = counts;
+  sort = sort_of r;
+  slots = slots_of r;
+}
 
 -- the unit of the row keeps the rule
 abbrev pub RowKeeps : Version → Counts → List ℕ → UnitRule → AttributeFields → Type 0
-RowKeeps version counts code which r = UnitKeeps (context_of version counts r) (part r.span code) which
+RowKeeps version counts code which r = UnitKeeps (context_of version counts r) (part r.span code)
+    which
 
 -- the units of the rows keep each rule whose fault has a number below n
 abbrev pub RowsKeepBelow : Version → Counts → List ℕ → List AttributeFields → ℕ → Type 0
 RowsKeepBelow version counts code rows n =
-    (earlier : UnitRule) → fault_number (rule.Unit earlier) < n → AllByRecursion (RowKeeps version counts code earlier) rows
+    (earlier : UnitRule) → fault_number (rule.Unit earlier) < n
+    → AllByRecursion (RowKeeps version counts code earlier) rows
 
 -- the number below which no fault is found in units: past the last one, where there is none
 abbrev pub fault_bound : Option UnitRule → ℕ

@@ -12,7 +12,8 @@ use edd_image::{
 };
 use edd_syntax::numbers::{Attr, ItemNo};
 
-/// The number of DEFINITION. Its unit is the body of a method, and each other one's gives an attribute.
+/// The number of DEFINITION. Its unit is the body of a method, and each other one's gives an
+/// attribute.
 pub const DEFINITION: u8 = Attr::Definition as u8;
 
 // Whether the attribute may have this transaction's position, number of slots or 0.
@@ -50,7 +51,8 @@ fn is_attribute_row(bytes: &[u8], counts: Counts, row: usize) -> bool
     has_attribute(counts, item, attr, attribute_sub(bytes, row)) && attribute_zero(bytes, row) == 0
 }
 
-// Whether a row rises to the next by kind, attribute, item and sub, and is no second body of a method.
+// Whether a row rises to the next by kind, attribute, item and sub, and is no second body of a
+// method.
 fn rises(bytes: &[u8], row: usize, next: usize) -> bool
     requires row { row + ATTRIBUTE_ROW ≤ length bytes.now }
     requires next { next + ATTRIBUTE_ROW ≤ length bytes.now }
@@ -78,13 +80,14 @@ fn rises(bytes: &[u8], row: usize, next: usize) -> bool
 #[tactic(auto, unfolding(edd_image::specs::Contents::rows_from))]
 fn rises_next(bytes: &[u8], row: usize, left: usize) -> bool
     requires { row + ATTRIBUTE_ROW + ATTRIBUTE_ROW * left ≤ length bytes.now }
-    ensures { result ≡ rises_next (attribute_fields bytes.now row) (rows_from (attribute_fields bytes.now) 16 left (row + 16)) }
+    ensures { result ≡ rises_next (attribute_fields bytes.now row)
+        (rows_from (attribute_fields bytes.now) 16 left (row + 16)) }
 {
     left == 0 || rises(bytes, row, row + ATTRIBUTE_ROW)
 }
 
-/// Whether `count` attribute rows, the first of which stands at `start`, hold what they may hold and rise, and their units stand
-/// one behind the other and fill `end` bytes.
+/// Whether `count` attribute rows, the first of which stands at `start`, hold what they may hold
+/// and rise, and their units stand one behind the other and fill `end` bytes.
 pub fn are_attribute_rows(
     bytes: &[u8],
     counts: Counts,
@@ -93,9 +96,11 @@ pub fn are_attribute_rows(
     end: usize,
 ) -> bool
     requires { start + ATTRIBUTE_ROW * count ≤ length bytes.now }
-    ensures { result ≡ (list_all (is_attribute_row counts) (rows_from (attribute_fields bytes.now) 16 count start)
+    ensures { result ≡ (list_all (is_attribute_row counts)
+        (rows_from (attribute_fields bytes.now) 16 count start)
         && (rise (rows_from (attribute_fields bytes.now) 16 count start)
-        && fills 0 (map (λ r. r.span) (rows_from (attribute_fields bytes.now) 16 count start)) end)) }
+        && fills 0 (map (λ r. r.span) (rows_from (attribute_fields bytes.now) 16 count start))
+        end)) }
 {
     let mut place = 0;
     for index in 0..count {

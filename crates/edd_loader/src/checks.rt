@@ -30,7 +30,8 @@ fn broken_in_sections(bytes: &[u8]) -> Option<Rule>
 // The first of the rules on units that is broken, if one is.
 fn broken_in_code(alloc: Global, bytes: &[u8]) -> Result<Option<Rule>, AllocError>
     requires { KeepsBelow bytes.now 108 }
-    ensures { IfOk result (λ broken. MatchOption broken (IsValid bytes.now) (BreaksFirst bytes.now)) }
+    ensures { IfOk result (λ broken. MatchOption broken (IsValid bytes.now)
+        (BreaksFirst bytes.now)) }
 {
     match broken_in_units(alloc, bytes)? {
         Some(rule) => Ok(Some(Rule::Unit(rule))),
@@ -40,7 +41,8 @@ fn broken_in_code(alloc: Global, bytes: &[u8]) -> Result<Option<Rule>, AllocErro
 
 /// The first rule that is broken, if one is.
 pub fn first_broken(alloc: Global, bytes: &[u8]) -> Result<Option<Rule>, AllocError>
-    ensures { IfOk result (λ broken. MatchOption broken (IsValid bytes.now) (BreaksFirst bytes.now)) }
+    ensures { IfOk result (λ broken. MatchOption broken (IsValid bytes.now)
+        (BreaksFirst bytes.now)) }
 {
     if let Some(rule) = broken_in_header(bytes) {
         return Ok(Some(rule));

@@ -4,7 +4,8 @@ ghost use Rattle.std.specs.Prelude.{◌≡◌, ◌≢◌, ◌∷◌, [], length}
 ghost use Rattle.edd_syntax.specs.Names.{is_within};
 ghost use Rattle.edd_syntax.specs.Words.{is_code};
 
-/// Whether the bytes are two lower-case letters, two such pairs with one space between, or three digits.
+/// Whether the bytes are two lower-case letters, two such pairs with one space between, or three
+/// digits.
 pub fn is_code(bytes: &[u8]) -> bool
     ensures { result ≡ is_code bytes.now }
 {

@@ -8,7 +8,8 @@ use edd_image::{Rule, UnitRule};
 use std::alloc::{AllocError, AllocFailed};
 use thiserror::Error;
 
-/// The first rule of an image that is broken, or want of memory. Each fault but `Memory` prints its number and its kind.
+/// The first rule of an image that is broken, or want of memory. Each fault but `Memory` prints its
+/// number and its kind.
 #[derive(Clone, Copy, Debug, PartialEq, Eq, Error)]
 pub enum LoadFault {
     #[error("101 SHORT")]

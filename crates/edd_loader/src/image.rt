@@ -23,7 +23,8 @@ use edd_syntax::numbers::{ItemNo, StrNo, VarNo};
 use std::alloc::Global;
 use std::marker::Model;
 
-/// A valid image in the bytes that it was lent, and where their sections start. Contracts see it as these bytes.
+/// A valid image in the bytes that it was lent, and where their sections start. Contracts see it as
+/// these bytes.
 #[derive(Clone, Drop)]
 pub struct Image<'b> {
     bytes: &'b [u8],
@@ -39,16 +40,19 @@ impl<'b> Model for Image<'b> {
 
     ghost view = { λ image. image.bytes.now };
 
-    ghost invariant = { λ image. IsValid image.bytes.now × (image.starts ≡ starts_in image.bytes.now) };
+    ghost invariant = { λ image. IsValid image.bytes.now
+        × (image.starts ≡ starts_in image.bytes.now) };
 }
 
-/// The image in these bytes, if they are valid. It takes memory only for marks, while it looks at one unit.
+/// The image in these bytes, if they are valid. It takes memory only for marks, while it looks at
+/// one unit.
 ///
-/// A fault other than `Memory` stands for the first rule that is broken, in the order of their numbers, over the whole image.
+/// A fault other than `Memory` stands for the first rule that is broken, in the order of their
+/// numbers, over the whole image.
 pub fn load<'b>(alloc: Global, bytes: &'b [u8]) -> Result<Image<'b>, LoadFault>
-    ensures image { IfOk result (λ image. image ≡ bytes.now) }
+    ensures sound { IfOk result (λ image. image ≡ bytes.now) }
     ensures valid { OnOk result (IsValid bytes.now) }
-    ensures fault { IfErr result (λ fault. IfSome (rule_of fault) (BreaksFirst bytes.now)) }
+    ensures refused { IfErr result (λ fault. IfSome (rule_of fault) (BreaksFirst bytes.now)) }
 {
     if let Some(rule) = first_broken(alloc, bytes)? {
         return Err(fault_of(rule));
@@ -62,7 +66,7 @@ pub fn load<'b>(alloc: Global, bytes: &'b [u8]) -> Result<Image<'b>, LoadFault>
 impl<'b> Image<'b> {
     /// The bytes, as they were lent.
     pub fn bytes(&self) -> &'b [u8]
-        ensures value { result.now ≡ self.now }
+        ensures sound { result.now ≡ self.now }
         ensures valid { IsValid self.now }
     {
         self.bytes
@@ -75,7 +79,8 @@ impl<'b> Image<'b> {
         self.starts
     }
 
-    /// The identification and the numbers of variables, commands, menus, collections, methods and strings.
+    /// The identification and the numbers of variables, commands, menus, collections, methods and
+    /// strings.
     pub fn counts(&self) -> Counts
         ensures { result ≡ counts_in self.now }
     {
@@ -85,8 +90,10 @@ impl<'b> Image<'b> {
     /// The type and the size of a variable, if there is such a variable.
     pub fn variable(&self, number: VarNo) -> Option<VarKind>
         ensures exists { is_some result ≡ variable_exists (counts_in self.now) number }
-        ensures row { IfSome result (λ kind. slice_get (contents_in self.now).variables number.0 ≡ Some (fields_of_variable kind)) }
-        ensures value { option_map type_of_kind result ≡ slice_get (environment_of (contents_in self.now)).types number.0 }
+        ensures row { IfSome result (λ kind. slice_get (contents_in self.now).variables number.0
+            ≡ Some (fields_of_variable kind)) }
+        ensures sound { option_map type_of_kind result
+            ≡ slice_get (environment_of (contents_in self.now)).types number.0 }
     {
         variable_at(self.bytes, number)
     }
@@ -94,7 +101,8 @@ impl<'b> Image<'b> {
     /// The name of an item, if there is such an item.
     pub fn name(&self, item: ItemNo) -> Option<&'b str>
         ensures exists { is_some result ≡ item_exists (counts_in self.now) item }
-        ensures value { option_map (λ name. name.now) result ≡ name_numbered (contents_in self.now) item }
+        ensures sound { option_map (λ name. name.now) result ≡ name_numbered (contents_in self.now)
+            item }
     {
         let counts = self.counts();
         if !counts.has_item(item) {
@@ -107,18 +115,21 @@ impl<'b> Image<'b> {
     /// The first item with this name, in the order of kinds and numbers, if there is one.
     pub fn find(&self, name: &str) -> Option<ItemNo>
         ensures exists { IfSome result (λ item. IsTrue (item_exists (counts_in self.now) item)) }
-        ensures named { IfSome result (λ item. name_numbered (contents_in self.now) item ≡ Some name.now) }
+        ensures sound { IfSome result (λ item. name_numbered (contents_in self.now) item
+            ≡ Some name.now) }
         ensures first { IfSome result (IsFirstNamed (contents_in self.now) name.now) }
-        ensures none { IfNone result ((item : ItemNo) → name_numbered (contents_in self.now) item ≢ Some name.now) }
+        ensures complete { IfNone result ((item : ItemNo)
+            → name_numbered (contents_in self.now) item ≢ Some name.now) }
     {
         find(self.bytes, self.starts, name.as_bytes())
     }
 
-    /// The text of a string for the language `code`, if there is such a string: of its variants the first of that code, else the
-    /// first in English, else the first one, and of a key its name.
+    /// The text of a string for the language `code`, if there is such a string: of its variants the
+    /// first of that code, else the first in English, else the first one, and of a key its name.
     pub fn text(&self, string: StrNo, code: &str) -> Option<Text<'b>>
         ensures exists { is_some result ≡ string_exists (counts_in self.now) string }
-        ensures value { option_map seen result ≡ option_map (λ words. given words code.now) (string_numbered (contents_in self.now) string) }
+        ensures sound { option_map seen result ≡ option_map (λ words. given words code.now)
+            (string_numbered (contents_in self.now) string) }
     {
         if !self.counts().has_string(string) {
             return None;

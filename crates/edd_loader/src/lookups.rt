@@ -68,7 +68,7 @@ pub fn name_at(bytes: &[u8], starts: Starts, place: usize) -> &[u8]
     requires valid { IsValid bytes.now }
     requires starts { starts ≡ starts_in bytes.now }
     requires place { place < item_count (counts_in bytes.now) }
-    ensures value { name_in_row (contents_in bytes.now) place ≡ Some result.now }
+    ensures sound { name_in_row (contents_in bytes.now) place ≡ Some result.now }
     ensures utf8 { IsTrue (is_utf8 result.now) }
 {
     let row = starts.name_rows + NAME_ROW * place;
@@ -92,9 +92,11 @@ pub fn find(bytes: &[u8], starts: Starts, name: &[u8]) -> Option<ItemNo>
     requires valid { IsValid bytes.now }
     requires starts { starts ≡ starts_in bytes.now }
     ensures exists { IfSome result (λ item. IsTrue (item_exists (counts_in bytes.now) item)) }
-    ensures named { IfSome result (λ item. name_numbered (contents_in bytes.now) item ≡ Some name.now) }
+    ensures sound { IfSome result (λ item. name_numbered (contents_in bytes.now) item
+        ≡ Some name.now) }
     ensures first { IfSome result (IsFirstNamed (contents_in bytes.now) name.now) }
-    ensures none { IfNone result ((item : ItemNo) → name_numbered (contents_in bytes.now) item ≢ Some name.now) }
+    ensures complete { IfNone result ((item : ItemNo) → name_numbered (contents_in bytes.now) item
+        ≢ Some name.now) }
 {
     let counts = counts(bytes);
     let count = item_count(counts);
@@ -110,8 +112,10 @@ pub fn find(bytes: &[u8], starts: Starts, name: &[u8]) -> Option<ItemNo>
 pub fn variable_at(bytes: &[u8], number: VarNo) -> Option<VarKind>
     requires { IsValid bytes.now }
     ensures exists { is_some result ≡ variable_exists (counts_in bytes.now) number }
-    ensures row { IfSome result (λ kind. slice_get (contents_in bytes.now).variables number.0 ≡ Some (fields_of_variable kind)) }
-    ensures value { option_map type_of_kind result ≡ slice_get (environment_of (contents_in bytes.now)).types number.0 }
+    ensures row { IfSome result (λ kind. slice_get (contents_in bytes.now).variables number.0
+        ≡ Some (fields_of_variable kind)) }
+    ensures sound { option_map type_of_kind result
+        ≡ slice_get (environment_of (contents_in bytes.now)).types number.0 }
 {
     if number.0 >= variable_count(bytes) {
         return None;
@@ -127,7 +131,7 @@ pub fn string_at(bytes: &[u8], starts: Starts, number: usize) -> &[u8]
     requires valid { IsValid bytes.now }
     requires starts { starts ≡ starts_in bytes.now }
     requires number { number < (counts_in bytes.now).strings }
-    ensures value { string_in_row (contents_in bytes.now) number ≡ Some result.now }
+    ensures sound { string_in_row (contents_in bytes.now) number ≡ Some result.now }
     ensures string { IsTrue (is_string result.now) }
 {
     let row = starts.string_rows + STRING_ROW * number;

@@ -14,7 +14,8 @@ pub enum Mark {
     Stands(u8),
 }
 
-/// How many operands there are at a place to which the instruction before brings `depth`, if it goes on. Where it doesn't,
+/// How many operands there are at a place to which the instruction before brings `depth`, if it
+/// goes on. Where it doesn't,
 /// `depth` is 0.
 #[inline(always)]
 pub fn arrival(goes_on: bool, depth: u8, mark: Mark) -> Option<u8>

@@ -30,7 +30,8 @@ fn is_name_of(first: u8, rest: &[u8]) -> bool
     begins_name(first) && all_go_on(rest) && rest.len() < 255
 }
 
-/// Whether the bytes are a letter or `_`, and then letters, digits and `_`, at most 255 bytes in all.
+/// Whether the bytes are a letter or `_`, and then letters, digits and `_`, at most 255 bytes in
+/// all.
 pub fn is_name(bytes: &[u8]) -> bool
     ensures { result ≡ is_name bytes.now }
 {

@@ -83,11 +83,14 @@ pub fn are_rows(bytes: &[u8]) -> bool
         && string_rows_keep(bytes)
 }
 
-// Whether each of `count` name rows, the first of which stands at `start`, names a name among these bytes.
+// Whether each of `count` name rows, the first of which stands at `start`, names a name among these
+// bytes.
 fn all_names(bytes: &[u8], names: &[u8], start: usize, count: usize) -> bool
     requires room { start + NAME_ROW * count ≤ length bytes.now }
-    requires within { IsTrue (list_all (λ r. lies_within (length names.now) r.span) (rows_from (name_fields bytes.now) 8 count start)) }
-    ensures { result ≡ list_all (λ r. is_name (part r.span names.now)) (rows_from (name_fields bytes.now) 8 count start) }
+    requires within { IsTrue (list_all (λ r. lies_within (length names.now) r.span)
+        (rows_from (name_fields bytes.now) 8 count start)) }
+    ensures { result ≡ list_all (λ r. is_name (part r.span names.now))
+        (rows_from (name_fields bytes.now) 8 count start) }
 {
     for index in 0..count {
         let row = start + NAME_ROW * index;
@@ -113,11 +116,15 @@ pub fn are_names(bytes: &[u8]) -> bool
     all_names(bytes, part(bytes, place, size), start, count)
 }
 
-// Whether each of `count` string rows, the first of which stands at `start`, gives a string among these bytes.
+// Whether each of `count` string rows, the first of which stands at `start`, gives a string among
+// these bytes.
 fn all_strings(bytes: &[u8], strings: &[u8], start: usize, count: usize) -> bool
     requires room { start + STRING_ROW * count ≤ length bytes.now }
-    requires within { IsTrue (list_all (lies_within (length strings.now)) (rows_from (string_fields bytes.now) 8 count start)) }
-    ensures { result ≡ list_all (λ span. is_string (part span strings.now)) (rows_from (string_fields bytes.now) 8 count start) }
+    requires within { IsTrue
+        (list_all (lies_within (length strings.now))
+        (rows_from (string_fields bytes.now) 8 count start)) }
+    ensures { result ≡ list_all (λ span. is_string (part span strings.now))
+        (rows_from (string_fields bytes.now) 8 count start) }
 {
     for index in 0..count {
         let row = start + STRING_ROW * index;

@@ -9,8 +9,8 @@ use edd_image::{
     string_rows_start,
 };
 
-/// Where the sections of an image start behind its variable rows, as places among its bytes. Each ends where the next one
-/// starts, and the last at the end.
+/// Where the sections of an image start behind its variable rows, as places among its bytes. Each
+/// ends where the next one starts, and the last at the end.
 #[derive(Clone, Copy, PartialEq, Eq, Debug)]
 pub struct Starts {
     pub name_rows: usize,

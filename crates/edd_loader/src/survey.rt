@@ -24,7 +24,8 @@ pub struct Survey {
     pub depth: u8,
     /// Whether each jump leads inside the unit, and in an attribute forward.
     pub leads: bool,
-    /// Whether the numbers of operands agree and fit, which is looked at only as long as all jumps lead inside.
+    /// Whether the numbers of operands agree and fit, which is looked at only as long as all jumps
+    /// lead inside.
     pub agrees: bool,
     /// Whether all that is named exists.
     pub names: bool,
@@ -33,7 +34,14 @@ pub struct Survey {
 impl Survey {
     /// A walk that has seen nothing wrong so far.
     pub fn of(walk: Walk) -> Survey
-        ensures { result ≡ record { marks = walk.marks; goes_on = walk.goes_on; depth = walk.depth; leads = true; agrees = true; names = true } }
+        ensures { result ≡ record {
+          marks = walk.marks;
+          goes_on = walk.goes_on;
+          depth = walk.depth;
+          leads = true;
+          agrees = true;
+          names = true;
+        } }
     {
         Survey {
             marks: walk.marks,
@@ -50,10 +58,12 @@ impl Survey {
         requires place { place < vec_len self.old.marks }
         requires room { self.old.depth ≤ 128 }
         requires nothing { self.old.goes_on ≡ false → self.old.depth ≡ 0 }
-        requires fit { IfSome (depth_known (mark_at self.old.marks.items place)) (λ known. known ≤ 128) }
+        requires fit { IfSome (depth_known (mark_at self.old.marks.items place))
+            (λ known. known ≤ 128) }
         ensures depth { result ≤ 128 }
         ensures arrival { (if self.new.agrees then Some result else None)
-            ≡ (if self.old.agrees then arrival (brought self.old.goes_on self.old.depth) (depth_known (mark_at self.old.marks.items place)) else None) }
+            ≡ (if self.old.agrees then arrival (brought self.old.goes_on self.old.depth)
+            (depth_known (mark_at self.old.marks.items place)) else None) }
         ensures others { self.new ≡ record self.old { agrees = self.new.agrees } }
     {
         match arrival(self.goes_on, self.depth, self.marks[place]) {
@@ -67,11 +77,22 @@ impl Survey {
 
     // Notes where an instruction jumps, with so many operands.
     fn jump(&mut self, sort: Sort, place: usize, rest: u8, way: Option<Way>)
-        ensures leads { self.new.leads ≡ (option_map_or (λ w. may_lead sort (vec_len self.old.marks) place w.to) way true && self.old.leads) }
-        ensures agrees { IsTrue self.new.leads → self.new.agrees ≡ (option_map_or (λ w. agrees_with (mark_at self.old.marks.items w.to) rest) way true && self.old.agrees) }
+        ensures leads { self.new.leads
+            ≡ (option_map_or (λ w. may_lead sort (vec_len self.old.marks) place w.to) way true
+            && self.old.leads) }
+        ensures agrees { IsTrue self.new.leads
+            → self.new.agrees ≡ (option_map_or (λ w. agrees_with (mark_at self.old.marks.items w.to)
+            rest) way true && self.old.agrees) }
         ensures kept { IsTrue self.new.agrees → IsTrue self.old.agrees }
-        ensures marks { self.new.marks.items ≡ option_map_or (λ w. if may_lead sort (vec_len self.old.marks) place w.to then note_at self.old.marks.items w.to rest else self.old.marks.items) way self.old.marks.items }
-        ensures others { self.new ≡ record self.old { marks = self.new.marks; leads = self.new.leads; agrees = self.new.agrees } }
+        ensures marks { self.new.marks.items
+            ≡ option_map_or (λ w. if may_lead sort (vec_len self.old.marks) place w.to then note_at
+            self.old.marks.items w.to rest else self.old.marks.items) way self.old.marks.items }
+        ensures others { self.new
+            ≡ record self.old {
+              marks = self.new.marks;
+              leads = self.new.leads;
+              agrees = self.new.agrees;
+            } }
         ensures len { vec_len self.new.marks ≡ vec_len self.old.marks }
     {
         let Some(way) = way else {
@@ -90,9 +111,16 @@ impl Survey {
         ensures goes_on { self.new.goes_on ≡ is_some way }
         ensures nothing { self.new.goes_on ≡ false → self.new.depth ≡ 0 }
         ensures room { self.new.depth ≤ 128 }
-        ensures agrees { self.new.agrees ≡ (option_map_or (λ w. nat_le (rest + w.leaves) 128) way true && self.old.agrees) }
-        ensures brought { IsTrue self.new.agrees → brought self.new.goes_on self.new.depth ≡ option_map (λ w. rest + w.leaves) way }
-        ensures others { self.new ≡ record self.old { goes_on = self.new.goes_on; depth = self.new.depth; agrees = self.new.agrees } }
+        ensures agrees { self.new.agrees
+            ≡ (option_map_or (λ w. nat_le (rest + w.leaves) 128) way true && self.old.agrees) }
+        ensures brought { IsTrue self.new.agrees → brought self.new.goes_on self.new.depth
+            ≡ option_map (λ w. rest + w.leaves) way }
+        ensures others { self.new
+            ≡ record self.old {
+              goes_on = self.new.goes_on;
+              depth = self.new.depth;
+              agrees = self.new.agrees;
+            } }
     {
         let Some(way) = way else {
             self.goes_on = false;
@@ -109,7 +137,8 @@ impl Survey {
         }
     }
 
-    /// Takes on the instruction at a place where so many operands are. False where it isn't allowed.
+    /// Takes on the instruction at a place where so many operands are. False where it isn't
+    /// allowed.
     pub fn take_on(
         &mut self,
         context: Context,
@@ -121,16 +150,23 @@ impl Survey {
         requires place { place < vec_len self.old.marks }
         requires depth { depth ≤ 128 }
         ensures allowed { result ≡ is_allowed context.version context.sort instruction }
-        ensures names { IsTrue result → self.new.names ≡ (names_exist context instruction && self.old.names) }
-        ensures leads { IsTrue result → self.new.leads ≡ (jumps_inside context.sort (vec_len self.old.marks) place instruction && self.old.leads) }
+        ensures names { IsTrue result
+            → self.new.names ≡ (names_exist context instruction && self.old.names) }
+        ensures leads { IsTrue result
+            → self.new.leads ≡ (jumps_inside context.sort (vec_len self.old.marks) place instruction
+            && self.old.leads) }
         ensures goes_on { IsTrue result → self.new.goes_on ≡ is_some (leaves instruction) }
         ensures nothing { IsTrue result → self.new.goes_on ≡ false → self.new.depth ≡ 0 }
         ensures room { IsTrue result → self.new.depth ≤ 128 }
         ensures agrees { IsTrue result → IsTrue self.new.leads → self.new.agrees
-            ≡ (jump_agrees instruction (slice_set self.old.marks.items place (Stands depth)) (depth - takes instruction) && (fits depth instruction && self.old.agrees)) }
-        ensures brought { IsTrue result → IsTrue self.new.agrees → brought self.new.goes_on self.new.depth ≡ option_map (λ n. depth - takes instruction + n) (leaves instruction) }
+            ≡ (jump_agrees instruction (slice_set self.old.marks.items place (Stands depth))
+            (depth - takes instruction) && (fits depth instruction && self.old.agrees)) }
+        ensures brought { IsTrue result → IsTrue self.new.agrees
+            → brought self.new.goes_on self.new.depth
+            ≡ option_map (λ n. depth - takes instruction + n) (leaves instruction) }
         ensures marks { IsTrue result → self.new.marks.items
-            ≡ jump_noted context.sort (vec_len self.old.marks) place instruction (slice_set self.old.marks.items place (Stands depth)) (depth - takes instruction) }
+            ≡ jump_noted context.sort (vec_len self.old.marks) place instruction
+            (slice_set self.old.marks.items place (Stands depth)) (depth - takes instruction) }
         ensures len { vec_len self.new.marks ≡ vec_len self.old.marks }
     {
         if !instruction.is_allowed(context.version, context.sort) {

@@ -19,7 +19,8 @@ pub enum Text<'a> {
 // The first text of a code among the variants.
 fn text_in<'a>(bytes: &'a [u8], code: &[u8]) -> Option<&'a str>
     requires { IsTrue (all_variants (length bytes.now) bytes.now) }
-    ensures { option_map (λ text. text.now) result ≡ text_from (length bytes.now) code.now bytes.now }
+    ensures { option_map (λ text. text.now) result ≡ text_from (length bytes.now) code.now
+        bytes.now }
 {
     let mut rest = bytes;
     while !rest.is_empty() {
@@ -34,10 +35,12 @@ fn text_in<'a>(bytes: &'a [u8], code: &[u8]) -> Option<&'a str>
     None
 }
 
-// The text of the variants for a language: the first of the code, else the first in English, else the first.
+// The text of the variants for a language: the first of the code, else the first in English, else
+// the first.
 fn choose<'a>(bytes: &'a [u8], code: &[u8]) -> &'a str
     requires { IsTrue (are_variants bytes.now) }
-    ensures { option_map (λ words. text_for words code.now) (option_and_then as_words (variants_from (length bytes.now) bytes.now)) ≡ Some result.now }
+    ensures { option_map (λ words. text_for words code.now)
+        (option_and_then as_words (variants_from (length bytes.now) bytes.now)) ≡ Some result.now }
 {
     if let Some(text) = text_in(bytes, code) {
         return text;
@@ -53,7 +56,8 @@ fn choose<'a>(bytes: &'a [u8], code: &[u8]) -> &'a str
 
 fn text_of_tag<'a>(tag: u8, rest: &'a [u8], code: &[u8]) -> Text<'a>
     requires { IsTrue (is_string (tag ∷ rest.now)) }
-    ensures { option_map (λ words. given words code.now) (string_in (tag ∷ rest.now)) ≡ Some (seen result) }
+    ensures { option_map (λ words. given words code.now) (string_in (tag ∷ rest.now))
+        ≡ Some (seen result) }
 {
     if tag == 0 {
         Text::Words(choose(rest, code))
@@ -65,7 +69,8 @@ fn text_of_tag<'a>(tag: u8, rest: &'a [u8], code: &[u8]) -> Text<'a>
 /// The text of a string, given by its bytes, for a language.
 pub fn text_of<'a>(bytes: &'a [u8], code: &[u8]) -> Text<'a>
     requires { IsTrue (is_string bytes.now) }
-    ensures { option_map (λ words. given words code.now) (string_in bytes.now) ≡ Some (seen result) }
+    ensures { option_map (λ words. given words code.now) (string_in bytes.now)
+        ≡ Some (seen result) }
 {
     match bytes {
         [] => Text::Key(""),

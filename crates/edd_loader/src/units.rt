@@ -54,8 +54,9 @@ fn first_of(one: Option<UnitRule>, other: Option<UnitRule>) -> Option<UnitRule>
     }
 }
 
-// The first of the rules that is broken by the unit of one of `count` attribute rows, the first of which stands at `start`. It
-// stands apart from its caller, so that what the walk needs stays in registers.
+// The first of the rules that is broken by the unit of one of `count` attribute rows, the first of
+// which stands at `start`. It stands apart from its caller, so that what the walk needs stays in
+// registers.
 #[inline(never)]
 fn broken_in_rows(
     alloc: Global,
@@ -67,9 +68,14 @@ fn broken_in_rows(
     count: usize,
 ) -> Result<Option<UnitRule>, AllocError>
     requires room { start + ATTRIBUTE_ROW * count ≤ length bytes.now }
-    requires within { IsTrue (list_all (λ r. lies_within (length code.now) r.span) (rows_from (attribute_fields bytes.now) 16 count start)) }
-    ensures kept { IfOk result (λ broken. RowsKeepBelow version counts code.now (rows_from (attribute_fields bytes.now) 16 count start) (fault_bound broken)) }
-    ensures broken { IfOk result (λ broken. IfSome broken (λ which. ¬ AllByRecursion (RowKeeps version counts code.now which) (rows_from (attribute_fields bytes.now) 16 count start))) }
+    requires within { IsTrue (list_all (λ r. lies_within (length code.now) r.span)
+        (rows_from (attribute_fields bytes.now) 16 count start)) }
+    ensures kept { IfOk result
+        (λ broken. RowsKeepBelow version counts code.now
+        (rows_from (attribute_fields bytes.now) 16 count start) (fault_bound broken)) }
+    ensures broken { IfOk result
+        (λ broken. IfSome broken (λ which. ¬ AllByRecursion (RowKeeps version counts code.now which)
+        (rows_from (attribute_fields bytes.now) 16 count start))) }
 {
     let mut broken = None;
     for index in 0..count {
@@ -101,8 +107,10 @@ pub fn broken_in_units(alloc: Global, bytes: &[u8]) -> Result<Option<UnitRule>, 
     requires sections { AreSectionsOf bytes.now }
     requires version { IsTrue (is_some (version_of (version_number bytes.now))) }
     requires rows { IsTrue (are_rows (contents_in bytes.now)) }
-    ensures kept { IfOk result (λ broken. (earlier : UnitRule) → fault_number (rule.Unit earlier) < fault_bound broken → UnitsKeep (contents_in bytes.now) earlier) }
-    ensures broken { IfOk result (λ broken. IfSome broken (λ which. ¬ UnitsKeep (contents_in bytes.now) which)) }
+    ensures kept { IfOk result (λ broken. (earlier : UnitRule) → fault_number (rule.Unit earlier)
+        < fault_bound broken → UnitsKeep (contents_in bytes.now) earlier) }
+    ensures broken { IfOk result
+        (λ broken. IfSome broken (λ which. ¬ UnitsKeep (contents_in bytes.now) which)) }
 {
     let start = attribute_rows_start(bytes);
     let count = attribute_count(bytes) as usize;

@@ -34,13 +34,14 @@ pub fn may_lead(sort: Sort, size: usize, place: usize, target: usize) -> bool
     is_forward && target < size
 }
 
-// Whether an instruction at a place where `depth` operands are may jump to a target with `rest` of them. It stands apart, so that
-// fewer values live in the walk.
+// Whether an instruction at a place where `depth` operands are may jump to a target with `rest` of
+// them. It stands apart, so that fewer values live in the walk.
 #[inline(never)]
 fn may_jump(marks: &[Mark], sort: Sort, place: usize, depth: u8, rest: u8, target: u32) -> bool
     requires { place < length marks.now }
     ensures leads { IsTrue result → may_lead sort (length marks.now) place target ≡ true }
-    ensures agrees { IsTrue result → agrees_with (mark_at (slice_set marks.now place (Stands depth)) target) rest ≡ true }
+    ensures agrees { IsTrue result
+        → agrees_with (mark_at (slice_set marks.now place (Stands depth)) target) rest ≡ true }
 {
     let target = target as usize;
     if !may_lead(sort, marks.len(), place, target) {
@@ -62,7 +63,8 @@ impl Walk {
         requires { place < vec_len self.old.marks }
         ensures unchanged { result ≡ false → self.new.marks.items ≡ self.old.marks.items }
         ensures fits { IsTrue result → fits ≡ true }
-        ensures marks { IsTrue result → self.new.marks.items ≡ slice_set self.old.marks.items place (Stands depth) }
+        ensures marks { IsTrue result → self.new.marks.items ≡ slice_set self.old.marks.items place
+            (Stands depth) }
         ensures goes_on { IsTrue result → self.new.goes_on ≡ false }
         ensures depth { IsTrue result → self.new.depth ≡ 0 }
         ensures len { vec_len self.new.marks ≡ vec_len self.old.marks }
@@ -86,7 +88,8 @@ impl Walk {
         ensures fits { IsTrue result → fits ≡ true }
         ensures enough { IsTrue result → takes ≤ depth }
         ensures room { IsTrue result → depth - takes + leaves ≤ 128 }
-        ensures marks { IsTrue result → self.new.marks.items ≡ slice_set self.old.marks.items place (Stands depth) }
+        ensures marks { IsTrue result → self.new.marks.items ≡ slice_set self.old.marks.items place
+            (Stands depth) }
         ensures goes_on { IsTrue result → self.new.goes_on ≡ true }
         ensures depth { IsTrue result → self.new.depth ≡ depth - takes + leaves }
         ensures len { vec_len self.new.marks ≡ vec_len self.old.marks }
@@ -118,8 +121,9 @@ impl Walk {
         true
     }
 
-    /// Takes on the instruction at a place where so many operands are, if it may stand there, has its operands, and leads nowhere
-    /// with another number of them. Else it leaves the marks as they were.
+    /// Takes on the instruction at a place where so many operands are, if it may stand there, has
+    /// its operands, and leads nowhere with another number of them. Else it leaves the marks as
+    /// they were.
     #[inline(always)]
     pub fn take_on(
         &mut self,
@@ -133,16 +137,21 @@ impl Walk {
         requires place { place < size }
         requires depth { depth ≤ 128 }
         ensures unchanged { result ≡ false → self.new.marks.items ≡ self.old.marks.items }
-        ensures allowed { IsTrue result → is_allowed context.version context.sort instruction ≡ true }
+        ensures allowed { IsTrue result → is_allowed context.version context.sort instruction
+            ≡ true }
         ensures names { IsTrue result → names_exist context instruction ≡ true }
         ensures leads { IsTrue result → jumps_inside context.sort size place instruction ≡ true }
         ensures fits { IsTrue result → fits depth instruction ≡ true }
-        ensures agrees { IsTrue result → jump_agrees instruction (slice_set self.old.marks.items place (Stands depth)) (depth - takes instruction) ≡ true }
-        ensures brought { IsTrue result → brought self.new.goes_on self.new.depth ≡ option_map (λ n. depth - takes instruction + n) (leaves instruction) }
+        ensures agrees { IsTrue result
+            → jump_agrees instruction (slice_set self.old.marks.items place (Stands depth))
+            (depth - takes instruction) ≡ true }
+        ensures brought { IsTrue result → brought self.new.goes_on self.new.depth
+            ≡ option_map (λ n. depth - takes instruction + n) (leaves instruction) }
         ensures room { IsTrue result → self.new.depth ≤ 128 }
         ensures nothing { IsTrue result → self.new.goes_on ≡ false → self.new.depth ≡ 0 }
         ensures marks { IsTrue result → self.new.marks.items
-            ≡ jump_noted context.sort size place instruction (slice_set self.old.marks.items place (Stands depth)) (depth - takes instruction) }
+            ≡ jump_noted context.sort size place instruction
+            (slice_set self.old.marks.items place (Stands depth)) (depth - takes instruction) }
         ensures len { vec_len self.new.marks ≡ vec_len self.old.marks }
     {
         let sort = context.sort;

@@ -11,10 +11,12 @@ use crate::walk::Walk;
 use edd_image::{Context, UnitRule, decode};
 use std::alloc::{AllocError, Global};
 
-// Walks over a unit as long as nothing is wrong, and gives the place that it has come to. None where the unit is no chain.
+// Walks over a unit as long as nothing is wrong, and gives the place that it has come to. None
+// where the unit is no chain.
 #[inline(always)]
 fn walked(alloc: Global, context: Context, code: &[u8]) -> Result<Option<(Walk, usize)>, AllocError>
-    ensures { IfOk result (λ come. MatchOption come (¬ UnitKeeps context code.now Chain) (λ at. IsWalkAt context code.now at.0 at.1)) }
+    ensures { IfOk result (λ come. MatchOption come (¬ UnitKeeps context code.now Chain)
+        (λ at. IsWalkAt context code.now at.0 at.1)) }
 {
     let marks = vec![in alloc; Mark::Unknown; code.len()]?;
     let mut walk = Walk {
@@ -45,7 +47,8 @@ fn walked(alloc: Global, context: Context, code: &[u8]) -> Result<Option<(Walk, 
 #[inline(never)]
 fn surveyed(context: Context, code: &[u8], walk: Walk, place: usize) -> Option<Survey>
     requires { IsWalkAt context code.now walk place }
-    ensures { MatchOption result (¬ UnitKeeps context code.now Chain) (IsSurveyOf context code.now) }
+    ensures { MatchOption result (¬ UnitKeeps context code.now Chain)
+        (IsSurveyOf context code.now) }
 {
     if code.is_empty() {
         return None;
@@ -71,7 +74,8 @@ pub fn broken_in_unit(
     context: Context,
     code: &[u8],
 ) -> Result<Option<UnitRule>, AllocError>
-    ensures { IfOk result (λ broken. MatchOption broken (IsValidUnit context code.now) (UnitBreaksFirst context code.now)) }
+    ensures { IfOk result (λ broken. MatchOption broken (IsValidUnit context code.now)
+        (UnitBreaksFirst context code.now)) }
 {
     let Some((walk, place)) = walked(alloc, context, code)? else {
         return Ok(Some(UnitRule::Chain));

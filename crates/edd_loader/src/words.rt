@@ -110,7 +110,8 @@ fn is_tagged(tag: u8, rest: &[u8]) -> bool
     }
 }
 
-/// Whether the bytes are a string: variants whose codes are codes and whose texts are UTF-8, or a key that is a name.
+/// Whether the bytes are a string: variants whose codes are codes and whose texts are UTF-8, or a
+/// key that is a name.
 #[tactic(auto, unfolding(edd_image::specs::Strings::string_in))]
 pub fn is_string(bytes: &[u8]) -> bool
     ensures { result ≡ is_string bytes.now }

@@ -27,28 +27,51 @@ use Rattle.edd_loader.specs.Lookups.{type_of_kind}
 use Rattle.edd_machine.specs.Types.{types_in}
 use Rattle.edd_loader.proofs.VariableTypes.{type_at_number, types_counted}
 
-pub store_acts : (env : Environment) (s : State) (v : VarNo) (next : ℕ) (a : ℤ) (below : List ℤ) (t : VariableType) → s.operands ≡ a ∷ below → type_at env.types v ≡ t
-    → act env (instructions.Store v) next s ≡ store_in env s next below (store t.type t.size a) (record { variable = v; value = store t.type t.size a })
+pub store_acts : (env : Environment) (s : State) (v : VarNo) (next : ℕ) (a : ℤ) (below : List ℤ)
+    (t : VariableType) → s.operands ≡ a ∷ below → type_at env.types v ≡ t
+    → act env (instructions.Store v) next s ≡ store_in env s next below (store t.type t.size a)
+    (record { variable = v; value = store t.type t.size a })
 unfolding act
 store_acts env s v next a below t e g =
-    ap (λ (operands : List ℤ). on_top operands (λ x rest. store_in env s next rest (store (type_at env.types v).type (type_at env.types v).size x) (record { variable = v; value = store (type_at env.types v).type (type_at env.types v).size x }))) e
-    ∙ ap (λ (u : VariableType). store_in env s next below (store u.type u.size a) (record { variable = v; value = store u.type u.size a })) g
+    ap (λ (operands : List ℤ). on_top operands
+    (λ x rest. store_in env s next rest
+    (store (type_at env.types v).type (type_at env.types v).size x)
+    (record {
+      variable = v;
+      value = store (type_at env.types v).type (type_at env.types v).size
+          x;
+    }))) e
+    ∙ ap (λ (u : VariableType). store_in env s next below (store u.type u.size a)
+    (record { variable = v; value = store u.type u.size a })) g
 
-pub type_there : (b : List ℕ) (v : VarNo) (kind : VarKind) → IsValid b → slice_get (contents_in b).variables v.0 ≡ Some (fields_of_variable kind) → type_at (types_in b) v ≡ type_of_kind kind
-type_there b v kind valid e = get_or_from_slice_get (types_in b) v.0 (type_of_kind kind) _ (type_at_number b v.0 kind valid e)
+pub type_there : (b : List ℕ) (v : VarNo) (kind : VarKind) → IsValid b
+    → slice_get (contents_in b).variables v.0 ≡ Some (fields_of_variable kind)
+    → type_at (types_in b) v ≡ type_of_kind kind
+type_there b v kind valid e = get_or_from_slice_get (types_in b) v.0 (type_of_kind kind) _
+    (type_at_number b v.0 kind valid e)
 
-pub values_counted : (b : List ℕ) (values : List ℤ) → IsValid b → AreDeviceValues (types_in b) values → length values ≡ (counts_in b).variables
+pub values_counted : (b : List ℕ) (values : List ℤ) → IsValid b
+    → AreDeviceValues (types_in b) values → length values ≡ (counts_in b).variables
 values_counted b values valid are = AllZip-long _ (types_in b) values are ∙ types_counted b valid
 
-pub ask_acts : (env : Environment) (request : Ask) (next : ℕ) (s : State) (i : Instruction) → i ≡ instructions.Ask request → act env i next s ≡ act_ask request next s
+pub ask_acts : (env : Environment) (request : Ask) (next : ℕ) (s : State) (i : Instruction)
+    → i ≡ instructions.Ask request → act env i next s ≡ act_ask request next s
 unfolding act
 ask_acts env request next s i e = rw e refl
 
-pub effect_same : (o p : Option Effect) (b : List ℕ) (m : Machine) → o ≡ p → IsEffect p b m → IsEffect o b m
-effect_same o p b m e i = record { effect = i.effect; is = e ∙ i.is; state = i.state; emitted = i.emitted }
+pub effect_same : (o p : Option Effect) (b : List ℕ) (m : Machine) → o ≡ p → IsEffect p b m
+    → IsEffect o b m
+effect_same o p b m e i = record {
+  effect = i.effect;
+  is = e ∙ i.is;
+  state = i.state;
+  emitted = i.emitted;
+}
 
 -- the instructions that attributes have
-pub shared : (i : Instruction) → ((v : VarNo) → i ≡ instructions.Store v → ⊥) → ((n : ℕ) → i ≡ instructions.GetLocal n → ⊥) → ((n : ℕ) → i ≡ instructions.SetLocal n → ⊥) → ((r : Ask) → i ≡ instructions.Ask r → ⊥) → (i ≡ instructions.Abort → ⊥) → IsShared i
+pub shared : (i : Instruction) → ((v : VarNo) → i ≡ instructions.Store v → ⊥)
+    → ((n : ℕ) → i ≡ instructions.GetLocal n → ⊥) → ((n : ℕ) → i ≡ instructions.SetLocal n → ⊥)
+    → ((r : Ask) → i ≡ instructions.Ask r → ⊥) → (i ≡ instructions.Abort → ⊥) → IsShared i
 shared instructions.End a b c d e = (One, refl)
 shared (instructions.Push n) a b c d e = (One, refl)
 shared (instructions.Variable v) a b c d e = (One, refl)
@@ -78,21 +101,34 @@ shared (instructions.Ask request) a b c d e = absurd (d request refl)
 shared instructions.Abort a b c d e = absurd (e refl)
 
 -- the variable that an instruction reads has a value
-pub variable_there : (b : List ℕ) (i : Instruction) (s : State) (v : VarNo) → CanAct b i s → i ≡ instructions.Variable v → v.0 < length s.values
+pub variable_there : (b : List ℕ) (i : Instruction) (s : State) (v : VarNo) → CanAct b i s
+    → i ≡ instructions.Variable v → v.0 < length s.values
 variable_there b i s v can e =
-    let exists : names_exist can.context (instructions.Variable v) ≡ true = subst (λ (x : Instruction). names_exist can.context x ≡ true) e can.exist in
-    omega (arith, ltb-true v.0 can.context.counts.variables exists, can.is.variable_count, AllZip-long _ (types_in b) s.values can.is.values)
+    let exists : names_exist can.context (instructions.Variable v) ≡ true =
+    subst (λ (x : Instruction). names_exist can.context x ≡ true) e can.exist in
+    omega (
+      arith,
+      ltb-true v.0 can.context.counts.variables exists,
+      can.is.variable_count,
+      AllZip-long _ (types_in b) s.values can.is.values,
+    )
 
 -- what an outcome makes of a state does not depend on the operands that it had
-pub comes_over : (o : Outcome) (operands : List ℤ) (s : State) → comes_to o operands s ≡ comes_to o operands (record s { operands = operands })
+pub comes_over : (o : Outcome) (operands : List ℤ) (s : State) → comes_to o operands s
+    ≡ comes_to o operands (record s { operands = operands })
 comes_over (GoesOn place) operands s = refl
 comes_over (Gives place r) operands s = refl
 comes_over Ends operands s = refl
 comes_over (Traps why) operands s = refl
 
 -- what a store leaves, by the numbers that were read again
-pub stored_state : (s : State) (next v w : ℕ) (below operands : List ℤ) (kept z read : ℤ) → z ≡ kept → read ≡ wrap w z → operands ≡ read ∷ below → (t : State) → t ≡ record s { place = next; operands = operands; values = slice_set s.values v z }
-    → record s { place = next; operands = wrap w kept ∷ below; values = slice_set s.values v kept } ≡ t
+pub stored_state : (s : State) (next v w : ℕ) (below operands : List ℤ) (kept z read : ℤ) → z ≡ kept
+    → read ≡ wrap w z → operands ≡ read ∷ below → (t : State)
+    → t ≡ record s { place = next; operands = operands; values = slice_set s.values v z }
+    → record s { place = next; operands = wrap w kept ∷ below; values = slice_set s.values v kept }
+    ≡ t
 stored_state s next v w below operands kept z read e f g t h =
-    let after : ℤ → List ℤ → State = λ x ops. record s { place = next; operands = ops; values = slice_set s.values v x } in
-    sym (h ∙ ap (after z) (g ∙ ap (λ (x : ℤ). x ∷ below) f) ∙ ap (λ (x : ℤ). after x (wrap w x ∷ below)) e)
+    let after : ℤ → List ℤ → State =
+    λ x ops. record s { place = next; operands = ops; values = slice_set s.values v x } in
+    sym (h ∙ ap (after z) (g ∙ ap (λ (x : ℤ). x ∷ below) f)
+    ∙ ap (λ (x : ℤ). after x (wrap w x ∷ below)) e)

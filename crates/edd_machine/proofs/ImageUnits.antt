@@ -8,7 +8,7 @@ use Rattle.edd_image.specs.declared.rules.UnitRule.TheVariants as unit_rule
 use Rattle.edd_image.specs.Fields.{counts_in, code_start, code_length, attribute_rows_start, attribute_count}
 use Rattle.edd_image.specs.Contents.{AttributeFields, part, rows_from, attribute_fields, contents_in}
 use Rattle.edd_image.specs.Units.{UnitKeeps, IsValidUnit}
-use Rattle.edd_image.specs.Validity.{PlacedUnit, unit_of, units, IsValid}
+use Rattle.edd_image.specs.Validity.{PlacedUnit, placed_unit, units, IsValid}
 use Rattle.edd_loader.specs.Sections.{lies_within}
 use Rattle.edd_loader.proofs.LookupLaws.{all_at}
 use Rattle.edd_loader.proofs.RuleOrder.{valid_sections}
@@ -16,15 +16,23 @@ use Rattle.edd_loader.proofs.Spaces.{rooms, spans}
 use Rattle.edd_loader.proofs.UnitTurns.{all_of_map}
 use Rattle.edd_machine.specs.Running.{unit_at, code_at}
 
-pub holds_at : {X : Type 0} (P : X → Type 0) (xs : List X) (n : ℕ) (x : X) → AllByRecursion P xs → slice_get xs n ≡ Some x → P x
+pub holds_at : {X : Type 0} (P : X → Type 0) (xs : List X) (n : ℕ) (x : X) → AllByRecursion P xs
+    → slice_get xs n ≡ Some x → P x
 holds_at P [] n x h e = absurd cc
 holds_at P (y ∷ ys) zero x h e = let same : y ≡ x = cc in subst P same h.0
 holds_at P (y ∷ ys) (suc n) x h e = holds_at P ys n x h.1 e
 
-pub unit_valid : (b : List ℕ) (n : ℕ) (r : AttributeFields) → IsValid b → slice_get (contents_in b).attributes n ≡ Some r → IsValidUnit (unit_of (contents_in b) r).context (unit_of (contents_in b) r).code
+pub unit_valid : (b : List ℕ) (n : ℕ) (r : AttributeFields) → IsValid b
+    → slice_get (contents_in b).attributes n ≡ Some r
+    → IsValidUnit (placed_unit (contents_in b) r).context (placed_unit (contents_in b) r).code
 unit_valid b n r valid at =
     let c = contents_in b in
-    let keeps = λ (which : _) (h : AllByRecursion (λ (u : PlacedUnit). UnitKeeps u.context u.code which) (units c)). holds_at (λ (x : AttributeFields). UnitKeeps (unit_of c x).context (unit_of c x).code which) c.attributes n r (all_of_map (unit_of c) (λ (u : PlacedUnit). UnitKeeps u.context u.code which) c.attributes h) at in
+    let keeps = λ (which : _)
+    (h : AllByRecursion (λ (u : PlacedUnit). UnitKeeps u.context u.code which) (units c)).
+    holds_at (λ (x : AttributeFields). UnitKeeps (placed_unit c x).context (placed_unit c x).code
+    which)
+    c.attributes n r (all_of_map (placed_unit c)
+    (λ (u : PlacedUnit). UnitKeeps u.context u.code which) c.attributes h) at in
     record {
       chain = keeps unit_rule.Chain (valid (rule.Unit unit_rule.Chain));
       jumps = keeps unit_rule.Jump (valid (rule.Unit unit_rule.Jump));
@@ -32,26 +40,34 @@ unit_valid b n r valid at =
       references = keeps unit_rule.Reference (valid (rule.Unit unit_rule.Reference));
     }
 
-pub counts_are : (b : List ℕ) (r : AttributeFields) → (unit_of (contents_in b) r).context.counts ≡ counts_in b
+pub counts_are : (b : List ℕ) (r : AttributeFields) → (placed_unit (contents_in b) r).context.counts
+    ≡ counts_in b
 unfolding contents_in
 counts_are b r = refl
 
 -- ---- where the code stands
 
-row_lies : (b : List ℕ) (n : ℕ) (r : AttributeFields) → IsValid b → slice_get (contents_in b).attributes n ≡ Some r → r.span.start + r.span.size ≤ code_length b
+row_lies : (b : List ℕ) (n : ℕ) (r : AttributeFields) → IsValid b
+    → slice_get (contents_in b).attributes n ≡ Some r → r.span.start + r.span.size ≤ code_length b
 unfolding contents_in
 row_lies b n r valid at =
     leb-true (r.span.start + r.span.size) (code_length b)
-    (all_at (λ (x : AttributeFields). lies_within (code_length b) x.span) (rows_from (attribute_fields b) 16 (attribute_count b) (attribute_rows_start b)) n r (spans b (valid_sections b valid) (valid rule.Row)).units at)
+    (all_at (λ (x : AttributeFields). lies_within (code_length b) x.span)
+    (rows_from (attribute_fields b) 16 (attribute_count b) (attribute_rows_start b)) n r
+    (spans b (valid_sections b valid) (valid rule.Row)).units at)
 
-pub unit_inside : (b : List ℕ) (n : ℕ) (r : AttributeFields) → IsValid b → slice_get (contents_in b).attributes n ≡ Some r → (unit_at b r).start + (unit_at b r).size ≤ length b
-unit_inside b n r valid at = omega (arith, row_lies b n r valid at, (rooms b (valid_sections b valid)).code)
+pub unit_inside : (b : List ℕ) (n : ℕ) (r : AttributeFields) → IsValid b
+    → slice_get (contents_in b).attributes n ≡ Some r → (unit_at b r).start + (unit_at b r).size
+    ≤ length b
+unit_inside b n r valid at =
+    omega (arith, row_lies b n r valid at, (rooms b (valid_sections b valid)).code)
 
 take_fewer : {A : Type 0} (n m : ℕ) (xs : List A) → n ≤ m → take n (take m xs) ≡ take n xs
 take_fewer zero m xs le = refl
 take_fewer (suc n) zero xs le = absurd (omega arith)
 take_fewer (suc n) (suc m) [] le = refl
-take_fewer (suc n) (suc m) (x ∷ xs) le = ap (λ (ys : List _). x ∷ ys) (take_fewer n m xs (omega arith))
+take_fewer (suc n) (suc m) (x ∷ xs) le =
+    ap (λ (ys : List _). x ∷ ys) (take_fewer n m xs (omega arith))
 
 drop_none : {A : Type 0} (k : ℕ) → drop {A = A} k [] ≡ []
 drop_none zero = refl
@@ -59,17 +75,27 @@ drop_none (suc k) = refl
 
 drop_more : {A : Type 0} (n m : ℕ) (xs : List A) → drop m (drop n xs) ≡ drop (n + m) xs
 drop_more zero m xs = let e : 0 + m ≡ m = omega arith in rw e refl
-drop_more {A} (suc n) m [] = let e : suc n + m ≡ suc (n + m) = omega arith in rw e (drop_none {A = A} m)
-drop_more (suc n) m (x ∷ xs) = let e : suc n + m ≡ suc (n + m) = omega arith in rw e (drop_more n m xs)
+drop_more {A} (suc n) m [] = let e : suc n + m ≡ suc (n + m) =
+    omega arith in rw e (drop_none {A = A} m)
+drop_more (suc n) m (x ∷ xs) = let e : suc n + m ≡ suc (n + m) =
+    omega arith in rw e (drop_more n m xs)
 
 part_of_part : (from long start size : ℕ) (b : List ℕ) → start + size ≤ long
-    → part (record { start = from + start; size = size }) b ≡ part (record { start = start; size = size }) (part (record { start = from; size = long }) b)
+    → part (record { start = from + start; size = size }) b
+    ≡ part (record { start = start; size = size })
+    (part (record { start = from; size = long }) b)
 part_of_part from long start size b le =
     let behind : long ≡ start + (long - start) = omega arith in
-    let whole : drop start (take long (drop from b)) ≡ take (long - start) (drop start (drop from b)) =
-    ap (λ (k : ℕ). drop start (take k (drop from b))) behind ∙ drop-take start (long - start) (drop from b) in
-    sym (ap (take size) whole ∙ take_fewer size (long - start) (drop start (drop from b)) (omega arith) ∙ ap (take size) (drop_more from start b))
+    let whole : drop start (take long (drop from b))
+    ≡ take (long - start) (drop start (drop from b)) =
+    ap (λ (k : ℕ). drop start (take k (drop from b))) behind ∙ drop-take start (long - start)
+    (drop from b) in
+    sym (ap (take size) whole ∙ take_fewer size (long - start) (drop start (drop from b))
+    (omega arith) ∙ ap (take size) (drop_more from start b))
 
-pub unit_code : (b : List ℕ) (n : ℕ) (r : AttributeFields) → IsValid b → slice_get (contents_in b).attributes n ≡ Some r → code_at b (unit_at b r) ≡ (unit_of (contents_in b) r).code
+pub unit_code : (b : List ℕ) (n : ℕ) (r : AttributeFields) → IsValid b
+    → slice_get (contents_in b).attributes n ≡ Some r → code_at b (unit_at b r)
+    ≡ (placed_unit (contents_in b) r).code
 unfolding contents_in
-unit_code b n r valid at = part_of_part (code_start b) (code_length b) r.span.start r.span.size b (row_lies b n r valid at)
+unit_code b n r valid at = part_of_part (code_start b) (code_length b) r.span.start r.span.size b
+    (row_lies b n r valid at)

@@ -14,28 +14,46 @@ abbrev fault_by : Option VariableType → ℤ → Option SetFault
 fault_by None value = Some BadVariable
 fault_by (Some t) value = if is_in_range t value then None else Some OutOfRange
 
-fault_is : (types : List VariableType) (set : Change) (o : Option VariableType) → slice_get types set.variable.0 ≡ o → set_fault types set ≡ fault_by o set.value
-fault_is types set None e = ap (λ (x : Option VariableType). elim x [ None ↦ Some BadVariable | Some t ↦ if is_in_range t set.value then None else Some OutOfRange ]) e
-fault_is types set (Some t) e = ap (λ (x : Option VariableType). elim x [ None ↦ Some BadVariable | Some t ↦ if is_in_range t set.value then None else Some OutOfRange ]) e
+fault_is : (types : List VariableType) (set : Change) (o : Option VariableType)
+    → slice_get types set.variable.0 ≡ o → set_fault types set ≡ fault_by o set.value
+fault_is types set None e =
+    ap (λ (x : Option VariableType). elim x [
+      | None ↦ Some BadVariable
+      | Some t ↦ if is_in_range t set.value then None else Some OutOfRange
+    ]) e
+fault_is types set (Some t) e =
+    ap (λ (x : Option VariableType). elim x [
+      | None ↦ Some BadVariable
+      | Some t ↦ if is_in_range t set.value then None else Some OutOfRange
+    ]) e
 
 -- there is no such variable
-pub bad_variable : (types : List VariableType) (set : Change) → length types ≤ set.variable.0 → set_fault types set ≡ Some BadVariable
+pub bad_variable : (types : List VariableType) (set : Change) → length types ≤ set.variable.0
+    → set_fault types set ≡ Some BadVariable
 bad_variable types set past = fault_is types set None (slice_get_past types set.variable.0 past)
 
 -- the value is in the range of this type, or not
-pub no_set_fault : (types : List VariableType) (set : Change) (t : VariableType) → slice_get types set.variable.0 ≡ Some t → is_in_range t set.value ≡ true → set_fault types set ≡ None
-no_set_fault types set t e h = fault_is types set (Some t) e ∙ ap (λ (b : Bool). if b then None else Some OutOfRange) h
+pub no_set_fault : (types : List VariableType) (set : Change) (t : VariableType)
+    → slice_get types set.variable.0 ≡ Some t → is_in_range t set.value ≡ true
+    → set_fault types set ≡ None
+no_set_fault types set t e h = fault_is types set (Some t) e
+    ∙ ap (λ (b : Bool). if b then None else Some OutOfRange) h
 
-pub out_of_range : (types : List VariableType) (set : Change) (t : VariableType) → slice_get types set.variable.0 ≡ Some t → is_in_range t set.value ≡ false → set_fault types set ≡ Some OutOfRange
-out_of_range types set t e h = fault_is types set (Some t) e ∙ ap (λ (b : Bool). if b then None else Some OutOfRange) h
+pub out_of_range : (types : List VariableType) (set : Change) (t : VariableType)
+    → slice_get types set.variable.0 ≡ Some t → is_in_range t set.value ≡ false
+    → set_fault types set ≡ Some OutOfRange
+out_of_range types set t e h = fault_is types set (Some t) e
+    ∙ ap (λ (b : Bool). if b then None else Some OutOfRange) h
 
 -- ---- the answer of the test
 
-pub no_fault_seen : (o : Option in_code.SetFault) → is_some o ≡ false → option_map set_fault_of o ≡ None
+pub no_fault_seen : (o : Option in_code.SetFault) → is_some o ≡ false → option_map set_fault_of o
+    ≡ None
 no_fault_seen None h = refl
 no_fault_seen (Some f) h = absurd cc
 
-pub fault_seen : (o : Option in_code.SetFault) → is_some o ≡ true → (f : SetFault) × (option_map set_fault_of o ≡ Some f)
+pub fault_seen : (o : Option in_code.SetFault) → is_some o ≡ true
+    → (f : SetFault) × (option_map set_fault_of o ≡ Some f)
 fault_seen None h = absurd cc
 fault_seen (Some f) h = (set_fault_of f, refl)
 
@@ -49,22 +67,38 @@ module _ (types : List VariableType) (numbers : List ℤ) (i : ℕ) (inside : i 
   set = record { variable = record { 0 = i }; value = number }
 
   -- it is the value of its variable, and so are those behind it
-  pub set_goes : set_fault types set ≡ None → (AreDeviceValues (drop (i + 1) types) (drop (i + 1) numbers) → AreDeviceValues (drop i types) (drop i numbers)) × (AreDeviceValues (drop i types) (drop i numbers) → AreDeviceValues (drop (i + 1) types) (drop (i + 1) numbers))
+  pub set_goes : set_fault types set ≡ None
+      → (AreDeviceValues (drop (i + 1) types) (drop (i + 1) numbers)
+      → AreDeviceValues (drop i types) (drop i numbers))
+      × (AreDeviceValues (drop i types) (drop i numbers)
+      → AreDeviceValues (drop (i + 1) types) (drop (i + 1) numbers))
   set_goes none = by_type (slice_get types i) refl
     where
-      by_range : (t : VariableType) → slice_get types i ≡ Some t → (b : Bool) → is_in_range t number ≡ b → (AreDeviceValues (drop (i + 1) types) (drop (i + 1) numbers) → AreDeviceValues (drop i types) (drop i numbers)) × (AreDeviceValues (drop i types) (drop i numbers) → AreDeviceValues (drop (i + 1) types) (drop (i + 1) numbers))
+      by_range : (t : VariableType) → slice_get types i ≡ Some t → (b : Bool)
+          → is_in_range t number ≡ b → (AreDeviceValues (drop (i + 1) types) (drop (i + 1) numbers)
+          → AreDeviceValues (drop i types) (drop i numbers))
+          × (AreDeviceValues (drop i types) (drop i numbers)
+          → AreDeviceValues (drop (i + 1) types) (drop (i + 1) numbers))
       by_range t e true h = value_goes types numbers i t e inside h
-      by_range t e false h = let bad : None ≡ Some OutOfRange = sym none ∙ out_of_range types set t e h in absurd cc
+      by_range t e false h = let bad : None ≡ Some OutOfRange = sym none
+          ∙ out_of_range types set t e h in absurd cc
 
-      by_type : (o : Option VariableType) → slice_get types i ≡ o → (AreDeviceValues (drop (i + 1) types) (drop (i + 1) numbers) → AreDeviceValues (drop i types) (drop i numbers)) × (AreDeviceValues (drop i types) (drop i numbers) → AreDeviceValues (drop (i + 1) types) (drop (i + 1) numbers))
-      by_type None e = let bad : None ≡ Some BadVariable = sym none ∙ fault_is types set None e in absurd cc
+      by_type : (o : Option VariableType) → slice_get types i ≡ o
+          → (AreDeviceValues (drop (i + 1) types) (drop (i + 1) numbers)
+          → AreDeviceValues (drop i types) (drop i numbers))
+          × (AreDeviceValues (drop i types) (drop i numbers)
+          → AreDeviceValues (drop (i + 1) types) (drop (i + 1) numbers))
+      by_type None e = let bad : None ≡ Some BadVariable = sym none
+          ∙ fault_is types set None e in absurd cc
       by_type (Some t) e = by_range t e (is_in_range t number) refl
 
   -- it is no value of a variable
-  pub set_fails : i < length types → (f : SetFault) → set_fault types set ≡ Some f → AreDeviceValues (drop i types) (drop i numbers) → ⊥
+  pub set_fails : i < length types → (f : SetFault) → set_fault types set ≡ Some f
+      → AreDeviceValues (drop i types) (drop i numbers) → ⊥
   set_fails typed f fault all = by_type (slice_get types i) refl
     where
-      by_range : (t : VariableType) → slice_get types i ≡ Some t → (b : Bool) → is_in_range t number ≡ b → ⊥
+      by_range : (t : VariableType) → slice_get types i ≡ Some t → (b : Bool)
+          → is_in_range t number ≡ b → ⊥
       by_range t e true h = let bad : Some f ≡ None = sym fault ∙ no_set_fault types set t e h in cc
       by_range t e false h = value_fails types numbers i t e inside h all
 

@@ -8,7 +8,7 @@ use Rattle.edd_image.specs.declared.records.Status.TheVariants.{Running}
 use Rattle.edd_image.specs.Contents.{contents_in}
 use Rattle.edd_image.specs.Decoding.{◌>>=◌, instruction_at}
 use Rattle.edd_image.specs.Units.{IsValidUnit}
-use Rattle.edd_image.specs.Validity.{unit_of, IsValid}
+use Rattle.edd_image.specs.Validity.{placed_unit, IsValid}
 use Rattle.edd_image.specs.Steps.{RunningUnit, State, Environment, Effect, IsState, opening, act, step, if_running}
 use Rattle.edd_image.specs.Reading.{environment_of}
 use Rattle.edd_image.proofs.NextStates.{next_state, opens}
@@ -20,37 +20,51 @@ use Rattle.edd_loader.proofs.VariableTypes.{types_counted}
 use Rattle.edd_machine.proofs.ImageUnits.{unit_valid, unit_code, unit_inside, counts_are}
 use Rattle.edd_machine.proofs.UnitFacts.{inside, not_nothing, facts}
 
-pub step_is : (env : Environment) (s : State) (found : Instruction × ℕ) (o : Option Effect) → s.status ≡ Running → instruction_at s.unit.code s.place ≡ Some found → act env found.0 found.1 s ≡ o → step env s ≡ o
+pub step_is : (env : Environment) (s : State) (found : Instruction × ℕ) (o : Option Effect)
+    → s.status ≡ Running → instruction_at s.unit.code s.place ≡ Some found
+    → act env found.0 found.1 s ≡ o → step env s ≡ o
 unfolding step
 step_is env s found o running at acted =
-    ap (λ (st : Status). if_running st (instruction_at s.unit.code s.place >>= (λ f. act env f.0 f.1 s))) running
+    ap (λ (st : Status). if_running st (instruction_at s.unit.code s.place
+    >>= (λ f. act env f.0 f.1 s))) running
     ∙ ap (λ (x : Option (Instruction × ℕ)). x >>= (λ f. act env f.0 f.1 s)) at
     ∙ acted
 
-pub code_inside : (b : List ℕ) (u : CodeUnit) → IsValid b → IsUnitOf b u → u.start + u.size ≤ length b
-code_inside b u valid is = subst (λ (x : CodeUnit). x.start + x.size ≤ length b) (sym is.unit) (unit_inside b is.number is.row valid is.stands)
+pub code_inside : (b : List ℕ) (u : CodeUnit) → IsValid b → IsUnitOf b u
+    → u.start + u.size ≤ length b
+code_inside b u valid is = subst (λ (x : CodeUnit). x.start + x.size ≤ length b) (sym is.unit)
+    (unit_inside b is.number is.row valid is.stands)
 
-pub code_is : (b : List ℕ) (u : CodeUnit) → IsValid b → (is : IsUnitOf b u) → code_at b u ≡ (unit_of (contents_in b) is.row).code
+pub code_is : (b : List ℕ) (u : CodeUnit) → IsValid b → (is : IsUnitOf b u)
+    → code_at b u ≡ (placed_unit (contents_in b) is.row).code
 code_is b u valid is = ap (code_at b) is.unit ∙ unit_code b is.number is.row valid is.stands
 
-module _ (b : List ℕ) (u : CodeUnit) (s : State) (valid : IsValid b) (is : IsStateIn b u s) (running : s.status ≡ Running) where
-  own_code : s.unit.code ≡ (unit_of (contents_in b) is.unit.row).code
+module _ (b : List ℕ) (u : CodeUnit) (s : State) (valid : IsValid b) (is : IsStateIn b u s)
+    (running : s.status ≡ Running) where
+  own_code : s.unit.code ≡ (placed_unit (contents_in b) is.unit.row).code
   own_code = ap (λ (x : RunningUnit). x.code) is.runs ∙ code_is b u valid is.unit
 
-  pub valid_there : IsValidUnit (unit_of (contents_in b) is.unit.row).context s.unit.code
-  valid_there = subst (λ (code : List ℕ). IsValidUnit (unit_of (contents_in b) is.unit.row).context code) (sym own_code) (unit_valid b is.unit.number is.unit.row valid is.unit.stands)
+  pub valid_there : IsValidUnit (placed_unit (contents_in b) is.unit.row).context s.unit.code
+  valid_there = subst (λ (code : List ℕ). IsValidUnit
+      (placed_unit (contents_in b) is.unit.row).context
+      code) (sym own_code) (unit_valid b is.unit.number is.unit.row valid is.unit.stands)
 
   pub place_inside : s.place ≤ length s.unit.code
-  place_inside = inside (unit_of (contents_in b) is.unit.row).context (environment_of (contents_in b)) s valid_there is.state running
+  place_inside = inside (placed_unit (contents_in b) is.unit.row).context
+      (environment_of (contents_in b)) s valid_there is.state running
 
   pub instruction_there : instruction_at s.unit.code s.place ≡ None → ⊥
-  instruction_there e = not_nothing (unit_of (contents_in b) is.unit.row).context (environment_of (contents_in b)) s valid_there is.state running e
+  instruction_there e = not_nothing (placed_unit (contents_in b) is.unit.row).context
+      (environment_of (contents_in b)) s valid_there is.state running e
 
-  pub can_act : (found : Instruction × ℕ) → instruction_at s.unit.code s.place ≡ Some found → CanAct b found.0 s
+  pub can_act : (found : Instruction × ℕ) → instruction_at s.unit.code s.place ≡ Some found
+      → CanAct b found.0 s
   can_act found e =
-      let f = facts (unit_of (contents_in b) is.unit.row).context (environment_of (contents_in b)) s valid_there is.state running found e in
+      let f = facts (placed_unit (contents_in b) is.unit.row).context
+      (environment_of (contents_in b)) s
+      valid_there is.state running found e in
       record {
-        context = (unit_of (contents_in b) is.unit.row).context;
+        context = (placed_unit (contents_in b) is.unit.row).context;
         counts = counts_are b is.unit.row;
         is = is.state;
         enough = f.enough;
@@ -60,42 +74,57 @@ module _ (b : List ℕ) (u : CodeUnit) (s : State) (valid : IsValid b) (is : IsS
         exist = f.exist;
       }
 
-  pub state_again : (e : Effect) → step (environment_of (contents_in b)) s ≡ Some e → e.state.unit ≡ s.unit → IsStateIn b u e.state
+  pub state_again : (e : Effect) → step (environment_of (contents_in b)) s ≡ Some e
+      → e.state.unit ≡ s.unit → IsStateIn b u e.state
   state_again e stepped same =
-      let next = next_state (unit_of (contents_in b) is.unit.row).context (environment_of (contents_in b)) s valid_there is.state running in
+      let next = next_state (placed_unit (contents_in b) is.unit.row).context
+      (environment_of (contents_in b)) s valid_there is.state running in
       let one' : Some next.0 ≡ Some e = sym next.1 ∙ stepped in
       let one : next.0 ≡ e = cc in
       record {
         unit = is.unit;
         runs = same ∙ is.runs;
-        state = subst (λ (x : Effect). IsState (unit_of (contents_in b) is.unit.row).context (environment_of (contents_in b)) x.state) one next.2;
+        state = subst (λ (x : Effect). IsState (placed_unit (contents_in b) is.unit.row).context
+            (environment_of (contents_in b)) x.state) one next.2;
       }
 
 -- ---- machines
 
-pub stepped : (b : List ℕ) (m n : Machine) (found : Instruction × ℕ) → m.status ≡ Running → instruction_at (code_at b m.unit) m.place ≡ Some found → ActsTo b found.0 found.1 m n → StepsTo b m n
+pub stepped : (b : List ℕ) (m n : Machine) (found : Instruction × ℕ) → m.status ≡ Running
+    → instruction_at (code_at b m.unit) m.place ≡ Some found → ActsTo b found.0 found.1 m n
+    → StepsTo b m n
 stepped b m n found running e acts = record {
   effect = acts.effect;
-  is = step_is (environment_of (contents_in b)) (state_of b m) found (Some acts.effect) running e acts.is;
+  is = step_is (environment_of (contents_in b)) (state_of b m) found (Some acts.effect) running e
+      acts.is;
   state = acts.state;
   emitted = acts.emitted;
 }
 
-pub again : (b : List ℕ) (m n : Machine) → IsValid b → IsMachine b m → m.status ≡ Running → n.unit ≡ m.unit → StepsTo b m n → IsMachine b n
+pub again : (b : List ℕ) (m n : Machine) → IsValid b → IsMachine b m → m.status ≡ Running
+    → n.unit ≡ m.unit → StepsTo b m n → IsMachine b n
 again b m n valid is running same steps =
-    let runs : steps.effect.state.unit ≡ (state_of b m).unit = ap (λ (t : State). t.unit) steps.state ∙ ap (running_unit b) same in
+    let runs : steps.effect.state.unit ≡ (state_of b m).unit =
+    ap (λ (t : State). t.unit) steps.state ∙ ap (running_unit b) same in
     let next = state_again b m.unit (state_of b m) valid is running steps.effect steps.is runs in
-    subst (λ (u : CodeUnit). IsStateIn b u (state_of b n)) (sym same) (subst (λ (t : State). IsStateIn b m.unit t) steps.state next)
+    subst (λ (u : CodeUnit). IsStateIn b u (state_of b n)) (sym same)
+    (subst (λ (t : State). IsStateIn b m.unit t) steps.state next)
 
-pub opened : (b : List ℕ) (u : CodeUnit) (s : State) (values : List ℤ) → IsValid b → IsUnitOf b u → AreDeviceValues (types_in b) values → s ≡ opening (running_unit b u) u.slots values → IsStateIn b u s
+pub opened : (b : List ℕ) (u : CodeUnit) (s : State) (values : List ℤ) → IsValid b → IsUnitOf b u
+    → AreDeviceValues (types_in b) values → s ≡ opening (running_unit b u) u.slots values
+    → IsStateIn b u s
 opened b u s values valid is are state =
-    let context = (unit_of (contents_in b) is.row).context in
+    let context = (placed_unit (contents_in b) is.row).context in
     let env = environment_of (contents_in b) in
-    let code = (unit_of (contents_in b) is.row).code in
-    let counted : length env.types ≡ context.counts.variables = types_counted b valid ∙ sym (ap (λ (k : Counts). k.variables) (counts_are b is.row)) in
-    let opens_there = opens context env code values (unit_valid b is.number is.row valid is.stands) counted are in
+    let code = (placed_unit (contents_in b) is.row).code in
+    let counted : length env.types ≡ context.counts.variables = types_counted b valid
+    ∙ sym (ap (λ (k : Counts). k.variables) (counts_are b is.row)) in
+    let opens_there = opens context env code values (unit_valid b is.number is.row valid is.stands)
+    counted are in
     let here : s ≡ opening (record { sort = context.sort; code = code }) context.slots values =
-    state ∙ ap (λ (x : CodeUnit). opening (running_unit b x) x.slots values) is.unit ∙ ap (λ (c : List ℕ). opening (record { sort = context.sort; code = c }) context.slots values) (unit_code b is.number is.row valid is.stands) in
+    state ∙ ap (λ (x : CodeUnit). opening (running_unit b x) x.slots values) is.unit
+    ∙ ap (λ (c : List ℕ). opening (record { sort = context.sort; code = c }) context.slots
+    values) (unit_code b is.number is.row valid is.stands) in
     record {
       unit = is;
       runs = ap (λ (t : State). t.unit) state;

@@ -17,14 +17,18 @@ use Rattle.edd_image.specs.Steps.{State, Environment, StandsWith, Stands, IsStat
 use Rattle.edd_image.proofs.KnownInstructions.{each_two, each, pick, Known, all_known, of_two, if_some_at}
 use Rattle.edd_loader.proofs.Listing.{within}
 
-ways_small : (depth : ℕ → ℕ) (xs : List Placed) (ws : List Way) → AllByRecursion (λ x. depth x.place ≤ 128) xs → AllByRecursion (λ w. is_start xs w.to ≡ true) ws → AllByRecursion (λ w. depth w.to ≤ 128) ws
+ways_small : (depth : ℕ → ℕ) (xs : List Placed) (ws : List Way)
+    → AllByRecursion (λ x. depth x.place ≤ 128) xs
+    → AllByRecursion (λ w. is_start xs w.to ≡ true) ws → AllByRecursion (λ w. depth w.to ≤ 128) ws
 ways_small depth xs ws bounded landing = each ws (λ w e.
     let p = pick (λ x. depth x.place ≤ 128) xs w.to bounded e in
     subst (λ (q : ℕ). depth q ≤ 128) p.1 p.2) landing
 
-room_from : (i : Instruction) (next n : ℕ) (o : Option ℕ) → leaves i ≡ o → IfSome (onward i next) (λ w. n + w.leaves ≤ 128) → IfSome o (λ k. n + k ≤ 128)
+room_from : (i : Instruction) (next n : ℕ) (o : Option ℕ) → leaves i ≡ o
+    → IfSome (onward i next) (λ w. n + w.leaves ≤ 128) → IfSome o (λ k. n + k ≤ 128)
 room_from i next n None e h = tt
-room_from i next n (Some k) e h = if_some_at (λ w. n + w.leaves ≤ 128) (onward i next) (record { to = next; leaves = k }) h (rw e refl)
+room_from i next n (Some k) e h = if_some_at (λ w. n + w.leaves ≤ 128) (onward i next)
+    (record { to = next; leaves = k }) h (rw e refl)
 
 -- ---- a running state
 
@@ -36,51 +40,70 @@ pub record Facts (context : Context) (s : State) (i : Instruction) : Type 0 wher
   pub allowed : is_allowed context.version context.sort i ≡ true
   pub exist : names_exist context i ≡ true
   -- in an attribute a jump leads forward
-  pub forward : context.sort ≡ Attribute → option_map_or (λ w. nat_lt s.place w.to) (jump i) true ≡ true
+  pub forward : context.sort ≡ Attribute → option_map_or (λ w. nat_lt s.place w.to) (jump i) true
+      ≡ true
 
-forward_in : (sort : Sort) (x : Placed) → is_forward sort x ≡ true → sort ≡ Attribute → option_map_or (λ w. nat_lt x.place w.to) (jump x.instruction) true ≡ true
+forward_in : (sort : Sort) (x : Placed) → is_forward sort x ≡ true → sort ≡ Attribute
+    → option_map_or (λ w. nat_lt x.place w.to) (jump x.instruction) true ≡ true
 forward_in Attribute x h e = h
 forward_in Method x h e = absurd cc
 
-module _ (context : Context) (env : Environment) (s : State) (valid : IsValidUnit context s.unit.code) (is : IsState context env s) (running : s.status ≡ Running) where
+module _ (context : Context) (env : Environment) (s : State)
+    (valid : IsValidUnit context s.unit.code) (is : IsState context env s)
+    (running : s.status ≡ Running) where
   here : StandsWith s.unit.code s.place (length s.operands)
   here = subst (λ (st : Status). Stands s st) running is.stands
 
   at_instruction : (x : Placed) × (x.place ≡ s.place) × Known context s.unit.code here.depth x
-  at_instruction = pick (Known context s.unit.code here.depth) (instructions s.unit.code) s.place (all_known context s.unit.code here.depth valid here.depths) here.at_start
+  at_instruction = pick (Known context s.unit.code here.depth) (instructions s.unit.code) s.place
+      (all_known context s.unit.code here.depth valid here.depths) here.at_start
 
   pub inside : s.place ≤ length s.unit.code
   inside =
-      let p = pick (λ x. x.place < length s.unit.code) (instructions s.unit.code) s.place (within s.unit.code) here.at_start in
+      let p = pick (λ x. x.place < length s.unit.code) (instructions s.unit.code) s.place
+      (within s.unit.code) here.at_start in
       omega (arith, p.1, p.2)
 
-  found_there : instruction_at s.unit.code s.place ≡ Some (at_instruction.0.instruction, at_instruction.0.next)
-  found_there = subst (λ (q : ℕ). instruction_at s.unit.code q ≡ Some (at_instruction.0.instruction, at_instruction.0.next)) at_instruction.1 at_instruction.2.stands
+  found_there : instruction_at s.unit.code s.place
+      ≡ Some (at_instruction.0.instruction, at_instruction.0.next)
+  found_there = subst (λ (q : ℕ). instruction_at s.unit.code q
+      ≡ Some (at_instruction.0.instruction, at_instruction.0.next)) at_instruction.1
+      at_instruction.2.stands
 
   pub not_nothing : instruction_at s.unit.code s.place ≡ None → ⊥
   not_nothing e =
-      let impossible : ◌≡◌ {A = Option (Instruction × ℕ)} (Some (at_instruction.0.instruction, at_instruction.0.next)) None = sym found_there ∙ e in
+      let impossible : ◌≡◌ {A = Option (Instruction × ℕ)}
+      (Some (at_instruction.0.instruction, at_instruction.0.next)) None = sym found_there ∙ e in
       cc
 
-  pub facts : (found : Instruction × ℕ) → instruction_at s.unit.code s.place ≡ Some found → Facts context s found.0
+  pub facts : (found : Instruction × ℕ) → instruction_at s.unit.code s.place ≡ Some found
+      → Facts context s found.0
   facts found e =
       let x = at_instruction.0 in
       let k = at_instruction.2 in
       let depth = here.depth in
       let same' : Some (x.instruction, x.next) ≡ Some found = sym found_there ∙ e in
       let same : (x.instruction, x.next) ≡ found = cc in
-      let count : length s.operands ≡ depth x.place = here.operands ∙ ap depth (sym at_instruction.1) in
-      let small = ways_small depth (instructions s.unit.code) (ways x) here.depths.bounded k.lands_on in
-      let sums = each_two {R = λ w. length s.operands - takes x.instruction + w.leaves ≤ 128} (ways x) (λ w p q. omega (arith, p, q, count)) k.agrees small in
-      let ahead = (of_two (λ w. length s.operands - takes x.instruction + w.leaves ≤ 128) (onward x.instruction x.next) (jump x.instruction) sums).0 in
-      let deepest = pick (λ y. depth y.place ≤ 128) (instructions s.unit.code) s.place here.depths.bounded here.at_start in
-      let full : length s.operands ≤ 128 = subst (λ (n : ℕ). n ≤ 128) (ap depth deepest.1 ∙ sym here.operands) deepest.2 in
+      let count : length s.operands ≡ depth x.place = here.operands
+      ∙ ap depth (sym at_instruction.1) in
+      let small = ways_small depth (instructions s.unit.code) (ways x) here.depths.bounded
+      k.lands_on in
+      let sums = each_two {R = λ w. length s.operands - takes x.instruction + w.leaves ≤ 128}
+      (ways x) (λ w p q. omega (arith, p, q, count)) k.agrees small in
+      let ahead = (of_two (λ w. length s.operands - takes x.instruction + w.leaves ≤ 128)
+      (onward x.instruction x.next) (jump x.instruction) sums).0 in
+      let deepest = pick (λ y. depth y.place ≤ 128) (instructions s.unit.code) s.place
+      here.depths.bounded here.at_start in
+      let full : length s.operands ≤ 128 =
+      subst (λ (n : ℕ). n ≤ 128) (ap depth deepest.1 ∙ sym here.operands) deepest.2 in
       let own : Facts context s x.instruction = record {
         enough = omega (arith, count, k.enough);
         full = full;
-        room = room_from x.instruction x.next (length s.operands - takes x.instruction) (leaves x.instruction) refl ahead;
+        room = room_from x.instruction x.next (length s.operands - takes x.instruction)
+            (leaves x.instruction) refl ahead;
         allowed = k.allowed;
         exist = k.exists;
-        forward = λ e. subst (λ (q : ℕ). option_map_or (λ w. nat_lt q w.to) (jump x.instruction) true ≡ true) at_instruction.1 (forward_in context.sort x k.forward e);
+        forward = λ e. subst (λ (q : ℕ). option_map_or (λ w. nat_lt q w.to) (jump x.instruction)
+            true ≡ true) at_instruction.1 (forward_in context.sort x k.forward e);
       } in
       subst (λ (i : Instruction). Facts context s i) (ap (λ (p : Instruction × ℕ). p.0) same) own

@@ -18,7 +18,8 @@ use Rattle.edd_machine.specs.Types.{types_in}
 -- what a fault says of the numbers; for want of memory nothing is wrong with them
 abbrev pub IsValuesFault : ValuesFault → List VariableType → List ℤ → Type 0
 IsValuesFault values_fault.Count types numbers = length numbers ≢ length types
-IsValuesFault values_fault.Range types numbers = (length numbers ≡ length types) × (¬ AreDeviceValues types numbers)
+IsValuesFault values_fault.Range types numbers = (length numbers ≡ length types)
+    × (¬ AreDeviceValues types numbers)
 IsValuesFault values_fault.Memory types numbers = AreDeviceValues types numbers
 
 -- the trap that a fault of reading stands for
@@ -30,14 +31,20 @@ trap_of read_fault.DivOverflow = Some trap.DivOverflow
 trap_of read_fault.BadShift = Some trap.BadShift
 trap_of read_fault.Memory = None
 
--- what a fault says of the attribute and the values: the values are looked at only where there is such an attribute
+-- what a fault says of the attribute and the values: the values are looked at only where there is
+-- such an attribute
 abbrev pub IsReadFault : List ℕ → AttrRef → List ℤ → ReadFault → Type 0
 IsReadFault b ref values read_fault.NoItem = IsReading b ref values NoItem
-IsReadFault b ref values read_fault.WrongValues = (is_no_item (contents_in b) ref ≡ false) × (¬ AreDeviceValues (types_in b) values)
-IsReadFault b ref values read_fault.DivZero = AreDeviceValues (types_in b) values × IsReading b ref values (Fault trap.DivZero)
-IsReadFault b ref values read_fault.DivOverflow = AreDeviceValues (types_in b) values × IsReading b ref values (Fault trap.DivOverflow)
-IsReadFault b ref values read_fault.BadShift = AreDeviceValues (types_in b) values × IsReading b ref values (Fault trap.BadShift)
-IsReadFault b ref values read_fault.Memory = (is_no_item (contents_in b) ref ≡ false) × AreDeviceValues (types_in b) values
+IsReadFault b ref values read_fault.WrongValues = (is_no_item (contents_in b) ref ≡ false)
+    × (¬ AreDeviceValues (types_in b) values)
+IsReadFault b ref values read_fault.DivZero = AreDeviceValues (types_in b) values
+    × IsReading b ref values (Fault trap.DivZero)
+IsReadFault b ref values read_fault.DivOverflow = AreDeviceValues (types_in b) values
+    × IsReading b ref values (Fault trap.DivOverflow)
+IsReadFault b ref values read_fault.BadShift = AreDeviceValues (types_in b) values
+    × IsReading b ref values (Fault trap.BadShift)
+IsReadFault b ref values read_fault.Memory = (is_no_item (contents_in b) ref ≡ false)
+    × AreDeviceValues (types_in b) values
 
 -- the fault of a set
 abbrev pub set_fault_of : in_code.SetFault → SetFault

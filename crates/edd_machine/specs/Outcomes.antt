@@ -17,16 +17,42 @@ IsShared i = (version : Version) × (is_allowed version Attribute i ≡ true)
 
 -- a state in a unit of this sort with these operands and values
 abbrev pub over : Sort → (operands values : List ℤ) → State → State
-over sort operands values s = record s { unit = record { sort = sort; code = s.unit.code }; operands = operands; values = values }
+over sort operands values s = record s {
+  unit = record { sort = sort; code = s.unit.code };
+  operands = operands;
+  values = values;
+}
 
 -- what an outcome makes of a state, with these operands
 abbrev pub comes_to : Outcome → (operands : List ℤ) → State → Effect
-comes_to (GoesOn place) operands s = record { state = record s { place = place; operands = operands }; emitted = emitted.Nothing; changes = [] }
-comes_to (Gives place r) operands s = record { state = record s { place = place; operands = operands }; emitted = emitted.Record r; changes = [] }
-comes_to Ends operands s = record { state = record s { operands = operands; status = status.Ended }; emitted = emitted.Nothing; changes = [] }
-comes_to (Traps why) operands s = record { state = record s { operands = operands; status = status.Trapped why }; emitted = emitted.Nothing; changes = [] }
+comes_to (GoesOn place) operands s =
+    record {
+      state = record s { place = place; operands = operands };
+      emitted = emitted.Nothing;
+      changes = [];
+    }
+comes_to (Gives place r) operands s =
+    record {
+      state = record s { place = place; operands = operands };
+      emitted = emitted.Record r;
+      changes = [];
+    }
+comes_to Ends operands s = record {
+  state = record s { operands = operands; status = status.Ended };
+  emitted = emitted.Nothing;
+  changes = [];
+}
+comes_to (Traps why) operands s =
+    record {
+      state = record s { operands = operands; status = status.Trapped why };
+      emitted = emitted.Nothing;
+      changes = [];
+    }
 
--- the instruction takes each state with these operands and values to the outcome, with the operands that it leaves
-abbrev pub Performs : Sort → (values before after : List ℤ) → Instruction → (next : ℕ) → Outcome → Type 0
+-- the instruction takes each state with these operands and values to the outcome, with the operands
+-- that it leaves
+abbrev pub Performs : Sort → (values before after : List ℤ) → Instruction → (next : ℕ) → Outcome
+    → Type 0
 Performs sort values before after i next outcome =
-    (env : Environment) (s : State) → act env i next (over sort before values s) ≡ Some (comes_to outcome after (over sort before values s))
+    (env : Environment) (s : State) → act env i next (over sort before values s)
+    ≡ Some (comes_to outcome after (over sort before values s))

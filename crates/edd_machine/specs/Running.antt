@@ -7,7 +7,7 @@ use Rattle.edd_image.specs.Contents.{AttributeFields, contents_in, part}
 use Rattle.edd_image.specs.Fields.{code_start, counts_in}
 use Rattle.edd_image.specs.References.{names_exist}
 use Rattle.edd_image.specs.Units.{takes, leaves, is_allowed}
-use Rattle.edd_image.specs.Validity.{sort_of, slots_of, unit_of}
+use Rattle.edd_image.specs.Validity.{sort_of, slots_of, placed_unit}
 use Rattle.edd_image.specs.Steps.{RunningUnit, State, Effect, IsState, act, step}
 use Rattle.edd_image.specs.Reading.{environment_of}
 use Rattle.edd_machine.specs.declared.code_unit.CodeUnit.{CodeUnit}
@@ -15,7 +15,12 @@ use Rattle.edd_machine.specs.declared.machine.Machine.{Machine}
 
 -- the unit of a row, whose code stands among the bytes of the image
 abbrev pub unit_at : List ℕ → AttributeFields → CodeUnit
-unit_at b r = record { sort = sort_of r; slots = slots_of r; start = code_start b + r.span.start; size = r.span.size }
+unit_at b r = record {
+  sort = sort_of r;
+  slots = slots_of r;
+  start = code_start b + r.span.start;
+  size = r.span.size;
+}
 
 -- the code of a unit
 abbrev pub code_at : List ℕ → CodeUnit → List ℕ
@@ -47,13 +52,15 @@ pub record IsUnitOf (b : List ℕ) (u : CodeUnit) : Type 0 where
 pub record IsStateIn (b : List ℕ) (u : CodeUnit) (s : State) : Type 0 where
   pub unit : IsUnitOf b u
   pub runs : s.unit ≡ running_unit b u
-  pub state : IsState (unit_of (contents_in b) unit.row).context (environment_of (contents_in b)) s
+  pub state : IsState (placed_unit (contents_in b) unit.row).context
+      (environment_of (contents_in b)) s
 
 -- It runs the unit of a row of the image, and keeps what every state of it keeps.
 abbrev pub IsMachine : List ℕ → Machine → Type 0
 IsMachine b m = IsStateIn b m.unit (state_of b m)
 
--- There is an effect, and it is this machine with what it emits. Its changes are those of the effect.
+-- There is an effect, and it is this machine with what it emits. Its changes are those of the
+-- effect.
 pub record IsEffect (o : Option Effect) (b : List ℕ) (m : Machine) : Type 0 where
   pub effect : Effect
   pub is : o ≡ Some effect

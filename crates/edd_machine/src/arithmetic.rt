@@ -138,7 +138,8 @@ fn bits(sort: Sort) -> i64
 
 fn shift_left(sort: Sort, a: i64, b: i64) -> Result<i64, Trap>
     requires { Fits sort a }
-    ensures { result ≡ shift (λ z count. wrap (width_of sort) (z *ℤ pos (2 ^ count))) (width_of sort) a b }
+    ensures { result ≡ shift (λ z count. wrap (width_of sort) (z *ℤ pos (2 ^ count)))
+        (width_of sort) a b }
 {
     if b < 0 || b >= bits(sort) {
         Err(Trap::BadShift)

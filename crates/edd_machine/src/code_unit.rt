@@ -5,8 +5,8 @@ ghost use Rattle.edd_machine.specs.Running.{code_at};
 
 use edd_image::Sort;
 
-/// The unit of an attribute row: its sort, its number of slots, and the place and the number of the bytes of its code among
-/// those of the image.
+/// The unit of an attribute row: its sort, its number of slots, and the place and the number of the
+/// bytes of its code among those of the image.
 #[derive(Clone, Copy, PartialEq, Eq, Debug)]
 pub struct CodeUnit {
     pub sort: Sort,

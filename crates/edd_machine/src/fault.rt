@@ -1,4 +1,5 @@
-//! Why numbers are no values of a device, why an attribute is not read, and why an answer can't set a variable.
+//! Why numbers are no values of a device, why an attribute is not read, and why an answer can't set
+//! a variable.
 
 ghost use Rattle.std.specs.Prelude.{◌≡◌, Some};
 ghost use Rattle.edd_machine.specs.declared.fault.ReadFault.TheVariants as read_fault;

@@ -16,19 +16,23 @@ ghost use Rattle.edd_machine.specs.Types.{types_in};
 
 /// A state that asks has room for the code of the answer.
 pub fn asking_has_room()
-    ensures { (b : List ℕ) (u : CodeUnit) (s : State) (r : Request) → IsStateIn b u s → s.status ≡ Asking r
+    ensures { (b : List ℕ) (u : CodeUnit) (s : State) (r : Request) → IsStateIn b u s
+        → s.status ≡ Asking r
         → length s.operands < 128 }
 {}
 
 /// A valid answer to a state that asks gives a state on the same unit again.
 pub fn answers_stay_in_the_unit()
-    ensures { (b : List ℕ) (u : CodeUnit) (s : State) (r : Request) (answer : Answer) → IsStateIn b u s
-        → s.status ≡ Asking r → IsValidAnswer (types_in b) answer → IsStateIn b u (answered s answer).state }
+    ensures { (b : List ℕ) (u : CodeUnit) (s : State) (r : Request) (answer : Answer)
+        → IsStateIn b u s
+        → s.status ≡ Asking r → IsValidAnswer (types_in b) answer
+        → IsStateIn b u (answered s answer).state }
 {}
 
 /// The unit of a method's body opens as its row does.
 pub fn bodies_open_as_their_rows()
     ensures { (b : List ℕ) (m : MethNo) (row : AttributeFields) (values : List ℤ) → IsValid b
         → body_of (contents_in b) m ≡ Some row
-        → opening (running_unit b (unit_at b row)) (unit_at b row).slots values ≡ opening_of (contents_in b) row values }
+        → opening (running_unit b (unit_at b row)) (unit_at b row).slots values
+        ≡ opening_of (contents_in b) row values }
 {}

@@ -56,10 +56,12 @@ impl Machine {
     /// The state at the start of a unit, under these values.
     pub fn open(unit: CodeUnit, values: Values) -> Machine
         requires { unit.slots ≤ 64 }
-        ensures state { (b : List ℕ) → state_of b result ≡ opening (running_unit b unit) unit.slots values.numbers.items }
+        ensures state { (b : List ℕ) → state_of b result ≡ opening (running_unit b unit) unit.slots
+            values.numbers.items }
         ensures unit { result.unit ≡ unit }
         ensures emitted { result.emitted ≡ emitted.Nothing }
-        ensures machine { (b : List ℕ) → IsValid b → IsUnitOf b unit → AreDeviceValues (types_in b) values.numbers.items
+        ensures machine { (b : List ℕ) → IsValid b → IsUnitOf b unit
+            → AreDeviceValues (types_in b) values.numbers.items
             → IsMachine b result }
     {
         Machine {
@@ -73,7 +75,8 @@ impl Machine {
         }
     }
 
-    // Emits nothing. It writes only where the last step has emitted something, since this is done at each step.
+    // Emits nothing. It writes only where the last step has emitted something, since this is done
+    // at each step.
     #[inline(always)]
     fn emit_nothing(&mut self)
         ensures { self.new ≡ record self.old { emitted = emitted.Nothing } }
@@ -162,7 +165,8 @@ impl Machine {
     // Waits for the answer to a request.
     fn wait(&mut self, next: usize, request: Request)
         ensures unit { self.new.unit ≡ self.old.unit }
-        ensures acts { (b : List ℕ) → IsEffect (ask_for (state_of b self.old) next self.old.operands request) b self.new }
+        ensures acts { (b : List ℕ)
+            → IsEffect (ask_for (state_of b self.old) next self.old.operands request) b self.new }
     {
         self.place = next;
         self.status = Status::Asking(request);
@@ -216,7 +220,8 @@ impl Machine {
     #[tactic(auto, unfolding(edd_image::specs::Steps::act))]
     fn abort(&mut self)
         ensures unit { self.new.unit ≡ self.old.unit }
-        ensures acts { (b : List ℕ) (next : ℕ) → ActsTo b instructions.Abort next self.old self.new }
+        ensures acts { (b : List ℕ) (next : ℕ)
+            → ActsTo b instructions.Abort next self.old self.new }
     {
         self.status = Status::Aborted;
         self.emit_nothing();
@@ -245,8 +250,8 @@ impl Machine {
         }
     }
 
-    /// One step: the effect of the instruction at its place. A running state of a unit of the image has exactly one, and keeps
-    /// what every state keeps. It takes no memory.
+    /// One step: the effect of the instruction at its place. A running state of a unit of the image
+    /// has exactly one, and keeps what every state keeps. It takes no memory.
     pub fn step(&mut self, image: &Image<'_>)
         requires machine { IsMachine image.now self.old }
         requires running { self.old.status ≡ Running }

@@ -35,7 +35,8 @@ pub enum Outcome {
 #[tactic(auto, unfolding(edd_image::specs::Steps::act))]
 fn push(operands: &mut Operands, sort: Sort, number: u32, next: usize) -> Outcome
     requires { length operands.old < 128 }
-    ensures { (values : List ℤ) → Performs sort values operands.old operands.new (instructions.Push number) next result }
+    ensures { (values : List ℤ)
+        → Performs sort values operands.old operands.new (instructions.Push number) next result }
 {
     operands.push(wrapped_constant(sort, number));
     Outcome::GoesOn(next)
@@ -52,7 +53,8 @@ fn push_variable(
 ) -> Outcome
     requires room { length operands.old < 128 }
     requires exists { variable.0 < length values.now }
-    ensures { Performs sort values.now operands.old operands.new (instructions.Variable variable) next result }
+    ensures { Performs sort values.now operands.old operands.new (instructions.Variable variable)
+        next result }
 {
     operands.push(wrapped(sort, values[variable.0 as usize]));
     Outcome::GoesOn(next)
@@ -62,7 +64,8 @@ fn push_variable(
 #[tactic(auto, unfolding(edd_image::specs::Steps::act))]
 fn pop(operands: &mut Operands, next: usize) -> Outcome
     requires { 1 ≤ length operands.old }
-    ensures { (sort : Sort) (values : List ℤ) → Performs sort values operands.old operands.new instructions.Pop next result }
+    ensures { (sort : Sort) (values : List ℤ)
+        → Performs sort values operands.old operands.new instructions.Pop next result }
 {
     let _operand = operands.pop();
     Outcome::GoesOn(next)
@@ -73,7 +76,8 @@ fn pop(operands: &mut Operands, next: usize) -> Outcome
 fn duplicate(operands: &mut Operands, next: usize) -> Outcome
     requires enough { 1 ≤ length operands.old }
     requires room { length operands.old < 128 }
-    ensures { (sort : Sort) (values : List ℤ) → Performs sort values operands.old operands.new instructions.Duplicate next result }
+    ensures { (sort : Sort) (values : List ℤ)
+        → Performs sort values operands.old operands.new instructions.Duplicate next result }
 {
     operands.push(operands.top());
     Outcome::GoesOn(next)
@@ -84,7 +88,9 @@ fn duplicate(operands: &mut Operands, next: usize) -> Outcome
 fn operate_two(operands: &mut Operands, sort: Sort, operator: Operator, next: usize) -> Outcome
     requires enough { 2 ≤ length operands.old }
     requires fit { AllByRecursion (Fits sort) operands.old }
-    ensures { (values : List ℤ) → Performs sort values operands.old operands.new (instructions.Operate operator) next result }
+    ensures { (values : List ℤ)
+        → Performs sort values operands.old operands.new (instructions.Operate operator) next
+        result }
 {
     let b = operands.pop();
     match operate(sort, operator, operands.top(), b) {
@@ -103,7 +109,9 @@ fn operate_two(operands: &mut Operands, sort: Sort, operator: Operator, next: us
 #[tactic(auto, unfolding(edd_image::specs::Steps::act))]
 fn compare_two(operands: &mut Operands, comparison: Comparison, next: usize) -> Outcome
     requires enough { 2 ≤ length operands.old }
-    ensures { (sort : Sort) (values : List ℤ) → Performs sort values operands.old operands.new (instructions.Compare comparison) next result }
+    ensures { (sort : Sort) (values : List ℤ)
+        → Performs sort values operands.old operands.new (instructions.Compare comparison) next
+        result }
 {
     let b = operands.pop();
     operands.set_top(compare(comparison, operands.top(), b));
@@ -115,7 +123,8 @@ fn compare_two(operands: &mut Operands, comparison: Comparison, next: usize) -> 
 fn negate_top(operands: &mut Operands, sort: Sort, next: usize) -> Outcome
     requires enough { 1 ≤ length operands.old }
     requires fit { AllByRecursion (Fits sort) operands.old }
-    ensures { (values : List ℤ) → Performs sort values operands.old operands.new instructions.Negate next result }
+    ensures { (values : List ℤ) → Performs sort values operands.old operands.new instructions.Negate
+        next result }
 {
     operands.set_top(negate(sort, operands.top()));
     Outcome::GoesOn(next)
@@ -125,7 +134,8 @@ fn negate_top(operands: &mut Operands, sort: Sort, next: usize) -> Outcome
 #[tactic(auto, unfolding(edd_image::specs::Steps::act))]
 fn not_top(operands: &mut Operands, next: usize) -> Outcome
     requires enough { 1 ≤ length operands.old }
-    ensures { (sort : Sort) (values : List ℤ) → Performs sort values operands.old operands.new instructions.Not next result }
+    ensures { (sort : Sort) (values : List ℤ)
+        → Performs sort values operands.old operands.new instructions.Not next result }
 {
     operands.set_top(logical_not(operands.top()));
     Outcome::GoesOn(next)
@@ -135,7 +145,8 @@ fn not_top(operands: &mut Operands, next: usize) -> Outcome
 #[tactic(auto, unfolding(edd_image::specs::Steps::act))]
 fn complement_top(operands: &mut Operands, next: usize) -> Outcome
     requires enough { 1 ≤ length operands.old }
-    ensures { (sort : Sort) (values : List ℤ) → Performs sort values operands.old operands.new instructions.Complement next result }
+    ensures { (sort : Sort) (values : List ℤ)
+        → Performs sort values operands.old operands.new instructions.Complement next result }
 {
     operands.set_top(complement(operands.top()));
     Outcome::GoesOn(next)
@@ -145,7 +156,9 @@ fn complement_top(operands: &mut Operands, next: usize) -> Outcome
 #[tactic(auto, unfolding(edd_image::specs::Steps::act))]
 fn jump_if_zero(operands: &mut Operands, target: u32, next: usize) -> Outcome
     requires { 1 ≤ length operands.old }
-    ensures { (sort : Sort) (values : List ℤ) → Performs sort values operands.old operands.new (instructions.JumpIfZero target) next result }
+    ensures { (sort : Sort) (values : List ℤ)
+        → Performs sort values operands.old operands.new (instructions.JumpIfZero target) next
+        result }
 {
     if operands.pop() == 0 {
         Outcome::GoesOn(target as usize)
@@ -158,7 +171,9 @@ fn jump_if_zero(operands: &mut Operands, target: u32, next: usize) -> Outcome
 #[tactic(auto, unfolding(edd_image::specs::Steps::act))]
 fn jump_if_not_zero(operands: &mut Operands, target: u32, next: usize) -> Outcome
     requires { 1 ≤ length operands.old }
-    ensures { (sort : Sort) (values : List ℤ) → Performs sort values operands.old operands.new (instructions.JumpIfNotZero target) next result }
+    ensures { (sort : Sort) (values : List ℤ)
+        → Performs sort values operands.old operands.new (instructions.JumpIfNotZero target) next
+        result }
 {
     if operands.pop() == 0 {
         Outcome::GoesOn(next)
@@ -171,7 +186,9 @@ fn jump_if_not_zero(operands: &mut Operands, target: u32, next: usize) -> Outcom
 #[tactic(auto, unfolding(edd_image::specs::Steps::act))]
 fn case(operands: &mut Operands, label: i64, target: u32, next: usize) -> Outcome
     requires enough { 1 ≤ length operands.old }
-    ensures { (sort : Sort) (values : List ℤ) → Performs sort values operands.old operands.new (instructions.Case label target) next result }
+    ensures { (sort : Sort) (values : List ℤ)
+        → Performs sort values operands.old operands.new (instructions.Case label target) next
+        result }
 {
     if operands.top() == label {
         let _operand = operands.pop();
@@ -185,7 +202,8 @@ fn case(operands: &mut Operands, label: i64, target: u32, next: usize) -> Outcom
 #[tactic(auto, unfolding(edd_image::specs::Steps::act))]
 fn give_number(operands: &mut Operands, next: usize) -> Outcome
     requires { 1 ≤ length operands.old }
-    ensures { (sort : Sort) (values : List ℤ) → Performs sort values operands.old operands.new instructions.Number next result }
+    ensures { (sort : Sort) (values : List ℤ)
+        → Performs sort values operands.old operands.new instructions.Number next result }
 {
     Outcome::Gives(next, Record::Number(operands.pop()))
 }
@@ -202,9 +220,11 @@ pub fn perform(
 ) -> Outcome
     requires enough { takes instruction ≤ length operands.old }
     requires full { length operands.old ≤ 128 }
-    requires room { IfSome (leaves instruction) (λ n. length operands.old - takes instruction + n ≤ 128) }
+    requires room { IfSome (leaves instruction) (λ n. length operands.old - takes instruction + n
+        ≤ 128) }
     requires shared { IsShared instruction }
-    requires exists { (v : VarNo) → instruction ≡ instructions.Variable v → v.0 < length values.now }
+    requires exists { (v : VarNo) → instruction ≡ instructions.Variable v
+        → v.0 < length values.now }
     requires fit { AllByRecursion (Fits sort) operands.old }
     ensures { Performs sort values.now operands.old operands.new instruction next result }
 {

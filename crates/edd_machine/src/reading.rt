@@ -23,9 +23,11 @@ use edd_loader::Image;
 use edd_syntax::numbers::{Attr, AttrRef};
 use std::alloc::{AllocError, Global};
 
-// Whether there is no such item, or none that has this attribute, by the counts and by whether the attribute has a row.
+// Whether there is no such item, or none that has this attribute, by the counts and by whether the
+// attribute has a row.
 fn is_no_item(counts: Counts, attr: AttrRef, has_row: bool) -> bool
-    ensures { (c : Contents) → c.counts ≡ counts → is_some (row_of c attr) ≡ has_row → result ≡ is_no_item c attr }
+    ensures { (c : Contents) → c.counts ≡ counts → is_some (row_of c attr) ≡ has_row
+        → result ≡ is_no_item c attr }
 {
     if !counts.has_item(attr.item) || !attr.attr.may_belong_to(attr.item.kind()) {
         return true;
@@ -75,8 +77,10 @@ fn run(
     requires sort { unit.sort ≡ Attribute }
     requires values { AreDeviceValues (types_in image.now) values.now }
     ensures valid { IsValid image.now }
-    ensures records { IfOk result (λ records. Gives (environment_of (contents_in image.now)) (opening (running_unit image.now unit) unit.slots values.now) (Ok records.items)) }
-    ensures fault { IfErr result (GivesFault (environment_of (contents_in image.now)) (opening (running_unit image.now unit) unit.slots values.now)) }
+    ensures records { IfOk result (λ records. Gives (environment_of (contents_in image.now))
+        (opening (running_unit image.now unit) unit.slots values.now) (Ok records.items)) }
+    ensures fault { IfErr result (GivesFault (environment_of (contents_in image.now))
+        (opening (running_unit image.now unit) unit.slots values.now)) }
 {
     let code = code_of(image.bytes(), unit);
     let mut operands = Operands::new();
@@ -96,11 +100,13 @@ fn run(
     unreachable!()
 }
 
-/// The records of an attribute under values of a device of this description: what its unit gives from its first byte to its
-/// end. Where it has no row or gives no record, HANDLING is 3, VALIDITY is 1, and every other attribute has no records.
+/// The records of an attribute under values of a device of this description: what its unit gives
+/// from its first byte to its end. Where it has no row or gives no record, HANDLING is 3, VALIDITY
+/// is 1, and every other attribute has no records.
 ///
-/// The fault is `NoItem` where there is no such item, its kind hasn't the attribute, the attribute is DEFINITION, a transaction
-/// has no row, or `sub` is not 0 elsewhere; else the trap of the unit; and `Memory` where memory for the records is refused.
+/// The fault is `NoItem` where there is no such item, its kind hasn't the attribute, the attribute
+/// is DEFINITION, a transaction has no row, or `sub` is not 0 elsewhere; else the trap of the unit;
+/// and `Memory` where memory for the records is refused.
 pub fn attribute_of_device(
     alloc: Global,
     image: &Image<'_>,
@@ -108,7 +114,8 @@ pub fn attribute_of_device(
     values: &Values,
 ) -> Result<Vec<Record>, ReadFault>
     requires { AreDeviceValues (types_in image.now) values.now.numbers.items }
-    ensures records { IfOk result (λ records. IsReading image.now attr values.now.numbers.items (Records records.items)) }
+    ensures records { IfOk result (λ records. IsReading image.now attr values.now.numbers.items
+        (Records records.items)) }
     ensures fault { IfErr result (IsReadFault image.now attr values.now.numbers.items) }
 {
     let unit = find_attribute(image, attr);
@@ -126,7 +133,8 @@ pub fn attribute_of_device(
 
 // What a read comes to under values that are not those of a device of this description.
 fn fault_of_values(image: &Image<'_>, attr: AttrRef) -> ReadFault
-    ensures { (values : List ℤ) → (¬ AreDeviceValues (types_in image.now) values) → IsReadFault image.now attr values result }
+    ensures { (values : List ℤ) → (¬ AreDeviceValues (types_in image.now) values)
+        → IsReadFault image.now attr values result }
 {
     let unit = find_attribute(image, attr);
     if is_no_item(image.counts(), attr, unit.is_some()) {
@@ -138,15 +146,16 @@ fn fault_of_values(image: &Image<'_>, attr: AttrRef) -> ReadFault
 
 /// The records of an attribute under these values, as `attribute_of_device` gives them.
 ///
-/// The fault is its fault, but `WrongValues` where there is such an attribute, and the values are not those of a device of this
-/// description.
+/// The fault is its fault, but `WrongValues` where there is such an attribute, and the values are
+/// not those of a device of this description.
 pub fn attribute(
     alloc: Global,
     image: &Image<'_>,
     attr: AttrRef,
     values: &Values,
 ) -> Result<Vec<Record>, ReadFault>
-    ensures records { IfOk result (λ records. IsReading image.now attr values.now.numbers.items (Records records.items)) }
+    ensures records { IfOk result (λ records. IsReading image.now attr values.now.numbers.items
+        (Records records.items)) }
     ensures values { OnOk result (AreDeviceValues (types_in image.now) values.now.numbers.items) }
     ensures fault { IfErr result (IsReadFault image.now attr values.now.numbers.items) }
 {

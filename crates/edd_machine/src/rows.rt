@@ -42,14 +42,18 @@ fn rank_at(bytes: &[u8], row: usize) -> u64
     rank(kind, attribute, item, attribute_sub(bytes, row))
 }
 
-// The number of the first of `count` rows, the first of which stands at `start`, that does not stand below the rank `key`.
+// The number of the first of `count` rows, the first of which stands at `start`, that does not
+// stand below the rank `key`.
 fn first_from(bytes: &[u8], start: usize, count: usize, key: u64) -> usize
     requires room { start + ATTRIBUTE_ROW * count ≤ length bytes.now }
     requires rising { (i j : ℕ) → i < j → j < count
-        → rank_of (attribute_fields bytes.now (start + 16 * i)) < rank_of (attribute_fields bytes.now (start + 16 * j)) }
+        → rank_of (attribute_fields bytes.now (start + 16 * i))
+        < rank_of (attribute_fields bytes.now (start + 16 * j)) }
     ensures end { result ≤ count }
-    ensures below { (i : ℕ) → i < result → rank_of (attribute_fields bytes.now (start + 16 * i)) < key }
-    ensures above { (i : ℕ) → result ≤ i → i < count → key ≤ rank_of (attribute_fields bytes.now (start + 16 * i)) }
+    ensures below { (i : ℕ) → i < result → rank_of (attribute_fields bytes.now (start + 16 * i))
+        < key }
+    ensures above { (i : ℕ) → result ≤ i → i < count
+        → key ≤ rank_of (attribute_fields bytes.now (start + 16 * i)) }
 {
     let mut low = 0;
     let mut high = count;
@@ -65,7 +69,7 @@ fn first_from(bytes: &[u8], start: usize, count: usize, key: u64) -> usize
 }
 
 // The unit of a row.
-fn unit_of(bytes: &[u8], starts: Starts, row: usize) -> CodeUnit
+fn placed_unit(bytes: &[u8], starts: Starts, row: usize) -> CodeUnit
     requires valid { IsValid bytes.now }
     requires starts { starts ≡ starts_in bytes.now }
     requires row { row + ATTRIBUTE_ROW ≤ length bytes.now }
@@ -106,7 +110,8 @@ fn first_row(bytes: &[u8], starts: Starts, key: u64) -> usize
     requires starts { starts ≡ starts_in bytes.now }
     ensures end { result ≤ attribute_count bytes.now }
     ensures below { (i : ℕ) → i < result → rank_of (row_at bytes.now i) < key }
-    ensures above { (i : ℕ) → result ≤ i → i < attribute_count bytes.now → key ≤ rank_of (row_at bytes.now i) }
+    ensures above { (i : ℕ) → result ≤ i → i < attribute_count bytes.now
+        → key ≤ rank_of (row_at bytes.now i) }
 {
     let count = attribute_count(bytes) as usize;
     first_from(bytes, starts.attribute_rows, count, key)
@@ -116,7 +121,8 @@ fn first_row(bytes: &[u8], starts: Starts, key: u64) -> usize
 fn attribute_row(bytes: &[u8], starts: Starts, attr: AttrRef) -> Option<usize>
     requires valid { IsValid bytes.now }
     requires starts { starts ≡ starts_in bytes.now }
-    ensures row { option_map (attribute_fields bytes.now) result ≡ row_of (contents_in bytes.now) attr }
+    ensures row { option_map (attribute_fields bytes.now) result ≡ row_of (contents_in bytes.now)
+        attr }
     ensures inside { IfSome result (λ row. row + ATTRIBUTE_ROW ≤ length bytes.now) }
 {
     let kind = attr.item.kind().number();
@@ -140,7 +146,8 @@ fn attribute_row(bytes: &[u8], starts: Starts, attr: AttrRef) -> Option<usize>
 fn body_row(bytes: &[u8], starts: Starts, method: MethNo) -> Option<usize>
     requires valid { IsValid bytes.now }
     requires starts { starts ≡ starts_in bytes.now }
-    ensures row { option_map (attribute_fields bytes.now) result ≡ body_of (contents_in bytes.now) method }
+    ensures row { option_map (attribute_fields bytes.now) result ≡ body_of (contents_in bytes.now)
+        method }
     ensures inside { IfSome result (λ row. row + ATTRIBUTE_ROW ≤ length bytes.now) }
 {
     let first = first_row(bytes, starts, rank(METHOD, DEFINITION, method.0, 0));
@@ -161,12 +168,13 @@ pub fn find_attribute(image: &Image<'_>, attr: AttrRef) -> Option<CodeUnit>
     let bytes = image.bytes();
     let starts = image.starts();
     let row = attribute_row(bytes, starts, attr)?;
-    Some(unit_of(bytes, starts, row))
+    Some(placed_unit(bytes, starts, row))
 }
 
 /// The unit of a method's body, if it has a row: a `Machine` may be opened on it.
 pub fn find_body(image: &Image<'_>, method: MethNo) -> Option<CodeUnit>
-    ensures value { result ≡ option_map (unit_at image.now) (body_of (contents_in image.now) method) }
+    ensures value { result ≡ option_map (unit_at image.now)
+        (body_of (contents_in image.now) method) }
     ensures valid { IsValid image.now }
     ensures unit { IfSome result (IsUnitOf image.now) }
     ensures sort { IfSome result (λ unit. unit.sort ≡ Method) }
@@ -175,5 +183,5 @@ pub fn find_body(image: &Image<'_>, method: MethNo) -> Option<CodeUnit>
     let bytes = image.bytes();
     let starts = image.starts();
     let row = body_row(bytes, starts, method)?;
-    Some(unit_of(bytes, starts, row))
+    Some(placed_unit(bytes, starts, row))
 }

@@ -10,8 +10,8 @@ use crate::ranges::is_in_range;
 use edd_loader::Image;
 use edd_syntax::numbers::VarNo;
 
-/// Why an answer can't set the variable to this value, if it can't: the image has no such variable, or the value is out of the
-/// range of its type and size.
+/// Why an answer can't set the variable to this value, if it can't: the image has no such variable,
+/// or the value is out of the range of its type and size.
 pub fn set_fault(image: &Image<'_>, variable: VarNo, value: i64) -> Option<SetFault>
     ensures { option_map set_fault_of result
         ≡ set_fault (types_in image.now) (record { variable = variable; value = value }) }

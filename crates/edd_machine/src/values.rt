@@ -20,15 +20,16 @@ pub struct Values {
 }
 
 impl Values {
-    /// These numbers, copied, if they are values of a device of this description: one for each variable, in the range of its
-    /// type and size.
+    /// These numbers, copied, if they are values of a device of this description: one for each
+    /// variable, in the range of its type and size.
     ///
-    /// The fault is `Count` where there are not as many numbers as variables, `Range` where one of as many is out of its range,
-    /// and `Memory` where the copy is refused.
+    /// The fault is `Count` where there are not as many numbers as variables, `Range` where one of
+    /// as many is out of its range, and `Memory` where the copy is refused.
     pub fn new(alloc: Global, image: &Image<'_>, numbers: &[i64]) -> Result<Values, ValuesFault>
         ensures numbers { IfOk result (λ values. values.numbers.items ≡ numbers.now) }
         ensures values { OnOk result (AreDeviceValues (types_in image.now) numbers.now) }
-        ensures fault { IfErr result (λ fault. IsValuesFault fault (types_in image.now) numbers.now) }
+        ensures fault { IfErr result (λ fault. IsValuesFault fault (types_in image.now)
+            numbers.now) }
     {
         let bytes = image.bytes();
         if numbers.len() != variable_count(bytes) as usize {

@@ -1,4 +1,5 @@
--- What a checked description's method keeps, each fact of which is known where the description is merely known to be checked.
+-- What a checked description's method keeps, each fact of which is known where the description is
+-- merely known to be checked.
 use Rattle.std.proofs.Common.{◌≡◌, refl, ℕ, Bool, true, false, ◌≤◌, List, [], ◌∷◌}
 use Rattle.std.specs.List.{AllByRecursion, AllByRecursion-prop}
 use Rattle.std.proofs.Math.Bool.{Bool-set}
@@ -56,7 +57,8 @@ module _ (limit : ℕ) where
     statement_prop (Evaluate e) = Unit-prop
     statement_prop (Block body) = body_prop body
     statement_prop (If condition first) = statement_prop first
-    statement_prop (IfElse condition first otherwise) = ×_prop (statement_prop first) (statement_prop otherwise)
+    statement_prop (IfElse condition first otherwise) =
+        ×_prop (statement_prop first) (statement_prop otherwise)
     statement_prop (While condition body) = statement_prop body
     statement_prop (Do body condition) = statement_prop body
     statement_prop (For initial condition update body) = statement_prop body
@@ -77,15 +79,18 @@ module _ (limit : ℕ) where
 pub record BodyFacts (d : Description Target) (m : MethNo) : Type 0 where
   pub few_slots : slots_in (body_of d m) ≤ 64
   pub slots : EachSlot (slots_in (body_of d m)) (body_of d m)
-  pub fit : AllByRecursion (λ p. call_mismatches p.is_statement p.expression ≡ []) (body_expressions (body_of d m))
+  pub fit : AllByRecursion (λ p. call_mismatches p.is_statement p.expression ≡ [])
+      (body_expressions (body_of d m))
   pub low : NoneHigher height_limit (body_expressions (body_of d m))
   pub few_variables : count_of kind.Variable d.items ≤ item_limit
-  pub refer : (counts : Counts) → count_of kind.Variable d.items ≡ counts.variables → Refers counts (body_of d m)
+  pub refer : (counts : Counts) → count_of kind.Variable d.items ≡ counts.variables
+      → Refers counts (body_of d m)
   pub inside : Inside (body_of d m)
 
 module _ (d : Description Target) (is : ∥ IsChecked d ∥₁) (m : MethNo) where
   no_breach : subset_breaches d ≡ []
-  no_breach = none_is (subset_breaches d) (∥∥₁_elim is (Bool-set _ _) (λ c. is_none_of (subset_breaches d) c.no_breach))
+  no_breach = none_is (subset_breaches d)
+      (∥∥₁_elim is (Bool-set _ _) (λ c. is_none_of (subset_breaches d) c.no_breach))
 
   typed : (mismatches d ≡ []) × (wrong_breaks d ≡ [])
   typed =
@@ -97,10 +102,12 @@ module _ (d : Description Target) (is : ∥ IsChecked d ∥₁) (m : MethNo) whe
   pub body_facts : BodyFacts d m
   body_facts = record {
     few_slots = ∥∥₁_elim is le_prop (λ c. (body_keeps d c.is_resolved m).0);
-    slots = ∥∥₁_elim is (body_prop (slots_in (body_of d m)) (body_of d m)) (λ c. (body_keeps d c.is_resolved m).1);
+    slots = ∥∥₁_elim is (body_prop (slots_in (body_of d m)) (body_of d m))
+        (λ c. (body_keeps d c.is_resolved m).1);
     fit = body_fits d typed.0 m;
     low = ∥∥₁_elim is (AllByRecursion-prop _ (λ p. le_prop) _) (λ c. body_is_low d c.is_resolved m);
     few_variables = ∥∥₁_elim is le_prop (λ c. few_variables d c.is_resolved);
-    refer = λ counts variables. ∥∥₁_elim is (AllByRecursion-prop _ (λ p. Bool-set _ _) _) (λ c. body_refers d c.is_resolved counts variables m);
+    refer = λ counts variables. ∥∥₁_elim is (AllByRecursion-prop _ (λ p. Bool-set _ _) _)
+        (λ c. body_refers d c.is_resolved counts variables m);
     inside = breaks_inside d typed.1 m;
   }

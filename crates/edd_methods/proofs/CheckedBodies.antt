@@ -22,23 +22,28 @@ abbrev pub OfBody : {R : Type 0} → (P : Body R → Type 0) → Attribute R →
 OfBody P (item.Definition body) = P body
 OfBody P _ = Unit {0}
 
-pub flat_parts : {A B : Type 0} (P : B → Type 0) (f : A → List B) (xs : List A) → AllByRecursion P (flat_map f xs) → AllByRecursion (λ x. AllByRecursion P (f x)) xs
+pub flat_parts : {A B : Type 0} (P : B → Type 0) (f : A → List B) (xs : List A)
+    → AllByRecursion P (flat_map f xs) → AllByRecursion (λ x. AllByRecursion P (f x)) xs
 flat_parts P f [] h = tt
 flat_parts {A} {B} P f (x ∷ xs) h = let two = parted (f x) h in (two.0, flat_parts P f xs two.1)
   where
-    parted : (ys : List B) → AllByRecursion P (ys ++ flat_map f xs) → AllByRecursion P ys × AllByRecursion P (flat_map f xs)
+    parted : (ys : List B) → AllByRecursion P (ys ++ flat_map f xs)
+        → AllByRecursion P ys × AllByRecursion P (flat_map f xs)
     parted [] h = (tt, h)
     parted (y ∷ ys) h = let more = parted ys h.1 in ((h.0, more.0), more.1)
 
-picked : {A : Type 0} (P : A → Type 0) (test : A → Bool) (xs : List A) → AllByRecursion P xs → AllByRecursion P (filter test xs)
+picked : {A : Type 0} (P : A → Type 0) (test : A → Bool) (xs : List A) → AllByRecursion P xs
+    → AllByRecursion P (filter test xs)
 picked P test [] h = tt
 picked {A} P test (x ∷ xs) h = by_test (test x) (picked P test xs h.1)
   where
-    by_test : (b : Bool) → AllByRecursion P (filter test xs) → AllByRecursion P (cond b (x ∷ filter test xs) (filter test xs))
+    by_test : (b : Bool) → AllByRecursion P (filter test xs)
+        → AllByRecursion P (cond b (x ∷ filter test xs) (filter test xs))
     by_test true rest = (h.0, rest)
     by_test false rest = rest
 
-got : {A : Type 0} (P : A → Type 0) (xs : List A) (k : ℕ) (x : A) → AllByRecursion P xs → slice_get xs k ≡ Some x → P x
+got : {A : Type 0} (P : A → Type 0) (xs : List A) (k : ℕ) (x : A) → AllByRecursion P xs
+    → slice_get xs k ≡ Some x → P x
 got P [] k x h is = absurd (cc is)
 got P (y ∷ ys) zero x h is = subst P (same_Some y x is) h.0
 got P (y ∷ ys) (suc k) x h is = got P ys k x h.1 is
@@ -60,21 +65,27 @@ module _ (P : Body Target → Type 0) (none : P Nil) where
   in_attributes (item.Definition body ∷ rest) h = h.0
 
   -- what holds of each written body holds of that of each method
-  pub of_method : (unit : Description Target) (m : MethNo) → AllByRecursion (OfBody P) (attributes_of unit) → P (body_of unit m)
+  pub of_method : (unit : Description Target) (m : MethNo)
+      → AllByRecursion (OfBody P) (attributes_of unit) → P (body_of unit m)
   of_method unit m h = by_item (item_at unit (item_no.Method m)) refl
     where
-      by_item : (o : Option (Item Target)) → item_at unit (item_no.Method m) ≡ o → P (elim o as (λ _. Body Target) [ Some i ↦ body_in i.attributes | None ↦ Nil ])
+      by_item : (o : Option (Item Target)) → item_at unit (item_no.Method m) ≡ o
+          → P (elim o as (λ _. Body Target) [ Some i ↦ body_in i.attributes | None ↦ Nil ])
       by_item None is = none
       by_item (Some i) is =
-          in_attributes i.attributes (got (λ i. AllByRecursion (OfBody P) i.attributes) _ _ i (picked (λ i. AllByRecursion (OfBody P) i.attributes) _ unit.items (flat_parts (OfBody P) (λ i. i.attributes) unit.items h)) is)
+          in_attributes i.attributes (got (λ i. AllByRecursion (OfBody P) i.attributes) _ _ i
+          (picked (λ i. AllByRecursion (OfBody P) i.attributes) _ unit.items
+          (flat_parts (OfBody P) (λ i. i.attributes) unit.items h)) is)
 
 -- ---- calls
 
 -- the calls of a body fit
 abbrev pub Fit : Body Target → Type 0
-Fit body = AllByRecursion (λ p. call_mismatches p.is_statement p.expression ≡ []) (body_expressions body)
+Fit body = AllByRecursion (λ p. call_mismatches p.is_statement p.expression ≡ [])
+    (body_expressions body)
 
-fit_in : (xs : List (Attribute Target)) → AllByRecursion CallsFit xs → AllByRecursion (OfBody Fit) xs
+fit_in : (xs : List (Attribute Target)) → AllByRecursion CallsFit xs
+    → AllByRecursion (OfBody Fit) xs
 fit_in [] h = tt
 fit_in (a ∷ rest) h = (one a h.0, fit_in rest h.1)
   where
@@ -92,5 +103,6 @@ fit_in (a ∷ rest) h = (one a h.0, fit_in rest h.1)
     one (item.Items entries) h = tt
     one (item.Members members) h = tt
 
-pub body_fits : (unit : Description Target) → mismatches unit ≡ [] → (m : MethNo) → Fit (body_of unit m)
+pub body_fits : (unit : Description Target) → mismatches unit ≡ [] → (m : MethNo)
+    → Fit (body_of unit m)
 body_fits unit none m = of_method Fit tt unit m (fit_in (attributes_of unit) (calls_fit unit none))

@@ -39,60 +39,97 @@ use Rattle.edd_methods.proofs.ResolvedExpressions.{any}
 use Rattle.edd_methods.proofs.ResolvedStatements.{ReferToExisting}
 
 -- what has a number of the table is a string that exists
-strings_there : (context : Context) (strings : List Words) (number : Words → StrNo) → context.counts.strings ≡ length strings → (ts : List texts.Text)
-    → AllByRecursion (IsNumbered (string_of_table strings) number) ts → AllByRecursion (λ t. string_exists context.counts (number (words_of t)) ≡ true) ts
+strings_there : (context : Context) (strings : List Words) (number : Words → StrNo)
+    → context.counts.strings ≡ length strings → (ts : List texts.Text)
+    → AllByRecursion (IsNumbered (string_of_table strings) number) ts
+    → AllByRecursion (λ t. string_exists context.counts (number (words_of t)) ≡ true) ts
 strings_there context strings number long [] h = tt
 strings_there context strings number long (t ∷ rest) h =
     let n = number (words_of t) in
-    let below = slice_get_within strings n.0 (words_of t) h.0 in
-    (lt-ltb n.0 context.counts.strings (omega (arith, below, long)), strings_there context strings number long rest h.1)
+    let below = slice_get_within strings n.0 (words_of t) h.0 in (
+      lt-ltb n.0 context.counts.strings (omega (arith, below, long)),
+      strings_there context strings
+          number long rest h.1,
+    )
 
 -- the operands of a block are in their ranges, and what it names exists
 abbrev pub Stands : Context → (number : Words → StrNo) → Expr Target → Type 0
-Stands context number e = AreSpelled (method_block number e) × (all_straight (names_exist context) (method_block number e) ≡ true)
+Stands context number e = AreSpelled (method_block number e)
+    × (all_straight (names_exist context) (method_block number e) ≡ true)
 
-all_stand : (context : Context) (strings : List Words) (number : Words → StrNo) → context.counts.strings ≡ length strings → length strings ≤ 65536 → context.counts.variables ≤ 65536 → context.slots ≤ 65536
-    → (ps : List (Placed Target)) → AllByRecursion (λ p. call_mismatches p.is_statement p.expression ≡ []) ps → ReferToExisting context ps
-    → AllByRecursion (λ p. HasNumbers (string_of_table strings) number p.expression) ps → AllByRecursion (λ p. Stands context number p.expression) ps
+all_stand : (context : Context) (strings : List Words) (number : Words → StrNo)
+    → context.counts.strings ≡ length strings → length strings ≤ 65536 → context.counts.variables
+    ≤ 65536 → context.slots ≤ 65536
+    → (ps : List (Placed Target))
+    → AllByRecursion (λ p. call_mismatches p.is_statement p.expression ≡ []) ps
+    → ReferToExisting context ps
+    → AllByRecursion (λ p. HasNumbers (string_of_table strings) number p.expression) ps
+    → AllByRecursion (λ p. Stands context number p.expression) ps
 all_stand context strings number long few variables slots [] fit refer known = tt
 all_stand context strings number long few variables slots (p ∷ ps) fit refer known =
     let e = p.expression in
     let there = strings_there context strings number long (expr_texts e) known.0 in
-    let x = method_stands context variables (omega (arith, long, few)) slots number any p.is_statement e fit.0 refer.0 there in
-    ((x.spelled, x.named), all_stand context strings number long few variables slots ps fit.1 refer.1 known.1)
+    let x = method_stands context variables (omega (arith, long, few)) slots number any
+    p.is_statement e fit.0 refer.0 there in (
+      (x.spelled, x.named),
+      all_stand context strings number long few variables slots ps fit.1
+          refer.1 known.1,
+    )
 
-module _ (d : Description Target) (m : MethNo) (is : BodyFacts d m) (strings : List Words) (few : length strings ≤ 65536) (number : Words → StrNo)
-    (known : AllByRecursion (λ p. HasNumbers (string_of_table strings) number p.expression) (body_expressions (body_of d m))) where
-  pub expressions_stand : AllByRecursion (λ p. Stands (method_context d strings (slots_in (body_of d m))) number p.expression) (body_expressions (body_of d m))
+module _ (d : Description Target) (m : MethNo) (is : BodyFacts d m) (strings : List Words)
+    (few : length strings ≤ 65536) (number : Words → StrNo)
+    (known : AllByRecursion (λ p. HasNumbers (string_of_table strings) number p.expression)
+    (body_expressions (body_of d m))) where
+  pub expressions_stand : AllByRecursion
+      (λ p. Stands (method_context d strings (slots_in (body_of d m))) number p.expression)
+      (body_expressions (body_of d m))
   expressions_stand =
       let variables = is.few_variables in
       let slots = is.few_slots in
       let refer = is.refer (counts_of d.identification d.items (length strings)) refl in
-      all_stand (method_context d strings (slots_in (body_of d m))) strings number refl few (omega (arith, variables)) (omega (arith, slots)) (body_expressions (body_of d m)) is.fit refer known
+      all_stand (method_context d strings (slots_in (body_of d m))) strings number refl few
+      (omega (arith, variables)) (omega (arith, slots)) (body_expressions (body_of d m)) is.fit
+      refer known
 
   pub has_blocks : HasBlocks number (string_of_table strings) (body_of d m)
-  has_blocks = record { fit = is.fit; known = known; spelled = each_spelled (body_expressions (body_of d m)) expressions_stand }
+  has_blocks = record {
+    fit = is.fit;
+    known = known;
+    spelled = each_spelled (body_expressions (body_of d m)) expressions_stand;
+  }
     where
-      each_spelled : (ps : List (Placed Target)) → AllByRecursion (λ p. Stands (method_context d strings (slots_in (body_of d m))) number p.expression) ps
-          → AllByRecursion (λ p. (p.is_statement && is_abort_call p.expression) ≡ false → AreSpelled (method_block number p.expression)) ps
+      each_spelled : (ps : List (Placed Target))
+          → AllByRecursion (λ p. Stands (method_context d strings (slots_in (body_of d m))) number
+          p.expression) ps
+          → AllByRecursion (λ p. (p.is_statement && is_abort_call p.expression) ≡ false
+          → AreSpelled (method_block number p.expression)) ps
       each_spelled [] h = tt
       each_spelled (p ∷ ps) h = (λ _. h.0.0, each_spelled ps h.1)
 
   pub has_method_code : size (method_code number (body_of d m)) < 2 ^ 31
-      → IsValidUnit (method_context d strings (slots_in (body_of d m))) (unit_code (method_code number (body_of d m)))
-      → IsMethodCode d strings m (slots_in (body_of d m)) (unit_code (method_code number (body_of d m)))
-  has_method_code small valid = is_method_code d strings m number is.slots (omega (arith, is.few_slots)) has_blocks small valid
+      → IsValidUnit (method_context d strings (slots_in (body_of d m)))
+      (unit_code (method_code number (body_of d m)))
+      → IsMethodCode d strings m (slots_in (body_of d m))
+      (unit_code (method_code number (body_of d m)))
+  has_method_code small valid = is_method_code d strings m number is.slots
+      (omega (arith, is.few_slots)) has_blocks small valid
 
 -- ---- how long the code is
 
-all_short : (number : Words → StrNo) (ps : List (Placed Target)) → AllByRecursion (λ p. call_mismatches p.is_statement p.expression ≡ []) ps
+all_short : (number : Words → StrNo) (ps : List (Placed Target))
+    → AllByRecursion (λ p. call_mismatches p.is_statement p.expression ≡ []) ps
     → AllByRecursion (UnlessAbort (IsShort (method_block number))) ps
 all_short number [] fit = tt
-all_short number (p ∷ ps) fit = (λ _. is_short number p.is_statement p.expression fit.0, all_short number ps fit.1)
+all_short number (p ∷ ps) fit = (
+  λ _. is_short number p.is_statement p.expression fit.0,
+  all_short number ps fit.1,
+)
 
-pub code_is_short : (d : Description Target) (m : MethNo) → BodyFacts d m → (number : Words → StrNo) → size (method_code number (body_of d m)) ≤ 32 * body_nodes (body_of d m)
+pub code_is_short : (d : Description Target) (m : MethNo) → BodyFacts d m → (number : Words → StrNo)
+    → size (method_code number (body_of d m)) ≤ 32 * body_nodes (body_of d m)
 code_is_short d m is number =
     let body = body_of d m in
     body_size (method_block number) body
-    (each_in_listed (IsShort (method_block number)) body (each_slot (slots_in body) (2 ^ 8) (omega (arith, is.few_slots)) body is.slots)
+    (each_in_listed (IsShort (method_block number)) body
+    (each_slot (slots_in body) (2 ^ 8) (omega (arith, is.few_slots)) body is.slots)
     (all_short number (body_expressions body) is.fit))

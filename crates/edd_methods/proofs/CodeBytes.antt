@@ -16,7 +16,8 @@ use Rattle.edd_methods.specs.Statements.{Part, Missing, Step, Test, Code, Plain,
 abbrev long : List Instruction → ℕ
 long is = length (bytes_of is)
 
-long_more : (i : Instruction) (is : List Instruction) → long (i ∷ is) ≡ length (spelling i) + long is
+long_more : (i : Instruction) (is : List Instruction) → long (i ∷ is) ≡ length (spelling i)
+    + long is
 unfolding bytes_of
 long_more i is = length-append (spelling i) (bytes_of is)
 
@@ -32,12 +33,23 @@ part_long p out Missing = long_none
 part_long p out (Step b) = block_bytes.lengths p b
 part_long p out (Test b) =
     let leave = instruction.JumpIfZero (target out) in
-    omega (arith, long_both (blocks.emitted p b) (leave ∷ []), block_bytes.lengths p b, long_more leave [], long_none)
+    omega (
+      arith,
+      long_both (blocks.emitted p b) (leave ∷ []),
+      block_bytes.lengths p b,
+      long_more leave [],
+      long_none,
+    )
 
 pub tests_long : (p : ℕ) (arms : Arms) → long (tests_emitted p arms) ≡ tests_size arms
 tests_long p Nil = long_none
 tests_long p (Statement first rest) = tests_long (p + size first) rest
-tests_long p (Case label rest) = omega (arith, long_more (instruction.Case label (target p)) (tests_emitted p rest), tests_long p rest)
+tests_long p (Case label rest) =
+    omega (
+      arith,
+      long_more (instruction.Case label (target p)) (tests_emitted p rest),
+      tests_long p rest,
+    )
 tests_long p (Default rest) = tests_long p rest
 
 mutual
@@ -46,7 +58,12 @@ mutual
   pub code_long : (p out back : ℕ) (c : Code) → length (bytes_at p out back c) ≡ size c
   code_long p out back (Plain b) = block_bytes.lengths p b
   code_long p out back (Then first second) =
-      omega (arith, long_both (emitted p out back first) (emitted (p + size first) out back second), code_long p out back first, code_long (p + size first) out back second)
+      omega (
+        arith,
+        long_both (emitted p out back first) (emitted (p + size first) out back second),
+        code_long p out back first,
+        code_long (p + size first) out back second,
+      )
   code_long p out back (Branch test first otherwise) =
       let a = blocks.size test in
       let r = p + (a + (5 + (size first + 5))) in
@@ -89,14 +106,16 @@ mutual
   code_long p out back (Switch on arms) =
       let a = blocks.size on in
       let enter = instruction.Jump (target (p + (a + (10 + (arms_size arms + 5))))) in
-      let leave = instruction.Jump (target (p + (a + (10 + (arms_size arms + (5 + (tests_size arms + 6))))))) in
+      let leave = instruction.Jump
+      (target (p + (a + (10 + (arms_size arms + (5 + (tests_size arms + 6))))))) in
       let ends = instruction.Jump (target (p + (a + 5))) in
       let last = instruction.Jump (target (default_place (p + (a + 10)) (p + (a + 5)) arms)) in
       let tests = tests_emitted (p + (a + 10)) arms in
       let those = arms_emitted (p + (a + 10)) (p + (a + 5)) back arms in
       omega (
         arith,
-        long_both (blocks.emitted p on) (enter ∷ (leave ∷ (those ++ (ends ∷ (tests ++ (instruction.Pop ∷ (last ∷ []))))))),
+        long_both (blocks.emitted p on)
+            (enter ∷ (leave ∷ (those ++ (ends ∷ (tests ++ (instruction.Pop ∷ (last ∷ []))))))),
         long_more enter (leave ∷ (those ++ (ends ∷ (tests ++ (instruction.Pop ∷ (last ∷ [])))))),
         long_more leave (those ++ (ends ∷ (tests ++ (instruction.Pop ∷ (last ∷ []))))),
         long_both those (ends ∷ (tests ++ (instruction.Pop ∷ (last ∷ [])))),
@@ -109,14 +128,29 @@ mutual
         arms_long (p + (a + 10)) (p + (a + 5)) back arms,
         tests_long (p + (a + 10)) arms,
       )
-  code_long p out back Break = omega (arith, long_more (instruction.Jump (target out)) [], long_none)
-  code_long p out back Continue = omega (arith, long_more (instruction.Jump (target back)) [], long_none)
+  code_long p out back Break = omega (
+    arith,
+    long_more (instruction.Jump (target out)) [],
+    long_none,
+  )
+  code_long p out back Continue = omega (
+    arith,
+    long_more (instruction.Jump (target back)) [],
+    long_none,
+  )
   code_long p out back Finish = omega (arith, long_more instruction.End [], long_none)
 
-  pub arms_long : (p out back : ℕ) (arms : Arms) → length (bytes_of (arms_emitted p out back arms)) ≡ arms_size arms
+  pub arms_long : (p out back : ℕ) (arms : Arms) → length (bytes_of (arms_emitted p out back arms))
+      ≡ arms_size arms
   arms_long p out back Nil = long_none
   arms_long p out back (Statement first rest) =
-      omega (arith, long_both (emitted p out back first) (arms_emitted (p + size first) out back rest), code_long p out back first, arms_long (p + size first) out back rest)
+      omega (
+        arith,
+        long_both (emitted p out back first)
+            (arms_emitted (p + size first) out back rest),
+        code_long p out back first,
+        arms_long (p + size first) out back rest,
+      )
   arms_long p out back (Case label rest) = arms_long p out back rest
   arms_long p out back (Default rest) = arms_long p out back rest
 
@@ -128,7 +162,8 @@ small place = omega arith
 part_spelled : (p out : ℕ) (part : Part) → IsSpelledPart part → AllSpelled (part_emitted p out part)
 part_spelled p out Missing ok = tt
 part_spelled p out (Step b) ok = block_bytes.all_spelled p b ok
-part_spelled p out (Test b) ok = all_both (blocks.emitted p b) (instruction.JumpIfZero (target out) ∷ []) (block_bytes.all_spelled p b ok) (small out, tt)
+part_spelled p out (Test b) ok = all_both (blocks.emitted p b) (instruction.JumpIfZero (target out)
+    ∷ []) (block_bytes.all_spelled p b ok) (small out, tt)
 
 tests_spelled : (p : ℕ) (arms : Arms) → AreSpelledArms arms → AllSpelled (tests_emitted p arms)
 tests_spelled p Nil ok = tt
@@ -139,16 +174,21 @@ tests_spelled p (Default rest) ok = tests_spelled p rest ok
 mutual
   unfolding emitted
 
-  pub code_spelled : (p out back : ℕ) (c : Code) → IsSpelledCode c → AllSpelled (emitted p out back c)
+  pub code_spelled : (p out back : ℕ) (c : Code) → IsSpelledCode c
+      → AllSpelled (emitted p out back c)
   code_spelled p out back (Plain b) ok = block_bytes.all_spelled p b ok
   code_spelled p out back (Then first second) ok =
-      all_both (emitted p out back first) (emitted (p + size first) out back second) (code_spelled p out back first ok.0) (code_spelled (p + size first) out back second ok.1)
+      all_both (emitted p out back first) (emitted (p + size first) out back second)
+      (code_spelled p out back first ok.0) (code_spelled (p + size first) out back second ok.1)
   code_spelled p out back (Branch test first otherwise) ok =
       let a = blocks.size test in
       all_both (blocks.emitted p test) _ (block_bytes.all_spelled p test ok.0) (
         small (p + (a + (5 + (size first + 5)))),
-        all_both (emitted (p + (a + 5)) out back first) _ (code_spelled (p + (a + 5)) out back first ok.1)
-            (small (p + (a + (5 + (size first + (5 + size otherwise))))), code_spelled (p + (a + (5 + (size first + 5)))) out back otherwise ok.2),
+        all_both (emitted (p + (a + 5)) out back first) _
+            (code_spelled (p + (a + 5)) out back first ok.1) (
+              small (p + (a + (5 + (size first + (5 + size otherwise))))),
+              code_spelled (p + (a + (5 + (size first + 5)))) out back otherwise ok.2,
+            ),
       )
   code_spelled p out back (Loop front back_part body) ok =
       let b = part_size back_part in
@@ -156,9 +196,13 @@ mutual
         small (p + (10 + b)),
         (
           small (p + (10 + (b + (f + (size body + 5))))),
-          all_both (part_emitted (p + 10) (p + 5) back_part) _ (part_spelled (p + 10) (p + 5) back_part ok.1)
-              (all_both (part_emitted (p + (10 + b)) (p + 5) front) _ (part_spelled (p + (10 + b)) (p + 5) front ok.0)
-              (all_both (emitted (p + (10 + (b + f))) (p + 5) (p + 10) body) _ (code_spelled (p + (10 + (b + f))) (p + 5) (p + 10) body ok.2) (small (p + 10), tt))),
+          all_both (part_emitted (p + 10) (p + 5) back_part) _
+              (part_spelled (p + 10) (p + 5) back_part ok.1)
+              (all_both (part_emitted (p + (10 + b)) (p + 5) front) _
+              (part_spelled (p + (10 + b)) (p + 5) front ok.0)
+              (all_both (emitted (p + (10 + (b + f))) (p + 5) (p + 10) body) _
+              (code_spelled (p + (10 + (b + f))) (p + 5) (p + 10) body ok.2)
+              (small (p + 10), tt))),
         ),
       )
   code_spelled p out back (Switch on arms) ok =
@@ -167,20 +211,24 @@ mutual
         small (p + (a + (10 + (arms_size arms + 5)))),
         (
           small (p + (a + (10 + (arms_size arms + (5 + (tests_size arms + 6)))))),
-          all_both (arms_emitted (p + (a + 10)) (p + (a + 5)) back arms) _ (arms_spelled (p + (a + 10)) (p + (a + 5)) back arms ok.1) (
-            small (p + (a + 5)),
-            all_both (tests_emitted (p + (a + 10)) arms) _ (tests_spelled (p + (a + 10)) arms ok.1)
-                (tt, (small (default_place (p + (a + 10)) (p + (a + 5)) arms), tt)),
-          ),
+          all_both (arms_emitted (p + (a + 10)) (p + (a + 5)) back arms) _
+              (arms_spelled (p + (a + 10)) (p + (a + 5)) back arms ok.1) (
+                small (p + (a + 5)),
+                all_both (tests_emitted (p + (a + 10)) arms) _
+                    (tests_spelled (p + (a + 10)) arms ok.1)
+                    (tt, (small (default_place (p + (a + 10)) (p + (a + 5)) arms), tt)),
+              ),
         ),
       )
   code_spelled p out back Break ok = (small out, tt)
   code_spelled p out back Continue ok = (small back, tt)
   code_spelled p out back Finish ok = (tt, tt)
 
-  arms_spelled : (p out back : ℕ) (arms : Arms) → AreSpelledArms arms → AllSpelled (arms_emitted p out back arms)
+  arms_spelled : (p out back : ℕ) (arms : Arms) → AreSpelledArms arms
+      → AllSpelled (arms_emitted p out back arms)
   arms_spelled p out back Nil ok = tt
   arms_spelled p out back (Statement first rest) ok =
-      all_both (emitted p out back first) (arms_emitted (p + size first) out back rest) (code_spelled p out back first ok.0) (arms_spelled (p + size first) out back rest ok.1)
+      all_both (emitted p out back first) (arms_emitted (p + size first) out back rest)
+      (code_spelled p out back first ok.0) (arms_spelled (p + size first) out back rest ok.1)
   arms_spelled p out back (Case label rest) ok = arms_spelled p out back rest ok.1
   arms_spelled p out back (Default rest) ok = arms_spelled p out back rest ok

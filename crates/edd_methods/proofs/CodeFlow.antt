@@ -3,7 +3,8 @@ use Rattle.edd_code.specs.Blocks.{Block}
 use Rattle.edd_methods.specs.CodeFlow.{FitsPart, Fits, FitArms}
 use Rattle.edd_methods.specs.Statements.{Part, Missing, Step, Test, Code, Plain, Then, Branch, Loop, Switch, Break, Continue, Finish, Arms, Nil, Statement, Case, Default}
 
-module _ (R V R' V' : Block → Type 0) (rests : (b : Block) → R b → R' b) (gives : (b : Block) → V b → V' b) where
+module _ (R V R' V' : Block → Type 0) (rests : (b : Block) → R b → R' b) (gives : (b : Block) → V b
+    → V' b) where
   part_weaker : (part : Part) → FitsPart R V part → FitsPart R' V' part
   part_weaker Missing h = tt
   part_weaker (Step b) h = rests b h
@@ -13,8 +14,10 @@ module _ (R V R' V' : Block → Type 0) (rests : (b : Block) → R b → R' b) (
     pub fits_weaker : (c : Code) → Fits R V c → Fits R' V' c
     fits_weaker (Plain b) h = rests b h
     fits_weaker (Then first second) h = (fits_weaker first h.0, fits_weaker second h.1)
-    fits_weaker (Branch test first otherwise) h = (gives test h.0, fits_weaker first h.1, fits_weaker otherwise h.2)
-    fits_weaker (Loop front back body) h = (part_weaker front h.0, part_weaker back h.1, fits_weaker body h.2)
+    fits_weaker (Branch test first otherwise) h =
+        (gives test h.0, fits_weaker first h.1, fits_weaker otherwise h.2)
+    fits_weaker (Loop front back body) h =
+        (part_weaker front h.0, part_weaker back h.1, fits_weaker body h.2)
     fits_weaker (Switch on arms) h = (gives on h.0, arms_weaker arms h.1)
     fits_weaker Break h = tt
     fits_weaker Continue h = tt

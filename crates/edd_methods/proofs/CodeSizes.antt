@@ -19,26 +19,35 @@ module _ (block_of : Expr Target → blocks.Block) where
   P e = IsShort block_of e
 
   -- the block of a value and POP
-  alone_size : (e : Expr Target) → (is_abort_call e ≡ false → P e) → blocks.size (alone_block block_of e) ≤ 32 * nodes e + 1
+  alone_size : (e : Expr Target) → (is_abort_call e ≡ false → P e)
+      → blocks.size (alone_block block_of e) ≤ 32 * nodes e + 1
   alone_size e short = by_test (is_abort_call e) refl
     where
-      by_test : (b : Bool) → is_abort_call e ≡ b → blocks.size (elim b as (λ _. blocks.Block) [ true ↦ Straight instruction.Abort | false ↦ popped block_of e ]) ≤ 32 * nodes e + 1
+      by_test : (b : Bool) → is_abort_call e ≡ b
+          → blocks.size (elim b as (λ _. blocks.Block) [
+            | true ↦ Straight instruction.Abort
+            | false ↦ popped block_of e
+          ]) ≤ 32 * nodes e + 1
       by_test true is = omega arith
       by_test false is = omega (arith, short is)
 
-  first_size : (e : Option (Expr Target)) → EachWritten P e → blocks.size (first_of (blocks_by block_of) e) ≤ 32 * optional_nodes e + 1
+  first_size : (e : Option (Expr Target)) → EachWritten P e
+      → blocks.size (first_of (blocks_by block_of) e) ≤ 32 * optional_nodes e + 1
   first_size None short = omega arith
   first_size (Some e) short = alone_size e (λ _. short)
 
-  test_size : (e : Option (Expr Target)) → EachWritten P e → part_size (test_of (blocks_by block_of) e) ≤ 32 * optional_nodes e + 5
+  test_size : (e : Option (Expr Target)) → EachWritten P e
+      → part_size (test_of (blocks_by block_of) e) ≤ 32 * optional_nodes e + 5
   test_size None short = omega arith
   test_size (Some e) short = omega (arith, short)
 
-  last_size : (e : Option (Expr Target)) → EachWritten P e → part_size (last_of (blocks_by block_of) e) ≤ 32 * optional_nodes e + 1
+  last_size : (e : Option (Expr Target)) → EachWritten P e
+      → part_size (last_of (blocks_by block_of) e) ≤ 32 * optional_nodes e + 1
   last_size None short = omega arith
   last_size (Some e) short = alone_size e (λ _. short)
 
-  initial_size : (e : Option (Expr Target)) → EachWritten P e → blocks.size (initial_block (blocks_by block_of) e) ≤ 32 * optional_nodes e + 5
+  initial_size : (e : Option (Expr Target)) → EachWritten P e
+      → blocks.size (initial_block (blocks_by block_of) e) ≤ 32 * optional_nodes e + 5
   initial_size None short = omega arith
   initial_size (Some e) short = omega (arith, short)
 
@@ -47,39 +56,61 @@ module _ (block_of : Expr Target → blocks.Block) where
   store_size (Item i) is = absurd is
   store_size (Function f) is = absurd is
 
-  declared_size : (ds : List (Declarator Target)) → EachDeclared P ds → blocks.size (declare_block (blocks_by block_of) ds) ≤ 32 * declarator_nodes ds
+  declared_size : (ds : List (Declarator Target)) → EachDeclared P ds
+      → blocks.size (declare_block (blocks_by block_of) ds) ≤ 32 * declarator_nodes ds
   declared_size [] short = omega arith
-  declared_size (d ∷ rest) short = omega (arith, initial_size d.value short.1, store_size d.place short.0, declared_size rest short.2)
+  declared_size (d ∷ rest) short =
+      omega (
+        arith,
+        initial_size d.value short.1,
+        store_size d.place short.0,
+        declared_size rest short.2,
+      )
 
   mutual
     unfolding code_of
 
-    statement_size : (x : Stmt Target) → Each P x → size (code_of (blocks_by block_of) x) ≤ 32 * statement_nodes x
+    statement_size : (x : Stmt Target) → Each P x → size (code_of (blocks_by block_of) x)
+        ≤ 32 * statement_nodes x
     statement_size Empty short = omega arith
     statement_size (Evaluate e) short = omega (arith, alone_size e short)
     statement_size (Block body) short = omega (arith, body_size body short)
     statement_size (If condition first) short = omega (arith, short.0, statement_size first short.1)
-    statement_size (IfElse condition first otherwise) short = omega (arith, short.0, statement_size first short.1, statement_size otherwise short.2)
-    statement_size (While condition body) short = omega (arith, short.0, statement_size body short.1)
+    statement_size (IfElse condition first otherwise) short =
+        omega (arith, short.0, statement_size first short.1, statement_size otherwise short.2)
+    statement_size (While condition body) short =
+        omega (arith, short.0, statement_size body short.1)
     statement_size (Do body condition) short = omega (arith, short.0, statement_size body short.1)
     statement_size (For first condition update body) short =
-        omega (arith, first_size first short.0, test_size condition short.1, last_size update short.2, statement_size body short.3)
+        omega (
+          arith,
+          first_size first short.0,
+          test_size condition short.1,
+          last_size update short.2,
+          statement_size body short.3,
+        )
     statement_size (Switch on body) short = omega (arith, short.0, arms_sizes body short.1)
     statement_size Break short = omega arith
     statement_size Continue short = omega arith
     statement_size Return short = omega arith
 
-    pub body_size : (b : Body Target) → EachIn P b → size (code_in (blocks_by block_of) b) ≤ 32 * body_nodes b
+    pub body_size : (b : Body Target) → EachIn P b → size (code_in (blocks_by block_of) b)
+        ≤ 32 * body_nodes b
     body_size Nil short = omega arith
-    body_size (Cons (Declare ds) rest) short = omega (arith, declared_size ds short.0, body_size rest short.1)
-    body_size (Cons (Statement x) rest) short = omega (arith, statement_size x short.0, body_size rest short.1)
+    body_size (Cons (Declare ds) rest) short =
+        omega (arith, declared_size ds short.0, body_size rest short.1)
+    body_size (Cons (Statement x) rest) short =
+        omega (arith, statement_size x short.0, body_size rest short.1)
     body_size (Cons (CaseLabel label) rest) short = omega (arith, body_size rest short)
     body_size (Cons DefaultLabel rest) short = omega (arith, body_size rest short)
 
     -- a label has a test of 13 bytes
-    arms_sizes : (b : Body Target) → EachIn P b → arms_size (arms_of (blocks_by block_of) b) + tests_size (arms_of (blocks_by block_of) b) ≤ 32 * body_nodes b
+    arms_sizes : (b : Body Target) → EachIn P b → arms_size (arms_of (blocks_by block_of) b)
+        + tests_size (arms_of (blocks_by block_of) b) ≤ 32 * body_nodes b
     arms_sizes Nil short = omega arith
-    arms_sizes (Cons (Declare ds) rest) short = omega (arith, declared_size ds short.0, arms_sizes rest short.1)
-    arms_sizes (Cons (Statement x) rest) short = omega (arith, statement_size x short.0, arms_sizes rest short.1)
+    arms_sizes (Cons (Declare ds) rest) short =
+        omega (arith, declared_size ds short.0, arms_sizes rest short.1)
+    arms_sizes (Cons (Statement x) rest) short =
+        omega (arith, statement_size x short.0, arms_sizes rest short.1)
     arms_sizes (Cons (CaseLabel label) rest) short = omega (arith, arms_sizes rest short)
     arms_sizes (Cons DefaultLabel rest) short = omega (arith, arms_sizes rest short)

@@ -1,4 +1,5 @@
--- Each operand in the code of statements is in its range, where those in the blocks of expressions are.
+-- Each operand in the code of statements is in its range, where those in the blocks of expressions
+-- are.
 use Rattle.std.proofs.Common.{◌≡◌, refl, Bool, true, false, ℤ, List, [], ◌∷◌, Option, Some, None, arith}
 use Rattle.std.proofs.lemmas.Int.{ints}
 use Rattle.std.specs.Prelude.{FitsSigned}
@@ -29,7 +30,9 @@ store_spelled (Item i) is = absurd is
 store_spelled (Function f) is = absurd is
 
 -- P: what gives that the operands in both blocks of an expression are in their ranges
-module _ (given : Blocks) (P : Expr Target → Type 0) (value : (e : Expr Target) → P e → AreSpelled (given.value e)) (effect : (e : Expr Target) → (is_abort_call e ≡ false → P e) → AreSpelled (given.effect e)) where
+module _ (given : Blocks) (P : Expr Target → Type 0) (value : (e : Expr Target) → P e
+    → AreSpelled (given.value e)) (effect : (e : Expr Target) → (is_abort_call e ≡ false → P e)
+    → AreSpelled (given.effect e)) where
   first_spelled : (e : Option (Expr Target)) → EachWritten P e → AreSpelled (first_of given e)
   first_spelled None ok = tt
   first_spelled (Some e) ok = effect e (λ _. ok)
@@ -42,13 +45,16 @@ module _ (given : Blocks) (P : Expr Target → Type 0) (value : (e : Expr Target
   last_spelled None ok = tt
   last_spelled (Some e) ok = effect e (λ _. ok)
 
-  initial_spelled : (e : Option (Expr Target)) → EachWritten P e → AreSpelled (initial_block given e)
+  initial_spelled : (e : Option (Expr Target)) → EachWritten P e
+      → AreSpelled (initial_block given e)
   initial_spelled None ok = omega arith
   initial_spelled (Some e) ok = value e ok
 
-  declared_spelled : (ds : List (Declarator Target)) → EachDeclared P ds → AreSpelled (declare_block given ds)
+  declared_spelled : (ds : List (Declarator Target)) → EachDeclared P ds
+      → AreSpelled (declare_block given ds)
   declared_spelled [] ok = tt
-  declared_spelled (d ∷ rest) ok = (initial_spelled d.value ok.1, (store_spelled d.place ok.0, (tt, declared_spelled rest ok.2)))
+  declared_spelled (d ∷ rest) ok =
+      (initial_spelled d.value ok.1, (store_spelled d.place ok.0, (tt, declared_spelled rest ok.2)))
 
   mutual
     unfolding code_of
@@ -57,12 +63,22 @@ module _ (given : Blocks) (P : Expr Target → Type 0) (value : (e : Expr Target
     statement_spelled Empty ok = tt
     statement_spelled (Evaluate e) ok = effect e ok
     statement_spelled (Block body) ok = body_spelled body ok
-    statement_spelled (If condition first) ok = (value condition ok.0, statement_spelled first ok.1, tt)
-    statement_spelled (IfElse condition first otherwise) ok = (value condition ok.0, statement_spelled first ok.1, statement_spelled otherwise ok.2)
-    statement_spelled (While condition body) ok = (value condition ok.0, tt, statement_spelled body ok.1)
-    statement_spelled (Do body condition) ok = (tt, value condition ok.0, statement_spelled body ok.1)
-    statement_spelled (For first condition update body) ok =
-        (first_spelled first ok.0, (test_spelled condition ok.1, last_spelled update ok.2, statement_spelled body ok.3))
+    statement_spelled (If condition first) ok =
+        (value condition ok.0, statement_spelled first ok.1, tt)
+    statement_spelled (IfElse condition first otherwise) ok =
+        (value condition ok.0, statement_spelled first ok.1, statement_spelled otherwise ok.2)
+    statement_spelled (While condition body) ok =
+        (value condition ok.0, tt, statement_spelled body ok.1)
+    statement_spelled (Do body condition) ok =
+        (tt, value condition ok.0, statement_spelled body ok.1)
+    statement_spelled (For first condition update body) ok = (
+      first_spelled first ok.0,
+      (
+        test_spelled condition ok.1,
+        last_spelled update ok.2,
+        statement_spelled body ok.3,
+      ),
+    )
     statement_spelled (Switch on body) ok = (value on ok.0, arms_spelled body ok.1)
     statement_spelled Break ok = tt
     statement_spelled Continue ok = tt
@@ -84,12 +100,19 @@ module _ (given : Blocks) (P : Expr Target → Type 0) (value : (e : Expr Target
 
 -- ---- the blocks of values alone are given
 
-alone_spelled : (block_of : Expr Target → blocks.Block) (e : Expr Target) → (is_abort_call e ≡ false → IsSpelled block_of e) → AreSpelled (alone_block block_of e)
+alone_spelled : (block_of : Expr Target → blocks.Block) (e : Expr Target)
+    → (is_abort_call e ≡ false → IsSpelled block_of e) → AreSpelled (alone_block block_of e)
 alone_spelled block_of e ok = by_test (is_abort_call e) refl
   where
-    by_test : (b : Bool) → is_abort_call e ≡ b → AreSpelled (elim b as (λ _. blocks.Block) [ true ↦ Straight instruction.Abort | false ↦ popped block_of e ])
+    by_test : (b : Bool) → is_abort_call e ≡ b
+        → AreSpelled (elim b as (λ _. blocks.Block) [
+          | true ↦ Straight instruction.Abort
+          | false ↦ popped block_of e
+        ])
     by_test true is = tt
     by_test false is = (ok is, tt)
 
-pub values_spelled : (block_of : Expr Target → blocks.Block) (b : Body Target) → EachIn (IsSpelled block_of) b → IsSpelledCode (body_code block_of b)
-values_spelled block_of b ok = body_spelled (blocks_by block_of) (IsSpelled block_of) (λ e h. h) (alone_spelled block_of) b ok
+pub values_spelled : (block_of : Expr Target → blocks.Block) (b : Body Target)
+    → EachIn (IsSpelled block_of) b → IsSpelledCode (body_code block_of b)
+values_spelled block_of b ok = body_spelled (blocks_by block_of) (IsSpelled block_of) (λ e h. h)
+    (alone_spelled block_of) b ok

@@ -47,9 +47,11 @@ unfolding bytes_of
 end_alone = refl
 
 unit_is : (c : Code) → unit_code c ≡ bytes_of (in_unit c)
-unit_is c = ap (λ (bs : List ℕ). bytes_at 0 (size c) (size c) c ++ bs) end_alone ∙ sym (bytes_of-append (emitted 0 (size c) (size c) c) (instruction.End ∷ []))
+unit_is c = ap (λ (bs : List ℕ). bytes_at 0 (size c) (size c) c ++ bs) end_alone
+    ∙ sym (bytes_of-append (emitted 0 (size c) (size c) c) (instruction.End ∷ []))
 
-all_listed_true : (f : Placed → Bool) (xs : List Placed) → AllByRecursion (λ x. f x ≡ true) xs → list_all f xs ≡ true
+all_listed_true : (f : Placed → Bool) (xs : List Placed) → AllByRecursion (λ x. f x ≡ true) xs
+    → list_all f xs ≡ true
 all_listed_true f [] h = refl
 all_listed_true f (x ∷ xs) h = and_from (f x) (list_all f xs) h.0 (all_listed_true f xs h.1)
 
@@ -59,45 +61,66 @@ all_true p q r = rw (p, q, r) refl
 module _ (c : Code) (small : size c < 2 ^ 31) where
   -- ---- tests of the instructions
 
-  in_unit_passes : (f : Instruction → Bool) → HoldsOfJumps f → f instruction.Pop ≡ true → f instruction.End ≡ true → Passes f c → list_all (λ x. f x.instruction) (listed_in c) ≡ true
+  in_unit_passes : (f : Instruction → Bool) → HoldsOfJumps f → f instruction.Pop ≡ true
+      → f instruction.End ≡ true → Passes f c → list_all (λ x. f x.instruction) (listed_in c) ≡ true
   in_unit_passes f jumps pop ending passes =
       all_placed f 0 (in_unit c)
-      ∙ list_passes f jumps pop ending (in_unit c) (both f jumps pop ending (emitted 0 (size c) (size c) c) (instruction.End ∷ []) (code_passes f jumps pop ending 0 (size c) (size c) c passes) (ending, tt))
+      ∙ list_passes f jumps pop ending (in_unit c)
+      (both f jumps pop ending (emitted 0 (size c) (size c) c) (instruction.End ∷ [])
+      (code_passes f jumps pop ending 0 (size c) (size c) c passes) (ending, tt))
 
   -- ---- jumps and depths
 
   abbrev unit_depth : ℕ → ℕ
   unit_depth x = until (0 + size c) x (code_depth c 0 x) 0
 
-  unit_is_sound : Fits Rests Gives c → AllByRecursion (IsSound (listed_in c) unit_depth) (listed_in c)
+  unit_is_sound : Fits Rests Gives c
+      → AllByRecursion (IsSound (listed_in c) unit_depth) (listed_in c)
   unit_is_sound fits =
       let xs = listed_in c in
       let e = size c in
       let q = 0 + size c in
       let after = instruction.End ∷ [] in
-      let inside : InsideCode xs 0 e e c = λ P h. (code_in P 0 e e c after (omega (arith, small)) (omega (arith, small)) (omega (arith, small)) h).0 in
+      let inside : InsideCode xs 0 e e c =
+      λ P h. (code_in P 0 e e c after (omega (arith, small)) (omega (arith, small))
+      (omega (arith, small)) h).0 in
       let the_end = stand q instruction.End (q + 1) in
-      let begins = starts xs the_end (λ P h. (code_in P 0 e e c after (omega (arith, small)) (omega (arith, small)) (omega (arith, small)) h).1.0) in
-      let border : IsBorder xs unit_depth q = (until_behind q q (code_depth c 0 q) 0 (omega arith), begins) in
+      let begins = starts xs the_end
+      (λ P h. (code_in P 0 e e c after (omega (arith, small)) (omega (arith, small))
+      (omega (arith, small)) h).1.0) in
+      let border : IsBorder xs unit_depth q =
+      (until_behind q q (code_depth c 0 q) 0 (omega arith), begins) in
       let far : IsBorder xs unit_depth e = subst (IsBorder xs unit_depth) (omega arith) border in
-      let has : HasCode unit_depth 0 c = code_has unit_depth 0 q c refl fits (λ x low high. until_front q x (code_depth c 0 x) 0 high) border.0 in
-      code_holds (IsSound xs unit_depth) 0 e e c after (omega (arith, small)) (omega (arith, small)) (omega (arith, small))
+      let has : HasCode unit_depth 0 c = code_has unit_depth 0 q c refl fits
+      (λ x low high. until_front q x (code_depth c 0 x) 0 high) border.0 in
+      code_holds (IsSound xs unit_depth) 0 e e c after (omega (arith, small)) (omega (arith, small))
+      (omega (arith, small))
       (code_sound xs unit_depth 0 e e c fits has border far far inside)
       (end_sound xs unit_depth q (q + 1) border.0, tt)
 
-  module _ (context : Context) (version : context.version ≡ One) (sort : context.sort ≡ Method) (spelled : IsSpelledCode c) (fits : Fits Rests Gives c) where
+  module _ (context : Context) (version : context.version ≡ One) (sort : context.sort ≡ Method)
+      (spelled : IsSpelledCode c) (fits : Fits Rests Gives c) where
     listed_are : instructions (unit_code c) ≡ listed_in c
-    listed_are = ap instructions (unit_is c) ∙ instructions_are (in_unit c) (all_both (emitted 0 (size c) (size c) c) (instruction.End ∷ []) (code_spelled 0 (size c) (size c) c spelled) (tt, tt))
+    listed_are = ap instructions (unit_is c) ∙ instructions_are (in_unit c)
+        (all_both (emitted 0 (size c) (size c) c) (instruction.End ∷ [])
+        (code_spelled 0 (size c) (size c) c spelled) (tt, tt))
 
     chained : is_chain context (unit_code c) ≡ true
     chained =
-        let long : length (unit_code c) ≡ length (bytes_at 0 (size c) (size c) c) + 1 = length-append (bytes_at 0 (size c) (size c) c) (spelling instruction.End) in
-        let ends : end_of 0 (instructions (unit_code c)) ≡ length (unit_code c) = ap (end_of 0) listed_are ∙ end_is 0 (in_unit c) ∙ omega arith ∙ ap length (sym (unit_is c)) in
-        let passes = fits_weaker Rests Gives (λ b. all_straight (is_allowed One Method) b ≡ true) (λ b. all_straight (is_allowed One Method) b ≡ true) rests_allowed gives_allowed c fits in
-        let allowed = in_unit_passes (is_allowed One Method) (jumps_allowed One Method) refl refl passes in
+        let long : length (unit_code c) ≡ length (bytes_at 0 (size c) (size c) c) + 1 =
+        length-append (bytes_at 0 (size c) (size c) c) (spelling instruction.End) in
+        let ends : end_of 0 (instructions (unit_code c)) ≡ length (unit_code c) =
+        ap (end_of 0) listed_are ∙ end_is 0 (in_unit c) ∙ omega arith
+        ∙ ap length (sym (unit_is c)) in
+        let passes = fits_weaker Rests Gives (λ b. all_straight (is_allowed One Method) b ≡ true)
+        (λ b. all_straight (is_allowed One Method) b ≡ true) rests_allowed gives_allowed c
+        fits in
+        let allowed = in_unit_passes (is_allowed One Method) (jumps_allowed One Method) refl refl
+        passes in
         all_true (lt-ltb 0 (length (unit_code c)) (omega (arith, long)))
         (grind (arith, nat_tests, ends))
-        (ap (list_all (λ x. is_allowed context.version context.sort x.instruction)) listed_are ∙ rw (version, sort) allowed)
+        (ap (list_all (λ x. is_allowed context.version context.sort x.instruction)) listed_are
+        ∙ rw (version, sort) allowed)
 
     land : all_land context (listed_in c) ≡ true
     land =
@@ -120,5 +143,11 @@ module _ (c : Code) (small : size c < 2 ^ 31) where
       jumps = ap (all_land context) listed_are ∙ land;
       depths = subst HasDepths (sym listed_are) (unit_depth, depths);
       references = ap (all_exist context) listed_are
-          ∙ in_unit_passes (names_exist context) (record { jump = λ to. refl; zero = λ to. refl; not_zero = λ to. refl; label = λ z to. refl }) refl refl exist;
+          ∙ in_unit_passes (names_exist context)
+          (record {
+            jump = λ to. refl;
+            zero = λ to. refl;
+            not_zero = λ to. refl;
+            label = λ z to. refl;
+          }) refl refl exist;
     }

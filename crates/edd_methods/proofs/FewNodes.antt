@@ -33,21 +33,28 @@ one_few n (item.ResponseCodes responses) h = tt
 one_few n (item.Items entries) h = tt
 one_few n (item.Members members) h = tt
 
-attributes_few : (n : ℕ) (xs : List (Attribute Target)) → sum (map attribute_nodes xs) ≤ n → AllByRecursion (OfBody (Few n)) xs
+attributes_few : (n : ℕ) (xs : List (Attribute Target)) → sum (map attribute_nodes xs) ≤ n
+    → AllByRecursion (OfBody (Few n)) xs
 attributes_few n [] h = tt
 attributes_few n (a ∷ rest) h =
     let all = sum_by-cons (λ k. k) (attribute_nodes a) (map attribute_nodes rest) in
     (one_few n a (omega (arith, h, all)), attributes_few n rest (omega (arith, h, all)))
 
-joined : (P : Attribute Target → Type 0) (xs ys : List (Attribute Target)) → AllByRecursion P xs → AllByRecursion P ys → AllByRecursion P (xs ++ ys)
+joined : (P : Attribute Target → Type 0) (xs ys : List (Attribute Target)) → AllByRecursion P xs
+    → AllByRecursion P ys → AllByRecursion P (xs ++ ys)
 joined P [] ys h k = k
 joined P (x ∷ xs) ys h k = (h.0, joined P xs ys h.1 k)
 
-items_few : (n : ℕ) (items : List (Item Target)) → sum (map item_nodes items) ≤ n → AllByRecursion (OfBody (Few n)) (flat_map (λ i. i.attributes) items)
+items_few : (n : ℕ) (items : List (Item Target)) → sum (map item_nodes items) ≤ n
+    → AllByRecursion (OfBody (Few n)) (flat_map (λ i. i.attributes) items)
 items_few n [] h = tt
 items_few n (i ∷ rest) h =
     let all = sum_by-cons (λ k. k) (item_nodes i) (map item_nodes rest) in
-    joined (OfBody (Few n)) i.attributes (flat_map (λ i. i.attributes) rest) (attributes_few n i.attributes (omega (arith, h, all))) (items_few n rest (omega (arith, h, all)))
+    joined (OfBody (Few n)) i.attributes (flat_map (λ i. i.attributes) rest)
+    (attributes_few n i.attributes (omega (arith, h, all)))
+    (items_few n rest (omega (arith, h, all)))
 
-pub few_in_body : (d : Description Target) → ∥ IsChecked d ∥₁ → (m : MethNo) → body_nodes (body_of d m) ≤ 524288
-few_in_body d is m = of_method (Few 524288) (omega arith) d m (items_few 524288 d.items (few_nodes d is))
+pub few_in_body : (d : Description Target) → ∥ IsChecked d ∥₁ → (m : MethNo)
+    → body_nodes (body_of d m) ≤ 524288
+few_in_body d is m = of_method (Few 524288) (omega arith) d m
+    (items_few 524288 d.items (few_nodes d is))

@@ -11,7 +11,8 @@ use Rattle.edd_syntax.specs.Item.{Attribute}
 use Rattle.edd_syntax.specs.Statement.{Body, Nil}
 use Rattle.edd_syntax.specs.SubsetRules.{bodies_in}
 
-here : (a : Attribute Target) (rest : List (Attribute Target)) (b : Body Target) → b ∷ [] ≡ bodies_in a → body_in (a ∷ rest) ≡ b
+here : (a : Attribute Target) (rest : List (Attribute Target)) (b : Body Target)
+    → b ∷ [] ≡ bodies_in a → body_in (a ∷ rest) ≡ b
 here (item.Definition body) rest b h = let same = h in cc
 here (item.OneText which c) rest b h = absurd (cc h)
 here (item.Class words) rest b h = absurd (cc h)
@@ -25,7 +26,8 @@ here (item.ResponseCodes responses) rest b h = absurd (cc h)
 here (item.Items entries) rest b h = absurd (cc h)
 here (item.Members members) rest b h = absurd (cc h)
 
-passed : (a : Attribute Target) (rest : List (Attribute Target)) → [] ≡ bodies_in a → body_in (a ∷ rest) ≡ body_in rest
+passed : (a : Attribute Target) (rest : List (Attribute Target)) → [] ≡ bodies_in a
+    → body_in (a ∷ rest) ≡ body_in rest
 passed (item.Definition body) rest h = absurd (cc h)
 passed (item.OneText which c) rest h = refl
 passed (item.Class words) rest h = refl
@@ -44,17 +46,23 @@ module _ {X Y : Type 0} (view : X → Attribute Target) (body : Y → Body Targe
   abbrev pub found_from : ℕ → List X → Body Target
   found_from i xs = body_in (map view (drop i xs))
 
-  pub stops : (i : ℕ) (xs : List X) (x : X) (y : Y) → i < length xs → x ≡ get_or xs i x → option_to_list (option_map body (Some y)) ≡ bodies_in (view x)
+  pub stops : (i : ℕ) (xs : List X) (x : X) (y : Y) → i < length xs → x ≡ get_or xs i x
+      → option_to_list (option_map body (Some y)) ≡ bodies_in (view x)
       → found_from i xs ≡ found_from 0 xs → body y ≡ found_from 0 xs
   stops i xs x y h is found invariant =
       sym (here (view x) (map view (drop (i + 1) xs)) (body y) found)
-      ∙ ap (λ z. body_in (view z ∷ map view (drop (i + 1) xs))) is ∙ sym (at_drop_more (λ zs. body_in (map view zs)) xs i x h) ∙ invariant
+      ∙ ap (λ z. body_in (view z ∷ map view (drop (i + 1) xs))) is
+      ∙ sym (at_drop_more (λ zs. body_in (map view zs)) xs i x h) ∙ invariant
 
-  pub goes_on : (i : ℕ) (xs : List X) (x : X) → i < length xs → x ≡ get_or xs i x → [] ≡ bodies_in (view x)
+  pub goes_on : (i : ℕ) (xs : List X) (x : X) → i < length xs → x ≡ get_or xs i x
+      → [] ≡ bodies_in (view x)
       → found_from i xs ≡ found_from 0 xs → found_from (i + 1) xs ≡ found_from 0 xs
   goes_on i xs x h is none invariant =
       sym (passed (view x) (map view (drop (i + 1) xs)) none)
-      ∙ ap (λ z. body_in (view z ∷ map view (drop (i + 1) xs))) is ∙ sym (at_drop_more (λ zs. body_in (map view zs)) xs i x h) ∙ invariant
+      ∙ ap (λ z. body_in (view z ∷ map view (drop (i + 1) xs))) is
+      ∙ sym (at_drop_more (λ zs. body_in (map view zs)) xs i x h) ∙ invariant
 
-  pub none_found : (i : ℕ) (xs : List X) → length xs ≤ i → found_from i xs ≡ found_from 0 xs → Nil ≡ found_from 0 xs
-  none_found i xs h invariant = ap (λ zs. body_in (map view zs)) (sym (drop_of_length-le xs h)) ∙ invariant
+  pub none_found : (i : ℕ) (xs : List X) → length xs ≤ i → found_from i xs ≡ found_from 0 xs
+      → Nil ≡ found_from 0 xs
+  none_found i xs h invariant = ap (λ zs. body_in (map view zs)) (sym (drop_of_length-le xs h))
+      ∙ invariant

@@ -54,18 +54,21 @@ module _ (d : Description Target) (checked : ∥ IsChecked d ∥₁) (m : MethNo
 
   pub texts_when_checked : list_all is_text (body_texts (body_of d m)) ≡ true
   texts_when_checked =
-      listed_good (uses_existing (around (counts_of d.identification d.items 0) (slots_in body))) any (body_expressions body) (facts.refer (counts_of d.identification d.items 0) refl)
+      listed_good (uses_existing (around (counts_of d.identification d.items 0) (slots_in body)))
+      any (body_expressions body) (facts.refer (counts_of d.identification d.items 0) refl)
 
   pub few_slots : slots_in (body_of d m) ≤ 64
   few_slots = facts.few_slots
 
   -- too many strings are too many different ones
-  pub overflowing : (old : List Words) → AreDifferent old → Overflows old (strings_of_method d m) → 65535 < length (different (old ++ strings_of_method d m))
+  pub overflowing : (old : List Words) → AreDifferent old → Overflows old (strings_of_method d m)
+      → 65535 < length (different (old ++ strings_of_method d m))
   overflowing old apart over =
       let all = over.held apart in
       omega (arith, all.2, fewer_different (old ++ strings_of_method d m) all.0 all.1 all.3)
 
-  module _ (old new : List Words) (code : List ℕ) (apart : AreDifferent old) (lowered : LowersBody old (body_of d m) new code) where
+  module _ (old new : List Words) (code : List ℕ) (apart : AreDifferent old)
+      (lowered : LowersBody old (body_of d m) new code) where
     abbrev number : List Words → Words → StrNo
     number more = number_in (new ++ more)
 
@@ -74,29 +77,50 @@ module _ (d : Description Target) (checked : ∥ IsChecked d ∥₁) (m : MethNo
     is_unit more =
         let all = method_code (number more) body in
         lowered.written apart more
-        ∙ ap (λ (bytes : List ℕ). bytes ++ spelling End) (leads_nowhere (blocks_by (method_block (number more))) body facts.inside 0 0 (size all) 0 (size all))
+        ∙ ap (λ (bytes : List ℕ). bytes ++ spelling End)
+        (leads_nowhere (blocks_by (method_block (number more))) body facts.inside 0 0 (size all)
+        0 (size all))
 
-    known : (more : List Words) → AllByRecursion (λ p. HasNumbers (string_of_table (new ++ more)) (number more) p.expression) (body_expressions body)
-    known more = all_numbered (new ++ more) (body_expressions body) (λ w held. Contains-append_left new more w (lowered.holds w held))
+    known : (more : List Words)
+        → AllByRecursion (λ p. HasNumbers (string_of_table (new ++ more)) (number more)
+        p.expression) (body_expressions body)
+    known more = all_numbered (new ++ more) (body_expressions body)
+        (λ w held. Contains-append_left new more w (lowered.holds w held))
 
     short_code : (more : List Words) → size (method_code (number more) body) ≤ 32 * body_nodes body
     short_code more = code_is_short d m facts (number more)
 
-    pub lowered_is_code : (more : List Words) → length (new ++ more) ≤ 65535 → IsMethodCode d (new ++ more) m (slots_in (body_of d m)) code
+    pub lowered_is_code : (more : List Words) → length (new ++ more) ≤ 65535
+        → IsMethodCode d (new ++ more) m (slots_in (body_of d m)) code
     lowered_is_code more few =
-        subst (λ (bytes : List ℕ). IsMethodCode d (new ++ more) m (slots_in body) bytes) (sym (is_unit more))
-        (is_the_methods_code d m facts (new ++ more) (omega (arith, few)) (number more) (known more) (omega (arith, short_code more, few_in_body d checked m)))
+        subst (λ (bytes : List ℕ). IsMethodCode d (new ++ more) m (slots_in body) bytes)
+        (sym (is_unit more))
+        (is_the_methods_code d m facts (new ++ more) (omega (arith, few)) (number more) (known more)
+        (omega (arith, short_code more, few_in_body d checked m)))
 
     pub lowered_is_short : length code ≤ 32 * (1 + body_nodes (body_of d m))
     lowered_is_short =
         let all = method_code (number []) body in
-        omega (arith, short_code [], ap length (is_unit []), length-append (bytes_at 0 (size all) (size all) all) (spelling End), code_long 0 (size all) (size all) all)
+        omega (
+          arith,
+          short_code [],
+          ap length (is_unit []),
+          length-append (bytes_at 0 (size all) (size all) all) (spelling End),
+          code_long 0 (size all) (size all) all,
+        )
 
-  pub lowered_strings : (old new : List Words) (code : List ℕ) → LowersBody old (body_of d m) new code → (w : Words) → Contains new w ↔ (Contains old w ⊎ Contains (strings_of_method d m) w)
+  pub lowered_strings : (old new : List Words) (code : List ℕ)
+      → LowersBody old (body_of d m) new code → (w : Words)
+      → Contains new w ↔ (Contains old w ⊎ Contains (strings_of_method d m) w)
   lowered_strings old new code lowered w = (
-    λ held. elim (Contains-append_cases old lowered.table.more w (subst (λ (t : List Words). Contains t w) lowered.table.grown held)) [ inl h ↦ inl h | inr h ↦ inr (lowered.table.only w h) ],
+    λ held. elim (Contains-append_cases old lowered.table.more w
+        (subst (λ (t : List Words). Contains t w) lowered.table.grown held)) [
+          | inl h ↦ inl h
+          | inr h ↦ inr (lowered.table.only w h)
+        ],
     λ h. elim h [
-      | inl held ↦ subst (λ (t : List Words). Contains t w) (sym lowered.table.grown) (Contains-append_left old lowered.table.more w held)
+      | inl held ↦ subst (λ (t : List Words). Contains t w) (sym lowered.table.grown)
+          (Contains-append_left old lowered.table.more w held)
       | inr held ↦ lowered.holds w held
     ],
   )
@@ -104,12 +128,15 @@ module _ (d : Description Target) (checked : ∥ IsChecked d ∥₁) (m : MethNo
 -- ---- the body is found by the number of its method
 
 module _ (d : Description Target) (m : MethNo) where
-  by_option : (o : Option (Item Target)) → found_body (option_map (λ i. i.attributes) o) ≡ elim o as (λ _. Body Target) [ Some i ↦ body_in i.attributes | None ↦ Nil ]
+  by_option : (o : Option (Item Target)) → found_body (option_map (λ i. i.attributes) o)
+      ≡ elim o as (λ _. Body Target) [ Some i ↦ body_in i.attributes | None ↦ Nil ]
   by_option None = refl
   by_option (Some i) = refl
 
-  pub body_is_found : found_body (slice_get (attributes_of_items kinds.Method d.items) m.0) ≡ body_of d m
-  body_is_found = ap found_body (slice_get-map (λ i. i.attributes) (of_kind kinds.Method d.items) m.0) ∙ by_option (slice_get (of_kind kinds.Method d.items) m.0)
+  pub body_is_found : found_body (slice_get (attributes_of_items kinds.Method d.items) m.0)
+      ≡ body_of d m
+  body_is_found = ap found_body (slice_get-map (λ i. i.attributes) (of_kind kinds.Method d.items)
+      m.0) ∙ by_option (slice_get (of_kind kinds.Method d.items) m.0)
 
 -- the same fault, of a call that gives something else
 pub fault_again : {A B E : Type 0} (e f : E) → IsErrOf {T = A} (Err e) f → IsErrOf {T = B} (Err e) f

@@ -37,7 +37,8 @@ no_abort false h = refl
 no_abort true h = absurd (cc h)
 
 -- an abort that fits has no arguments
-not_aborting : (f : Builtin) (arguments : Arguments Target) → all_fit (parameters f) arguments ≡ true → is_abort_call (Call (Function f) arguments) ≡ false → is_abort f ≡ false
+not_aborting : (f : Builtin) (arguments : Arguments Target) → all_fit (parameters f) arguments
+    ≡ true → is_abort_call (Call (Function f) arguments) ≡ false → is_abort f ≡ false
 not_aborting f expr.Nil fit is = is
 not_aborting builtin.PutMessage (expr.Cons first rest) fit is = refl
 not_aborting builtin.Acknowledge (expr.Cons first rest) fit is = refl
@@ -54,15 +55,19 @@ not_aborting builtin.Lassign (expr.Cons first rest) fit is = refl
 not_aborting builtin.Abort (expr.Cons first rest) fit is = absurd (cc fit)
 not_aborting builtin.ProcessAbort (expr.Cons first rest) fit is = absurd (cc fit)
 
-call_fits : (s : Bool) (f : Builtin) (arguments : Arguments Target) → call_mismatches s (Call (Function f) arguments) ≡ [] → (s && is_abort_call (Call (Function f) arguments)) ≡ false
+call_fits : (s : Bool) (f : Builtin) (arguments : Arguments Target)
+    → call_mismatches s (Call (Function f) arguments) ≡ []
+    → (s && is_abort_call (Call (Function f) arguments)) ≡ false
     → call_mismatches false (Call (Function f) arguments) ≡ []
 call_fits false f arguments fit is = fit
 call_fits true f arguments fit is =
-    let parts = front_none (call_breaches true (Function f) arguments) (argument_mismatches arguments) fit in
+    let parts = front_none (call_breaches true (Function f) arguments)
+    (argument_mismatches arguments) fit in
     let fitting = (fits true f arguments parts.0).0 in
     rw (fitting, not_aborting f arguments fitting is, parts.1) refl
 
-value_fits : (s : Bool) (e : Expr Target) → call_mismatches s e ≡ [] → (s && is_abort_call e) ≡ false → call_mismatches false e ≡ []
+value_fits : (s : Bool) (e : Expr Target) → call_mismatches s e ≡ [] → (s && is_abort_call e)
+    ≡ false → call_mismatches false e ≡ []
 value_fits s (Literal value) fit is = fit
 value_fits s Decimal fit is = fit
 value_fits s (Reference from) fit is = fit
@@ -92,7 +97,8 @@ module _ (context : Context) (number : Words → StrNo) where
   abbrev Named : Block → Type 0
   Named b = all_straight (names_exist context) b ≡ true
 
-  -- it finds its operands and names what exists, where it leaves nothing, and where it leaves one operand
+  -- it finds its operands and names what exists, where it leaves nothing, and where it leaves one
+  -- operand
   abbrev pub RestsThere : Block → Type 0
   RestsThere b = Rests b × Named b
 
@@ -103,17 +109,31 @@ module _ (context : Context) (number : Words → StrNo) where
   abbrev pub IsThere : Expr Target → Type 0
   IsThere e = GivesThere (method_block number e)
 
-  pub effect_there : (e : Expr Target) → (is_abort_call e ≡ false → IsThere e) → RestsThere (alone_block (method_block number) e)
+  pub effect_there : (e : Expr Target) → (is_abort_call e ≡ false → IsThere e)
+      → RestsThere (alone_block (method_block number) e)
   effect_there e ok = by_test (is_abort_call e) refl
     where
-      by_test : (b : Bool) → is_abort_call e ≡ b → RestsThere (elim b as (λ _. Block) [ true ↦ Straight instruction.Abort | false ↦ popped (method_block number) e ])
+      by_test : (b : Bool) → is_abort_call e ≡ b
+          → RestsThere (elim b as (λ _. Block) [
+            | true ↦ Straight instruction.Abort
+            | false ↦ popped (method_block number) e
+          ])
       by_test true is = (inl refl, refl)
       by_test false is =
-          let there = ok is in
-          (inr (leaves 0 (popped (method_block number) e) (then_runs (method_block number e) (Straight instruction.Pop) 0 1 0 (runs_so 1 (method_block number e) there.0) (pop_runs 0 (omega arith)))), and_from _ true there.1 refl)
+          let there = ok is in (
+            inr (leaves 0 (popped (method_block number) e)
+                (then_runs (method_block number e) (Straight instruction.Pop) 0 1 0
+                (runs_so 1 (method_block number e) there.0) (pop_runs 0 (omega arith)))),
+            and_from _ true there.1 refl,
+          )
 
-  initial_there : (e : Option (Expr Target)) → EachWritten IsThere e → GivesThere (initial_block (blocks_by (method_block number)) e)
-  initial_there None ok = (leaves 1 (Straight (instruction.Push 0)) (push_runs (instruction.Push 0) 0 refl refl refl (omega arith)), refl)
+  initial_there : (e : Option (Expr Target)) → EachWritten IsThere e
+      → GivesThere (initial_block (blocks_by (method_block number)) e)
+  initial_there None ok = (
+    leaves 1 (Straight (instruction.Push 0))
+        (push_runs (instruction.Push 0) 0 refl refl refl (omega arith)),
+    refl,
+  )
   initial_there (Some e) ok = ok
 
   store_named : (place : Target) → IsSlotBelow context.slots place → Named (store_block place)
@@ -121,8 +141,10 @@ module _ (context : Context) (number : Words → StrNo) where
   store_named (Item i) is = absurd is
   store_named (Function f) is = absurd is
 
-  declared_there : (ds : List (Declarator Target)) → EachSlotOf context.slots ds → EachDeclared IsThere ds
-      → Runs (declare_block (blocks_by (method_block number)) ds) 0 0 × Named (declare_block (blocks_by (method_block number)) ds)
+  declared_there : (ds : List (Declarator Target)) → EachSlotOf context.slots ds
+      → EachDeclared IsThere ds
+      → Runs (declare_block (blocks_by (method_block number)) ds) 0 0
+      × Named (declare_block (blocks_by (method_block number)) ds)
   declared_there [] slots ok = (record { flows = tt; after = refl }, refl)
   declared_there (d ∷ rest) slots ok =
       let given = blocks_by (method_block number) in
@@ -133,19 +155,32 @@ module _ (context : Context) (number : Words → StrNo) where
       let one = initial_there d.value ok.1 in
       let more = declared_there rest slots.1 ok.2 in (
         then_runs first (Then store (Then pop behind)) 0 1 0 (runs_so 1 first one.0)
-            (then_runs store (Then pop behind) 1 1 0 (store_runs d.place 0 (omega arith)) (then_runs pop behind 1 0 0 (pop_runs 0 (omega arith)) more.0)),
-        and_from _ _ one.1 (and_from _ _ (store_named d.place slots.0) (and_from true _ refl more.1)),
+            (then_runs store (Then pop behind) 1 1 0 (store_runs d.place 0 (omega arith))
+            (then_runs pop behind 1 0 0 (pop_runs 0 (omega arith)) more.0)),
+        and_from _ _ one.1 (and_from _ _ (store_named d.place slots.0)
+            (and_from true _ refl more.1)),
       )
 
-  pub declares_there : (ds : List (Declarator Target)) → EachSlotOf context.slots ds → EachDeclared IsThere ds → RestsThere (declare_block (blocks_by (method_block number)) ds)
-  declares_there ds slots ok = let there = declared_there ds slots ok in (inr (leaves 0 (declare_block (blocks_by (method_block number)) ds) there.0), there.1)
+  pub declares_there : (ds : List (Declarator Target)) → EachSlotOf context.slots ds
+      → EachDeclared IsThere ds → RestsThere (declare_block (blocks_by (method_block number)) ds)
+  declares_there ds slots ok = let there =
+      declared_there ds slots ok
+      in (inr (leaves 0 (declare_block (blocks_by (method_block number)) ds) there.0), there.1)
 
   -- ---- the expressions of a body
 
-  pub all_there : (ps : List (Placed Target)) → AllByRecursion (λ p. call_mismatches p.is_statement p.expression ≡ []) ps → NoneHigher 100 ps
-      → AllByRecursion (λ p. Stands context number p.expression) ps → AllByRecursion (UnlessAbort IsThere) ps
+  pub all_there : (ps : List (Placed Target))
+      → AllByRecursion (λ p. call_mismatches p.is_statement p.expression ≡ []) ps
+      → NoneHigher 100 ps
+      → AllByRecursion (λ p. Stands context number p.expression) ps
+      → AllByRecursion (UnlessAbort IsThere) ps
   all_there [] fit low stand = tt
   all_there (p ∷ ps) fit low stand = (
-    λ is. (leaves 1 (method_block number p.expression) (method_runs number p.expression (value_fits p.is_statement p.expression fit.0 is) 0 (omega (arith, low.0))), stand.0.1),
+    λ is. (
+      leaves 1 (method_block number p.expression)
+          (method_runs number p.expression (value_fits p.is_statement p.expression fit.0 is) 0
+          (omega (arith, low.0))),
+      stand.0.1,
+    ),
     all_there ps fit.1 low.1 stand.1,
   )

@@ -36,12 +36,15 @@ sum_more : (a : ℕ) (ns : List ℕ) → fold ◌+◌ a ns ≡ a + fold ◌+◌ 
 sum_more a [] = omega arith
 sum_more a (n ∷ ns) = omega (arith, sum_more (a + n) ns, sum_more (0 + n) ns)
 
-sum_cons : {A : Type 0} (f : A → ℕ) (x : A) (xs : List A) → sum (map f (x ∷ xs)) ≡ f x + sum (map f xs)
+sum_cons : {A : Type 0} (f : A → ℕ) (x : A) (xs : List A) → sum (map f (x ∷ xs)) ≡ f x
+    + sum (map f xs)
 sum_cons f x xs = omega (arith, sum_more (0 + f x) (map f xs))
 
 -- ---- no item has more than 64 locals
 
-few_in : (sort : ItemKind) (name : _) (xs : List (Attribute Path)) → locals_of (record { sort = sort; name = name; attributes = xs }) ≤ local_limit → AllByRecursion (OfBody HasFew) xs
+few_in : (sort : ItemKind) (name : _) (xs : List (Attribute Path))
+    → locals_of (record { sort = sort; name = name; attributes = xs }) ≤ local_limit
+    → AllByRecursion (OfBody HasFew) xs
 few_in sort name [] few = tt
 few_in sort name (item.OneText which c ∷ rest) few = (tt, few_in sort name rest few)
 few_in sort name (item.Class words ∷ rest) few = (tt, few_in sort name rest few)
@@ -55,17 +58,25 @@ few_in sort name (item.ResponseCodes responses ∷ rest) few = (tt, few_in sort 
 few_in sort name (item.Items entries ∷ rest) few = (tt, few_in sort name rest few)
 few_in sort name (item.Members members ∷ rest) few = (tt, few_in sort name rest few)
 few_in sort name (item.Definition body ∷ rest) few =
-    let split : locals_of (record { sort = sort; name = name; attributes = item.Definition body ∷ rest }) ≡ slots_in body + locals_of (record { sort = sort; name = name; attributes = rest }) =
+    let split : locals_of (record {
+      sort = sort;
+      name = name;
+      attributes = item.Definition body
+          ∷ rest;
+    }) ≡ slots_in body
+    + locals_of (record { sort = sort; name = name; attributes = rest }) =
     sum_cons _ (item.Definition body) rest in
     (omega (arith, split, few), few_in sort name rest (omega (arith, split, few)))
 
 abbrev HasFewIn : Item Path → Type 0
 HasFewIn i = AllByRecursion (OfBody HasFew) i.attributes
 
-all_few : (xs : List (Item Path)) → list_any (λ i. nat_lt local_limit (locals_of i)) xs ≡ false → AllByRecursion (HasFewIn) xs
+all_few : (xs : List (Item Path)) → list_any (λ i. nat_lt local_limit (locals_of i)) xs ≡ false
+    → AllByRecursion (HasFewIn) xs
 all_few [] h = tt
 all_few (i ∷ rest) h =
-    let parts = neither (nat_lt local_limit (locals_of i)) (list_any (λ i. nat_lt local_limit (locals_of i)) rest) h in
+    let parts = neither (nat_lt local_limit (locals_of i))
+    (list_any (λ i. nat_lt local_limit (locals_of i)) rest) h in
     (few_in i.sort i.name i.attributes (within (locals_of i) parts.0), all_few rest parts.1)
   where
     neither : (a b : Bool) → (a || b) ≡ false → (a ≡ false) × (b ≡ false)
@@ -76,7 +87,8 @@ all_few (i ∷ rest) h =
     within n h = grind (arith, nat_tests, h)
 
 -- the declarators of a body that means something have its slots
-slots_kept : (unit : Description Path) (b : Body Path) (b' : Body Target) → HasFew b → resolved_body unit b [] 0 ≡ Some b' → KeepsSlots b'
+slots_kept : (unit : Description Path) (b : Body Path) (b' : Body Target) → HasFew b
+    → resolved_body unit b [] 0 ≡ Some b' → KeepsSlots b'
 slots_kept unit b b' few h =
     let i = body_in unit b [] 0 b' h in
     (omega (arith, few, i.0), each_slot (0 + slots_in b) (slots_in b') (omega (arith, i.0)) b' i.1)
@@ -90,16 +102,24 @@ unfolding slots_in
 nothing_keeps = (omega arith, tt)
 
 -- of the rules on counts, the third
-locals_few : (items transactions locals nodes : Bool) (a b c d : Refusal) → refused_if items a ++ (refused_if transactions b ++ (refused_if locals c ++ refused_if nodes d)) ≡ [] → locals ≡ false
+locals_few : (items transactions locals nodes : Bool) (a b c d : Refusal)
+    → refused_if items a ++ (refused_if transactions b
+    ++ (refused_if locals c ++ refused_if nodes d)) ≡ [] → locals ≡ false
 locals_few items transactions locals nodes a b c d none =
-    let one = front_none (refused_if items a) (refused_if transactions b ++ (refused_if locals c ++ refused_if nodes d)) none in
-    let two = front_none (refused_if transactions b) (refused_if locals c ++ refused_if nodes d) one.1 in
+    let one = front_none (refused_if items a) (refused_if transactions b
+    ++ (refused_if locals c ++ refused_if nodes d)) none in
+    let two = front_none (refused_if transactions b) (refused_if locals c ++ refused_if nodes d)
+    one.1 in
     not_refused locals c (front_none (refused_if locals c) (refused_if nodes d) two.1).0
 
 pub body_keeps : (d : Description Target) → IsResolved d → (m : MethNo) → KeepsSlots (body_of d m)
 body_keeps d is m =
     let counts = front_none (too_many is.unit) _ is.no_breach in
     let items = is.unit.items in
-    let few = locals_few (list_any (λ k. nat_lt item_limit (count_of k items)) kinds) (list_any (λ i. nat_lt transaction_limit (transaction_count i)) items) (list_any (λ i. nat_lt local_limit (locals_of i)) items)
-    (nat_lt node_limit (unit_nodes is.unit)) (TooMany limit.Items) (TooMany limit.Transactions) (TooMany limit.Locals) (TooMany limit.Nodes) counts.0 in
-    of_method KeepsSlots nothing_keeps d m (unit_made is.unit HasFew KeepsSlots (slots_kept is.unit) d (all_few items few) is.meanings)
+    let few = locals_few (list_any (λ k. nat_lt item_limit (count_of k items)) kinds)
+    (list_any (λ i. nat_lt transaction_limit (transaction_count i)) items)
+    (list_any (λ i. nat_lt local_limit (locals_of i)) items)
+    (nat_lt node_limit (unit_nodes is.unit)) (TooMany limit.Items) (TooMany limit.Transactions)
+    (TooMany limit.Locals) (TooMany limit.Nodes) counts.0 in
+    of_method KeepsSlots nothing_keeps d m (unit_made is.unit HasFew KeepsSlots (slots_kept is.unit)
+    d (all_few items few) is.meanings)

@@ -25,7 +25,8 @@ use Rattle.edd_methods.proofs.ResolvedSlots.{bound}
 abbrev pub any : Target → Bool
 any t = true
 
-module _ (at : Path → Option Target) (good : Target → Bool) (meant : (p : Path) (t : Target) → at p ≡ Some t → good t ≡ true) where
+module _ (at : Path → Option Target) (good : Target → Bool) (meant : (p : Path) (t : Target)
+    → at p ≡ Some t → good t ≡ true) where
   abbrev pub Good : Expr Target → Type 0
   Good e = is_expr good any e ≡ true
 
@@ -35,67 +36,84 @@ module _ (at : Path → Option Target) (good : Target → Bool) (meant : (p : Pa
   mutual
     unfolding resolved_expr
 
-    pub expr_good : (e : Expr Path) (e' : Expr Target) → is_expr is_path is_plain e ≡ true → resolved_expr at e ≡ Some e' → Good e'
+    pub expr_good : (e : Expr Path) (e' : Expr Target) → is_expr is_path is_plain e ≡ true
+        → resolved_expr at e ≡ Some e' → Good e'
     expr_good (Literal value) e' is h = subst Good (same_Some (Literal value) e' h) is
     expr_good Decimal e' is h = subst Good (same_Some Decimal e' h) refl
-    expr_good (Reference from) e' is h = let a = bound (at from) _ e' h in subst Good (same_Some _ e' a.2) (meant from a.0 a.1)
-    expr_good (Parentheses inner) e' is h = let a = bound (resolved_expr at inner) _ e' h in subst Good (same_Some _ e' a.2) (expr_good inner a.0 is a.1)
-    expr_good (Unary op operand) e' is h = let a = bound (resolved_expr at operand) _ e' h in subst Good (same_Some _ e' a.2) (expr_good operand a.0 is a.1)
+    expr_good (Reference from) e' is h = let a = bound (at from) _ e' h in subst Good
+        (same_Some _ e' a.2) (meant from a.0 a.1)
+    expr_good (Parentheses inner) e' is h = let a = bound (resolved_expr at inner) _ e' h in subst
+        Good (same_Some _ e' a.2) (expr_good inner a.0 is a.1)
+    expr_good (Unary op operand) e' is h = let a = bound (resolved_expr at operand) _ e' h in subst
+        Good (same_Some _ e' a.2) (expr_good operand a.0 is a.1)
     expr_good (Binary op left right) e' is h =
         let are = and_parts _ _ is in
         let a = bound (resolved_expr at left) _ e' h in
         let b = bound (resolved_expr at right) _ e' a.2 in
-        subst Good (same_Some _ e' b.2) (and_from _ _ (expr_good left a.0 are.0 a.1) (expr_good right b.0 are.1 b.1))
+        subst Good (same_Some _ e' b.2)
+        (and_from _ _ (expr_good left a.0 are.0 a.1) (expr_good right b.0 are.1 b.1))
     expr_good (Compare by left right) e' is h =
         let are = and_parts _ _ is in
         let a = bound (resolved_expr at left) _ e' h in
         let b = bound (resolved_expr at right) _ e' a.2 in
-        subst Good (same_Some _ e' b.2) (and_from _ _ (expr_good left a.0 are.0 a.1) (expr_good right b.0 are.1 b.1))
+        subst Good (same_Some _ e' b.2)
+        (and_from _ _ (expr_good left a.0 are.0 a.1) (expr_good right b.0 are.1 b.1))
     expr_good (LogicalAnd left right) e' is h =
         let are = and_parts _ _ is in
         let a = bound (resolved_expr at left) _ e' h in
         let b = bound (resolved_expr at right) _ e' a.2 in
-        subst Good (same_Some _ e' b.2) (and_from _ _ (expr_good left a.0 are.0 a.1) (expr_good right b.0 are.1 b.1))
+        subst Good (same_Some _ e' b.2)
+        (and_from _ _ (expr_good left a.0 are.0 a.1) (expr_good right b.0 are.1 b.1))
     expr_good (LogicalOr left right) e' is h =
         let are = and_parts _ _ is in
         let a = bound (resolved_expr at left) _ e' h in
         let b = bound (resolved_expr at right) _ e' a.2 in
-        subst Good (same_Some _ e' b.2) (and_from _ _ (expr_good left a.0 are.0 a.1) (expr_good right b.0 are.1 b.1))
+        subst Good (same_Some _ e' b.2)
+        (and_from _ _ (expr_good left a.0 are.0 a.1) (expr_good right b.0 are.1 b.1))
     expr_good (Conditional test first second) e' is h =
         let are = and_parts _ _ is in
         let front = and_parts _ _ are.0 in
         let a = bound (resolved_expr at test) _ e' h in
         let b = bound (resolved_expr at first) _ e' a.2 in
         let c = bound (resolved_expr at second) _ e' b.2 in
-        subst Good (same_Some _ e' c.2) (and_from _ _ (and_from _ _ (expr_good test a.0 front.0 a.1) (expr_good first b.0 front.1 b.1)) (expr_good second c.0 are.1 c.1))
+        subst Good (same_Some _ e' c.2)
+        (and_from _ _ (and_from _ _ (expr_good test a.0 front.0 a.1)
+        (expr_good first b.0 front.1 b.1)) (expr_good second c.0 are.1 c.1))
     expr_good (Assign to value) e' is h =
         let are = and_parts _ _ is in
         let a = bound (at to) _ e' h in
         let b = bound (resolved_expr at value) _ e' a.2 in
-        subst Good (same_Some _ e' b.2) (and_from _ _ (meant to a.0 a.1) (expr_good value b.0 are.1 b.1))
+        subst Good (same_Some _ e' b.2)
+        (and_from _ _ (meant to a.0 a.1) (expr_good value b.0 are.1 b.1))
     expr_good (CompoundAssign op to value) e' is h =
         let are = and_parts _ _ is in
         let a = bound (at to) _ e' h in
         let b = bound (resolved_expr at value) _ e' a.2 in
-        subst Good (same_Some _ e' b.2) (and_from _ _ (meant to a.0 a.1) (expr_good value b.0 are.1 b.1))
-    expr_good (Increment op to) e' is h = let a = bound (at to) _ e' h in subst Good (same_Some _ e' a.2) (meant to a.0 a.1)
+        subst Good (same_Some _ e' b.2)
+        (and_from _ _ (meant to a.0 a.1) (expr_good value b.0 are.1 b.1))
+    expr_good (Increment op to) e' is h = let a = bound (at to) _ e' h in subst Good
+        (same_Some _ e' a.2) (meant to a.0 a.1)
     expr_good (Call name arguments) e' is h =
         let are = and_parts _ _ is in
         let a = bound (function_meant name) _ e' h in
         let b = bound (resolved_arguments at arguments) _ e' a.2 in
         subst Good (same_Some _ e' b.2) (arguments_good arguments b.0 are.1 b.1)
 
-    arguments_good : (arguments : Arguments Path) (others : Arguments Target) → are_arguments is_path is_plain arguments ≡ true → resolved_arguments at arguments ≡ Some others → AreGood others
+    arguments_good : (arguments : Arguments Path) (others : Arguments Target)
+        → are_arguments is_path is_plain arguments ≡ true → resolved_arguments at arguments
+        ≡ Some others → AreGood others
     arguments_good Nil others is h = subst AreGood (same_Some Nil others h) refl
     arguments_good (Cons (Text text) rest) others is h =
         let are = and_parts _ _ is in
         let a = bound (resolved_arguments at rest) _ others h in
-        subst AreGood (same_Some _ others a.2) (and_from _ _ are.0 (arguments_good rest a.0 are.1 a.1))
+        subst AreGood (same_Some _ others a.2)
+        (and_from _ _ are.0 (arguments_good rest a.0 are.1 a.1))
     arguments_good (Cons (Value e) rest) others is h =
         let are = and_parts _ _ is in
         let a = bound (resolved_expr at e) _ others h in
         let b = bound (resolved_arguments at rest) _ others a.2 in
-        subst AreGood (same_Some _ others b.2) (and_from _ _ (expr_good e a.0 are.0 a.1) (arguments_good rest b.0 are.1 b.1))
+        subst AreGood (same_Some _ others b.2)
+        (and_from _ _ (expr_good e a.0 are.0 a.1) (arguments_good rest b.0 are.1 b.1))
 
 -- ---- references
 
@@ -103,7 +121,8 @@ module _ (at : Path → Option Target) (good : Target → Bool) (meant : (p : Pa
 abbrev pub IsBelow : (limit : ℕ) → Scope → Type 0
 IsBelow limit scope = list_all (λ entry. nat_lt entry.1 limit) scope ≡ true
 
-module _ (unit : Description Path) (context : Context) (variables : count_of kind.Variable unit.items ≡ context.counts.variables) where
+module _ (unit : Description Path) (context : Context)
+    (variables : count_of kind.Variable unit.items ≡ context.counts.variables) where
   item_there : (i : ItemNo) → exists_in unit i ≡ true → uses_existing context (Item i) ≡ true
   item_there (item_no.Variable v) is = ap (λ (n : ℕ). nat_lt v.0 n) (sym variables) ∙ is
   item_there (item_no.Command n) is = refl
@@ -111,19 +130,28 @@ module _ (unit : Description Path) (context : Context) (variables : count_of kin
   item_there (item_no.Collection n) is = refl
   item_there (item_no.Method n) is = refl
 
-  pub meant_there : (scope : Scope) → IsBelow context.slots scope → (p : Path) (t : Target) → meaning unit scope variable_kinds p ≡ Some t → uses_existing context t ≡ true
+  pub meant_there : (scope : Scope) → IsBelow context.slots scope → (p : Path) (t : Target)
+      → meaning unit scope variable_kinds p ≡ Some t → uses_existing context t ≡ true
   meant_there scope below p t h =
       by_slot (look_up p.base scope)
-      (mapped (λ entry. entry.1) (λ entry. nat_lt entry.1 context.slots) (λ slot. nat_lt slot context.slots) (λ x is. is) (find (λ entry. bytes_eq entry.0 p.base) scope)
-      (found_has (λ entry. nat_lt entry.1 context.slots) (λ entry. bytes_eq entry.0 p.base) scope below))
+      (mapped (λ entry. entry.1) (λ entry. nat_lt entry.1 context.slots)
+      (λ slot. nat_lt slot context.slots) (λ x is. is)
+      (find (λ entry. bytes_eq entry.0 p.base) scope)
+      (found_has (λ entry. nat_lt entry.1 context.slots) (λ entry. bytes_eq entry.0 p.base) scope
+      below))
       h
     where
-      local_there : (slot : ℕ) (members : List _) → nat_lt slot context.slots ≡ true → local_meant slot members ≡ Some t → uses_existing context t ≡ true
-      local_there slot [] is e = subst (λ (t : Target). uses_existing context t ≡ true) (same_Some (Local slot) t e) is
+      local_there : (slot : ℕ) (members : List _) → nat_lt slot context.slots ≡ true
+          → local_meant slot members ≡ Some t → uses_existing context t ≡ true
+      local_there slot [] is e = subst (λ (t : Target). uses_existing context t ≡ true)
+          (same_Some (Local slot) t e) is
       local_there slot (m ∷ rest) is e = absurd (cc e)
 
       by_slot : (o : Option ℕ) → IfSomeTrue (λ slot. nat_lt slot context.slots) o
-          → (elim o as (λ _. Option Target) [ Some slot ↦ local_meant slot p.members | None ↦ item_meant unit variable_kinds p ]) ≡ Some t → uses_existing context t ≡ true
+          → (elim o as (λ _. Option Target) [
+            | Some slot ↦ local_meant slot p.members
+            | None ↦ item_meant unit variable_kinds p
+          ]) ≡ Some t → uses_existing context t ≡ true
       by_slot None is e =
           let i = item_meant_exists unit variable_kinds p t e in
           subst (λ (t : Target). uses_existing context t ≡ true) (sym i.1) (item_there i.0 i.2)

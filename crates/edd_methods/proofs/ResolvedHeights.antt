@@ -41,30 +41,38 @@ module _ (at : Path → Option Target) where
     expr_low : (e : Expr Path) (e' : Expr Target) → resolved_expr at e ≡ Some e' → Low (height e) e'
     expr_low (Literal value) e' h = subst (Low 1) (same_Some (Literal value) e' h) (omega arith)
     expr_low Decimal e' h = subst (Low 1) (same_Some Decimal e' h) (omega arith)
-    expr_low (Reference from) e' h = let a = bound (at from) _ e' h in subst (Low 1) (same_Some _ e' a.2) (omega arith)
-    expr_low (Parentheses inner) e' h = let a = bound (resolved_expr at inner) _ e' h in subst (Low (1 + height inner)) (same_Some _ e' a.2) (omega (arith, expr_low inner a.0 a.1))
-    expr_low (Unary op operand) e' h = let a = bound (resolved_expr at operand) _ e' h in subst (Low (1 + height operand)) (same_Some _ e' a.2) (omega (arith, expr_low operand a.0 a.1))
+    expr_low (Reference from) e' h = let a = bound (at from) _ e' h in subst (Low 1)
+        (same_Some _ e' a.2) (omega arith)
+    expr_low (Parentheses inner) e' h = let a = bound (resolved_expr at inner) _ e' h in subst
+        (Low (1 + height inner)) (same_Some _ e' a.2) (omega (arith, expr_low inner a.0 a.1))
+    expr_low (Unary op operand) e' h = let a = bound (resolved_expr at operand) _ e' h in subst
+        (Low (1 + height operand)) (same_Some _ e' a.2) (omega (arith, expr_low operand a.0 a.1))
     expr_low (Binary op left right) e' h =
         let a = bound (resolved_expr at left) _ e' h in
         let b = bound (resolved_expr at right) _ e' a.2 in
-        subst (Low (1 + max (height left) (height right))) (same_Some _ e' b.2) (omega (arith, expr_low left a.0 a.1, expr_low right b.0 b.1))
+        subst (Low (1 + max (height left) (height right))) (same_Some _ e' b.2)
+        (omega (arith, expr_low left a.0 a.1, expr_low right b.0 b.1))
     expr_low (Compare by left right) e' h =
         let a = bound (resolved_expr at left) _ e' h in
         let b = bound (resolved_expr at right) _ e' a.2 in
-        subst (Low (1 + max (height left) (height right))) (same_Some _ e' b.2) (omega (arith, expr_low left a.0 a.1, expr_low right b.0 b.1))
+        subst (Low (1 + max (height left) (height right))) (same_Some _ e' b.2)
+        (omega (arith, expr_low left a.0 a.1, expr_low right b.0 b.1))
     expr_low (LogicalAnd left right) e' h =
         let a = bound (resolved_expr at left) _ e' h in
         let b = bound (resolved_expr at right) _ e' a.2 in
-        subst (Low (1 + max (height left) (height right))) (same_Some _ e' b.2) (omega (arith, expr_low left a.0 a.1, expr_low right b.0 b.1))
+        subst (Low (1 + max (height left) (height right))) (same_Some _ e' b.2)
+        (omega (arith, expr_low left a.0 a.1, expr_low right b.0 b.1))
     expr_low (LogicalOr left right) e' h =
         let a = bound (resolved_expr at left) _ e' h in
         let b = bound (resolved_expr at right) _ e' a.2 in
-        subst (Low (1 + max (height left) (height right))) (same_Some _ e' b.2) (omega (arith, expr_low left a.0 a.1, expr_low right b.0 b.1))
+        subst (Low (1 + max (height left) (height right))) (same_Some _ e' b.2)
+        (omega (arith, expr_low left a.0 a.1, expr_low right b.0 b.1))
     expr_low (Conditional test first second) e' h =
         let a = bound (resolved_expr at test) _ e' h in
         let b = bound (resolved_expr at first) _ e' a.2 in
         let c = bound (resolved_expr at second) _ e' b.2 in
-        subst (Low (1 + max (height test) (max (height first) (height second)))) (same_Some _ e' c.2)
+        subst (Low (1 + max (height test) (max (height first) (height second))))
+        (same_Some _ e' c.2)
         (omega (arith, expr_low test a.0 a.1, expr_low first b.0 b.1, expr_low second c.0 c.1))
     expr_low (Assign to value) e' h =
         let a = bound (at to) _ e' h in
@@ -74,13 +82,16 @@ module _ (at : Path → Option Target) where
         let a = bound (at to) _ e' h in
         let b = bound (resolved_expr at value) _ e' a.2 in
         subst (Low (1 + height value)) (same_Some _ e' b.2) (omega (arith, expr_low value b.0 b.1))
-    expr_low (Increment op to) e' h = let a = bound (at to) _ e' h in subst (Low 1) (same_Some _ e' a.2) (omega arith)
+    expr_low (Increment op to) e' h = let a = bound (at to) _ e' h in subst (Low 1)
+        (same_Some _ e' a.2) (omega arith)
     expr_low (Call name arguments) e' h =
         let a = bound (function_meant name) _ e' h in
         let b = bound (resolved_arguments at arguments) _ e' a.2 in
-        subst (Low (1 + argument_height arguments)) (same_Some _ e' b.2) (omega (arith, arguments_low arguments b.0 b.1))
+        subst (Low (1 + argument_height arguments)) (same_Some _ e' b.2)
+        (omega (arith, arguments_low arguments b.0 b.1))
 
-    arguments_low : (arguments : Arguments Path) (others : Arguments Target) → resolved_arguments at arguments ≡ Some others → AreLow (argument_height arguments) others
+    arguments_low : (arguments : Arguments Path) (others : Arguments Target)
+        → resolved_arguments at arguments ≡ Some others → AreLow (argument_height arguments) others
     arguments_low expr.Nil others h = subst (AreLow 0) (same_Some expr.Nil others h) (omega arith)
     arguments_low (expr.Cons (expr.Text text) rest) others h =
         let a = bound (resolved_arguments at rest) _ others h in
@@ -88,25 +99,37 @@ module _ (at : Path → Option Target) where
     arguments_low (expr.Cons (expr.Value e) rest) others h =
         let a = bound (resolved_expr at e) _ others h in
         let b = bound (resolved_arguments at rest) _ others a.2 in
-        subst (AreLow (max (height e) (argument_height rest))) (same_Some _ others b.2) (omega (arith, expr_low e a.0 a.1, arguments_low rest b.0 b.1))
+        subst (AreLow (max (height e) (argument_height rest))) (same_Some _ others b.2)
+        (omega (arith, expr_low e a.0 a.1, arguments_low rest b.0 b.1))
 
-  optional_low : (e : Option (Expr Path)) (e' : Option (Expr Target)) → resolved_optional at e ≡ Some e' → optional_height e' ≤ optional_height e
-  optional_low None e' h = subst (λ (o : Option (Expr Target)). optional_height o ≤ 0) (same_Some None e' h) (omega arith)
+  optional_low : (e : Option (Expr Path)) (e' : Option (Expr Target)) → resolved_optional at e
+      ≡ Some e' → optional_height e' ≤ optional_height e
+  optional_low None e' h = subst (λ (o : Option (Expr Target)). optional_height o ≤ 0)
+      (same_Some None e' h) (omega arith)
   optional_low (Some e) e' h =
       let a = bound (resolved_expr at e) _ e' h in
-      subst (λ (o : Option (Expr Target)). optional_height o ≤ height e) (same_Some _ e' a.2) (expr_low e a.0 a.1)
+      subst (λ (o : Option (Expr Target)). optional_height o ≤ height e) (same_Some _ e' a.2)
+      (expr_low e a.0 a.1)
 
 module _ (unit : Description Path) where
   abbrev DeclaredLow : ℕ → List (Declarator Target) → Type 0
   DeclaredLow n ds = declarator_height ds ≤ n
 
-  declarators_low : (ds : List (Declarator Path)) (scope : Scope) (next : ℕ) (ds' : List (Declarator Target)) → resolved_declarators unit scope next ds ≡ Some ds' → DeclaredLow (declarator_height ds) ds'
+  declarators_low : (ds : List (Declarator Path)) (scope : Scope) (next : ℕ)
+      (ds' : List (Declarator Target)) → resolved_declarators unit scope next ds ≡ Some ds'
+      → DeclaredLow (declarator_height ds) ds'
   declarators_low [] scope next ds' h = subst (DeclaredLow 0) (same_Some [] ds' h) (omega arith)
   declarators_low (d ∷ rest) scope next ds' h =
       let a = bound (resolved_optional (at_scope unit scope) d.value) _ ds' h in
-      let b = bound (resolved_declarators unit (declared d.place next scope) (next + 1) rest) _ ds' a.2 in
-      subst (DeclaredLow (max (1 + optional_height d.value) (declarator_height rest))) (same_Some _ ds' b.2)
-      (omega (arith, optional_low (at_scope unit scope) d.value a.0 a.1, declarators_low rest (declared d.place next scope) (next + 1) b.0 b.1))
+      let b = bound (resolved_declarators unit (declared d.place next scope) (next + 1) rest) _ ds'
+      a.2 in
+      subst (DeclaredLow (max (1 + optional_height d.value) (declarator_height rest)))
+      (same_Some _ ds' b.2)
+      (omega (
+        arith,
+        optional_low (at_scope unit scope) d.value a.0 a.1,
+        declarators_low rest (declared d.place next scope) (next + 1) b.0 b.1,
+      ))
 
   abbrev StatementLow : ℕ → Stmt Target → Type 0
   StatementLow n x = statement_height x ≤ n
@@ -117,41 +140,68 @@ module _ (unit : Description Path) where
   mutual
     unfolding resolved_stmt
 
-    statement_low : (x : Stmt Path) (scope : Scope) (next : ℕ) (x' : Stmt Target) → resolved_stmt unit x scope next ≡ Some x' → StatementLow (statement_height x) x'
+    statement_low : (x : Stmt Path) (scope : Scope) (next : ℕ) (x' : Stmt Target)
+        → resolved_stmt unit x scope next ≡ Some x' → StatementLow (statement_height x) x'
     statement_low Empty scope next x' h = subst (StatementLow 1) (same_Some _ x' h) (omega arith)
     statement_low (Evaluate e) scope next x' h =
         let a = bound (resolved_expr (at_scope unit scope) e) _ x' h in
-        subst (StatementLow (1 + height e)) (same_Some _ x' a.2) (omega (arith, expr_low (at_scope unit scope) e a.0 a.1))
+        subst (StatementLow (1 + height e)) (same_Some _ x' a.2)
+        (omega (arith, expr_low (at_scope unit scope) e a.0 a.1))
     statement_low (Block body) scope next x' h =
         let a = bound (resolved_body unit body scope next) _ x' h in
-        subst (StatementLow (1 + body_height body)) (same_Some _ x' a.2) (omega (arith, body_low body scope next a.0 a.1))
+        subst (StatementLow (1 + body_height body)) (same_Some _ x' a.2)
+        (omega (arith, body_low body scope next a.0 a.1))
     statement_low (If condition first) scope next x' h =
         let a = bound (resolved_expr (at_scope unit scope) condition) _ x' h in
         let b = bound (resolved_stmt unit first scope next) _ x' a.2 in
-        subst (StatementLow (1 + max (height condition) (statement_height first))) (same_Some _ x' b.2)
-        (omega (arith, expr_low (at_scope unit scope) condition a.0 a.1, statement_low first scope next b.0 b.1))
+        subst (StatementLow (1 + max (height condition) (statement_height first)))
+        (same_Some _ x' b.2)
+        (omega (
+          arith,
+          expr_low (at_scope unit scope) condition a.0 a.1,
+          statement_low first scope next b.0 b.1,
+        ))
     statement_low (IfElse condition first otherwise) scope next x' h =
         let a = bound (resolved_expr (at_scope unit scope) condition) _ x' h in
         let b = bound (resolved_stmt unit first scope next) _ x' a.2 in
         let c = bound (resolved_stmt unit otherwise scope (next + slots_of first)) _ x' b.2 in
-        subst (StatementLow (1 + max (height condition) (max (statement_height first) (statement_height otherwise)))) (same_Some _ x' c.2)
-        (omega (arith, expr_low (at_scope unit scope) condition a.0 a.1, statement_low first scope next b.0 b.1, statement_low otherwise scope (next + slots_of first) c.0 c.1))
+        subst (StatementLow (1 + max (height condition)
+        (max (statement_height first) (statement_height otherwise)))) (same_Some _ x' c.2)
+        (omega (
+          arith,
+          expr_low (at_scope unit scope) condition a.0 a.1,
+          statement_low first scope next b.0 b.1,
+          statement_low otherwise scope
+              (next + slots_of first) c.0 c.1,
+        ))
     statement_low (While condition body) scope next x' h =
         let a = bound (resolved_expr (at_scope unit scope) condition) _ x' h in
         let b = bound (resolved_stmt unit body scope next) _ x' a.2 in
-        subst (StatementLow (1 + max (height condition) (statement_height body))) (same_Some _ x' b.2)
-        (omega (arith, expr_low (at_scope unit scope) condition a.0 a.1, statement_low body scope next b.0 b.1))
+        subst (StatementLow (1 + max (height condition) (statement_height body)))
+        (same_Some _ x' b.2)
+        (omega (
+          arith,
+          expr_low (at_scope unit scope) condition a.0 a.1,
+          statement_low body scope next b.0 b.1,
+        ))
     statement_low (Do body condition) scope next x' h =
         let a = bound (resolved_stmt unit body scope next) _ x' h in
         let b = bound (resolved_expr (at_scope unit scope) condition) _ x' a.2 in
-        subst (StatementLow (1 + max (statement_height body) (height condition))) (same_Some _ x' b.2)
-        (omega (arith, statement_low body scope next a.0 a.1, expr_low (at_scope unit scope) condition b.0 b.1))
+        subst (StatementLow (1 + max (statement_height body) (height condition)))
+        (same_Some _ x' b.2)
+        (omega (
+          arith,
+          statement_low body scope next a.0 a.1,
+          expr_low (at_scope unit scope)
+              condition b.0 b.1,
+        ))
     statement_low (For first condition update body) scope next x' h =
         let a = bound (resolved_optional (at_scope unit scope) first) _ x' h in
         let b = bound (resolved_optional (at_scope unit scope) condition) _ x' a.2 in
         let c = bound (resolved_optional (at_scope unit scope) update) _ x' b.2 in
         let d = bound (resolved_stmt unit body scope next) _ x' c.2 in
-        subst (StatementLow (1 + max (max (optional_height first) (optional_height condition)) (max (optional_height update) (statement_height body)))) (same_Some _ x' d.2)
+        subst (StatementLow (1 + max (max (optional_height first) (optional_height condition))
+        (max (optional_height update) (statement_height body)))) (same_Some _ x' d.2)
         (omega (
           arith,
           optional_low (at_scope unit scope) first a.0 a.1,
@@ -168,18 +218,29 @@ module _ (unit : Description Path) where
     statement_low Continue scope next x' h = subst (StatementLow 1) (same_Some _ x' h) (omega arith)
     statement_low Return scope next x' h = subst (StatementLow 1) (same_Some _ x' h) (omega arith)
 
-    body_low : (b : Body Path) (scope : Scope) (next : ℕ) (b' : Body Target) → resolved_body unit b scope next ≡ Some b' → BodyLow (body_height b) b'
+    body_low : (b : Body Path) (scope : Scope) (next : ℕ) (b' : Body Target)
+        → resolved_body unit b scope next ≡ Some b' → BodyLow (body_height b) b'
     body_low Nil scope next b' h = subst (BodyLow 0) (same_Some _ b' h) (omega arith)
     body_low (Cons (Declare ds) rest) scope next b' h =
         let a = bound (resolved_declarators unit scope next ds) _ b' h in
-        let c = bound (resolved_body unit rest (all_declared scope next ds) (next + length ds)) _ b' a.2 in
+        let c = bound (resolved_body unit rest (all_declared scope next ds) (next + length ds)) _ b'
+        a.2 in
         subst (BodyLow (max (1 + declarator_height ds) (body_height rest))) (same_Some _ b' c.2)
-        (omega (arith, declarators_low ds scope next a.0 a.1, body_low rest (all_declared scope next ds) (next + length ds) c.0 c.1))
+        (omega (
+          arith,
+          declarators_low ds scope next a.0 a.1,
+          body_low rest (all_declared scope next ds) (next + length ds) c.0 c.1,
+        ))
     body_low (Cons (Statement x) rest) scope next b' h =
         let a = bound (resolved_stmt unit x scope next) _ b' h in
         let c = bound (resolved_body unit rest scope (next + slots_of x)) _ b' a.2 in
         subst (BodyLow (max (statement_height x) (body_height rest))) (same_Some _ b' c.2)
-        (omega (arith, statement_low x scope next a.0 a.1, body_low rest scope (next + slots_of x) c.0 c.1))
+        (omega (
+          arith,
+          statement_low x scope next a.0 a.1,
+          body_low rest scope (next + slots_of x)
+              c.0 c.1,
+        ))
     body_low (Cons (CaseLabel label) rest) scope next b' h =
         let a = bound (resolved_body unit rest scope next) _ b' h in
         subst (BodyLow (body_height rest)) (same_Some _ b' a.2) (body_low rest scope next a.0 a.1)
@@ -198,28 +259,43 @@ module _ (n : ℕ) where
   joined [] qs h k = k
   joined (p ∷ ps) qs h k = (h.0, joined ps qs h.1 k)
 
-  optional_listed : (e : Option (Expr Target)) → optional_height e ≤ n → NoneHigher (optional_part e)
+  optional_listed : (e : Option (Expr Target)) → optional_height e ≤ n
+      → NoneHigher (optional_part e)
   optional_listed None h = tt
   optional_listed (Some e) h = (h, tt)
 
-  declared_listed : (ds : List (Declarator Target)) → declarator_height ds ≤ n → NoneHigher (flat_map (λ d. optional_part d.value) ds)
+  declared_listed : (ds : List (Declarator Target)) → declarator_height ds ≤ n
+      → NoneHigher (flat_map (λ d. optional_part d.value) ds)
   declared_listed [] h = tt
-  declared_listed (d ∷ rest) h = joined (optional_part d.value) (flat_map (λ d. optional_part d.value) rest) (optional_listed d.value (omega (arith, h))) (declared_listed rest (omega (arith, h)))
+  declared_listed (d ∷ rest) h =
+      joined (optional_part d.value) (flat_map (λ d. optional_part d.value) rest)
+      (optional_listed d.value (omega (arith, h))) (declared_listed rest (omega (arith, h)))
 
   mutual
     statement_listed : (x : Stmt Target) → statement_height x ≤ n → NoneHigher (stmt_expressions x)
     statement_listed Empty h = tt
     statement_listed (Evaluate e) h = (omega (arith, h), tt)
     statement_listed (Block body) h = body_listed body (omega (arith, h))
-    statement_listed (If condition first) h = (omega (arith, h), statement_listed first (omega (arith, h)))
-    statement_listed (IfElse condition first otherwise) h =
-        (omega (arith, h), joined (stmt_expressions first) (stmt_expressions otherwise) (statement_listed first (omega (arith, h))) (statement_listed otherwise (omega (arith, h))))
-    statement_listed (While condition body) h = (omega (arith, h), statement_listed body (omega (arith, h)))
-    statement_listed (Do body condition) h = joined (stmt_expressions body) (part_of condition) (statement_listed body (omega (arith, h))) (omega (arith, h), tt)
+    statement_listed (If condition first) h =
+        (omega (arith, h), statement_listed first (omega (arith, h)))
+    statement_listed (IfElse condition first otherwise) h = (
+      omega (arith, h),
+      joined (stmt_expressions first) (stmt_expressions otherwise)
+          (statement_listed first (omega (arith, h)))
+          (statement_listed otherwise (omega (arith, h))),
+    )
+    statement_listed (While condition body) h =
+        (omega (arith, h), statement_listed body (omega (arith, h)))
+    statement_listed (Do body condition) h = joined (stmt_expressions body) (part_of condition)
+        (statement_listed body (omega (arith, h))) (omega (arith, h), tt)
     statement_listed (For first condition update body) h =
-        joined (optional_part first) (optional_part condition ++ (optional_part update ++ stmt_expressions body)) (optional_listed first (omega (arith, h)))
-        (joined (optional_part condition) (optional_part update ++ stmt_expressions body) (optional_listed condition (omega (arith, h)))
-        (joined (optional_part update) (stmt_expressions body) (optional_listed update (omega (arith, h))) (statement_listed body (omega (arith, h)))))
+        joined (optional_part first) (optional_part condition
+        ++ (optional_part update ++ stmt_expressions body))
+        (optional_listed first (omega (arith, h)))
+        (joined (optional_part condition) (optional_part update ++ stmt_expressions body)
+        (optional_listed condition (omega (arith, h)))
+        (joined (optional_part update) (stmt_expressions body)
+        (optional_listed update (omega (arith, h))) (statement_listed body (omega (arith, h)))))
     statement_listed (Switch on body) h = (omega (arith, h), body_listed body (omega (arith, h)))
     statement_listed Break h = tt
     statement_listed Continue h = tt
@@ -228,8 +304,10 @@ module _ (n : ℕ) where
     body_listed : (b : Body Target) → body_height b ≤ n → NoneHigher (body_expressions b)
     body_listed Nil h = tt
     body_listed (Cons (Declare ds) rest) h =
-        joined (flat_map (λ d. optional_part d.value) ds) (body_expressions rest) (declared_listed ds (omega (arith, h))) (body_listed rest (omega (arith, h)))
-    body_listed (Cons (Statement x) rest) h = joined (stmt_expressions x) (body_expressions rest) (statement_listed x (omega (arith, h))) (body_listed rest (omega (arith, h)))
+        joined (flat_map (λ d. optional_part d.value) ds) (body_expressions rest)
+        (declared_listed ds (omega (arith, h))) (body_listed rest (omega (arith, h)))
+    body_listed (Cons (Statement x) rest) h = joined (stmt_expressions x) (body_expressions rest)
+        (statement_listed x (omega (arith, h))) (body_listed rest (omega (arith, h)))
     body_listed (Cons (CaseLabel label) rest) h = body_listed rest h
     body_listed (Cons DefaultLabel rest) h = body_listed rest h
 
@@ -255,25 +333,36 @@ low_attribute (item.Members members) h = tt
 within : (n m : ℕ) → nat_le n m ≡ true → n ≤ m
 within n m h = grind (arith, nat_tests, h)
 
-low_attributes : (k : Kind) (xs : List (Attribute Path)) → list_all (stands_in is_path is_plain k) xs ≡ true → AllByRecursion (OfBody IsLow) xs
+low_attributes : (k : Kind) (xs : List (Attribute Path))
+    → list_all (stands_in is_path is_plain k) xs ≡ true → AllByRecursion (OfBody IsLow) xs
 low_attributes k [] is = tt
 low_attributes k (a ∷ rest) is =
-    let are = and_parts (stands_in is_path is_plain k a) (list_all (stands_in is_path is_plain k) rest) is in
-    (low_attribute a (within (attribute_height a) height_limit (and_parts _ _ are.0).1), low_attributes k rest are.1)
+    let are = and_parts (stands_in is_path is_plain k a)
+    (list_all (stands_in is_path is_plain k) rest) is in (
+      low_attribute a (within (attribute_height a) height_limit (and_parts _ _ are.0).1),
+      low_attributes k rest are.1,
+    )
 
-low_items : (xs : List (Item Path)) → are_items xs ≡ true → AllByRecursion (λ i. AllByRecursion (OfBody IsLow) i.attributes) xs
+low_items : (xs : List (Item Path)) → are_items xs ≡ true
+    → AllByRecursion (λ i. AllByRecursion (OfBody IsLow) i.attributes) xs
 unfolding are_items
 low_items [] is = tt
 low_items (i ∷ rest) is =
-    let are = and_parts (is_item is_path is_plain i) (are_items rest) is in
-    (low_attributes (kind_of_item i.sort) i.attributes (and_parts _ _ are.0).1, low_items rest are.1)
+    let are = and_parts (is_item is_path is_plain i) (are_items rest) is in (
+      low_attributes (kind_of_item i.sort) i.attributes (and_parts _ _ are.0).1,
+      low_items rest are.1,
+    )
 
 -- in a body with a meaning
 abbrev LowBody : Body Target → Type 0
 LowBody b = NoneHigher height_limit (body_expressions b)
 
-low_made : (unit : Description Path) (b : Body Path) (b' : Body Target) → IsLow b → resolved_body unit b [] 0 ≡ Some b' → LowBody b'
-low_made unit b b' low h = body_listed height_limit b' (omega (arith, low, body_low unit b [] 0 b' h))
+low_made : (unit : Description Path) (b : Body Path) (b' : Body Target) → IsLow b
+    → resolved_body unit b [] 0 ≡ Some b' → LowBody b'
+low_made unit b b' low h =
+    body_listed height_limit b' (omega (arith, low, body_low unit b [] 0 b' h))
 
-pub body_is_low : (d : Description Target) → IsResolved d → (m : MethNo) → NoneHigher height_limit (body_expressions (body_of d m))
-body_is_low d is m = of_method LowBody tt d m (unit_made is.unit IsLow LowBody (low_made is.unit) d (low_items is.unit.items is.well_formed) is.meanings)
+pub body_is_low : (d : Description Target) → IsResolved d → (m : MethNo)
+    → NoneHigher height_limit (body_expressions (body_of d m))
+body_is_low d is m = of_method LowBody tt d m (unit_made is.unit IsLow LowBody (low_made is.unit) d
+    (low_items is.unit.items is.well_formed) is.meanings)

@@ -37,27 +37,35 @@ use Rattle.edd_methods.proofs.ResolvedUnits.{unit_made}
 -- ---- there are as many items of a kind as before
 
 module _ (unit : Description Path) (k : Kind) where
-  items_stay : (xs : List (Item Path)) (ys : List (Item Target)) → each (resolved_item unit) xs ≡ Some ys → count_of k xs ≡ count_of k ys
-  items_stay [] ys h = subst (λ (ys : List (Item Target)). 0 ≡ count_of k ys) (same_Some [] ys h) refl
+  items_stay : (xs : List (Item Path)) (ys : List (Item Target)) → each (resolved_item unit) xs
+      ≡ Some ys → count_of k xs ≡ count_of k ys
+  items_stay [] ys h = subst (λ (ys : List (Item Target)). 0 ≡ count_of k ys) (same_Some [] ys h)
+      refl
   items_stay (x ∷ xs) ys h =
       let a = bound (resolved_item unit x) _ ys h in
       let b = bound (each (resolved_item unit) xs) _ ys a.2 in
       let c = bound (each (resolved_attribute unit x.sort) x.attributes) _ a.0 a.1 in
       let sorts : x.sort ≡ a.0.sort = ap (λ (i : Item Target). i.sort) (same_Some _ a.0 c.2) in
       subst (λ (ys : List (Item Target)). count_of k (x ∷ xs) ≡ count_of k ys) (same_Some _ ys b.2)
-      (counted (same_kind (kind_of_item x.sort) k) (same_kind (kind_of_item a.0.sort) k) (ap (λ (s : item.ItemKind). same_kind (kind_of_item s) k) sorts) x a.0 _ _ (items_stay xs b.0 b.1))
+      (counted (same_kind (kind_of_item x.sort) k) (same_kind (kind_of_item a.0.sort) k)
+      (ap (λ (s : item.ItemKind). same_kind (kind_of_item s) k) sorts) x a.0 _ _
+      (items_stay xs b.0 b.1))
     where
-      counted : (b c : Bool) → b ≡ c → (x : Item Path) (i : Item Target) (xs : List (Item Path)) (is : List (Item Target)) → length xs ≡ length is → length (cond b (x ∷ xs) xs) ≡ length (cond c (i ∷ is) is)
+      counted : (b c : Bool) → b ≡ c → (x : Item Path) (i : Item Target) (xs : List (Item Path))
+          (is : List (Item Target)) → length xs ≡ length is → length (cond b (x ∷ xs) xs)
+          ≡ length (cond c (i ∷ is) is)
       counted true true e x i xs is h = omega (arith, h)
       counted false false e x i xs is h = h
       counted true false e x i xs is h = absurd (cc e)
       counted false true e x i xs is h = absurd (cc e)
 
-  pub counts_stay : (d : Description Target) → resolved_unit unit ≡ Some d → count_of k unit.items ≡ count_of k d.items
+  pub counts_stay : (d : Description Target) → resolved_unit unit ≡ Some d → count_of k unit.items
+      ≡ count_of k d.items
   unfolding resolved_unit
   counts_stay d h =
       let a = bound (each (resolved_item unit) unit.items) _ d h in
-      items_stay unit.items a.0 a.1 ∙ ap (λ (d : Description Target). count_of k d.items) (same_Some _ d a.2)
+      items_stay unit.items a.0 a.1 ∙ ap (λ (d : Description Target). count_of k d.items)
+      (same_Some _ d a.2)
 
 -- ---- written bodies
 
@@ -79,13 +87,18 @@ in_attribute (item.ResponseCodes responses) is = tt
 in_attribute (item.Items entries) is = tt
 in_attribute (item.Members members) is = tt
 
-in_attributes : (k : Kind) (xs : List (Attribute Path)) → list_all (stands_in is_path is_plain k) xs ≡ true → AllByRecursion (OfBody WellFormed) xs
+in_attributes : (k : Kind) (xs : List (Attribute Path)) → list_all (stands_in is_path is_plain k) xs
+    ≡ true → AllByRecursion (OfBody WellFormed) xs
 in_attributes k [] is = tt
 in_attributes k (a ∷ rest) is =
-    let are = and_parts (stands_in is_path is_plain k a) (list_all (stands_in is_path is_plain k) rest) is in
-    (in_attribute a (and_parts _ (is_attribute is_path is_plain a) (and_parts _ _ are.0).0).1, in_attributes k rest are.1)
+    let are = and_parts (stands_in is_path is_plain k a)
+    (list_all (stands_in is_path is_plain k) rest) is in (
+      in_attribute a (and_parts _ (is_attribute is_path is_plain a) (and_parts _ _ are.0).0).1,
+      in_attributes k rest are.1,
+    )
 
-in_items : (xs : List (Item Path)) → are_items xs ≡ true → AllByRecursion (λ i. AllByRecursion (OfBody WellFormed) i.attributes) xs
+in_items : (xs : List (Item Path)) → are_items xs ≡ true
+    → AllByRecursion (λ i. AllByRecursion (OfBody WellFormed) i.attributes) xs
 unfolding are_items
 in_items [] is = tt
 in_items (i ∷ rest) is =
@@ -102,26 +115,35 @@ around counts slots = record { version = One; counts = counts; sort = Method; sl
 abbrev pub Refers : Counts → Body Target → Type 0
 Refers counts b = ReferToExisting (around counts (slots_in b)) (body_expressions b)
 
-refers : (unit : Description Path) (counts : Counts) → count_of kind.Variable unit.items ≡ counts.variables → (b : Body Path) (b' : Body Target) → WellFormed b
+refers : (unit : Description Path) (counts : Counts) → count_of kind.Variable unit.items
+    ≡ counts.variables → (b : Body Path) (b' : Body Target) → WellFormed b
     → resolved_body unit b [] 0 ≡ Some b' → Refers counts b'
 refers unit counts variables b b' is h =
     let i = body_in unit b [] 0 b' h in
-    body_at unit (around counts (slots_in b')) variables false b [] 0 b' (refl, omega (arith, i.0)) is h
+    body_at unit (around counts (slots_in b')) variables false b [] 0 b' (refl, omega (arith, i.0))
+    is h
 
-pub body_refers : (d : Description Target) → IsResolved d → (counts : Counts) → count_of kind.Variable d.items ≡ counts.variables → (m : MethNo) → Refers counts (body_of d m)
+pub body_refers : (d : Description Target) → IsResolved d → (counts : Counts)
+    → count_of kind.Variable d.items ≡ counts.variables → (m : MethNo) → Refers counts (body_of d m)
 body_refers d is counts variables m =
     of_method (Refers counts) tt d m
-    (unit_made is.unit WellFormed (Refers counts) (refers is.unit counts (counts_stay is.unit kind.Variable d is.meanings ∙ variables)) d (in_items is.unit.items is.well_formed) is.meanings)
+    (unit_made is.unit WellFormed (Refers counts)
+    (refers is.unit counts (counts_stay is.unit kind.Variable d is.meanings ∙ variables)) d
+    (in_items is.unit.items is.well_formed) is.meanings)
 
 -- ---- few variables
 
-pub few_variables : (d : Description Target) → IsResolved d → count_of kind.Variable d.items ≤ item_limit
+pub few_variables : (d : Description Target) → IsResolved d → count_of kind.Variable d.items
+    ≤ item_limit
 few_variables d is =
     let items = is.unit.items in
     let counts = front_none (too_many is.unit) _ is.no_breach in
-    let first = front_none (refused_if (list_any (λ k. nat_lt item_limit (count_of k items)) kinds) (TooMany limit.Items)) _ counts.0 in
-    let none = not_refused (list_any (λ k. nat_lt item_limit (count_of k items)) kinds) (TooMany limit.Items) first.0 in
-    let few = within (count_of kind.Variable items) (neither (nat_lt item_limit (count_of kind.Variable items)) _ none) in
+    let first = front_none (refused_if (list_any (λ k. nat_lt item_limit (count_of k items)) kinds)
+    (TooMany limit.Items)) _ counts.0 in
+    let none = not_refused (list_any (λ k. nat_lt item_limit (count_of k items)) kinds)
+    (TooMany limit.Items) first.0 in
+    let few = within (count_of kind.Variable items)
+    (neither (nat_lt item_limit (count_of kind.Variable items)) _ none) in
     subst (λ (n : ℕ). n ≤ item_limit) (counts_stay is.unit kind.Variable d is.meanings) few
   where
     neither : (a b : Bool) → (a || b) ≡ false → a ≡ false

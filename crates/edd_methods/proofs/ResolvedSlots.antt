@@ -28,7 +28,8 @@ module _ (m n : ℕ) (le : m ≤ n) where
     has_slots (Evaluate e) slots = tt
     has_slots (Block body) slots = each_slot body slots
     has_slots (If condition first) slots = has_slots first slots
-    has_slots (IfElse condition first otherwise) slots = (has_slots first slots.0, has_slots otherwise slots.1)
+    has_slots (IfElse condition first otherwise) slots =
+        (has_slots first slots.0, has_slots otherwise slots.1)
     has_slots (While condition body) slots = has_slots body slots
     has_slots (Do body condition) slots = has_slots body slots
     has_slots (For first condition update body) slots = has_slots body slots
@@ -47,7 +48,8 @@ module _ (m n : ℕ) (le : m ≤ n) where
 -- ---- resolved trees
 
 -- a value that is made of another
-pub bound : {A B : Type 0} (o : Option A) (f : A → Option B) (b : B) → (o >>= f) ≡ Some b → (x : A) × (o ≡ Some x) × (f x ≡ Some b)
+pub bound : {A B : Type 0} (o : Option A) (f : A → Option B) (b : B) → (o >>= f) ≡ Some b
+    → (x : A) × (o ≡ Some x) × (f x ≡ Some b)
 bound None f b h = absurd (none-some b h)
 bound (Some x) f b h = (x, refl, h)
 
@@ -62,19 +64,29 @@ abbrev pub IsInBody : (slots next : ℕ) → Body Target → Type 0
 IsInBody slots next b = (slots_in b ≡ slots) × EachSlot (next + slots) b
 
 module _ (unit : Description Path) where
-  declarators_in : (ds : List (Declarator Path)) (scope : Scope) (next : ℕ) (ds' : List (Declarator Target)) → resolved_declarators unit scope next ds ≡ Some ds' → AreIn (length ds) next ds'
+  declarators_in : (ds : List (Declarator Path)) (scope : Scope) (next : ℕ)
+      (ds' : List (Declarator Target)) → resolved_declarators unit scope next ds ≡ Some ds'
+      → AreIn (length ds) next ds'
   declarators_in [] scope next ds' h = subst (AreIn 0 next) (same_Some [] ds' h) (refl, tt)
   declarators_in (d ∷ rest) scope next ds' h =
       let a = bound (resolved_optional (at_scope unit scope) d.value) _ ds' h in
-      let b = bound (resolved_declarators unit (declared d.place next scope) (next + 1) rest) _ ds' a.2 in
+      let b = bound (resolved_declarators unit (declared d.place next scope) (next + 1) rest) _ ds'
+      a.2 in
       let i = declarators_in rest (declared d.place next scope) (next + 1) b.0 b.1 in
-      subst (AreIn (length (d ∷ rest)) next) (same_Some _ ds' b.2)
-      (omega (arith, i.0), (omega arith, each_slot_of (next + 1 + length rest) (next + length (d ∷ rest)) (omega arith) b.0 i.1))
+      subst (AreIn (length (d ∷ rest)) next) (same_Some _ ds' b.2) (
+        omega (arith, i.0),
+        (
+          omega arith,
+          each_slot_of (next + 1 + length rest)
+              (next + length (d ∷ rest)) (omega arith) b.0 i.1,
+        ),
+      )
 
   mutual
     unfolding resolved_stmt slots_of
 
-    pub statement_in : (x : Stmt Path) (scope : Scope) (next : ℕ) (x' : Stmt Target) → resolved_stmt unit x scope next ≡ Some x' → IsIn (slots_of x) next x'
+    pub statement_in : (x : Stmt Path) (scope : Scope) (next : ℕ) (x' : Stmt Target)
+        → resolved_stmt unit x scope next ≡ Some x' → IsIn (slots_of x) next x'
     statement_in Empty scope next x' h = subst (IsIn 0 next) (same_Some _ x' h) (refl, tt)
     statement_in (Evaluate e) scope next x' h =
         let a = bound (resolved_expr (at_scope unit scope) e) _ x' h in
@@ -95,8 +107,13 @@ module _ (unit : Description Path) where
         let i = statement_in first scope next b.0 b.1 in
         let j = statement_in otherwise scope (next + slots_of first) c.0 c.1 in
         let all = next + (slots_of first + slots_of otherwise) in
-        subst (IsIn (slots_of first + slots_of otherwise) next) (same_Some _ x' c.2)
-        (omega (arith, i.0, j.0), (has_slots (next + slots_of first) all (omega arith) b.0 i.1, has_slots (next + slots_of first + slots_of otherwise) all (omega arith) c.0 j.1))
+        subst (IsIn (slots_of first + slots_of otherwise) next) (same_Some _ x' c.2) (
+          omega (arith, i.0, j.0),
+          (
+            has_slots (next + slots_of first) all (omega arith) b.0 i.1,
+            has_slots (next + slots_of first + slots_of otherwise) all (omega arith) c.0 j.1,
+          ),
+        )
     statement_in (While condition body) scope next x' h =
         let a = bound (resolved_expr (at_scope unit scope) condition) _ x' h in
         let b = bound (resolved_stmt unit body scope next) _ x' a.2 in
@@ -123,24 +140,36 @@ module _ (unit : Description Path) where
     statement_in Continue scope next x' h = subst (IsIn 0 next) (same_Some _ x' h) (refl, tt)
     statement_in Return scope next x' h = subst (IsIn 0 next) (same_Some _ x' h) (refl, tt)
 
-    pub body_in : (b : Body Path) (scope : Scope) (next : ℕ) (b' : Body Target) → resolved_body unit b scope next ≡ Some b' → IsInBody (slots_in b) next b'
+    pub body_in : (b : Body Path) (scope : Scope) (next : ℕ) (b' : Body Target)
+        → resolved_body unit b scope next ≡ Some b' → IsInBody (slots_in b) next b'
     body_in Nil scope next b' h = subst (IsInBody 0 next) (same_Some _ b' h) (refl, tt)
     body_in (Cons (Declare ds) rest) scope next b' h =
         let a = bound (resolved_declarators unit scope next ds) _ b' h in
-        let c = bound (resolved_body unit rest (all_declared scope next ds) (next + length ds)) _ b' a.2 in
+        let c = bound (resolved_body unit rest (all_declared scope next ds) (next + length ds)) _ b'
+        a.2 in
         let i = declarators_in ds scope next a.0 a.1 in
         let j = body_in rest (all_declared scope next ds) (next + length ds) c.0 c.1 in
         let all = next + (length ds + slots_in rest) in
-        subst (IsInBody (length ds + slots_in rest) next) (same_Some _ b' c.2)
-        (omega (arith, i.0, j.0), (each_slot_of (next + length ds) all (omega arith) a.0 i.1, each_slot (next + length ds + slots_in rest) all (omega arith) c.0 j.1))
+        subst (IsInBody (length ds + slots_in rest) next) (same_Some _ b' c.2) (
+          omega (arith, i.0, j.0),
+          (
+            each_slot_of (next + length ds) all (omega arith) a.0 i.1,
+            each_slot (next + length ds + slots_in rest) all (omega arith) c.0 j.1,
+          ),
+        )
     body_in (Cons (Statement x) rest) scope next b' h =
         let a = bound (resolved_stmt unit x scope next) _ b' h in
         let c = bound (resolved_body unit rest scope (next + slots_of x)) _ b' a.2 in
         let i = statement_in x scope next a.0 a.1 in
         let j = body_in rest scope (next + slots_of x) c.0 c.1 in
         let all = next + (slots_of x + slots_in rest) in
-        subst (IsInBody (slots_of x + slots_in rest) next) (same_Some _ b' c.2)
-        (omega (arith, i.0, j.0), (has_slots (next + slots_of x) all (omega arith) a.0 i.1, each_slot (next + slots_of x + slots_in rest) all (omega arith) c.0 j.1))
+        subst (IsInBody (slots_of x + slots_in rest) next) (same_Some _ b' c.2) (
+          omega (arith, i.0, j.0),
+          (
+            has_slots (next + slots_of x) all (omega arith) a.0 i.1,
+            each_slot (next + slots_of x + slots_in rest) all (omega arith) c.0 j.1,
+          ),
+        )
     body_in (Cons (CaseLabel label) rest) scope next b' h =
         let a = bound (resolved_body unit rest scope next) _ b' h in
         let i = body_in rest scope next a.0 a.1 in

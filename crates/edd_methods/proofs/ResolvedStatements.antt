@@ -20,9 +20,11 @@ use Rattle.edd_methods.proofs.ResolvedSlots.{bound}
 
 -- each expression refers to what there is
 abbrev pub ReferToExisting : Context → List (Placed Target) → Type 0
-ReferToExisting context ps = AllByRecursion (λ p. is_expr (uses_existing context) any p.expression ≡ true) ps
+ReferToExisting context ps = AllByRecursion (λ p. is_expr (uses_existing context) any p.expression
+    ≡ true) ps
 
-module _ (unit : Description Path) (context : Context) (variables : count_of kind.Variable unit.items ≡ context.counts.variables) where
+module _ (unit : Description Path) (context : Context)
+    (variables : count_of kind.Variable unit.items ≡ context.counts.variables) where
   abbrev All : List (Placed Target) → Type 0
   All ps = ReferToExisting context ps
 
@@ -34,37 +36,58 @@ module _ (unit : Description Path) (context : Context) (variables : count_of kin
   abbrev Fits : Scope → (end : ℕ) → Type 0
   Fits scope end = IsBelow context.slots scope × (end ≤ context.slots)
 
-  part_at : (e : Expr Path) (scope : Scope) (e' : Expr Target) → IsBelow context.slots scope → is_expr is_path is_plain e ≡ true → resolved_expr (at_scope unit scope) e ≡ Some e' → All (part_of e')
-  part_at e scope e' below is h = (expr_good (at_scope unit scope) (uses_existing context) (meant_there unit context variables scope below) e e' is h, tt)
+  part_at : (e : Expr Path) (scope : Scope) (e' : Expr Target) → IsBelow context.slots scope
+      → is_expr is_path is_plain e ≡ true → resolved_expr (at_scope unit scope) e ≡ Some e'
+      → All (part_of e')
+  part_at e scope e' below is h = (
+    expr_good (at_scope unit scope) (uses_existing context)
+        (meant_there unit context variables scope below) e e' is h,
+    tt,
+  )
 
-  optional_at : (e : Option (Expr Path)) (scope : Scope) (e' : Option (Expr Target)) → IsBelow context.slots scope → if_some (is_expr is_path is_plain) e ≡ true
+  optional_at : (e : Option (Expr Path)) (scope : Scope) (e' : Option (Expr Target))
+      → IsBelow context.slots scope → if_some (is_expr is_path is_plain) e ≡ true
       → resolved_optional (at_scope unit scope) e ≡ Some e' → All (optional_part e')
-  optional_at None scope e' below is h = subst (λ (o : Option (Expr Target)). All (optional_part o)) (same_Some None e' h) tt
+  optional_at None scope e' below is h = subst (λ (o : Option (Expr Target)). All (optional_part o))
+      (same_Some None e' h) tt
   optional_at (Some e) scope e' below is h =
       let a = bound (resolved_expr (at_scope unit scope) e) _ e' h in
-      subst (λ (o : Option (Expr Target)). All (optional_part o)) (same_Some _ e' a.2) (part_at e scope a.0 below is a.1)
+      subst (λ (o : Option (Expr Target)). All (optional_part o)) (same_Some _ e' a.2)
+      (part_at e scope a.0 below is a.1)
 
-  below_declared : (place : Path) (next : ℕ) (scope : Scope) → Fits scope (next + 1) → IsBelow context.slots (declared place next scope)
-  below_declared place next scope fits = and_from _ _ (lt-ltb next context.slots (omega (arith, fits.1))) fits.0
+  below_declared : (place : Path) (next : ℕ) (scope : Scope) → Fits scope (next + 1)
+      → IsBelow context.slots (declared place next scope)
+  below_declared place next scope fits =
+      and_from _ _ (lt-ltb next context.slots (omega (arith, fits.1))) fits.0
 
-  below_all_declared : (ds : List (Declarator Path)) (scope : Scope) (next : ℕ) → Fits scope (next + length ds) → IsBelow context.slots (all_declared scope next ds)
+  below_all_declared : (ds : List (Declarator Path)) (scope : Scope) (next : ℕ)
+      → Fits scope (next + length ds) → IsBelow context.slots (all_declared scope next ds)
   below_all_declared [] scope next fits = fits.0
   below_all_declared (d ∷ rest) scope next fits =
-      below_all_declared rest (declared d.place next scope) (next + 1) (below_declared d.place next scope (fits.0, omega (arith, fits.1)), omega (arith, fits.1))
+      below_all_declared rest (declared d.place next scope) (next + 1)
+      (below_declared d.place next scope (fits.0, omega (arith, fits.1)), omega (arith, fits.1))
 
-  declarators_at : (ds : List (Declarator Path)) (scope : Scope) (next : ℕ) (ds' : List (Declarator Target)) → Fits scope (next + length ds) → list_all (is_declarator is_path is_plain) ds ≡ true
-      → resolved_declarators unit scope next ds ≡ Some ds' → All (flat_map (λ d. optional_part d.value) ds')
-  declarators_at [] scope next ds' fits is h = subst (λ (xs : List (Declarator Target)). All (flat_map (λ d. optional_part d.value) xs)) (same_Some [] ds' h) tt
+  declarators_at : (ds : List (Declarator Path)) (scope : Scope) (next : ℕ)
+      (ds' : List (Declarator Target)) → Fits scope (next + length ds)
+      → list_all (is_declarator is_path is_plain) ds ≡ true
+      → resolved_declarators unit scope next ds ≡ Some ds'
+      → All (flat_map (λ d. optional_part d.value) ds')
+  declarators_at [] scope next ds' fits is h =
+      subst (λ (xs : List (Declarator Target)). All (flat_map (λ d. optional_part d.value) xs))
+      (same_Some [] ds' h) tt
   declarators_at (d ∷ rest) scope next ds' fits is h =
       let below : Fits scope (next + 1) = (fits.0, omega (arith, fits.1)) in
       let end : next + 1 + length rest ≤ context.slots = omega (arith, fits.1) in
       let are = and_parts _ _ is in
       let one = and_parts _ _ are.0 in
       let a = bound (resolved_optional (at_scope unit scope) d.value) _ ds' h in
-      let b = bound (resolved_declarators unit (declared d.place next scope) (next + 1) rest) _ ds' a.2 in
-      subst (λ (xs : List (Declarator Target)). All (flat_map (λ d. optional_part d.value) xs)) (same_Some _ ds' b.2)
+      let b = bound (resolved_declarators unit (declared d.place next scope) (next + 1) rest) _ ds'
+      a.2 in
+      subst (λ (xs : List (Declarator Target)). All (flat_map (λ d. optional_part d.value) xs))
+      (same_Some _ ds' b.2)
       (joined (optional_part a.0) _ (optional_at d.value scope a.0 fits.0 one.1 a.1)
-      (declarators_at rest (declared d.place next scope) (next + 1) b.0 (below_declared d.place next scope below, end) are.1 b.1))
+      (declarators_at rest (declared d.place next scope) (next + 1) b.0
+      (below_declared d.place next scope below, end) are.1 b.1))
 
   abbrev InStatement : Stmt Target → Type 0
   InStatement x = All (stmt_expressions x)
@@ -75,7 +98,9 @@ module _ (unit : Description Path) (context : Context) (variables : count_of kin
   mutual
     unfolding resolved_stmt slots_of
 
-    pub statement_at : (x : Stmt Path) (scope : Scope) (next : ℕ) (x' : Stmt Target) → Fits scope (next + slots_of x) → is_stmt is_path is_plain x ≡ true → resolved_stmt unit x scope next ≡ Some x'
+    pub statement_at : (x : Stmt Path) (scope : Scope) (next : ℕ) (x' : Stmt Target)
+        → Fits scope (next + slots_of x) → is_stmt is_path is_plain x ≡ true
+        → resolved_stmt unit x scope next ≡ Some x'
         → InStatement x'
     statement_at Empty scope next x' fits is h = subst InStatement (same_Some _ x' h) tt
     statement_at (Evaluate e) scope next x' fits is h =
@@ -88,7 +113,9 @@ module _ (unit : Description Path) (context : Context) (variables : count_of kin
         let are = and_parts _ _ is in
         let a = bound (resolved_expr (at_scope unit scope) condition) _ x' h in
         let b = bound (resolved_stmt unit first scope next) _ x' a.2 in
-        subst InStatement (same_Some _ x' b.2) (joined (part_of a.0) _ (part_at condition scope a.0 fits.0 are.0 a.1) (statement_at first scope next b.0 fits are.1 b.1))
+        subst InStatement (same_Some _ x' b.2)
+        (joined (part_of a.0) _ (part_at condition scope a.0 fits.0 are.0 a.1)
+        (statement_at first scope next b.0 fits are.1 b.1))
     statement_at (IfElse condition first otherwise) scope next x' fits is h =
         let are = and_parts _ _ is in
         let front = and_parts _ _ are.0 in
@@ -97,18 +124,24 @@ module _ (unit : Description Path) (context : Context) (variables : count_of kin
         let c = bound (resolved_stmt unit otherwise scope (next + slots_of first)) _ x' b.2 in
         subst InStatement (same_Some _ x' c.2)
         (joined (part_of a.0) _ (part_at condition scope a.0 fits.0 front.0 a.1)
-        (joined (stmt_expressions b.0) _ (statement_at first scope next b.0 (fits.0, omega (arith, fits.1)) front.1 b.1)
-        (statement_at otherwise scope (next + slots_of first) c.0 (fits.0, omega (arith, fits.1)) are.1 c.1)))
+        (joined (stmt_expressions b.0) _
+        (statement_at first scope next b.0 (fits.0, omega (arith, fits.1)) front.1 b.1)
+        (statement_at otherwise scope (next + slots_of first) c.0 (fits.0, omega (arith, fits.1))
+        are.1 c.1)))
     statement_at (While condition body) scope next x' fits is h =
         let are = and_parts _ _ is in
         let a = bound (resolved_expr (at_scope unit scope) condition) _ x' h in
         let b = bound (resolved_stmt unit body scope next) _ x' a.2 in
-        subst InStatement (same_Some _ x' b.2) (joined (part_of a.0) _ (part_at condition scope a.0 fits.0 are.0 a.1) (statement_at body scope next b.0 fits are.1 b.1))
+        subst InStatement (same_Some _ x' b.2)
+        (joined (part_of a.0) _ (part_at condition scope a.0 fits.0 are.0 a.1)
+        (statement_at body scope next b.0 fits are.1 b.1))
     statement_at (Do body condition) scope next x' fits is h =
         let are = and_parts _ _ is in
         let a = bound (resolved_stmt unit body scope next) _ x' h in
         let b = bound (resolved_expr (at_scope unit scope) condition) _ x' a.2 in
-        subst InStatement (same_Some _ x' b.2) (joined (stmt_expressions a.0) _ (statement_at body scope next a.0 fits are.0 a.1) (part_at condition scope b.0 fits.0 are.1 b.1))
+        subst InStatement (same_Some _ x' b.2)
+        (joined (stmt_expressions a.0) _ (statement_at body scope next a.0 fits are.0 a.1)
+        (part_at condition scope b.0 fits.0 are.1 b.1))
     statement_at (For first condition update body) scope next x' fits is h =
         let three = and_parts _ _ is in
         let two = and_parts _ _ three.0 in
@@ -120,17 +153,21 @@ module _ (unit : Description Path) (context : Context) (variables : count_of kin
         subst InStatement (same_Some _ x' d.2)
         (joined (optional_part a.0) _ (optional_at first scope a.0 fits.0 one.0 a.1)
         (joined (optional_part b.0) _ (optional_at condition scope b.0 fits.0 one.1 b.1)
-        (joined (optional_part c.0) _ (optional_at update scope c.0 fits.0 two.1 c.1) (statement_at body scope next d.0 fits three.1 d.1))))
+        (joined (optional_part c.0) _ (optional_at update scope c.0 fits.0 two.1 c.1)
+        (statement_at body scope next d.0 fits three.1 d.1))))
     statement_at (Switch on body) scope next x' fits is h =
         let are = and_parts _ _ is in
         let a = bound (resolved_expr (at_scope unit scope) on) _ x' h in
         let b = bound (resolved_body unit body scope next) _ x' a.2 in
-        subst InStatement (same_Some _ x' b.2) (joined (part_of a.0) _ (part_at on scope a.0 fits.0 are.0 a.1) (body_at true body scope next b.0 fits are.1 b.1))
+        subst InStatement (same_Some _ x' b.2)
+        (joined (part_of a.0) _ (part_at on scope a.0 fits.0 are.0 a.1)
+        (body_at true body scope next b.0 fits are.1 b.1))
     statement_at Break scope next x' fits is h = subst InStatement (same_Some _ x' h) tt
     statement_at Continue scope next x' fits is h = subst InStatement (same_Some _ x' h) tt
     statement_at Return scope next x' fits is h = subst InStatement (same_Some _ x' h) tt
 
-    pub body_at : (labels : Bool) (b : Body Path) (scope : Scope) (next : ℕ) (b' : Body Target) → Fits scope (next + slots_in b) → is_body is_path is_plain labels b ≡ true
+    pub body_at : (labels : Bool) (b : Body Path) (scope : Scope) (next : ℕ) (b' : Body Target)
+        → Fits scope (next + slots_in b) → is_body is_path is_plain labels b ≡ true
         → resolved_body unit b scope next ≡ Some b' → InBody b'
     body_at labels Nil scope next b' fits is h = subst InBody (same_Some _ b' h) tt
     body_at labels (Cons (Declare ds) rest) scope next b' fits is h =
@@ -139,20 +176,27 @@ module _ (unit : Description Path) (context : Context) (variables : count_of kin
         let are = and_parts _ _ is in
         let front = and_parts _ _ are.0 in
         let a = bound (resolved_declarators unit scope next ds) _ b' h in
-        let c = bound (resolved_body unit rest (all_declared scope next ds) (next + length ds)) _ b' a.2 in
+        let c = bound (resolved_body unit rest (all_declared scope next ds) (next + length ds)) _ b'
+        a.2 in
         subst InBody (same_Some _ b' c.2)
-        (joined (flat_map (λ d. optional_part d.value) a.0) _ (declarators_at ds scope next a.0 here front.1 a.1)
-        (body_at labels rest (all_declared scope next ds) (next + length ds) c.0 (below_all_declared ds scope next here, end) are.1 c.1))
+        (joined (flat_map (λ d. optional_part d.value) a.0) _
+        (declarators_at ds scope next a.0 here front.1 a.1)
+        (body_at labels rest (all_declared scope next ds) (next + length ds) c.0
+        (below_all_declared ds scope next here, end) are.1 c.1))
     body_at labels (Cons (Statement x) rest) scope next b' fits is h =
         let are = and_parts _ _ is in
         let a = bound (resolved_stmt unit x scope next) _ b' h in
         let c = bound (resolved_body unit rest scope (next + slots_of x)) _ b' a.2 in
         subst InBody (same_Some _ b' c.2)
-        (joined (stmt_expressions a.0) _ (statement_at x scope next a.0 (fits.0, omega (arith, fits.1)) are.0 a.1)
-        (body_at labels rest scope (next + slots_of x) c.0 (fits.0, omega (arith, fits.1)) are.1 c.1))
+        (joined (stmt_expressions a.0) _
+        (statement_at x scope next a.0 (fits.0, omega (arith, fits.1)) are.0 a.1)
+        (body_at labels rest scope (next + slots_of x) c.0 (fits.0, omega (arith, fits.1)) are.1
+        c.1))
     body_at labels (Cons (CaseLabel label) rest) scope next b' fits is h =
         let a = bound (resolved_body unit rest scope next) _ b' h in
-        subst InBody (same_Some _ b' a.2) (body_at labels rest scope next a.0 fits (and_parts _ _ is).1 a.1)
+        subst InBody (same_Some _ b' a.2)
+        (body_at labels rest scope next a.0 fits (and_parts _ _ is).1 a.1)
     body_at labels (Cons DefaultLabel rest) scope next b' fits is h =
         let a = bound (resolved_body unit rest scope next) _ b' h in
-        subst InBody (same_Some _ b' a.2) (body_at labels rest scope next a.0 fits (and_parts _ _ is).1 a.1)
+        subst InBody (same_Some _ b' a.2)
+        (body_at labels rest scope next a.0 fits (and_parts _ _ is).1 a.1)

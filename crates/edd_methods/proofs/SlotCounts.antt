@@ -16,11 +16,16 @@ split (Statement s) xs = omega arith
 split (CaseLabel label) xs = omega arith
 split DefaultLabel xs = omega arith
 
-pub slots_next : {X : Type 0} (view : X → Part Target) (xs : List X) (i : ℕ) (x : X) → i < length xs → x ≡ get_or xs i x → slots (map view (drop i xs)) ≡ slots (view x ∷ []) + slots (map view (drop (i + 1) xs))
+pub slots_next : {X : Type 0} (view : X → Part Target) (xs : List X) (i : ℕ) (x : X) → i < length xs
+    → x ≡ get_or xs i x → slots (map view (drop i xs)) ≡ slots (view x ∷ [])
+    + slots (map view (drop (i + 1) xs))
 slots_next view xs i x h is =
-    ap (λ ys. slots (map view ys)) (drop_more xs i x h) ∙ ap (λ y. slots (view y ∷ map view (drop (i + 1) xs))) (sym is) ∙ split (view x) (map view (drop (i + 1) xs))
+    ap (λ ys. slots (map view ys)) (drop_more xs i x h)
+    ∙ ap (λ y. slots (view y ∷ map view (drop (i + 1) xs))) (sym is)
+    ∙ split (view x) (map view (drop (i + 1) xs))
 
-pub slots_end : {X : Type 0} (view : X → Part Target) (xs : List X) (i : ℕ) → length xs ≤ i → slots (map view (drop i xs)) ≡ 0
+pub slots_end : {X : Type 0} (view : X → Part Target) (xs : List X) (i : ℕ) → length xs ≤ i
+    → slots (map view (drop i xs)) ≡ 0
 unfolding slots_in
 slots_end view xs i h = ap (λ ys. slots (map view ys)) (drop_all i xs h)
 

@@ -9,9 +9,12 @@ use Rattle.edd_methods.specs.TreeExpressions.{is_abort_call, EachWritten, EachDe
 use Rattle.edd_methods.specs.CodeFlow.{FitsPart, Fits, FitArms}
 
 -- P: what gives R of the block of an effect, and V of the block of a value; a limit of slots
-module _ (given : Blocks) (limit : ℕ) (P : Expr Target → Type 0) (R V : blocks.Block → Type 0) (value : (e : Expr Target) → P e → V (given.value e))
-    (effect : (e : Expr Target) → (is_abort_call e ≡ false → P e) → R (given.effect e)) (nothing : R blocks.Nothing)
-    (declares : (ds : List (Declarator Target)) → EachSlotOf limit ds → EachDeclared P ds → R (declare_block given ds)) where
+module _ (given : Blocks) (limit : ℕ) (P : Expr Target → Type 0) (R V : blocks.Block → Type 0)
+    (value : (e : Expr Target) → P e → V (given.value e))
+    (effect : (e : Expr Target) → (is_abort_call e ≡ false → P e) → R (given.effect e))
+    (nothing : R blocks.Nothing)
+    (declares : (ds : List (Declarator Target)) → EachSlotOf limit ds → EachDeclared P ds
+    → R (declare_block given ds)) where
   first_fits : (e : Option (Expr Target)) → EachWritten P e → R (first_of given e)
   first_fits None ok = nothing
   first_fits (Some e) ok = effect e (λ _. ok)
@@ -31,11 +34,26 @@ module _ (given : Blocks) (limit : ℕ) (P : Expr Target → Type 0) (R V : bloc
     statement_fits Empty slots ok = nothing
     statement_fits (Evaluate e) slots ok = effect e ok
     statement_fits (Block body) slots ok = body_fits body slots ok
-    statement_fits (If condition first) slots ok = (value condition ok.0, statement_fits first slots ok.1, nothing)
-    statement_fits (IfElse condition first otherwise) slots ok = (value condition ok.0, statement_fits first slots.0 ok.1, statement_fits otherwise slots.1 ok.2)
-    statement_fits (While condition body) slots ok = (value condition ok.0, tt, statement_fits body slots ok.1)
-    statement_fits (Do body condition) slots ok = (tt, value condition ok.0, statement_fits body slots ok.1)
-    statement_fits (For first condition update body) slots ok = (first_fits first ok.0, (test_fits condition ok.1, last_fits update ok.2, statement_fits body slots ok.3))
+    statement_fits (If condition first) slots ok =
+        (value condition ok.0, statement_fits first slots ok.1, nothing)
+    statement_fits (IfElse condition first otherwise) slots ok = (
+      value condition ok.0,
+      statement_fits first slots.0 ok.1,
+      statement_fits otherwise slots.1
+          ok.2,
+    )
+    statement_fits (While condition body) slots ok =
+        (value condition ok.0, tt, statement_fits body slots ok.1)
+    statement_fits (Do body condition) slots ok =
+        (tt, value condition ok.0, statement_fits body slots ok.1)
+    statement_fits (For first condition update body) slots ok = (
+      first_fits first ok.0,
+      (
+        test_fits condition ok.1,
+        last_fits update ok.2,
+        statement_fits body slots ok.3,
+      ),
+    )
     statement_fits (Switch on body) slots ok = (value on ok.0, arms_fit body slots ok.1)
     statement_fits Break slots ok = tt
     statement_fits Continue slots ok = tt
@@ -43,14 +61,18 @@ module _ (given : Blocks) (limit : ℕ) (P : Expr Target → Type 0) (R V : bloc
 
     pub body_fits : (b : Body Target) → EachSlot limit b → EachIn P b → Fits R V (code_in given b)
     body_fits Nil slots ok = nothing
-    body_fits (Cons (Declare ds) rest) slots ok = (declares ds slots.0 ok.0, body_fits rest slots.1 ok.1)
-    body_fits (Cons (Statement x) rest) slots ok = (statement_fits x slots.0 ok.0, body_fits rest slots.1 ok.1)
+    body_fits (Cons (Declare ds) rest) slots ok =
+        (declares ds slots.0 ok.0, body_fits rest slots.1 ok.1)
+    body_fits (Cons (Statement x) rest) slots ok =
+        (statement_fits x slots.0 ok.0, body_fits rest slots.1 ok.1)
     body_fits (Cons (CaseLabel label) rest) slots ok = body_fits rest slots ok
     body_fits (Cons DefaultLabel rest) slots ok = body_fits rest slots ok
 
     arms_fit : (b : Body Target) → EachSlot limit b → EachIn P b → FitArms R V (arms_of given b)
     arms_fit Nil slots ok = tt
-    arms_fit (Cons (Declare ds) rest) slots ok = (declares ds slots.0 ok.0, arms_fit rest slots.1 ok.1)
-    arms_fit (Cons (Statement x) rest) slots ok = (statement_fits x slots.0 ok.0, arms_fit rest slots.1 ok.1)
+    arms_fit (Cons (Declare ds) rest) slots ok =
+        (declares ds slots.0 ok.0, arms_fit rest slots.1 ok.1)
+    arms_fit (Cons (Statement x) rest) slots ok =
+        (statement_fits x slots.0 ok.0, arms_fit rest slots.1 ok.1)
     arms_fit (Cons (CaseLabel label) rest) slots ok = arms_fit rest slots ok
     arms_fit (Cons DefaultLabel rest) slots ok = arms_fit rest slots ok

@@ -19,7 +19,8 @@ module _ (P : Expr Target → Type 0) where
   written_listed None all = tt
   written_listed (Some e) all = all.0 refl
 
-  declared_listed : (ds : List (Declarator Target)) → EachSlotOf (2 ^ 8) ds → All (flat_map (λ d. optional_part d.value) ds) → EachDeclared P ds
+  declared_listed : (ds : List (Declarator Target)) → EachSlotOf (2 ^ 8) ds
+      → All (flat_map (λ d. optional_part d.value) ds) → EachDeclared P ds
   declared_listed [] slots all = tt
   declared_listed (d ∷ rest) slots all =
       let two = parted (optional_part d.value) (flat_map (λ d. optional_part d.value) rest) all in
@@ -35,18 +36,27 @@ module _ (P : Expr Target → Type 0) where
         let two = parted (stmt_expressions first) (stmt_expressions otherwise) all.1 in
         (all.0 refl, each_listed first slots.0 two.0, each_listed otherwise slots.1 two.1)
     each_listed (While condition body) slots all = (all.0 refl, each_listed body slots all.1)
-    each_listed (Do body condition) slots all = let two = parted (stmt_expressions body) (part_of condition) all in (two.1.0 refl, each_listed body slots two.0)
+    each_listed (Do body condition) slots all = let two =
+        parted (stmt_expressions body) (part_of condition)
+        all in (two.1.0 refl, each_listed body slots two.0)
     each_listed (For first condition update body) slots all =
-        let one = parted (optional_part first) (optional_part condition ++ (optional_part update ++ stmt_expressions body)) all in
-        let two = parted (optional_part condition) (optional_part update ++ stmt_expressions body) one.1 in
-        let three = parted (optional_part update) (stmt_expressions body) two.1 in
-        (written_listed first one.0, written_listed condition two.0, written_listed update three.0, each_listed body slots three.1)
+        let one = parted (optional_part first) (optional_part condition
+        ++ (optional_part update ++ stmt_expressions body)) all in
+        let two = parted (optional_part condition) (optional_part update ++ stmt_expressions body)
+        one.1 in
+        let three = parted (optional_part update) (stmt_expressions body) two.1 in (
+          written_listed first one.0,
+          written_listed condition two.0,
+          written_listed update three.0,
+          each_listed body slots three.1,
+        )
     each_listed (Switch on body) slots all = (all.0 refl, each_in_listed body slots all.1)
     each_listed Break slots all = tt
     each_listed Continue slots all = tt
     each_listed Return slots all = tt
 
-    pub each_in_listed : (b : Body Target) → EachSlot (2 ^ 8) b → All (body_expressions b) → EachIn P b
+    pub each_in_listed : (b : Body Target) → EachSlot (2 ^ 8) b → All (body_expressions b)
+        → EachIn P b
     each_in_listed Nil slots all = tt
     each_in_listed (Cons (Declare ds) rest) slots all =
         let two = parted (flat_map (λ d. optional_part d.value) ds) (body_expressions rest) all in

@@ -32,29 +32,41 @@ use Rattle.edd_methods.proofs.ResolvedSlots.{each_slot}
 use Rattle.edd_methods.proofs.TreeFits.{body_fits}
 use Rattle.edd_methods.proofs.TreeParts.{each_in_listed}
 
-module _ (d : Description Target) (m : MethNo) (is : BodyFacts d m) (strings : List Words) (few : length strings ≤ 65536) (number : Words → StrNo)
-    (known : AllByRecursion (λ p. HasNumbers (string_of_table strings) number p.expression) (body_expressions (body_of d m))) (small : size (method_code number (body_of d m)) < 2 ^ 31) where
-  listed : (P : Expr Target → Type 0) → AllByRecursion (UnlessAbort P) (body_expressions (body_of d m)) → EachIn P (body_of d m)
-  listed P all =
-      let body = body_of d m in
-      each_in_listed P body (each_slot (slots_in body) (2 ^ 8) (omega (arith, is.few_slots)) body is.slots) all
+module _ (d : Description Target) (m : MethNo) (is : BodyFacts d m) (strings : List Words)
+    (few : length strings ≤ 65536) (number : Words → StrNo)
+    (known : AllByRecursion (λ p. HasNumbers (string_of_table strings) number p.expression)
+    (body_expressions (body_of d m))) (small : size (method_code number (body_of d m)) < 2 ^ 31)
+  where
+    listed : (P : Expr Target → Type 0)
+        → AllByRecursion (UnlessAbort P) (body_expressions (body_of d m)) → EachIn P (body_of d m)
+    listed P all =
+        let body = body_of d m in
+        each_in_listed P body (each_slot (slots_in body) (2 ^ 8) (omega (arith, is.few_slots)) body
+        is.slots) all
 
-  pub code_is_valid : IsValidUnit (method_context d strings (slots_in (body_of d m))) (unit_code (method_code number (body_of d m)))
-  code_is_valid =
-      let body = body_of d m in
-      let context = method_context d strings (slots_in body) in
-      let code = method_code number body in
-      let R = RestsThere context number in
-      let V = GivesThere context number in
-      let there = all_there context number (body_expressions body) is.fit is.low (expressions_stand d m is strings few number known) in
-      let fit : Fits R V code =
-      body_fits (blocks_by (method_block number)) (slots_in body) (IsThere context number) R V (λ e h. h) (effect_there context number) (declares_there context number [] tt tt)
-      (declares_there context number) body is.slots (listed (IsThere context number) there) in
-      let fits = fits_weaker R V Rests Gives (λ b h. h.0) (λ b h. h.0) code fit in
-      let named : Passes (names_exist context) code =
-      fits_weaker R V (λ b. all_straight (names_exist context) b ≡ true) (λ b. all_straight (names_exist context) b ≡ true) (λ b h. h.1) (λ b h. h.1) code fit in
-      let spelled = values_spelled (method_block number) body (listed (IsSpelled (method_block number)) (has_blocks d m is strings few number known).spelled) in
-      unit_is_valid code small context refl refl spelled fits named
+    pub code_is_valid : IsValidUnit (method_context d strings (slots_in (body_of d m)))
+        (unit_code (method_code number (body_of d m)))
+    code_is_valid =
+        let body = body_of d m in
+        let context = method_context d strings (slots_in body) in
+        let code = method_code number body in
+        let R = RestsThere context number in
+        let V = GivesThere context number in
+        let there = all_there context number (body_expressions body) is.fit is.low
+        (expressions_stand d m is strings few number known) in
+        let fit : Fits R V code =
+        body_fits (blocks_by (method_block number)) (slots_in body) (IsThere context number) R V
+        (λ e h. h) (effect_there context number) (declares_there context number [] tt tt)
+        (declares_there context number) body is.slots (listed (IsThere context number) there) in
+        let fits = fits_weaker R V Rests Gives (λ b h. h.0) (λ b h. h.0) code fit in
+        let named : Passes (names_exist context) code =
+        fits_weaker R V (λ b. all_straight (names_exist context) b ≡ true)
+        (λ b. all_straight (names_exist context) b ≡ true) (λ b h. h.1) (λ b h. h.1) code fit in
+        let spelled = values_spelled (method_block number) body
+        (listed (IsSpelled (method_block number))
+        (has_blocks d m is strings few number known).spelled) in
+        unit_is_valid code small context refl refl spelled fits named
 
-  pub is_the_methods_code : IsMethodCode d strings m (slots_in (body_of d m)) (unit_code (method_code number (body_of d m)))
-  is_the_methods_code = has_method_code d m is strings few number known small code_is_valid
+    pub is_the_methods_code : IsMethodCode d strings m (slots_in (body_of d m))
+        (unit_code (method_code number (body_of d m)))
+    is_the_methods_code = has_method_code d m is strings few number known small code_is_valid

@@ -28,19 +28,22 @@ module _ (number : Words → StrNo) where
   abort_alone = refl
 
   -- int i; i; and the value is dropped
-  declared_and_dropped : bytes (Cons (Declare (record { place = Local 0; value = None } ∷ [])) (alone (Evaluate (Reference (Local 0)))))
+  declared_and_dropped : bytes (Cons (Declare (record { place = Local 0; value = None } ∷ []))
+      (alone (Evaluate (Reference (Local 0)))))
       ≡ 0x01 ∷ 0 ∷ 0 ∷ 0 ∷ 0 ∷ 0x05 ∷ 0 ∷ 0 ∷ 0x06 ∷ 0x04 ∷ 0 ∷ 0 ∷ 0x06 ∷ 0x00 ∷ []
   unfolding code_of emitted blocks.emitted bytes_of method_block call_block
   declared_and_dropped = refl
 
   -- while (1) { }
   forever : bytes (alone (While (Literal 1) Empty))
-      ≡ 0x30 ∷ 0 ∷ 0 ∷ 0 ∷ 10 ∷ 0x30 ∷ 0 ∷ 0 ∷ 0 ∷ 25 ∷ 0x01 ∷ 0 ∷ 0 ∷ 0 ∷ 1 ∷ 0x31 ∷ 0 ∷ 0 ∷ 0 ∷ 5 ∷ 0x30 ∷ 0 ∷ 0 ∷ 0 ∷ 10 ∷ 0x00 ∷ []
+      ≡ 0x30 ∷ 0 ∷ 0 ∷ 0 ∷ 10 ∷ 0x30 ∷ 0 ∷ 0 ∷ 0 ∷ 25 ∷ 0x01 ∷ 0 ∷ 0 ∷ 0 ∷ 1 ∷ 0x31 ∷ 0 ∷ 0 ∷ 0 ∷ 5
+      ∷ 0x30 ∷ 0 ∷ 0 ∷ 0 ∷ 10 ∷ 0x00 ∷ []
   unfolding code_of emitted blocks.emitted bytes_of method_block call_block
   forever = refl
 
   -- for (;;) break;
   left_at_once : bytes (alone (For None None None Break))
-      ≡ 0x30 ∷ 0 ∷ 0 ∷ 0 ∷ 10 ∷ 0x30 ∷ 0 ∷ 0 ∷ 0 ∷ 20 ∷ 0x30 ∷ 0 ∷ 0 ∷ 0 ∷ 5 ∷ 0x30 ∷ 0 ∷ 0 ∷ 0 ∷ 10 ∷ 0x00 ∷ []
+      ≡ 0x30 ∷ 0 ∷ 0 ∷ 0 ∷ 10 ∷ 0x30 ∷ 0 ∷ 0 ∷ 0 ∷ 20 ∷ 0x30 ∷ 0 ∷ 0 ∷ 0 ∷ 5 ∷ 0x30 ∷ 0 ∷ 0 ∷ 0 ∷ 10
+      ∷ 0x00 ∷ []
   unfolding code_of emitted blocks.emitted bytes_of method_block call_block
   left_at_once = refl

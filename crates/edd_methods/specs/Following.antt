@@ -1,4 +1,5 @@
--- From a place the machine goes on to what an outcome says: to the end of the code, out of a loop, back in it, or to a stop.
+-- From a place the machine goes on to what an outcome says: to the end of the code, out of a loop,
+-- back in it, or to a stop.
 use Rattle.std.specs.Prelude.{◌≡◌, ℕ, suc, ◌≤◌, ℤ, List, [], Option}
 use Rattle.edd_syntax.specs.declared.numbers.StrNo.{StrNo}
 use Rattle.edd_syntax.specs.Words.{Words}
@@ -17,7 +18,8 @@ pub record Exits : Type 0 where
   -- the target of `continue`
   pub back : ℕ
 
--- how many steps a run takes at least, with k behind the outcome: one more where it jumped back, and n where it is over
+-- how many steps a run takes at least, with k behind the outcome: one more where it jumped back,
+-- and n where it is over
 abbrev pub least : (n k : ℕ) → Outcome Completion → ℕ
 least n k (Done Normal s) = k
 least n k (Done Breaks s) = k
@@ -39,12 +41,16 @@ module _ (text : StrNo → Option Words) (env : Environment) (code : List ℕ) w
   reached k to (Done Returns s) = told (transcript Ended s)
   reached k to (Stopped why s) = stopped why s
 
-  -- From a place with these operands the run comes to the outcome, whatever number of steps is behind it.
-  pub record Does (n place : ℕ) (operands : List ℤ) (to : Exits) (s : State) (o : Outcome Completion) : Type 0 where
+  -- From a place with these operands the run comes to the outcome, whatever number of steps is
+  -- behind it.
+  pub record Does (n place : ℕ) (operands : List ℤ) (to : Exits) (s : State)
+      (o : Outcome Completion) : Type 0 where
     pub answers : StayTaken env o
-    pub comes : (k : ℕ) → (m : ℕ) × (least n k o ≤ m) × (report text env code m place operands s ≡ reached k to o)
+    pub comes : (k : ℕ) → (m : ℕ) × (least n k o ≤ m)
+        × (report text env code m place operands s ≡ reached k to o)
 
-  -- From every state, whatever its slots, and for each number of turns there is one of steps, no lower, in which the unit reports what
-  -- f comes to where each entry of a loop has so many turns.
+  -- From every state, whatever its slots, and for each number of turns there is one of steps, no
+  -- lower, in which the unit reports what f comes to where each entry of a loop has so many turns.
   abbrev pub Follows : (f : ℕ → Action Completion) → Type 0
-  Follows f = (s : State) → CanBeTaken env s.answers → (n : ℕ) → (k : ℕ) × (n ≤ k) × (report text env code k 0 [] s ≡ told (ended (f n s)))
+  Follows f = (s : State) → CanBeTaken env s.answers → (n : ℕ)
+      → (k : ℕ) × (n ≤ k) × (report text env code k 0 [] s ≡ told (ended (f n s)))

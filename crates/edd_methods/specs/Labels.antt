@@ -26,8 +26,10 @@ abbrev pub or_else : Option ℕ → Option ℕ → Option ℕ
 or_else (Some place) other = Some place
 or_else None other = other
 
--- the statements of a switch are written behind the code, and its labels are noted behind the others
-pub record NotesArms (before : List ℕ) (old : Labels) (out back : ℕ) (arms : Arms) (after : List ℕ) (new : Labels) : Type 0 where
+-- the statements of a switch are written behind the code, and its labels are noted behind the
+-- others
+pub record NotesArms (before : List ℕ) (old : Labels) (out back : ℕ) (arms : Arms) (after : List ℕ)
+    (new : Labels) : Type 0 where
   pub code : after ≡ before ++ arms_bytes (length before) out back arms
   pub cases : new.cases.items ≡ old.cases.items ++ cases_at (length before) arms
   pub default : new.default ≡ or_else old.default (default_at (length before) arms)

@@ -24,9 +24,12 @@ found_body (Some attributes) = body_in attributes
 abbrev pub strings_of_method : Description Target → MethNo → List Words
 strings_of_method unit m = strings_of_texts (body_texts (body_of unit m))
 
--- The table grew by the body's strings alone and holds them, and the code is the body's with an end behind it, whose statements jump
--- to no place outside; strings have their numbers in the new table and in any that begins with it.
-pub record LowersBody (old : List Words) (body : Body Target) (new : List Words) (code : List ℕ) : Type 0 where
+-- The table grew by the body's strings alone and holds them, and the code is the body's with an end
+-- behind it, whose statements jump to no place outside; strings have their numbers in the new table
+-- and in any that begins with it.
+pub record LowersBody (old : List Words) (body : Body Target) (new : List Words)
+    (code : List ℕ) : Type 0 where
   pub table : GrowsBy old (strings_of_texts (body_texts body)) new
   pub holds : (w : Words) → Contains (strings_of_texts (body_texts body)) w → Contains new w
-  pub written : AreDifferent old → (later : List Words) → code ≡ bytes_at 0 0 0 (method_code (number_in (new ++ later)) body) ++ spelling End
+  pub written : AreDifferent old → (later : List Words)
+      → code ≡ bytes_at 0 0 0 (method_code (number_in (new ++ later)) body) ++ spelling End

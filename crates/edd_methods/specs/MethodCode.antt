@@ -19,9 +19,11 @@ module _ (number : Words → StrNo) where
   abbrev pub method_code : Body Target → Code
   method_code body = body_code (method_block number) body
 
-  -- Each call has the arguments that its function takes, and an abort is a whole statement; the texts have the numbers of strings; the
-  -- operands of instructions are in their ranges.
+  -- Each call has the arguments that its function takes, and an abort is a whole statement; the
+  -- texts have the numbers of strings; the operands of instructions are in their ranges.
   pub record HasBlocks (text : StrNo → Option Words) (body : Body Target) : Type 0 where
-    pub fit : AllByRecursion (λ p. call_mismatches p.is_statement p.expression ≡ []) (body_expressions body)
+    pub fit : AllByRecursion (λ p. call_mismatches p.is_statement p.expression ≡ [])
+        (body_expressions body)
     pub known : AllByRecursion (λ p. HasNumbers text number p.expression) (body_expressions body)
-    pub spelled : AllByRecursion (UnlessAbort (λ e. AreSpelled (method_block number e))) (body_expressions body)
+    pub spelled : AllByRecursion (UnlessAbort (λ e. AreSpelled (method_block number e)))
+        (body_expressions body)

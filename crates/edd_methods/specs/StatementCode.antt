@@ -24,7 +24,8 @@ module _ (block_of : Expr Target → Block) where
   abbrev pub popped : Expr Target → Block
   popped e = Then (block_of e) (Straight instruction.Pop)
 
-  -- An expression as a statement leaves no value. Nothing stands behind an abort, which doesn't go on.
+  -- An expression as a statement leaves no value. Nothing stands behind an abort, which doesn't go
+  -- on.
   abbrev pub alone_block : Expr Target → Block
   alone_block e = elim (is_abort_call e) [ true ↦ Straight instruction.Abort | false ↦ popped e ]
 
@@ -49,5 +50,7 @@ module _ (block_of : Expr Target → Block) where
   IsShort e = size (block_of e) ≤ 32 * nodes e
 
   -- from every state, the block of the expression leaves its value, or stops as it does
-  abbrev pub Means : (StrNo → Option Words) → Environment → source.Environment → Expr Target → Type 0
-  Means text machine env e = (s : State) → does text machine (block_of e) [] s ≡ pushed [] (evaluate env e s)
+  abbrev pub Means : (StrNo → Option Words) → Environment → source.Environment → Expr Target
+      → Type 0
+  Means text machine env e = (s : State) → does text machine (block_of e) [] s
+      ≡ pushed [] (evaluate env e s)

@@ -63,9 +63,11 @@ abbrev pub Same : {A : Type 0} → Action A → Action A → Type 0
 Same f g = (s : State) → f s ≡ g s
 
 -- at most n turns of a loop
-unfoldable pub loop_turns : ℕ → (front : Action ℤ) → (body : Action Completion) → (back : Action ℤ) → Action Completion
+unfoldable pub loop_turns : ℕ → (front : Action ℤ) → (body : Action Completion) → (back : Action ℤ)
+    → Action Completion
 loop_turns zero front body back = stop source.OutOfTurns
-loop_turns (suc n) front body back = front >>= unless_zero (body >>= next_turn (back >>= unless_zero (loop_turns n front body back)))
+loop_turns (suc n) front body back = front
+    >>= unless_zero (body >>= next_turn (back >>= unless_zero (loop_turns n front body back)))
 
 module _ (text : StrNo → Option Words) (env : Environment) where
   -- the value of a block that leaves one operand
@@ -87,9 +89,12 @@ module _ (text : StrNo → Option Words) (env : Environment) where
     pub performs : Code → ℕ → Action Completion
     performs (Plain b) n = step_of b >> pure Normal
     performs (Then first second) n = performs first n >>= next (performs second n)
-    performs (Branch test first otherwise) n = value_of test >>= (λ a. elim (is_zero a) [ true ↦ performs otherwise n | false ↦ performs first n ])
-    performs (Loop front back body) n = loop_turns n (part_of front) (performs body n) (part_of back)
-    performs (Switch on arms) n = value_of on >>= (λ a. performs_case a arms n (performs_default arms n) >>= left)
+    performs (Branch test first otherwise) n = value_of test
+        >>= (λ a. elim (is_zero a) [ true ↦ performs otherwise n | false ↦ performs first n ])
+    performs (Loop front back body) n = loop_turns n (part_of front) (performs body n)
+        (part_of back)
+    performs (Switch on arms) n = value_of on
+        >>= (λ a. performs_case a arms n (performs_default arms n) >>= left)
     performs Break n = pure Breaks
     performs Continue n = pure Continues
     performs Finish n = pure Returns
@@ -105,7 +110,11 @@ module _ (text : StrNo → Option Words) (env : Environment) where
     pub performs_case : ℤ → Arms → ℕ → (otherwise : Action Completion) → Action Completion
     performs_case value Nil n otherwise = otherwise
     performs_case value (Statement first rest) n otherwise = performs_case value rest n otherwise
-    performs_case value (Case label rest) n otherwise = elim (int_eq value label) [ true ↦ performs_all rest n | false ↦ performs_case value rest n otherwise ]
+    performs_case value (Case label rest) n otherwise =
+        elim (int_eq value label) [
+          | true ↦ performs_all rest n
+          | false ↦ performs_case value rest n otherwise
+        ]
     performs_case value (Default rest) n otherwise = performs_case value rest n otherwise
 
     -- from the default

@@ -98,15 +98,18 @@ default_place p out (Statement first rest) = default_place (p + size first) out 
 default_place p out (Case label rest) = default_place p out rest
 default_place p out (Default rest) = p
 
--- The instructions at a place, where `break` jumps to `out` and `continue` to `back`. Inside a loop and a switch these are places that are
--- already behind:
---   Loop: jump to entry; out: jump to end; back: the back; entry: the front; the body; jump to back; end:
---   Switch: on; jump to tests; out: jump to end; the statements; jump to out; tests: a case for each label; pop; jump to the default, or to
+-- The instructions at a place, where `break` jumps to `out` and `continue` to `back`. Inside a loop
+-- and a switch these are places that are already behind:
+-- Loop: jump to entry; out: jump to end; back: the back; entry: the front; the body; jump to back;
+-- end:
+-- Switch: on; jump to tests; out: jump to end; the statements; jump to out; tests: a case for each
+-- label; pop; jump to the default, or to
 --   out; end:
 unfoldable mutual
   pub emitted : (place out back : ℕ) → Code → List Instruction
   emitted p out back (Plain b) = blocks.emitted p b
-  emitted p out back (Then first second) = emitted p out back first ++ emitted (p + size first) out back second
+  emitted p out back (Then first second) = emitted p out back first ++ emitted (p + size first) out
+      back second
   emitted p out back (Branch test first otherwise) =
       let a = blocks.size test in
       blocks.emitted p test
@@ -139,7 +142,8 @@ unfoldable mutual
 
   pub arms_emitted : (place out back : ℕ) → Arms → List Instruction
   arms_emitted p out back Nil = []
-  arms_emitted p out back (Statement first rest) = emitted p out back first ++ arms_emitted (p + size first) out back rest
+  arms_emitted p out back (Statement first rest) = emitted p out back first
+      ++ arms_emitted (p + size first) out back rest
   arms_emitted p out back (Case label rest) = arms_emitted p out back rest
   arms_emitted p out back (Default rest) = arms_emitted p out back rest
 
@@ -164,8 +168,10 @@ abbrev mutual
   pub IsSpelledCode : Code → Type 0
   IsSpelledCode (Plain b) = AreSpelled b
   IsSpelledCode (Then first second) = IsSpelledCode first × IsSpelledCode second
-  IsSpelledCode (Branch test first otherwise) = AreSpelled test × IsSpelledCode first × IsSpelledCode otherwise
-  IsSpelledCode (Loop front back body) = IsSpelledPart front × IsSpelledPart back × IsSpelledCode body
+  IsSpelledCode (Branch test first otherwise) = AreSpelled test × IsSpelledCode first
+      × IsSpelledCode otherwise
+  IsSpelledCode (Loop front back body) = IsSpelledPart front × IsSpelledPart back
+      × IsSpelledCode body
   IsSpelledCode (Switch on arms) = AreSpelled on × AreSpelledArms arms
   IsSpelledCode Break = Unit {0}
   IsSpelledCode Continue = Unit {0}

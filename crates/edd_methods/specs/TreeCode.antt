@@ -25,7 +25,9 @@ module _ (given : Blocks) where
   -- each declarator sets its slot
   abbrev pub declare_block : List (Declarator Target) → Block
   declare_block [] = blocks.Nothing
-  declare_block (d ∷ rest) = blocks.Then (initial_block d.value) (blocks.Then (store_block d.place) (blocks.Then (blocks.Straight instruction.Pop) (declare_block rest)))
+  declare_block (d ∷ rest) = blocks.Then (initial_block d.value)
+      (blocks.Then (store_block d.place)
+      (blocks.Then (blocks.Straight instruction.Pop) (declare_block rest)))
 
   -- parts of `for` that may be missing
   abbrev pub first_of : Option (Expr Target) → Block
@@ -48,11 +50,14 @@ module _ (given : Blocks) where
     code_of tree.Empty = Plain blocks.Nothing
     code_of (tree.Evaluate e) = Plain (given.effect e)
     code_of (tree.Block body) = code_in body
-    code_of (tree.If condition first) = Branch (given.value condition) (code_of first) (Plain blocks.Nothing)
-    code_of (tree.IfElse condition first otherwise) = Branch (given.value condition) (code_of first) (code_of otherwise)
+    code_of (tree.If condition first) = Branch (given.value condition) (code_of first)
+        (Plain blocks.Nothing)
+    code_of (tree.IfElse condition first otherwise) = Branch (given.value condition) (code_of first)
+        (code_of otherwise)
     code_of (tree.While condition body) = Loop (Test (given.value condition)) Missing (code_of body)
     code_of (tree.Do body condition) = Loop Missing (Test (given.value condition)) (code_of body)
-    code_of (tree.For initial condition update body) = Then (Plain (first_of initial)) (Loop (test_of condition) (last_of update) (code_of body))
+    code_of (tree.For initial condition update body) =
+        Then (Plain (first_of initial)) (Loop (test_of condition) (last_of update) (code_of body))
     code_of (tree.Switch on body) = Switch (given.value on) (arms_of body)
     code_of tree.Break = Break
     code_of tree.Continue = Continue
@@ -60,14 +65,16 @@ module _ (given : Blocks) where
 
     pub code_in : Body Target → Code
     code_in tree.Nil = Plain blocks.Nothing
-    code_in (tree.Cons (tree.Declare declarators) rest) = Then (Plain (declare_block declarators)) (code_in rest)
+    code_in (tree.Cons (tree.Declare declarators) rest) = Then (Plain (declare_block declarators))
+        (code_in rest)
     code_in (tree.Cons (tree.Statement s) rest) = Then (code_of s) (code_in rest)
     code_in (tree.Cons (tree.CaseLabel label) rest) = code_in rest
     code_in (tree.Cons tree.DefaultLabel rest) = code_in rest
 
     pub arms_of : Body Target → Arms
     arms_of tree.Nil = Nil
-    arms_of (tree.Cons (tree.Declare declarators) rest) = Statement (Plain (declare_block declarators)) (arms_of rest)
+    arms_of (tree.Cons (tree.Declare declarators) rest) =
+        Statement (Plain (declare_block declarators)) (arms_of rest)
     arms_of (tree.Cons (tree.Statement s) rest) = Statement (code_of s) (arms_of rest)
     arms_of (tree.Cons (tree.CaseLabel label) rest) = Case (wrap 32 label) (arms_of rest)
     arms_of (tree.Cons tree.DefaultLabel rest) = Default (arms_of rest)

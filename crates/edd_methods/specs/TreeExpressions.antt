@@ -22,7 +22,8 @@ IsSlotBelow limit (Function f) = ⊥
 abbrev pub IsSlot : Target → Type 0
 IsSlot t = IsSlotBelow (2 ^ 8) t
 
--- P holds of each expression that is evaluated for its value, and of each whole statement but an abort
+-- P holds of each expression that is evaluated for its value, and of each whole statement but an
+-- abort
 module _ (P : Expr Target → Type 0) where
   -- it holds of an expression that may be missing
   abbrev pub EachWritten : Option (Expr Target) → Type 0
@@ -44,7 +45,8 @@ module _ (P : Expr Target → Type 0) where
     Each (IfElse condition first otherwise) = P condition × Each first × Each otherwise
     Each (While condition body) = P condition × Each body
     Each (Do body condition) = P condition × Each body
-    Each (For initial condition update body) = EachWritten initial × EachWritten condition × EachWritten update × Each body
+    Each (For initial condition update body) = EachWritten initial × EachWritten condition
+        × EachWritten update × Each body
     Each (Switch on body) = P on × EachIn body
     Each Break = Unit {0}
     Each Continue = Unit {0}

@@ -44,25 +44,30 @@ declared_texts ds = placed_texts (flat_map (λ d. optional_part d.value) ds)
 
 -- ---- what a part of the code comes to
 
--- The table grew by the strings of these texts alone and holds them, and `is` says what the code is, by the numbers of strings in the
--- new table and in any that begins with it.
-pub record Numbered (old : List Words) (texts : List source.Text) (is : (Words → StrNo) → Type 0) (new : List Words) : Type 0 where
+-- The table grew by the strings of these texts alone and holds them, and `is` says what the code
+-- is, by the numbers of strings in the new table and in any that begins with it.
+pub record Numbered (old : List Words) (texts : List source.Text) (is : (Words → StrNo) → Type 0)
+    (new : List Words) : Type 0 where
   pub table : GrowsBy old (strings_of_texts texts) new
   pub holds : (w : Words) → Contains (strings_of_texts texts) w → Contains new w
   pub written : (later : List Words) → is (number_in (new ++ later))
 
 -- it is written; or the table grew, and there are too many strings where the fault says so
-abbrev pub Lowers : {A : Type 0} → Result A LowerFault → (old : List Words) → (texts : List source.Text) → (is : (Words → StrNo) → Type 0) → (new : List Words) → Type 0
+abbrev pub Lowers : {A : Type 0} → Result A LowerFault → (old : List Words)
+    → (texts : List source.Text) → (is : (Words → StrNo) → Type 0) → (new : List Words) → Type 0
 Lowers (Ok x) old texts is new = Numbered old texts is new
-Lowers (Err why) old texts is new = Grows old new × (why ≡ TooMany → Overflows old (strings_of_texts texts))
+Lowers (Err why) old texts is new = Grows old new
+    × (why ≡ TooMany → Overflows old (strings_of_texts texts))
 
 -- an instruction is written, or memory was refused
-abbrev pub EndsBy : {A : Type 0} → Result A LowerFault → (before : List ℕ) → Instruction → (after : List ℕ) → Type 0
+abbrev pub EndsBy : {A : Type 0} → Result A LowerFault → (before : List ℕ) → Instruction
+    → (after : List ℕ) → Type 0
 EndsBy (Ok x) before i after = after ≡ before ++ spelling i
 EndsBy (Err why) before i after = why ≡ Memory
 
 -- so is a jump to a place
-abbrev pub JumpsTo : {A : Type 0} → Result A LowerFault → (before : List ℕ) → (to : ℕ) → (after : List ℕ) → Type 0
+abbrev pub JumpsTo : {A : Type 0} → Result A LowerFault → (before : List ℕ) → (to : ℕ)
+    → (after : List ℕ) → Type 0
 JumpsTo r before to after = EndsBy r before (instruction.Jump (target to)) after
 
 -- the bytes of a part of a loop at a place

@@ -1,7 +1,7 @@
 //! The labels of a switch, with the places that they lead to, and the tests of cases.
 
 ghost use Rattle.std.specs.Prelude.{◌≡◌, [], ◌++◌, None, OnOk};
-ghost use Rattle.edd_syntax.specs.TreeView.{part_of};
+ghost use Rattle.edd_syntax.specs.TreeView.{numbered_part};
 ghost use Rattle.edd_methods.specs.Labels.{case_noted, default_noted, or_else};
 ghost use Rattle.edd_methods.specs.Writing.{default_or, test_of, tests_of};
 
@@ -34,8 +34,11 @@ impl Labels {
 
 /// Notes a label, which leads to a place. Other parts are none.
 pub fn note(labels: &mut Labels, part: &Part<Target>, place: u32) -> Result<(), AllocError>
-    ensures cases { OnOk result (labels.new.cases.items ≡ labels.old.cases.items ++ case_noted place (part_of (λ r. r) part.now)) }
-    ensures default { OnOk result (labels.new.default ≡ or_else labels.old.default (default_noted place (part_of (λ r. r) part.now))) }
+    ensures cases { OnOk result (labels.new.cases.items ≡ labels.old.cases.items
+        ++ case_noted place (numbered_part part.now)) }
+    ensures default { OnOk result
+        (labels.new.default ≡ or_else labels.old.default
+        (default_noted place (numbered_part part.now))) }
 {
     match part {
         Part::CaseLabel { label, .. } => {

@@ -44,7 +44,8 @@ ghost use Rattle.edd_methods.specs.TreeExpressions.{Each, EachIn, EachSlot, Unle
 
 /// Valid answers can be taken.
 pub fn valid_answers_can_be_taken()
-    ensures { (env : Environment) (answers : List Answer) → AllByRecursion (IsValidAnswer env.types) answers → CanBeTaken env answers }
+    ensures { (env : Environment) (answers : List Answer)
+        → AllByRecursion (IsValidAnswer env.types) answers → CanBeTaken env answers }
 {}
 
 /// Code has as many bytes as its size says, wherever it stands.
@@ -52,62 +53,87 @@ pub fn code_sizes_are_lengths()
     ensures { (place out back : ℕ) (c : Code) → length (bytes_at place out back c) ≡ size c }
 {}
 
-/// The turns of the one layout of loops are those of the source, whether the test comes first or last.
+/// The turns of the one layout of loops are those of the source, whether the test comes first or
+/// last.
 pub fn loops_are_turns()
     ensures first { (n : ℕ) (front test back last : Action ℤ) (body turn : Action Completion)
-        → Same front test → Same body turn → Same back (always last) → Same (loop_turns n front body back) (turns n test turn last) }
-    ensures last { (n : ℕ) (back test : Action ℤ) (body turn : Action Completion) → Same body turn → Same back test
+        → Same front test → Same body turn → Same back (always last)
+        → Same (loop_turns n front body back) (turns n test turn last) }
+    ensures last { (n : ℕ) (back test : Action ℤ) (body turn : Action Completion) → Same body turn
+        → Same back test
         → Same (loop_turns n (pure (pos 1)) body back) (turns_of_do n turn test) }
 {}
 
-/// Wherever the bytes of whole code stand in a method, the machine goes on from their first as the code performs: to the place behind
-/// them, to the end of the loop, to its next turn, or to the end or the stop of the method.
+/// Wherever the bytes of whole code stand in a method, the machine goes on from their first as the
+/// code performs: to the place behind them, to the end of the loop, to its next turn, or to the end
+/// or the stop of the method.
 pub fn code_does_what_it_performs()
-    ensures { (text : StrNo → Option Words) (env : Environment) (before after : List ℕ) (c : Code) (out back n : ℕ) (s : source.State)
-        → IsSpelledCode c → length before + size c < 2 ^ 32 → out < 2 ^ 32 → back < 2 ^ 32 → IsWhole text env c → CanBeTaken env s.answers
-        → Does text env (before ++ (bytes_at (length before) out back c ++ after)) n (length before) []
-        (record { end = length before + size c; out = out; back = back }) s (performs text env c n s) }
+    ensures { (text : StrNo → Option Words) (env : Environment) (before after : List ℕ) (c : Code)
+        (out back n : ℕ) (s : source.State)
+        → IsSpelledCode c → length before + size c < 2 ^ 32 → out < 2 ^ 32 → back < 2 ^ 32
+        → IsWhole text env c → CanBeTaken env s.answers
+        → Does text env (before ++ (bytes_at (length before) out back c ++ after)) n (length before)
+        []
+        (record { end = length before + size c; out = out; back = back }) s
+        (performs text env c n s) }
 {}
 
 /// The unit of whole code follows what the code performs, from every state of the method.
 pub fn units_follow_their_code()
-    ensures { (text : StrNo → Option Words) (env : Environment) (c : Code) (f : ℕ → Action Completion)
-        → IsSpelledCode c → size c < 2 ^ 31 → IsWhole text env c → ((n : ℕ) → Same (performs text env c n) (f n))
+    ensures { (text : StrNo → Option Words) (env : Environment) (c : Code) (f : ℕ
+        → Action Completion)
+        → IsSpelledCode c → size c < 2 ^ 31 → IsWhole text env c
+        → ((n : ℕ) → Same (performs text env c n) (f n))
         → Follows text env (unit_code c) f }
 {}
 
-/// A unit that follows the source agrees with it on all runs, with strings by their numbers: what ends in one ends so in the other,
-/// and what goes on goes on.
+/// A unit that follows the source agrees with it on all runs, with strings by their numbers: what
+/// ends in one ends so in the other, and what goes on goes on.
 pub fn followed_units_agree()
-    ensures { (text : StrNo → Option Words) (env : Environment) (code : List ℕ) (f : ℕ → Action Completion) (slots : ℕ)
+    ensures { (text : StrNo → Option Words) (env : Environment) (code : List ℕ) (f : ℕ
+        → Action Completion) (slots : ℕ)
         → Follows text env code f
-        → AgreesOnRuns text env.types (λ n values answers. ended (f n (runs.opening slots values answers)))
-        (λ k values answers. image.execute env k (opening (record { sort = Method; code = code }) slots values) answers) }
+        → AgreesOnRuns text env.types
+        (λ n values answers. ended (f n (runs.opening slots values answers)))
+        (λ k values answers. image.execute env k
+        (opening (record { sort = Method; code = code }) slots values) answers) }
 {}
 
-/// Where the blocks of its expressions mean them, the code of a statement is whole, and for any number of turns it does in every
-/// state what the statement does: the same completion or stop, and the same state.
+/// Where the blocks of its expressions mean them, the code of a statement is whole, and for any
+/// number of turns it does in every state what the statement does: the same completion or stop, and
+/// the same state.
 pub fn statements_do_what_they_say()
-    ensures whole { (text : StrNo → Option Words) (machine : Environment) (env : device.Environment) (block_of : Expr Target → Block) (x : Stmt Target)
-        → Each (Means block_of text machine env) x → IsWhole text machine (statement_code block_of x) }
-    ensures same { (text : StrNo → Option Words) (machine : Environment) (env : device.Environment) (block_of : Expr Target → Block) (x : Stmt Target)
-        → Each (Means block_of text machine env) x → (n : ℕ) → Same (performs text machine (statement_code block_of x) n) (execute env x n) }
+    ensures whole { (text : StrNo → Option Words) (machine : Environment) (env : device.Environment)
+        (block_of : Expr Target → Block) (x : Stmt Target)
+        → Each (Means block_of text machine env) x
+        → IsWhole text machine (statement_code block_of x) }
+    ensures same { (text : StrNo → Option Words) (machine : Environment) (env : device.Environment)
+        (block_of : Expr Target → Block) (x : Stmt Target)
+        → Each (Means block_of text machine env) x → (n : ℕ)
+        → Same (performs text machine (statement_code block_of x) n) (execute env x n) }
 {}
 
 /// The same of a body.
 pub fn bodies_do_what_they_say()
-    ensures whole { (text : StrNo → Option Words) (machine : Environment) (env : device.Environment) (block_of : Expr Target → Block) (body : Body Target)
-        → EachIn (Means block_of text machine env) body → IsWhole text machine (body_code block_of body) }
-    ensures same { (text : StrNo → Option Words) (machine : Environment) (env : device.Environment) (block_of : Expr Target → Block) (body : Body Target)
-        → EachIn (Means block_of text machine env) body → (n : ℕ) → Same (performs text machine (body_code block_of body) n) (execute_all env body n) }
+    ensures whole { (text : StrNo → Option Words) (machine : Environment) (env : device.Environment)
+        (block_of : Expr Target → Block) (body : Body Target)
+        → EachIn (Means block_of text machine env) body
+        → IsWhole text machine (body_code block_of body) }
+    ensures same { (text : StrNo → Option Words) (machine : Environment) (env : device.Environment)
+        (block_of : Expr Target → Block) (body : Body Target)
+        → EachIn (Means block_of text machine env) body → (n : ℕ)
+        → Same (performs text machine (body_code block_of body) n) (execute_all env body n) }
 {}
 
-/// Each operand in the code of a body is in its range, where those in the blocks of its expressions are.
+/// Each operand in the code of a body is in its range, where those in the blocks of its expressions
+/// are.
 pub fn bodies_are_spelled()
-    ensures { (block_of : Expr Target → Block) (body : Body Target) → EachIn (IsSpelled block_of) body → IsSpelledCode (body_code block_of body) }
+    ensures { (block_of : Expr Target → Block) (body : Body Target)
+        → EachIn (IsSpelled block_of) body → IsSpelledCode (body_code block_of body) }
 {}
 
-/// The code of a body has at most 32 bytes for each of its nodes, where the blocks of its expressions do.
+/// The code of a body has at most 32 bytes for each of its nodes, where the blocks of its
+/// expressions do.
 pub fn bodies_are_short()
     ensures { (block_of : Expr Target → Block) (body : Body Target) → EachIn (IsShort block_of) body
         → size (body_code block_of body) ≤ 32 * body_nodes body }
@@ -116,107 +142,147 @@ pub fn bodies_are_short()
 /// In a checked description the calls in each method's body fit, and aborts are whole statements.
 pub fn calls_of_methods_fit()
     ensures { (unit : Description Target) → mismatches unit ≡ [] → (m : MethNo)
-        → AllByRecursion (λ p. call_mismatches p.is_statement p.expression ≡ []) (body_expressions (body_of unit m)) }
+        → AllByRecursion (λ p. call_mismatches p.is_statement p.expression ≡ [])
+        (body_expressions (body_of unit m)) }
 {}
 
 /// The declarators of a resolved body have slots below the number of slots of the body.
 pub fn declarators_have_slots()
-    ensures { (unit : Description Path) (body : Body Path) (resolved : Body Target) → resolved_body unit body [] 0 ≡ Some resolved
+    ensures { (unit : Description Path) (body : Body Path) (resolved : Body Target)
+        → resolved_body unit body [] 0 ≡ Some resolved
         → EachSlot (slots_in resolved) resolved }
 {}
 
-/// In a resolved description each declarator of a method's body has a slot of the body, of which there are at most 64.
+/// In a resolved description each declarator of a method's body has a slot of the body, of which
+/// there are at most 64.
 pub fn methods_have_their_slots()
-    ensures few { (d : Description Target) → IsResolved d → (m : MethNo) → slots_in (body_of d m) ≤ 64 }
-    ensures each { (d : Description Target) → IsResolved d → (m : MethNo) → EachSlot (slots_in (body_of d m)) (body_of d m) }
+    ensures few { (d : Description Target) → IsResolved d → (m : MethNo) → slots_in (body_of d m)
+        ≤ 64 }
+    ensures each { (d : Description Target) → IsResolved d → (m : MethNo)
+        → EachSlot (slots_in (body_of d m)) (body_of d m) }
 {}
 
-/// What is asked of the expressions of a body is so where its declarators have slots and it is so of each in the list of its
-/// expressions, other than aborts that are whole statements.
+/// What is asked of the expressions of a body is so where its declarators have slots and it is so
+/// of each in the list of its expressions, other than aborts that are whole statements.
 pub fn expressions_are_listed()
-    ensures means { (text : StrNo → Option Words) (machine : Environment) (env : device.Environment) (block_of : Expr Target → Block) (body : Body Target)
+    ensures means { (text : StrNo → Option Words) (machine : Environment) (env : device.Environment)
+        (block_of : Expr Target → Block) (body : Body Target)
         → EachSlot (slots_in body) body → slots_in body ≤ 2 ^ 8
-        → AllByRecursion (UnlessAbort (Means block_of text machine env)) (body_expressions body) → EachIn (Means block_of text machine env) body }
-    ensures spelled { (block_of : Expr Target → Block) (body : Body Target) → EachSlot (slots_in body) body → slots_in body ≤ 2 ^ 8
-        → AllByRecursion (UnlessAbort (IsSpelled block_of)) (body_expressions body) → EachIn (IsSpelled block_of) body }
+        → AllByRecursion (UnlessAbort (Means block_of text machine env)) (body_expressions body)
+        → EachIn (Means block_of text machine env) body }
+    ensures spelled { (block_of : Expr Target → Block) (body : Body Target)
+        → EachSlot (slots_in body) body → slots_in body ≤ 2 ^ 8
+        → AllByRecursion (UnlessAbort (IsSpelled block_of)) (body_expressions body)
+        → EachIn (IsSpelled block_of) body }
 {}
 
-/// The unit of a body follows the body from every state: for each number of turns there is one of steps, no lower, that reports the
-/// same.
+/// The unit of a body follows the body from every state: for each number of turns there is one of
+/// steps, no lower, that reports the same.
 pub fn bodies_are_followed()
-    ensures { (text : StrNo → Option Words) (machine : Environment) (env : device.Environment) (block_of : Expr Target → Block) (body : Body Target)
-        → EachIn (Means block_of text machine env) body → EachIn (IsSpelled block_of) body → size (body_code block_of body) < 2 ^ 31
+    ensures { (text : StrNo → Option Words) (machine : Environment) (env : device.Environment)
+        (block_of : Expr Target → Block) (body : Body Target)
+        → EachIn (Means block_of text machine env) body → EachIn (IsSpelled block_of) body
+        → size (body_code block_of body) < 2 ^ 31
         → Follows text machine (unit_code (body_code block_of body)) (execute_all env body) }
 {}
 
-/// The unit of the code of a method's body agrees with the method on all its runs, forward, backward and in progress, with strings by
-/// their numbers; where its declarators have slots, its calls fit, its texts have numbers, and operands are in their ranges.
+/// The unit of the code of a method's body agrees with the method on all its runs, forward,
+/// backward and in progress, with strings by their numbers; where its declarators have slots, its
+/// calls fit, its texts have numbers, and operands are in their ranges.
 pub fn methods_agree()
-    ensures { (unit : Description Target) (m : MethNo) (text : StrNo → Option Words) (number : Words → StrNo)
+    ensures { (unit : Description Target) (m : MethNo) (text : StrNo → Option Words) (number : Words
+        → StrNo)
         → EachSlot (slots_in (body_of unit m)) (body_of unit m) → slots_in (body_of unit m) ≤ 2 ^ 8
-        → HasBlocks number text (body_of unit m) → size (method_code number (body_of unit m)) < 2 ^ 31
-        → AgreesOnRuns text (device.environment unit).variables (λ n values answers. run n unit m values answers)
+        → HasBlocks number text (body_of unit m) → size (method_code number (body_of unit m))
+        < 2 ^ 31
+        → AgreesOnRuns text (device.environment unit).variables
+        (λ n values answers. run n unit m values answers)
         (λ k values answers. image.execute (machine_of (device.environment unit)) k
-        (opening (record { sort = Method; code = unit_code (method_code number (body_of unit m)) }) (slots_in (body_of unit m)) values) answers) }
+        (opening (record { sort = Method; code = unit_code (method_code number (body_of unit m)) })
+        (slots_in (body_of unit m)) values) answers) }
 {}
 
-/// So it is the code of the method, where it is a valid unit and its strings are numbered in the table.
+/// So it is the code of the method, where it is a valid unit and its strings are numbered in the
+/// table.
 pub fn valid_code_is_the_methods()
-    ensures { (unit : Description Target) (strings : List Words) (m : MethNo) (number : Words → StrNo)
+    ensures { (unit : Description Target) (strings : List Words) (m : MethNo) (number : Words
+        → StrNo)
         → EachSlot (slots_in (body_of unit m)) (body_of unit m) → slots_in (body_of unit m) ≤ 2 ^ 8
-        → HasBlocks number (string_of_table strings) (body_of unit m) → size (method_code number (body_of unit m)) < 2 ^ 31
-        → IsValidUnit (method_context unit strings (slots_in (body_of unit m))) (unit_code (method_code number (body_of unit m)))
-        → IsMethodCode unit strings m (slots_in (body_of unit m)) (unit_code (method_code number (body_of unit m))) }
+        → HasBlocks number (string_of_table strings) (body_of unit m)
+        → size (method_code number (body_of unit m)) < 2 ^ 31
+        → IsValidUnit (method_context unit strings (slots_in (body_of unit m)))
+        (unit_code (method_code number (body_of unit m)))
+        → IsMethodCode unit strings m (slots_in (body_of unit m))
+        (unit_code (method_code number (body_of unit m))) }
 {}
 
-/// In a checked description, in whose table of strings the texts of a method have their numbers, the operands in the blocks of the
-/// method's expressions are in their ranges, and the variables, slots and strings that they name exist.
+/// In a checked description, in whose table of strings the texts of a method have their numbers,
+/// the operands in the blocks of the method's expressions are in their ranges, and the variables,
+/// slots and strings that they name exist.
 pub fn checked_expressions_are_spelled()
-    ensures { (d : Description Target) → ∥ IsChecked d ∥₁ → (m : MethNo) → (strings : List Words) → length strings ≤ 65536 → (number : Words → StrNo)
-        → AllByRecursion (λ p. HasNumbers (string_of_table strings) number p.expression) (body_expressions (body_of d m))
+    ensures { (d : Description Target) → ∥ IsChecked d ∥₁ → (m : MethNo) → (strings : List Words)
+        → length strings ≤ 65536 → (number : Words → StrNo)
+        → AllByRecursion (λ p. HasNumbers (string_of_table strings) number p.expression)
+        (body_expressions (body_of d m))
         → AllByRecursion (λ p. AreSpelled (method_block number p.expression)
-        × (all_straight (names_exist (method_context d strings (slots_in (body_of d m)))) (method_block number p.expression) ≡ true))
+        × (all_straight (names_exist (method_context d strings (slots_in (body_of d m))))
+        (method_block number p.expression) ≡ true))
         (body_expressions (body_of d m)) }
 {}
 
-/// So the unit of a method's code is the method's where it is valid, for each method of a checked description.
+/// So the unit of a method's code is the method's where it is valid, for each method of a checked
+/// description.
 pub fn checked_methods_have_their_code()
-    ensures { (d : Description Target) → ∥ IsChecked d ∥₁ → (m : MethNo) → (strings : List Words) → length strings ≤ 65536 → (number : Words → StrNo)
-        → AllByRecursion (λ p. HasNumbers (string_of_table strings) number p.expression) (body_expressions (body_of d m))
+    ensures { (d : Description Target) → ∥ IsChecked d ∥₁ → (m : MethNo) → (strings : List Words)
+        → length strings ≤ 65536 → (number : Words → StrNo)
+        → AllByRecursion (λ p. HasNumbers (string_of_table strings) number p.expression)
+        (body_expressions (body_of d m))
         → size (method_code number (body_of d m)) < 2 ^ 31
-        → IsValidUnit (method_context d strings (slots_in (body_of d m))) (unit_code (method_code number (body_of d m)))
-        → IsMethodCode d strings m (slots_in (body_of d m)) (unit_code (method_code number (body_of d m))) }
+        → IsValidUnit (method_context d strings (slots_in (body_of d m)))
+        (unit_code (method_code number (body_of d m)))
+        → IsMethodCode d strings m (slots_in (body_of d m))
+        (unit_code (method_code number (body_of d m))) }
 {}
 
-/// The unit of code is valid in a method where its blocks find their operands and leave none, or one for a test, the operands of their
-/// instructions are in their ranges, and the variables, slots and strings that they name exist.
+/// The unit of code is valid in a method where its blocks find their operands and leave none, or
+/// one for a test, the operands of their instructions are in their ranges, and the variables, slots
+/// and strings that they name exist.
 pub fn flowing_code_is_valid()
-    ensures { (context : Context) (c : Code) → context.version ≡ One → context.sort ≡ Method → IsSpelledCode c → size c < 2 ^ 31
-        → Fits Rests Gives c → Fits (λ b. all_straight (names_exist context) b ≡ true) (λ b. all_straight (names_exist context) b ≡ true) c
+    ensures { (context : Context) (c : Code) → context.version ≡ One → context.sort ≡ Method
+        → IsSpelledCode c → size c < 2 ^ 31
+        → Fits Rests Gives c → Fits (λ b. all_straight (names_exist context) b ≡ true)
+        (λ b. all_straight (names_exist context) b ≡ true) c
         → IsValidUnit context (unit_code c) }
 {}
 
 /// No expression in a method of a resolved description is higher than the limit.
 pub fn expressions_of_methods_are_low()
     ensures { (d : Description Target) → IsResolved d → (m : MethNo)
-        → AllByRecursion (λ p. height p.expression ≤ height_limit) (body_expressions (body_of d m)) }
+        → AllByRecursion (λ p. height p.expression ≤ height_limit)
+        (body_expressions (body_of d m)) }
 {}
 
-/// The unit of the code of each method of a checked description is valid, where the texts of the method have their numbers in the table
-/// of strings.
+/// The unit of the code of each method of a checked description is valid, where the texts of the
+/// method have their numbers in the table of strings.
 pub fn checked_code_is_valid()
-    ensures { (d : Description Target) → ∥ IsChecked d ∥₁ → (m : MethNo) → (strings : List Words) → length strings ≤ 65536 → (number : Words → StrNo)
-        → AllByRecursion (λ p. HasNumbers (string_of_table strings) number p.expression) (body_expressions (body_of d m))
+    ensures { (d : Description Target) → ∥ IsChecked d ∥₁ → (m : MethNo) → (strings : List Words)
+        → length strings ≤ 65536 → (number : Words → StrNo)
+        → AllByRecursion (λ p. HasNumbers (string_of_table strings) number p.expression)
+        (body_expressions (body_of d m))
         → size (method_code number (body_of d m)) < 2 ^ 31
-        → IsValidUnit (method_context d strings (slots_in (body_of d m))) (unit_code (method_code number (body_of d m))) }
+        → IsValidUnit (method_context d strings (slots_in (body_of d m)))
+        (unit_code (method_code number (body_of d m))) }
 {}
 
 /// So it is the method's.
 pub fn checked_code_is_the_methods()
-    ensures { (d : Description Target) → ∥ IsChecked d ∥₁ → (m : MethNo) → (strings : List Words) → length strings ≤ 65536 → (number : Words → StrNo)
-        → AllByRecursion (λ p. HasNumbers (string_of_table strings) number p.expression) (body_expressions (body_of d m))
+    ensures { (d : Description Target) → ∥ IsChecked d ∥₁ → (m : MethNo) → (strings : List Words)
+        → length strings ≤ 65536 → (number : Words → StrNo)
+        → AllByRecursion (λ p. HasNumbers (string_of_table strings) number p.expression)
+        (body_expressions (body_of d m))
         → size (method_code number (body_of d m)) < 2 ^ 31
-        → IsMethodCode d strings m (slots_in (body_of d m)) (unit_code (method_code number (body_of d m))) }
+        → IsMethodCode d strings m (slots_in (body_of d m))
+        (unit_code (method_code number (body_of d m))) }
 {}
 
 /// The code of each method of a checked description has at most 32 bytes for each node of its body.

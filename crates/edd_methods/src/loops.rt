@@ -2,7 +2,7 @@
 
 ghost use Rattle.std.specs.Prelude.{◌≡◌, ◌++◌, length, option_map, IsTrue};
 ghost use Rattle.std.specs.List.{list_all};
-ghost use Rattle.edd_syntax.specs.TreeView.{expr_of};
+ghost use Rattle.edd_syntax.specs.TreeView.{numbered_expr};
 ghost use Rattle.edd_syntax.specs.WellFormed.{is_text};
 ghost use Rattle.edd_code.specs.MethodExpressions.{method_block};
 ghost use Rattle.edd_methods.specs.LoopParts.{IsLoopPart, loop_part, loop_texts};
@@ -28,8 +28,9 @@ pub enum LoopPart<'a> {
 
 /// The test of `for`.
 pub fn test_of<'a>(e: &'a Option<Expr<Target>>) -> LoopPart<'a>
-    ensures texts { loop_texts result ≡ optional_texts (option_map (expr_of (λ r. r)) e.now) }
-    ensures part { IsLoopPart result (λ block_of. test_of (blocks_by block_of) (option_map (expr_of (λ r. r)) e.now)) }
+    ensures texts { loop_texts result ≡ optional_texts (option_map numbered_expr e.now) }
+    ensures part { IsLoopPart result
+        (λ block_of. test_of (blocks_by block_of) (option_map numbered_expr e.now)) }
 {
     match e {
         None => LoopPart::Missing,
@@ -39,8 +40,9 @@ pub fn test_of<'a>(e: &'a Option<Expr<Target>>) -> LoopPart<'a>
 
 /// What ends a turn of `for`.
 pub fn last_of<'a>(e: &'a Option<Expr<Target>>) -> LoopPart<'a>
-    ensures texts { loop_texts result ≡ optional_texts (option_map (expr_of (λ r. r)) e.now) }
-    ensures part { IsLoopPart result (λ block_of. last_of (blocks_by block_of) (option_map (expr_of (λ r. r)) e.now)) }
+    ensures texts { loop_texts result ≡ optional_texts (option_map numbered_expr e.now) }
+    ensures part { IsLoopPart result
+        (λ block_of. last_of (blocks_by block_of) (option_map numbered_expr e.now)) }
 {
     match e {
         None => LoopPart::Missing,
@@ -58,7 +60,8 @@ pub fn write_loop_part(
 ) -> Result<(), LowerFault>
     requires { IsTrue (list_all is_text (loop_texts part)) }
     ensures { Lowers result table.old (loop_texts part.entry)
-        (λ number. code.new ≡ code.old ++ part_bytes (length code.old) out (loop_part (method_block number) part.entry)) table.new }
+        (λ number. code.new ≡ code.old ++ part_bytes (length code.old) out
+        (loop_part (method_block number) part.entry)) table.new }
 {
     match part {
         LoopPart::Missing => Ok(()),

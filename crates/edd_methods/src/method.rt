@@ -5,18 +5,18 @@ ghost use Rattle.std.specs.List.{Contains, list_all};
 ghost use Rattle.std.specs.Option.{option_to_list};
 ghost use Rattle.edd_syntax.specs.declared.numbers.Kind.TheVariants as kinds;
 ghost use Rattle.edd_syntax.specs.Execution as source;
-ghost use Rattle.edd_syntax.specs.ItemView.{attribute_of};
+ghost use Rattle.edd_syntax.specs.ItemView.{numbered_attribute};
 ghost use Rattle.edd_syntax.specs.Size.{body_nodes};
 ghost use Rattle.edd_syntax.specs.Statement.{body_from};
 ghost use Rattle.edd_syntax.specs.Strings.{different, strings_of_texts};
 ghost use Rattle.edd_syntax.specs.SubsetRules.{bodies_in};
-ghost use Rattle.edd_syntax.specs.TreeView.{part_of};
+ghost use Rattle.edd_syntax.specs.TreeView.{numbered_part};
 ghost use Rattle.edd_syntax.specs.WellFormed.{is_text};
 ghost use Rattle.edd_syntax.specs.Words.{Words};
 ghost use Rattle.edd_image.specs.MethodAgreement.{IsMethodCode};
 ghost use Rattle.edd_code.specs.Places.{IsIndexOf, attributes_of_items};
 ghost use Rattle.edd_code.specs.Tables.{Grows, Overflows};
-ghost use Rattle.edd_code.specs.Units.{unit_of};
+ghost use Rattle.edd_code.specs.Units.{description_of};
 ghost use Rattle.edd_methods.specs.LoweredMethods.{LowersBody, found_body, strings_of_method};
 ghost use Rattle.edd_methods.specs.Writing.{body_texts};
 
@@ -41,7 +41,8 @@ pub struct MethodCode {
 
 // The body in an attribute that is a DEFINITION.
 fn body_in(attribute: &Attribute<Target>) -> Option<&[Part<Target>]>
-    ensures { option_to_list (option_map (λ body. body_from (map (part_of (λ r. r)) body.now)) result) ≡ bodies_in (attribute_of (λ r. r) attribute.now) }
+    ensures { option_to_list (option_map (λ body. body_from (map numbered_part body.now)) result)
+        ≡ bodies_in (numbered_attribute attribute.now) }
 {
     match attribute {
         Attribute::Definition(body) => Some(body),
@@ -51,7 +52,8 @@ fn body_in(attribute: &Attribute<Target>) -> Option<&[Part<Target>]>
 
 // The body of a method with these attributes.
 fn body_among(attributes: &[Attribute<Target>]) -> &[Part<Target>]
-    ensures { body_from (map (part_of (λ r. r)) result.now) ≡ source.body_in (map (attribute_of (λ r. r)) attributes.now) }
+    ensures { body_from (map numbered_part result.now)
+        ≡ source.body_in (map numbered_attribute attributes.now) }
 {
     for attribute in attributes {
         if let Some(body) = body_in(attribute) {
@@ -67,11 +69,15 @@ fn lower_body(
     table: &mut Table,
     body: &[Part<Target>],
 ) -> Result<Vec<u8>, LowerFault>
-    requires texts { IsTrue (list_all is_text (body_texts (body_from (map (part_of (λ r. r)) body.now)))) }
-    ensures ok { IfOk result (λ code. LowersBody table.old (body_from (map (part_of (λ r. r)) body.now)) table.new code.items) }
+    requires texts { IsTrue (list_all is_text
+        (body_texts (body_from (map numbered_part body.now)))) }
+    ensures sound { IfOk result
+        (λ code. LowersBody table.old (body_from (map numbered_part body.now)) table.new
+        code.items) }
     ensures grows { Grows table.old table.new }
-    ensures too_many { IsErrOf result LowerFault.TooMany
-        → Overflows table.old (strings_of_texts (body_texts (body_from (map (part_of (λ r. r)) body.now)))) }
+    ensures refused { IsErrOf result LowerFault.TooMany
+        → Overflows table.old (strings_of_texts
+        (body_texts (body_from (map numbered_part body.now)))) }
 {
     let mut code = Emitter::new(alloc);
     // No `break` of a checked description leads outside its loop, so these places are met nowhere.
@@ -82,8 +88,8 @@ fn lower_body(
 
 // The body of the method that was found, if it is there.
 fn body_found(attributes: Option<&[Attribute<Target>]>) -> &[Part<Target>]
-    ensures { body_from (map (part_of (λ r. r)) result.now)
-        ≡ found_body (option_map (λ a. map (attribute_of (λ r. r)) a.now) attributes.entry) }
+    ensures { body_from (map numbered_part result.now)
+        ≡ found_body (option_map (λ a. map numbered_attribute a.now) attributes.entry) }
 {
     match attributes {
         Some(attributes) => body_among(attributes),
@@ -99,17 +105,22 @@ fn lower_found(
     attributes: Option<&[Attribute<Target>]>,
     table: &mut Table,
 ) -> Result<MethodCode, LowerFault>
-    requires { option_map (λ a. map (attribute_of (λ r. r)) a.now) attributes
-        ≡ slice_get (attributes_of_items kinds.Method (unit_of checked.now).items) method.0 }
-    ensures code { IfOk result (λ made. (more : List Words) → length (table.new ++ more) ≤ 65535
-        → IsMethodCode (unit_of checked.now) (table.new ++ more) method made.slots made.code.items) }
+    requires { option_map (λ a. map numbered_attribute a.now) attributes
+        ≡ slice_get (attributes_of_items kinds.Method (description_of checked.now).items) method.0 }
+    ensures sound { IfOk result (λ made. (more : List Words) → length (table.new ++ more) ≤ 65535
+        → IsMethodCode (description_of checked.now) (table.new ++ more) method made.slots
+        made.code.items) }
     ensures begins { OnOk result (Grows table.old table.new) }
     ensures strings { OnOk result
-        ((w : Words) → Contains table.new w ↔ (Contains table.old w ⊎ Contains (strings_of_method (unit_of checked.now) method) w)) }
-    ensures too_many { IsErrOf result LowerFault.TooMany
-        → 65535 < length (different (table.old ++ strings_of_method (unit_of checked.now) method)) }
-    ensures err { OnErr result (table.new ≡ table.old) }
-    ensures size { IfOk result (λ made. length made.code.items ≤ 32 * (1 + body_nodes (source.body_of (unit_of checked.now) method))) }
+        ((w : Words) → Contains table.new w
+        ↔ (Contains table.old w ⊎ Contains (strings_of_method (description_of checked.now) method)
+        w)) }
+    ensures refused { IsErrOf result LowerFault.TooMany
+        → 65535 < length (different (table.old ++ strings_of_method (description_of checked.now)
+        method)) }
+    ensures kept { OnErr result (table.new ≡ table.old) }
+    ensures size { IfOk result (λ made. length made.code.items
+        ≤ 32 * (1 + body_nodes (source.body_of (description_of checked.now) method))) }
 {
     let body = body_found(attributes);
     let held = table.words().len() as u16;
@@ -123,23 +134,28 @@ fn lower_found(
     }
 }
 
-/// The code of a method, with its strings by their numbers in the table, which gets those that it doesn't hold yet. After a refusal
-/// the table is as before.
+/// The code of a method, with its strings by their numbers in the table, which gets those that it
+/// doesn't hold yet. After a refusal the table is as before.
 pub fn lower_method(
     alloc: Global,
     checked: &Checked,
     method: MethNo,
     table: &mut Table,
 ) -> Result<MethodCode, LowerFault>
-    ensures code { IfOk result (λ made. (more : List Words) → length (table.new ++ more) ≤ 65535
-        → IsMethodCode (unit_of checked.now) (table.new ++ more) method made.slots made.code.items) }
+    ensures sound { IfOk result (λ made. (more : List Words) → length (table.new ++ more) ≤ 65535
+        → IsMethodCode (description_of checked.now) (table.new ++ more) method made.slots
+        made.code.items) }
     ensures begins { OnOk result (Grows table.old table.new) }
     ensures strings { OnOk result
-        ((w : Words) → Contains table.new w ↔ (Contains table.old w ⊎ Contains (strings_of_method (unit_of checked.now) method) w)) }
-    ensures too_many { IsErrOf result LowerFault.TooMany
-        → 65535 < length (different (table.old ++ strings_of_method (unit_of checked.now) method)) }
-    ensures err { OnErr result (table.new ≡ table.old) }
-    ensures size { IfOk result (λ made. length made.code.items ≤ 32 * (1 + body_nodes (source.body_of (unit_of checked.now) method))) }
+        ((w : Words) → Contains table.new w
+        ↔ (Contains table.old w ⊎ Contains (strings_of_method (description_of checked.now) method)
+        w)) }
+    ensures refused { IsErrOf result LowerFault.TooMany
+        → 65535 < length (different (table.old ++ strings_of_method (description_of checked.now)
+        method)) }
+    ensures kept { OnErr result (table.new ≡ table.old) }
+    ensures size { IfOk result (λ made. length made.code.items
+        ≤ 32 * (1 + body_nodes (source.body_of (description_of checked.now) method))) }
 {
     let attributes = attributes_at(&checked.items, Kind::Method, method.0);
     lower_found(alloc, checked, method, attributes, table)
@@ -153,16 +169,21 @@ pub fn lower_indexed(
     method: MethNo,
     table: &mut Table,
 ) -> Result<MethodCode, LowerFault>
-    requires index_of_its_items { IsIndexOf (unit_of checked.now).items index.now }
-    ensures code { IfOk result (λ made. (more : List Words) → length (table.new ++ more) ≤ 65535
-        → IsMethodCode (unit_of checked.now) (table.new ++ more) method made.slots made.code.items) }
+    requires index_of_its_items { IsIndexOf (description_of checked.now).items index.now }
+    ensures sound { IfOk result (λ made. (more : List Words) → length (table.new ++ more) ≤ 65535
+        → IsMethodCode (description_of checked.now) (table.new ++ more) method made.slots
+        made.code.items) }
     ensures begins { OnOk result (Grows table.old table.new) }
     ensures strings { OnOk result
-        ((w : Words) → Contains table.new w ↔ (Contains table.old w ⊎ Contains (strings_of_method (unit_of checked.now) method) w)) }
-    ensures too_many { IsErrOf result LowerFault.TooMany
-        → 65535 < length (different (table.old ++ strings_of_method (unit_of checked.now) method)) }
-    ensures err { OnErr result (table.new ≡ table.old) }
-    ensures size { IfOk result (λ made. length made.code.items ≤ 32 * (1 + body_nodes (source.body_of (unit_of checked.now) method))) }
+        ((w : Words) → Contains table.new w
+        ↔ (Contains table.old w ⊎ Contains (strings_of_method (description_of checked.now) method)
+        w)) }
+    ensures refused { IsErrOf result LowerFault.TooMany
+        → 65535 < length (different (table.old ++ strings_of_method (description_of checked.now)
+        method)) }
+    ensures kept { OnErr result (table.new ≡ table.old) }
+    ensures size { IfOk result (λ made. length made.code.items
+        ≤ 32 * (1 + body_nodes (source.body_of (description_of checked.now) method))) }
 {
     let attributes = attributes_by(index, &checked.items, Kind::Method, method.0);
     lower_found(alloc, checked, method, attributes, table)

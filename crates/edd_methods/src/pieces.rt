@@ -4,7 +4,7 @@ ghost use Rattle.std.specs.Prelude.{◌≡◌, ◌++◌, ◌∷◌, [], length, 
 ghost use Rattle.std.specs.List.{list_all};
 ghost use Rattle.edd_syntax.specs.Expression.{Call, Nil};
 ghost use Rattle.edd_syntax.specs.Strings.{expr_texts};
-ghost use Rattle.edd_syntax.specs.TreeView.{declarator_of, expr_of};
+ghost use Rattle.edd_syntax.specs.TreeView.{numbered_declarator, numbered_expr};
 ghost use Rattle.edd_syntax.specs.WellFormed.{is_text};
 ghost use Rattle.edd_code.specs.Blocks.{bytes_at};
 ghost use Rattle.edd_code.specs.MethodExpressions.{method_block};
@@ -37,9 +37,10 @@ pub fn write_one(
     table: &mut Table,
     e: &Expr<Target>,
 ) -> Result<(), LowerFault>
-    requires { IsTrue (list_all is_text (expr_texts (expr_of (λ r. r) e.now))) }
-    ensures { Lowers result table.old (expr_texts (expr_of (λ r. r) e.now))
-        (λ number. code.new ≡ code.old ++ bytes_at (length code.old) (method_block number (expr_of (λ r. r) e.now))) table.new }
+    requires { IsTrue (list_all is_text (expr_texts (numbered_expr e.now))) }
+    ensures { Lowers result table.old (expr_texts (numbered_expr e.now))
+        (λ number. code.new ≡ code.old
+        ++ bytes_at (length code.old) (method_block number (numbered_expr e.now))) table.new }
 {
     see_strings(table);
     write_value(alloc, code, table, e)
@@ -57,7 +58,7 @@ fn is_abort(function: Target) -> bool
 
 // `abort()` or `process_abort()`.
 fn is_abort_call(e: &Expr<Target>) -> bool
-    ensures { result ≡ is_abort_call (expr_of (λ r. r) e.now) }
+    ensures { result ≡ is_abort_call (numbered_expr e.now) }
 {
     match e {
         Expr::Call {
@@ -76,9 +77,11 @@ pub fn write_alone(
     table: &mut Table,
     e: &Expr<Target>,
 ) -> Result<(), LowerFault>
-    requires { IsTrue (list_all is_text (expr_texts (expr_of (λ r. r) e.now))) }
-    ensures { Lowers result table.old (expr_texts (expr_of (λ r. r) e.now))
-        (λ number. code.new ≡ code.old ++ bytes_at (length code.old) (alone_block (method_block number) (expr_of (λ r. r) e.now))) table.new }
+    requires { IsTrue (list_all is_text (expr_texts (numbered_expr e.now))) }
+    ensures { Lowers result table.old (expr_texts (numbered_expr e.now))
+        (λ number. code.new ≡ code.old
+        ++ bytes_at (length code.old) (alone_block (method_block number) (numbered_expr e.now)))
+        table.new }
 {
     if is_abort_call(e) {
         put(code, Instruction::Abort)?;
@@ -96,10 +99,11 @@ pub fn write_first(
     table: &mut Table,
     first: &Option<Expr<Target>>,
 ) -> Result<(), LowerFault>
-    requires { IsTrue (list_all is_text (optional_texts (option_map (expr_of (λ r. r)) first.now))) }
-    ensures { Lowers result table.old (optional_texts (option_map (expr_of (λ r. r)) first.now))
+    requires { IsTrue (list_all is_text (optional_texts (option_map numbered_expr first.now))) }
+    ensures { Lowers result table.old (optional_texts (option_map numbered_expr first.now))
         (λ number. code.new ≡ code.old ++ bytes_at (length code.old)
-        (first_of (blocks_by (method_block number)) (option_map (expr_of (λ r. r)) first.now))) table.new }
+        (first_of (blocks_by (method_block number)) (option_map numbered_expr first.now)))
+        table.new }
 {
     match first {
         None => Ok(()),
@@ -114,10 +118,11 @@ fn write_initial(
     table: &mut Table,
     value: &Option<Expr<Target>>,
 ) -> Result<(), LowerFault>
-    requires { IsTrue (list_all is_text (optional_texts (option_map (expr_of (λ r. r)) value.now))) }
-    ensures { Lowers result table.old (optional_texts (option_map (expr_of (λ r. r)) value.now))
+    requires { IsTrue (list_all is_text (optional_texts (option_map numbered_expr value.now))) }
+    ensures { Lowers result table.old (optional_texts (option_map numbered_expr value.now))
         (λ number. code.new ≡ code.old ++ bytes_at (length code.old)
-        (initial_block (blocks_by (method_block number)) (option_map (expr_of (λ r. r)) value.now))) table.new }
+        (initial_block (blocks_by (method_block number)) (option_map numbered_expr value.now)))
+        table.new }
 {
     match value {
         None => {
@@ -134,10 +139,11 @@ fn write_declarator(
     table: &mut Table,
     d: &Declarator<Target>,
 ) -> Result<(), LowerFault>
-    requires { IsTrue (list_all is_text (declared_texts (declarator_of (λ r. r) d.now ∷ []))) }
-    ensures { Lowers result table.old (declared_texts (declarator_of (λ r. r) d.now ∷ []))
+    requires { IsTrue (list_all is_text (declared_texts (numbered_declarator d.now ∷ []))) }
+    ensures { Lowers result table.old (declared_texts (numbered_declarator d.now ∷ []))
         (λ number. code.new ≡ code.old ++ bytes_at (length code.old)
-        (declare_block (blocks_by (method_block number)) (declarator_of (λ r. r) d.now ∷ []))) table.new }
+        (declare_block (blocks_by (method_block number)) (numbered_declarator d.now ∷ [])))
+        table.new }
 {
     write_initial(alloc, code, table, &d.value)?;
     write_store(code, d.place)?;
@@ -152,10 +158,12 @@ pub fn write_declaration(
     table: &mut Table,
     declarators: &[Declarator<Target>],
 ) -> Result<(), LowerFault>
-    requires { IsTrue (list_all is_text (declared_texts (map (declarator_of (λ r. r)) declarators.now))) }
-    ensures { Lowers result table.old (declared_texts (map (declarator_of (λ r. r)) declarators.now))
+    requires { IsTrue (list_all is_text
+        (declared_texts (map numbered_declarator declarators.now))) }
+    ensures { Lowers result table.old (declared_texts (map numbered_declarator declarators.now))
         (λ number. code.new ≡ code.old ++ bytes_at (length code.old)
-        (declare_block (blocks_by (method_block number)) (map (declarator_of (λ r. r)) declarators.now))) table.new }
+        (declare_block (blocks_by (method_block number)) (map numbered_declarator declarators.now)))
+        table.new }
 {
     for d in declarators {
         write_declarator(alloc, code, table, d)?;

@@ -2,7 +2,7 @@
 
 ghost use Rattle.std.specs.Prelude.{◌≡◌, ◌≤◌, ◌∷◌, [], map};
 ghost use Rattle.edd_syntax.specs.Statement.{body_from, slots_in, slots_of};
-ghost use Rattle.edd_syntax.specs.TreeView.{part_of, stmt_of};
+ghost use Rattle.edd_syntax.specs.TreeView.{numbered_part, numbered_stmt};
 
 use edd_syntax::reference::Target;
 use edd_syntax::stmt::{Part, Stmt};
@@ -10,8 +10,8 @@ use edd_syntax::stmt::{Part, Stmt};
 /// The declarators of a body, each of which has a slot.
 #[cycle(slots)]
 pub fn slots_in(body: &[Part<Target>]) -> u16
-    requires { slots_in (body_from (map (part_of (λ r. r)) body.now)) ≤ 64 }
-    ensures { result ≡ slots_in (body_from (map (part_of (λ r. r)) body.now)) }
+    requires { slots_in (body_from (map numbered_part body.now)) ≤ 64 }
+    ensures { result ≡ slots_in (body_from (map numbered_part body.now)) }
 {
     let mut slots = 0;
     for part in body {
@@ -22,8 +22,8 @@ pub fn slots_in(body: &[Part<Target>]) -> u16
 
 #[cycle(slots)]
 fn slots_of_part(part: &Part<Target>) -> u16
-    requires { slots_in (body_from (part_of (λ r. r) part.now ∷ [])) ≤ 64 }
-    ensures { result ≡ slots_in (body_from (part_of (λ r. r) part.now ∷ [])) }
+    requires { slots_in (body_from (numbered_part part.now ∷ [])) ≤ 64 }
+    ensures { result ≡ slots_in (body_from (numbered_part part.now ∷ [])) }
 {
     match part {
         Part::Declare(declarators) => declarators.len() as u16,
@@ -35,8 +35,8 @@ fn slots_of_part(part: &Part<Target>) -> u16
 #[cycle(slots)]
 #[tactic(auto, unfolding(edd_syntax::specs::Statement::slots_of))]
 fn slots_of(x: &Stmt<Target>) -> u16
-    requires { slots_of (stmt_of (λ r. r) x.now) ≤ 64 }
-    ensures { result ≡ slots_of (stmt_of (λ r. r) x.now) }
+    requires { slots_of (numbered_stmt x.now) ≤ 64 }
+    ensures { result ≡ slots_of (numbered_stmt x.now) }
 {
     match x {
         Stmt::Block(parts) => slots_in(parts),

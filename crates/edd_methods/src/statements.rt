@@ -1,11 +1,12 @@
-//! The code of statements. Each jump in it leads to a place that is known by then, or is closed when the place behind is known.
+//! The code of statements. Each jump in it leads to a place that is known by then, or is closed
+//! when the place behind is known.
 
 ghost use Rattle.std.specs.Prelude.{◌≡◌, ℕ, ◌∷◌, [], ◌++◌, length, map, IsErrOf, IsTrue, OnOk};
 ghost use Rattle.std.specs.List.{flat_map, list_all};
 ghost use Rattle.edd_syntax.specs.Statement.{body_from};
 ghost use Rattle.edd_syntax.specs.Strings.{expr_texts, strings_of_texts};
 ghost use Rattle.edd_syntax.specs.SubsetRules.{body_expressions};
-ghost use Rattle.edd_syntax.specs.TreeView.{expr_of, part_of, stmt_of};
+ghost use Rattle.edd_syntax.specs.TreeView.{numbered_expr, numbered_part, numbered_stmt};
 ghost use Rattle.edd_syntax.specs.WellFormed.{is_text};
 ghost use Rattle.edd_image.specs.declared.instruction.Instruction.TheVariants.{End};
 ghost use Rattle.edd_code.specs.Blocks.{Nothing};
@@ -46,14 +47,17 @@ pub fn write_body(
     body: &[Part<Target>],
 ) -> Result<(), LowerFault>
     requires texts { IsTrue (list_all is_text (flat_map (λ p. expr_texts p.expression)
-        (body_expressions (body_from (map (part_of (λ r. r)) body.now))))) }
-    ensures ok { OnOk result (WritesNumbered table.old code.old
-        (strings_of_texts (flat_map (λ p. expr_texts p.expression) (body_expressions (body_from (map (part_of (λ r. r)) body.now)))))
-        (λ number place. bytes_at place leads.out leads.back (body_code (method_block number) (body_from (map (part_of (λ r. r)) body.now))))
+        (body_expressions (body_from (map numbered_part body.now))))) }
+    ensures sound { OnOk result (WritesNumbered table.old code.old
+        (strings_of_texts (flat_map (λ p. expr_texts p.expression)
+        (body_expressions (body_from (map numbered_part body.now)))))
+        (λ number place. bytes_at place leads.out leads.back
+        (body_code (method_block number) (body_from (map numbered_part body.now))))
         table.new code.new) }
     ensures grows { Grows table.old table.new }
-    ensures too_many { IsErrOf result LowerFault.TooMany → Overflows table.old
-        (strings_of_texts (flat_map (λ p. expr_texts p.expression) (body_expressions (body_from (map (part_of (λ r. r)) body.now))))) }
+    ensures refused { IsErrOf result LowerFault.TooMany → Overflows table.old
+        (strings_of_texts (flat_map (λ p. expr_texts p.expression)
+        (body_expressions (body_from (map numbered_part body.now))))) }
 {
     write_parts(alloc, code, table, leads, body)
 }
@@ -66,10 +70,10 @@ fn write_parts(
     leads: Leads,
     body: &[Part<Target>],
 ) -> Result<(), LowerFault>
-    requires { IsTrue (list_all is_text (body_texts (body_from (map (part_of (λ r. r)) body.now)))) }
-    ensures { Lowers result table.old (body_texts (body_from (map (part_of (λ r. r)) body.now)))
+    requires { IsTrue (list_all is_text (body_texts (body_from (map numbered_part body.now)))) }
+    ensures { Lowers result table.old (body_texts (body_from (map numbered_part body.now)))
         (λ number. code.new ≡ code.old ++ bytes_at (length code.old) leads.out leads.back
-        (body_code (method_block number) (body_from (map (part_of (λ r. r)) body.now)))) table.new }
+        (body_code (method_block number) (body_from (map numbered_part body.now)))) table.new }
 {
     for part in body {
         write_part(alloc, code, table, leads, part)?;
@@ -86,10 +90,10 @@ fn write_part(
     leads: Leads,
     part: &Part<Target>,
 ) -> Result<(), LowerFault>
-    requires { IsTrue (list_all is_text (body_texts (body_from (part_of (λ r. r) part.now ∷ [])))) }
-    ensures { Lowers result table.old (body_texts (body_from (part_of (λ r. r) part.now ∷ [])))
+    requires { IsTrue (list_all is_text (body_texts (body_from (numbered_part part.now ∷ [])))) }
+    ensures { Lowers result table.old (body_texts (body_from (numbered_part part.now ∷ [])))
         (λ number. code.new ≡ code.old ++ bytes_at (length code.old) leads.out leads.back
-        (body_code (method_block number) (body_from (part_of (λ r. r) part.now ∷ [])))) table.new }
+        (body_code (method_block number) (body_from (numbered_part part.now ∷ [])))) table.new }
 {
     match part {
         Part::Declare(declarators) => write_declaration(alloc, code, table, declarators),
@@ -106,10 +110,10 @@ fn write_statement(
     leads: Leads,
     x: &Stmt<Target>,
 ) -> Result<(), LowerFault>
-    requires { IsTrue (list_all is_text (statement_texts (stmt_of (λ r. r) x.now))) }
-    ensures { Lowers result table.old (statement_texts (stmt_of (λ r. r) x.now))
+    requires { IsTrue (list_all is_text (statement_texts (numbered_stmt x.now))) }
+    ensures { Lowers result table.old (statement_texts (numbered_stmt x.now))
         (λ number. code.new ≡ code.old ++ bytes_at (length code.old) leads.out leads.back
-        (statement_code (method_block number) (stmt_of (λ r. r) x.now))) table.new }
+        (statement_code (method_block number) (numbered_stmt x.now))) table.new }
 {
     match x {
         Stmt::Empty => Ok(()),
@@ -173,11 +177,13 @@ fn write_if(
     condition: &Expr<Target>,
     first: &Stmt<Target>,
 ) -> Result<(), LowerFault>
-    requires condition { IsTrue (list_all is_text (expr_texts (expr_of (λ r. r) condition.now))) }
-    requires first { IsTrue (list_all is_text (statement_texts (stmt_of (λ r. r) first.now))) }
-    ensures { Lowers result table.old (expr_texts (expr_of (λ r. r) condition.now) ++ statement_texts (stmt_of (λ r. r) first.now))
+    requires condition { IsTrue (list_all is_text (expr_texts (numbered_expr condition.now))) }
+    requires first { IsTrue (list_all is_text (statement_texts (numbered_stmt first.now))) }
+    ensures { Lowers result table.old (expr_texts (numbered_expr condition.now)
+        ++ statement_texts (numbered_stmt first.now))
         (λ number. code.new ≡ code.old ++ bytes_at (length code.old) leads.out leads.back
-        (Branch (method_block number (expr_of (λ r. r) condition.now)) (statement_code (method_block number) (stmt_of (λ r. r) first.now)) (Plain Nothing)))
+        (Branch (method_block number (numbered_expr condition.now))
+        (statement_code (method_block number) (numbered_stmt first.now)) (Plain Nothing)))
         table.new }
 {
     write_one(alloc, code, table, condition)?;
@@ -199,14 +205,16 @@ fn write_if_else(
     first: &Stmt<Target>,
     otherwise: &Stmt<Target>,
 ) -> Result<(), LowerFault>
-    requires condition { IsTrue (list_all is_text (expr_texts (expr_of (λ r. r) condition.now))) }
-    requires first { IsTrue (list_all is_text (statement_texts (stmt_of (λ r. r) first.now))) }
-    requires otherwise { IsTrue (list_all is_text (statement_texts (stmt_of (λ r. r) otherwise.now))) }
-    ensures { Lowers result table.old (expr_texts (expr_of (λ r. r) condition.now)
-        ++ (statement_texts (stmt_of (λ r. r) first.now) ++ statement_texts (stmt_of (λ r. r) otherwise.now)))
+    requires condition { IsTrue (list_all is_text (expr_texts (numbered_expr condition.now))) }
+    requires first { IsTrue (list_all is_text (statement_texts (numbered_stmt first.now))) }
+    requires otherwise { IsTrue (list_all is_text (statement_texts (numbered_stmt otherwise.now))) }
+    ensures { Lowers result table.old (expr_texts (numbered_expr condition.now)
+        ++ (statement_texts (numbered_stmt first.now)
+        ++ statement_texts (numbered_stmt otherwise.now)))
         (λ number. code.new ≡ code.old ++ bytes_at (length code.old) leads.out leads.back
-        (Branch (method_block number (expr_of (λ r. r) condition.now)) (statement_code (method_block number) (stmt_of (λ r. r) first.now))
-        (statement_code (method_block number) (stmt_of (λ r. r) otherwise.now)))) table.new }
+        (Branch (method_block number (numbered_expr condition.now))
+        (statement_code (method_block number) (numbered_stmt first.now))
+        (statement_code (method_block number) (numbered_stmt otherwise.now)))) table.new }
 {
     write_one(alloc, code, table, condition)?;
     let otherwise_hole = open(code, Jump::IfZero)?;
@@ -218,7 +226,8 @@ fn write_if_else(
     Ok(())
 }
 
-// A jump to the front; out, which is a jump to the end; the back; the front; the body, and a jump to the back.
+// A jump to the front; out, which is a jump to the end; the back; the front; the body, and a jump
+// to the back.
 #[cycle(statements)]
 fn write_loop(
     alloc: Global,
@@ -230,11 +239,14 @@ fn write_loop(
 ) -> Result<(), LowerFault>
     requires front { IsTrue (list_all is_text (loop_texts front)) }
     requires back { IsTrue (list_all is_text (loop_texts back)) }
-    requires body { IsTrue (list_all is_text (statement_texts (stmt_of (λ r. r) body.now))) }
-    ensures { (out : ℕ) → (again : ℕ) → Lowers result table.old (loop_texts front.entry ++ (loop_texts back.entry ++ statement_texts (stmt_of (λ r. r) body.now)))
+    requires body { IsTrue (list_all is_text (statement_texts (numbered_stmt body.now))) }
+    ensures { (out : ℕ) → (again : ℕ)
+        → Lowers result table.old (loop_texts front.entry
+        ++ (loop_texts back.entry ++ statement_texts (numbered_stmt body.now)))
         (λ number. code.new ≡ code.old ++ bytes_at (length code.old) out again
-        (Loop (loop_part (method_block number) front.entry) (loop_part (method_block number) back.entry)
-        (statement_code (method_block number) (stmt_of (λ r. r) body.now)))) table.new }
+        (Loop (loop_part (method_block number) front.entry)
+        (loop_part (method_block number) back.entry)
+        (statement_code (method_block number) (numbered_stmt body.now)))) table.new }
 {
     let entry = open(code, Jump::Always)?;
     let out = code.place();
@@ -250,8 +262,8 @@ fn write_loop(
     Ok(())
 }
 
-// The value; a jump to the tests; out, which is a jump to the end; the statements, and a jump out; the tests of the labels, and where
-// none is met a jump to the default or out.
+// The value; a jump to the tests; out, which is a jump to the end; the statements, and a jump out;
+// the tests of the labels, and where none is met a jump to the default or out.
 #[cycle(statements)]
 fn write_switch(
     alloc: Global,
@@ -261,11 +273,14 @@ fn write_switch(
     on: &Expr<Target>,
     parts: &[Part<Target>],
 ) -> Result<(), LowerFault>
-    requires on { IsTrue (list_all is_text (expr_texts (expr_of (λ r. r) on.now))) }
-    requires parts { IsTrue (list_all is_text (body_texts (body_from (map (part_of (λ r. r)) parts.now)))) }
-    ensures { Lowers result table.old (expr_texts (expr_of (λ r. r) on.now) ++ body_texts (body_from (map (part_of (λ r. r)) parts.now)))
+    requires on { IsTrue (list_all is_text (expr_texts (numbered_expr on.now))) }
+    requires parts { IsTrue (list_all is_text
+        (body_texts (body_from (map numbered_part parts.now)))) }
+    ensures { Lowers result table.old (expr_texts (numbered_expr on.now)
+        ++ body_texts (body_from (map numbered_part parts.now)))
         (λ number. code.new ≡ code.old ++ bytes_at (length code.old) leads.out leads.back
-        (Switch (method_block number (expr_of (λ r. r) on.now)) (arms_of (blocks_by (method_block number)) (body_from (map (part_of (λ r. r)) parts.now)))))
+        (Switch (method_block number (numbered_expr on.now))
+        (arms_of (blocks_by (method_block number)) (body_from (map numbered_part parts.now)))))
         table.new }
 {
     write_one(alloc, code, table, on)?;
@@ -294,10 +309,11 @@ fn write_arms(
     labels: &mut Labels,
     parts: &[Part<Target>],
 ) -> Result<(), LowerFault>
-    requires { IsTrue (list_all is_text (body_texts (body_from (map (part_of (λ r. r)) parts.now)))) }
-    ensures { Lowers result table.old (body_texts (body_from (map (part_of (λ r. r)) parts.now)))
+    requires { IsTrue (list_all is_text (body_texts (body_from (map numbered_part parts.now)))) }
+    ensures { Lowers result table.old (body_texts (body_from (map numbered_part parts.now)))
         (λ number. NotesArms code.old labels.old leads.out leads.back
-        (arms_of (blocks_by (method_block number)) (body_from (map (part_of (λ r. r)) parts.now))) code.new labels.new) table.new }
+        (arms_of (blocks_by (method_block number)) (body_from (map numbered_part parts.now)))
+        code.new labels.new) table.new }
 {
     for part in parts {
         note(labels, part, code.place())?;

@@ -17,36 +17,58 @@ use Rattle.edd_syntax.specs.NameRules.{faults_along, is_kind_among}
 use Rattle.edd_syntax.specs.Refusal.{Refusal, WrongKind, refused_if, first_of}
 use Rattle.edd_syntax.specs.Resolution.{along}
 
-module _ (unit : Description Path) (allowed : List Kind) (all : List Refusal) (meant : Option ItemNo) (p : PathStep) where
+module _ (unit : Description Path) (allowed : List Kind) (all : List Refusal)
+    (meant : Option ItemNo) (p : PathStep) where
   -- behind the last member nothing is found where the kind is allowed
-  no_fault : (i : Option ItemNo) → is_kind_among allowed p.kind ≡ true → faults_along unit allowed p.name.now p.kind i [] ≡ all → None ≡ first_of all
-  no_fault (Some i) is faults = ap (λ b. first_of (refused_if (not b) (WrongKind p.name.now))) (sym is) ∙ ap first_of faults
-  no_fault None is faults = ap (λ b. first_of (refused_if (not b) (WrongKind p.name.now))) (sym is) ∙ ap first_of faults
+  no_fault : (i : Option ItemNo) → is_kind_among allowed p.kind ≡ true
+      → faults_along unit allowed p.name.now p.kind i [] ≡ all → None ≡ first_of all
+  no_fault (Some i) is faults = ap (λ b. first_of (refused_if (not b) (WrongKind p.name.now)))
+      (sym is) ∙ ap first_of faults
+  no_fault None is faults = ap (λ b. first_of (refused_if (not b) (WrongKind p.name.now))) (sym is)
+      ∙ ap first_of faults
 
-  pub arrives : (item : ItemNo) → p.item ≡ Some item → is_kind_among allowed p.kind ≡ true → Reaches unit allowed all meant p [] → (None ≡ first_of all) × Means unit (item_among allowed meant) (Item item)
+  pub arrives : (item : ItemNo) → p.item ≡ Some item → is_kind_among allowed p.kind ≡ true
+      → Reaches unit allowed all meant p [] → (None ≡ first_of all)
+      × Means unit (item_among allowed meant) (Item item)
   unfolding Means
   arrives item is among r = (
     no_fault p.item among r.faults,
-    λ known. ap (item_among allowed) (sym r.item ∙ ap (option_and_then (λ j. along unit j [])) is) ∙ ap (λ b. if b then Some (Item item) else None) (ap (λ k. is_kind_among allowed k) (r.kind item is) ∙ among),
+    λ known. ap (item_among allowed) (sym r.item ∙ ap (option_and_then (λ j. along unit j [])) is)
+        ∙ ap (λ b. if b then Some (Item item) else None)
+        (ap (λ k. is_kind_among allowed k) (r.kind item is) ∙ among),
   )
 
-  pub unknown : (t : Target) → p.item ≡ None → is_kind_among allowed p.kind ≡ true → Reaches unit allowed all meant p [] → (None ≡ first_of all) × Means unit (item_among allowed meant) t
+  pub unknown : (t : Target) → p.item ≡ None → is_kind_among allowed p.kind ≡ true
+      → Reaches unit allowed all meant p [] → (None ≡ first_of all)
+      × Means unit (item_among allowed meant) t
   unfolding Means
-  unknown t is among r = (no_fault p.item among r.faults, λ known. absurd (false≢true (sym (ap is_some is) ∙ r.known known)))
+  unknown t is among r = (
+    no_fault p.item among r.faults,
+    λ known. absurd (false≢true (sym (ap is_some is) ∙ r.known known)),
+  )
 
-pub never_known : {A : Type 0} (unit : Description Path) (meant : Option A) (x : A) → (AllMembersNamed unit → ⊥) → Means unit meant x
+pub never_known : {A : Type 0} (unit : Description Path) (meant : Option A) (x : A)
+    → (AllMembersNamed unit → ⊥) → Means unit meant x
 unfolding Means
 never_known unit meant x none = λ known. absurd (none known)
 
 -- the next member of a path
-pub at_member : {X : Type 0} (name : X → Name) (unit : Description Path) (allowed : List Kind) (all : List Refusal) (meant : Option ItemNo) (p : PathStep) (xs ys : List X) (i : ℕ) (x : X) (n : Name) → ys ≡ xs → i < length xs → x ≡ get_or ys i x → n ≡ name x → Reaches unit allowed all meant p (map name (drop i xs)) → Reaches unit allowed all meant p (n ∷ map name (drop (i + 1) xs))
+pub at_member : {X : Type 0} (name : X → Name) (unit : Description Path) (allowed : List Kind)
+    (all : List Refusal) (meant : Option ItemNo) (p : PathStep) (xs ys : List X) (i : ℕ) (x : X)
+    (n : Name) → ys ≡ xs → i < length xs → x ≡ get_or ys i x → n ≡ name x
+    → Reaches unit allowed all meant p (map name (drop i xs))
+    → Reaches unit allowed all meant p (n ∷ map name (drop (i + 1) xs))
 at_member name unit allowed all meant p xs ys i x n same h is named r =
     subst (Reaches unit allowed all meant p)
-    (at_drop_more (map name) xs i x h ∙ ap (λ y. name y ∷ map name (drop (i + 1) xs)) (sym (is ∙ ap (λ zs. get_or zs i x) same)) ∙ ap (λ m. m ∷ map name (drop (i + 1) xs)) (sym named))
+    (at_drop_more (map name) xs i x h ∙ ap (λ y. name y ∷ map name (drop (i + 1) xs))
+    (sym (is ∙ ap (λ zs. get_or zs i x) same)) ∙ ap (λ m. m ∷ map name (drop (i + 1) xs))
+    (sym named))
     r
 
-pub at_none : {X : Type 0} (o : Option X) (P : Type 0) (Q : X → Type 0) → o ≡ None → MatchOption o P Q → P
+pub at_none : {X : Type 0} (o : Option X) (P : Type 0) (Q : X → Type 0) → o ≡ None
+    → MatchOption o P Q → P
 at_none o P Q is h = subst (λ o. MatchOption o P Q) is h
 
-pub at_some : {X : Type 0} (o : Option X) (x : X) (P : Type 0) (Q : X → Type 0) → o ≡ Some x → MatchOption o P Q → Q x
+pub at_some : {X : Type 0} (o : Option X) (x : X) (P : Type 0) (Q : X → Type 0) → o ≡ Some x
+    → MatchOption o P Q → Q x
 at_some o x P Q is h = subst (λ o. MatchOption o P Q) is h

@@ -5,5 +5,8 @@ use Rattle.edd_syntax.specs.Item.{Description}
 use Rattle.edd_syntax.specs.ItemView.{identification_of, named_items}
 
 -- the unit whose names they are
-abbrev pub unit_of : Names → Description Path
-unit_of n = record { identification = identification_of n.identification; items = named_items n.items.now }
+abbrev pub description_of : Names → Description Path
+description_of n = record {
+  identification = identification_of n.identification;
+  items = named_items n.items.now;
+}

@@ -18,7 +18,8 @@ use Rattle.edd_syntax.specs.Resolution.{Scope, FoundMember, member_at, item_of_m
 
 -- each member of a collection names an item of the kind after OF
 unfoldable pub AllMembersNamed : Description Path → Type 0
-AllMembersNamed unit = (i : ItemNo) (m : Name) (found : FoundMember) → member_at unit i m ≡ Some found → is_some (item_of_member unit found) ≡ true
+AllMembersNamed unit = (i : ItemNo) (m : Name) (found : FoundMember)
+    → member_at unit i m ≡ Some found → is_some (item_of_member unit found) ≡ true
 
 -- this is what is meant, where all members name something: else the fault is the member's
 unfoldable pub Means : {A : Type 0} → Description Path → (meant : Option A) → A → Type 0

@@ -14,7 +14,8 @@ use Rattle.edd_syntax.specs.Resolution.{FoundMember, member_in}
 use Rattle.edd_syntax.specs.TreeView.{path_of}
 
 -- the member at a name
-abbrev pub member_named : {S : Type 0} → Name → HashMap (Bor (List ℕ)) (Bor (code.Member code_path.Path)) S → Option (Member Path)
+abbrev pub member_named : {S : Type 0} → Name
+    → HashMap (Bor (List ℕ)) (Bor (code.Member code_path.Path)) S → Option (Member Path)
 member_named q m = option_map (λ r. member_of path_of r.now) (at q m)
 
 abbrev pub found_in : Collection → Name → Option FoundMember
@@ -25,4 +26,5 @@ abbrev pub AreCollections : List Collection → List (Item Path) → Type 0
 AreCollections [] [] = Unit {0}
 AreCollections [] (i ∷ is) = ⊥
 AreCollections (c ∷ cs) [] = ⊥
-AreCollections (c ∷ cs) (i ∷ is) = ((q : Name) → found_in c q ≡ member_in i q) × AreCollections cs is
+AreCollections (c ∷ cs) (i ∷ is) = ((q : Name) → found_in c q ≡ member_in i q)
+    × AreCollections cs is

@@ -13,7 +13,8 @@ use Rattle.edd_syntax.specs.Refusal.{Refusal}
 use Rattle.edd_syntax.specs.Resolution.{along}
 
 -- at a step with these members after it, the path has these faults and means this item
-pub record Reaches (unit : Description Path) (allowed : List Kind) (all : List Refusal) (meant : Option ItemNo) (p : PathStep) (members : List Name) : Type 0 where
+pub record Reaches (unit : Description Path) (allowed : List Kind) (all : List Refusal)
+    (meant : Option ItemNo) (p : PathStep) (members : List Name) : Type 0 where
   pub faults : faults_along unit allowed p.name.now p.kind p.item members ≡ all
   pub item : option_and_then (λ j. along unit j members) p.item ≡ meant
   pub kind : (j : ItemNo) → p.item ≡ Some j → kind_of j ≡ p.kind

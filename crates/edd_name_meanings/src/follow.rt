@@ -8,7 +8,7 @@ ghost use Rattle.edd_syntax.specs.Numbers.{kind_of};
 ghost use Rattle.edd_syntax.specs.Refusal.{Refusal, first_of};
 ghost use Rattle.edd_syntax.specs.Resolution.{along};
 ghost use Rattle.edd_syntax.specs.Text.{Name};
-ghost use Rattle.edd_name_meanings.specs.Directory.{unit_of};
+ghost use Rattle.edd_name_meanings.specs.Directory.{description_of};
 ghost use Rattle.edd_name_meanings.specs.Faults.{IsFirst};
 ghost use Rattle.edd_name_meanings.specs.Meanings.{AllMembersNamed, Means, item_among};
 ghost use Rattle.edd_name_meanings.specs.Paths.{Reaches};
@@ -27,11 +27,16 @@ fn step<'b>(
     member: &'b str,
 ) -> Result<Option<PathStep<'b>>, NameFault>
     requires { (j : ItemNo) → here.item ≡ Some j → kind_of j ≡ here.kind }
-    ensures sound { IfOk result (λ next. (allowed : List Kind) (all : List Refusal) (meant : Option ItemNo) (rest : List Name)
-        → Reaches (unit_of names.now) allowed all meant here.entry (member.now ∷ rest)
-        → MatchOption next ((None ≡ first_of all) × (AllMembersNamed (unit_of names.now) → ⊥)) (λ p. Reaches (unit_of names.now) allowed all meant p rest)) }
-    ensures refused { IfErr result (λ f. (allowed : List Kind) (all : List Refusal) (meant : Option ItemNo) (rest : List Name)
-        → Reaches (unit_of names.now) allowed all meant here.entry (member.now ∷ rest) → IsFirst f all) }
+    ensures sound { IfOk result (λ next. (allowed : List Kind) (all : List Refusal)
+        (meant : Option ItemNo) (rest : List Name)
+        → Reaches (description_of names.now) allowed all meant here.entry (member.now ∷ rest)
+        → MatchOption next ((None ≡ first_of all) × (AllMembersNamed (description_of names.now)
+        → ⊥))
+        (λ p. Reaches (description_of names.now) allowed all meant p rest)) }
+    ensures refused { IfErr result
+        (λ f. (allowed : List Kind) (all : List Refusal) (meant : Option ItemNo) (rest : List Name)
+        → Reaches (description_of names.now) allowed all meant here.entry (member.now ∷ rest)
+        → IsFirst f all) }
 {
     if here.kind != Kind::Collection {
         return Err(wrong_kind(names.alloc, here.name));
@@ -42,14 +47,18 @@ fn step<'b>(
     }
 }
 
-// What a reference means whose last member names nothing: its fault is the member's own, and is found at that member.
+// What a reference means whose last member names nothing: its fault is the member's own, and is
+// found at that member.
 const UNKNOWN: Target = Target::Item(ItemNo::Variable(VarNo(0)));
 
 // The end of a path.
 fn arrive(names: &Names, allowed: &[Kind], here: PathStep) -> Result<Target, NameFault>
-    ensures sound { IfOk result (λ t. (all : List Refusal) (meant : Option ItemNo) → Reaches (unit_of names.now) allowed.now all meant here.entry []
-        → (None ≡ first_of all) × Means (unit_of names.now) (item_among allowed.now meant) t) }
-    ensures refused { IfErr result (λ f. (all : List Refusal) (meant : Option ItemNo) → Reaches (unit_of names.now) allowed.now all meant here.entry [] → IsFirst f all) }
+    ensures sound { IfOk result (λ t. (all : List Refusal) (meant : Option ItemNo)
+        → Reaches (description_of names.now) allowed.now all meant here.entry []
+        → (None ≡ first_of all) × Means (description_of names.now) (item_among allowed.now meant)
+        t) }
+    ensures refused { IfErr result (λ f. (all : List Refusal) (meant : Option ItemNo)
+        → Reaches (description_of names.now) allowed.now all meant here.entry [] → IsFirst f all) }
 {
     if !is_among(allowed, here.kind) {
         return Err(wrong_kind(names.alloc, here.name));
@@ -67,9 +76,17 @@ pub fn follow(
     path: &Path,
     from: ItemNo,
 ) -> Result<Target, NameFault>
-    ensures sound { IfOk result (λ t. (None ≡ first_of (faults_along (unit_of names.now) allowed.now (string_bytes path.now.base) (kind_of from) (Some from) (map string_bytes path.now.members.items)))
-        × Means (unit_of names.now) (item_among allowed.now (along (unit_of names.now) from (map string_bytes path.now.members.items))) t) }
-    ensures refused { IfErr result (λ f. IsFirst f (faults_along (unit_of names.now) allowed.now (string_bytes path.now.base) (kind_of from) (Some from) (map string_bytes path.now.members.items))) }
+    ensures sound { IfOk result
+        (λ t. (None ≡ first_of (faults_along (description_of names.now) allowed.now
+        (string_bytes path.now.base) (kind_of from) (Some from)
+        (map string_bytes path.now.members.items)))
+        × Means (description_of names.now)
+        (item_among allowed.now (along (description_of names.now) from
+        (map string_bytes path.now.members.items))) t) }
+    ensures refused { IfErr result
+        (λ f. IsFirst f (faults_along (description_of names.now) allowed.now
+        (string_bytes path.now.base)
+        (kind_of from) (Some from) (map string_bytes path.now.members.items))) }
 {
     let mut here = PathStep {
         name: &path.base,

@@ -8,7 +8,7 @@ ghost use Rattle.edd_syntax.specs.NameRules.{item_limit, kinds};
 ghost use Rattle.edd_syntax.specs.Resolution.{count_of, item_named, member_at};
 ghost use Rattle.edd_syntax.specs.TreeView.{path_of};
 ghost use Rattle.edd_name_meanings.specs.declared.fault.NameFault.TheVariants.{Memory};
-ghost use Rattle.edd_name_meanings.specs.Directory.{unit_of};
+ghost use Rattle.edd_name_meanings.specs.Directory.{description_of};
 
 use crate::directory::Names;
 use crate::fault::NameFault;
@@ -26,7 +26,8 @@ impl<'a> Names<'a> {
         identification: Identification,
         items: &'a [Item<Path>],
     ) -> Result<Names<'a>, NameFault>
-        requires few { list_any (λ k. nat_lt item_limit (count_of k (named_items items.now))) kinds ≡ false }
+        requires few { list_any (λ k. nat_lt item_limit (count_of k (named_items items.now))) kinds
+            ≡ false }
         ensures identification { IfOk result (λ n. n.identification ≡ identification) }
         ensures items { IfOk result (λ n. n.items.now ≡ items.now) }
         ensures refused { IfErr result (λ f. f ≡ Memory) }
@@ -44,14 +45,15 @@ impl<'a> Names<'a> {
 
     /// The item of a name.
     pub fn item(&self, name: &str) -> Option<ItemNo>
-        ensures { result ≡ item_named (unit_of self.now) name.now }
+        ensures { result ≡ item_named (description_of self.now) name.now }
     {
         self.numbers.get(name).copied()
     }
 
     /// The member of a collection, and the kind after OF.
     pub fn member(&self, collection: CollNo, name: &str) -> Option<(&'a Member<Path>, Kind)>
-        ensures { option_map (λ m. (member_of path_of m.0.now, m.1)) result ≡ member_at (unit_of self.now) (item_no.Collection collection) name.now }
+        ensures { option_map (λ m. (member_of path_of m.0.now, m.1)) result
+            ≡ member_at (description_of self.now) (item_no.Collection collection) name.now }
     {
         let found = self.collections.get(usize::from(collection.0))?;
         found.member(name)

@@ -38,7 +38,8 @@ fn add_members<'a>(
     members: &'a [Member<Path>],
 ) -> Result<(), NameFault>
     ensures sound { OnOk result ((q : Name) → member_named q into.new
-        ≡ option_or (member_named q into.old) (find (λ m. bytes_eq m.name q) (map (member_of path_of) members.now))) }
+        ≡ option_or (member_named q into.old)
+        (find (λ m. bytes_eq m.name q) (map (member_of path_of) members.now))) }
     ensures refused { IfErr result (λ f. f ≡ Memory) }
 {
     for member in members {
@@ -52,7 +53,8 @@ fn add_attribute<'a>(
     attribute: &'a Attribute<Path>,
 ) -> Result<(), NameFault>
     ensures sound { OnOk result ((q : Name) → member_named q into.new
-        ≡ option_or (member_named q into.old) (find (λ m. bytes_eq m.name q) (members_in (attribute_of path_of attribute.now)))) }
+        ≡ option_or (member_named q into.old)
+        (find (λ m. bytes_eq m.name q) (members_in (attribute_of path_of attribute.now)))) }
     ensures refused { IfErr result (λ f. f ≡ Memory) }
 {
     match attribute {
@@ -66,7 +68,9 @@ fn add_attributes<'a>(
     attributes: &'a [Attribute<Path>],
 ) -> Result<(), NameFault>
     ensures sound { OnOk result ((q : Name) → member_named q into.new
-        ≡ option_or (member_named q into.old) (find (λ m. bytes_eq m.name q) (flat_map members_in (map (attribute_of path_of) attributes.now)))) }
+        ≡ option_or (member_named q into.old)
+        (find (λ m. bytes_eq m.name q)
+        (flat_map members_in (map (attribute_of path_of) attributes.now)))) }
     ensures refused { IfErr result (λ f. f ≡ Memory) }
 {
     for attribute in attributes {
@@ -79,7 +83,8 @@ fn one_collection<'a>(
     def: &'a CollectionDef<Path>,
     alloc: Global,
 ) -> Result<Collection<'a>, NameFault>
-    ensures sound { IfOk result (λ c. (q : Name) → found_in c q ≡ member_in (item_of path_of (item_kind.Collection def.now)) q) }
+    ensures sound { IfOk result (λ c. (q : Name)
+        → found_in c q ≡ member_in (item_of path_of (item_kind.Collection def.now)) q) }
     ensures refused { IfErr result (λ f. f ≡ Memory) }
 {
     let mut members = IndexMap::new(alloc);
@@ -96,8 +101,11 @@ fn add_collection<'a>(
     item: &'a Item<Path>,
     alloc: Global,
 ) -> Result<(), NameFault>
-    ensures sound { OnOk result ((is : List (pure.Item reference.Path)) → AreCollections all.old.items is
-        → AreCollections all.new.items (is ++ filter (λ i. same_kind (kind_of_item i.sort) kind.Collection) (item_of path_of item.now ∷ []))) }
+    ensures sound { OnOk result ((is : List (pure.Item reference.Path))
+        → AreCollections all.old.items is
+        → AreCollections all.new.items
+        (is ++ filter (λ i. same_kind (kind_of_item i.sort) kind.Collection)
+        (item_of path_of item.now ∷ []))) }
     ensures refused { IfErr result (λ f. f ≡ Memory) }
 {
     match item {
@@ -116,7 +124,9 @@ fn add_collections<'a>(
     alloc: Global,
 ) -> Result<(), NameFault>
     requires { all.old.items ≡ [] }
-    ensures sound { OnOk result (AreCollections all.new.items (filter (λ i. same_kind (kind_of_item i.sort) kind.Collection) (map (item_of path_of) items.now))) }
+    ensures sound { OnOk result
+        (AreCollections all.new.items (filter (λ i. same_kind (kind_of_item i.sort) kind.Collection)
+        (map (item_of path_of) items.now))) }
     ensures refused { IfErr result (λ f. f ≡ Memory) }
 {
     for item in items {
@@ -130,7 +140,10 @@ pub fn collections<'a>(
     items: &'a [Item<Path>],
     alloc: Global,
 ) -> Result<Vec<Collection<'a>>, NameFault>
-    ensures sound { IfOk result (λ all. AreCollections all.items (filter (λ i. same_kind (kind_of_item i.sort) kind.Collection) (map (item_of path_of) items.now))) }
+    ensures sound { IfOk result
+        (λ all. AreCollections all.items
+        (filter (λ i. same_kind (kind_of_item i.sort) kind.Collection)
+        (map (item_of path_of) items.now))) }
     ensures refused { IfErr result (λ f. f ≡ Memory) }
 {
     let mut all = Vec::new(alloc);
@@ -141,7 +154,8 @@ pub fn collections<'a>(
 impl<'a> Collection<'a> {
     /// The member of a name, and the kind after OF.
     pub fn member(&self, name: &str) -> Option<(&'a Member<Path>, Kind)>
-        ensures { option_map (λ m. (member_of path_of m.0.now, m.1)) result ≡ found_in self.now name.now }
+        ensures { option_map (λ m. (member_of path_of m.0.now, m.1)) result
+            ≡ found_in self.now name.now }
     {
         match self.members.get(name) {
             Some(member) => Some((*member, self.of)),

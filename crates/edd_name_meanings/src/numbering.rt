@@ -60,7 +60,8 @@ impl Counts {
     // One more item of a kind.
     fn count(&mut self, kind: Kind)
         requires { count_in self.old kind < 65535 }
-        ensures { (k : Kind) → count_in self.new k ≡ count_in self.old k + (if same_kind kind k then 1 else 0) }
+        ensures { (k : Kind) → count_in self.new k ≡ count_in self.old k
+            + (if same_kind kind k then 1 else 0) }
     {
         match kind {
             Kind::Variable => self.variables += 1,
@@ -78,7 +79,8 @@ pub fn put_first<'a, V: Copy>(
     name: &'a str,
     value: V,
 ) -> Result<(), NameFault>
-    ensures sound { OnOk result ((q : Name) → at q map.new ≡ option_or (at q map.old) (if_named name.now q value)) }
+    ensures sound { OnOk result ((q : Name)
+        → at q map.new ≡ option_or (at q map.old) (if_named name.now q value)) }
     ensures refused { IfErr result (λ f. f ≡ Memory) }
 {
     if map.get(name).is_some() {
@@ -97,9 +99,11 @@ fn number_item<'a>(
     requires { count_in counts.old (kind_of_item (item_of path_of item.now).sort) < 65535 }
     ensures sound { OnOk result ((q : Name) → at q numbers.new
         ≡ option_or (at q numbers.old) (if_named (item_of path_of item.now).name q
-        (item_number (kind_of_item (item_of path_of item.now).sort) (count_in counts.old (kind_of_item (item_of path_of item.now).sort))))) }
+        (item_number (kind_of_item (item_of path_of item.now).sort)
+        (count_in counts.old (kind_of_item (item_of path_of item.now).sort))))) }
     ensures counted { OnOk result ((k : Kind) → count_in counts.new k
-        ≡ count_in counts.old k + (if same_kind (kind_of_item (item_of path_of item.now).sort) k then 1 else 0)) }
+        ≡ count_in counts.old k + (if same_kind (kind_of_item (item_of path_of item.now).sort) k
+        then 1 else 0)) }
     ensures refused { IfErr result (λ f. f ≡ Memory) }
 {
     let kind = item.kind();
@@ -112,9 +116,11 @@ fn number_all<'a>(
     items: &'a [Item<Path>],
     numbers: &mut IndexMap<&'a str, ItemNo>,
 ) -> Result<(), NameFault>
-    requires few { list_any (λ k. nat_lt item_limit (count_of k (map (item_of path_of) items.now))) kinds ≡ false }
+    requires few { list_any (λ k. nat_lt item_limit (count_of k (map (item_of path_of) items.now)))
+        kinds ≡ false }
     requires none { (q : Name) → at q numbers.old ≡ None }
-    ensures sound { OnOk result ((q : Name) → at q numbers.new ≡ look_up q (numbered_names [] (map (item_of path_of) items.now))) }
+    ensures sound { OnOk result ((q : Name)
+        → at q numbers.new ≡ look_up q (numbered_names [] (map (item_of path_of) items.now))) }
     ensures refused { IfErr result (λ f. f ≡ Memory) }
 {
     let mut counts = Counts::none();
@@ -129,8 +135,10 @@ pub fn number_items<'a>(
     items: &'a [Item<Path>],
     alloc: Global,
 ) -> Result<IndexMap<&'a str, ItemNo>, NameFault>
-    requires few { list_any (λ k. nat_lt item_limit (count_of k (map (item_of path_of) items.now))) kinds ≡ false }
-    ensures sound { IfOk result (λ m. (q : Name) → at q m ≡ look_up q (numbered_names [] (map (item_of path_of) items.now))) }
+    requires few { list_any (λ k. nat_lt item_limit (count_of k (map (item_of path_of) items.now)))
+        kinds ≡ false }
+    ensures sound { IfOk result (λ m. (q : Name)
+        → at q m ≡ look_up q (numbered_names [] (map (item_of path_of) items.now))) }
     ensures refused { IfErr result (λ f. f ≡ Memory) }
 {
     let mut numbers = IndexMap::new(alloc);

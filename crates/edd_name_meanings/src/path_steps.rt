@@ -9,7 +9,7 @@ ghost use Rattle.edd_syntax.specs.Numbers.{kind_of};
 ghost use Rattle.edd_syntax.specs.Refusal.{UnknownName, WrongKind, first_of};
 ghost use Rattle.edd_syntax.specs.Resolution.{FoundMember, along, item_of_member, member_at, of_kind};
 ghost use Rattle.edd_syntax.specs.TreeView.{path_of};
-ghost use Rattle.edd_name_meanings.specs.Directory.{unit_of};
+ghost use Rattle.edd_name_meanings.specs.Directory.{description_of};
 ghost use Rattle.edd_name_meanings.specs.Faults.{IsFound, IsFirst};
 ghost use Rattle.edd_name_meanings.specs.Meanings.{Means, item_among};
 
@@ -76,7 +76,8 @@ fn member_of_item<'a>(
     member: &str,
 ) -> Option<(&'a Member<Path>, Kind)>
     requires { kind_of item ≡ kind.Collection }
-    ensures { option_map (λ m. (member_of path_of m.0.now, m.1)) result ≡ member_at (unit_of names.now) item member.now }
+    ensures { option_map (λ m. (member_of path_of m.0.now, m.1)) result
+        ≡ member_at (description_of names.now) item member.now }
 {
     match item {
         ItemNo::Collection(n) => names.member(n, member),
@@ -91,9 +92,13 @@ pub fn step_to_member<'b>(
     member: &'b str,
 ) -> Result<PathStep<'b>, NameFault>
     requires { kind_of item ≡ kind.Collection }
-    ensures sound { IfOk result (λ p. (found : FoundMember) × (member_at (unit_of names.now) item member.now ≡ Some found)
-        × (p.name.now ≡ member.now) × (p.kind ≡ found.1) × (p.item ≡ item_of_member (unit_of names.now) found)) }
-    ensures refused { IfErr result (λ f. (member_at (unit_of names.now) item member.now ≡ None) × IsFound f (Some (UnknownName member.now))) }
+    ensures sound { IfOk result (λ p. (found : FoundMember)
+        × (member_at (description_of names.now) item member.now ≡ Some found)
+        × (p.name.now ≡ member.now) × (p.kind ≡ found.1)
+        × (p.item ≡ item_of_member (description_of names.now) found)) }
+    ensures refused { IfErr result
+        (λ f. (member_at (description_of names.now) item member.now ≡ None)
+        × IsFound f (Some (UnknownName member.now))) }
 {
     match member_of_item(names, item, member) {
         Some((found, of)) => Ok(PathStep {

@@ -7,7 +7,7 @@ ghost use Rattle.edd_syntax.specs.NameUses.{OfItem, OfFunction};
 ghost use Rattle.edd_syntax.specs.Resolution.{look_up, builtin_name, builtins, meaning, local_meant, item_meant, function_meant};
 ghost use Rattle.edd_syntax.specs.Refusal.{first_of};
 ghost use Rattle.edd_syntax.specs.TreeView.{path_of};
-ghost use Rattle.edd_name_meanings.specs.Directory.{unit_of};
+ghost use Rattle.edd_name_meanings.specs.Directory.{description_of};
 ghost use Rattle.edd_name_meanings.specs.Faults.{IsFirst};
 ghost use Rattle.edd_name_meanings.specs.Meanings.{Means, NoFault, FirstFault, scope_of};
 
@@ -40,8 +40,11 @@ pub fn find_local(scope: &[Local], name: &str) -> Option<u8>
 
 // The local of a slot, which has no members.
 fn refer_local(names: &Names, slot: u8, path: &Path) -> Result<Target, NameFault>
-    ensures sound { IfOk result (λ t. (None ≡ first_of (faults_of_local (path_of path.now) (path_of path.now).members)) × (local_meant slot (path_of path.now).members ≡ Some t)) }
-    ensures refused { IfErr result (λ f. IsFirst f (faults_of_local (path_of path.now) (path_of path.now).members)) }
+    ensures sound { IfOk result
+        (λ t. (None ≡ first_of (faults_of_local (path_of path.now) (path_of path.now).members))
+        × (local_meant slot (path_of path.now).members ≡ Some t)) }
+    ensures refused { IfErr result
+        (λ f. IsFirst f (faults_of_local (path_of path.now) (path_of path.now).members)) }
 {
     if path.members.is_empty() {
         Ok(Target::Local(slot))
@@ -51,9 +54,14 @@ fn refer_local(names: &Names, slot: u8, path: &Path) -> Result<Target, NameFault
 }
 
 fn refer_item(names: &Names, kinds: &[Kind], path: &Path) -> Result<Target, NameFault>
-    ensures sound { IfOk result (λ t. (None ≡ first_of (faults_of_item (unit_of names.now) kinds.now (path_of path.now)))
-        × Means (unit_of names.now) (item_meant (unit_of names.now) kinds.now (path_of path.now)) t) }
-    ensures refused { IfErr result (λ f. IsFirst f (faults_of_item (unit_of names.now) kinds.now (path_of path.now))) }
+    ensures sound { IfOk result
+        (λ t. (None ≡ first_of (faults_of_item (description_of names.now) kinds.now
+        (path_of path.now)))
+        × Means (description_of names.now)
+        (item_meant (description_of names.now) kinds.now (path_of path.now))
+        t) }
+    ensures refused { IfErr result
+        (λ f. IsFirst f (faults_of_item (description_of names.now) kinds.now (path_of path.now))) }
 {
     match names.item(&path.base) {
         Some(item) => follow(names, kinds, path, item),
@@ -69,9 +77,17 @@ pub fn refer(
     kinds: &[Kind],
     path: &Path,
 ) -> Result<Target, NameFault>
-    ensures accepted { IfOk result (λ t. NoFault (unit_of names.now) (OfItem (scope_of scope.now) kinds.now (path_of path.now) ∷ [])) }
-    ensures sound { IfOk result (λ t. Means (unit_of names.now) (meaning (unit_of names.now) (scope_of scope.now) kinds.now (path_of path.now)) t) }
-    ensures refused { IfErr result (λ f. FirstFault f (unit_of names.now) (OfItem (scope_of scope.now) kinds.now (path_of path.now) ∷ [])) }
+    ensures accepted { IfOk result
+        (λ t. NoFault (description_of names.now)
+        (OfItem (scope_of scope.now) kinds.now (path_of path.now)
+        ∷ [])) }
+    ensures sound { IfOk result
+        (λ t. Means (description_of names.now)
+        (meaning (description_of names.now) (scope_of scope.now) kinds.now
+        (path_of path.now)) t) }
+    ensures refused { IfErr result
+        (λ f. FirstFault f (description_of names.now)
+        (OfItem (scope_of scope.now) kinds.now (path_of path.now) ∷ [])) }
 {
     match find_local(scope, &path.base) {
         Some(slot) => refer_local(names, slot, path),
@@ -81,7 +97,8 @@ pub fn refer(
 
 // The function, where this is its name: else what was found.
 fn if_named(name: &str, function: Builtin, otherwise: Option<Builtin>) -> Option<Builtin>
-    ensures { result ≡ (if bytes_eq (builtin_name function) name.now then Some function else otherwise) }
+    ensures { result ≡ (if bytes_eq (builtin_name function) name.now then Some function else
+        otherwise) }
 {
     if function.name() == name {
         Some(function)
@@ -113,9 +130,13 @@ pub fn builtin(name: &str) -> Option<Builtin>
 /// What the name of a call means.
 #[tactic(auto, unfolding(crate::specs::Meanings::Means, crate::specs::Meanings::NoFault, crate::specs::Meanings::FirstFault, crate::specs::Meanings::faults_in))]
 pub fn refer_function(names: &Names, path: &Path) -> Result<Target, NameFault>
-    ensures accepted { IfOk result (λ t. NoFault (unit_of names.now) (OfFunction (path_of path.now) ∷ [])) }
-    ensures sound { IfOk result (λ t. Means (unit_of names.now) (function_meant (path_of path.now)) t) }
-    ensures refused { IfErr result (λ f. FirstFault f (unit_of names.now) (OfFunction (path_of path.now) ∷ [])) }
+    ensures accepted { IfOk result
+        (λ t. NoFault (description_of names.now) (OfFunction (path_of path.now) ∷ [])) }
+    ensures sound { IfOk result
+        (λ t. Means (description_of names.now) (function_meant (path_of path.now))
+        t) }
+    ensures refused { IfErr result
+        (λ f. FirstFault f (description_of names.now) (OfFunction (path_of path.now) ∷ [])) }
 {
     match builtin(&path.base) {
         Some(function) => Ok(Target::Function(function)),

@@ -7,7 +7,8 @@ use Rattle.edd_name_rules.specs.Faults.{refusal_of, IsFound, IsFirst}
 use Rattle.edd_name_rules.proofs.Noting.{none_both, told_left, told_right}
 
 -- the first of a list of names, as a refusal
-pub first_mapped : {X Y : Type 0} (f : X → Y) (xs : List X) → first_of (map f xs) ≡ option_map f (first_of xs)
+pub first_mapped : {X Y : Type 0} (f : X → Y) (xs : List X)
+    → first_of (map f xs) ≡ option_map f (first_of xs)
 first_mapped f [] = refl
 first_mapped f (x ∷ xs) = refl
 
@@ -15,7 +16,8 @@ pub first_left_of : (f : RuleFault) (xs ys : List Refusal) → IsFirst f xs → 
 unfolding IsFound
 first_left_of f xs ys h = told_left (refusal_of f) xs ys h
 
-pub first_right_of : (f : RuleFault) (xs ys : List Refusal) → None ≡ first_of xs → IsFirst f ys → IsFirst f (xs ++ ys)
+pub first_right_of : (f : RuleFault) (xs ys : List Refusal) → None ≡ first_of xs → IsFirst f ys
+    → IsFirst f (xs ++ ys)
 unfolding IsFound
 first_right_of f xs ys none h = told_right (refusal_of f) xs ys none h
 

@@ -9,13 +9,17 @@ use Rattle.edd_syntax.specs.NameRules.{repeated_locals, repeated_in_attributes, 
 use Rattle.edd_syntax.specs.Refusal.{repeated}
 use Rattle.edd_name_rules.specs.Scopes.{part_repeats, names_of_part, attribute_repeats, names_of_attribute, item_repeats}
 
-pub part_step : (b : List Name) (p : Part Path) (rest : List (Part Path)) → repeated_locals b (body_from (p ∷ rest)) ≡ part_repeats b p ++ repeated_locals (names_of_part p ++ b) (body_from rest)
+pub part_step : (b : List Name) (p : Part Path) (rest : List (Part Path))
+    → repeated_locals b (body_from (p ∷ rest)) ≡ part_repeats b p
+    ++ repeated_locals (names_of_part p ++ b) (body_from rest)
 part_step b (Declare declarators) rest = refl
 part_step b (Statement s) rest = refl
 part_step b (CaseLabel label) rest = refl
 part_step b DefaultLabel rest = refl
 
-pub attribute_step : (b : List Name) (a : Attribute Path) (rest : List (Attribute Path)) → repeated_in_attributes b (a ∷ rest) ≡ attribute_repeats b a ++ repeated_in_attributes (names_of_attribute a ++ b) rest
+pub attribute_step : (b : List Name) (a : Attribute Path) (rest : List (Attribute Path))
+    → repeated_in_attributes b (a ∷ rest) ≡ attribute_repeats b a
+    ++ repeated_in_attributes (names_of_attribute a ++ b) rest
 attribute_step b (item.OneText which c) rest = refl
 attribute_step b (item.Class words) rest = refl
 attribute_step b (item.Handling c) rest = refl
@@ -29,5 +33,9 @@ attribute_step b (item.Items entries) rest = refl
 attribute_step b (item.Members members) rest = refl
 attribute_step b (item.Definition body) rest = refl
 
-pub item_step : (b : List Name) (i : Item Path) (rest : List (Item Path)) → repeated_in_items b (i ∷ rest) ≡ item_repeats b i ++ repeated_in_items ((i.name ∷ []) ++ b) rest
-item_step b i rest = sym (append_assoc (repeated b (i.name ∷ [])) (repeated_in_attributes [] i.attributes) (repeated_in_items (i.name ∷ b) rest))
+pub item_step : (b : List Name) (i : Item Path) (rest : List (Item Path))
+    → repeated_in_items b (i ∷ rest) ≡ item_repeats b i ++ repeated_in_items ((i.name ∷ []) ++ b)
+    rest
+item_step b i rest = sym
+    (append_assoc (repeated b (i.name ∷ [])) (repeated_in_attributes [] i.attributes)
+    (repeated_in_items (i.name ∷ b) rest))

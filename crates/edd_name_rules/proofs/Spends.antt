@@ -65,49 +65,80 @@ pub ruleset spends = (spent_then, spent_then_none)
 
 -- ---- a loop over a slice, where the nodes of a list are those of its first element and those of the others
 
-module _ {X Y : Type 0} (size : List Y → ℕ) (view : X → Y) (splits : (y : Y) (ys : List Y) → size (y ∷ ys) ≡ size (y ∷ []) + size ys) where
+module _ {X Y : Type 0} (size : List Y → ℕ) (view : X → Y) (splits : (y : Y) (ys : List Y)
+    → size (y ∷ ys) ≡ size (y ∷ []) + size ys) where
   -- what is left after the elements from the i-th on
   abbrev pub spent_from : (left : ℕ) → ℕ → List X → Option ℕ
   spent_from left i xs = spent left (size (map view (drop i xs)))
 
-  next_size : (left i : ℕ) (xs : List X) (x : X) → i < length xs → x ≡ get_or xs i x → spent_from left i xs ≡ spent left (size (view x ∷ []) + size (map view (drop (i + 1) xs)))
+  next_size : (left i : ℕ) (xs : List X) (x : X) → i < length xs → x ≡ get_or xs i x
+      → spent_from left i xs ≡ spent left (size (view x ∷ []) + size (map view (drop (i + 1) xs)))
   next_size left i xs x h is =
-      at_drop_more (λ ys. spent left (size (map view ys))) xs i x h ∙ ap (spent left) (splits _ _) ∙ ap (λ y. spent left (size (view y ∷ []) + size (map view (drop (i + 1) xs)))) (sym is)
+      at_drop_more (λ ys. spent left (size (map view ys))) xs i x h ∙ ap (spent left) (splits _ _)
+      ∙ ap (λ y. spent left (size (view y ∷ []) + size (map view (drop (i + 1) xs)))) (sym is)
 
   -- behind an element for which the nodes were enough
-  pub goes_on : (left rest i : ℕ) (xs : List X) (x : X) (all : Option ℕ) → i < length xs → x ≡ get_or xs i x → Some rest ≡ spent left (size (view x ∷ [])) → spent_from left i xs ≡ all → spent_from rest (i + 1) xs ≡ all
-  goes_on left rest i xs x all h is enough invariant = spent_then left rest _ _ enough ∙ sym (next_size left i xs x h is) ∙ invariant
+  pub goes_on : (left rest i : ℕ) (xs : List X) (x : X) (all : Option ℕ) → i < length xs
+      → x ≡ get_or xs i x → Some rest ≡ spent left (size (view x ∷ [])) → spent_from left i xs ≡ all
+      → spent_from rest (i + 1) xs ≡ all
+  goes_on left rest i xs x all h is enough invariant = spent_then left rest _ _ enough
+      ∙ sym (next_size left i xs x h is) ∙ invariant
 
   -- at an element for which they were not
-  pub stops_at : (left i : ℕ) (xs : List X) (x : X) (all : Option ℕ) → i < length xs → x ≡ get_or xs i x → None ≡ spent left (size (view x ∷ [])) → spent_from left i xs ≡ all → None ≡ all
-  stops_at left i xs x all h is none invariant = spent_then_none left _ _ none ∙ sym (next_size left i xs x h is) ∙ invariant
+  pub stops_at : (left i : ℕ) (xs : List X) (x : X) (all : Option ℕ) → i < length xs
+      → x ≡ get_or xs i x → None ≡ spent left (size (view x ∷ [])) → spent_from left i xs ≡ all
+      → None ≡ all
+  stops_at left i xs x all h is none invariant = spent_then_none left _ _ none
+      ∙ sym (next_size left i xs x h is) ∙ invariant
 
-pub argument_nodes_split : {R : Type 0} (x : pure.Argument R) (xs : List (pure.Argument R)) → argument_nodes (arguments_from (x ∷ xs)) ≡ argument_nodes (arguments_from (x ∷ [])) + argument_nodes (arguments_from xs)
+pub argument_nodes_split : {R : Type 0} (x : pure.Argument R) (xs : List (pure.Argument R))
+    → argument_nodes (arguments_from (x ∷ xs)) ≡ argument_nodes (arguments_from (x ∷ []))
+    + argument_nodes (arguments_from xs)
 argument_nodes_split (pure.Text text) xs = omega arith
 argument_nodes_split (pure.Value e) xs = omega arith
 
-pub body_nodes_split : {R : Type 0} (x : statement.Part R) (xs : List (statement.Part R)) → body_nodes (body_from (x ∷ xs)) ≡ body_nodes (body_from (x ∷ [])) + body_nodes (body_from xs)
+pub body_nodes_split : {R : Type 0} (x : statement.Part R) (xs : List (statement.Part R))
+    → body_nodes (body_from (x ∷ xs)) ≡ body_nodes (body_from (x ∷ [])) + body_nodes (body_from xs)
 body_nodes_split (statement.Declare declarators) xs = omega arith
 body_nodes_split (statement.Statement s) xs = omega arith
 body_nodes_split (statement.CaseLabel label) xs = omega arith
 body_nodes_split statement.DefaultLabel xs = omega arith
 
-pub declarator_nodes_split : {R : Type 0} (d : statement.Declarator R) (ds : List (statement.Declarator R)) → declarator_nodes (d ∷ ds) ≡ declarator_nodes (d ∷ []) + declarator_nodes ds
+pub declarator_nodes_split : {R : Type 0} (d : statement.Declarator R)
+    (ds : List (statement.Declarator R)) → declarator_nodes (d ∷ ds) ≡ declarator_nodes (d ∷ [])
+    + declarator_nodes ds
 declarator_nodes_split d ds = omega arith
 
 -- ---- trees whose children a vector holds
 
-pub spent_call : {R S : Type 0} (f : R → S) (x : Expr R) (line : ℕ) (function : R) (v : Vec (Argument R) Global) (items : List (Argument R)) (budget left : ℕ) (r : Option ℕ) → x ≡ e.Call line function v → items ≡ v.items → Some left ≡ spent budget 1 → r ≡ spent left (argument_nodes (arguments_from (map (argument_of f) items))) → r ≡ spent budget (nodes (expr_of f x))
+pub spent_call : {R S : Type 0} (f : R → S) (x : Expr R) (line : ℕ) (function : R)
+    (v : Vec (Argument R) Global) (items : List (Argument R)) (budget left : ℕ) (r : Option ℕ)
+    → x ≡ e.Call line function v → items ≡ v.items → Some left ≡ spent budget 1
+    → r ≡ spent left (argument_nodes (arguments_from (map (argument_of f) items)))
+    → r ≡ spent budget (nodes (expr_of f x))
 spent_call f x line function v items budget left r is same first last =
-    last ∙ ap (λ xs. spent left (argument_nodes (arguments_from (map (argument_of f) xs)))) same ∙ spent_then budget left 1 _ first ∙ ap (λ y. spent budget (nodes y)) (sym (call_is f x line function v is))
+    last ∙ ap (λ xs. spent left (argument_nodes (arguments_from (map (argument_of f) xs)))) same
+    ∙ spent_then budget left 1 _ first ∙ ap (λ y. spent budget (nodes y))
+    (sym (call_is f x line function v is))
 
-pub spent_block : {R S : Type 0} (f : R → S) (x : Stmt R) (v : Vec (Part R) Global) (items : List (Part R)) (budget left : ℕ) (r : Option ℕ) → x ≡ s.Block v → items ≡ v.items → Some left ≡ spent budget 1 → r ≡ spent left (body_nodes (body_from (map (part_of f) items))) → r ≡ spent budget (statement_nodes (stmt_of f x))
+pub spent_block : {R S : Type 0} (f : R → S) (x : Stmt R) (v : Vec (Part R) Global)
+    (items : List (Part R)) (budget left : ℕ) (r : Option ℕ) → x ≡ s.Block v → items ≡ v.items
+    → Some left ≡ spent budget 1 → r ≡ spent left (body_nodes (body_from (map (part_of f) items)))
+    → r ≡ spent budget (statement_nodes (stmt_of f x))
 spent_block f x v items budget left r is same first last =
-    last ∙ ap (λ xs. spent left (body_nodes (body_from (map (part_of f) xs)))) same ∙ spent_then budget left 1 _ first ∙ ap (λ y. spent budget (statement_nodes y)) (sym (block_is f x v is))
+    last ∙ ap (λ xs. spent left (body_nodes (body_from (map (part_of f) xs)))) same
+    ∙ spent_then budget left 1 _ first ∙ ap (λ y. spent budget (statement_nodes y))
+    (sym (block_is f x v is))
 
-pub spent_switch : {R S : Type 0} (f : R → S) (x : Stmt R) (on : Expr R) (v : Vec (Part R) Global) (items : List (Part R)) (budget left rest : ℕ) (r : Option ℕ) → x ≡ s.Switch on v → items ≡ v.items → Some left ≡ spent budget 1 → Some rest ≡ spent left (nodes (expr_of f on)) → r ≡ spent rest (body_nodes (body_from (map (part_of f) items))) → r ≡ spent budget (statement_nodes (stmt_of f x))
+pub spent_switch : {R S : Type 0} (f : R → S) (x : Stmt R) (on : Expr R) (v : Vec (Part R) Global)
+    (items : List (Part R)) (budget left rest : ℕ) (r : Option ℕ) → x ≡ s.Switch on v
+    → items ≡ v.items → Some left ≡ spent budget 1 → Some rest ≡ spent left (nodes (expr_of f on))
+    → r ≡ spent rest (body_nodes (body_from (map (part_of f) items)))
+    → r ≡ spent budget (statement_nodes (stmt_of f x))
 spent_switch f x on v items budget left rest r is same first second last =
-    last ∙ ap (λ xs. spent rest (body_nodes (body_from (map (part_of f) xs)))) same ∙ spent_then left rest _ _ second ∙ spent_then budget left 1 _ first ∙ ap (λ y. spent budget (statement_nodes y)) (sym (switch_is f x on v is))
+    last ∙ ap (λ xs. spent rest (body_nodes (body_from (map (part_of f) xs)))) same
+    ∙ spent_then left rest _ _ second ∙ spent_then budget left 1 _ first
+    ∙ ap (λ y. spent budget (statement_nodes y)) (sym (switch_is f x on v is))
 
 -- the things are too many exactly if the limit is not enough for them
 pub over_limit : (r : Option ℕ) (limit n : ℕ) → r ≡ spent limit n → is_none r ≡ nat_lt limit n

@@ -16,8 +16,11 @@ abbrev pub missing_in : {R : Type 0} → List (Item R) → List Refusal
 missing_in items = flat_map (λ i. map (MissingAttribute i.name) (missing_words i)) items
 
 -- those of some words that are missing
-abbrev pub missing_among : {R : Type 0} → (item : Name) → List (Attribute R) → (words : List Name) → List Refusal
-missing_among item attributes words = map (MissingAttribute item) (filter (λ word. not (is_name_in (map attribute_word attributes) word)) words)
+abbrev pub missing_among : {R : Type 0} → (item : Name) → List (Attribute R) → (words : List Name)
+    → List Refusal
+missing_among item attributes words =
+    map (MissingAttribute item)
+    (filter (λ word. not (is_name_in (map attribute_word attributes) word)) words)
 
 abbrev pub is_transaction : {R : Type 0} → Attribute R → Bool
 is_transaction (Transaction number parts) = true
@@ -25,8 +28,17 @@ is_transaction _ = false
 
 -- the repeated words of one attribute behind others
 abbrev pub repeated_here : {R : Type 0} → (before : List Name) → Attribute R → List Name
-repeated_here before a = (if is_transaction a then [] else repeated before (attribute_word a ∷ [])) ++ repeated_words_inside a
+repeated_here before a = (if is_transaction a then [] else repeated before (attribute_word a ∷ []))
+    ++ repeated_words_inside a
 
 -- a description of these items, of whatever device
 abbrev pub described : List (Item Path) → Description Path
-described items = record { identification = record { manufacturer = 0; device_type = 0; device_revision = 0; dd_revision = 0 }; items = items }
+described items = record {
+  identification = record {
+    manufacturer = 0;
+    device_type = 0;
+    device_revision = 0;
+    dd_revision = 0;
+  };
+  items = items;
+}

@@ -42,7 +42,8 @@ pub fn word_of(attribute: &Attribute<Path>) -> &'static str
 
 /// Whether an attribute of this word stands there.
 pub fn has_word(attributes: &[Attribute<Path>], word: &str) -> bool
-    ensures { result ≡ is_name_in (map attribute_word (map (attribute_of path_of) attributes.now)) word.now }
+    ensures { result ≡ is_name_in (map attribute_word (map (attribute_of path_of) attributes.now))
+        word.now }
 {
     for attribute in attributes {
         if word_of(attribute) == word {
@@ -54,7 +55,8 @@ pub fn has_word(attributes: &[Attribute<Path>], word: &str) -> bool
 
 #[tactic(auto, using(crate::proofs::Missing::missing))]
 fn missing_in_item(item: &Item<Path>) -> Option<Missing>
-    ensures { option_map refusal_of_missing result ≡ first_of (missing_in (item_of path_of item.now ∷ [])) }
+    ensures { option_map refusal_of_missing result
+        ≡ first_of (missing_in (item_of path_of item.now ∷ [])) }
 {
     match item {
         Item::Variable(d) => missing_word(&d.name, &d.attributes, Keyword::Type.spelling()),
@@ -68,7 +70,8 @@ fn missing_in_item(item: &Item<Path>) -> Option<Missing>
 #[tactic(auto, using(crate::proofs::Missing::missing))]
 fn missing_of_command<'a>(name: &'a str, attributes: &[Attribute<Path>]) -> Option<Missing<'a>>
     ensures { option_map refusal_of_missing result
-        ≡ first_of (missing_among name.now (map (attribute_of path_of) attributes.now) (required_words Command)) }
+        ≡ first_of (missing_among name.now (map (attribute_of path_of) attributes.now)
+        (required_words Command)) }
 {
     if let Some(missing) = missing_word(name, attributes, Attr::Number.word()) {
         return Some(missing);
@@ -85,7 +88,8 @@ fn missing_word<'a>(
     word: &'static str,
 ) -> Option<Missing<'a>>
     ensures { option_map refusal_of_missing result
-        ≡ first_of (missing_among item.now (map (attribute_of path_of) attributes.now) (word.now ∷ [])) }
+        ≡ first_of (missing_among item.now (map (attribute_of path_of) attributes.now)
+        (word.now ∷ [])) }
 {
     if has_word(attributes, word) {
         None
@@ -96,7 +100,8 @@ fn missing_word<'a>(
 
 /// The first item without an attribute that its kind needs.
 pub fn missing_attribute(items: &[Item<Path>]) -> Option<Missing>
-    ensures { option_map refusal_of_missing result ≡ first_of (missing_in (map (item_of path_of) items.now)) }
+    ensures { option_map refusal_of_missing result
+        ≡ first_of (missing_in (map (item_of path_of) items.now)) }
 {
     for item in items {
         if let Some(missing) = missing_in_item(item) {

@@ -56,7 +56,8 @@ fn spend_transaction(attribute: &Attribute<Path>, budget: u32) -> Option<u32>
 
 /// Whether there are more than 4,096 items of one kind.
 pub fn has_too_many_items(items: &[Item<Path>]) -> bool
-    ensures { result ≡ list_any (λ k. nat_lt item_limit (count_of k (map (item_of path_of) items.now))) kinds }
+    ensures { result ≡ list_any
+        (λ k. nat_lt item_limit (count_of k (map (item_of path_of) items.now))) kinds }
 {
     is_over(items, Kind::Variable)
         || is_over(items, Kind::Command)

@@ -1,12 +1,12 @@
-//! What the items of a description must keep before their names are looked up: there are not too many of anything, no name and no
-//! attribute stands twice, and no attribute is missing.
+//! What the items of a description must keep before their names are looked up: there are not too
+//! many of anything, no name and no attribute stands twice, and no attribute is missing.
 #![tactic(auto)]
 
 mod attributes;
-mod conds;
+mod conditionals;
 mod counts;
+mod duplicates;
 pub mod fault;
-mod names;
 mod nodes;
 mod repeats;
 mod rules;

@@ -43,7 +43,8 @@ pub fn spend(e: &Expr<Path>, budget: u32) -> Option<u32>
 
 #[cycle(spend)]
 fn spend_arguments(arguments: &[Argument<Path>], budget: u32) -> Option<u32>
-    ensures { result ≡ spent budget (argument_nodes (arguments_from (map (argument_of path_of) arguments.now))) }
+    ensures { result ≡ spent budget
+        (argument_nodes (arguments_from (map (argument_of path_of) arguments.now))) }
 {
     let mut left = budget;
     for a in arguments {
@@ -54,7 +55,8 @@ fn spend_arguments(arguments: &[Argument<Path>], budget: u32) -> Option<u32>
 
 #[cycle(spend)]
 fn spend_argument(a: &Argument<Path>, left: u32) -> Option<u32>
-    ensures { result ≡ spent left (argument_nodes (arguments_from (argument_of path_of a.now ∷ []))) }
+    ensures { result ≡ spent left
+        (argument_nodes (arguments_from (argument_of path_of a.now ∷ []))) }
 {
     match a {
         Argument::Text(_) => Some(left),
@@ -74,7 +76,8 @@ pub fn spend_optional(e: &Option<Expr<Path>>, budget: u32) -> Option<u32>
 
 /// What is left after the nodes of declarators.
 pub fn spend_declarators(declarators: &[Declarator<Path>], budget: u32) -> Option<u32>
-    ensures { result ≡ spent budget (declarator_nodes (map (declarator_of path_of) declarators.now)) }
+    ensures { result ≡ spent budget
+        (declarator_nodes (map (declarator_of path_of) declarators.now)) }
 {
     let mut left = budget;
     for d in declarators {

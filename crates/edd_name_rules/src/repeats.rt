@@ -23,7 +23,8 @@ fn part_word(part: &TransactionPart<Path>) -> &'static str
 }
 
 fn has_part(parts: &[TransactionPart<Path>], word: &str) -> bool
-    ensures { result ≡ is_name_in (map (λ p. transaction_part_word (transaction_part_of path_of p)) parts.now) word.now }
+    ensures { result ≡ is_name_in (map (λ p. transaction_part_word (transaction_part_of path_of p))
+        parts.now) word.now }
 {
     for part in parts {
         if part_word(part) == word {
@@ -33,11 +34,12 @@ fn has_part(parts: &[TransactionPart<Path>], word: &str) -> bool
     false
 }
 
-/// The first word that stands twice in the braces of a transaction. It looks back at most three times, since there are two
-/// words.
+/// The first word that stands twice in the braces of a transaction. It looks back at most three
+/// times, since there are two words.
 pub fn repeated_part(parts: &[TransactionPart<Path>]) -> Option<&'static str>
     ensures { option_map (λ w. w.now) result
-        ≡ first_of (repeated [] (map (λ p. transaction_part_word (transaction_part_of path_of p)) parts.now)) }
+        ≡ first_of (repeated [] (map (λ p. transaction_part_word (transaction_part_of path_of p))
+        parts.now)) }
 {
     for i in 0..parts.len() {
         let word = part_word(&parts[i]);
@@ -49,7 +51,8 @@ pub fn repeated_part(parts: &[TransactionPart<Path>]) -> Option<&'static str>
 }
 
 fn option_word(part: &TypePart<Path>) -> Option<&'static str>
-    ensures { cons_option (option_map (λ w. w.now) result) [] ≡ type_part_words (type_part_of path_of part.now) }
+    ensures { cons_option (option_map (λ w. w.now) result) []
+        ≡ type_part_words (type_part_of path_of part.now) }
 {
     match part {
         TypePart::DefaultValue { .. } => Some(Attr::DefaultValue.word()),
@@ -72,7 +75,8 @@ fn is_option(part: &TypePart<Path>, word: &str) -> bool
 
 #[tactic(auto, using(crate::proofs::SeenBefore::names_in))]
 fn has_option(parts: &[TypePart<Path>], word: &str) -> bool
-    ensures { result ≡ is_name_in (flat_map type_part_words (map (type_part_of path_of) parts.now)) word.now }
+    ensures { result ≡ is_name_in (flat_map type_part_words (map (type_part_of path_of) parts.now))
+        word.now }
 {
     for part in parts {
         if is_option(part, word) {
@@ -85,7 +89,8 @@ fn has_option(parts: &[TypePart<Path>], word: &str) -> bool
 // The word of an option that stands there already.
 fn repeated_word_at(part: &TypePart<Path>, before: &[TypePart<Path>]) -> Option<&'static str>
     ensures { option_map (λ w. w.now) result
-        ≡ first_of (repeated (flat_map type_part_words (map (type_part_of path_of) before.now)) (type_part_words (type_part_of path_of part.now))) }
+        ≡ first_of (repeated (flat_map type_part_words (map (type_part_of path_of) before.now))
+        (type_part_words (type_part_of path_of part.now))) }
 {
     match option_word(part) {
         Some(word) if has_option(before, word) => Some(word),
@@ -93,10 +98,11 @@ fn repeated_word_at(part: &TypePart<Path>, before: &[TypePart<Path>]) -> Option<
     }
 }
 
-/// The first word of an option that stands twice in the braces of a type. It looks back for options alone, of which there are
-/// five.
+/// The first word of an option that stands twice in the braces of a type. It looks back for options
+/// alone, of which there are five.
 pub fn repeated_option(parts: &[TypePart<Path>]) -> Option<&'static str>
-    ensures { option_map (λ w. w.now) result ≡ first_of (repeated [] (flat_map type_part_words (map (type_part_of path_of) parts.now))) }
+    ensures { option_map (λ w. w.now) result
+        ≡ first_of (repeated [] (flat_map type_part_words (map (type_part_of path_of) parts.now))) }
 {
     for i in 0..parts.len() {
         if let Some(word) = repeated_word_at(&parts[i], &parts[..i]) {
@@ -108,7 +114,8 @@ pub fn repeated_option(parts: &[TypePart<Path>]) -> Option<&'static str>
 
 // The first word inside the braces of an attribute that stands there twice.
 fn repeated_inside(attribute: &Attribute<Path>) -> Option<&'static str>
-    ensures { option_map (λ w. w.now) result ≡ first_of (repeated_words_inside (attribute_of path_of attribute.now)) }
+    ensures { option_map (λ w. w.now) result
+        ≡ first_of (repeated_words_inside (attribute_of path_of attribute.now)) }
 {
     match attribute {
         Attribute::TypeOf { parts, .. } => repeated_option(parts),
@@ -123,11 +130,13 @@ fn is_transaction(attribute: &Attribute<Path>) -> bool
     matches!(attribute, Attribute::Transaction { .. })
 }
 
-// The word of an attribute that stands there already, unless it is a transaction, or the first such word inside it.
+// The word of an attribute that stands there already, unless it is a transaction, or the first such
+// word inside it.
 #[tactic(auto, using(edd_syntax::proofs::FirstLaws::firsts))]
 fn repeated_at(attribute: &Attribute<Path>, before: &[Attribute<Path>]) -> Option<&'static str>
     ensures { option_map (λ w. w.now) result
-        ≡ first_of (repeated_here (map attribute_word (map (attribute_of path_of) before.now)) (attribute_of path_of attribute.now)) }
+        ≡ first_of (repeated_here (map attribute_word (map (attribute_of path_of) before.now))
+        (attribute_of path_of attribute.now)) }
 {
     if !is_transaction(attribute) {
         let word = word_of(attribute);
@@ -138,10 +147,12 @@ fn repeated_at(attribute: &Attribute<Path>, before: &[Attribute<Path>]) -> Optio
     repeated_inside(attribute)
 }
 
-/// The first word of an attribute that stands twice among these attributes or in the braces of one of them. It looks back for
-/// attributes other than transactions alone, of which there are thirteen.
+/// The first word of an attribute that stands twice among these attributes or in the braces of one
+/// of them. It looks back for attributes other than transactions alone, of which there are
+/// thirteen.
 pub fn repeated_attribute(attributes: &[Attribute<Path>]) -> Option<&'static str>
-    ensures { option_map (λ w. w.now) result ≡ first_of (repeated_words [] (map (attribute_of path_of) attributes.now)) }
+    ensures { option_map (λ w. w.now) result
+        ≡ first_of (repeated_words [] (map (attribute_of path_of) attributes.now)) }
 {
     for i in 0..attributes.len() {
         if let Some(word) = repeated_at(&attributes[i], &attributes[..i]) {
@@ -152,14 +163,17 @@ pub fn repeated_attribute(attributes: &[Attribute<Path>]) -> Option<&'static str
 }
 
 fn repeated_in_item(item: &Item<Path>) -> Option<&'static str>
-    ensures { option_map (λ w. w.now) result ≡ first_of (repeated_words [] (item_of path_of item.now).attributes) }
+    ensures { option_map (λ w. w.now) result
+        ≡ first_of (repeated_words [] (item_of path_of item.now).attributes) }
 {
     repeated_attribute(item.attributes())
 }
 
 /// The first word of an attribute that stands twice in an item, a transaction or a type's braces.
 pub fn repeated_in_items(items: &[Item<Path>]) -> Option<&'static str>
-    ensures { option_map (λ w. w.now) result ≡ first_of (flat_map (λ i. repeated_words [] i.attributes) (map (item_of path_of) items.now)) }
+    ensures { option_map (λ w. w.now) result
+        ≡ first_of (flat_map (λ i. repeated_words [] i.attributes)
+        (map (item_of path_of) items.now)) }
 {
     for item in items {
         if let Some(word) = repeated_in_item(item) {

@@ -9,8 +9,8 @@ ghost use Rattle.edd_name_rules.specs.Walks.{described};
 
 use crate::attributes::missing_attribute;
 use crate::counts::has_too_many_items;
+use crate::duplicates::check_names;
 use crate::fault::RuleFault;
-use crate::names::check_names;
 use crate::repeats::repeated_in_items;
 use crate::sizes::has_too_many_nodes;
 use crate::slots::{has_too_many_locals, has_too_many_transactions};
@@ -43,8 +43,10 @@ pub fn check_counts(items: &[Item<Path>]) -> Result<(), RuleFault>
 /// No name stands twice.
 #[tactic(auto, using(crate::proofs::RuleLaws::rules_in_order), unfolding(crate::specs::Faults::IsFound))]
 pub fn check_duplicates(items: &[Item<Path>], alloc: Global) -> Result<(), RuleFault>
-    ensures sound { OnOk result (None ≡ first_of (duplicate_names (described (named_items items.now)))) }
-    ensures refused { IfErr result (λ f. IsFirst f (duplicate_names (described (named_items items.now)))) }
+    ensures sound { OnOk result
+        (None ≡ first_of (duplicate_names (described (named_items items.now)))) }
+    ensures refused { IfErr result
+        (λ f. IsFirst f (duplicate_names (described (named_items items.now)))) }
 {
     check_names(items, alloc)
 }
@@ -52,8 +54,10 @@ pub fn check_duplicates(items: &[Item<Path>], alloc: Global) -> Result<(), RuleF
 /// No attribute stands twice.
 #[tactic(auto, using(crate::proofs::RuleLaws::rules_in_order), unfolding(crate::specs::Faults::IsFound))]
 pub fn check_repeats(items: &[Item<Path>]) -> Result<(), RuleFault>
-    ensures sound { OnOk result (None ≡ first_of (duplicate_attributes (described (named_items items.now)))) }
-    ensures refused { IfErr result (λ f. IsFirst f (duplicate_attributes (described (named_items items.now)))) }
+    ensures sound { OnOk result
+        (None ≡ first_of (duplicate_attributes (described (named_items items.now)))) }
+    ensures refused { IfErr result
+        (λ f. IsFirst f (duplicate_attributes (described (named_items items.now)))) }
 {
     match repeated_in_items(items) {
         Some(word) => Err(RuleFault::DuplicateAttribute(word)),
@@ -75,8 +79,10 @@ fn missing(alloc: Global, item: &str, word: &'static str) -> RuleFault
 /// No item lacks an attribute that its kind needs.
 #[tactic(auto, using(crate::proofs::RuleLaws::rules_in_order), unfolding(crate::specs::Faults::IsFound))]
 pub fn check_attributes(items: &[Item<Path>], alloc: Global) -> Result<(), RuleFault>
-    ensures sound { OnOk result (None ≡ first_of (missing_attributes (described (named_items items.now)))) }
-    ensures refused { IfErr result (λ f. IsFirst f (missing_attributes (described (named_items items.now)))) }
+    ensures sound { OnOk result
+        (None ≡ first_of (missing_attributes (described (named_items items.now)))) }
+    ensures refused { IfErr result
+        (λ f. IsFirst f (missing_attributes (described (named_items items.now)))) }
 {
     match missing_attribute(items) {
         Some(found) => Err(missing(alloc, found.item, found.word)),
@@ -88,10 +94,16 @@ pub fn check_attributes(items: &[Item<Path>], alloc: Global) -> Result<(), RuleF
 #[tactic(auto, using(crate::proofs::RuleLaws::rules_in_order))]
 pub fn check_rules(items: &[Item<Path>], alloc: Global) -> Result<(), RuleFault>
     ensures counted { OnOk result (None ≡ first_of (too_many (described (named_items items.now)))) }
-    ensures sound { OnOk result (None ≡ first_of (too_many (described (named_items items.now)) ++ (duplicate_names (described (named_items items.now))
-        ++ (duplicate_attributes (described (named_items items.now)) ++ missing_attributes (described (named_items items.now)))))) }
-    ensures refused { IfErr result (λ f. IsFirst f (too_many (described (named_items items.now)) ++ (duplicate_names (described (named_items items.now))
-        ++ (duplicate_attributes (described (named_items items.now)) ++ missing_attributes (described (named_items items.now)))))) }
+    ensures sound { OnOk result
+        (None ≡ first_of (too_many (described (named_items items.now))
+        ++ (duplicate_names (described (named_items items.now))
+        ++ (duplicate_attributes (described (named_items items.now))
+        ++ missing_attributes (described (named_items items.now)))))) }
+    ensures refused { IfErr result
+        (λ f. IsFirst f (too_many (described (named_items items.now))
+        ++ (duplicate_names (described (named_items items.now))
+        ++ (duplicate_attributes (described (named_items items.now))
+        ++ missing_attributes (described (named_items items.now)))))) }
 {
     check_counts(items)?;
     check_duplicates(items, alloc)?;

@@ -34,8 +34,10 @@ pub fn duplicate(alloc: Global, name: &str) -> RuleFault
 #[tactic(auto, unfolding(crate::specs::Faults::IsFound))]
 pub fn note<'a>(seen: &mut Seen<'a>, name: &'a str, alloc: Global) -> Result<(), RuleFault>
     ensures sound { OnOk result ((before : List Name) → HasSeen before seen.old
-        → (None ≡ first_of (repeated before (name.now ∷ []))) × HasSeen (name.now ∷ before) seen.new) }
-    ensures refused { IfErr result (λ f. (before : List Name) → HasSeen before seen.old → IsDuplicate f (repeated before (name.now ∷ []))) }
+        → (None ≡ first_of (repeated before (name.now ∷ [])))
+        × HasSeen (name.now ∷ before) seen.new) }
+    ensures refused { IfErr result (λ f. (before : List Name) → HasSeen before seen.old
+        → IsDuplicate f (repeated before (name.now ∷ []))) }
 {
     match seen.insert(name, ())? {
         None => Ok(()),
@@ -50,10 +52,13 @@ pub fn note_declarators<'a>(
     alloc: Global,
 ) -> Result<(), RuleFault>
     ensures sound { OnOk result ((before : List Name) → HasSeen before seen.old
-        → (None ≡ first_of (repeated before (names_declared (map (declarator_of path_of) declarators.now))))
-        × HasSeen (names_declared (map (declarator_of path_of) declarators.now) ++ before) seen.new) }
+        → (None ≡ first_of (repeated before
+        (names_declared (map (declarator_of path_of) declarators.now))))
+        × HasSeen (names_declared (map (declarator_of path_of) declarators.now) ++ before)
+        seen.new) }
     ensures refused { IfErr result (λ f. (before : List Name) → HasSeen before seen.old
-        → IsDuplicate f (repeated before (names_declared (map (declarator_of path_of) declarators.now)))) }
+        → IsDuplicate f (repeated before
+        (names_declared (map (declarator_of path_of) declarators.now)))) }
 {
     for declarator in declarators {
         note(seen, &declarator.place.base, alloc)?;
@@ -68,10 +73,12 @@ pub fn note_members<'a>(
     alloc: Global,
 ) -> Result<(), RuleFault>
     ensures sound { OnOk result ((before : List Name) → HasSeen before seen.old
-        → (None ≡ first_of (repeated before (map (λ m. m.name) (map (member_of path_of) members.now))))
+        → (None ≡ first_of (repeated before
+        (map (λ m. m.name) (map (member_of path_of) members.now))))
         × HasSeen (map (λ m. m.name) (map (member_of path_of) members.now) ++ before) seen.new) }
     ensures refused { IfErr result (λ f. (before : List Name) → HasSeen before seen.old
-        → IsDuplicate f (repeated before (map (λ m. m.name) (map (member_of path_of) members.now)))) }
+        → IsDuplicate f (repeated before
+        (map (λ m. m.name) (map (member_of path_of) members.now)))) }
 {
     for member in members {
         note(seen, &member.name, alloc)?;

@@ -8,7 +8,7 @@ ghost use Rattle.edd_syntax.specs.Size.{attribute_nodes, item_nodes, type_part_n
 ghost use Rattle.edd_syntax.specs.TreeView.{path_of};
 ghost use Rattle.edd_name_rules.specs.Spending.{spent};
 
-use crate::conds::spend_cond;
+use crate::conditionals::spend_cond;
 use crate::nodes::spend_parts;
 use crate::slots::spend_count;
 use crate::values::{spend_data, spend_entries, spend_enumerator, spend_text, spend_value};
@@ -30,7 +30,8 @@ fn spend_type_part(part: &TypePart<Path>, budget: u32) -> Option<u32>
 }
 
 fn spend_type_parts(parts: &[TypePart<Path>], budget: u32) -> Option<u32>
-    ensures { result ≡ spent budget (sum (map type_part_nodes (map (type_part_of path_of) parts.now))) }
+    ensures { result ≡ spent budget
+        (sum (map type_part_nodes (map (type_part_of path_of) parts.now))) }
 {
     let mut left = budget;
     for part in parts {
@@ -59,7 +60,8 @@ fn has_element(parts: &[TypePart<Path>]) -> bool
 // The elements of a type's list are together one more node.
 #[tactic(auto, using(crate::proofs::Spends::spends))]
 fn spend_type(parts: &[TypePart<Path>], budget: u32) -> Option<u32>
-    ensures { result ≡ spent budget ((if list_any is_element (map (type_part_of path_of) parts.now) then 1 else 0)
+    ensures { result ≡ spent budget
+        ((if list_any is_element (map (type_part_of path_of) parts.now) then 1 else 0)
         + sum (map type_part_nodes (map (type_part_of path_of) parts.now))) }
 {
     let left = spend_count(usize::from(has_element(parts)), budget)?;
@@ -68,7 +70,8 @@ fn spend_type(parts: &[TypePart<Path>], budget: u32) -> Option<u32>
 
 #[tactic(auto, using(crate::proofs::Spends::spends))]
 fn spend_transaction_part(part: &TransactionPart<Path>, budget: u32) -> Option<u32>
-    ensures { result ≡ spent budget (transaction_part_nodes (transaction_part_of path_of part.now)) }
+    ensures { result ≡ spent budget
+        (transaction_part_nodes (transaction_part_of path_of part.now)) }
 {
     let left = budget.checked_sub(1)?;
     match part {
@@ -78,7 +81,8 @@ fn spend_transaction_part(part: &TransactionPart<Path>, budget: u32) -> Option<u
 }
 
 fn spend_transaction_parts(parts: &[TransactionPart<Path>], budget: u32) -> Option<u32>
-    ensures { result ≡ spent budget (sum (map transaction_part_nodes (map (transaction_part_of path_of) parts.now))) }
+    ensures { result ≡ spent budget
+        (sum (map transaction_part_nodes (map (transaction_part_of path_of) parts.now))) }
 {
     let mut left = budget;
     for part in parts {
@@ -108,7 +112,8 @@ fn spend_attribute(attribute: &Attribute<Path>, budget: u32) -> Option<u32>
 }
 
 fn spend_attributes(attributes: &[Attribute<Path>], budget: u32) -> Option<u32>
-    ensures { result ≡ spent budget (sum (map attribute_nodes (map (attribute_of path_of) attributes.now))) }
+    ensures { result ≡ spent budget
+        (sum (map attribute_nodes (map (attribute_of path_of) attributes.now))) }
 {
     let mut left = budget;
     for attribute in attributes {

@@ -93,7 +93,8 @@ fn spend_locals_of(attribute: &Attribute<Path>, budget: u32) -> Option<u32>
 
 /// Whether an item has more than 64 locals.
 pub fn has_too_many_locals(items: &[Item<Path>]) -> bool
-    ensures { result ≡ list_any (λ i. nat_lt local_limit (locals_of i)) (map (item_of path_of) items.now) }
+    ensures { result ≡ list_any (λ i. nat_lt local_limit (locals_of i))
+        (map (item_of path_of) items.now) }
 {
     for item in items {
         if are_locals_over(item) {
@@ -112,7 +113,8 @@ fn are_locals_over(item: &Item<Path>) -> bool
 
 /// Whether an item has more than 4,096 transactions.
 pub fn has_too_many_transactions(items: &[Item<Path>]) -> bool
-    ensures { result ≡ list_any (λ i. nat_lt transaction_limit (transaction_count i)) (map (item_of path_of) items.now) }
+    ensures { result ≡ list_any (λ i. nat_lt transaction_limit (transaction_count i))
+        (map (item_of path_of) items.now) }
 {
     for item in items {
         if are_transactions_over(item) {

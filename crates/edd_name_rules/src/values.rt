@@ -7,7 +7,7 @@ ghost use Rattle.edd_syntax.specs.TreeView.{path_of, expr_of};
 ghost use Rattle.edd_syntax.specs.WordsView.{text_of};
 ghost use Rattle.edd_name_rules.specs.Spending.{spent};
 
-use crate::conds::{spend_cond, spend_conds};
+use crate::conditionals::{spend_cond, spend_conds};
 use edd_syntax::cond::Cond;
 use edd_syntax::expr::Expr;
 use edd_syntax::item::{DataItem, Enumerator, MenuEntry};
@@ -37,14 +37,16 @@ pub fn spend_enumerator(c: &Cond<Path, Enumerator>, budget: u32) -> Option<u32>
 
 /// What is left after the nodes of the entries of a menu.
 pub fn spend_entries(all: &[Cond<Path, MenuEntry<Path>>], budget: u32) -> Option<u32>
-    ensures { result ≡ spent budget (conds_nodes leaf (conds_of path_of (entry_of path_of) all.now)) }
+    ensures { result ≡ spent budget
+        (conds_nodes leaf (conds_of path_of (entry_of path_of) all.now)) }
 {
     spend_conds(all, budget)
 }
 
 /// What is left after the nodes of data items.
 pub fn spend_data(all: &[Cond<Path, DataItem<Path>>], budget: u32) -> Option<u32>
-    ensures { result ≡ spent budget (conds_nodes leaf (conds_of path_of (data_item_of path_of) all.now)) }
+    ensures { result ≡ spent budget
+        (conds_nodes leaf (conds_of path_of (data_item_of path_of) all.now)) }
 {
     spend_conds(all, budget)
 }

@@ -10,10 +10,14 @@ use Rattle.edd_syntax.specs.Text.{Name}
 abbrev made : ItemKind → Name → List (Attribute Target) → Item Target
 made sort name attributes = record { sort = sort; name = name; attributes = attributes }
 
-pub item_means : (unit : Description Path) (i : Item Path) (j : Item Target) (xs : List (Attribute Path)) (bs : List (Attribute Target)) → xs ≡ i.attributes → Means unit (each (resolved_attribute unit i.sort) xs) bs → j.sort ≡ i.sort → j.name ≡ i.name → j.attributes ≡ bs → Means unit (resolved_item unit i) j
+pub item_means : (unit : Description Path) (i : Item Path) (j : Item Target)
+    (xs : List (Attribute Path)) (bs : List (Attribute Target)) → xs ≡ i.attributes
+    → Means unit (each (resolved_attribute unit i.sort) xs) bs → j.sort ≡ i.sort → j.name ≡ i.name
+    → j.attributes ≡ bs → Means unit (resolved_item unit i) j
 unfolding Means
 item_means unit i j xs bs same h sort name attributes = λ known.
-    ap (λ ys. each (resolved_attribute unit i.sort) ys >>= (λ zs. Some (made i.sort i.name zs))) (sym same)
+    ap (λ ys. each (resolved_attribute unit i.sort) ys >>= (λ zs. Some (made i.sort i.name zs)))
+    (sym same)
     ∙ ap (λ o. o >>= (λ zs. Some (made i.sort i.name zs))) (h known)
     ∙ ap (λ s. Some (made s i.name bs)) (sym sort)
     ∙ ap (λ n. Some (made j.sort n bs)) (sym name)

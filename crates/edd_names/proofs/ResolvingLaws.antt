@@ -1,10 +1,11 @@
--- A unit that breaks no rule on names is resolved; else the first fault is the first of its breaches.
+-- A unit that breaks no rule on names is resolved; else the first fault is the first of its
+-- breaches.
 use Rattle.std.proofs.Common.{◌≡◌, refl, sym, ap, ◌∙◌, Bool, true, false, List, [], ◌∷◌, ◌++◌, Some, None, append_assoc, subst}
 use Rattle.std.specs.Prelude.{IsTrue, nat_lt}
 use Rattle.std.specs.List.{list_any}
 use Rattle.edd_name_meanings.specs.declared.directory.Names.{Names}
 use Rattle.edd_name_meanings.specs.declared.fault.NameFault.{NameFault}
-use Rattle.edd_name_meanings.specs.Directory.{unit_of}
+use Rattle.edd_name_meanings.specs.Directory.{description_of}
 use Rattle.edd_name_rules.specs.declared.fault.RuleFault.{RuleFault}
 use Rattle.edd_name_rules.specs.declared.fault.RuleFault.TheVariants as rule
 use Rattle.edd_name_rules.specs.Faults as rules
@@ -35,23 +36,30 @@ use Rattle.edd_syntax.specs.WellFormed.{are_items}
 none_some : {A : Type 0} (x : A) → None ≡ Some x → ⊥
 none_some x e = cc
 
-not_refused : (b : Bool) (why : Refusal) (rest : List Refusal) → None ≡ first_of (refused_if b why ++ rest) → (b ≡ false) × (None ≡ first_of rest)
+not_refused : (b : Bool) (why : Refusal) (rest : List Refusal)
+    → None ≡ first_of (refused_if b why ++ rest) → (b ≡ false) × (None ≡ first_of rest)
 not_refused true why rest h = absurd (none_some why h)
 not_refused false why rest h = (refl, h)
 
 -- ---- counts
 
-pub few_items : (items : List (Item Path)) → None ≡ first_of (too_many (described items)) → list_any (λ k. nat_lt item_limit (count_of k items)) kinds ≡ false
-few_items items h = (not_refused (list_any (λ k. nat_lt item_limit (count_of k items)) kinds) (TooMany limit.Items) _ h).0
+pub few_items : (items : List (Item Path)) → None ≡ first_of (too_many (described items))
+    → list_any (λ k. nat_lt item_limit (count_of k items)) kinds ≡ false
+few_items items h = (not_refused (list_any (λ k. nat_lt item_limit (count_of k items)) kinds)
+    (TooMany limit.Items) _ h).0
 
-pub few_locals : (items : List (Item Path)) → None ≡ first_of (too_many (described items)) → list_any (λ i. nat_lt local_limit (locals_of i)) items ≡ false
+pub few_locals : (items : List (Item Path)) → None ≡ first_of (too_many (described items))
+    → list_any (λ i. nat_lt local_limit (locals_of i)) items ≡ false
 few_locals items h =
     (not_refused (list_any (λ i. nat_lt local_limit (locals_of i)) items) (TooMany limit.Locals) _
-    (not_refused _ (TooMany limit.Transactions) _ (not_refused (list_any (λ k. nat_lt item_limit (count_of k items)) kinds) (TooMany limit.Items) _ h).1).1).0
+    (not_refused _ (TooMany limit.Transactions) _
+    (not_refused (list_any (λ k. nat_lt item_limit (count_of k items)) kinds)
+    (TooMany limit.Items) _ h).1).1).0
 
 -- ---- the rules one behind the other
 
-pub rule_first : (f : RuleFault) (all : List Refusal) → rules.IsFirst f all → IsFirst (of_rule f) all
+pub rule_first : (f : RuleFault) (all : List Refusal) → rules.IsFirst f all
+    → IsFirst (of_rule f) all
 unfolding IsFound rules.IsFound
 rule_first (rule.TooMany limit) all h = h
 rule_first (rule.DuplicateName name) all h = h
@@ -61,34 +69,51 @@ rule_first rule.Memory all h = h
 
 module _ (unit : Description Path) where
   abbrev pub rules_before : List Refusal
-  rules_before = too_many unit ++ (duplicate_names unit ++ (duplicate_attributes unit ++ missing_attributes unit))
+  rules_before = too_many unit
+      ++ (duplicate_names unit ++ (duplicate_attributes unit ++ missing_attributes unit))
 
   in_order : name_breaches unit ≡ rules_before ++ wrong_uses unit
   in_order =
-      sym (append_assoc (too_many unit) (duplicate_names unit ++ (duplicate_attributes unit ++ missing_attributes unit)) (wrong_uses unit)
-      ∙ ap (λ xs. too_many unit ++ xs) (append_assoc (duplicate_names unit) (duplicate_attributes unit ++ missing_attributes unit) (wrong_uses unit))
-      ∙ ap (λ xs. too_many unit ++ (duplicate_names unit ++ xs)) (append_assoc (duplicate_attributes unit) (missing_attributes unit) (wrong_uses unit)))
+      sym (append_assoc (too_many unit) (duplicate_names unit
+      ++ (duplicate_attributes unit ++ missing_attributes unit)) (wrong_uses unit)
+      ∙ ap (λ xs. too_many unit ++ xs)
+      (append_assoc (duplicate_names unit) (duplicate_attributes unit
+      ++ missing_attributes unit) (wrong_uses unit))
+      ∙ ap (λ xs. too_many unit ++ (duplicate_names unit ++ xs))
+      (append_assoc (duplicate_attributes unit) (missing_attributes unit) (wrong_uses unit)))
 
   pub fault_before : (f : NameFault) → IsFirst f rules_before → IsFirst f (name_breaches unit)
-  fault_before f h = subst (IsFirst f) (sym in_order) (first_left_of f rules_before (wrong_uses unit) h)
+  fault_before f h = subst (IsFirst f) (sym in_order)
+      (first_left_of f rules_before (wrong_uses unit) h)
 
-  pub fault_in_use : (f : NameFault) → None ≡ first_of rules_before → FirstFault f unit (unit_uses unit) → IsFirst f (name_breaches unit)
+  pub fault_in_use : (f : NameFault) → None ≡ first_of rules_before
+      → FirstFault f unit (unit_uses unit) → IsFirst f (name_breaches unit)
   unfolding FirstFault faults_in
-  fault_in_use f none h = subst (IsFirst f) (sym in_order) (first_right_of f rules_before (wrong_uses unit) none h)
+  fault_in_use f none h = subst (IsFirst f) (sym in_order)
+      (first_right_of f rules_before (wrong_uses unit) none h)
 
   empty : {A : Type 0} (xs : List A) → None ≡ first_of xs → xs ≡ []
   empty [] h = refl
   empty (x ∷ xs) h = absurd (none_some x h)
 
-  pub no_breach : None ≡ first_of rules_before → NoFault unit (unit_uses unit) → name_breaches unit ≡ []
+  pub no_breach : None ≡ first_of rules_before → NoFault unit (unit_uses unit)
+      → name_breaches unit ≡ []
   unfolding NoFault faults_in
-  no_breach none h = empty (name_breaches unit) (h ∙ sym (first_of-append_none rules_before (wrong_uses unit) none) ∙ sym (ap first_of in_order))
+  no_breach none h = empty (name_breaches unit)
+      (h ∙ sym (first_of-append_none rules_before (wrong_uses unit) none)
+      ∙ sym (ap first_of in_order))
 
-  pub meanings : (items : List (Item Target)) → IsTrue (are_items unit.items) → NoFault unit (unit_uses unit) → Means unit (each (resolved_item unit) unit.items) items → resolved_unit unit ≡ Some (description unit.identification items)
+  pub meanings : (items : List (Item Target)) → IsTrue (are_items unit.items)
+      → NoFault unit (unit_uses unit) → Means unit (each (resolved_item unit) unit.items) items
+      → resolved_unit unit ≡ Some (description unit.identification items)
   unfolding Means resolved_unit
-  meanings items good none h = ap (λ o. o >>= (λ xs. Some (description unit.identification xs))) (h (all_named unit good none))
+  meanings items good none h = ap (λ o. o >>= (λ xs. Some (description unit.identification xs)))
+      (h (all_named unit good none))
 
-  pub is_resolved : (items : List (Item Target)) → IsTrue (are_items unit.items) → None ≡ first_of rules_before → NoFault unit (unit_uses unit) → Means unit (each (resolved_item unit) unit.items) items → IsResolved (description unit.identification items)
+  pub is_resolved : (items : List (Item Target)) → IsTrue (are_items unit.items)
+      → None ≡ first_of rules_before → NoFault unit (unit_uses unit)
+      → Means unit (each (resolved_item unit) unit.items) items
+      → IsResolved (description unit.identification items)
   is_resolved items good none fine h = record {
     unit = unit;
     well_formed = good;
@@ -97,7 +122,9 @@ module _ (unit : Description Path) where
   }
 
 -- the unit whose names were taken
-pub same_unit : (n : Names) (u : Unit) (xs : List (code_item.Item code_path.Path)) → n.identification ≡ u.identification → n.items.now ≡ xs → xs ≡ u.items.items → unit_of n ≡ unit_view u
+pub same_unit : (n : Names) (u : Unit) (xs : List (code_item.Item code_path.Path))
+    → n.identification ≡ u.identification → n.items.now ≡ xs → xs ≡ u.items.items
+    → description_of n ≡ unit_view u
 same_unit n u xs identification items value =
     ap (λ i. description (identification_of i) (named_items n.items.now)) identification
     ∙ ap (λ ys. description (identification_of u.identification) (named_items ys)) (items ∙ value)

@@ -17,7 +17,8 @@ pub first_left_of : (f : NameFault) (xs ys : List Refusal) → IsFirst f xs → 
 unfolding IsFound
 first_left_of f xs ys h = told_left (refusal_of f) xs ys h
 
-pub first_right_of : (f : NameFault) (xs ys : List Refusal) → None ≡ first_of xs → IsFirst f ys → IsFirst f (xs ++ ys)
+pub first_right_of : (f : NameFault) (xs ys : List Refusal) → None ≡ first_of xs → IsFirst f ys
+    → IsFirst f (xs ++ ys)
 unfolding IsFound
 first_right_of f xs ys none h = told_right (refusal_of f) xs ys none h
 
@@ -27,7 +28,8 @@ unfolding IsFound
 memory_refused o = tt
 
 module _ (unit : Description Path) where
-  faults_append : (us vs : List Use) → faults_in unit (us ++ vs) ≡ faults_in unit us ++ faults_in unit vs
+  faults_append : (us vs : List Use) → faults_in unit (us ++ vs) ≡ faults_in unit us
+      ++ faults_in unit vs
   unfolding faults_in
   faults_append us vs = flat_map-append (faults_of_use unit) us vs
 
@@ -37,39 +39,63 @@ module _ (unit : Description Path) where
 
   pub none_append : (us vs : List Use) → NoFault unit us → NoFault unit vs → NoFault unit (us ++ vs)
   unfolding NoFault
-  none_append us vs h k = k ∙ sym (ap first_of (faults_append us vs) ∙ first_of-append_none (faults_in unit us) (faults_in unit vs) h)
+  none_append us vs h k = k
+      ∙ sym (ap first_of (faults_append us vs) ∙ first_of-append_none (faults_in unit us)
+      (faults_in unit vs) h)
 
-  pub none_cons : (u : Use) (vs : List Use) → NoFault unit (u ∷ []) → NoFault unit vs → NoFault unit (u ∷ vs)
+  pub none_cons : (u : Use) (vs : List Use) → NoFault unit (u ∷ []) → NoFault unit vs
+      → NoFault unit (u ∷ vs)
   none_cons u vs h k = none_append (u ∷ []) vs h k
 
-  pub fault_left : (f : NameFault) (us vs : List Use) → FirstFault f unit us → FirstFault f unit (us ++ vs)
+  pub fault_left : (f : NameFault) (us vs : List Use) → FirstFault f unit us
+      → FirstFault f unit (us ++ vs)
   unfolding FirstFault
-  fault_left f us vs h = subst (IsFirst f) (sym (faults_append us vs)) (first_left_of f (faults_in unit us) (faults_in unit vs) h)
+  fault_left f us vs h = subst (IsFirst f) (sym (faults_append us vs))
+      (first_left_of f (faults_in unit us) (faults_in unit vs) h)
 
-  pub fault_right : (f : NameFault) (us vs : List Use) → NoFault unit us → FirstFault f unit vs → FirstFault f unit (us ++ vs)
+  pub fault_right : (f : NameFault) (us vs : List Use) → NoFault unit us → FirstFault f unit vs
+      → FirstFault f unit (us ++ vs)
   unfolding FirstFault NoFault
-  fault_right f us vs none h = subst (IsFirst f) (sym (faults_append us vs)) (first_right_of f (faults_in unit us) (faults_in unit vs) none h)
+  fault_right f us vs none h = subst (IsFirst f) (sym (faults_append us vs))
+      (first_right_of f (faults_in unit us) (faults_in unit vs) none h)
 
-  pub fault_here : (f : NameFault) (u : Use) (vs : List Use) → FirstFault f unit (u ∷ []) → FirstFault f unit (u ∷ vs)
+  pub fault_here : (f : NameFault) (u : Use) (vs : List Use) → FirstFault f unit (u ∷ [])
+      → FirstFault f unit (u ∷ vs)
   fault_here f u vs h = fault_left f (u ∷ []) vs h
 
-  pub fault_later : (f : NameFault) (u : Use) (vs : List Use) → NoFault unit (u ∷ []) → FirstFault f unit vs → FirstFault f unit (u ∷ vs)
+  pub fault_later : (f : NameFault) (u : Use) (vs : List Use) → NoFault unit (u ∷ [])
+      → FirstFault f unit vs → FirstFault f unit (u ∷ vs)
   fault_later f u vs none h = fault_right f (u ∷ []) vs none h
 
-  pub none_behind_two : (us vs ws : List Use) → NoFault unit (us ++ vs) → NoFault unit ws → NoFault unit (us ++ (vs ++ ws))
-  none_behind_two us vs ws h k = subst (NoFault unit) (append_assoc us vs ws) (none_append (us ++ vs) ws h k)
+  pub none_behind_two : (us vs ws : List Use) → NoFault unit (us ++ vs) → NoFault unit ws
+      → NoFault unit (us ++ (vs ++ ws))
+  none_behind_two us vs ws h k = subst (NoFault unit) (append_assoc us vs ws)
+      (none_append (us ++ vs) ws h k)
 
-  pub fault_in_two : (f : NameFault) (us vs ws : List Use) → FirstFault f unit (us ++ vs) → FirstFault f unit (us ++ (vs ++ ws))
-  fault_in_two f us vs ws h = subst (FirstFault f unit) (append_assoc us vs ws) (fault_left f (us ++ vs) ws h)
+  pub fault_in_two : (f : NameFault) (us vs ws : List Use) → FirstFault f unit (us ++ vs)
+      → FirstFault f unit (us ++ (vs ++ ws))
+  fault_in_two f us vs ws h = subst (FirstFault f unit) (append_assoc us vs ws)
+      (fault_left f (us ++ vs) ws h)
 
-  pub fault_behind_two : (f : NameFault) (us vs ws : List Use) → NoFault unit (us ++ vs) → FirstFault f unit ws → FirstFault f unit (us ++ (vs ++ ws))
-  fault_behind_two f us vs ws none h = subst (FirstFault f unit) (append_assoc us vs ws) (fault_right f (us ++ vs) ws none h)
+  pub fault_behind_two : (f : NameFault) (us vs ws : List Use) → NoFault unit (us ++ vs)
+      → FirstFault f unit ws → FirstFault f unit (us ++ (vs ++ ws))
+  fault_behind_two f us vs ws none h = subst (FirstFault f unit) (append_assoc us vs ws)
+      (fault_right f (us ++ vs) ws none h)
 
   pub memory_fault : (us : List Use) → FirstFault Memory unit us
   unfolding FirstFault
   memory_fault us = memory_refused (first_of (faults_in unit us))
 
-pub ruleset faults = (no_use, none_append, none_cons, fault_left, fault_right, fault_here, fault_later, memory_fault)
+pub ruleset faults = (
+  no_use,
+  none_append,
+  none_cons,
+  fault_left,
+  fault_right,
+  fault_here,
+  fault_later,
+  memory_fault,
+)
 
 -- where the first two parts are known as one
 pub ruleset faults_behind_two = (none_behind_two, fault_in_two, fault_behind_two)

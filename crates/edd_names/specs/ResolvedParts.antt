@@ -12,11 +12,13 @@ use Rattle.edd_syntax.specs.Expression.{Argument, Text, Value}
 use Rattle.edd_syntax.specs.Conditional.{Arm, Case, Default}
 use Rattle.edd_syntax.specs.ResolvedTrees.{◌>>=◌, at_scope, resolved_expr, resolved_conds, resolved_optional, resolved_declarators, resolved_stmt}
 
-abbrev pub resolved_argument : (at : Path → Option Target) → Argument Path → Option (Argument Target)
+abbrev pub resolved_argument : (at : Path → Option Target) → Argument Path
+    → Option (Argument Target)
 resolved_argument at (Text text) = Some (Text text)
 resolved_argument at (Value e) = do e' ← resolved_expr at e; Some (Value e')
 
-abbrev pub resolved_arm : {V W : Type 0} → (at : Path → Option Target) → (of : V → Option W) → Arm Path V → Option (Arm Target W)
+abbrev pub resolved_arm : {V W : Type 0} → (at : Path → Option Target) → (of : V → Option W)
+    → Arm Path V → Option (Arm Target W)
 resolved_arm at of (Case label body) = do body' ← resolved_conds at of body; Some (Case label body')
 resolved_arm at of (Default body) = do body' ← resolved_conds at of body; Some (Default body')
 
@@ -25,7 +27,8 @@ abbrev pub member_uses : List Kind → Member Path → List Use
 member_uses kinds m = OfItem [] kinds m.item ∷ []
 
 -- a declarator whose slot is `next`
-abbrev pub resolved_declarator : Description Path → Scope → (next : ℕ) → Declarator Path → Option (Declarator Target)
+abbrev pub resolved_declarator : Description Path → Scope → (next : ℕ) → Declarator Path
+    → Option (Declarator Target)
 resolved_declarator unit scope next d = do
   value ← resolved_optional (at_scope unit scope) d.value
   Some (record { place = Local next; value = value })
@@ -42,7 +45,9 @@ abbrev pub resolved_part : Description Path → Scope → (next : ℕ) → Part 
 resolved_part unit scope next (Declare declarators) = do
   declarators' ← resolved_declarators unit scope next declarators
   Some (Declare declarators')
-resolved_part unit scope next (Statement s) = do s' ← resolved_stmt unit s scope next; Some (Statement s')
+resolved_part unit scope next (Statement s) = do
+  s' ← resolved_stmt unit s scope next
+  Some (Statement s')
 resolved_part unit scope next (CaseLabel label) = Some (CaseLabel label)
 resolved_part unit scope next DefaultLabel = Some DefaultLabel
 

@@ -6,4 +6,7 @@ use Rattle.edd_syntax.specs.ItemView.{identification_of, named_items}
 
 -- the description that a unit holds
 abbrev pub unit_view : Unit → Description Path
-unit_view u = record { identification = identification_of u.identification; items = named_items u.items.items }
+unit_view u = record {
+  identification = identification_of u.identification;
+  items = named_items u.items.items;
+}

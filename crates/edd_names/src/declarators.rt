@@ -1,17 +1,18 @@
 //! Declared locals with the meaning of the names in their values.
 
-ghost use Rattle.std.specs.Prelude.{◌≡◌, ◌+◌, ◌<◌, ◌≤◌, ◌++◌, [], ◌∷◌, IfErr, IfOk, OnErr, OnOk, length, map, option_map};
+ghost use Rattle.std.specs.Prelude.{◌≡◌, ◌+◌, ◌<◌, ◌≤◌, ◌++◌, [], ◌∷◌, IfErr, OnOk, length, map, option_map};
 ghost use Rattle.edd_syntax.specs.declared.reference.Target.TheVariants as target;
 ghost use Rattle.edd_syntax.specs.declared.stmt.Declarator.{Declarator};
 ghost use Rattle.edd_syntax.specs.declared.reference.Target.{Target};
 ghost use Rattle.edd_syntax.specs.NameUses.{optional_uses, declarator_uses};
 ghost use Rattle.edd_syntax.specs.Resolution.{all_declared, declared};
 ghost use Rattle.edd_syntax.specs.ResolvedTrees.{at_scope, resolved_optional, resolved_declarators};
-ghost use Rattle.edd_syntax.specs.TreeView.{path_of, expr_of, declarator_of};
+ghost use Rattle.edd_syntax.specs.TreeView.{path_of, expr_of, declarator_of, numbered_declarator, numbered_expr};
 ghost use Rattle.edd_name_meanings.specs.declared.fault.NameFault.TheVariants.{Memory};
-ghost use Rattle.edd_name_meanings.specs.Directory.{unit_of};
-ghost use Rattle.edd_name_meanings.specs.Meanings.{Means, NoFault, FirstFault, scope_of};
+ghost use Rattle.edd_name_meanings.specs.Directory.{description_of};
+ghost use Rattle.edd_name_meanings.specs.Meanings.{Means, scope_of};
 ghost use Rattle.edd_names.specs.ResolvedParts.{resolved_declarator};
+ghost use Rattle.edd_names.specs.Copies.{Accepts, Copies, Refuses};
 
 use crate::exprs::copy_expr;
 use crate::made::made_of;
@@ -29,10 +30,13 @@ pub fn copy_optional(
     names: &Names,
     scope: &[Local],
 ) -> Result<Option<Expr<Target>>, NameFault>
-    ensures accepted { IfOk result (λ t. NoFault (unit_of names.now) (optional_uses (scope_of scope.now) (option_map (expr_of path_of) e.now))) }
-    ensures sound { IfOk result (λ t. Means (unit_of names.now)
-        (resolved_optional (at_scope (unit_of names.now) (scope_of scope.now)) (option_map (expr_of path_of) e.now)) (option_map (expr_of (λ r. r)) t)) }
-    ensures refused { IfErr result (λ f. FirstFault f (unit_of names.now) (optional_uses (scope_of scope.now) (option_map (expr_of path_of) e.now))) }
+    ensures accepted { Accepts (description_of names.now)
+        (optional_uses (scope_of scope.now) (option_map (expr_of path_of) e.now)) result }
+    ensures sound { Copies (description_of names.now)
+        (resolved_optional (at_scope (description_of names.now) (scope_of scope.now))
+        (option_map (expr_of path_of) e.now)) (option_map numbered_expr) result }
+    ensures refused { Refuses (description_of names.now)
+        (optional_uses (scope_of scope.now) (option_map (expr_of path_of) e.now)) result }
 {
     match e {
         Some(e) => made_of!(copy_expr(e, names, scope), e => Some(e)),
@@ -42,7 +46,8 @@ pub fn copy_optional(
 
 /// One more local, which hides those of its name.
 pub fn declare<'a>(scope: &mut Vec<Local<'a>>, place: &'a Path, slot: u8) -> Result<(), NameFault>
-    ensures sound { OnOk result (scope_of scope.new.items ≡ declared (path_of place.now) slot (scope_of scope.old.items)) }
+    ensures sound { OnOk result (scope_of scope.new.items ≡ declared (path_of place.now) slot
+        (scope_of scope.old.items)) }
     ensures refused { IfErr result (λ f. f ≡ Memory) }
 {
     scope.insert(
@@ -62,10 +67,13 @@ fn copy_declarator(
     scope: &[Local],
     slot: u8,
 ) -> Result<Declarator<Target>, NameFault>
-    ensures accepted { IfOk result (λ t. NoFault (unit_of names.now) (optional_uses (scope_of scope.now) (declarator_of path_of declarator.now).value)) }
-    ensures sound { IfOk result (λ t. Means (unit_of names.now)
-        (resolved_declarator (unit_of names.now) (scope_of scope.now) slot (declarator_of path_of declarator.now)) (declarator_of (λ r. r) t)) }
-    ensures refused { IfErr result (λ f. FirstFault f (unit_of names.now) (optional_uses (scope_of scope.now) (declarator_of path_of declarator.now).value)) }
+    ensures accepted { Accepts (description_of names.now)
+        (optional_uses (scope_of scope.now) (declarator_of path_of declarator.now).value) result }
+    ensures sound { Copies (description_of names.now)
+        (resolved_declarator (description_of names.now) (scope_of scope.now) slot
+        (declarator_of path_of declarator.now)) numbered_declarator result }
+    ensures refused { Refuses (description_of names.now)
+        (optional_uses (scope_of scope.now) (declarator_of path_of declarator.now).value) result }
 {
     made_of!(copy_optional(&declarator.value, names, scope), value => Declarator {
         place: Target::Local(slot),
@@ -73,7 +81,8 @@ fn copy_declarator(
     })
 }
 
-// One more declarator: its value is copied in the scope before it, and its local stands in the scope behind it.
+// One more declarator: its value is copied in the scope before it, and its local stands in the
+// scope behind it.
 #[tactic(auto, using(crate::proofs::UseLaws::faults))]
 fn add_declarator<'a>(
     declarator: &'a Declarator<Path>,
@@ -83,12 +92,21 @@ fn add_declarator<'a>(
     copies: &mut Vec<Declarator<Target>>,
 ) -> Result<(), NameFault>
     requires { next.old < 64 }
-    ensures accepted { OnOk result (NoFault (unit_of names.now) (optional_uses (scope_of scope.old.items) (declarator_of path_of declarator.now).value)) }
-    ensures sound { OnOk result ((z : Declarator Target) × (copies.new.items ≡ copies.old.items ++ z ∷ [])
-        × Means (unit_of names.now) (resolved_declarator (unit_of names.now) (scope_of scope.old.items) next.old (declarator_of path_of declarator.now)) (declarator_of (λ r. r) z)) }
-    ensures scope { OnOk result (scope_of scope.new.items ≡ declared (declarator_of path_of declarator.now).place next.old (scope_of scope.old.items)) }
+    ensures accepted { Accepts (description_of names.now)
+        (optional_uses (scope_of scope.old.items) (declarator_of path_of declarator.now).value)
+        result }
+    ensures sound { OnOk result ((z : Declarator Target)
+        × (copies.new.items ≡ copies.old.items ++ z ∷ [])
+        × Means (description_of names.now)
+        (resolved_declarator (description_of names.now) (scope_of scope.old.items) next.old
+        (declarator_of path_of declarator.now)) (numbered_declarator z)) }
+    ensures scope { OnOk result (scope_of scope.new.items
+        ≡ declared (declarator_of path_of declarator.now).place next.old
+        (scope_of scope.old.items)) }
     ensures next { OnOk result (next.new ≡ next.old + 1) }
-    ensures refused { IfErr result (λ f. FirstFault f (unit_of names.now) (optional_uses (scope_of scope.old.items) (declarator_of path_of declarator.now).value)) }
+    ensures refused { Refuses (description_of names.now)
+        (optional_uses (scope_of scope.old.items) (declarator_of path_of declarator.now).value)
+        result }
 {
     let copy = copy_declarator(declarator, names, scope, *next)?;
     copies.push(copy)?;
@@ -97,7 +115,8 @@ fn add_declarator<'a>(
     Ok(())
 }
 
-/// Declarators with the meaning of the names in their values, and the scope and the next slot behind them.
+/// Declarators with the meaning of the names in their values, and the scope and the next slot
+/// behind them.
 #[tactic(auto, using(crate::proofs::UseLaws::faults))]
 pub fn add_declarators<'a>(
     declarators: &'a [Declarator<Path>],
@@ -108,12 +127,19 @@ pub fn add_declarators<'a>(
 ) -> Result<(), NameFault>
     requires room { next.old + length declarators.now ≤ 64 }
     requires empty { copies.old.items ≡ [] }
-    ensures accepted { OnOk result (NoFault (unit_of names.now) (declarator_uses (scope_of scope.old.items) next.old (map (declarator_of path_of) declarators.now))) }
-    ensures sound { OnOk result (Means (unit_of names.now)
-        (resolved_declarators (unit_of names.now) (scope_of scope.old.items) next.old (map (declarator_of path_of) declarators.now)) (map (declarator_of (λ r. r)) copies.new.items)) }
-    ensures scope { OnOk result (scope_of scope.new.items ≡ all_declared (scope_of scope.old.items) next.old (map (declarator_of path_of) declarators.now)) }
+    ensures accepted { Accepts (description_of names.now)
+        (declarator_uses (scope_of scope.old.items) next.old
+        (map (declarator_of path_of) declarators.now)) result }
+    ensures sound { Copies (description_of names.now)
+        (resolved_declarators (description_of names.now) (scope_of scope.old.items) next.old
+        (map (declarator_of path_of) declarators.now))
+        (λ _. map numbered_declarator copies.new.items) result }
+    ensures scope { OnOk result (scope_of scope.new.items ≡ all_declared (scope_of scope.old.items)
+        next.old (map (declarator_of path_of) declarators.now)) }
     ensures next { OnOk result (next.new ≡ next.old + length declarators.now) }
-    ensures refused { IfErr result (λ f. FirstFault f (unit_of names.now) (declarator_uses (scope_of scope.old.items) next.old (map (declarator_of path_of) declarators.now))) }
+    ensures refused { Refuses (description_of names.now)
+        (declarator_uses (scope_of scope.old.items) next.old
+        (map (declarator_of path_of) declarators.now)) result }
 {
     for declarator in declarators {
         add_declarator(declarator, names, scope, next, copies)?;

@@ -1,16 +1,17 @@
 //! Expressions with the meaning of their names.
 
-ghost use Rattle.std.specs.Prelude.{◌≡◌, [], ◌∷◌, ◌++◌, IfErr, IfOk, OnOk, map};
+ghost use Rattle.std.specs.Prelude.{◌≡◌, [], ◌∷◌, ◌++◌, OnOk, map};
 ghost use Rattle.edd_syntax.specs.declared.expr.Argument.{Argument};
 ghost use Rattle.edd_syntax.specs.declared.reference.Target.{Target};
 ghost use Rattle.edd_syntax.specs.Expression.{arguments_from};
 ghost use Rattle.edd_syntax.specs.NameUses.{OfFunction, OfItem, expr_uses, argument_uses};
 ghost use Rattle.edd_syntax.specs.Resolution.{function_meant, meaning, variable_kinds};
 ghost use Rattle.edd_syntax.specs.ResolvedTrees.{resolved_expr, resolved_arguments};
-ghost use Rattle.edd_syntax.specs.TreeView.{path_of, expr_of, argument_of};
-ghost use Rattle.edd_name_meanings.specs.Directory.{unit_of};
+ghost use Rattle.edd_syntax.specs.TreeView.{path_of, expr_of, argument_of, numbered_argument, numbered_expr};
+ghost use Rattle.edd_name_meanings.specs.Directory.{description_of};
 ghost use Rattle.edd_names.specs.ResolvedParts.{resolved_argument};
-ghost use Rattle.edd_name_meanings.specs.Meanings.{Means, NoFault, FirstFault, scope_of};
+ghost use Rattle.edd_name_meanings.specs.Meanings.{Means, scope_of};
+ghost use Rattle.edd_names.specs.Copies.{Accepts, Copies, Refuses};
 
 use crate::made::made_of;
 use crate::texts::copy_text;
@@ -23,9 +24,13 @@ use edd_syntax::reference::{Path, Target};
 
 /// What a reference of an expression means, which is a variable or a local.
 pub fn refer_variable(names: &Names, scope: &[Local], path: &Path) -> Result<Target, NameFault>
-    ensures accepted { IfOk result (λ t. NoFault (unit_of names.now) (OfItem (scope_of scope.now) variable_kinds (path_of path.now) ∷ [])) }
-    ensures sound { IfOk result (λ t. Means (unit_of names.now) (meaning (unit_of names.now) (scope_of scope.now) variable_kinds (path_of path.now)) t) }
-    ensures refused { IfErr result (λ f. FirstFault f (unit_of names.now) (OfItem (scope_of scope.now) variable_kinds (path_of path.now) ∷ [])) }
+    ensures accepted { Accepts (description_of names.now)
+        (OfItem (scope_of scope.now) variable_kinds (path_of path.now) ∷ []) result }
+    ensures sound { Copies (description_of names.now)
+        (meaning (description_of names.now) (scope_of scope.now) variable_kinds (path_of path.now))
+        (λ t. t) result }
+    ensures refused { Refuses (description_of names.now)
+        (OfItem (scope_of scope.now) variable_kinds (path_of path.now) ∷ []) result }
 {
     refer(names, scope, &[Kind::Variable], path)
 }
@@ -34,10 +39,13 @@ pub fn refer_variable(names: &Names, scope: &[Local], path: &Path) -> Result<Tar
 #[cycle(exprs)]
 #[tactic(auto, using(crate::proofs::UseLaws::faults), unfolding(edd_name_meanings::specs::Meanings::Means, edd_syntax::specs::ResolvedTrees::resolved_expr))]
 pub fn copy_expr(e: &Expr<Path>, names: &Names, scope: &[Local]) -> Result<Expr<Target>, NameFault>
-    ensures accepted { IfOk result (λ t. NoFault (unit_of names.now) (expr_uses (scope_of scope.now) (expr_of path_of e.now))) }
-    ensures sound { IfOk result (λ t. Means (unit_of names.now)
-        (resolved_expr (meaning (unit_of names.now) (scope_of scope.now) variable_kinds) (expr_of path_of e.now)) (expr_of (λ r. r) t)) }
-    ensures refused { IfErr result (λ f. FirstFault f (unit_of names.now) (expr_uses (scope_of scope.now) (expr_of path_of e.now))) }
+    ensures accepted { Accepts (description_of names.now)
+        (expr_uses (scope_of scope.now) (expr_of path_of e.now)) result }
+    ensures sound { Copies (description_of names.now)
+        (resolved_expr (meaning (description_of names.now) (scope_of scope.now) variable_kinds)
+        (expr_of path_of e.now)) numbered_expr result }
+    ensures refused { Refuses (description_of names.now)
+        (expr_uses (scope_of scope.now) (expr_of path_of e.now)) result }
 {
     match e {
         Expr::Literal(value) => Ok(Expr::Literal(*value)),
@@ -117,10 +125,13 @@ fn copy_boxed(
     names: &Names,
     scope: &[Local],
 ) -> Result<Box<Expr<Target>>, NameFault>
-    ensures accepted { IfOk result (λ t. NoFault (unit_of names.now) (expr_uses (scope_of scope.now) (expr_of path_of e.now))) }
-    ensures sound { IfOk result (λ t. Means (unit_of names.now)
-        (resolved_expr (meaning (unit_of names.now) (scope_of scope.now) variable_kinds) (expr_of path_of e.now)) (expr_of (λ r. r) t.value)) }
-    ensures refused { IfErr result (λ f. FirstFault f (unit_of names.now) (expr_uses (scope_of scope.now) (expr_of path_of e.now))) }
+    ensures accepted { Accepts (description_of names.now)
+        (expr_uses (scope_of scope.now) (expr_of path_of e.now)) result }
+    ensures sound { Copies (description_of names.now)
+        (resolved_expr (meaning (description_of names.now) (scope_of scope.now) variable_kinds)
+        (expr_of path_of e.now)) (λ t. numbered_expr t.value) result }
+    ensures refused { Refuses (description_of names.now)
+        (expr_uses (scope_of scope.now) (expr_of path_of e.now)) result }
 {
     made_of!(copy_expr(e, names, scope), copy => Box::new(names.alloc, copy)?)
 }
@@ -134,12 +145,18 @@ fn copy_pair(
     names: &Names,
     scope: &[Local],
 ) -> Result<(Box<Expr<Target>>, Box<Expr<Target>>), NameFault>
-    ensures accepted { IfOk result (λ t. NoFault (unit_of names.now) (expr_uses (scope_of scope.now) (expr_of path_of left.now) ++ expr_uses (scope_of scope.now) (expr_of path_of right.now))) }
-    ensures left { IfOk result (λ t. Means (unit_of names.now)
-        (resolved_expr (meaning (unit_of names.now) (scope_of scope.now) variable_kinds) (expr_of path_of left.now)) (expr_of (λ r. r) t.0.value)) }
-    ensures right { IfOk result (λ t. Means (unit_of names.now)
-        (resolved_expr (meaning (unit_of names.now) (scope_of scope.now) variable_kinds) (expr_of path_of right.now)) (expr_of (λ r. r) t.1.value)) }
-    ensures refused { IfErr result (λ f. FirstFault f (unit_of names.now) (expr_uses (scope_of scope.now) (expr_of path_of left.now) ++ expr_uses (scope_of scope.now) (expr_of path_of right.now))) }
+    ensures accepted { Accepts (description_of names.now)
+        (expr_uses (scope_of scope.now) (expr_of path_of left.now) ++ expr_uses (scope_of scope.now)
+        (expr_of path_of right.now)) result }
+    ensures left { Copies (description_of names.now)
+        (resolved_expr (meaning (description_of names.now) (scope_of scope.now) variable_kinds)
+        (expr_of path_of left.now)) (λ t. numbered_expr t.0.value) result }
+    ensures right { Copies (description_of names.now)
+        (resolved_expr (meaning (description_of names.now) (scope_of scope.now) variable_kinds)
+        (expr_of path_of right.now)) (λ t. numbered_expr t.1.value) result }
+    ensures refused { Refuses (description_of names.now)
+        (expr_uses (scope_of scope.now) (expr_of path_of left.now) ++ expr_uses (scope_of scope.now)
+        (expr_of path_of right.now)) result }
 {
     let left = copy_boxed(left, names, scope)?;
     made_of!(copy_boxed(right, names, scope), right => (left, right))
@@ -154,11 +171,18 @@ fn copy_assigned(
     names: &Names,
     scope: &[Local],
 ) -> Result<(Target, Box<Expr<Target>>), NameFault>
-    ensures accepted { IfOk result (λ t. NoFault (unit_of names.now) (OfItem (scope_of scope.now) variable_kinds (path_of to.now) ∷ expr_uses (scope_of scope.now) (expr_of path_of value.now))) }
-    ensures to { IfOk result (λ t. Means (unit_of names.now) (meaning (unit_of names.now) (scope_of scope.now) variable_kinds (path_of to.now)) t.0) }
-    ensures value { IfOk result (λ t. Means (unit_of names.now)
-        (resolved_expr (meaning (unit_of names.now) (scope_of scope.now) variable_kinds) (expr_of path_of value.now)) (expr_of (λ r. r) t.1.value)) }
-    ensures refused { IfErr result (λ f. FirstFault f (unit_of names.now) (OfItem (scope_of scope.now) variable_kinds (path_of to.now) ∷ expr_uses (scope_of scope.now) (expr_of path_of value.now))) }
+    ensures accepted { Accepts (description_of names.now)
+        (OfItem (scope_of scope.now) variable_kinds (path_of to.now)
+        ∷ expr_uses (scope_of scope.now) (expr_of path_of value.now)) result }
+    ensures to { Copies (description_of names.now)
+        (meaning (description_of names.now) (scope_of scope.now) variable_kinds (path_of to.now))
+        (λ t. t.0) result }
+    ensures value { Copies (description_of names.now)
+        (resolved_expr (meaning (description_of names.now) (scope_of scope.now) variable_kinds)
+        (expr_of path_of value.now)) (λ t. numbered_expr t.1.value) result }
+    ensures refused { Refuses (description_of names.now)
+        (OfItem (scope_of scope.now) variable_kinds (path_of to.now)
+        ∷ expr_uses (scope_of scope.now) (expr_of path_of value.now)) result }
 {
     let to = refer_variable(names, scope, to)?;
     made_of!(copy_boxed(value, names, scope), value => (to, value))
@@ -173,12 +197,18 @@ fn copy_call(
     names: &Names,
     scope: &[Local],
 ) -> Result<(Target, Vec<Argument<Target>>), NameFault>
-    ensures accepted { IfOk result (λ t. NoFault (unit_of names.now) (OfFunction (path_of function.now) ∷ argument_uses (scope_of scope.now) (arguments_from (map (argument_of path_of) arguments.now)))) }
-    ensures function { IfOk result (λ t. Means (unit_of names.now) (function_meant (path_of function.now)) t.0) }
-    ensures arguments { IfOk result (λ t. Means (unit_of names.now)
-        (resolved_arguments (meaning (unit_of names.now) (scope_of scope.now) variable_kinds) (arguments_from (map (argument_of path_of) arguments.now)))
-        (arguments_from (map (argument_of (λ r. r)) t.1.items))) }
-    ensures refused { IfErr result (λ f. FirstFault f (unit_of names.now) (OfFunction (path_of function.now) ∷ argument_uses (scope_of scope.now) (arguments_from (map (argument_of path_of) arguments.now)))) }
+    ensures accepted { Accepts (description_of names.now) (OfFunction (path_of function.now)
+        ∷ argument_uses (scope_of scope.now)
+        (arguments_from (map (argument_of path_of) arguments.now))) result }
+    ensures function { Copies (description_of names.now) (function_meant (path_of function.now))
+        (λ t. t.0) result }
+    ensures arguments { Copies (description_of names.now)
+        (resolved_arguments (meaning (description_of names.now) (scope_of scope.now) variable_kinds)
+        (arguments_from (map (argument_of path_of) arguments.now)))
+        (λ t. arguments_from (map numbered_argument t.1.items)) result }
+    ensures refused { Refuses (description_of names.now) (OfFunction (path_of function.now)
+        ∷ argument_uses (scope_of scope.now)
+        (arguments_from (map (argument_of path_of) arguments.now))) result }
 {
     let function = refer_function(names, function)?;
     made_of!(copy_arguments(arguments, names, scope), arguments => (function, arguments))
@@ -190,11 +220,16 @@ fn copy_arguments(
     names: &Names,
     scope: &[Local],
 ) -> Result<Vec<Argument<Target>>, NameFault>
-    ensures accepted { IfOk result (λ all. NoFault (unit_of names.now) (argument_uses (scope_of scope.now) (arguments_from (map (argument_of path_of) arguments.now)))) }
-    ensures sound { IfOk result (λ all. Means (unit_of names.now)
-        (resolved_arguments (meaning (unit_of names.now) (scope_of scope.now) variable_kinds) (arguments_from (map (argument_of path_of) arguments.now)))
-        (arguments_from (map (argument_of (λ r. r)) all.items))) }
-    ensures refused { IfErr result (λ f. FirstFault f (unit_of names.now) (argument_uses (scope_of scope.now) (arguments_from (map (argument_of path_of) arguments.now)))) }
+    ensures accepted { Accepts (description_of names.now)
+        (argument_uses (scope_of scope.now)
+        (arguments_from (map (argument_of path_of) arguments.now))) result }
+    ensures sound { Copies (description_of names.now)
+        (resolved_arguments (meaning (description_of names.now) (scope_of scope.now) variable_kinds)
+        (arguments_from (map (argument_of path_of) arguments.now)))
+        (λ all. arguments_from (map numbered_argument all.items)) result }
+    ensures refused { Refuses (description_of names.now)
+        (argument_uses (scope_of scope.now)
+        (arguments_from (map (argument_of path_of) arguments.now))) result }
 {
     let mut all = Vec::new(names.alloc);
     add_arguments(arguments, names, scope, &mut all)?;
@@ -209,11 +244,16 @@ fn add_arguments(
     all: &mut Vec<Argument<Target>>,
 ) -> Result<(), NameFault>
     requires { all.old.items ≡ [] }
-    ensures accepted { OnOk result (NoFault (unit_of names.now) (argument_uses (scope_of scope.now) (arguments_from (map (argument_of path_of) arguments.now)))) }
-    ensures sound { OnOk result (Means (unit_of names.now)
-        (resolved_arguments (meaning (unit_of names.now) (scope_of scope.now) variable_kinds) (arguments_from (map (argument_of path_of) arguments.now)))
-        (arguments_from (map (argument_of (λ r. r)) all.new.items))) }
-    ensures refused { IfErr result (λ f. FirstFault f (unit_of names.now) (argument_uses (scope_of scope.now) (arguments_from (map (argument_of path_of) arguments.now)))) }
+    ensures accepted { Accepts (description_of names.now)
+        (argument_uses (scope_of scope.now)
+        (arguments_from (map (argument_of path_of) arguments.now))) result }
+    ensures sound { Copies (description_of names.now)
+        (resolved_arguments (meaning (description_of names.now) (scope_of scope.now) variable_kinds)
+        (arguments_from (map (argument_of path_of) arguments.now)))
+        (λ _. arguments_from (map numbered_argument all.new.items)) result }
+    ensures refused { Refuses (description_of names.now)
+        (argument_uses (scope_of scope.now)
+        (arguments_from (map (argument_of path_of) arguments.now))) result }
 {
     for argument in arguments {
         add_argument(argument, names, scope, all)?;
@@ -229,10 +269,16 @@ fn add_argument(
     scope: &[Local],
     all: &mut Vec<Argument<Target>>,
 ) -> Result<(), NameFault>
-    ensures accepted { OnOk result (NoFault (unit_of names.now) (argument_uses (scope_of scope.now) (arguments_from (argument_of path_of argument.now ∷ [])))) }
+    ensures accepted { Accepts (description_of names.now)
+        (argument_uses (scope_of scope.now)
+        (arguments_from (argument_of path_of argument.now ∷ []))) result }
     ensures sound { OnOk result ((z : Argument Target) × (all.new.items ≡ all.old.items ++ z ∷ [])
-        × Means (unit_of names.now) (resolved_argument (meaning (unit_of names.now) (scope_of scope.now) variable_kinds) (argument_of path_of argument.now)) (argument_of (λ r. r) z)) }
-    ensures refused { IfErr result (λ f. FirstFault f (unit_of names.now) (argument_uses (scope_of scope.now) (arguments_from (argument_of path_of argument.now ∷ [])))) }
+        × Means (description_of names.now)
+        (resolved_argument (meaning (description_of names.now) (scope_of scope.now) variable_kinds)
+        (argument_of path_of argument.now)) (numbered_argument z)) }
+    ensures refused { Refuses (description_of names.now)
+        (argument_uses (scope_of scope.now)
+        (arguments_from (argument_of path_of argument.now ∷ []))) result }
 {
     let copy = copy_argument(argument, names, scope)?;
     all.push(copy)?;
@@ -246,10 +292,15 @@ fn copy_argument(
     names: &Names,
     scope: &[Local],
 ) -> Result<Argument<Target>, NameFault>
-    ensures accepted { IfOk result (λ t. NoFault (unit_of names.now) (argument_uses (scope_of scope.now) (arguments_from (argument_of path_of argument.now ∷ [])))) }
-    ensures sound { IfOk result (λ t. Means (unit_of names.now)
-        (resolved_argument (meaning (unit_of names.now) (scope_of scope.now) variable_kinds) (argument_of path_of argument.now)) (argument_of (λ r. r) t)) }
-    ensures refused { IfErr result (λ f. FirstFault f (unit_of names.now) (argument_uses (scope_of scope.now) (arguments_from (argument_of path_of argument.now ∷ [])))) }
+    ensures accepted { Accepts (description_of names.now)
+        (argument_uses (scope_of scope.now)
+        (arguments_from (argument_of path_of argument.now ∷ []))) result }
+    ensures sound { Copies (description_of names.now)
+        (resolved_argument (meaning (description_of names.now) (scope_of scope.now) variable_kinds)
+        (argument_of path_of argument.now)) numbered_argument result }
+    ensures refused { Refuses (description_of names.now)
+        (argument_uses (scope_of scope.now)
+        (arguments_from (argument_of path_of argument.now ∷ []))) result }
 {
     match argument {
         Argument::Text(text) =>

@@ -1,22 +1,23 @@
 //! Attributes with the meaning of their names.
 
-ghost use Rattle.std.specs.Prelude.{◌≡◌, ◌≤◌, [], ◌∷◌, IfErr, IfOk, OnOk, map};
+ghost use Rattle.std.specs.Prelude.{◌≡◌, ◌≤◌, [], ◌∷◌, IfErr, IfOk, map};
 ghost use Rattle.std.specs.List.{flat_map};
-ghost use Rattle.edd_syntax.specs.ItemView.{attribute_of, item_of, member_of, type_word_of};
+ghost use Rattle.edd_syntax.specs.ItemView.{attribute_of, item_of, member_of, type_word_of, numbered_attribute, numbered_member};
 ghost use Rattle.edd_syntax.specs.NameUses.{attribute_uses, body_uses};
 ghost use Rattle.edd_syntax.specs.Resolution.{member_kinds};
 ghost use Rattle.edd_syntax.specs.ResolvedTrees.{each, resolved_attribute, resolved_body, resolved_member};
 ghost use Rattle.edd_syntax.specs.Statement.{body_from, slots_in};
-ghost use Rattle.edd_syntax.specs.TreeView.{path_of, part_of};
+ghost use Rattle.edd_syntax.specs.TreeView.{path_of, part_of, numbered_part};
 ghost use Rattle.edd_name_meanings.specs.declared.fault.NameFault.TheVariants.{Memory};
-ghost use Rattle.edd_name_meanings.specs.Directory.{unit_of};
-ghost use Rattle.edd_name_meanings.specs.Meanings.{Means, NoFault, FirstFault};
+ghost use Rattle.edd_name_meanings.specs.Directory.{description_of};
+ghost use Rattle.edd_name_meanings.specs.Meanings.{Means};
 ghost use Rattle.edd_names.specs.ResolvedParts.{member_uses};
 ghost use Rattle.edd_name_rules.specs.Spending.{locals_in};
+ghost use Rattle.edd_names.specs.Copies.{Accepts, Copies, Refuses};
 
-use crate::branches::{copy_cond, copy_conds};
+use crate::braces::{copy_members, copy_transaction_parts, copy_type_parts};
+use crate::conditionals::{copy_cond, copy_conds};
 use crate::made::made_of;
-use crate::parts::{copy_members, copy_transaction_parts, copy_type_parts};
 use crate::statements::copy_body;
 use crate::texts::{copy_responses, copy_words};
 use edd_name_meanings::directory::Names;
@@ -43,10 +44,13 @@ fn copy_type_word(word: &TypeWord, alloc: Global) -> Result<TypeWord, NameFault>
 #[tactic(auto, using(crate::proofs::UseLaws::faults))]
 fn copy_definition(parts: &[Part<Path>], names: &Names) -> Result<Vec<Part<Target>>, NameFault>
     requires { slots_in (body_from (map (part_of path_of) parts.now)) ≤ 64 }
-    ensures accepted { IfOk result (λ t. NoFault (unit_of names.now) (body_uses (body_from (map (part_of path_of) parts.now)) [] 0)) }
-    ensures sound { IfOk result (λ t. Means (unit_of names.now)
-        (resolved_body (unit_of names.now) (body_from (map (part_of path_of) parts.now)) [] 0) (body_from (map (part_of (λ r. r)) t.items))) }
-    ensures refused { IfErr result (λ f. FirstFault f (unit_of names.now) (body_uses (body_from (map (part_of path_of) parts.now)) [] 0)) }
+    ensures accepted { Accepts (description_of names.now)
+        (body_uses (body_from (map (part_of path_of) parts.now)) [] 0) result }
+    ensures sound { Copies (description_of names.now)
+        (resolved_body (description_of names.now) (body_from (map (part_of path_of) parts.now)) []
+        0) (λ t. body_from (map numbered_part t.items)) result }
+    ensures refused { Refuses (description_of names.now)
+        (body_uses (body_from (map (part_of path_of) parts.now)) [] 0) result }
 {
     let mut next = 0;
     copy_body(parts, names, &[], &mut next)
@@ -59,10 +63,16 @@ fn copy_members_of(
     members: &[Member<Path>],
     names: &Names,
 ) -> Result<Vec<Member<Target>>, NameFault>
-    ensures accepted { IfOk result (λ t. NoFault (unit_of names.now) (flat_map (member_uses (member_kinds (item_of path_of item.now).sort)) (map (member_of path_of) members.now))) }
-    ensures sound { IfOk result (λ t. Means (unit_of names.now)
-        (each (resolved_member (unit_of names.now) (member_kinds (item_of path_of item.now).sort)) (map (member_of path_of) members.now)) (map (member_of (λ r. r)) t.items)) }
-    ensures refused { IfErr result (λ f. FirstFault f (unit_of names.now) (flat_map (member_uses (member_kinds (item_of path_of item.now).sort)) (map (member_of path_of) members.now))) }
+    ensures accepted { Accepts (description_of names.now)
+        (flat_map (member_uses (member_kinds (item_of path_of item.now).sort))
+        (map (member_of path_of) members.now)) result }
+    ensures sound { Copies (description_of names.now)
+        (each (resolved_member (description_of names.now)
+        (member_kinds (item_of path_of item.now).sort)) (map (member_of path_of) members.now))
+        (λ t. map numbered_member t.items) result }
+    ensures refused { Refuses (description_of names.now)
+        (flat_map (member_uses (member_kinds (item_of path_of item.now).sort))
+        (map (member_of path_of) members.now)) result }
 {
     match item {
         Item::Collection(d) => copy_members(members, names, &[d.of]),
@@ -79,10 +89,15 @@ fn copy_attribute(
     item: &Item<Path>,
 ) -> Result<Attribute<Target>, NameFault>
     requires { locals_in (attribute_of path_of attribute.now ∷ []) ≤ 64 }
-    ensures accepted { IfOk result (λ t. NoFault (unit_of names.now) (attribute_uses (item_of path_of item.now).sort (attribute_of path_of attribute.now))) }
-    ensures sound { IfOk result (λ t. Means (unit_of names.now)
-        (resolved_attribute (unit_of names.now) (item_of path_of item.now).sort (attribute_of path_of attribute.now)) (attribute_of (λ r. r) t)) }
-    ensures refused { IfErr result (λ f. FirstFault f (unit_of names.now) (attribute_uses (item_of path_of item.now).sort (attribute_of path_of attribute.now))) }
+    ensures accepted { Accepts (description_of names.now)
+        (attribute_uses (item_of path_of item.now).sort (attribute_of path_of attribute.now))
+        result }
+    ensures sound { Copies (description_of names.now)
+        (resolved_attribute (description_of names.now) (item_of path_of item.now).sort
+        (attribute_of path_of attribute.now)) numbered_attribute result }
+    ensures refused { Refuses (description_of names.now)
+        (attribute_uses (item_of path_of item.now).sort (attribute_of path_of attribute.now))
+        result }
 {
     let alloc = names.alloc;
     match attribute {
@@ -126,9 +141,16 @@ fn add_attributes(
 ) -> Result<(), NameFault>
     requires room { locals_in (map (attribute_of path_of) attributes.now) ≤ 64 }
     requires empty { copies.old.items ≡ [] }
-    ensures accepted { OnOk result (NoFault (unit_of names.now) (flat_map (attribute_uses (item_of path_of item.now).sort) (map (attribute_of path_of) attributes.now))) }
-    ensures sound { OnOk result (Means (unit_of names.now) (each (resolved_attribute (unit_of names.now) (item_of path_of item.now).sort) (map (attribute_of path_of) attributes.now)) (map (attribute_of (λ r. r)) copies.new.items)) }
-    ensures refused { IfErr result (λ f. FirstFault f (unit_of names.now) (flat_map (attribute_uses (item_of path_of item.now).sort) (map (attribute_of path_of) attributes.now))) }
+    ensures accepted { Accepts (description_of names.now)
+        (flat_map (attribute_uses (item_of path_of item.now).sort)
+        (map (attribute_of path_of) attributes.now)) result }
+    ensures sound { Copies (description_of names.now)
+        (each (resolved_attribute (description_of names.now) (item_of path_of item.now).sort)
+        (map (attribute_of path_of) attributes.now)) (λ _. map numbered_attribute copies.new.items)
+        result }
+    ensures refused { Refuses (description_of names.now)
+        (flat_map (attribute_uses (item_of path_of item.now).sort)
+        (map (attribute_of path_of) attributes.now)) result }
 {
     for attribute in attributes {
         copies.push(copy_attribute(attribute, names, item)?)?;
@@ -144,9 +166,15 @@ pub fn copy_attributes(
     item: &Item<Path>,
 ) -> Result<Vec<Attribute<Target>>, NameFault>
     requires { locals_in (map (attribute_of path_of) attributes.now) ≤ 64 }
-    ensures accepted { IfOk result (λ t. NoFault (unit_of names.now) (flat_map (attribute_uses (item_of path_of item.now).sort) (map (attribute_of path_of) attributes.now))) }
-    ensures sound { IfOk result (λ t. Means (unit_of names.now) (each (resolved_attribute (unit_of names.now) (item_of path_of item.now).sort) (map (attribute_of path_of) attributes.now)) (map (attribute_of (λ r. r)) t.items)) }
-    ensures refused { IfErr result (λ f. FirstFault f (unit_of names.now) (flat_map (attribute_uses (item_of path_of item.now).sort) (map (attribute_of path_of) attributes.now))) }
+    ensures accepted { Accepts (description_of names.now)
+        (flat_map (attribute_uses (item_of path_of item.now).sort)
+        (map (attribute_of path_of) attributes.now)) result }
+    ensures sound { Copies (description_of names.now)
+        (each (resolved_attribute (description_of names.now) (item_of path_of item.now).sort)
+        (map (attribute_of path_of) attributes.now)) (λ t. map numbered_attribute t.items) result }
+    ensures refused { Refuses (description_of names.now)
+        (flat_map (attribute_uses (item_of path_of item.now).sort)
+        (map (attribute_of path_of) attributes.now)) result }
 {
     let mut copies = Vec::new(names.alloc);
     add_attributes(attributes, names, item, &mut copies)?;

@@ -5,15 +5,15 @@ ghost use Rattle.edd_syntax.specs.declared.reference.Target.{Target};
 ghost use Rattle.edd_syntax.specs.declared.types.Handling as handling;
 ghost use Rattle.edd_syntax.specs.Expression as expression;
 ghost use Rattle.edd_syntax.specs.Item as item;
-ghost use Rattle.edd_syntax.specs.ItemView.{enumerator_of, entry_of, data_item_of};
+ghost use Rattle.edd_syntax.specs.ItemView.{enumerator_of, entry_of, data_item_of, numbered_data_item, numbered_entry};
 ghost use Rattle.edd_syntax.specs.NameUses.{attribute_expr_uses, entry_uses, data_uses, no_uses};
 ghost use Rattle.edd_syntax.specs.Reference as pure;
 ghost use Rattle.edd_syntax.specs.ResolvedTrees.{at_attribute, resolved_data, resolved_entry, resolved_expr, unchanged};
 ghost use Rattle.edd_syntax.specs.Text as texts;
-ghost use Rattle.edd_syntax.specs.TreeView.{path_of, expr_of};
+ghost use Rattle.edd_syntax.specs.TreeView.{path_of, expr_of, numbered_expr};
 ghost use Rattle.edd_syntax.specs.WordsView.{text_of};
 
-use crate::branches::Named;
+use crate::conditionals::Named;
 use crate::exprs::{copy_expr, refer_variable};
 use crate::made::made_of;
 use crate::texts::{copy_optional_text, copy_text};
@@ -126,7 +126,7 @@ impl Named for Expr<Path> {
 
     ghost before = { expr_of path_of };
 
-    ghost after = { expr_of (λ r. r) };
+    ghost after = { numbered_expr };
 
     ghost uses = { attribute_expr_uses };
 
@@ -147,7 +147,7 @@ impl Named for MenuEntry<Path> {
 
     ghost before = { entry_of path_of };
 
-    ghost after = { entry_of (λ r. r) };
+    ghost after = { numbered_entry };
 
     ghost uses = { entry_uses };
 
@@ -179,7 +179,7 @@ impl Named for DataItem<Path> {
 
     ghost before = { data_item_of path_of };
 
-    ghost after = { data_item_of (λ r. r) };
+    ghost after = { numbered_data_item };
 
     ghost uses = { data_uses };
 

@@ -1,13 +1,13 @@
 //! A description with the meaning of each name in its place.
 #![tactic(auto)]
 
-mod branches;
+mod braces;
+mod conditionals;
 mod declarators;
 mod exprs;
 mod fields;
 mod leaves;
 mod made;
-mod parts;
 mod resolving;
 mod statements;
 mod texts;

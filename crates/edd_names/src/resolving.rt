@@ -8,7 +8,7 @@ ghost use Rattle.edd_syntax.specs.Refusal.{first_of};
 ghost use Rattle.edd_syntax.specs.Resolved.{description};
 ghost use Rattle.edd_syntax.specs.ResolvedTrees.{resolved_unit};
 ghost use Rattle.edd_syntax.specs.WellFormed.{are_items};
-ghost use Rattle.edd_name_meanings.specs.Directory.{unit_of};
+ghost use Rattle.edd_name_meanings.specs.Directory.{description_of};
 ghost use Rattle.edd_name_meanings.specs.Faults.{IsFirst};
 ghost use Rattle.edd_names.specs.Units.{unit_view};
 
@@ -20,27 +20,34 @@ use edd_syntax::resolved::Resolved;
 use edd_syntax::unit::Unit;
 use std::alloc::Global;
 
-// The unit of these names with their meaning, where the rules before those on uses of names are kept.
+// The unit of these names with their meaning, where the rules before those on uses of names are
+// kept.
 #[tactic(auto, using(crate::proofs::UseLaws::memory_refused))]
 fn resolve_uses(alloc: Global, names: &Names) -> Result<Resolved, NameFault>
-    requires counted { None ≡ first_of (too_many (unit_of names.now)) }
-    requires kept { None ≡ first_of (too_many (unit_of names.now) ++ (duplicate_names (unit_of names.now)
-        ++ (duplicate_attributes (unit_of names.now) ++ missing_attributes (unit_of names.now)))) }
-    requires well_formed { IsTrue (are_items (unit_of names.now).items) }
-    ensures sound { IfOk result (λ r. resolved_unit (unit_of names.now) ≡ Some (description (identification_of r.identification) (numbered_items r.items.value.items))) }
-    ensures accepted { IfOk result (λ r. name_breaches (unit_of names.now) ≡ []) }
-    ensures refused { IfErr result (λ f. IsFirst f (name_breaches (unit_of names.now))) }
+    requires counted { None ≡ first_of (too_many (description_of names.now)) }
+    requires kept { None ≡ first_of (too_many (description_of names.now)
+        ++ (duplicate_names (description_of names.now)
+        ++ (duplicate_attributes (description_of names.now)
+        ++ missing_attributes (description_of names.now)))) }
+    requires well_formed { IsTrue (are_items (description_of names.now).items) }
+    ensures sound { IfOk result (λ r. resolved_unit (description_of names.now)
+        ≡ Some (description (identification_of r.identification)
+        (numbered_items r.items.value.items))) }
+    ensures accepted { IfOk result (λ r. name_breaches (description_of names.now) ≡ []) }
+    ensures refused { IfErr result (λ f. IsFirst f (name_breaches (description_of names.now))) }
 {
     let items = copy_items(names.items, names)?;
     Ok(Resolved::new(alloc, names.identification, items)?)
 }
 
-/// The unit with the meaning of each name in its place: the number of an item, the slot of a local, or the function of a call.
-/// An error other than refused memory is the first broken rule on counts (40), names that stand twice (20), attributes that
-/// stand twice (23), missing attributes (24), and on unknown names (21) and things of a wrong kind (22) in the order of the
-/// source.
+/// The unit with the meaning of each name in its place: the number of an item, the slot of a local,
+/// or the function of a call. An error other than refused memory is the first broken rule on counts
+/// (40), names that stand twice (20), attributes that stand twice (23), missing attributes (24),
+/// and on unknown names (21) and things of a wrong kind (22) in the order of the source.
 pub fn resolve(alloc: Global, unit: &Unit) -> Result<Resolved, NameFault>
-    ensures sound { IfOk result (λ r. resolved_unit (unit_view unit.now) ≡ Some (description (identification_of r.identification) (numbered_items r.items.value.items))) }
+    ensures sound { IfOk result (λ r. resolved_unit (unit_view unit.now)
+        ≡ Some (description (identification_of r.identification)
+        (numbered_items r.items.value.items))) }
     ensures accepted { IfOk result (λ r. name_breaches (unit_view unit.now) ≡ []) }
     ensures refused { IfErr result (λ f. IsFirst f (name_breaches (unit_view unit.now))) }
 {

@@ -1,16 +1,17 @@
 //! Statements with the meaning of their names.
 
-ghost use Rattle.std.specs.Prelude.{◌≡◌, ◌+◌, ◌≤◌, ◌++◌, List, [], ◌∷◌, IfErr, IfOk, OnErr, OnOk, map, option_map};
+ghost use Rattle.std.specs.Prelude.{◌≡◌, ◌+◌, ◌≤◌, ◌++◌, List, [], ◌∷◌, IfErr, IfOk, OnOk, map, option_map};
 ghost use Rattle.edd_syntax.specs.declared.reference.Target.{Target};
 ghost use Rattle.edd_syntax.specs.declared.stmt.Part.{Part};
 ghost use Rattle.edd_syntax.specs.NameUses.{Use, expr_uses, optional_uses, stmt_uses, body_uses};
 ghost use Rattle.edd_syntax.specs.ResolvedTrees.{at_scope, resolved_expr, resolved_optional, resolved_stmt, resolved_body};
 ghost use Rattle.edd_syntax.specs.Statement.{body_from, slots_of, slots_in};
-ghost use Rattle.edd_syntax.specs.TreeView.{path_of, expr_of, stmt_of, part_of};
+ghost use Rattle.edd_syntax.specs.TreeView.{path_of, expr_of, stmt_of, part_of, numbered_expr, numbered_part, numbered_stmt};
 ghost use Rattle.edd_name_meanings.specs.declared.fault.NameFault.TheVariants.{Memory};
-ghost use Rattle.edd_name_meanings.specs.Directory.{unit_of};
-ghost use Rattle.edd_name_meanings.specs.Meanings.{Means, NoFault, FirstFault, scope_of};
+ghost use Rattle.edd_name_meanings.specs.Directory.{description_of};
+ghost use Rattle.edd_name_meanings.specs.Meanings.{Means, FirstFault, scope_of};
 ghost use Rattle.edd_names.specs.ResolvedParts.{part_uses, resolved_part, scope_behind, next_behind};
+ghost use Rattle.edd_names.specs.Copies.{Accepts, Copies, Refuses};
 
 use crate::declarators::{add_declarators, copy_optional};
 use crate::exprs::copy_expr;
@@ -41,11 +42,14 @@ fn copy_stmt<'a>(
     next: &mut u8,
 ) -> Result<Stmt<Target>, NameFault>
     requires { next.old + slots_of (stmt_of path_of s.now) ≤ 64 }
-    ensures accepted { IfOk result (λ t. NoFault (unit_of names.now) (stmt_uses (stmt_of path_of s.now) (scope_of scope.now) next.old)) }
-    ensures sound { IfOk result (λ t. Means (unit_of names.now)
-        (resolved_stmt (unit_of names.now) (stmt_of path_of s.now) (scope_of scope.now) next.old) (stmt_of (λ r. r) t)) }
+    ensures accepted { Accepts (description_of names.now)
+        (stmt_uses (stmt_of path_of s.now) (scope_of scope.now) next.old) result }
+    ensures sound { Copies (description_of names.now)
+        (resolved_stmt (description_of names.now) (stmt_of path_of s.now) (scope_of scope.now)
+        next.old) numbered_stmt result }
     ensures next { IfOk result (λ t. next.new ≡ next.old + slots_of (stmt_of path_of s.now)) }
-    ensures refused { IfErr result (λ f. FirstFault f (unit_of names.now) (stmt_uses (stmt_of path_of s.now) (scope_of scope.now) next.old)) }
+    ensures refused { Refuses (description_of names.now)
+        (stmt_uses (stmt_of path_of s.now) (scope_of scope.now) next.old) result }
 {
     match s {
         Stmt::Empty => Ok(Stmt::Empty),
@@ -114,11 +118,14 @@ fn copy_boxed<'a>(
     next: &mut u8,
 ) -> Result<Box<Stmt<Target>>, NameFault>
     requires { next.old + slots_of (stmt_of path_of s.now) ≤ 64 }
-    ensures accepted { IfOk result (λ t. NoFault (unit_of names.now) (stmt_uses (stmt_of path_of s.now) (scope_of scope.now) next.old)) }
-    ensures sound { IfOk result (λ t. Means (unit_of names.now)
-        (resolved_stmt (unit_of names.now) (stmt_of path_of s.now) (scope_of scope.now) next.old) (stmt_of (λ r. r) t.value)) }
+    ensures accepted { Accepts (description_of names.now)
+        (stmt_uses (stmt_of path_of s.now) (scope_of scope.now) next.old) result }
+    ensures sound { Copies (description_of names.now)
+        (resolved_stmt (description_of names.now) (stmt_of path_of s.now) (scope_of scope.now)
+        next.old) (λ t. numbered_stmt t.value) result }
     ensures next { IfOk result (λ t. next.new ≡ next.old + slots_of (stmt_of path_of s.now)) }
-    ensures refused { IfErr result (λ f. FirstFault f (unit_of names.now) (stmt_uses (stmt_of path_of s.now) (scope_of scope.now) next.old)) }
+    ensures refused { Refuses (description_of names.now)
+        (stmt_uses (stmt_of path_of s.now) (scope_of scope.now) next.old) result }
 {
     made_of!(copy_stmt(s, names, scope, next), copy => Box::new(names.alloc, copy)?)
 }
@@ -134,15 +141,19 @@ fn copy_guarded<'a>(
     next: &mut u8,
 ) -> Result<(Expr<Target>, Box<Stmt<Target>>), NameFault>
     requires { next.old + slots_of (stmt_of path_of body.now) ≤ 64 }
-    ensures accepted { IfOk result (λ t. NoFault (unit_of names.now)
-        (expr_uses (scope_of scope.now) (expr_of path_of condition.now) ++ stmt_uses (stmt_of path_of body.now) (scope_of scope.now) next.old)) }
-    ensures condition { IfOk result (λ t. Means (unit_of names.now)
-        (resolved_expr (at_scope (unit_of names.now) (scope_of scope.now)) (expr_of path_of condition.now)) (expr_of (λ r. r) t.0)) }
-    ensures body { IfOk result (λ t. Means (unit_of names.now)
-        (resolved_stmt (unit_of names.now) (stmt_of path_of body.now) (scope_of scope.now) next.old) (stmt_of (λ r. r) t.1.value)) }
+    ensures accepted { Accepts (description_of names.now)
+        (expr_uses (scope_of scope.now) (expr_of path_of condition.now)
+        ++ stmt_uses (stmt_of path_of body.now) (scope_of scope.now) next.old) result }
+    ensures condition { Copies (description_of names.now)
+        (resolved_expr (at_scope (description_of names.now) (scope_of scope.now))
+        (expr_of path_of condition.now)) (λ t. numbered_expr t.0) result }
+    ensures body { Copies (description_of names.now)
+        (resolved_stmt (description_of names.now) (stmt_of path_of body.now) (scope_of scope.now)
+        next.old) (λ t. numbered_stmt t.1.value) result }
     ensures next { IfOk result (λ t. next.new ≡ next.old + slots_of (stmt_of path_of body.now)) }
-    ensures refused { IfErr result (λ f. FirstFault f (unit_of names.now)
-        (expr_uses (scope_of scope.now) (expr_of path_of condition.now) ++ stmt_uses (stmt_of path_of body.now) (scope_of scope.now) next.old)) }
+    ensures refused { Refuses (description_of names.now)
+        (expr_uses (scope_of scope.now) (expr_of path_of condition.now)
+        ++ stmt_uses (stmt_of path_of body.now) (scope_of scope.now) next.old) result }
 {
     let condition = copy_expr(condition, names, scope)?;
     made_of!(copy_boxed(body, names, scope, next), body => (condition, body))
@@ -159,18 +170,30 @@ fn copy_choice<'a>(
     scope: &[Local<'a>],
     next: &mut u8,
 ) -> Result<(Expr<Target>, Box<Stmt<Target>>, Box<Stmt<Target>>), NameFault>
-    requires { next.old + (slots_of (stmt_of path_of first.now) + slots_of (stmt_of path_of otherwise.now)) ≤ 64 }
-    ensures accepted { IfOk result (λ t. NoFault (unit_of names.now)
-        (expr_uses (scope_of scope.now) (expr_of path_of condition.now) ++ (stmt_uses (stmt_of path_of first.now) (scope_of scope.now) next.old ++ stmt_uses (stmt_of path_of otherwise.now) (scope_of scope.now) (next.old + slots_of (stmt_of path_of first.now))))) }
-    ensures condition { IfOk result (λ t. Means (unit_of names.now)
-        (resolved_expr (at_scope (unit_of names.now) (scope_of scope.now)) (expr_of path_of condition.now)) (expr_of (λ r. r) t.0)) }
-    ensures first { IfOk result (λ t. Means (unit_of names.now)
-        (resolved_stmt (unit_of names.now) (stmt_of path_of first.now) (scope_of scope.now) next.old) (stmt_of (λ r. r) t.1.value)) }
-    ensures otherwise { IfOk result (λ t. Means (unit_of names.now)
-        (resolved_stmt (unit_of names.now) (stmt_of path_of otherwise.now) (scope_of scope.now) (next.old + slots_of (stmt_of path_of first.now))) (stmt_of (λ r. r) t.2.value)) }
-    ensures next { IfOk result (λ t. next.new ≡ next.old + (slots_of (stmt_of path_of first.now) + slots_of (stmt_of path_of otherwise.now))) }
-    ensures refused { IfErr result (λ f. FirstFault f (unit_of names.now)
-        (expr_uses (scope_of scope.now) (expr_of path_of condition.now) ++ (stmt_uses (stmt_of path_of first.now) (scope_of scope.now) next.old ++ stmt_uses (stmt_of path_of otherwise.now) (scope_of scope.now) (next.old + slots_of (stmt_of path_of first.now))))) }
+    requires { next.old + (slots_of (stmt_of path_of first.now)
+        + slots_of (stmt_of path_of otherwise.now)) ≤ 64 }
+    ensures accepted { Accepts (description_of names.now)
+        (expr_uses (scope_of scope.now) (expr_of path_of condition.now)
+        ++ (stmt_uses (stmt_of path_of first.now) (scope_of scope.now) next.old
+        ++ stmt_uses (stmt_of path_of otherwise.now) (scope_of scope.now)
+        (next.old + slots_of (stmt_of path_of first.now)))) result }
+    ensures condition { Copies (description_of names.now)
+        (resolved_expr (at_scope (description_of names.now) (scope_of scope.now))
+        (expr_of path_of condition.now)) (λ t. numbered_expr t.0) result }
+    ensures first { Copies (description_of names.now)
+        (resolved_stmt (description_of names.now) (stmt_of path_of first.now) (scope_of scope.now)
+        next.old) (λ t. numbered_stmt t.1.value) result }
+    ensures otherwise { Copies (description_of names.now)
+        (resolved_stmt (description_of names.now) (stmt_of path_of otherwise.now)
+        (scope_of scope.now) (next.old + slots_of (stmt_of path_of first.now)))
+        (λ t. numbered_stmt t.2.value) result }
+    ensures next { IfOk result (λ t. next.new ≡ next.old
+        + (slots_of (stmt_of path_of first.now) + slots_of (stmt_of path_of otherwise.now))) }
+    ensures refused { Refuses (description_of names.now)
+        (expr_uses (scope_of scope.now) (expr_of path_of condition.now)
+        ++ (stmt_uses (stmt_of path_of first.now) (scope_of scope.now) next.old
+        ++ stmt_uses (stmt_of path_of otherwise.now) (scope_of scope.now)
+        (next.old + slots_of (stmt_of path_of first.now)))) result }
 {
     let (condition, first) = copy_guarded(condition, first, names, scope, next)?;
     made_of!(copy_boxed(otherwise, names, scope, next), otherwise => (condition, first, otherwise))
@@ -187,15 +210,19 @@ fn copy_repeated<'a>(
     next: &mut u8,
 ) -> Result<(Box<Stmt<Target>>, Expr<Target>), NameFault>
     requires { next.old + slots_of (stmt_of path_of body.now) ≤ 64 }
-    ensures accepted { IfOk result (λ t. NoFault (unit_of names.now)
-        (stmt_uses (stmt_of path_of body.now) (scope_of scope.now) next.old ++ expr_uses (scope_of scope.now) (expr_of path_of condition.now))) }
-    ensures body { IfOk result (λ t. Means (unit_of names.now)
-        (resolved_stmt (unit_of names.now) (stmt_of path_of body.now) (scope_of scope.now) next.old) (stmt_of (λ r. r) t.0.value)) }
-    ensures condition { IfOk result (λ t. Means (unit_of names.now)
-        (resolved_expr (at_scope (unit_of names.now) (scope_of scope.now)) (expr_of path_of condition.now)) (expr_of (λ r. r) t.1)) }
+    ensures accepted { Accepts (description_of names.now)
+        (stmt_uses (stmt_of path_of body.now) (scope_of scope.now) next.old
+        ++ expr_uses (scope_of scope.now) (expr_of path_of condition.now)) result }
+    ensures body { Copies (description_of names.now)
+        (resolved_stmt (description_of names.now) (stmt_of path_of body.now) (scope_of scope.now)
+        next.old) (λ t. numbered_stmt t.0.value) result }
+    ensures condition { Copies (description_of names.now)
+        (resolved_expr (at_scope (description_of names.now) (scope_of scope.now))
+        (expr_of path_of condition.now)) (λ t. numbered_expr t.1) result }
     ensures next { IfOk result (λ t. next.new ≡ next.old + slots_of (stmt_of path_of body.now)) }
-    ensures refused { IfErr result (λ f. FirstFault f (unit_of names.now)
-        (stmt_uses (stmt_of path_of body.now) (scope_of scope.now) next.old ++ expr_uses (scope_of scope.now) (expr_of path_of condition.now))) }
+    ensures refused { Refuses (description_of names.now)
+        (stmt_uses (stmt_of path_of body.now) (scope_of scope.now) next.old
+        ++ expr_uses (scope_of scope.now) (expr_of path_of condition.now)) result }
 {
     let body = copy_boxed(body, names, scope, next)?;
     made_of!(copy_expr(condition, names, scope), condition => (body, condition))
@@ -217,17 +244,26 @@ fn copy_head(
     names: &Names,
     scope: &[Local],
 ) -> Result<Head, NameFault>
-    ensures none_initial { IfOk result (λ t. NoFault (unit_of names.now) (optional_uses (scope_of scope.now) (option_map (expr_of path_of) initial.now))) }
-    ensures none_condition { IfOk result (λ t. NoFault (unit_of names.now) (optional_uses (scope_of scope.now) (option_map (expr_of path_of) condition.now))) }
-    ensures none_update { IfOk result (λ t. NoFault (unit_of names.now) (optional_uses (scope_of scope.now) (option_map (expr_of path_of) update.now))) }
-    ensures initial { IfOk result (λ t. Means (unit_of names.now)
-        (resolved_optional (at_scope (unit_of names.now) (scope_of scope.now)) (option_map (expr_of path_of) initial.now)) (option_map (expr_of (λ r. r)) t.0)) }
-    ensures condition { IfOk result (λ t. Means (unit_of names.now)
-        (resolved_optional (at_scope (unit_of names.now) (scope_of scope.now)) (option_map (expr_of path_of) condition.now)) (option_map (expr_of (λ r. r)) t.1)) }
-    ensures update { IfOk result (λ t. Means (unit_of names.now)
-        (resolved_optional (at_scope (unit_of names.now) (scope_of scope.now)) (option_map (expr_of path_of) update.now)) (option_map (expr_of (λ r. r)) t.2)) }
-    ensures refused { IfErr result (λ f. (rest : List Use) → FirstFault f (unit_of names.now)
-        (optional_uses (scope_of scope.now) (option_map (expr_of path_of) initial.now) ++ (optional_uses (scope_of scope.now) (option_map (expr_of path_of) condition.now) ++ (optional_uses (scope_of scope.now) (option_map (expr_of path_of) update.now) ++ rest)))) }
+    ensures none_initial { Accepts (description_of names.now)
+        (optional_uses (scope_of scope.now) (option_map (expr_of path_of) initial.now)) result }
+    ensures none_condition { Accepts (description_of names.now)
+        (optional_uses (scope_of scope.now) (option_map (expr_of path_of) condition.now)) result }
+    ensures none_update { Accepts (description_of names.now)
+        (optional_uses (scope_of scope.now) (option_map (expr_of path_of) update.now)) result }
+    ensures initial { Copies (description_of names.now)
+        (resolved_optional (at_scope (description_of names.now) (scope_of scope.now))
+        (option_map (expr_of path_of) initial.now)) (λ t. option_map numbered_expr t.0) result }
+    ensures condition { Copies (description_of names.now)
+        (resolved_optional (at_scope (description_of names.now) (scope_of scope.now))
+        (option_map (expr_of path_of) condition.now)) (λ t. option_map numbered_expr t.1) result }
+    ensures update { Copies (description_of names.now)
+        (resolved_optional (at_scope (description_of names.now) (scope_of scope.now))
+        (option_map (expr_of path_of) update.now)) (λ t. option_map numbered_expr t.2) result }
+    ensures refused { IfErr result (λ f. (rest : List Use) → FirstFault f (description_of names.now)
+        (optional_uses (scope_of scope.now) (option_map (expr_of path_of) initial.now)
+        ++ (optional_uses (scope_of scope.now) (option_map (expr_of path_of) condition.now)
+        ++ (optional_uses (scope_of scope.now) (option_map (expr_of path_of) update.now)
+        ++ rest)))) }
 {
     let initial = copy_optional(initial, names, scope)?;
     let condition = copy_optional(condition, names, scope)?;
@@ -247,19 +283,29 @@ fn copy_looped<'a>(
     next: &mut u8,
 ) -> Result<(Head, Box<Stmt<Target>>), NameFault>
     requires { next.old + slots_of (stmt_of path_of body.now) ≤ 64 }
-    ensures accepted { IfOk result (λ t. NoFault (unit_of names.now)
-        (optional_uses (scope_of scope.now) (option_map (expr_of path_of) initial.now) ++ (optional_uses (scope_of scope.now) (option_map (expr_of path_of) condition.now) ++ (optional_uses (scope_of scope.now) (option_map (expr_of path_of) update.now) ++ stmt_uses (stmt_of path_of body.now) (scope_of scope.now) next.old)))) }
-    ensures initial { IfOk result (λ t. Means (unit_of names.now)
-        (resolved_optional (at_scope (unit_of names.now) (scope_of scope.now)) (option_map (expr_of path_of) initial.now)) (option_map (expr_of (λ r. r)) t.0.0)) }
-    ensures condition { IfOk result (λ t. Means (unit_of names.now)
-        (resolved_optional (at_scope (unit_of names.now) (scope_of scope.now)) (option_map (expr_of path_of) condition.now)) (option_map (expr_of (λ r. r)) t.0.1)) }
-    ensures update { IfOk result (λ t. Means (unit_of names.now)
-        (resolved_optional (at_scope (unit_of names.now) (scope_of scope.now)) (option_map (expr_of path_of) update.now)) (option_map (expr_of (λ r. r)) t.0.2)) }
-    ensures body { IfOk result (λ t. Means (unit_of names.now)
-        (resolved_stmt (unit_of names.now) (stmt_of path_of body.now) (scope_of scope.now) next.old) (stmt_of (λ r. r) t.1.value)) }
+    ensures accepted { Accepts (description_of names.now)
+        (optional_uses (scope_of scope.now) (option_map (expr_of path_of) initial.now)
+        ++ (optional_uses (scope_of scope.now) (option_map (expr_of path_of) condition.now)
+        ++ (optional_uses (scope_of scope.now) (option_map (expr_of path_of) update.now)
+        ++ stmt_uses (stmt_of path_of body.now) (scope_of scope.now) next.old))) result }
+    ensures initial { Copies (description_of names.now)
+        (resolved_optional (at_scope (description_of names.now) (scope_of scope.now))
+        (option_map (expr_of path_of) initial.now)) (λ t. option_map numbered_expr t.0.0) result }
+    ensures condition { Copies (description_of names.now)
+        (resolved_optional (at_scope (description_of names.now) (scope_of scope.now))
+        (option_map (expr_of path_of) condition.now)) (λ t. option_map numbered_expr t.0.1) result }
+    ensures update { Copies (description_of names.now)
+        (resolved_optional (at_scope (description_of names.now) (scope_of scope.now))
+        (option_map (expr_of path_of) update.now)) (λ t. option_map numbered_expr t.0.2) result }
+    ensures body { Copies (description_of names.now)
+        (resolved_stmt (description_of names.now) (stmt_of path_of body.now) (scope_of scope.now)
+        next.old) (λ t. numbered_stmt t.1.value) result }
     ensures next { IfOk result (λ t. next.new ≡ next.old + slots_of (stmt_of path_of body.now)) }
-    ensures refused { IfErr result (λ f. FirstFault f (unit_of names.now)
-        (optional_uses (scope_of scope.now) (option_map (expr_of path_of) initial.now) ++ (optional_uses (scope_of scope.now) (option_map (expr_of path_of) condition.now) ++ (optional_uses (scope_of scope.now) (option_map (expr_of path_of) update.now) ++ stmt_uses (stmt_of path_of body.now) (scope_of scope.now) next.old)))) }
+    ensures refused { Refuses (description_of names.now)
+        (optional_uses (scope_of scope.now) (option_map (expr_of path_of) initial.now)
+        ++ (optional_uses (scope_of scope.now) (option_map (expr_of path_of) condition.now)
+        ++ (optional_uses (scope_of scope.now) (option_map (expr_of path_of) update.now)
+        ++ stmt_uses (stmt_of path_of body.now) (scope_of scope.now) next.old))) result }
 {
     let head = copy_head(initial, condition, update, names, scope)?;
     made_of!(copy_boxed(body, names, scope, next), body => (head, body))
@@ -276,21 +322,29 @@ fn copy_switched<'a>(
     next: &mut u8,
 ) -> Result<(Expr<Target>, Vec<Part<Target>>), NameFault>
     requires { next.old + slots_in (body_from (map (part_of path_of) parts.now)) ≤ 64 }
-    ensures accepted { IfOk result (λ t. NoFault (unit_of names.now)
-        (expr_uses (scope_of scope.now) (expr_of path_of on.now) ++ body_uses (body_from (map (part_of path_of) parts.now)) (scope_of scope.now) next.old)) }
-    ensures on { IfOk result (λ t. Means (unit_of names.now)
-        (resolved_expr (at_scope (unit_of names.now) (scope_of scope.now)) (expr_of path_of on.now)) (expr_of (λ r. r) t.0)) }
-    ensures parts { IfOk result (λ t. Means (unit_of names.now)
-        (resolved_body (unit_of names.now) (body_from (map (part_of path_of) parts.now)) (scope_of scope.now) next.old) (body_from (map (part_of (λ r. r)) t.1.items))) }
-    ensures next { IfOk result (λ t. next.new ≡ next.old + slots_in (body_from (map (part_of path_of) parts.now))) }
-    ensures refused { IfErr result (λ f. FirstFault f (unit_of names.now)
-        (expr_uses (scope_of scope.now) (expr_of path_of on.now) ++ body_uses (body_from (map (part_of path_of) parts.now)) (scope_of scope.now) next.old)) }
+    ensures accepted { Accepts (description_of names.now)
+        (expr_uses (scope_of scope.now) (expr_of path_of on.now)
+        ++ body_uses (body_from (map (part_of path_of) parts.now)) (scope_of scope.now) next.old)
+        result }
+    ensures on { Copies (description_of names.now)
+        (resolved_expr (at_scope (description_of names.now) (scope_of scope.now))
+        (expr_of path_of on.now)) (λ t. numbered_expr t.0) result }
+    ensures parts { Copies (description_of names.now)
+        (resolved_body (description_of names.now) (body_from (map (part_of path_of) parts.now))
+        (scope_of scope.now) next.old) (λ t. body_from (map numbered_part t.1.items)) result }
+    ensures next { IfOk result (λ t. next.new ≡ next.old
+        + slots_in (body_from (map (part_of path_of) parts.now))) }
+    ensures refused { Refuses (description_of names.now)
+        (expr_uses (scope_of scope.now) (expr_of path_of on.now)
+        ++ body_uses (body_from (map (part_of path_of) parts.now)) (scope_of scope.now) next.old)
+        result }
 {
     let on = copy_expr(on, names, scope)?;
     made_of!(copy_body(parts, names, scope, next), parts => (on, parts))
 }
 
-/// What stands between braces, with the meaning of its names. Its locals can be used up to the closing brace.
+/// What stands between braces, with the meaning of its names. Its locals can be used up to the
+/// closing brace.
 #[cycle(statements)]
 #[tactic(auto, using(crate::proofs::UseLaws::faults))]
 pub fn copy_body<'a>(
@@ -300,11 +354,17 @@ pub fn copy_body<'a>(
     next: &mut u8,
 ) -> Result<Vec<Part<Target>>, NameFault>
     requires { next.old + slots_in (body_from (map (part_of path_of) parts.now)) ≤ 64 }
-    ensures accepted { IfOk result (λ t. NoFault (unit_of names.now) (body_uses (body_from (map (part_of path_of) parts.now)) (scope_of scope.now) next.old)) }
-    ensures sound { IfOk result (λ t. Means (unit_of names.now)
-        (resolved_body (unit_of names.now) (body_from (map (part_of path_of) parts.now)) (scope_of scope.now) next.old) (body_from (map (part_of (λ r. r)) t.items))) }
-    ensures next { IfOk result (λ t. next.new ≡ next.old + slots_in (body_from (map (part_of path_of) parts.now))) }
-    ensures refused { IfErr result (λ f. FirstFault f (unit_of names.now) (body_uses (body_from (map (part_of path_of) parts.now)) (scope_of scope.now) next.old)) }
+    ensures accepted { Accepts (description_of names.now)
+        (body_uses (body_from (map (part_of path_of) parts.now)) (scope_of scope.now) next.old)
+        result }
+    ensures sound { Copies (description_of names.now)
+        (resolved_body (description_of names.now) (body_from (map (part_of path_of) parts.now))
+        (scope_of scope.now) next.old) (λ t. body_from (map numbered_part t.items)) result }
+    ensures next { IfOk result (λ t. next.new ≡ next.old
+        + slots_in (body_from (map (part_of path_of) parts.now))) }
+    ensures refused { Refuses (description_of names.now)
+        (body_uses (body_from (map (part_of path_of) parts.now)) (scope_of scope.now) next.old)
+        result }
 {
     let mut inner = inner_scope(scope, names.alloc)?;
     let mut copies = Vec::new(names.alloc);
@@ -323,11 +383,18 @@ fn add_parts<'a>(
 ) -> Result<(), NameFault>
     requires room { next.old + slots_in (body_from (map (part_of path_of) parts.now)) ≤ 64 }
     requires empty { copies.old.items ≡ [] }
-    ensures accepted { OnOk result (NoFault (unit_of names.now) (body_uses (body_from (map (part_of path_of) parts.now)) (scope_of scope.old.items) next.old)) }
-    ensures sound { OnOk result (Means (unit_of names.now)
-        (resolved_body (unit_of names.now) (body_from (map (part_of path_of) parts.now)) (scope_of scope.old.items) next.old) (body_from (map (part_of (λ r. r)) copies.new.items))) }
-    ensures next { OnOk result (next.new ≡ next.old + slots_in (body_from (map (part_of path_of) parts.now))) }
-    ensures refused { IfErr result (λ f. FirstFault f (unit_of names.now) (body_uses (body_from (map (part_of path_of) parts.now)) (scope_of scope.old.items) next.old)) }
+    ensures accepted { Accepts (description_of names.now)
+        (body_uses (body_from (map (part_of path_of) parts.now)) (scope_of scope.old.items)
+        next.old) result }
+    ensures sound { Copies (description_of names.now)
+        (resolved_body (description_of names.now) (body_from (map (part_of path_of) parts.now))
+        (scope_of scope.old.items) next.old) (λ _. body_from (map numbered_part copies.new.items))
+        result }
+    ensures next { OnOk result (next.new ≡ next.old
+        + slots_in (body_from (map (part_of path_of) parts.now))) }
+    ensures refused { Refuses (description_of names.now)
+        (body_uses (body_from (map (part_of path_of) parts.now)) (scope_of scope.old.items)
+        next.old) result }
 {
     for part in parts {
         copies.push(copy_part(part, names, scope, next)?)?;
@@ -345,11 +412,16 @@ fn copy_part<'a>(
     next: &mut u8,
 ) -> Result<Part<Target>, NameFault>
     requires { next.old + slots_in (body_from (part_of path_of part.now ∷ [])) ≤ 64 }
-    ensures accepted { IfOk result (λ t. NoFault (unit_of names.now) (part_uses (scope_of scope.old.items) next.old (part_of path_of part.now))) }
-    ensures sound { IfOk result (λ t. Means (unit_of names.now) (resolved_part (unit_of names.now) (scope_of scope.old.items) next.old (part_of path_of part.now)) (part_of (λ r. r) t)) }
-    ensures scope { IfOk result (λ t. scope_of scope.new.items ≡ scope_behind (scope_of scope.old.items) next.old (part_of path_of part.now)) }
+    ensures accepted { Accepts (description_of names.now)
+        (part_uses (scope_of scope.old.items) next.old (part_of path_of part.now)) result }
+    ensures sound { Copies (description_of names.now)
+        (resolved_part (description_of names.now) (scope_of scope.old.items) next.old
+        (part_of path_of part.now)) numbered_part result }
+    ensures scope { IfOk result (λ t. scope_of scope.new.items
+        ≡ scope_behind (scope_of scope.old.items) next.old (part_of path_of part.now)) }
     ensures next { IfOk result (λ t. next.new ≡ next_behind next.old (part_of path_of part.now)) }
-    ensures refused { IfErr result (λ f. FirstFault f (unit_of names.now) (part_uses (scope_of scope.old.items) next.old (part_of path_of part.now))) }
+    ensures refused { Refuses (description_of names.now)
+        (part_uses (scope_of scope.old.items) next.old (part_of path_of part.now)) result }
 {
     match part {
         Part::Declare(declarators) => {

@@ -70,7 +70,8 @@ fn add_responses(
     copies: &mut Vec<ResponseCode>,
 ) -> Result<(), NameFault>
     requires { copies.old.items ≡ [] }
-    ensures sound { OnOk result (map response_code_of copies.new.items ≡ map response_code_of responses.now) }
+    ensures sound { OnOk result (map response_code_of copies.new.items
+        ≡ map response_code_of responses.now) }
     ensures refused { IfErr result (λ f. f ≡ Memory) }
 {
     for response in responses {
@@ -84,7 +85,8 @@ pub fn copy_responses(
     responses: &[ResponseCode],
     alloc: Global,
 ) -> Result<Vec<ResponseCode>, NameFault>
-    ensures sound { IfOk result (λ all. map response_code_of all.items ≡ map response_code_of responses.now) }
+    ensures sound { IfOk result (λ all. map response_code_of all.items
+        ≡ map response_code_of responses.now) }
     ensures refused { IfErr result (λ f. f ≡ Memory) }
 {
     let mut copies = Vec::new(alloc);

@@ -1,14 +1,14 @@
 //! The items of a unit with the meaning of their names.
 
-ghost use Rattle.std.specs.Prelude.{◌≡◌, ◌≤◌, [], false, IfErr, IfOk, OnOk, map, nat_lt, string_bytes};
+ghost use Rattle.std.specs.Prelude.{◌≡◌, ◌≤◌, [], false, map, nat_lt, string_bytes};
 ghost use Rattle.std.specs.List.{flat_map, list_any};
-ghost use Rattle.edd_syntax.specs.ItemView.{attribute_of, item_of};
+ghost use Rattle.edd_syntax.specs.ItemView.{item_of, numbered_attribute, numbered_item};
 ghost use Rattle.edd_syntax.specs.NameRules.{local_limit, locals_of};
 ghost use Rattle.edd_syntax.specs.NameUses.{item_uses};
 ghost use Rattle.edd_syntax.specs.ResolvedTrees.{each, resolved_item};
 ghost use Rattle.edd_syntax.specs.TreeView.{path_of};
-ghost use Rattle.edd_name_meanings.specs.Directory.{unit_of};
-ghost use Rattle.edd_name_meanings.specs.Meanings.{Means, NoFault, FirstFault};
+ghost use Rattle.edd_name_meanings.specs.Directory.{description_of};
+ghost use Rattle.edd_names.specs.Copies.{Accepts, Copies, Refuses};
 
 use crate::fields::copy_attributes;
 use edd_name_meanings::directory::Names;
@@ -20,9 +20,10 @@ use edd_syntax::reference::{Path, Target};
 
 // An item of the same kind with these attributes.
 fn like(item: &Item<Path>, name: String, attributes: Vec<Attribute<Target>>) -> Item<Target>
-    ensures sort { (item_of (λ r. r) result).sort ≡ (item_of path_of item.now).sort }
-    ensures name { (item_of (λ r. r) result).name ≡ string_bytes name }
-    ensures attributes { (item_of (λ r. r) result).attributes ≡ map (attribute_of (λ r. r)) attributes.items }
+    ensures sort { (numbered_item result).sort ≡ (item_of path_of item.now).sort }
+    ensures name { (numbered_item result).name ≡ string_bytes name }
+    ensures attributes { (numbered_item result).attributes
+        ≡ map numbered_attribute attributes.items }
 {
     match item {
         Item::Variable(_) => Item::Variable(VariableDef { name, attributes }),
@@ -40,9 +41,12 @@ fn like(item: &Item<Path>, name: String, attributes: Vec<Attribute<Target>>) -> 
 #[tactic(auto, using(crate::proofs::UseLaws::faults))]
 fn copy_item(item: &Item<Path>, names: &Names) -> Result<Item<Target>, NameFault>
     requires { nat_lt local_limit (locals_of (item_of path_of item.now)) ≡ false }
-    ensures accepted { IfOk result (λ t. NoFault (unit_of names.now) (item_uses (item_of path_of item.now))) }
-    ensures sound { IfOk result (λ t. Means (unit_of names.now) (resolved_item (unit_of names.now) (item_of path_of item.now)) (item_of (λ r. r) t)) }
-    ensures refused { IfErr result (λ f. FirstFault f (unit_of names.now) (item_uses (item_of path_of item.now))) }
+    ensures accepted { Accepts (description_of names.now) (item_uses (item_of path_of item.now))
+        result }
+    ensures sound { Copies (description_of names.now)
+        (resolved_item (description_of names.now) (item_of path_of item.now)) numbered_item result }
+    ensures refused { Refuses (description_of names.now) (item_uses (item_of path_of item.now))
+        result }
 {
     let attributes = copy_attributes(item.attributes(), names, item)?;
     let name = String::from_str(names.alloc, item.name())?;
@@ -55,11 +59,16 @@ fn add_items(
     names: &Names,
     copies: &mut Vec<Item<Target>>,
 ) -> Result<(), NameFault>
-    requires room { list_any (λ i. nat_lt local_limit (locals_of i)) (map (item_of path_of) items.now) ≡ false }
+    requires room { list_any (λ i. nat_lt local_limit (locals_of i))
+        (map (item_of path_of) items.now) ≡ false }
     requires empty { copies.old.items ≡ [] }
-    ensures accepted { OnOk result (NoFault (unit_of names.now) (flat_map item_uses (map (item_of path_of) items.now))) }
-    ensures sound { OnOk result (Means (unit_of names.now) (each (resolved_item (unit_of names.now)) (map (item_of path_of) items.now)) (map (item_of (λ r. r)) copies.new.items)) }
-    ensures refused { IfErr result (λ f. FirstFault f (unit_of names.now) (flat_map item_uses (map (item_of path_of) items.now))) }
+    ensures accepted { Accepts (description_of names.now)
+        (flat_map item_uses (map (item_of path_of) items.now)) result }
+    ensures sound { Copies (description_of names.now)
+        (each (resolved_item (description_of names.now)) (map (item_of path_of) items.now))
+        (λ _. map numbered_item copies.new.items) result }
+    ensures refused { Refuses (description_of names.now)
+        (flat_map item_uses (map (item_of path_of) items.now)) result }
 {
     for item in items {
         copies.push(copy_item(item, names)?)?;
@@ -70,10 +79,15 @@ fn add_items(
 /// The items of a unit with the meaning of their names, where no method has too many locals.
 #[tactic(auto, using(crate::proofs::UseLaws::faults))]
 pub fn copy_items(items: &[Item<Path>], names: &Names) -> Result<Vec<Item<Target>>, NameFault>
-    requires { list_any (λ i. nat_lt local_limit (locals_of i)) (map (item_of path_of) items.now) ≡ false }
-    ensures accepted { IfOk result (λ t. NoFault (unit_of names.now) (flat_map item_uses (map (item_of path_of) items.now))) }
-    ensures sound { IfOk result (λ t. Means (unit_of names.now) (each (resolved_item (unit_of names.now)) (map (item_of path_of) items.now)) (map (item_of (λ r. r)) t.items)) }
-    ensures refused { IfErr result (λ f. FirstFault f (unit_of names.now) (flat_map item_uses (map (item_of path_of) items.now))) }
+    requires { list_any (λ i. nat_lt local_limit (locals_of i)) (map (item_of path_of) items.now)
+        ≡ false }
+    ensures accepted { Accepts (description_of names.now)
+        (flat_map item_uses (map (item_of path_of) items.now)) result }
+    ensures sound { Copies (description_of names.now)
+        (each (resolved_item (description_of names.now)) (map (item_of path_of) items.now))
+        (λ t. map numbered_item t.items) result }
+    ensures refused { Refuses (description_of names.now)
+        (flat_map item_uses (map (item_of path_of) items.now)) result }
 {
     let mut copies = Vec::new(names.alloc);
     add_items(items, names, &mut copies)?;

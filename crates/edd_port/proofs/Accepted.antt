@@ -23,22 +23,26 @@ no_fault None e = refl
 no_fault (Some f) e = absurd cc
 
 -- an answer that is not refused meets a request, and its sets can be made
-pub taken : (types : List VariableType) (st : Status) (a : Answer) → refusal types st a ≡ None → (r : Request) × (st ≡ status.Asking r) × (answer_fault types a ≡ None)
+pub taken : (types : List VariableType) (st : Status) (a : Answer) → refusal types st a ≡ None
+    → (r : Request) × (st ≡ status.Asking r) × (answer_fault types a ≡ None)
 taken types status.Running a e = absurd cc
 taken types (status.Asking r) a e = (r, refl, no_fault (answer_fault types a) e)
 taken types status.Ended a e = absurd cc
 taken types status.Aborted a e = absurd cc
 taken types (status.Trapped why) a e = absurd cc
 
-made : (types : List VariableType) (n : ℕ) (a : Answer) → length types ≡ n → answer_fault types a ≡ None → AllByRecursion (λ set. set.variable.0 < n) (sets_of a)
+made : (types : List VariableType) (n : ℕ) (a : Answer) → length types ≡ n
+    → answer_fault types a ≡ None → AllByRecursion (λ set. set.variable.0 < n) (sets_of a)
 made types n (Go code sets) count none = sets_exist types sets n count none
 made types n Abort count none = tt
 
-is_valid : (types : List VariableType) (a : Answer) → CodeFits a → answer_fault types a ≡ None → IsValidAnswer types a
+is_valid : (types : List VariableType) (a : Answer) → CodeFits a → answer_fault types a ≡ None
+    → IsValidAnswer types a
 is_valid types (Go code sets) fits none = (fits, none)
 is_valid types Abort fits none = tt
 
-module _ (b : List ℕ) (m : Machine) (a : Answer) (is : IsMachine b m) (accepted : refusal (types_in b) m.status a ≡ None) where
+module _ (b : List ℕ) (m : Machine) (a : Answer) (is : IsMachine b m)
+    (accepted : refusal (types_in b) m.status a ≡ None) where
   abbrev asks : (r : Request) × (m.status ≡ status.Asking r) × (answer_fault (types_in b) a ≡ None)
   asks = taken (types_in b) m.status a accepted
 
@@ -46,12 +50,16 @@ module _ (b : List ℕ) (m : Machine) (a : Answer) (is : IsMachine b m) (accepte
   room = asking_room _ _ (state_of b m) asks.0 is.state asks.1
 
   pub exist : AllByRecursion (λ set. set.variable.0 < length m.values.numbers.items) (sets_of a)
-  exist = made (types_in b) (length m.values.numbers.items) a (sym (AllZip-long _ (types_in b) m.values.numbers.items is.state.values)) asks.2
+  exist = made (types_in b) (length m.values.numbers.items) a
+      (sym (AllZip-long _ (types_in b) m.values.numbers.items is.state.values)) asks.2
 
   pub next : CodeFits a → IsStateIn b m.unit (answered (state_of b m) a).state
-  next fits = answered_there b m.unit (state_of b m) asks.0 a is asks.1 (is_valid (types_in b) a fits asks.2)
+  next fits = answered_there b m.unit (state_of b m) asks.0 a is asks.1
+      (is_valid (types_in b) a fits asks.2)
 
   -- a machine that is this state on the same unit keeps what every state keeps
-  pub next_machine : (n : Machine) → CodeFits a → n.unit ≡ m.unit → state_of b n ≡ (answered (state_of b m) a).state → IsMachine b n
+  pub next_machine : (n : Machine) → CodeFits a → n.unit ≡ m.unit
+      → state_of b n ≡ (answered (state_of b m) a).state → IsMachine b n
   next_machine n fits unit state =
-      subst (λ (u : CodeUnit). IsStateIn b u (state_of b n)) (sym unit) (subst (λ (s : State). IsStateIn b m.unit s) (sym state) (next fits))
+      subst (λ (u : CodeUnit). IsStateIn b u (state_of b n)) (sym unit)
+      (subst (λ (s : State). IsStateIn b m.unit s) (sym state) (next fits))

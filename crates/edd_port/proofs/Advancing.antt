@@ -9,34 +9,52 @@ use Rattle.edd_port.specs.Runs.{environment}
 use Rattle.edd_port.specs.Turns.{turn_of, ending_of}
 use Rattle.edd_port.proofs.Outcomes.{halted, without_steps, at_rest, steps_on}
 
--- The machine that is now there, with so many instructions left, comes to what the first one comes to within the budget.
+-- The machine that is now there, with so many instructions left, comes to what the first one comes
+-- to within the budget.
 pub record Advances (b : List ℕ) (budget left : ℕ) (first now : Machine) : Type 0 where
   pub fewer : left ≤ budget
   pub first_left : left ≡ budget → now.status ≡ first.status
   pub machine : IsMachine b now
-  pub state : (execute (environment b) budget (state_of b first) []).state ≡ (execute (environment b) left (state_of b now) []).state
-  pub ending : (execute (environment b) budget (state_of b first) []).ending ≡ (execute (environment b) left (state_of b now) []).ending
-  pub steps : (execute (environment b) budget (state_of b first) []).steps + left ≡ budget + (execute (environment b) left (state_of b now) []).steps
+  pub state : (execute (environment b) budget (state_of b first) []).state
+      ≡ (execute (environment b) left (state_of b now) []).state
+  pub ending : (execute (environment b) budget (state_of b first) []).ending
+      ≡ (execute (environment b) left (state_of b now) []).ending
+  pub steps : (execute (environment b) budget (state_of b first) []).steps + left ≡ budget
+      + (execute (environment b) left (state_of b now) []).steps
 
 pub begins : (b : List ℕ) (budget : ℕ) (m : Machine) → IsMachine b m → Advances b budget budget m m
-begins b budget m is = record { fewer = omega arith; first_left = λ e. refl; machine = is; state = refl; ending = refl; steps = omega arith }
+begins b budget m is = record {
+  fewer = omega arith;
+  first_left = λ e. refl;
+  machine = is;
+  state = refl;
+  ending = refl;
+  steps = omega arith;
+}
 
 -- after one instruction more
-pub goes : (b : List ℕ) (budget left rest : ℕ) (first now next : Machine) → Advances b budget left first now → now.status ≡ Running → left ≡ suc rest
+pub goes : (b : List ℕ) (budget left rest : ℕ) (first now next : Machine)
+    → Advances b budget left first now → now.status ≡ Running → left ≡ suc rest
     → StepsTo b now next → IsMachine b next → Advances b budget rest first next
 goes b budget left rest first now next is runs one to there =
     let env : Environment = environment b in
     let e : Effect = to.effect in
-    let here : execute env left (state_of b now) [] ≡ stepped (preceded (request_in e.emitted) e.changes (execute env rest e.state [])) =
-    ap (λ (n : ℕ). execute env n (state_of b now) []) one ∙ steps_on env rest (state_of b now) [] e runs to.is in
-    let moved : execute env rest e.state [] ≡ execute env rest (state_of b next) [] = ap (λ (s : State). execute env rest s []) to.state in
-    let steps : (execute env left (state_of b now) []).steps ≡ suc (execute env rest (state_of b next) []).steps = ap (λ (o : Outcome). o.steps) here ∙ ap (λ (o : Outcome). suc o.steps) moved in
+    let here : execute env left (state_of b now) []
+    ≡ stepped (preceded (request_in e.emitted) e.changes (execute env rest e.state [])) =
+    ap (λ (n : ℕ). execute env n (state_of b now) []) one ∙ steps_on env rest (state_of b now) [] e
+    runs to.is in
+    let moved : execute env rest e.state [] ≡ execute env rest (state_of b next) [] =
+    ap (λ (s : State). execute env rest s []) to.state in
+    let steps : (execute env left (state_of b now) []).steps
+    ≡ suc (execute env rest (state_of b next) []).steps = ap (λ (o : Outcome). o.steps) here
+    ∙ ap (λ (o : Outcome). suc o.steps) moved in
     record {
       fewer = omega (arith, is.fewer, one);
       first_left = λ h. absurd (omega (arith, is.fewer, one, h));
       machine = there;
       state = is.state ∙ ap (λ (o : Outcome). o.state) here ∙ ap (λ (o : Outcome). o.state) moved;
-      ending = is.ending ∙ ap (λ (o : Outcome). o.ending) here ∙ ap (λ (o : Outcome). o.ending) moved;
+      ending = is.ending ∙ ap (λ (o : Outcome). o.ending) here ∙ ap (λ (o : Outcome). o.ending)
+          moved;
       steps = omega (arith, is.steps, one, steps);
     }
 
@@ -44,17 +62,21 @@ goes b budget left rest first now next is runs one to there =
 pub record Advanced (b : List ℕ) (budget count : ℕ) (first now : Machine) : Type 0 where
   pub machine : IsMachine b now
   pub state : state_of b now ≡ (execute (environment b) budget (state_of b first) []).state
-  pub ending : (execute (environment b) budget (state_of b first) []).ending ≡ ending_of (turn_of now.status)
+  pub ending : (execute (environment b) budget (state_of b first) []).ending
+      ≡ ending_of (turn_of now.status)
   pub counts : count ≡ (execute (environment b) budget (state_of b first) []).steps
   pub all : now.status ≡ Running → count ≡ budget
   pub moves : first.status ≡ Running → 1 ≤ budget → 1 ≤ count
 
-pub ends : (b : List ℕ) (budget left : ℕ) (first now : Machine) → Advances b budget left first now → (left ≡ 0) ⊎ (now.status ≡ Running → ⊥)
+pub ends : (b : List ℕ) (budget left : ℕ) (first now : Machine) → Advances b budget left first now
+    → (left ≡ 0) ⊎ (now.status ≡ Running → ⊥)
     → Advanced b budget (budget - left) first now
 ends b budget left first now is over =
     let env : Environment = environment b in
-    let rest : execute env left (state_of b now) [] ≡ halted (state_of b now) (ending_of (turn_of now.status)) = at_end over in
-    let none : (execute env left (state_of b now) []).steps ≡ 0 = ap (λ (o : Outcome). o.steps) rest in
+    let rest : execute env left (state_of b now) []
+    ≡ halted (state_of b now) (ending_of (turn_of now.status)) = at_end over in
+    let none : (execute env left (state_of b now) []).steps ≡ 0 =
+    ap (λ (o : Outcome). o.steps) rest in
     record {
       machine = is.machine;
       state = sym (is.state ∙ ap (λ (o : Outcome). o.state) rest);
@@ -64,15 +86,19 @@ ends b budget left first now is over =
       moves = λ runs room. some over runs room;
     }
   where
-    at_end : (left ≡ 0) ⊎ (now.status ≡ Running → ⊥) → execute (environment b) left (state_of b now) [] ≡ halted (state_of b now) (ending_of (turn_of now.status))
-    at_end (inl none) = ap (λ (n : ℕ). execute (environment b) n (state_of b now) []) none ∙ without_steps (environment b) (state_of b now)
+    at_end : (left ≡ 0) ⊎ (now.status ≡ Running → ⊥)
+        → execute (environment b) left (state_of b now) []
+        ≡ halted (state_of b now) (ending_of (turn_of now.status))
+    at_end (inl none) = ap (λ (n : ℕ). execute (environment b) n (state_of b now) []) none
+        ∙ without_steps (environment b) (state_of b now)
     at_end (inr never) = at_rest (environment b) left (state_of b now) never
 
     whole : (left ≡ 0) ⊎ (now.status ≡ Running → ⊥) → now.status ≡ Running → budget - left ≡ budget
     whole (inl none) runs = omega (arith, none)
     whole (inr never) runs = absurd (never runs)
 
-    some : (left ≡ 0) ⊎ (now.status ≡ Running → ⊥) → first.status ≡ Running → 1 ≤ budget → 1 ≤ budget - left
+    some : (left ≡ 0) ⊎ (now.status ≡ Running → ⊥) → first.status ≡ Running → 1 ≤ budget
+        → 1 ≤ budget - left
     some (inl none) runs room = omega (arith, none, room)
     some (inr never) runs room = omega (arith, is.fewer, room, moved)
       where

@@ -23,11 +23,13 @@ use Rattle.edd_port.proofs.Outcomes.{without_steps, at_rest, steps_on, gets_stuc
 abbrev Emits : Option Effect → Type 0
 Emits o = IfSome o (λ e. request_in e.emitted ≡ standing e.state.status)
 
-top : (operands : List ℤ) (f : ℤ → List ℤ → Option Effect) → ((a : ℤ) (below : List ℤ) → Emits (f a below)) → Emits (on_top operands f)
+top : (operands : List ℤ) (f : ℤ → List ℤ → Option Effect)
+    → ((a : ℤ) (below : List ℤ) → Emits (f a below)) → Emits (on_top operands f)
 top [] f h = tt
 top (a ∷ below) f h = h a below
 
-two : (operands : List ℤ) (f : ℤ → ℤ → List ℤ → Option Effect) → ((a b : ℤ) (below : List ℤ) → Emits (f a b below)) → Emits (on_two operands f)
+two : (operands : List ℤ) (f : ℤ → ℤ → List ℤ → Option Effect)
+    → ((a b : ℤ) (below : List ℤ) → Emits (f a b below)) → Emits (on_two operands f)
 two [] f h = tt
 two (b ∷ []) f h = tt
 two (b ∷ a ∷ below) f h = h a b below
@@ -73,7 +75,9 @@ module _ (s : State) (runs : s.status ≡ status.Running) where
   acts env (instruction.Jump to) next = none
   acts env (instruction.JumpIfZero to) next = top s.operands _ (λ a below. none)
   acts env (instruction.JumpIfNotZero to) next = top s.operands _ (λ a below. none)
-  acts env (instruction.Case label to) next = top s.operands _ (λ a below. either (int_eq a label) (go s to below) (go s next s.operands) none none)
+  acts env (instruction.Case label to) next =
+      top s.operands _ (λ a below. either (int_eq a label) (go s to below) (go s next s.operands)
+      none none)
   acts env (instruction.Text t) next = none
   acts env instruction.Number next = top s.operands _ (λ a below. none)
   acts env (instruction.Item item quals) next = none
@@ -91,9 +95,12 @@ module _ (s : State) (runs : s.status ≡ status.Running) where
 
   emits : (env : Environment) → Emits (step env s)
   unfolding step
-  emits env = subst (λ (st : Status). Emits (if_running st (instruction_at s.unit.code s.place >>= λ x. act env x.0 x.1 s))) (sym runs) (found env (instruction_at s.unit.code s.place))
+  emits env = subst (λ (st : Status). Emits
+      (if_running st (instruction_at s.unit.code s.place >>= λ x. act env x.0 x.1 s))) (sym runs)
+      (found env (instruction_at s.unit.code s.place))
 
-  pub emits_what_stands : (env : Environment) (e : Effect) → step env s ≡ Some e → request_in e.emitted ≡ standing e.state.status
+  pub emits_what_stands : (env : Environment) (e : Effect) → step env s ≡ Some e
+      → request_in e.emitted ≡ standing e.state.status
   emits_what_stands env e is = subst (λ (o : Option Effect). Emits o) is (emits env)
 
 -- ---- a run without answers
@@ -103,16 +110,23 @@ abbrev Leaves : State → Outcome → Type 0
 Leaves s o = standing s.status ++ o.requests ≡ standing o.state.status
 
 pub one_stands : (env : Environment) (n : ℕ) (s : State) → Leaves s (execute env n s [])
-one_stands env zero s = subst (λ (o : Outcome). Leaves s o) (sym (without_steps env s)) (append-nil (standing s.status))
+one_stands env zero s = subst (λ (o : Outcome). Leaves s o) (sym (without_steps env s))
+    (append-nil (standing s.status))
 one_stands env (suc n) s =
     by_running {P = λ (st : Status). s.status ≡ st → Leaves s (execute env (suc n) s [])} s.status
     (λ runs. by_step (λ t. one_stands env n t) runs (step env s) refl)
-    (λ st never is. subst (λ (o : Outcome). Leaves s o) (sym (at_rest env (suc n) s (λ e. never (sym is ∙ e)))) (append-nil (standing s.status))) refl
+    (λ st never is. subst (λ (o : Outcome). Leaves s o)
+    (sym (at_rest env (suc n) s (λ e. never (sym is ∙ e)))) (append-nil (standing s.status)))
+    refl
   where
-    by_step : ((t : State) → Leaves t (execute env n t [])) → s.status ≡ status.Running → (x : Option Effect) → step env s ≡ x → Leaves s (execute env (suc n) s [])
-    by_step more runs None is = subst (λ (o : Outcome). Leaves s o) (sym (gets_stuck env n s runs is)) (append-nil (standing s.status))
+    by_step : ((t : State) → Leaves t (execute env n t [])) → s.status ≡ status.Running
+        → (x : Option Effect) → step env s ≡ x → Leaves s (execute env (suc n) s [])
+    by_step more runs None is = subst (λ (o : Outcome). Leaves s o)
+        (sym (gets_stuck env n s runs is)) (append-nil (standing s.status))
     by_step more runs (Some e) is =
         let o : Outcome = execute env n e.state [] in
-        let first : request_in e.emitted ≡ standing e.state.status = emits_what_stands s runs env e is in
+        let first : request_in e.emitted ≡ standing e.state.status =
+        emits_what_stands s runs env e is in
         subst (λ (x : Outcome). Leaves s x) (sym (steps_on env n s [] e runs is))
-        (ap (λ (st : Status). standing st ++ (request_in e.emitted ++ o.requests)) runs ∙ ap (λ (rs : List Request). rs ++ o.requests) first ∙ more e.state)
+        (ap (λ (st : Status). standing st ++ (request_in e.emitted ++ o.requests)) runs
+        ∙ ap (λ (rs : List Request). rs ++ o.requests) first ∙ more e.state)

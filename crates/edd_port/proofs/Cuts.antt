@@ -13,7 +13,8 @@ use Rattle.edd_port.specs.Turns.{turn_of, ending_of}
 use Rattle.edd_port.proofs.Outcomes.{same_outcome, halted, behind_nothing, without_steps, at_rest, steps_on, gets_stuck}
 
 -- a status is Running or not
-pub by_running : {P : Status → Type 0} (st : Status) → P status.Running → ((other : Status) → (other ≡ status.Running → ⊥) → P other) → P st
+pub by_running : {P : Status → Type 0} (st : Status) → P status.Running
+    → ((other : Status) → (other ≡ status.Running → ⊥) → P other) → P st
 by_running status.Running running others = running
 by_running (status.Asking r) running others = others (status.Asking r) (λ e. cc)
 by_running status.Ended running others = others status.Ended (λ e. cc)
@@ -21,87 +22,125 @@ by_running status.Aborted running others = others status.Aborted (λ e. cc)
 by_running (status.Trapped why) running others = others (status.Trapped why) (λ e. cc)
 
 -- behind one step an outcome follows as behind the rest of the steps
-behind_step : (e : Effect) (o rest : Outcome) → stepped (preceded (request_in e.emitted) e.changes (followed o rest)) ≡ followed (stepped (preceded (request_in e.emitted) e.changes o)) rest
-behind_step e o rest = same_outcome (sym (append_assoc (request_in e.emitted) o.requests rest.requests)) (sym (append_assoc e.changes o.changes rest.changes)) (omega arith)
+behind_step : (e : Effect) (o rest : Outcome)
+    → stepped (preceded (request_in e.emitted) e.changes (followed o rest))
+    ≡ followed (stepped (preceded (request_in e.emitted) e.changes o)) rest
+behind_step e o rest = same_outcome
+    (sym (append_assoc (request_in e.emitted) o.requests rest.requests))
+    (sym (append_assoc e.changes o.changes rest.changes)) (omega arith)
 
 module _ (env : Environment) where
   -- the run under these answers is what comes of the state that an outcome without answers reached
   abbrev Follows : (n : ℕ) → State → List Answer → Outcome → Type 0
-  Follows n s answers o = execute env n s answers ≡ followed o (execute env (n - o.steps) o.state answers)
+  Follows n s answers o = execute env n s answers
+      ≡ followed o (execute env (n - o.steps) o.state answers)
 
-  from_halt : (n : ℕ) (s : State) (answers : List Answer) (ending : Ending) (o : Outcome) → o ≡ halted s ending → Follows n s answers o
+  from_halt : (n : ℕ) (s : State) (answers : List Answer) (ending : Ending) (o : Outcome)
+      → o ≡ halted s ending → Follows n s answers o
   from_halt n s answers ending o is =
       subst (λ (x : Outcome). Follows n s answers x) (sym is)
-      (sym (behind_nothing s ending (execute env n s answers)) ∙ ap (λ (m : ℕ). followed (halted s ending) (execute env m s answers)) (omega arith))
+      (sym (behind_nothing s ending (execute env n s answers))
+      ∙ ap (λ (m : ℕ). followed (halted s ending) (execute env m s answers)) (omega arith))
 
-  pub later : (j k : ℕ) (s : State) (answers : List Answer) → Follows (j + k) s answers (execute env j s [])
+  pub later : (j k : ℕ) (s : State) (answers : List Answer)
+      → Follows (j + k) s answers (execute env j s [])
   later zero k s answers = from_halt (zero + k) s answers _ _ (without_steps env s)
   later (suc j) k s answers =
-      by_running {P = λ (st : Status). s.status ≡ st → Follows (suc j + k) s answers (execute env (suc j) s [])} s.status
+      by_running {P = λ (st : Status). s.status ≡ st
+      → Follows (suc j + k) s answers (execute env (suc j) s [])} s.status
       (λ runs. by_step (λ t. later j k t answers) runs (step env s) refl)
-      (λ st never is. from_halt (suc j + k) s answers _ _ (at_rest env (suc j) s (λ e. never (sym is ∙ e)))) refl
+      (λ st never is. from_halt (suc j + k) s answers _ _
+      (at_rest env (suc j) s (λ e. never (sym is ∙ e)))) refl
     where
-      by_step : ((t : State) → Follows (j + k) t answers (execute env j t [])) → s.status ≡ status.Running → (x : Option Effect) → step env s ≡ x
+      by_step : ((t : State) → Follows (j + k) t answers (execute env j t []))
+          → s.status ≡ status.Running → (x : Option Effect) → step env s ≡ x
           → Follows (suc j + k) s answers (execute env (suc j) s [])
       by_step more runs None is = from_halt (suc j + k) s answers _ _ (gets_stuck env j s runs is)
       by_step more runs (Some e) is =
           let o : Outcome = execute env j e.state [] in
-          let here : execute env (suc j + k) s answers ≡ stepped (preceded (request_in e.emitted) e.changes (execute env (j + k) e.state answers)) =
-          ap (λ (n : ℕ). execute env n s answers) (omega arith) ∙ steps_on env (j + k) s answers e runs is in
+          let here : execute env (suc j + k) s answers
+          ≡ stepped (preceded (request_in e.emitted) e.changes
+          (execute env (j + k) e.state answers)) =
+          ap (λ (n : ℕ). execute env n s answers) (omega arith) ∙ steps_on env (j + k) s answers e
+          runs is in
           let rest : Outcome = execute env ((j + k) - o.steps) o.state answers in
-          let whole : execute env (suc j + k) s answers ≡ followed (stepped (preceded (request_in e.emitted) e.changes o)) rest =
-          here ∙ ap (λ (x : Outcome). stepped (preceded (request_in e.emitted) e.changes x)) (more e.state) ∙ behind_step e o rest in
+          let whole : execute env (suc j + k) s answers
+          ≡ followed (stepped (preceded (request_in e.emitted) e.changes o)) rest =
+          here ∙ ap (λ (x : Outcome). stepped (preceded (request_in e.emitted) e.changes x))
+          (more e.state) ∙ behind_step e o rest in
           let left : (j + k) - o.steps ≡ (suc j + k) - suc o.steps = omega arith in
-          let moved : Follows (suc j + k) s answers (stepped (preceded (request_in e.emitted) e.changes o)) =
-          whole ∙ ap (λ (n : ℕ). followed (stepped (preceded (request_in e.emitted) e.changes o)) (execute env n o.state answers)) left in
-          subst (λ (x : Outcome). Follows (suc j + k) s answers x) (sym (steps_on env j s [] e runs is)) moved
+          let moved : Follows (suc j + k) s answers
+          (stepped (preceded (request_in e.emitted) e.changes o)) =
+          whole ∙ ap (λ (n : ℕ). followed (stepped (preceded (request_in e.emitted) e.changes o))
+          (execute env n o.state answers)) left in
+          subst (λ (x : Outcome). Follows (suc j + k) s answers x)
+          (sym (steps_on env j s [] e runs is)) moved
 
   -- ---- two runs without answers
 
   abbrev Resumes : (n k : ℕ) → State → Outcome → Type 0
   Resumes n k s o = execute env n s [] ≡ resumed env k o
 
-  pub cut : (j k : ℕ) (s : State) → (execute env j s []).ending ≢ Stuck → Resumes (j + k) k s (execute env j s [])
+  pub cut : (j k : ℕ) (s : State) → (execute env j s []).ending ≢ Stuck
+      → Resumes (j + k) k s (execute env j s [])
   cut zero k s never =
       ap (λ (n : ℕ). execute env n s []) (zero-add k)
-      ∙ subst (λ (x : Outcome). Resumes k k s x) (sym (without_steps env s)) (sym (behind_nothing s (ending_of (turn_of s.status)) (execute env k s [])))
+      ∙ subst (λ (x : Outcome). Resumes k k s x) (sym (without_steps env s))
+      (sym (behind_nothing s (ending_of (turn_of s.status)) (execute env k s [])))
   cut (suc j) k s never =
-      by_running {P = λ (st : Status). s.status ≡ st → Resumes (suc j + k) k s (execute env (suc j) s [])} s.status
+      by_running {P = λ (st : Status). s.status ≡ st
+      → Resumes (suc j + k) k s (execute env (suc j) s [])} s.status
       (λ runs. by_step (λ t good. cut j k t good) runs (step env s) refl) at_end refl
     where
-      at_end : (st : Status) → (st ≡ status.Running → ⊥) → s.status ≡ st → Resumes (suc j + k) k s (execute env (suc j) s [])
+      at_end : (st : Status) → (st ≡ status.Running → ⊥) → s.status ≡ st
+          → Resumes (suc j + k) k s (execute env (suc j) s [])
       at_end st other is =
           let rests : s.status ≡ status.Running → ⊥ = λ e. other (sym is ∙ e) in
           let ending : Ending = ending_of (turn_of s.status) in
           subst (λ (x : Outcome). Resumes (suc j + k) k s x) (sym (at_rest env (suc j) s rests))
-          (at_rest env (suc j + k) s rests ∙ sym (at_rest env k s rests) ∙ sym (behind_nothing s ending (execute env k s [])))
+          (at_rest env (suc j + k) s rests ∙ sym (at_rest env k s rests)
+          ∙ sym (behind_nothing s ending (execute env k s [])))
 
-      by_step : ((t : State) → (execute env j t []).ending ≢ Stuck → Resumes (j + k) k t (execute env j t [])) → s.status ≡ status.Running
-          → (x : Option Effect) → step env s ≡ x → Resumes (suc j + k) k s (execute env (suc j) s [])
-      by_step more runs None is = absurd (never (ap (λ (o : Outcome). o.ending) (gets_stuck env j s runs is)))
+      by_step : ((t : State) → (execute env j t []).ending ≢ Stuck
+          → Resumes (j + k) k t (execute env j t [])) → s.status ≡ status.Running
+          → (x : Option Effect) → step env s ≡ x
+          → Resumes (suc j + k) k s (execute env (suc j) s [])
+      by_step more runs None is =
+          absurd (never (ap (λ (o : Outcome). o.ending) (gets_stuck env j s runs is)))
       by_step more runs (Some e) is =
           let o : Outcome = execute env j e.state [] in
           let same = steps_on env j s [] e runs is in
           let good : o.ending ≢ Stuck = λ bad. never (ap (λ (x : Outcome). x.ending) same ∙ bad) in
-          let here : execute env (suc j + k) s [] ≡ stepped (preceded (request_in e.emitted) e.changes (execute env (j + k) e.state [])) =
+          let here : execute env (suc j + k) s []
+          ≡ stepped (preceded (request_in e.emitted) e.changes (execute env (j + k) e.state []))
+          =
           ap (λ (n : ℕ). execute env n s []) (omega arith) ∙ steps_on env (j + k) s [] e runs is in
           let rest : Outcome = execute env k o.state o.answers in
-          let moved : Resumes (suc j + k) k s (stepped (preceded (request_in e.emitted) e.changes o)) =
-          here ∙ ap (λ (x : Outcome). stepped (preceded (request_in e.emitted) e.changes x)) (more e.state good) ∙ behind_step e o rest in
+          let moved : Resumes (suc j + k) k s
+          (stepped (preceded (request_in e.emitted) e.changes o)) =
+          here ∙ ap (λ (x : Outcome). stepped (preceded (request_in e.emitted) e.changes x))
+          (more e.state good) ∙ behind_step e o rest in
           subst (λ (x : Outcome). Resumes (suc j + k) k s x) (sym same) moved
 
 -- ---- an answer
 
 -- a state that was aborted stays so
-aborted_stays : (env : Environment) (k : ℕ) (t : State) (rest : List Answer) → t.status ≡ status.Aborted
+aborted_stays : (env : Environment) (k : ℕ) (t : State) (rest : List Answer)
+    → t.status ≡ status.Aborted
     → preceded [] [] (execute env k t rest) ≡ closed (nothing_met t rest None) Ending.Aborted
 unfolding execute execute_following
-aborted_stays env zero t rest is = ap (λ (st : Status). let m = meet_by unchanged env st t rest in preceded [] [] (closed m (unwrap_or m.ending OutOfSteps))) is
+aborted_stays env zero t rest is =
+    ap (λ (st : Status). let m = meet_by unchanged env st t rest in preceded [] []
+    (closed m (unwrap_or m.ending OutOfSteps))) is
 aborted_stays env (suc n) t rest is =
-    ap (λ (st : Status). let m = meet_by unchanged env st t rest in preceded [] [] (go_on m m.ending (step env m.state) (λ e. execute env n e.state m.answers))) is
+    ap (λ (st : Status). let m = meet_by unchanged env st t rest in preceded [] []
+    (go_on m m.ending (step env m.state) (λ e. execute env n e.state m.answers))) is
 
 -- a request that stands is met by an answer that can be taken
-pub met : (env : Environment) (k : ℕ) (s : State) (r : Request) (answer : Answer) (rest : List Answer) → s.status ≡ status.Asking r → answer_fault env.types answer ≡ None
-    → execute env k s (answer ∷ rest) ≡ preceded [] (answered s answer).changes (execute env k (answered s answer).state rest)
+pub met : (env : Environment) (k : ℕ) (s : State) (r : Request) (answer : Answer)
+    (rest : List Answer) → s.status ≡ status.Asking r → answer_fault env.types answer ≡ None
+    → execute env k s (answer ∷ rest) ≡ preceded [] (answered s answer).changes
+    (execute env k (answered s answer).state rest)
 met env k s r (Go code sets) rest asks valid = going_on env s r asks k code sets rest valid
-met env k s r Abort rest asks valid = aborted env s r asks k rest ∙ sym (aborted_stays env k (answered s Abort).state rest refl)
+met env k s r Abort rest asks valid = aborted env s r asks k rest
+    ∙ sym (aborted_stays env k (answered s Abort).state rest refl)

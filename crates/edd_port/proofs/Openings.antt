@@ -12,12 +12,18 @@ use Rattle.edd_machine.proofs.BodyUnits.{body_opens}
 use Rattle.edd_port.specs.Runs.{OpensIn}
 
 -- a state at the start of the unit that was found is that at the start of the body
-pub opens_in : (b : List ℕ) (m : MethNo) (u : CodeUnit) (values : List ℤ) (s : State) → IsValid b → Some u ≡ option_map (unit_at b) (body_of (contents_in b) m)
+pub opens_in : (b : List ℕ) (m : MethNo) (u : CodeUnit) (values : List ℤ) (s : State) → IsValid b
+    → Some u ≡ option_map (unit_at b) (body_of (contents_in b) m)
     → s ≡ opening (running_unit b u) u.slots values → OpensIn b m values s
 opens_in b m u values s valid found is = by_row (body_of (contents_in b) m) refl found
   where
-    by_row : (o : Option AttributeFields) → body_of (contents_in b) m ≡ o → Some u ≡ option_map (unit_at b) o → OpensIn b m values s
+    by_row : (o : Option AttributeFields) → body_of (contents_in b) m ≡ o
+        → Some u ≡ option_map (unit_at b) o → OpensIn b m values s
     by_row None e f = absurd cc
     by_row (Some row) e f =
-        let same : u ≡ unit_at b row = cc in
-        (row, e, is ∙ ap (λ (x : CodeUnit). opening (running_unit b x) x.slots values) same ∙ body_opens b m row values valid e)
+        let same : u ≡ unit_at b row = cc in (
+          row,
+          e,
+          is ∙ ap (λ (x : CodeUnit). opening (running_unit b x) x.slots values) same
+              ∙ body_opens b m row values valid e,
+        )

@@ -10,16 +10,40 @@ use Rattle.edd_image.specs.Steps.{State, Environment, Effect, step}
 use Rattle.edd_port.specs.Runs.{followed}
 use Rattle.edd_port.specs.Turns.{turn_of, ending_of}
 
-pub same_outcome : {r r' : List Request} {c c' : List Change} {s : State} {left : List Answer} {e : Ending} {n n' : ℕ} → r ≡ r' → c ≡ c' → n ≡ n'
-    → ◌≡◌ {A = Outcome} (record { requests = r; changes = c; state = s; answers = left; ending = e; steps = n }) (record { requests = r'; changes = c'; state = s; answers = left; ending = e; steps = n' })
+pub same_outcome : {r r' : List Request} {c c' : List Change} {s : State} {left : List Answer}
+    {e : Ending} {n n' : ℕ} → r ≡ r' → c ≡ c' → n ≡ n'
+    → ◌≡◌ {A = Outcome} (record {
+      requests = r;
+      changes = c;
+      state = s;
+      answers = left;
+      ending = e;
+      steps = n;
+    }) (record {
+      requests = r';
+      changes = c';
+      state = s;
+      answers = left;
+      ending =
+          e;
+      steps = n';
+    })
 same_outcome p q t = cc
 
 -- nothing was done, and no answer is left
 abbrev pub halted : State → Ending → Outcome
-halted s ending = record { requests = []; changes = []; state = s; answers = []; ending = ending; steps = 0 }
+halted s ending = record {
+  requests = [];
+  changes = [];
+  state = s;
+  answers = [];
+  ending = ending;
+  steps = 0;
+}
 
 -- behind nothing an outcome is as it is
-pub behind_nothing : (s : State) (ending : Ending) (rest : Outcome) → followed (halted s ending) rest ≡ rest
+pub behind_nothing : (s : State) (ending : Ending) (rest : Outcome)
+    → followed (halted s ending) rest ≡ rest
 behind_nothing s ending rest = same_outcome refl refl (zero-add rest.steps)
 
 module _ (env : Environment) where
@@ -28,7 +52,10 @@ module _ (env : Environment) where
   unfolding execute execute_following
   without_steps s = by_status s.status
     where
-      by_status : (st : Status) → closed (meet_by unchanged env st s []) (unwrap_or (meet_by unchanged env st s []).ending OutOfSteps) ≡ halted s (ending_of (turn_of st))
+      by_status : (st : Status)
+          → closed (meet_by unchanged env st s [])
+          (unwrap_or (meet_by unchanged env st s []).ending OutOfSteps)
+          ≡ halted s (ending_of (turn_of st))
       by_status status.Running = refl
       by_status (status.Asking r) = refl
       by_status status.Ended = refl
@@ -36,13 +63,15 @@ module _ (env : Environment) where
       by_status (status.Trapped why) = refl
 
   -- nor in a state that doesn't run
-  pub at_rest : (n : ℕ) (s : State) → (s.status ≡ status.Running → ⊥) → execute env n s [] ≡ halted s (ending_of (turn_of s.status))
+  pub at_rest : (n : ℕ) (s : State) → (s.status ≡ status.Running → ⊥)
+      → execute env n s [] ≡ halted s (ending_of (turn_of s.status))
   unfolding execute execute_following
   at_rest zero s never = without_steps s
   at_rest (suc n) s never = by_status s.status never
     where
       by_status : (st : Status) → (st ≡ status.Running → ⊥)
-          → (let m = meet_by unchanged env st s [] in go_on m m.ending (step env m.state) (λ e. execute env n e.state m.answers)) ≡ halted s (ending_of (turn_of st))
+          → (let m = meet_by unchanged env st s [] in go_on m m.ending (step env m.state)
+          (λ e. execute env n e.state m.answers)) ≡ halted s (ending_of (turn_of st))
       by_status status.Running h = absurd (h refl)
       by_status (status.Asking r) h = refl
       by_status status.Ended h = refl
@@ -51,16 +80,24 @@ module _ (env : Environment) where
 
   -- a running state that has no answer to wait for makes its step, under all answers
   pub goes_on : (n : ℕ) (s : State) (answers : List Answer) → s.status ≡ status.Running
-      → execute env (suc n) s answers ≡ go_on (nothing_met s answers None) None (step env s) (λ e. execute env n e.state answers)
+      → execute env (suc n) s answers ≡ go_on (nothing_met s answers None) None (step env s)
+      (λ e. execute env n e.state answers)
   unfolding execute execute_following
   goes_on n s answers runs =
-      ap (λ (st : Status). let m = meet_by unchanged env st s answers in go_on m m.ending (step env m.state) (λ e. execute env n e.state m.answers)) runs
+      ap (λ (st : Status). let m = meet_by unchanged env st s answers in go_on m m.ending
+      (step env m.state) (λ e. execute env n e.state m.answers)) runs
 
-  pub steps_on : (n : ℕ) (s : State) (answers : List Answer) (e : Effect) → s.status ≡ status.Running → step env s ≡ Some e
-      → execute env (suc n) s answers ≡ stepped (preceded (request_in e.emitted) e.changes (execute env n e.state answers))
+  pub steps_on : (n : ℕ) (s : State) (answers : List Answer) (e : Effect)
+      → s.status ≡ status.Running → step env s ≡ Some e
+      → execute env (suc n) s answers
+      ≡ stepped (preceded (request_in e.emitted) e.changes (execute env n e.state answers))
   steps_on n s answers e runs is =
-      goes_on n s answers runs ∙ ap (λ (x : Option Effect). go_on (nothing_met s answers None) None x (λ f. execute env n f.state answers)) is
+      goes_on n s answers runs
+      ∙ ap (λ (x : Option Effect). go_on (nothing_met s answers None) None x
+      (λ f. execute env n f.state answers)) is
 
-  pub gets_stuck : (n : ℕ) (s : State) → s.status ≡ status.Running → step env s ≡ None → execute env (suc n) s [] ≡ halted s Stuck
+  pub gets_stuck : (n : ℕ) (s : State) → s.status ≡ status.Running → step env s ≡ None
+      → execute env (suc n) s [] ≡ halted s Stuck
   gets_stuck n s runs is =
-      goes_on n s [] runs ∙ ap (λ (x : Option Effect). go_on (nothing_met s [] None) None x (λ f. execute env n f.state [])) is
+      goes_on n s [] runs ∙ ap (λ (x : Option Effect). go_on (nothing_met s [] None) None x
+      (λ f. execute env n f.state [])) is

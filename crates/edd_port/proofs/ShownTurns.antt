@@ -41,20 +41,25 @@ asks_where_shown status.Aborted q e = absurd cc
 asks_where_shown (status.Trapped why) q e = absurd cc
 
 -- a turn other than Spent shows that the state doesn't run
-pub rests_where_shown : (st : Status) (t : Turn) → t ≡ turn_of st → t ≢ turn.Spent → st ≡ status.Running → ⊥
+pub rests_where_shown : (st : Status) (t : Turn) → t ≡ turn_of st → t ≢ turn.Spent
+    → st ≡ status.Running → ⊥
 rests_where_shown st t e other runs = other (e ∙ ap turn_of runs)
 
 -- ---- faults
 
-of_set : (fault : PlayFault) (f : SetFault) (ending : Ending) → play_refusal fault ≡ Some (BadSet f) → ending ≡ Bad f → IsFaultOf fault ending
+of_set : (fault : PlayFault) (f : SetFault) (ending : Ending) → play_refusal fault ≡ Some (BadSet f)
+    → ending ≡ Bad f → IsFaultOf fault ending
 of_set play_fault.NoItem f ending e is = absurd cc
 of_set play_fault.WrongValues f ending e is = absurd cc
-of_set play_fault.BadVariable f ending e is = let same : f ≡ BadVariable = cc in is ∙ ap (λ (x : SetFault). Bad x) same
-of_set play_fault.OutOfRange f ending e is = let same : f ≡ OutOfRange = cc in is ∙ ap (λ (x : SetFault). Bad x) same
+of_set play_fault.BadVariable f ending e is = let same : f ≡ BadVariable = cc in is
+    ∙ ap (λ (x : SetFault). Bad x) same
+of_set play_fault.OutOfRange f ending e is = let same : f ≡ OutOfRange = cc in is
+    ∙ ap (λ (x : SetFault). Bad x) same
 of_set play_fault.Memory f ending e is = absurd cc
 
 -- a fault that stands for the refusal of an answer says how the run ends
-pub of_refused : (fault : PlayFault) (refused : Refusal) (o : Option SetFault) (ending : Ending) → play_refusal fault ≡ Some refused → Some refused ≡ option_map BadSet o
+pub of_refused : (fault : PlayFault) (refused : Refusal) (o : Option SetFault) (ending : Ending)
+    → play_refusal fault ≡ Some refused → Some refused ≡ option_map BadSet o
     → ((f : SetFault) → o ≡ Some f → ending ≡ Bad f) → IsFaultOf fault ending
 of_refused fault refused None ending e g bad = absurd cc
 of_refused fault refused (Some f) ending e g bad = of_set fault f ending (e ∙ g) (bad f refl)
@@ -62,6 +67,9 @@ of_refused fault refused (Some f) ending e g bad = of_set fault f ending (e ∙ 
 -- ---- answers by number
 
 -- the items from a number on are that one and those behind it
-pub one_mapped : {A B : Type 0} (f : A → B) (xs : List A) (n : ℕ) (x : A) → n < length xs → x ≡ get_or xs n x → drop n (map f xs) ≡ f x ∷ drop (n + 1) (map f xs)
+pub one_mapped : {A B : Type 0} (f : A → B) (xs : List A) (n : ℕ) (x : A) → n < length xs
+    → x ≡ get_or xs n x → drop n (map f xs) ≡ f x ∷ drop (n + 1) (map f xs)
 one_mapped f xs n x more is =
-    drop-cons (map f xs) n (f x) (omega (arith, more, length-map xs f)) ∙ ap (λ y. y ∷ drop (suc n) (map f xs)) (get_or-map f xs n x ∙ ap f (sym is)) ∙ ap (λ (k : ℕ). f x ∷ drop k (map f xs)) (sym (add-one n))
+    drop-cons (map f xs) n (f x) (omega (arith, more, length-map xs f))
+    ∙ ap (λ y. y ∷ drop (suc n) (map f xs)) (get_or-map f xs n x ∙ ap f (sym is))
+    ∙ ap (λ (k : ℕ). f x ∷ drop k (map f xs)) (sym (add-one n))

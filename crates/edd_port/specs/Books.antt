@@ -28,10 +28,12 @@ with_failure b = record b { failed = counted (b.failed + 1) }
 
 -- what a reply to a request makes of the book: a pair more, or one count more
 abbrev pub Replied : Book → Request → Reply → Book → Type 0
-Replied before r Give after = (answer : Answer) × (after ≡ with_pair before (record { request = r; answer = answer }))
+Replied before r Give after = (answer : Answer)
+    × (after ≡ with_pair before (record { request = r; answer = answer }))
 Replied before r Nothing after = after ≡ with_nothing before
 Replied before r Failed after = after ≡ with_failure before
 
 -- the answer is that of the last pair
 abbrev pub IsLast : List Pair → Answer → Type 0
-IsLast pairs answer = (others : List Pair) × (r : Request) × (pairs ≡ others ++ record { request = r; answer = answer } ∷ [])
+IsLast pairs answer = (others : List Pair) × (r : Request)
+    × (pairs ≡ others ++ record { request = r; answer = answer } ∷ [])

@@ -43,12 +43,13 @@ standing status.Ended = []
 standing status.Aborted = []
 standing (status.Trapped why) = []
 
--- These requests were met: the one that stood at the start and those that were made are these, and behind them the one that still
--- stands at the end.
+-- These requests were met: the one that stood at the start and those that were made are these, and
+-- behind them the one that still stands at the end.
 abbrev pub AreMet : State → Outcome → List Request → Type 0
 AreMet s o met = standing s.status ++ o.requests ≡ met ++ standing o.state.status
 
--- how the execution ends: it waits after each end but `Done`, which never comes with a turn that asks
+-- how the execution ends: it waits after each end but `Done`, which never comes with a turn that
+-- asks
 abbrev pub EndsAs : Drive → execution.Ending → Type 0
 EndsAs (Done (turn.Asks r)) ending = ⊥
 EndsAs (Done turn.Ended) ending = ending ≡ execution.Ended
@@ -59,7 +60,8 @@ EndsAs Waiting ending = ending ≡ execution.Waiting
 EndsAs (Refused fault) ending = ending ≡ execution.Waiting
 EndsAs HostFailed ending = ending ≡ execution.Waiting
 
--- what the session shows after a drive: the turn with which it is done, else a request, which stands
+-- what the session shows after a drive: the turn with which it is done, else a request, which
+-- stands
 abbrev pub Shows : Drive → Turn → Type 0
 Shows (Done t) shown = shown ≡ t
 Shows Waiting shown = (r : Request) × (shown ≡ turn.Asks r)
@@ -79,11 +81,14 @@ failed_after Waiting n = n
 failed_after (Refused fault) n = n
 failed_after HostFailed n = counted (n + 1)
 
--- where an answer was refused, it is that of the last pair, which is of the request that stands, and this is its fault
+-- where an answer was refused, it is that of the last pair, which is of the request that stands,
+-- and this is its fault
 abbrev pub RefusesLast : List VariableType → Drive → State → List Pair → Type 0
 RefusesLast types (Done t) s pairs = ⊤
 RefusesLast types Waiting s pairs = ⊤
-RefusesLast types (Refused fault) s pairs = (others : List Pair) × (p : Pair) × (pairs ≡ others ++ p ∷ []) × (s.status ≡ status.Asking p.request) × (option_map BadSet (answer_fault types p.answer) ≡ Some (answer_fault_of fault))
+RefusesLast types (Refused fault) s pairs = (others : List Pair) × (p : Pair)
+    × (pairs ≡ others ++ p ∷ []) × (s.status ≡ status.Asking p.request)
+    × (option_map BadSet (answer_fault types p.answer) ≡ Some (answer_fault_of fault))
 RefusesLast types HostFailed s pairs = ⊤
 
 -- ---- one turn of a drive
@@ -104,15 +109,22 @@ pub record Takes (before : Run) (pair : Pair) (after : Run) : Type 0 where
   pub valid : answer_fault (environment before.image).types pair.answer ≡ None
   pub is : after ≡ record before { state = (answered before.state pair.answer).state }
 
--- the drive goes on with so many instructions left: some were executed and the host was not asked, or it gave an answer
+-- the drive goes on with so many instructions left: some were executed and the host was not asked,
+-- or it gave an answer
 abbrev pub GoesOn : (left : ℕ) → Run → Book → (fewer : ℕ) → Run → Book → Type 0
 GoesOn left before book fewer after new =
-    (Executes left before fewer after × (new ≡ book)) ⊎ ((fewer ≡ left) × ((pair : Pair) × Takes before pair after × (new ≡ with_pair book pair)))
+    (Executes left before fewer after × (new ≡ book))
+    ⊎ ((fewer ≡ left) × ((pair : Pair) × Takes before pair after × (new ≡ with_pair book pair)))
 
 -- the drive ends here, with what it made of the host's book
 abbrev pub Stops : (left : ℕ) → Run → Drive → Book → Book → Type 0
-Stops left r (Done t) book new = (turn_of r.state.status ≡ t) × ((q : Request) → t ≢ turn.Asks q) × (t ≡ turn.Spent → left ≡ 0) × (new ≡ book)
-Stops left r Waiting book new = (q : Request) × (r.state.status ≡ status.Asking q) × (new ≡ with_nothing book)
+Stops left r (Done t) book new = (turn_of r.state.status ≡ t) × ((q : Request) → t ≢ turn.Asks q)
+    × (t ≡ turn.Spent → left ≡ 0) × (new ≡ book)
+Stops left r Waiting book new = (q : Request) × (r.state.status ≡ status.Asking q)
+    × (new ≡ with_nothing book)
 Stops left r (Refused fault) book new =
-    (pair : Pair) × (r.state.status ≡ status.Asking pair.request) × (option_map BadSet (answer_fault (environment r.image).types pair.answer) ≡ Some (answer_fault_of fault)) × (new ≡ with_pair book pair)
-Stops left r HostFailed book new = (q : Request) × (r.state.status ≡ status.Asking q) × (new ≡ with_failure book)
+    (pair : Pair) × (r.state.status ≡ status.Asking pair.request)
+    × (option_map BadSet (answer_fault (environment r.image).types pair.answer)
+    ≡ Some (answer_fault_of fault)) × (new ≡ with_pair book pair)
+Stops left r HostFailed book new = (q : Request) × (r.state.status ≡ status.Asking q)
+    × (new ≡ with_failure book)

@@ -14,10 +14,12 @@ use Rattle.edd_port.specs.declared.fault.StartFault.{StartFault}
 use Rattle.edd_port.specs.declared.fault.StartFault.TheVariants as start_fault
 use Rattle.edd_port.specs.Refusals.{Refusal, NotAsking, BadSet}
 
--- what a fault says of the method and the values: the values are looked at only where the method has a body
+-- what a fault says of the method and the values: the values are looked at only where the method
+-- has a body
 abbrev pub IsStartFault : List ℕ → MethNo → (values : List ℤ) → StartFault → Type 0
 IsStartFault b method values start_fault.NoItem = body_of (contents_in b) method ≡ None
-IsStartFault b method values start_fault.WrongValues = (body_of (contents_in b) method ≢ None) × (¬ AreDeviceValues (types_in b) values)
+IsStartFault b method values start_fault.WrongValues = (body_of (contents_in b) method ≢ None)
+    × (¬ AreDeviceValues (types_in b) values)
 
 -- the refusal that a fault stands for
 abbrev pub answer_fault_of : AnswerFault → Refusal

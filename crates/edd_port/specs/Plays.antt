@@ -21,7 +21,9 @@ under r steps given = execute (environment r.image) steps r.state given
 
 -- what the method comes to from its start, where it has a body
 abbrev pub played : List ℕ → MethNo → (values : List ℤ) → (steps : ℕ) → List Answer → Option Outcome
-played b method values steps given = option_map (λ row. execute (environment b) steps (opening_of (contents_in b) row values) given) (body_of (contents_in b) method)
+played b method values steps given =
+    option_map (λ row. execute (environment b) steps (opening_of (contents_in b) row values) given)
+    (body_of (contents_in b) method)
 
 -- the ending that a play shows: out of steps is spent
 abbrev pub ending_shown : Ending → execution.Ending
@@ -41,12 +43,19 @@ IsFaultOf play_fault.Memory ending = Unit {0}
 
 -- the method has a body and the values are those of a device, so that the method can start
 abbrev pub CanStart : List ℕ → MethNo → (values : List ℤ) → Type 0
-CanStart b method values = (body_of (contents_in b) method ≢ None) × AreDeviceValues (types_in b) values
+CanStart b method values = (body_of (contents_in b) method ≢ None) × AreDeviceValues (types_in b)
+    values
 
 -- what a fault says of a play; for want of memory nothing is wrong with the method and the values
-abbrev pub IsPlayFault : List ℕ → MethNo → (values : List ℤ) → (steps : ℕ) → List Answer → PlayFault → Type 0
+abbrev pub IsPlayFault : List ℕ → MethNo → (values : List ℤ) → (steps : ℕ) → List Answer → PlayFault
+    → Type 0
 IsPlayFault b method values steps given play_fault.NoItem = body_of (contents_in b) method ≡ None
-IsPlayFault b method values steps given play_fault.WrongValues = (body_of (contents_in b) method ≢ None) × (¬ AreDeviceValues (types_in b) values)
-IsPlayFault b method values steps given play_fault.BadVariable = CanStart b method values × (option_map (λ o. o.ending) (played b method values steps given) ≡ Some (execution.Bad answers.BadVariable))
-IsPlayFault b method values steps given play_fault.OutOfRange = CanStart b method values × (option_map (λ o. o.ending) (played b method values steps given) ≡ Some (execution.Bad answers.OutOfRange))
+IsPlayFault b method values steps given play_fault.WrongValues =
+    (body_of (contents_in b) method ≢ None) × (¬ AreDeviceValues (types_in b) values)
+IsPlayFault b method values steps given play_fault.BadVariable = CanStart b method values
+    × (option_map (λ o. o.ending) (played b method values steps given)
+    ≡ Some (execution.Bad answers.BadVariable))
+IsPlayFault b method values steps given play_fault.OutOfRange = CanStart b method values
+    × (option_map (λ o. o.ending) (played b method values steps given)
+    ≡ Some (execution.Bad answers.OutOfRange))
 IsPlayFault b method values steps given play_fault.Memory = CanStart b method values

@@ -12,7 +12,8 @@ pub data Refusal : Type 0 where
   NotAsking : Refusal
   BadSet : SetFault → Refusal
 
--- why an answer is not taken in a state of this status; of its sets the first that has a fault decides
+-- why an answer is not taken in a state of this status; of its sets the first that has a fault
+-- decides
 abbrev pub refusal : List VariableType → Status → Answer → Option Refusal
 refusal types status.Running answer = Some NotAsking
 refusal types (status.Asking r) answer = option_map BadSet (answer_fault types answer)

@@ -9,7 +9,8 @@ use Rattle.edd_image.specs.Validity.{IsValid}
 use Rattle.edd_machine.specs.declared.code_unit.CodeUnit.{CodeUnit}
 use Rattle.edd_machine.specs.Running.{IsStateIn}
 
--- the bytes of the image, the state of the method on it, and how many instructions were executed so far
+-- the bytes of the image, the state of the method on it, and how many instructions were executed so
+-- far
 pub record Run : Type 0 where
   pub image : List ℕ
   pub state : State
@@ -35,7 +36,8 @@ advanced r budget = execute (environment r.image) budget r.state []
 
 -- it is the state at the start of the method's body under these values
 abbrev pub OpensIn : List ℕ → MethNo → (values : List ℤ) → State → Type 0
-OpensIn b method values s = (row : AttributeFields) × (body_of (contents_in b) method ≡ Some row) × (s ≡ opening_of (contents_in b) row values)
+OpensIn b method values s = (row : AttributeFields) × (body_of (contents_in b) method ≡ Some row)
+    × (s ≡ opening_of (contents_in b) row values)
 
 -- what comes of the state that an outcome reached, after that outcome
 abbrev pub followed : Outcome → Outcome → Outcome

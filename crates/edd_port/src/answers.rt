@@ -19,7 +19,8 @@ use edd_syntax::numbers::VarNo;
 
 // The fault of the first set that has one.
 fn fault_of_sets(image: &Image<'_>, sets: &[(VarNo, i64)]) -> Option<SetFault>
-    ensures { option_map set_fault_of result ≡ sets_fault (types_in image.now) (map change_of sets.now) }
+    ensures { option_map set_fault_of result ≡ sets_fault (types_in image.now)
+        (map change_of sets.now) }
 {
     for set in sets {
         if let Some(fault) = set_fault(image, set.0, set.1) {
@@ -31,7 +32,8 @@ fn fault_of_sets(image: &Image<'_>, sets: &[(VarNo, i64)]) -> Option<SetFault>
 
 /// Why an answer is not taken in a state of this status, if it isn't.
 pub fn fault_of_answer(image: &Image<'_>, status: Status, answer: &Answer) -> Option<AnswerFault>
-    ensures { option_map answer_fault_of result ≡ refusal (types_in image.now) status (answer_of answer.now) }
+    ensures { option_map answer_fault_of result ≡ refusal (types_in image.now) status
+        (answer_of answer.now) }
 {
     if !matches!(status, Status::Asking(_)) {
         return Some(AnswerFault::NotAsking);
@@ -47,7 +49,8 @@ pub fn fault_of_answer(image: &Image<'_>, status: Status, answer: &Answer) -> Op
 
 // Makes the sets, in their order.
 fn set_values(numbers: &mut [i64], sets: &[(VarNo, i64)])
-    requires { AllByRecursion (λ set. set.variable.0 < length numbers.old) (map change_of sets.now) }
+    requires { AllByRecursion (λ set. set.variable.0 < length numbers.old)
+        (map change_of sets.now) }
     ensures { numbers.new ≡ values_set numbers.old (map change_of sets.now) }
 {
     for set in sets {
@@ -58,10 +61,12 @@ fn set_values(numbers: &mut [i64], sets: &[(VarNo, i64)])
 /// The event of an answer to a machine that asks.
 pub fn take_answer(machine: &mut Machine, answer: &Answer)
     requires room { length machine.old.operands < 128 }
-    requires exist { AllByRecursion (λ set. set.variable.0 < length machine.old.values.numbers.items) (sets_of (answer_of answer.now)) }
+    requires exist { AllByRecursion (λ set. set.variable.0
+        < length machine.old.values.numbers.items) (sets_of (answer_of answer.now)) }
     ensures unit { machine.new.unit ≡ machine.old.unit }
     ensures code { CodeFits (answer_of answer.now) }
-    ensures state { (b : List ℕ) → state_of b machine.new ≡ (answered (state_of b machine.old) (answer_of answer.now)).state }
+    ensures state { (b : List ℕ) → state_of b machine.new
+        ≡ (answered (state_of b machine.old) (answer_of answer.now)).state }
 {
     match answer {
         Answer::Go { code, sets } => {

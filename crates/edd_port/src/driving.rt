@@ -16,8 +16,10 @@ use edd_image::Request;
 // Puts the request that stands to the host, and goes on if it gives a good answer.
 fn put<H: Host>(session: &mut Session<'_, '_>, host: &mut H, request: Request) -> Option<Drive>
     requires { session.old.state.status ≡ Asking request }
-    ensures taken { IfNone result ((pair : Pair) × Takes session.old pair session.new × (H.book host.new ≡ with_pair (H.book host.old) pair)) }
-    ensures stops { IfSome result (λ end. Stops 0 session.old end (H.book host.old) (H.book host.new)) }
+    ensures taken { IfNone result ((pair : Pair) × Takes session.old pair session.new
+        × (H.book host.new ≡ with_pair (H.book host.old) pair)) }
+    ensures stops { IfSome result
+        (λ end. Stops 0 session.old end (H.book host.old) (H.book host.new)) }
     ensures kept { IfSome result (λ end. session.new ≡ session.old) }
 {
     match host.reply(&request) {
@@ -52,10 +54,13 @@ pub fn execute_some(session: &mut Session<'_, '_>, left: u64) -> u64
     left - u64::from(count)
 }
 
-// One turn: the request that stands is put to the host, or instructions are executed, or the drive ends.
+// One turn: the request that stands is put to the host, or instructions are executed, or the drive
+// ends.
 fn go_on<H: Host>(session: &mut Session<'_, '_>, host: &mut H, left: u64) -> Result<u64, Drive>
-    ensures on { IfOk result (λ fewer. GoesOn left session.old (H.book host.old) fewer session.new (H.book host.new)) }
-    ensures stops { IfErr result (λ end. Stops left session.old end (H.book host.old) (H.book host.new)) }
+    ensures on { IfOk result (λ fewer. GoesOn left session.old (H.book host.old) fewer session.new
+        (H.book host.new)) }
+    ensures stops { IfErr result (λ end. Stops left session.old end (H.book host.old)
+        (H.book host.new)) }
     ensures kept { OnErr result (session.new ≡ session.old) }
 {
     match session.turn() {
@@ -74,24 +79,34 @@ fn go_on<H: Host>(session: &mut Session<'_, '_>, host: &mut H, left: u64) -> Res
     }
 }
 
-/// Runs the method for at most so many instructions, and puts each request to the host at once, first the one that stands.
+/// Runs the method for at most so many instructions, and puts each request to the host at once,
+/// first the one that stands.
 ///
-/// `Done(Spent)` comes where they were executed and the method goes on. After `Refused` no set of the host's last answer was
-/// made. It takes no memory.
+/// `Done(Spent)` comes where they were executed and the method goes on. After `Refused` no set of
+/// the host's last answer was made. It takes no memory.
 pub fn drive<H: Host>(session: &mut Session<'_, '_>, host: &mut H, steps: u64) -> Drive
     ensures image { session.new.image ≡ session.old.image }
-    ensures state { session.new.state ≡ (driven session.old steps (accepted result (added (H.book host.old) (H.book host.new)))).state }
+    ensures state { session.new.state
+        ≡ (driven session.old steps
+        (accepted result (added (H.book host.old) (H.book host.new)))).state }
     ensures taken { session.new.taken ≡ counted (session.old.taken
-        + (driven session.old steps (accepted result (added (H.book host.old) (H.book host.new)))).steps) }
-    ensures ends { EndsAs result (driven session.old steps (accepted result (added (H.book host.old) (H.book host.new)))).ending }
+        + (driven session.old steps
+        (accepted result (added (H.book host.old) (H.book host.new)))).steps) }
+    ensures ends { EndsAs result
+        (driven session.old steps
+        (accepted result (added (H.book host.old) (H.book host.new)))).ending }
     ensures spent { result ≡ Drive.Done Turn.Spent
-        → (driven session.old steps (accepted result (added (H.book host.old) (H.book host.new)))).steps ≡ steps }
+        → (driven session.old steps
+        (accepted result (added (H.book host.old) (H.book host.new)))).steps ≡ steps }
     ensures shows { Shows result (turn_of session.new.state.status) }
-    ensures used { (driven session.old steps (accepted result (added (H.book host.old) (H.book host.new)))).answers ≡ [] }
+    ensures used { (driven session.old steps
+        (accepted result (added (H.book host.old) (H.book host.new)))).answers ≡ [] }
     ensures met { let pairs = accepted result (added (H.book host.old) (H.book host.new)) in
         AreMet session.old.state (driven session.old steps pairs) (map (λ p. p.request) pairs) }
-    ensures pairs { (H.book host.new).pairs ≡ (H.book host.old).pairs ++ added (H.book host.old) (H.book host.new) }
-    ensures refused { RefusesLast (types_in session.old.image) result session.new.state (added (H.book host.old) (H.book host.new)) }
+    ensures pairs { (H.book host.new).pairs ≡ (H.book host.old).pairs
+        ++ added (H.book host.old) (H.book host.new) }
+    ensures refused { RefusesLast (types_in session.old.image) result session.new.state
+        (added (H.book host.old) (H.book host.new)) }
     ensures nothing { (H.book host.new).nothing ≡ nothing_after result (H.book host.old).nothing }
     ensures failed { (H.book host.new).failed ≡ failed_after result (H.book host.old).failed }
 {

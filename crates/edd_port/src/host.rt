@@ -18,12 +18,14 @@ pub enum Reply {
     Failed,
 }
 
-/// Who answers requests: a user, a device, or a script. It keeps each request that it answered with its answer.
+/// Who answers requests: a user, a device, or a script. It keeps each request that it answered with
+/// its answer.
 pub trait Host {
     /// The requests that it answered, with their answers, and how often it had nothing or failed.
     ghost book: { Self → Book };
 
-    /// Looks for an answer to the request. `Give` adds it, with the request, to the answers that were given.
+    /// Looks for an answer to the request. `Give` adds it, with the request, to the answers that
+    /// were given.
     fn reply(&mut self, request: &Request) -> Reply
         ensures { Replied (book self.old) request.now result (book self.new) };
 

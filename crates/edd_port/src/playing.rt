@@ -48,10 +48,15 @@ fn play_on(
     steps: u64,
 ) -> Result<Ending, PlayFault>
     requires { requests.old.items ≡ [] }
-    ensures requests { OnOk result (standing session.old.state.status ++ (under session.old steps (map answer_of answers.now)).requests ≡ requests.new.items) }
-    ensures state { OnOk result (session.new.state ≡ (under session.old steps (map answer_of answers.now)).state) }
-    ensures ending { IfOk result (λ ending. (under session.old steps (map answer_of answers.now)).ending ≡ ending_shown ending) }
-    ensures fault { IfErr result (λ fault. IsFaultOf fault (under session.old steps (map answer_of answers.now)).ending) }
+    ensures requests { OnOk result (standing session.old.state.status
+        ++ (under session.old steps (map answer_of answers.now)).requests ≡ requests.new.items) }
+    ensures state { OnOk result
+        (session.new.state ≡ (under session.old steps (map answer_of answers.now)).state) }
+    ensures ending { IfOk result
+        (λ ending. (under session.old steps (map answer_of answers.now)).ending
+        ≡ ending_shown ending) }
+    ensures fault { IfErr result
+        (λ fault. IsFaultOf fault (under session.old steps (map answer_of answers.now)).ending) }
 {
     let mut left = steps;
     let mut next = 0;
@@ -80,10 +85,11 @@ fn play_on(
     }
 }
 
-/// Runs a method from its start for at most so many instructions, and meets its requests by the answers, one after the other.
-/// Answers that are left over are ignored.
+/// Runs a method from its start for at most so many instructions, and meets its requests by the
+/// answers, one after the other. Answers that are left over are ignored.
 ///
-/// The fault is `NoItem` or `WrongValues` as where a session is started, else that of the first answer that can't be taken, and
+/// The fault is `NoItem` or `WrongValues` as where a session is started, else that of the first
+/// answer that can't be taken, and
 /// `Memory` where memory for the requests is refused.
 pub fn play(
     alloc: Global,
@@ -93,14 +99,21 @@ pub fn play(
     answers: &[Answer],
     steps: u64,
 ) -> Result<Transcript, PlayFault>
-    ensures requests { IfOk result (λ t. option_map (λ o. o.requests) (played image.now method values.numbers.items steps (map answer_of answers.now))
+    ensures requests { IfOk result
+        (λ t. option_map (λ o. o.requests) (played image.now method values.numbers.items steps
+        (map answer_of answers.now))
         ≡ Some t.requests.items) }
-    ensures values { IfOk result (λ t. option_map (λ o. o.state.values) (played image.now method values.numbers.items steps (map answer_of answers.now))
+    ensures values { IfOk result
+        (λ t. option_map (λ o. o.state.values) (played image.now method values.numbers.items steps
+        (map answer_of answers.now))
         ≡ Some t.values.numbers.items) }
-    ensures ending { IfOk result (λ t. option_map (λ o. o.ending) (played image.now method values.numbers.items steps (map answer_of answers.now))
+    ensures ending { IfOk result
+        (λ t. option_map (λ o. o.ending) (played image.now method values.numbers.items steps
+        (map answer_of answers.now))
         ≡ Some (ending_shown t.ending)) }
     ensures started { OnOk result (AreDeviceValues (types_in image.now) values.numbers.items) }
-    ensures fault { IfErr result (IsPlayFault image.now method values.numbers.items steps (map answer_of answers.now)) }
+    ensures fault { IfErr result (IsPlayFault image.now method values.numbers.items steps
+        (map answer_of answers.now)) }
 {
     let mut session = match Session::start(image, method, values) {
         Ok(session) => session,

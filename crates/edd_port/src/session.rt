@@ -39,7 +39,11 @@ impl<'i, 'b> Model for Session<'i, 'b> {
     ghost use Rattle.edd_image.specs.Validity.{IsValid};
     ghost use Rattle.edd_machine.specs.Running.{state_of, IsMachine};
 
-    ghost view = { λ s. record { image = s.image.now; state = state_of s.image.now s.machine; taken = s.taken } };
+    ghost view = { λ s. record {
+      image = s.image.now;
+      state = state_of s.image.now s.machine;
+      taken = s.taken;
+    } };
 
     ghost invariant = { λ s. IsValid s.image.now × IsMachine s.image.now s.machine };
 }
@@ -47,18 +51,20 @@ impl<'i, 'b> Model for Session<'i, 'b> {
 impl<'i, 'b> Session<'i, 'b> {
     /// The run of a method at its start, under these values. After a refusal they are handed back.
     ///
-    /// The fault is `NoItem` where there is no such method or it has no body, else `WrongValues` where the values are not those
-    /// of a device of this description. It takes no memory.
+    /// The fault is `NoItem` where there is no such method or it has no body, else `WrongValues`
+    /// where the values are not those of a device of this description. It takes no memory.
     pub fn start(
         image: &'i Image<'b>,
         method: MethNo,
         values: Values,
     ) -> Result<Session<'i, 'b>, (StartFault, Values)>
         ensures image { IfOk result (λ session. session.image ≡ image.now) }
-        ensures opens { IfOk result (λ session. OpensIn image.now method values.numbers.items session.state) }
+        ensures opens { IfOk result (λ session. OpensIn image.now method values.numbers.items
+            session.state) }
         ensures taken { IfOk result (λ session. session.taken ≡ 0) }
         ensures values { OnOk result (AreDeviceValues (types_in image.now) values.numbers.items) }
-        ensures fault { IfErr result (λ refused. IsStartFault image.now method values.numbers.items refused.0) }
+        ensures fault { IfErr result (λ refused. IsStartFault image.now method values.numbers.items
+            refused.0) }
         ensures kept { IfErr result (λ refused. refused.1 ≡ values) }
     {
         let Some(unit) = find_body(image, method) else {
@@ -80,7 +86,8 @@ impl<'i, 'b> Session<'i, 'b> {
         ensures state { self.new.state ≡ (advanced self.old budget).state }
         ensures taken { self.new.taken ≡ counted (self.old.taken + result) }
         ensures count { result ≡ (advanced self.old budget).steps }
-        ensures ending { (advanced self.old budget).ending ≡ ending_of (turn_of self.new.state.status) }
+        ensures ending { (advanced self.old budget).ending
+            ≡ ending_of (turn_of self.new.state.status) }
         ensures all { self.new.state.status ≡ Running → result ≡ budget }
         ensures moves { self.old.state.status ≡ Running → 1 ≤ budget → 1 ≤ result }
     {
@@ -94,12 +101,13 @@ impl<'i, 'b> Session<'i, 'b> {
         count
     }
 
-    /// Executes instructions until the method asks, is over, or `budget` of them were executed. A session that asks or is over
-    /// executes none. It takes no memory.
+    /// Executes instructions until the method asks, is over, or `budget` of them were executed. A
+    /// session that asks or is over executes none. It takes no memory.
     pub fn advance(&mut self, budget: u32) -> Turn
         ensures image { self.new.image ≡ self.old.image }
         ensures state { self.new.state ≡ (advanced self.old budget).state }
-        ensures taken { self.new.taken ≡ counted (self.old.taken + (advanced self.old budget).steps) }
+        ensures taken { self.new.taken
+            ≡ counted (self.old.taken + (advanced self.old budget).steps) }
         ensures turn { result ≡ turn_of self.new.state.status }
         ensures ending { (advanced self.old budget).ending ≡ ending_of result }
         ensures spent { result ≡ Turn.Spent → (advanced self.old budget).steps ≡ budget }
@@ -108,16 +116,18 @@ impl<'i, 'b> Session<'i, 'b> {
         self.turn()
     }
 
-    /// Goes on after the request that stands: the variables are set, and the code is the request's value. An abort ends the
-    /// method.
+    /// Goes on after the request that stands: the variables are set, and the code is the request's
+    /// value. An abort ends the method.
     ///
-    /// The fault is `NotAsking` where no request stands, else that of the first set that can't be made; then the session is as it
-    /// was. It takes no memory.
+    /// The fault is `NotAsking` where no request stands, else that of the first set that can't be
+    /// made; then the session is as it was. It takes no memory.
     pub fn answer(&mut self, answer: &Answer) -> Result<(), AnswerFault>
         ensures image { self.new.image ≡ self.old.image }
         ensures taken { self.new.taken ≡ self.old.taken }
-        ensures ok { OnOk result (self.new.state ≡ (answered self.old.state (answer_of answer.now)).state) }
-        ensures fault { option_map answer_fault_of (result_err result) ≡ refusal (types_in self.old.image) self.old.state.status (answer_of answer.now) }
+        ensures sound { OnOk result
+            (self.new.state ≡ (answered self.old.state (answer_of answer.now)).state) }
+        ensures fault { option_map answer_fault_of (result_err result)
+            ≡ refusal (types_in self.old.image) self.old.state.status (answer_of answer.now) }
         ensures kept { OnErr result (self.new ≡ self.old) }
     {
         if let Some(fault) = fault_of_answer(self.image, self.machine.status, answer) {

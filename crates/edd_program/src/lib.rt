@@ -9,8 +9,8 @@ use files::ProgramFiles;
 use std::io::Write;
 use std::rt::Files;
 
-/// Runs the program `edd` on the words of its command line, the program's name first, over the system's files. Prints to `out`,
-/// and answers the exit status.
+/// Runs the program `edd` on the words of its command line, the program's name first, over the
+/// system's files. Prints to `out`, and answers the exit status.
 pub fn run<R: Files + Input + Print + AllocGlobal, W: Write>(
     rt: &R,
     words: &[String],

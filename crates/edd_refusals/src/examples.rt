@@ -9,8 +9,8 @@ const IDENTIFICATION: &str = "MANUFACTURER 1, DEVICE_TYPE 2, DEVICE_REVISION 3, 
 /// The greatest number that is the answer to a source.
 const LAST_OF_SOURCES: u32 = 99;
 
-/// Whether `compile` refuses the wrong example with this number and name, and takes the right one. Only what refuses a source is
-/// tried, and what has no example holds.
+/// Whether `compile` refuses the wrong example with this number and name, and takes the right one.
+/// Only what refuses a source is tried, and what has no example holds.
 pub fn hold(alloc: Global, explanation: &Explanation) -> bool {
     if explanation.number > LAST_OF_SOURCES {
         return true;

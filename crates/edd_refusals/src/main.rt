@@ -1,4 +1,5 @@
-//! Prints docs/REFUSALS.md from what the program `edd` explains, and names each explanation whose examples don't do what it says.
+//! Prints docs/REFUSALS.md from what the program `edd` explains, and names each explanation whose
+//! examples don't do what it says.
 #![tactic(auto)]
 
 mod examples;

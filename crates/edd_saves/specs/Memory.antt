@@ -25,7 +25,8 @@ files_of d = record {
 
 -- the file is a plain one, and streams stand at all other places
 abbrev pub standing_at : List ℕ → Standing
-standing_at place = if bytes_eq place file_name then Plain (record { device = 1; number = 2 }) else Stream
+standing_at place = if bytes_eq place file_name then Plain (record { device = 1; number = 2 }) else
+    Stream
 
 -- what streams were given
 abbrev pub given_of : MemoryDisk → List ℕ

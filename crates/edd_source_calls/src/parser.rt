@@ -333,7 +333,8 @@ fn is_last(unit: &Unit, name: &str) -> bool {
     }
 }
 
-// The list of a menu that ends with c, how many entries it has, and how many stand behind its first ELSE.
+// The list of a menu that ends with c, how many entries it has, and how many stand behind its first
+// ELSE.
 const LISTS: [(&str, usize, usize); 6] = [
     ("c", 1, 0),
     ("a, b c", 3, 0),

@@ -25,14 +25,16 @@ same_variant_is a b e = search rules
 same_key_is : (a b : Key) → same_key a b ≡ true → string_bytes a.name ≡ string_bytes b.name
 same_key_is a b e = search rules
 
-same_variants_are : (xs ys : List Variant) → pointwise same_variant xs ys ≡ true → map variant_of xs ≡ map variant_of ys
+same_variants_are : (xs ys : List Variant) → pointwise same_variant xs ys ≡ true
+    → map variant_of xs ≡ map variant_of ys
 same_variants_are [] [] e = refl
 same_variants_are [] (y ∷ ys) e = absurd cc
 same_variants_are (x ∷ xs) [] e = absurd cc
 same_variants_are (x ∷ xs) (y ∷ ys) e = search (rules, same_variant_is, same_variants_are xs ys)
 
 pub same_words_are : (a b : Words) → same_words a b ≡ true → string_of a ≡ string_of b
-same_words_are (words.Variants first rest) (words.Variants other others) e = search (rules, same_variant_is, same_variants_are)
+same_words_are (words.Variants first rest) (words.Variants other others) e =
+    search (rules, same_variant_is, same_variants_are)
 same_words_are (words.Variants first rest) (words.Key other) e = absurd cc
 same_words_are (words.Key key) (words.Variants other others) e = absurd cc
 same_words_are (words.Key key) (words.Key other) e = search (rules, same_key_is)
@@ -43,14 +45,16 @@ same_variant_when a b e = search rules
 same_key_when : (a b : Key) → string_bytes a.name ≡ string_bytes b.name → same_key a b ≡ true
 same_key_when a b e = search rules
 
-same_variants_when : (xs ys : List Variant) → map variant_of xs ≡ map variant_of ys → pointwise same_variant xs ys ≡ true
+same_variants_when : (xs ys : List Variant) → map variant_of xs ≡ map variant_of ys
+    → pointwise same_variant xs ys ≡ true
 same_variants_when [] [] e = refl
 same_variants_when [] (y ∷ ys) e = absurd cc
 same_variants_when (x ∷ xs) [] e = absurd cc
 same_variants_when (x ∷ xs) (y ∷ ys) e = search (rules, same_variant_when, same_variants_when xs ys)
 
 pub same_words_when : (a b : Words) → string_of a ≡ string_of b → same_words a b ≡ true
-same_words_when (words.Variants first rest) (words.Variants other others) e = search (rules, same_variant_when, same_variants_when)
+same_words_when (words.Variants first rest) (words.Variants other others) e =
+    search (rules, same_variant_when, same_variants_when)
 same_words_when (words.Variants first rest) (words.Key other) e = absurd cc
 same_words_when (words.Key key) (words.Variants other others) e = absurd cc
 same_words_when (words.Key key) (words.Key other) e = search (rules, same_key_when)

@@ -1,4 +1,5 @@
--- Escapes of a text that is read in pieces: what stands before a backslash, and the character behind it.
+-- Escapes of a text that is read in pieces: what stands before a backslash, and the character
+-- behind it.
 use Rattle.std.proofs.Common.{◌≡◌, ◌≢◌, eqb, false, ℕ, suc, ◌<◌, ◌≤◌, List, [], ◌∷◌, ◌++◌, length, get_or, refl, sym, ap, ◌∙◌, arith, inl, inr, append_assoc, append-nil}
 use Rattle.std.proofs.lemmas.Bool.{cases_lt, ne_eqb}
 use Rattle.std.proofs.lemmas.Bool.Decides.{nat_tests}
@@ -31,7 +32,8 @@ unescape-plain (x ∷ xs) h =
     let head : eqb x 92 ≡ false = ne_eqb x 92 (h 0 (omega arith)) in
     rw (unescape, head) (ap (λ zs. x ∷ zs) (unescape-plain xs (IsPlain-tail x xs h)))
 
-pub after_backslash-past_ascii : (xs rest : List ℕ) → 0 < length xs → IsPastAscii xs → after_backslash (xs ++ rest) ≡ xs ++ unescape rest
+pub after_backslash-past_ascii : (xs rest : List ℕ) → 0 < length xs → IsPastAscii xs
+    → after_backslash (xs ++ rest) ≡ xs ++ unescape rest
 unfolding unescape
 after_backslash-past_ascii [] rest some h = absurd (omega arith)
 after_backslash-past_ascii (x ∷ xs) rest some h =
@@ -54,42 +56,56 @@ past_ascii c large i inside =
       | inr enough ↦ enough
       | inl small ↦
           let same : encode_utf8 c ≡ encode_utf8 c ++ [] = sym (append-nil (encode_utf8 c)) in
-          let ascii : c ≡ get_or (encode_utf8 c) i 0 = inside_one c [] (encode_utf8 c) i same inside small in
+          let ascii : c ≡ get_or (encode_utf8 c) i 0 = inside_one c [] (encode_utf8 c) i same inside
+          small in
           absurd (omega arith)
     ]
 
-ascii_char : (c : ℕ) (rest : List ℕ) → c < 128 → after_backslash (encode_utf8 c ++ rest) ≡ encode_utf8 (escaped c) ++ unescape rest
+ascii_char : (c : ℕ) (rest : List ℕ) → c < 128 → after_backslash (encode_utf8 c ++ rest)
+    ≡ encode_utf8 (escaped c) ++ unescape rest
 unfolding unescape
 ascii_char c rest small =
     let ascii : escaped c < 128 = grind (arith, nat_tests) in
     rw (encode_ascii c small, encode_ascii (escaped c) ascii) refl
 
 -- a character behind a backslash stands for one character
-pub after_backslash-char : (c : ℕ) (rest : List ℕ) → after_backslash (encode_utf8 c ++ rest) ≡ encode_utf8 (escaped c) ++ unescape rest
+pub after_backslash-char : (c : ℕ) (rest : List ℕ) → after_backslash (encode_utf8 c ++ rest)
+    ≡ encode_utf8 (escaped c) ++ unescape rest
 after_backslash-char c rest =
     elim (cases_lt c 128) [
       | inr large ↦
           let same : escaped c ≡ c = grind (arith, nat_tests) in
-          let long : 0 < length (encode_utf8 c) = omega (arith, length-encode c, len_utf8_bounds c) in
+          let long : 0 < length (encode_utf8 c) =
+          omega (arith, length-encode c, len_utf8_bounds c) in
           let past : IsPastAscii (encode_utf8 c) = past_ascii c large in
           rw same (after_backslash-past_ascii (encode_utf8 c) rest long past)
       | inl small ↦ ascii_char c rest small
     ]
 
 -- a backslash and what stands before it have been read
-pub unescape-step : (done before after rest text : List ℕ) → rest ≡ before ++ 92 ∷ after → IsPlain before → done ++ unescape rest ≡ text → (done ++ before) ++ after_backslash after ≡ text
+pub unescape-step : (done before after rest text : List ℕ) → rest ≡ before ++ 92 ∷ after
+    → IsPlain before → done ++ unescape rest ≡ text → (done ++ before) ++ after_backslash after
+    ≡ text
 unescape-step done before after rest text parts plain so_far =
-    let unescaped : unescape rest ≡ before ++ after_backslash after = ap unescape parts ∙ unescape-append before (92 ∷ after) plain ∙ ap (λ t. before ++ t) (unescape-backslash after) in
+    let unescaped : unescape rest ≡ before ++ after_backslash after = ap unescape parts
+    ∙ unescape-append before (92 ∷ after) plain
+    ∙ ap (λ t. before ++ t) (unescape-backslash after) in
     append_assoc done before (after_backslash after) ∙ sym (ap (λ t. done ++ t) unescaped) ∙ so_far
 
 -- the character behind the backslash has been read too
-pub unescape-char : (done before after rest text : List ℕ) (c : ℕ) → after ≡ encode_utf8 c ++ rest → (done ++ before) ++ after_backslash after ≡ text → ((done ++ before) ++ encode_utf8 (escaped c)) ++ unescape rest ≡ text
+pub unescape-char : (done before after rest text : List ℕ) (c : ℕ) → after ≡ encode_utf8 c ++ rest
+    → (done ++ before) ++ after_backslash after ≡ text
+    → ((done ++ before) ++ encode_utf8 (escaped c)) ++ unescape rest ≡ text
 unescape-char done before after rest text c parts so_far =
-    let char : after_backslash after ≡ encode_utf8 (escaped c) ++ unescape rest = ap after_backslash parts ∙ after_backslash-char c rest in
-    append_assoc (done ++ before) (encode_utf8 (escaped c)) (unescape rest) ∙ sym (ap (λ t. (done ++ before) ++ t) char) ∙ so_far
+    let char : after_backslash after ≡ encode_utf8 (escaped c) ++ unescape rest =
+    ap after_backslash parts ∙ after_backslash-char c rest in
+    append_assoc (done ++ before) (encode_utf8 (escaped c)) (unescape rest)
+    ∙ sym (ap (λ t. (done ++ before) ++ t) char) ∙ so_far
 
 -- nothing stands behind the backslash
-pub unescape-end : (done before after rest text : List ℕ) → length after ≡ 0 → rest ≡ after → (done ++ before) ++ after_backslash after ≡ text → (done ++ before) ++ unescape rest ≡ text
+pub unescape-end : (done before after rest text : List ℕ) → length after ≡ 0 → rest ≡ after
+    → (done ++ before) ++ after_backslash after ≡ text → (done ++ before) ++ unescape rest ≡ text
 unescape-end done before [] rest text none same so_far =
-    ap (λ t. (done ++ before) ++ unescape t) same ∙ sym (ap (λ t. (done ++ before) ++ t) both_nil) ∙ so_far
+    ap (λ t. (done ++ before) ++ unescape t) same ∙ sym (ap (λ t. (done ++ before) ++ t) both_nil)
+    ∙ so_far
 unescape-end done before (x ∷ after) rest text none same so_far = absurd (omega arith)

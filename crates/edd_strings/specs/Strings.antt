@@ -15,4 +15,5 @@ HasNumber strings words number = slice_get strings number ≡ Some words
 -- a string that is held keeps its number, and a new one gets the next
 abbrev pub Adds : (old : List Words) → Words → (number : ℕ) → (new : List Words) → Type 0
 Adds old words number new =
-    (HasNumber old words number × (new ≡ old)) ⊎ (¬ (Contains old words) × (number ≡ length old) × (new ≡ old ++ words ∷ []))
+    (HasNumber old words number × (new ≡ old))
+    ⊎ (¬ (Contains old words) × (number ≡ length old) × (new ≡ old ++ words ∷ []))

@@ -8,8 +8,8 @@ use edd_syntax::words::{Variant, Words};
 
 pub const ENGLISH: &str = "en";
 
-/// The text of `words` for the language `code`: the first variant of that code, else the first in English, else the first
-/// variant. Of a key it is the key's name.
+/// The text of `words` for the language `code`: the first variant of that code, else the first in
+/// English, else the first variant. Of a key it is the key's name.
 #[tactic(auto, unfolding(edd_syntax::specs::Words::text_for))]
 pub fn choose<'a>(words: &'a Words, code: &str) -> &'a str
     ensures { result.now ≡ text_for (string_of words.now) code.now }
@@ -24,7 +24,8 @@ pub fn choose<'a>(words: &'a Words, code: &str) -> &'a str
 
 // The first text of a code, if there is one.
 fn text_in<'a>(first: &'a Variant, rest: &'a [Variant], code: &str) -> Option<&'a str>
-    ensures { option_map (λ t. t.now) result ≡ text_in code.now (map variant_of (first.now ∷ rest.now)) }
+    ensures { option_map (λ t. t.now) result
+        ≡ text_in code.now (map variant_of (first.now ∷ rest.now)) }
 {
     if first.code.as_str() == code {
         return Some(first.text.as_str());

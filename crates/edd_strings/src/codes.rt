@@ -6,7 +6,8 @@ ghost use Rattle.edd_strings.specs.Parts.{left_len, pieces_from, pieces_of};
 
 use crate::parts::{Opened, Part};
 
-// The text up to the first code of a raw text. A backslash and the byte after it are passed together.
+// The text up to the first code of a raw text. A backslash and the byte after it are passed
+// together.
 pub fn first_part(raw: &str) -> Part<'_>
     ensures pieces { pieces 0 raw.now ≡ pieces_of result }
     ensures shorter { left_len result.next ≤ length raw.now }

@@ -5,8 +5,8 @@ ghost use Rattle.std.specs.Prelude.{◌≡◌};
 use std::alloc::{AllocError, AllocFailed};
 use thiserror::Error;
 
-/// Why a text is no string, or a string is not taken into a table: a backslash begins none of the five escapes, the table
-/// holds as many strings as it can, or memory was refused.
+/// Why a text is no string, or a string is not taken into a table: a backslash begins none of the
+/// five escapes, the table holds as many strings as it can, or memory was refused.
 #[derive(Clone, Copy, Debug, PartialEq, Eq, Error)]
 pub enum StringFault {
     #[error("a string has a bad escape")]

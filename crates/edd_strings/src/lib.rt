@@ -1,5 +1,5 @@
-//! Texts in several languages: the variants of a text of the source, the table of a description's strings, and the text
-//! for a language.
+//! Texts in several languages: the variants of a text of the source, the table of a description's
+//! strings, and the text for a language.
 #![tactic(auto)]
 
 mod choice;

@@ -49,14 +49,15 @@ fn variants_of(alloc: Global, raw: &str) -> Result<Words, AllocError>
     Ok(Words::Variants { first, rest })
 }
 
-// The first variant, and the code after its text. The text before the first code is English; it is left out where it is
-// empty and a code follows.
+// The first variant, and the code after its text. The text before the first code is English; it is
+// left out where it is empty and a code follows.
 fn first_variant<'a>(
     alloc: Global,
     part: Part<'a>,
 ) -> Result<(Variant, Option<Opened<'a>>), AllocError>
     ensures { IfOk result
-        (λ r. words_of_part part.entry ≡ strings.Variants (variant_of r.0) (map unescaped (variants_from r.1))) }
+        (λ r. words_of_part part.entry ≡ strings.Variants (variant_of r.0)
+        (map unescaped (variants_from r.1))) }
 {
     if part.text.is_empty()
         && let Some(opened) = part.next
@@ -72,7 +73,8 @@ fn first_variant<'a>(
 
 // The variants of the codes from `next` on.
 fn variants(alloc: Global, next: Option<Opened>) -> Result<Vec<Variant>, AllocError>
-    ensures { IfOk result (λ all. map variant_of all.items ≡ map unescaped (variants_from next.entry)) }
+    ensures { IfOk result (λ all. map variant_of all.items
+        ≡ map unescaped (variants_from next.entry)) }
 {
     let mut all = Vec::new(alloc);
     let mut next = next;
@@ -104,7 +106,8 @@ fn variant<'a>(
     opened: Opened<'a>,
 ) -> Result<(Variant, Option<Opened<'a>>), AllocError>
     ensures value { IfOk result
-        (λ r. map unescaped (variants_from (Some opened.entry)) ≡ variant_of r.0 ∷ map unescaped (variants_from r.1)) }
+        (λ r. map unescaped (variants_from (Some opened.entry)) ≡ variant_of r.0
+        ∷ map unescaped (variants_from r.1)) }
     ensures shorter { IfOk result (λ r. left_len r.1 < left_len (Some opened.entry)) }
 {
     let Part { text, next } = first_part(opened.behind);

@@ -46,12 +46,13 @@ impl Table {
         }
     }
 
-    /// The number of a string, which is the next one where the table doesn't hold the string yet. A string that is refused is
-    /// dropped.
+    /// The number of a string, which is the next one where the table doesn't hold the string yet. A
+    /// string that is refused is dropped.
     pub fn add(&mut self, words: Words) -> Result<StrNo, StringFault>
-        ensures ok { IfOk result (λ number. Adds self.old (string_of words) number.0 self.new) }
-        ensures err { OnErr result (self.new ≡ self.old) }
-        ensures too_many { IsErrOf result StringFault.TooMany ↔ (¬ (Contains self.old (string_of words)) × (length self.old ≡ 65535)) }
+        ensures sound { IfOk result (λ number. Adds self.old (string_of words) number.0 self.new) }
+        ensures kept { OnErr result (self.new ≡ self.old) }
+        ensures refused { IsErrOf result StringFault.TooMany
+            ↔ (¬ (Contains self.old (string_of words)) × (length self.old ≡ 65535)) }
         ensures no_escapes { result ≢ Err StringFault.BadEscape }
     {
         if !self.has_room(&words) {
@@ -64,7 +65,8 @@ impl Table {
     // Whether a string is held, or there is room for it.
     #[tactic(auto, using(crate::proofs::Numbering::held, crate::proofs::Numbering::found))]
     fn has_room(&self, words: &Words) -> bool
-        ensures { IsTrue result ↔ (length self.now < 65535) ⊎ Contains self.now (string_of words.now) }
+        ensures { IsTrue result ↔ (length self.now < 65535)
+            ⊎ Contains self.now (string_of words.now) }
     {
         self.strings.len() < MAX_STRINGS || self.strings.contains(words)
     }

@@ -13,21 +13,27 @@ use Rattle.edd_syntax.specs.TreeView.{expr_of}
 use Rattle.edd_syntax.specs.ItemView.{cond_of, conds_in, arm_of, arms_in}
 
 module _ {R S V W : Type 0} (f : R → S) (g : V → W) where
-  conds_items : (n : _) (row : Row_of-Cond R V n) → conds_in f g row ≡ map (cond_of f g) (block.items-the_row-Cond R V n row)
+  conds_items : (n : _) (row : Row_of-Cond R V n)
+      → conds_in f g row ≡ map (cond_of f g) (block.items-the_row-Cond R V n row)
   unfolding cond_of
   conds_items n end_of-Cond = refl
   conds_items n (more_of-Cond first rest) = ap (λ xs. cond_of f g first ∷ xs) (conds_items _ rest)
 
-  arms_items : (n : _) (row : Row_of-Arm R V n) → arms_in f g row ≡ map (arm_of f g) (block.items-the_row-Arm R V n row)
+  arms_items : (n : _) (row : Row_of-Arm R V n)
+      → arms_in f g row ≡ map (arm_of f g) (block.items-the_row-Arm R V n row)
   unfolding cond_of
   arms_items n end_of-Arm = refl
   arms_items n (more_of-Arm first rest) = ap (λ xs. arm_of f g first ∷ xs) (arms_items _ rest)
 
-  conds_of_vec : (v : Vec (Cond R V) Global) → conds_in f g (block.hidden-the_row-Cond-0 R V v) ≡ map (cond_of f g) v.items
-  conds_of_vec v = conds_items _ (block.hidden-the_row-Cond-0 R V v) ∙ ap (map (cond_of f g)) (block.items_hidden-the_row-Cond-0 R V v)
+  conds_of_vec : (v : Vec (Cond R V) Global) → conds_in f g (block.hidden-the_row-Cond-0 R V v)
+      ≡ map (cond_of f g) v.items
+  conds_of_vec v = conds_items _ (block.hidden-the_row-Cond-0 R V v)
+      ∙ ap (map (cond_of f g)) (block.items_hidden-the_row-Cond-0 R V v)
 
-  arms_of_vec : (v : Vec (Arm R V) Global) → arms_in f g (block.hidden-the_row-Arm-1 R V v) ≡ map (arm_of f g) v.items
-  arms_of_vec v = arms_items _ (block.hidden-the_row-Arm-1 R V v) ∙ ap (map (arm_of f g)) (block.items_hidden-the_row-Arm-1 R V v)
+  arms_of_vec : (v : Vec (Arm R V) Global) → arms_in f g (block.hidden-the_row-Arm-1 R V v)
+      ≡ map (arm_of f g) v.items
+  arms_of_vec v = arms_items _ (block.hidden-the_row-Arm-1 R V v)
+      ∙ ap (map (arm_of f g)) (block.items_hidden-the_row-Arm-1 R V v)
 
   -- ---- the equations of the view
 
@@ -35,19 +41,27 @@ module _ {R S V W : Type 0} (f : R → S) (g : V → W) where
   unfolding cond_of
   of_value v = refl
 
-  pub of_if : (test : Expr R) (v w : Vec (Cond R V) Global) → cond_of f g (c.If test v w) ≡ pure.If (expr_of f test) (pure.conds_from (map (cond_of f g) v.items)) (pure.conds_from (map (cond_of f g) w.items))
+  pub of_if : (test : Expr R) (v w : Vec (Cond R V) Global) → cond_of f g (c.If test v w)
+      ≡ pure.If (expr_of f test) (pure.conds_from (map (cond_of f g) v.items))
+      (pure.conds_from (map (cond_of f g) w.items))
   unfolding cond_of
-  of_if test v w = ap (λ xs. pure.If (expr_of f test) (pure.conds_from xs) (pure.conds_from (conds_in f g (block.hidden-the_row-Cond-0 R V w)))) (conds_of_vec v) ∙ ap (λ xs. pure.If (expr_of f test) (pure.conds_from (map (cond_of f g) v.items)) (pure.conds_from xs)) (conds_of_vec w)
+  of_if test v w = ap (λ xs. pure.If (expr_of f test) (pure.conds_from xs)
+      (pure.conds_from (conds_in f g (block.hidden-the_row-Cond-0 R V w)))) (conds_of_vec v)
+      ∙ ap (λ xs. pure.If (expr_of f test) (pure.conds_from (map (cond_of f g) v.items))
+      (pure.conds_from xs)) (conds_of_vec w)
 
-  pub of_select : (on : Expr R) (v : Vec (Arm R V) Global) → cond_of f g (c.Select on v) ≡ pure.Select (expr_of f on) (pure.arms_from (map (arm_of f g) v.items))
+  pub of_select : (on : Expr R) (v : Vec (Arm R V) Global) → cond_of f g (c.Select on v)
+      ≡ pure.Select (expr_of f on) (pure.arms_from (map (arm_of f g) v.items))
   unfolding cond_of
   of_select on v = ap (λ xs. pure.Select (expr_of f on) (pure.arms_from xs)) (arms_of_vec v)
 
-  pub of_case : (label : ℤ) (v : Vec (Cond R V) Global) → arm_of f g (a.Case label v) ≡ pure.Case label (pure.conds_from (map (cond_of f g) v.items))
+  pub of_case : (label : ℤ) (v : Vec (Cond R V) Global) → arm_of f g (a.Case label v)
+      ≡ pure.Case label (pure.conds_from (map (cond_of f g) v.items))
   unfolding cond_of
   of_case label v = ap (λ xs. pure.Case label (pure.conds_from xs)) (conds_of_vec v)
 
-  pub of_default : (line : ℕ) (v : Vec (Cond R V) Global) → arm_of f g (a.Default line v) ≡ pure.Default (pure.conds_from (map (cond_of f g) v.items))
+  pub of_default : (line : ℕ) (v : Vec (Cond R V) Global) → arm_of f g (a.Default line v)
+      ≡ pure.Default (pure.conds_from (map (cond_of f g) v.items))
   unfolding cond_of
   of_default line v = ap (λ xs. pure.Default (pure.conds_from xs)) (conds_of_vec v)
 

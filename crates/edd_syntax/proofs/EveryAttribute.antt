@@ -1,4 +1,5 @@
--- Two functions of attributes that agree on the list of them agree on each: so a law on all attributes is computed.
+-- Two functions of attributes that agree on the list of them agree on each: so a law on all
+-- attributes is computed.
 use Rattle.std.proofs.Common.{◌≡◌, refl, sym, ap, ◌∙◌, ℕ, zero, suc, ◌-◌, List, [], ◌∷◌, map, Some}
 use Rattle.std.specs.Prelude.{slice_get}
 use Rattle.std.proofs.lemmas.Option.{none-some, same_Some}
@@ -10,13 +11,17 @@ use Rattle.edd_syntax.specs.Numbers.{attr_number}
 use Rattle.edd_syntax.specs.Rows.{attributes_in_order}
 
 -- what a member of a list gives stands at its place
-at_its_place : {A B : Type 0} (f : A → B) (xs : List A) (n : ℕ) (x : A) → slice_get xs n ≡ Some x → slice_get (map f xs) n ≡ Some (f x)
+at_its_place : {A B : Type 0} (f : A → B) (xs : List A) (n : ℕ) (x : A) → slice_get xs n ≡ Some x
+    → slice_get (map f xs) n ≡ Some (f x)
 at_its_place f [] n x h = absurd (none-some x h)
 at_its_place f (y ∷ ys) zero x h = ap (λ z. Some (f z)) (same_Some y x h)
 at_its_place f (y ∷ ys) (suc n) x h = at_its_place f ys n x h
 
-agree_on : {A B : Type 0} (f g : A → B) (xs : List A) → map f xs ≡ map g xs → (n : ℕ) (x : A) → slice_get xs n ≡ Some x → f x ≡ g x
-agree_on f g xs same n x h = same_Some (f x) (g x) (sym (at_its_place f xs n x h) ∙ ap (λ ys. slice_get ys n) same ∙ at_its_place g xs n x h)
+agree_on : {A B : Type 0} (f g : A → B) (xs : List A) → map f xs ≡ map g xs → (n : ℕ) (x : A)
+    → slice_get xs n ≡ Some x → f x ≡ g x
+agree_on f g xs same n x h =
+    same_Some (f x) (g x) (sym (at_its_place f xs n x h) ∙ ap (λ ys. slice_get ys n) same
+    ∙ at_its_place g xs n x h)
 
 -- ---- all attributes
 
@@ -24,7 +29,8 @@ stands_at : (a : Attr) → slice_get attributes_in_order (attr_number a - 1) ≡
 stands_at attr.Label = refl
 stands_at _ = refl
 
-pub every_attr : {B : Type 0} (f g : Attr → B) → map f attributes_in_order ≡ map g attributes_in_order → (a : Attr) → f a ≡ g a
+pub every_attr : {B : Type 0} (f g : Attr → B) → map f attributes_in_order
+    ≡ map g attributes_in_order → (a : Attr) → f a ≡ g a
 every_attr f g same a = agree_on f g attributes_in_order same (attr_number a - 1) a (stands_at a)
 
 -- ---- the attributes that are one text
@@ -37,5 +43,7 @@ text_place text.Label = (0, refl)
 text_place text.Help = (1, refl)
 text_place text.ConstantUnit = (2, refl)
 
-pub every_text : {B : Type 0} (f g : TextAttribute → B) → map f all_texts ≡ map g all_texts → (which : TextAttribute) → f which ≡ g which
-every_text f g same which = agree_on f g all_texts same (text_place which).0 which (text_place which).1
+pub every_text : {B : Type 0} (f g : TextAttribute → B) → map f all_texts ≡ map g all_texts
+    → (which : TextAttribute) → f which ≡ g which
+every_text f g same which = agree_on f g all_texts same (text_place which).0 which
+    (text_place which).1

@@ -14,15 +14,21 @@ pub none_kept : IsTrue (are_items [])
 unfolding are_items
 none_kept = refl
 
-pub one_more_kept : (all : List (Item Path)) (i : Item Path) → IsTrue (are_items all) → IsTrue (is_item is_path is_plain i) → IsTrue (are_items (all ++ i ∷ []))
+pub one_more_kept : (all : List (Item Path)) (i : Item Path) → IsTrue (are_items all)
+    → IsTrue (is_item is_path is_plain i) → IsTrue (are_items (all ++ i ∷ []))
 unfolding are_items
 one_more_kept [] i h k = grind (arith, common_steps)
 one_more_kept (x ∷ rest) i h k = grind (arith, common_steps, one_more_kept rest i)
 
-named_more : (all : List (Code.Item path.Path)) (i : Code.Item path.Path) → named_items (all ++ i ∷ []) ≡ named_items all ++ item_of path_of i ∷ []
+named_more : (all : List (Code.Item path.Path)) (i : Code.Item path.Path)
+    → named_items (all ++ i ∷ []) ≡ named_items all ++ item_of path_of i ∷ []
 named_more all i = grind (arith, common_steps)
 
 -- after a push, which may have failed
-pub pushed_kept : {T E : Type 0} (r : Result T E) (new old : List (Code.Item path.Path)) (i : Code.Item path.Path) → new ≡ (if is_ok r then old ++ i ∷ [] else old) → IsTrue (are_items (named_items old)) → IsTrue (is_item is_path is_plain (item_of path_of i)) → IsTrue (are_items (named_items new))
-pushed_kept (Ok t) new old i e h k = rw e (rw named_more (one_more_kept (named_items old) (item_of path_of i) h k))
+pub pushed_kept : {T E : Type 0} (r : Result T E) (new old : List (Code.Item path.Path))
+    (i : Code.Item path.Path) → new ≡ (if is_ok r then old ++ i ∷ [] else old)
+    → IsTrue (are_items (named_items old)) → IsTrue (is_item is_path is_plain (item_of path_of i))
+    → IsTrue (are_items (named_items new))
+pushed_kept (Ok t) new old i e h k =
+    rw e (rw named_more (one_more_kept (named_items old) (item_of path_of i) h k))
 pushed_kept (Err x) new old i e h k = rw e h

@@ -11,7 +11,8 @@ use Rattle.edd_syntax.specs.declared.reference.Target.{Target}
 use Rattle.edd_syntax.specs.Numbers.{same_attr}
 use Rattle.edd_syntax.specs.Rows.{part_attr, part_stands_for, attributes_in_order, rows_of_attr, rows_of_kind}
 
-pub any_part : (a : Attr) (parts : List (TypePart Target)) → list_any (part_stands_for a) parts ≡ list_any (same_attr a) (map part_attr parts)
+pub any_part : (a : Attr) (parts : List (TypePart Target)) → list_any (part_stands_for a) parts
+    ≡ list_any (same_attr a) (map part_attr parts)
 unfolding part_stands_for
 any_part a [] = refl
 any_part a (p ∷ parts) = ap (λ b. same_attr a (part_attr p) || b) (any_part a parts)
@@ -23,14 +24,20 @@ module _ {X Y : Type 0} (f : Y → Bool) (view : X → Y) where
   abbrev pub any_from : ℕ → List X → Bool
   any_from i xs = list_any f (map view (drop i xs))
 
-  next_any : (i : ℕ) (xs : List X) (x : X) → i < length xs → x ≡ get_or xs i x → any_from i xs ≡ (f (view x) || any_from (i + 1) xs)
-  next_any i xs x h is = at_drop_more (λ ys. list_any f (map view ys)) xs i x h ∙ ap (λ y. f (view y) || any_from (i + 1) xs) (sym is)
+  next_any : (i : ℕ) (xs : List X) (x : X) → i < length xs → x ≡ get_or xs i x
+      → any_from i xs ≡ (f (view x) || any_from (i + 1) xs)
+  next_any i xs x h is = at_drop_more (λ ys. list_any f (map view ys)) xs i x h
+      ∙ ap (λ y. f (view y) || any_from (i + 1) xs) (sym is)
 
-  pub any_goes_on : (i : ℕ) (xs : List X) (x : X) → i < length xs → x ≡ get_or xs i x → f (view x) ≡ false → any_from i xs ≡ any_from 0 xs → any_from (i + 1) xs ≡ any_from 0 xs
-  any_goes_on i xs x h is other invariant = ap (λ b. b || any_from (i + 1) xs) (sym other) ∙ sym (next_any i xs x h is) ∙ invariant
+  pub any_goes_on : (i : ℕ) (xs : List X) (x : X) → i < length xs → x ≡ get_or xs i x
+      → f (view x) ≡ false → any_from i xs ≡ any_from 0 xs → any_from (i + 1) xs ≡ any_from 0 xs
+  any_goes_on i xs x h is other invariant = ap (λ b. b || any_from (i + 1) xs) (sym other)
+      ∙ sym (next_any i xs x h is) ∙ invariant
 
-  pub any_stops : (i : ℕ) (xs : List X) (x : X) → i < length xs → x ≡ get_or xs i x → f (view x) ≡ true → any_from i xs ≡ any_from 0 xs → true ≡ any_from 0 xs
-  any_stops i xs x h is found invariant = ap (λ b. b || any_from (i + 1) xs) (sym found) ∙ sym (next_any i xs x h is) ∙ invariant
+  pub any_stops : (i : ℕ) (xs : List X) (x : X) → i < length xs → x ≡ get_or xs i x
+      → f (view x) ≡ true → any_from i xs ≡ any_from 0 xs → true ≡ any_from 0 xs
+  any_stops i xs x h is found invariant = ap (λ b. b || any_from (i + 1) xs) (sym found)
+      ∙ sym (next_any i xs x h is) ∙ invariant
 
 -- ---- a loop that appends what each element gives
 
@@ -38,16 +45,22 @@ module _ {Y Z : Type 0} (f : Y → List Z) where
   abbrev pub each_and_rest : List Z → ℕ → List Y → List Z
   each_and_rest zs i ys = zs ++ flat_map f (drop i ys)
 
-  pub each_appended : (old new total : List Z) (i : ℕ) (ys : List Y) (y : Y) → i < length ys → y ≡ get_or ys i y → new ≡ old ++ f y → each_and_rest old i ys ≡ total → each_and_rest new (i + 1) ys ≡ total
+  pub each_appended : (old new total : List Z) (i : ℕ) (ys : List Y) (y : Y) → i < length ys
+      → y ≡ get_or ys i y → new ≡ old ++ f y → each_and_rest old i ys ≡ total
+      → each_and_rest new (i + 1) ys ≡ total
   each_appended old new total i ys y h is grown invariant =
       ap (λ zs. zs ++ flat_map f (drop (i + 1) ys)) grown
       ∙ append_assoc old (f y) (flat_map f (drop (i + 1) ys))
-      ∙ ap (λ zs. old ++ zs) (ap (λ x. f x ++ flat_map f (drop (i + 1) ys)) is ∙ sym (at_drop_more (flat_map f) ys i y h))
+      ∙ ap (λ zs. old ++ zs) (ap (λ x. f x ++ flat_map f (drop (i + 1) ys)) is
+      ∙ sym (at_drop_more (flat_map f) ys i y h))
       ∙ invariant
 
-  pub each_done : (zs total : List Z) (i : ℕ) (ys : List Y) → length ys ≤ i → each_and_rest zs i ys ≡ total → zs ≡ total
-  each_done zs total i ys h invariant = sym (append-nil zs) ∙ ap (λ xs. zs ++ flat_map f xs) (sym (drop_of_length-le ys h)) ∙ invariant
+  pub each_done : (zs total : List Z) (i : ℕ) (ys : List Y) → length ys ≤ i → each_and_rest zs i ys
+      ≡ total → zs ≡ total
+  each_done zs total i ys h invariant = sym (append-nil zs) ∙ ap (λ xs. zs ++ flat_map f xs)
+      (sym (drop_of_length-le ys h)) ∙ invariant
 
-pub kind_rows : (items : List (Item Target)) (k : Kind) → flat_map (rows_of_attr items k) attributes_in_order ≡ rows_of_kind items k
+pub kind_rows : (items : List (Item Target)) (k : Kind)
+    → flat_map (rows_of_attr items k) attributes_in_order ≡ rows_of_kind items k
 unfolding rows_of_kind
 kind_rows items k = refl

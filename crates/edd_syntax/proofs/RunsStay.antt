@@ -17,9 +17,11 @@ is_over (Stopped OutOfTurns s) h = absurd (h refl)
 
 pub bodies_stay : BodiesStay
 unfolding run_body execute
-bodies_stay env body n m h s over = ap ended (statements_stay env (Block body) n m h s (is_over (execute_all env body n s) over))
+bodies_stay env body n m h s over =
+    ap ended (statements_stay env (Block body) n m h s (is_over (execute_all env body n s) over))
 
 pub runs_stay : RunsStay
 unfolding run
 runs_stay unit method n m h values answers over =
-    let body = body_of unit method in bodies_stay (environment unit) body n m h (opening (slots_in body) values answers) over
+    let body = body_of unit method in bodies_stay (environment unit) body n m h
+    (opening (slots_in body) values answers) over

@@ -19,7 +19,9 @@ module _ (number : ItemNo) (a : Attr) where
   abbrev pub row_of : ℕ → Attribute Target → List AttrRef
   row_of sub x = (record { item = number; attr = a; sub = sub }) ∷ []
 
-  pub positions_split : (next : ℕ) (x : Attribute Target) (xs : List (Attribute Target)) → positions_from next (x ∷ xs) ≡ (if is_transaction x then row_of next x else []) ++ positions_from (if is_transaction x then suc next else next) xs
+  pub positions_split : (next : ℕ) (x : Attribute Target) (xs : List (Attribute Target))
+      → positions_from next (x ∷ xs) ≡ (if is_transaction x then row_of next x else [])
+      ++ positions_from (if is_transaction x then suc next else next) xs
   unfolding rows_at
   positions_split next (item.OneText which c) xs = refl
   positions_split next (item.Class words) xs = refl
@@ -50,9 +52,13 @@ module _ (k : Kind) (a : Attr) where
   abbrev pub rows_of_item : ℕ → Item Target → List AttrRef
   rows_of_item next i = item_rows (item_number k next) a i.attributes
 
-  pub items_split : (next : ℕ) (x : Item Target) (xs : List (Item Target)) → rows_behind next (x ∷ xs) ≡ (if is_kind x then rows_of_item next x else []) ++ rows_behind (if is_kind x then suc next else next) xs
+  pub items_split : (next : ℕ) (x : Item Target) (xs : List (Item Target))
+      → rows_behind next (x ∷ xs) ≡ (if is_kind x then rows_of_item next x else [])
+      ++ rows_behind (if is_kind x then suc next else next) xs
   items_split next x xs = by_kind (is_kind x) refl
     where
-      by_kind : (b : Bool) → is_kind x ≡ b → rows_behind next (x ∷ xs) ≡ (if is_kind x then rows_of_item next x else []) ++ rows_behind (if is_kind x then suc next else next) xs
+      by_kind : (b : Bool) → is_kind x ≡ b → rows_behind next (x ∷ xs)
+          ≡ (if is_kind x then rows_of_item next x else [])
+          ++ rows_behind (if is_kind x then suc next else next) xs
       by_kind true is = grind (arith, common_steps)
       by_kind false is = grind (arith, common_steps)

@@ -16,30 +16,35 @@ pub same : {A : Type 0} (a : Action A) → Extends a a
 same a s over = refl
 
 -- one outcome and then two actions, of which the second extends the first
-and_then_extends : {A B : Type 0} (o o' : Outcome A) (f g : A → Action B) → (IsOver o → o' ≡ o) → ((x : A) → Extends (f x) (g x)) → IsOver (and_then o f) → and_then o' g ≡ and_then o f
+and_then_extends : {A B : Type 0} (o o' : Outcome A) (f g : A → Action B) → (IsOver o → o' ≡ o)
+    → ((x : A) → Extends (f x) (g x)) → IsOver (and_then o f) → and_then o' g ≡ and_then o f
 and_then_extends (Done x s) o' f g e h over = ap (λ r. and_then r g) (e tt) ∙ h x s over
 and_then_extends (Stopped (Trapped t) s) o' f g e h over = ap (λ r. and_then r g) (e tt)
 and_then_extends (Stopped Aborted s) o' f g e h over = ap (λ r. and_then r g) (e tt)
 and_then_extends (Stopped Waiting s) o' f g e h over = ap (λ r. and_then r g) (e tt)
 and_then_extends (Stopped OutOfTurns s) o' f g e h over = absurd over
 
-pub then_extends : {A B : Type 0} (a b : Action A) (f g : A → Action B) → Extends a b → ((x : A) → Extends (f x) (g x)) → Extends (a >>= f) (b >>= g)
+pub then_extends : {A B : Type 0} (a b : Action A) (f g : A → Action B) → Extends a b
+    → ((x : A) → Extends (f x) (g x)) → Extends (a >>= f) (b >>= g)
 then_extends a b f g e h s over = and_then_extends (a s) (b s) f g (e s) h over
 
 abbrev branch : Bool → Action Completion → Action Completion → Action Completion
 branch b yes' no' = elim b [ true ↦ yes' | false ↦ no' ]
 
-branch_extends : (b : Bool) (f g f' g' : Action Completion) → Extends f f' → Extends g g' → Extends (branch b f g) (branch b f' g')
+branch_extends : (b : Bool) (f g f' g' : Action Completion) → Extends f f' → Extends g g'
+    → Extends (branch b f g) (branch b f' g')
 branch_extends true f g f' g' e h = e
 branch_extends false f g f' g' e h = h
 
-next_extends : (rest more : Action Completion) → Extends rest more → (c : Completion) → Extends (next rest c) (next more c)
+next_extends : (rest more : Action Completion) → Extends rest more → (c : Completion)
+    → Extends (next rest c) (next more c)
 next_extends rest more e Normal = e
 next_extends rest more e Breaks = same (pure Breaks)
 next_extends rest more e Continues = same (pure Continues)
 next_extends rest more e Returns = same (pure Returns)
 
-next_turn_extends : (rest more : Action Completion) → Extends rest more → (c : Completion) → Extends (next_turn rest c) (next_turn more c)
+next_turn_extends : (rest more : Action Completion) → Extends rest more → (c : Completion)
+    → Extends (next_turn rest c) (next_turn more c)
 next_turn_extends rest more e Normal = e
 next_turn_extends rest more e Breaks = same (pure Normal)
 next_turn_extends rest more e Continues = e
@@ -47,21 +52,28 @@ next_turn_extends rest more e Returns = same (pure Returns)
 
 -- ---- loops
 
-turns_extend : (n m : ℕ) → n ≤ m → (test : Action ℤ) (body more : Action Completion) (last : Action ℤ) → Extends body more → Extends (turns n test body last) (turns m test more last)
+turns_extend : (n m : ℕ) → n ≤ m
+    → (test : Action ℤ) (body more : Action Completion) (last : Action ℤ) → Extends body more
+    → Extends (turns n test body last) (turns m test more last)
 unfolding turns
 turns_extend zero m h test body more last e = λ s over. absurd over
 turns_extend (suc n) zero h test body more last e = λ s over. absurd (omega arith)
 turns_extend (suc n) (suc m) h test body more last e =
-    then_extends test test _ _ (same test) (λ a. branch_extends (is_zero a) _ _ _ _ (same (pure Normal))
-    (then_extends body more _ _ e (next_turn_extends _ _ (then_extends last last _ _ (same last) (λ _. turns_extend n m (omega arith) test body more last e)))))
+    then_extends test test _ _ (same test)
+    (λ a. branch_extends (is_zero a) _ _ _ _ (same (pure Normal))
+    (then_extends body more _ _ e
+    (next_turn_extends _ _ (then_extends last last _ _ (same last)
+    (λ _. turns_extend n m (omega arith) test body more last e)))))
 
-turns_of_do_extend : (n m : ℕ) → n ≤ m → (body more : Action Completion) (test : Action ℤ) → Extends body more → Extends (turns_of_do n body test) (turns_of_do m more test)
+turns_of_do_extend : (n m : ℕ) → n ≤ m → (body more : Action Completion) (test : Action ℤ)
+    → Extends body more → Extends (turns_of_do n body test) (turns_of_do m more test)
 unfolding turns_of_do
 turns_of_do_extend zero m h body more test e = λ s over. absurd over
 turns_of_do_extend (suc n) zero h body more test e = λ s over. absurd (omega arith)
 turns_of_do_extend (suc n) (suc m) h body more test e =
     then_extends body more _ _ e (next_turn_extends _ _ (then_extends test test _ _ (same test)
-    (λ a. branch_extends (is_zero a) _ _ _ _ (same (pure Normal)) (turns_of_do_extend n m (omega arith) body more test e))))
+    (λ a. branch_extends (is_zero a) _ _ _ _ (same (pure Normal))
+    (turns_of_do_extend n m (omega arith) body more test e))))
 
 -- ---- statements
 
@@ -76,28 +88,39 @@ module _ (env : Environment) (n m : ℕ) (h : n ≤ m) where
     stays Empty = same (pure Normal)
     stays (Evaluate e) = same (evaluate env e >> pure Normal)
     stays (Block body) = stays_all body
-    stays (If test first) = then_extends (evaluate env test) _ _ _ (same _) (λ a. branch_extends (is_zero a) _ _ _ _ (same (pure Normal)) (stays first))
-    stays (IfElse test first otherwise) = then_extends (evaluate env test) _ _ _ (same _) (λ a. branch_extends (is_zero a) _ _ _ _ (stays otherwise) (stays first))
+    stays (If test first) = then_extends (evaluate env test) _ _ _ (same _)
+        (λ a. branch_extends (is_zero a) _ _ _ _ (same (pure Normal)) (stays first))
+    stays (IfElse test first otherwise) = then_extends (evaluate env test) _ _ _ (same _)
+        (λ a. branch_extends (is_zero a) _ _ _ _ (stays otherwise) (stays first))
     stays (While test turn) = turns_extend n m h _ _ _ _ (stays turn)
     stays (Do turn test) = turns_of_do_extend n m h _ _ _ (stays turn)
-    stays (For first test last turn) = then_extends (optional env first) _ _ _ (same _) (λ _. turns_extend n m h _ _ _ _ (stays turn))
-    stays (Switch on body) = then_extends (evaluate env on) _ _ _ (same _) (λ a. then_extends _ _ left left (stays_case a body _ _ (stays_default body)) left_extends)
+    stays (For first test last turn) = then_extends (optional env first) _ _ _ (same _)
+        (λ _. turns_extend n m h _ _ _ _ (stays turn))
+    stays (Switch on body) = then_extends (evaluate env on) _ _ _ (same _)
+        (λ a. then_extends _ _ left left (stays_case a body _ _ (stays_default body)) left_extends)
     stays Break = same (pure Breaks)
     stays Continue = same (pure Continues)
     stays Return = same (pure Returns)
 
     stays_all : (b : Body Target) → Extends (execute_all env b n) (execute_all env b m)
     stays_all Nil = same (pure Normal)
-    stays_all (Cons (Declare declarators) rest) = then_extends (declare env declarators) _ _ _ (same _) (next_extends _ _ (stays_all rest))
-    stays_all (Cons (Statement s) rest) = then_extends _ _ _ _ (stays s) (next_extends _ _ (stays_all rest))
+    stays_all (Cons (Declare declarators) rest) = then_extends (declare env declarators) _ _ _
+        (same _) (next_extends _ _ (stays_all rest))
+    stays_all (Cons (Statement s) rest) =
+        then_extends _ _ _ _ (stays s) (next_extends _ _ (stays_all rest))
     stays_all (Cons (CaseLabel label) rest) = stays_all rest
     stays_all (Cons DefaultLabel rest) = stays_all rest
 
-    stays_case : (a : ℤ) (b : Body Target) (otherwise more : Action Completion) → Extends otherwise more → Extends (execute_case env a b n otherwise) (execute_case env a b m more)
+    stays_case : (a : ℤ) (b : Body Target) (otherwise more : Action Completion)
+        → Extends otherwise more
+        → Extends (execute_case env a b n otherwise) (execute_case env a b m more)
     stays_case a Nil otherwise more e = e
-    stays_case a (Cons (Declare declarators) rest) otherwise more e = stays_case a rest otherwise more e
+    stays_case a (Cons (Declare declarators) rest) otherwise more e =
+        stays_case a rest otherwise more e
     stays_case a (Cons (Statement s) rest) otherwise more e = stays_case a rest otherwise more e
-    stays_case a (Cons (CaseLabel label) rest) otherwise more e = branch_extends (int_eq a (wrap 32 label)) _ _ _ _ (stays_all rest) (stays_case a rest otherwise more e)
+    stays_case a (Cons (CaseLabel label) rest) otherwise more e =
+        branch_extends (int_eq a (wrap 32 label)) _ _ _ _ (stays_all rest)
+        (stays_case a rest otherwise more e)
     stays_case a (Cons DefaultLabel rest) otherwise more e = stays_case a rest otherwise more e
 
     stays_default : (b : Body Target) → Extends (execute_default env b n) (execute_default env b m)

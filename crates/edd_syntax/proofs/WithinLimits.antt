@@ -21,7 +21,8 @@ use Rattle.std.proofs.Math.Bridge.{le_prop}
 use Rattle.std.proofs.Math.Bool.{Bool-set}
 use Rattle.edd_syntax.specs.Refusal.{Refusal, refused_if}
 
-bind_some : {A B : Type 0} (o : Option A) (f : A → Option B) (z : B) → (o >>= f) ≡ Some z → (x : A) × (o ≡ Some x) × (f x ≡ Some z)
+bind_some : {A B : Type 0} (o : Option A) (f : A → Option B) (z : B) → (o >>= f) ≡ Some z
+    → (x : A) × (o ≡ Some x) × (f x ≡ Some z)
 bind_some None f z h = absurd (none-some z h)
 bind_some (Some x) f z h = (x, refl, h)
 
@@ -31,65 +32,103 @@ at_some f d x y h = ap (λ o. option_map_or f o d) h
 
 -- ---- one after another
 
-module _ {A B C : Type 0} (of : A → Option B) (f : A → C) (g : B → C) (keeps : (x : A) (y : B) → of x ≡ Some y → g y ≡ f x) where
+module _ {A B C : Type 0} (of : A → Option B) (f : A → C) (g : B → C) (keeps : (x : A) (y : B)
+    → of x ≡ Some y → g y ≡ f x) where
   pub each_keeps : (xs : List A) (ys : List B) → each of xs ≡ Some ys → map g ys ≡ map f xs
   each_keeps [] ys h = sym (at_some (map g) [] [] ys h)
   each_keeps (x ∷ xs) ys h =
       let first = bind_some (of x) (λ y. each of xs >>= λ others. Some (y ∷ others)) ys h in
       let rest = bind_some (each of xs) (λ others. Some (first.0 ∷ others)) ys first.2 in
       sym (at_some (map g) [] (first.0 ∷ rest.0) ys rest.2)
-      ∙ ap (λ y. y ∷ map g rest.0) (keeps x first.0 first.1) ∙ ap (λ others. f x ∷ others) (each_keeps xs rest.0 rest.1)
+      ∙ ap (λ y. y ∷ map g rest.0) (keeps x first.0 first.1)
+      ∙ ap (λ others. f x ∷ others) (each_keeps xs rest.0 rest.1)
 
-filtered : {X C : Type 0} (κ : X → C) (p : C → Bool) (xs : List X) → length (filter (λ x. p (κ x)) xs) ≡ length (filter p (map κ xs))
+filtered : {X C : Type 0} (κ : X → C) (p : C → Bool) (xs : List X)
+    → length (filter (λ x. p (κ x)) xs) ≡ length (filter p (map κ xs))
 filtered κ p [] = refl
 filtered κ p (x ∷ xs) = grind (arith, common_steps, filtered κ p xs)
 
-all_mapped : {X C : Type 0} (κ : X → C) (p : C → Bool) (xs : List X) → list_all (λ x. p (κ x)) xs ≡ list_all p (map κ xs)
+all_mapped : {X C : Type 0} (κ : X → C) (p : C → Bool) (xs : List X) → list_all (λ x. p (κ x)) xs
+    ≡ list_all p (map κ xs)
 all_mapped κ p [] = refl
 all_mapped κ p (x ∷ xs) = ap (λ b. p (κ x) && b) (all_mapped κ p xs)
 
 -- ---- an attribute, an item and a unit with the meaning of names
 
-made : {A : Type 0} (o : Option A) (make : A → Attribute Target) (b : Attribute Target) (v : Bool) → ((x : A) → is_transaction (make x) ≡ v) → (o >>= λ x. Some (make x)) ≡ Some b → is_transaction b ≡ v
+made : {A : Type 0} (o : Option A) (make : A → Attribute Target) (b : Attribute Target) (v : Bool)
+    → ((x : A) → is_transaction (make x) ≡ v) → (o >>= λ x. Some (make x)) ≡ Some b
+    → is_transaction b ≡ v
 made None make b v same h = absurd (none-some b h)
 made (Some x) make b v same h = sym (at_some is_transaction v (make x) b h) ∙ same x
 
-keeps_transaction : (unit : Description Path) (sort : ItemKind) (a : Attribute Path) (b : Attribute Target) → resolved_attribute unit sort a ≡ Some b → is_transaction b ≡ is_transaction a
-keeps_transaction unit sort (item.OneText which c) b h = made (resolved_cond (at_attribute unit) unchanged c) (item.OneText which) b false (λ x. refl) h
-keeps_transaction unit sort (item.Class words) b h = sym (at_some is_transaction false (item.Class words) b h)
-keeps_transaction unit sort (item.Handling c) b h = made (resolved_cond (at_attribute unit) unchanged c) item.Handling b false (λ x. refl) h
-keeps_transaction unit sort (item.Validity c) b h = made (resolved_cond (at_attribute unit) unchanged c) item.Validity b false (λ x. refl) h
-keeps_transaction unit sort (item.TypeOf word parts) b h = made (each (resolved_type_part unit) parts) (item.TypeOf word) b false (λ x. refl) h
-keeps_transaction unit sort (item.Number n) b h = sym (at_some is_transaction false (item.Number n) b h)
-keeps_transaction unit sort (item.Operation o) b h = sym (at_some is_transaction false (item.Operation o) b h)
-keeps_transaction unit sort (item.Transaction number parts) b h = made (each (resolved_transaction_part unit) parts) (item.Transaction number) b true (λ x. refl) h
-keeps_transaction unit sort (item.ResponseCodes responses) b h = sym (at_some is_transaction false (item.ResponseCodes responses) b h)
-keeps_transaction unit sort (item.Items entries) b h = made (resolved_conds (at_attribute unit) (resolved_entry unit) entries) item.Items b false (λ x. refl) h
-keeps_transaction unit sort (item.Members members) b h = made (each (resolved_member unit (member_kinds sort)) members) item.Members b false (λ x. refl) h
-keeps_transaction unit sort (item.Definition body) b h = made (resolved_body unit body [] 0) item.Definition b false (λ x. refl) h
+keeps_transaction : (unit : Description Path) (sort : ItemKind) (a : Attribute Path)
+    (b : Attribute Target) → resolved_attribute unit sort a ≡ Some b
+    → is_transaction b ≡ is_transaction a
+keeps_transaction unit sort (item.OneText which c) b h =
+    made (resolved_cond (at_attribute unit) unchanged c) (item.OneText which) b false (λ x. refl) h
+keeps_transaction unit sort (item.Class words) b h =
+    sym (at_some is_transaction false (item.Class words) b h)
+keeps_transaction unit sort (item.Handling c) b h =
+    made (resolved_cond (at_attribute unit) unchanged c) item.Handling b false (λ x. refl) h
+keeps_transaction unit sort (item.Validity c) b h =
+    made (resolved_cond (at_attribute unit) unchanged c) item.Validity b false (λ x. refl) h
+keeps_transaction unit sort (item.TypeOf word parts) b h =
+    made (each (resolved_type_part unit) parts) (item.TypeOf word) b false (λ x. refl) h
+keeps_transaction unit sort (item.Number n) b h =
+    sym (at_some is_transaction false (item.Number n) b h)
+keeps_transaction unit sort (item.Operation o) b h =
+    sym (at_some is_transaction false (item.Operation o) b h)
+keeps_transaction unit sort (item.Transaction number parts) b h =
+    made (each (resolved_transaction_part unit) parts) (item.Transaction number) b true (λ x. refl)
+    h
+keeps_transaction unit sort (item.ResponseCodes responses) b h =
+    sym (at_some is_transaction false (item.ResponseCodes responses) b h)
+keeps_transaction unit sort (item.Items entries) b h =
+    made (resolved_conds (at_attribute unit) (resolved_entry unit) entries) item.Items b false
+    (λ x. refl) h
+keeps_transaction unit sort (item.Members members) b h =
+    made (each (resolved_member unit (member_kinds sort)) members) item.Members b false (λ x. refl)
+    h
+keeps_transaction unit sort (item.Definition body) b h = made (resolved_body unit body [] 0)
+    item.Definition b false (λ x. refl) h
 
-keeps_sort : (unit : Description Path) (i : Item Path) (y : Item Target) → resolved_item unit i ≡ Some y → y.sort ≡ i.sort
-keeps_sort unit i y h = let x = bind_some (each (resolved_attribute unit i.sort) i.attributes) (λ attributes. Some (record { sort = i.sort; name = i.name; attributes = attributes })) y h in sym (at_some (λ z. z.sort) i.sort (record { sort = i.sort; name = i.name; attributes = x.0 }) y x.2)
+keeps_sort : (unit : Description Path) (i : Item Path) (y : Item Target)
+    → resolved_item unit i ≡ Some y → y.sort ≡ i.sort
+keeps_sort unit i y h = let x = bind_some (each (resolved_attribute unit i.sort) i.attributes)
+    (λ attributes. Some (record { sort = i.sort; name = i.name; attributes = attributes })) y
+    h in sym (at_some (λ z. z.sort) i.sort
+    (record { sort = i.sort; name = i.name; attributes = x.0 }) y x.2)
 
-keeps_count : (unit : Description Path) (i : Item Path) (y : Item Target) → resolved_item unit i ≡ Some y → transaction_count y ≡ transaction_count i
+keeps_count : (unit : Description Path) (i : Item Path) (y : Item Target)
+    → resolved_item unit i ≡ Some y → transaction_count y ≡ transaction_count i
 keeps_count unit i y h =
-    let x = bind_some (each (resolved_attribute unit i.sort) i.attributes) (λ attributes. Some (record { sort = i.sort; name = i.name; attributes = attributes })) y h in
-    sym (at_some transaction_count 0 (record { sort = i.sort; name = i.name; attributes = x.0 }) y x.2)
+    let x = bind_some (each (resolved_attribute unit i.sort) i.attributes)
+    (λ attributes. Some (record { sort = i.sort; name = i.name; attributes = attributes })) y
+    h in
+    sym (at_some transaction_count 0 (record { sort = i.sort; name = i.name; attributes = x.0 }) y
+    x.2)
     ∙ filtered is_transaction (λ b. b) x.0
-    ∙ ap (λ bs. length (filter (λ b. b) bs)) (each_keeps (resolved_attribute unit i.sort) is_transaction is_transaction (keeps_transaction unit i.sort) i.attributes x.0 x.1)
+    ∙ ap (λ bs. length (filter (λ b. b) bs))
+    (each_keeps (resolved_attribute unit i.sort) is_transaction is_transaction
+    (keeps_transaction unit i.sort) i.attributes x.0 x.1)
     ∙ sym (filtered is_transaction (λ b. b) i.attributes)
 
-module _ (unit : Description Path) (items : List (Item Target)) (meant : each (resolved_item unit) unit.items ≡ Some items) where
+module _ (unit : Description Path) (items : List (Item Target))
+    (meant : each (resolved_item unit) unit.items ≡ Some items) where
   same_count : (k : Kind) → count_of k items ≡ count_of k unit.items
   same_count k =
       filtered (λ i. i.sort) (λ s. same_kind (kind_of_item s) k) items
-      ∙ ap (λ ss. length (filter (λ s. same_kind (kind_of_item s) k) ss)) (each_keeps (resolved_item unit) (λ i. i.sort) (λ i. i.sort) (keeps_sort unit) unit.items items meant)
+      ∙ ap (λ ss. length (filter (λ s. same_kind (kind_of_item s) k) ss))
+      (each_keeps (resolved_item unit) (λ i. i.sort) (λ i. i.sort) (keeps_sort unit) unit.items
+      items meant)
       ∙ sym (filtered (λ i. i.sort) (λ s. same_kind (kind_of_item s) k) unit.items)
 
-  same_transactions : list_all (λ i. nat_le (transaction_count i) 4096) items ≡ list_all (λ i. nat_le (transaction_count i) 4096) unit.items
+  same_transactions : list_all (λ i. nat_le (transaction_count i) 4096) items
+      ≡ list_all (λ i. nat_le (transaction_count i) 4096) unit.items
   same_transactions =
       all_mapped transaction_count (λ n. nat_le n 4096) items
-      ∙ ap (list_all (λ n. nat_le n 4096)) (each_keeps (resolved_item unit) transaction_count transaction_count (keeps_count unit) unit.items items meant)
+      ∙ ap (list_all (λ n. nat_le n 4096)) (each_keeps (resolved_item unit) transaction_count
+      transaction_count (keeps_count unit) unit.items items meant)
       ∙ sym (all_mapped transaction_count (λ n. nat_le n 4096) unit.items)
 
 -- ---- what no breach says
@@ -109,11 +148,13 @@ no_rest : {A : Type 0} (xs ys : List A) → xs ++ ys ≡ [] → ys ≡ []
 no_rest [] ys h = h
 no_rest (x ∷ xs) ys h = absurd (not_empty h)
 
-none_over : {X : Type 0} (n : X → ℕ) (xs : List X) → list_any (λ x. nat_lt 4096 (n x)) xs ≡ false → IsTrue (list_all (λ x. nat_le (n x) 4096) xs)
+none_over : {X : Type 0} (n : X → ℕ) (xs : List X) → list_any (λ x. nat_lt 4096 (n x)) xs ≡ false
+    → IsTrue (list_all (λ x. nat_le (n x) 4096) xs)
 none_over n [] h = refl
 none_over n (x ∷ xs) h = grind (arith, common_steps, none_over n xs)
 
-few_of_kind : (items : List (Item Path)) (k : Kind) → list_any (λ j. nat_lt 4096 (count_of j items)) kinds ≡ false → count_of k items ≤ 4096
+few_of_kind : (items : List (Item Path)) (k : Kind)
+    → list_any (λ j. nat_lt 4096 (count_of j items)) kinds ≡ false → count_of k items ≤ 4096
 few_of_kind items kind.Variable h = grind (arith, common_steps)
 few_of_kind items kind.Command h = grind (arith, common_steps)
 few_of_kind items kind.Menu h = grind (arith, common_steps)
@@ -123,12 +164,16 @@ few_of_kind items kind.Method h = grind (arith, common_steps)
 -- ---- a checked description
 
 module _ (d : Description Target) (checked : IsChecked d) where
-  items_meant : each (resolved_item checked.is_resolved.unit) checked.is_resolved.unit.items ≡ Some d.items
+  items_meant : each (resolved_item checked.is_resolved.unit) checked.is_resolved.unit.items
+      ≡ Some d.items
   unfolding resolved_unit
   items_meant =
       let u = checked.is_resolved.unit in
-      let x = bind_some (each (resolved_item u) u.items) (λ items. Some (record { identification = u.identification; items = items })) d checked.is_resolved.meanings in
-      x.1 ∙ ap Some (at_some (λ e. e.items) [] (record { identification = u.identification; items = x.0 }) d x.2)
+      let x = bind_some (each (resolved_item u) u.items)
+      (λ items. Some (record { identification = u.identification; items = items })) d
+      checked.is_resolved.meanings in
+      x.1 ∙ ap Some (at_some (λ e. e.items) []
+      (record { identification = u.identification; items = x.0 }) d x.2)
 
   none_too_many : too_many checked.is_resolved.unit ≡ []
   none_too_many = no_front (too_many checked.is_resolved.unit) _ checked.is_resolved.no_breach
@@ -136,16 +181,24 @@ module _ (d : Description Target) (checked : IsChecked d) where
   pub few : (k : Kind) → count_of k d.items ≤ 4096
   few k =
       let u = checked.is_resolved.unit in
-      omega (arith, same_count u d.items items_meant k, few_of_kind u.items k (no_refusal _ _ (no_front _ _ none_too_many)))
+      omega (
+        arith,
+        same_count u d.items items_meant k,
+        few_of_kind u.items k (no_refusal _ _ (no_front _ _ none_too_many)),
+      )
 
   pub few_transactions : IsTrue (list_all (λ i. nat_le (transaction_count i) 4096) d.items)
   few_transactions =
       let u = checked.is_resolved.unit in
-      same_transactions u d.items items_meant ∙ none_over transaction_count u.items (no_refusal _ _ (no_front _ _ (no_rest _ _ none_too_many)))
+      same_transactions u d.items items_meant ∙ none_over transaction_count u.items
+      (no_refusal _ _ (no_front _ _ (no_rest _ _ none_too_many)))
 
 -- the facts as they stand in a checked description
-pub few_when_checked : (d : Description Target) → ∥ IsChecked d ∥₁ → (k : Kind) → count_of k d.items ≤ 4096
+pub few_when_checked : (d : Description Target) → ∥ IsChecked d ∥₁ → (k : Kind)
+    → count_of k d.items ≤ 4096
 few_when_checked d checked k = ∥∥₁_elim checked le_prop (λ c. few d c k)
 
-pub few_transactions_when_checked : (d : Description Target) → ∥ IsChecked d ∥₁ → IsTrue (list_all (λ i. nat_le (transaction_count i) 4096) d.items)
-few_transactions_when_checked d checked = ∥∥₁_elim checked (Bool-set _ _) (λ c. few_transactions d c)
+pub few_transactions_when_checked : (d : Description Target) → ∥ IsChecked d ∥₁
+    → IsTrue (list_all (λ i. nat_le (transaction_count i) 4096) d.items)
+few_transactions_when_checked d checked =
+    ∥∥₁_elim checked (Bool-set _ _) (λ c. few_transactions d c)

@@ -44,10 +44,23 @@ abbrev integer : Attribute Target
 integer = TypeOf (Known var_type.Integer None) []
 
 abbrev variable : List ℕ → List (Attribute Target) → item.Item Target
-variable name attributes = record { sort = item.VariableItem; name = name; attributes = integer ∷ attributes }
+variable name attributes = record {
+  sort = item.VariableItem;
+  name = name;
+  attributes = integer
+      ∷ attributes;
+}
 
 abbrev of_items : List (item.Item Target) → Description Target
-of_items items = record { identification = record { manufacturer = 1; device_type = 2; device_revision = 3; dd_revision = 4 }; items = items }
+of_items items = record {
+  identification = record {
+    manufacturer = 1;
+    device_type = 2;
+    device_revision = 3;
+    dd_revision = 4;
+  };
+  items = items;
+}
 
 abbrev at : ItemNo → Attr → AttrRef
 at i a = record { item = i; attr = a; sub = 0 }
@@ -63,7 +76,8 @@ shows n = read.Entry (item_variable n) plain
 
 -- the variables mode, a and b, and a menu n with these entries
 abbrev menu : Conds Target (item.MenuEntry Target) → Description Target
-menu entries = of_items (variable (codes "mode") [] ∷ variable (codes "a") [] ∷ variable (codes "b") [] ∷
+menu entries = of_items (variable (codes "mode") [] ∷ variable (codes "a") []
+    ∷ variable (codes "b") [] ∷
     record { sort = item.MenuItem; name = codes "n"; attributes = Items entries ∷ [] } ∷ [])
 
 abbrev the_items : AttrRef
@@ -72,17 +86,22 @@ the_items = at (item_no.Menu (record { 0 = 0 })) attr.Items
 -- ---- `SELECT (mode) { CASE 1: a, b CASE 2: a }`
 
 abbrev cases : Description Target
-cases = menu (Cons (Select (Reference (var 0)) (ConsArm (Case (pos 1) (entry 1 (entry 2 Nil))) (ConsArm (Case (pos 2) (entry 1 Nil)) NoArms))) Nil)
+cases = menu (Cons (Select (Reference (var 0))
+    (ConsArm (Case (pos 1) (entry 1 (entry 2 Nil))) (ConsArm (Case (pos 2) (entry 1 Nil)) NoArms)))
+    Nil)
 
-select_takes_equal_case : read_attribute cases the_items (pos 1 ∷ pos 0 ∷ pos 0 ∷ []) ≡ Gives (Ok (shows 1 ∷ shows 2 ∷ []))
+select_takes_equal_case : read_attribute cases the_items (pos 1 ∷ pos 0 ∷ pos 0 ∷ [])
+    ≡ Gives (Ok (shows 1 ∷ shows 2 ∷ []))
 unfolding read_attribute chosen value wrap
 select_takes_equal_case = refl
 
-select_without_case_has_no_entries : read_attribute cases the_items (pos 3 ∷ pos 0 ∷ pos 0 ∷ []) ≡ Gives (Ok [])
+select_without_case_has_no_entries : read_attribute cases the_items (pos 3 ∷ pos 0 ∷ pos 0 ∷ [])
+    ≡ Gives (Ok [])
 unfolding read_attribute chosen value wrap
 select_without_case_has_no_entries = refl
 
-menu_validity_is_default : read_attribute cases (at (item_no.Menu (record { 0 = 0 })) attr.Validity) (pos 3 ∷ pos 0 ∷ pos 0 ∷ []) ≡ Gives (Ok (read.Number (pos 1) ∷ []))
+menu_validity_is_default : read_attribute cases (at (item_no.Menu (record { 0 = 0 })) attr.Validity)
+    (pos 3 ∷ pos 0 ∷ pos 0 ∷ []) ≡ Gives (Ok (read.Number (pos 1) ∷ []))
 unfolding read_attribute chosen value wrap
 menu_validity_is_default = refl
 
@@ -90,20 +109,26 @@ menu_validity_is_default = refl
 
 abbrev default_first : Description Target
 default_first = menu (Cons (Select (Reference (var 0))
-    (ConsArm (Default (entry 2 Nil)) (ConsArm (Case (pos 1) (entry 1 Nil)) (ConsArm (Case (pos 1) (entry 2 Nil)) NoArms)))) (entry 1 Nil))
+    (ConsArm (Default (entry 2 Nil))
+    (ConsArm (Case (pos 1) (entry 1 Nil)) (ConsArm (Case (pos 1) (entry 2 Nil)) NoArms))))
+    (entry 1 Nil))
 
-first_equal_case_before_default : read_attribute default_first the_items (pos 1 ∷ pos 0 ∷ pos 0 ∷ []) ≡ Gives (Ok (shows 1 ∷ shows 1 ∷ []))
+first_equal_case_before_default : read_attribute default_first the_items (pos 1 ∷ pos 0 ∷ pos 0
+    ∷ []) ≡ Gives (Ok (shows 1 ∷ shows 1 ∷ []))
 unfolding read_attribute chosen value wrap
 first_equal_case_before_default = refl
 
-default_without_equal_case : read_attribute default_first the_items (pos 2 ∷ pos 0 ∷ pos 0 ∷ []) ≡ Gives (Ok (shows 2 ∷ shows 1 ∷ []))
+default_without_equal_case : read_attribute default_first the_items (pos 2 ∷ pos 0 ∷ pos 0 ∷ [])
+    ≡ Gives (Ok (shows 2 ∷ shows 1 ∷ []))
 unfolding read_attribute chosen value wrap
 default_without_equal_case = refl
 
 -- ---- `VARIABLE v { TYPE INTEGER; VALIDITY IF (condition) { FALSE; } }` with a variable mode
 
 abbrev validity : Expr Target → Description Target
-validity condition = of_items (variable (codes "v") (Validity (If condition (Cons (Value false) Nil) Nil) ∷ []) ∷ variable (codes "mode") [] ∷ [])
+validity condition = of_items
+    (variable (codes "v") (Validity (If condition (Cons (Value false) Nil) Nil) ∷ [])
+    ∷ variable (codes "mode") [] ∷ [])
 
 abbrev the_validity : AttrRef
 the_validity = at (item_variable 0) attr.Validity
@@ -111,20 +136,24 @@ the_validity = at (item_variable 0) attr.Validity
 abbrev mode_is_1 : Expr Target
 mode_is_1 = Compare comparison.Equal (Reference (var 1)) (Literal 1)
 
-false_if_gives_default : read_attribute (validity mode_is_1) the_validity (pos 0 ∷ pos 2 ∷ []) ≡ Gives (Ok (read.Number (pos 1) ∷ []))
+false_if_gives_default : read_attribute (validity mode_is_1) the_validity (pos 0 ∷ pos 2 ∷ [])
+    ≡ Gives (Ok (read.Number (pos 1) ∷ []))
 unfolding read_attribute chosen value wrap compare
 false_if_gives_default = refl
 
-true_if_gives_branch : read_attribute (validity mode_is_1) the_validity (pos 0 ∷ pos 1 ∷ []) ≡ Gives (Ok (read.Number (pos 0) ∷ []))
+true_if_gives_branch : read_attribute (validity mode_is_1) the_validity (pos 0 ∷ pos 1 ∷ [])
+    ≡ Gives (Ok (read.Number (pos 0) ∷ []))
 unfolding read_attribute chosen value wrap compare
 true_if_gives_branch = refl
 
 -- the condition `1 / mode` where mode is 0
-condition_traps : read_attribute (validity (Binary operator.Divide (Literal 1) (Reference (var 1)))) the_validity (pos 0 ∷ pos 0 ∷ []) ≡ Gives (Err trap.DivZero)
+condition_traps : read_attribute (validity (Binary operator.Divide (Literal 1) (Reference (var 1))))
+    the_validity (pos 0 ∷ pos 0 ∷ []) ≡ Gives (Err trap.DivZero)
 unfolding read_attribute chosen value wrap operate
 condition_traps = refl
 
-no_such_item : read_attribute cases (at (item_variable 3) attr.Validity) (pos 1 ∷ pos 0 ∷ pos 0 ∷ []) ≡ NoItem
+no_such_item : read_attribute cases (at (item_variable 3) attr.Validity) (pos 1 ∷ pos 0 ∷ pos 0
+    ∷ []) ≡ NoItem
 unfolding read_attribute
 no_such_item = refl
 
@@ -135,14 +164,17 @@ own_validity = of_items (record {
   sort = item.VariableItem;
   name = codes "u";
   attributes = TypeOf (Known var_type.UnsignedInteger (Some 4)) [] ∷
-      Validity (If (Compare comparison.Greater (Reference (var 0)) (Literal 0)) (Cons (Value true) Nil) (Cons (Value false) Nil)) ∷ [];
+      Validity (If (Compare comparison.Greater (Reference (var 0)) (Literal 0))
+      (Cons (Value true) Nil) (Cons (Value false) Nil)) ∷ [];
 } ∷ [])
 
-attributes_read_64_bits : read_attribute own_validity the_validity (pos 4294967295 ∷ []) ≡ Gives (Ok (read.Number (pos 1) ∷ []))
+attributes_read_64_bits : read_attribute own_validity the_validity (pos 4294967295 ∷ [])
+    ≡ Gives (Ok (read.Number (pos 1) ∷ []))
 unfolding read_attribute chosen value wrap compare
 attributes_read_64_bits = refl
 
-else_gives_its_branch : read_attribute own_validity the_validity (pos 0 ∷ []) ≡ Gives (Ok (read.Number (pos 0) ∷ []))
+else_gives_its_branch : read_attribute own_validity the_validity (pos 0 ∷ [])
+    ≡ Gives (Ok (read.Number (pos 0) ∷ []))
 unfolding read_attribute chosen value wrap compare
 else_gives_its_branch = refl
 
@@ -158,12 +190,16 @@ abbrev data_of : ℕ → item.DataItem Target
 data_of n = Variable (var n) None no_qualifiers
 
 abbrev replies : Description Target
-replies = of_items (variable (codes "response_code") [] ∷ variable (codes "device_status") [] ∷ variable (codes "v") [] ∷ variable (codes "i") [] ∷ record {
-  sort = item.CommandItem;
-  name = codes "c";
-  attributes = item.Number 1 ∷ item.Operation operation.Read ∷ Transaction None (Request Nil ∷ Reply (Cons (Value (data_of 0)) (Cons (Value (data_of 1)) (Cons (Value (Constant 254))
-      (Cons (Value (Variable (var 2) (Some 128) no_qualifiers)) (Cons (Value (Variable (var 3) None indexed)) Nil))))) ∷ []) ∷ [];
-} ∷ [])
+replies = of_items (variable (codes "response_code") [] ∷ variable (codes "device_status") []
+    ∷ variable (codes "v") [] ∷ variable (codes "i") [] ∷ record {
+      sort = item.CommandItem;
+      name = codes "c";
+      attributes = item.Number 1 ∷ item.Operation operation.Read
+          ∷ Transaction None (Request Nil
+          ∷ Reply (Cons (Value (data_of 0)) (Cons (Value (data_of 1)) (Cons (Value (Constant 254))
+          (Cons (Value (Variable (var 2) (Some 128) no_qualifiers))
+          (Cons (Value (Variable (var 3) None indexed)) Nil))))) ∷ []) ∷ [];
+    } ∷ [])
 
 abbrev values : List ℤ
 values = pos 0 ∷ pos 0 ∷ pos 0 ∷ pos 0 ∷ []
@@ -172,7 +208,8 @@ abbrev command : Attr → (sub : ℕ) → AttrRef
 command a sub = record { item = item_no.Command (record { 0 = 0 }); attr = a; sub = sub }
 
 reply_items : read_attribute replies (command attr.Reply 0) values
-    ≡ Gives (Ok (read.DataVar (var_no 0) None no_qualifiers ∷ read.DataVar (var_no 1) None no_qualifiers ∷ read.DataConst 254 ∷
+    ≡ Gives (Ok (read.DataVar (var_no 0) None no_qualifiers ∷ read.DataVar (var_no 1) None
+    no_qualifiers ∷ read.DataConst 254 ∷
     read.DataVar (var_no 2) (Some 128) no_qualifiers ∷ read.DataVar (var_no 3) None indexed ∷ []))
 unfolding read_attribute chosen value
 reply_items = refl
@@ -181,11 +218,13 @@ empty_request : read_attribute replies (command attr.Request 0) values ≡ Gives
 unfolding read_attribute chosen value
 empty_request = refl
 
-command_number : read_attribute replies (command attr.Number 0) values ≡ Gives (Ok (read.Number (pos 1) ∷ []))
+command_number : read_attribute replies (command attr.Number 0) values
+    ≡ Gives (Ok (read.Number (pos 1) ∷ []))
 unfolding read_attribute
 command_number = refl
 
-operation_read : read_attribute replies (command attr.Operation 0) values ≡ Gives (Ok (read.Number (pos 1) ∷ []))
+operation_read : read_attribute replies (command attr.Operation 0) values
+    ≡ Gives (Ok (read.Number (pos 1) ∷ []))
 unfolding read_attribute
 operation_read = refl
 
@@ -202,25 +241,32 @@ abbrev transactions : Description Target
 transactions = of_items (variable (codes "x") [] ∷ record {
   sort = item.CommandItem;
   name = codes "c";
-  attributes = Transaction (Some 5) (Request (Cons (Value (Constant 1)) Nil) ∷ Reply (Cons (Value (Constant 2)) Nil) ∷ []) ∷
+  attributes = Transaction (Some 5) (Request (Cons (Value (Constant 1)) Nil)
+      ∷ Reply (Cons (Value (Constant 2)) Nil) ∷ []) ∷
       Transaction None (Reply (Cons (Value (data_of 0)) Nil) ∷ []) ∷
-      item.ResponseCodes (record { number = 0; class = class.Success; text = Quoted (codes "ok") } ∷ record { number = 8; class = class.MiscWarning; text = Quoted (codes "late") } ∷ []) ∷ [];
+      item.ResponseCodes (record { number = 0; class = class.Success; text = Quoted (codes "ok") }
+      ∷ record { number = 8; class = class.MiscWarning; text = Quoted (codes "late") } ∷ [])
+      ∷ [];
 } ∷ [])
 
-first_transaction_number : read_attribute transactions (command attr.Transaction 0) (pos 0 ∷ []) ≡ Gives (Ok (read.Number (pos 5) ∷ []))
+first_transaction_number : read_attribute transactions (command attr.Transaction 0) (pos 0 ∷ [])
+    ≡ Gives (Ok (read.Number (pos 5) ∷ []))
 unfolding read_attribute
 first_transaction_number = refl
 
-second_transaction_has_no_number : read_attribute transactions (command attr.Transaction 1) (pos 0 ∷ []) ≡ Gives (Ok [])
+second_transaction_has_no_number : read_attribute transactions (command attr.Transaction 1)
+    (pos 0 ∷ []) ≡ Gives (Ok [])
 unfolding read_attribute
 second_transaction_has_no_number = refl
 
-missing_request_is_empty : read_attribute transactions (command attr.Request 1) (pos 0 ∷ []) ≡ Gives (Ok [])
+missing_request_is_empty : read_attribute transactions (command attr.Request 1) (pos 0 ∷ [])
+    ≡ Gives (Ok [])
 unfolding read_attribute chosen
 missing_request_is_empty = refl
 
 response_codes : read_attribute transactions (command attr.ResponseCodes 0) (pos 0 ∷ [])
-    ≡ Gives (Ok (read.Response 0 class.Success (says (codes "ok")) ∷ read.Response 8 class.MiscWarning (says (codes "late")) ∷ []))
+    ≡ Gives (Ok (read.Response 0 class.Success (says (codes "ok"))
+    ∷ read.Response 8 class.MiscWarning (says (codes "late")) ∷ []))
 unfolding read_attribute words_of pieces unescape
 response_codes = refl
 
@@ -230,21 +276,26 @@ abbrev enumerated : Description Target
 enumerated = of_items (record {
   sort = item.VariableItem;
   name = codes "s";
-  attributes = OneText text_attribute.Label (Value (Quoted (codes "|en|A|de|B"))) ∷ item.OneText text_attribute.Help (Value (Quoted (codes "|en|A|de|C"))) ∷
+  attributes = OneText text_attribute.Label (Value (Quoted (codes "|en|A|de|B")))
+      ∷ item.OneText text_attribute.Help (Value (Quoted (codes "|en|A|de|C"))) ∷
       TypeOf (Known var_type.Enumerated None)
       (item.Element (Value (record { value = pos 0; text = Quoted (codes "Off"); help = None })) ∷
-      item.Element (Value (record { value = pos 1; text = texts.Key (codes "on"); help = None })) ∷ []) ∷ [];
+      item.Element (Value (record { value = pos 1; text = texts.Key (codes "on"); help = None }))
+      ∷ []) ∷ [];
 } ∷ [])
 
 -- the labels differ from the helps in German alone, and stay two strings
 abbrev two : List ℕ → List ℕ → Words
-two en de = Variants (record { code = codes "en"; text = en }) (record { code = codes "de"; text = de } ∷ [])
+two en de = Variants (record { code = codes "en"; text = en })
+    (record { code = codes "de"; text = de } ∷ [])
 
-label_of_two_languages : read_attribute enumerated (at (item_variable 0) attr.Label) (pos 0 ∷ []) ≡ Gives (Ok (read.Words (two (codes "A") (codes "B")) ∷ []))
+label_of_two_languages : read_attribute enumerated (at (item_variable 0) attr.Label) (pos 0 ∷ [])
+    ≡ Gives (Ok (read.Words (two (codes "A") (codes "B")) ∷ []))
 unfolding read_attribute chosen words_of pieces unescape
 label_of_two_languages = refl
 
-help_of_two_languages : read_attribute enumerated (at (item_variable 0) attr.Help) (pos 0 ∷ []) ≡ Gives (Ok (read.Words (two (codes "A") (codes "C")) ∷ []))
+help_of_two_languages : read_attribute enumerated (at (item_variable 0) attr.Help) (pos 0 ∷ [])
+    ≡ Gives (Ok (read.Words (two (codes "A") (codes "C")) ∷ []))
 unfolding read_attribute chosen words_of pieces unescape
 help_of_two_languages = refl
 
@@ -253,11 +304,13 @@ unfolding text_for
 label_in_german = refl
 
 enumerators : read_attribute enumerated (at (item_variable 0) attr.Enumerators) (pos 0 ∷ [])
-    ≡ Gives (Ok (read.Enumerator (pos 0) (says (codes "Off")) None ∷ read.Enumerator (pos 1) (words.Key (codes "on")) None ∷ []))
+    ≡ Gives (Ok (read.Enumerator (pos 0) (says (codes "Off")) None
+    ∷ read.Enumerator (pos 1) (words.Key (codes "on")) None ∷ []))
 unfolding read_attribute chosen words_of pieces unescape
 enumerators = refl
 
-handling_is_default : read_attribute enumerated (at (item_variable 0) attr.Handling) (pos 0 ∷ []) ≡ Gives (Ok (read.Number (pos 3) ∷ []))
+handling_is_default : read_attribute enumerated (at (item_variable 0) attr.Handling) (pos 0 ∷ [])
+    ≡ Gives (Ok (read.Number (pos 3) ∷ []))
 unfolding read_attribute chosen
 handling_is_default = refl
 
@@ -267,10 +320,14 @@ abbrev collection : Description Target
 collection = of_items (variable (codes "x") [] ∷ record {
   sort = item.CollectionItem kind.Variable;
   name = codes "c";
-  attributes = item.Members (record { name = codes "m"; item = var 0; label = Some (Quoted (codes "L")); help = None } ∷ []) ∷ [];
+  attributes = item.Members
+      (record { name = codes "m"; item = var 0; label = Some (Quoted (codes "L")); help = None }
+      ∷ []) ∷ [];
 } ∷ [])
 
-members : read_attribute collection (at (item_no.Collection (record { 0 = 0 })) attr.Members) (pos 0 ∷ [])
-    ≡ Gives (Ok (read.Member (says (codes "m")) (item_variable 0) (Some (says (codes "L"))) None ∷ []))
+members : read_attribute collection (at (item_no.Collection (record { 0 = 0 })) attr.Members)
+    (pos 0 ∷ [])
+    ≡ Gives (Ok (read.Member (says (codes "m")) (item_variable 0) (Some (says (codes "L"))) None
+    ∷ []))
 unfolding read_attribute words_of pieces unescape
 members = refl

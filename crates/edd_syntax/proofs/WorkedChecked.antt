@@ -1,4 +1,5 @@
--- A worked description that is resolved and checked: `c.m = 300;` in a method, where c is a collection whose member m is x.
+-- A worked description that is resolved and checked: `c.m = 300;` in a method, where c is a
+-- collection whose member m is x.
 use Rattle.std.proofs.Common.{refl, []}
 use Rattle.std.specs.Prelude.{codes}
 use Rattle.edd_syntax.specs.Reference.{Path}
@@ -18,12 +19,19 @@ written = source (named (codes "x")) (sets (dotted (codes "c") (codes "m")) 300 
 
 member_assignment_is_resolved : IsResolved (source the_x (sets the_x 300 ∷ []))
 unfolding are_items resolved_unit resolved_stmt resolved_expr slots_of
-member_assignment_is_resolved = record { unit = written; well_formed = refl; meanings = refl; no_breach = refl }
+member_assignment_is_resolved = record {
+  unit = written;
+  well_formed = refl;
+  meanings = refl;
+  no_breach = refl;
+}
 
 member_assignment_is_checked : IsChecked (source the_x (sets the_x 300 ∷ []))
 unfolding wrap
-member_assignment_is_checked = record { is_resolved = member_assignment_is_resolved; no_breach = refl }
+member_assignment_is_checked =
+    record { is_resolved = member_assignment_is_resolved; no_breach = refl }
 
 member_assignment_is_accepted : IsAccepted written
 unfolding resolved_unit resolved_stmt resolved_expr slots_of wrap words_of pieces unescape
-member_assignment_is_accepted = record { resolved = source the_x (sets the_x 300 ∷ []); meanings = refl; no_breach = refl }
+member_assignment_is_accepted =
+    record { resolved = source the_x (sets the_x 300 ∷ []); meanings = refl; no_breach = refl }

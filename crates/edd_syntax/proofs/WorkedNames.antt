@@ -22,7 +22,15 @@ use Rattle.edd_syntax.specs.NameRules.{wrong_uses}
 -- ---- how the sources are written here
 
 abbrev of_items : {R : Type 0} → List (item.Item R) → Description R
-of_items items = record { identification = record { manufacturer = 1; device_type = 2; device_revision = 3; dd_revision = 4 }; items = items }
+of_items items = record {
+  identification = record {
+    manufacturer = 1;
+    device_type = 2;
+    device_revision = 3;
+    dd_revision = 4;
+  };
+  items = items;
+}
 
 abbrev pub named : Name → Path
 named n = record { base = n; members = [] }
@@ -31,14 +39,27 @@ abbrev pub dotted : Name → Name → Path
 dotted c m = record { base = c; members = m ∷ [] }
 
 abbrev variable : {R : Type 0} → Name → item.Item R
-variable name = record { sort = item.VariableItem; name = name; attributes = TypeOf (Known var_type.UnsignedInteger (Some 1)) [] ∷ [] }
+variable name = record {
+  sort = item.VariableItem;
+  name = name;
+  attributes = TypeOf (Known var_type.UnsignedInteger (Some 1)) [] ∷ [];
+}
 
 -- a collection with one member, which names an item
 abbrev collection : {R : Type 0} → Kind → Name → (member : Name) → R → item.Item R
-collection of name m x = record { sort = item.CollectionItem of; name = name; attributes = Members (record { name = m; item = x; label = None; help = None } ∷ []) ∷ [] }
+collection of name m x =
+    record {
+      sort = item.CollectionItem of;
+      name = name;
+      attributes = Members (record { name = m; item = x; label = None; help = None } ∷ []) ∷ [];
+    }
 
 abbrev method : {R : Type 0} → Name → List (Part R) → item.Item R
-method name body = record { sort = item.MethodItem; name = name; attributes = Definition (body_from body) ∷ [] }
+method name body = record {
+  sort = item.MethodItem;
+  name = name;
+  attributes = Definition (body_from body) ∷ [];
+}
 
 abbrev pub sets : {R : Type 0} → R → ℕ → Part R
 sets to n = Statement (Evaluate (Assign to (Literal n)))
@@ -51,36 +72,56 @@ the_x = Item (item_no.Variable (record { 0 = 0 }))
 
 -- one variable x, a collection c with the member m for x, and a method
 abbrev pub source : {R : Type 0} → R → List (Part R) → Description R
-source x body = of_items (variable (codes "x") ∷ collection kind.Variable (codes "c") (codes "m") x ∷ method (codes "m") body ∷ [])
+source x body = of_items (variable (codes "x") ∷ collection kind.Variable (codes "c") (codes "m") x
+    ∷ method (codes "m") body ∷ [])
 
 -- ---- meanings
 
 -- `c.m = 300;` is an assignment to x
-member_is_its_item : resolved_unit (source (named (codes "x")) (sets (dotted (codes "c") (codes "m")) 300 ∷ [])) ≡ Some (source the_x (sets the_x 300 ∷ []))
+member_is_its_item : resolved_unit
+    (source (named (codes "x")) (sets (dotted (codes "c") (codes "m")) 300 ∷ []))
+    ≡ Some (source the_x (sets the_x 300 ∷ []))
 unfolding resolved_unit resolved_stmt resolved_expr
 member_is_its_item = refl
 
 -- which keeps the low 8 bits of 300
 store_keeps_low_bits : run 1 (source the_x (sets the_x 300 ∷ [])) (record { 0 = 0 }) (pos 0 ∷ []) []
-    ≡ record { requests = []; changes = record { variable = record { 0 = 0 }; value = pos 44 } ∷ []; values = pos 44 ∷ []; answers = []; ending = Ended }
+    ≡ record {
+      requests = [];
+      changes = record { variable = record { 0 = 0 }; value = pos 44 } ∷ [];
+      values = pos 44 ∷ [];
+      answers = [];
+      ending = Ended;
+    }
 unfolding run run_body execute evaluate wrap store slots_of
 store_keeps_low_bits = refl
 
 -- `{ int x; x = 1; } x = 2;`: the local hides the variable inside its block alone
-local_hides_item_in_its_block : resolved_unit (source (named (codes "x")) (Statement (Block (body_from (declares (named (codes "x")) ∷ sets (named (codes "x")) 1 ∷ []))) ∷ sets (named (codes "x")) 2 ∷ []))
-    ≡ Some (source the_x (Statement (Block (body_from (declares (Local 0) ∷ sets (Local 0) 1 ∷ []))) ∷ sets the_x 2 ∷ []))
+local_hides_item_in_its_block : resolved_unit
+    (source (named (codes "x"))
+    (Statement (Block (body_from (declares (named (codes "x")) ∷ sets (named (codes "x")) 1 ∷ [])))
+    ∷ sets (named (codes "x")) 2 ∷ []))
+    ≡ Some (source the_x (Statement (Block (body_from (declares (Local 0) ∷ sets (Local 0) 1 ∷ [])))
+    ∷ sets the_x 2 ∷ []))
 unfolding resolved_unit resolved_stmt resolved_expr slots_of
 local_hides_item_in_its_block = refl
 
 -- `int x = x;`: the scope of a local begins after its own declarator
-scope_begins_after_declarator : resolved_unit (source (named (codes "x")) (Declare (record { place = named (codes "x"); value = Some (Reference (named (codes "x"))) } ∷ []) ∷ []))
-    ≡ Some (source the_x (Declare (record { place = Local 0; value = Some (Reference the_x) } ∷ []) ∷ []))
+scope_begins_after_declarator : resolved_unit
+    (source (named (codes "x"))
+    (Declare (record { place = named (codes "x"); value = Some (Reference (named (codes "x"))) }
+    ∷ []) ∷ []))
+    ≡ Some (source the_x (Declare (record { place = Local 0; value = Some (Reference the_x) } ∷ [])
+    ∷ []))
 unfolding resolved_unit resolved_stmt resolved_expr
 scope_begins_after_declarator = refl
 
 -- `{ int a; } int b; b = 1;`: a slot isn't used again
-slots_are_not_reused : resolved_unit (source (named (codes "x")) (Statement (Block (body_from (declares (named (codes "a")) ∷ []))) ∷ declares (named (codes "b")) ∷ sets (named (codes "b")) 1 ∷ []))
-    ≡ Some (source the_x (Statement (Block (body_from (declares (Local 0) ∷ []))) ∷ declares (Local 1) ∷ sets (Local 1) 1 ∷ []))
+slots_are_not_reused : resolved_unit
+    (source (named (codes "x")) (Statement (Block (body_from (declares (named (codes "a")) ∷ [])))
+    ∷ declares (named (codes "b")) ∷ sets (named (codes "b")) 1 ∷ []))
+    ≡ Some (source the_x (Statement (Block (body_from (declares (Local 0) ∷ [])))
+    ∷ declares (Local 1) ∷ sets (Local 1) 1 ∷ []))
 unfolding resolved_unit resolved_stmt resolved_expr slots_of
 slots_are_not_reused = refl
 
@@ -90,30 +131,39 @@ abbrev fault : Description Path → Option Refusal
 fault unit = first_of (wrong_uses unit)
 
 -- `y = 1;`, `c.k = 1;`, `x.m = 1;` and `c = 1;`
-unknown_name : fault (source (named (codes "x")) (sets (named (codes "y")) 1 ∷ [])) ≡ Some (UnknownName (codes "y"))
+unknown_name : fault (source (named (codes "x")) (sets (named (codes "y")) 1 ∷ []))
+    ≡ Some (UnknownName (codes "y"))
 unknown_name = refl
 
-unknown_member : fault (source (named (codes "x")) (sets (dotted (codes "c") (codes "k")) 1 ∷ [])) ≡ Some (UnknownName (codes "k"))
+unknown_member : fault (source (named (codes "x")) (sets (dotted (codes "c") (codes "k")) 1 ∷ []))
+    ≡ Some (UnknownName (codes "k"))
 unknown_member = refl
 
-no_collection : fault (source (named (codes "x")) (sets (dotted (codes "x") (codes "m")) 1 ∷ [])) ≡ Some (WrongKind (codes "x"))
+no_collection : fault (source (named (codes "x")) (sets (dotted (codes "x") (codes "m")) 1 ∷ []))
+    ≡ Some (WrongKind (codes "x"))
 no_collection = refl
 
-no_variable : fault (source (named (codes "x")) (sets (named (codes "c")) 1 ∷ [])) ≡ Some (WrongKind (codes "c"))
+no_variable : fault (source (named (codes "x")) (sets (named (codes "c")) 1 ∷ []))
+    ≡ Some (WrongKind (codes "c"))
 no_variable = refl
 
 -- `int c; c.m = 1;`: a local has no members
-local_has_no_members : fault (source (named (codes "x")) (declares (named (codes "c")) ∷ sets (dotted (codes "c") (codes "m")) 1 ∷ [])) ≡ Some (WrongKind (codes "c"))
+local_has_no_members : fault
+    (source (named (codes "x")) (declares (named (codes "c"))
+    ∷ sets (dotted (codes "c") (codes "m")) 1 ∷ [])) ≡ Some (WrongKind (codes "c"))
 local_has_no_members = refl
 
--- A method with `c.q = 1; zz = 2;` stands before a collection c of variables whose member q names an item. What q names is judged
--- at the member, and the use of it by the kind after OF.
+-- A method with `c.q = 1; zz = 2;` stands before a collection c of variables whose member q names
+-- an item. What q names is judged at the member, and the use of it by the kind after OF.
 abbrev before_collection : Path → Description Path
-before_collection q = of_items (method (codes "m") (sets (dotted (codes "c") (codes "q")) 1 ∷ sets (named (codes "zz")) 2 ∷ []) ∷
+before_collection q = of_items
+    (method (codes "m") (sets (dotted (codes "c") (codes "q")) 1 ∷ sets (named (codes "zz")) 2 ∷ [])
+    ∷
     collection kind.Variable (codes "c") (codes "q") q ∷
     record { sort = item.MenuItem; name = codes "n"; attributes = item.Items cond.Nil ∷ [] } ∷ [])
 
-member_of_unknown_item_is_no_fault_of_its_use : fault (before_collection (named (codes "gone"))) ≡ Some (UnknownName (codes "zz"))
+member_of_unknown_item_is_no_fault_of_its_use : fault (before_collection (named (codes "gone")))
+    ≡ Some (UnknownName (codes "zz"))
 member_of_unknown_item_is_no_fault_of_its_use = refl
 
 -- without `zz = 2;` the fault is the member's own
@@ -122,8 +172,10 @@ only_member q = of_items (method (codes "m") (sets (dotted (codes "c") (codes "q
     collection kind.Variable (codes "c") (codes "q") q ∷
     record { sort = item.MenuItem; name = codes "n"; attributes = item.Items cond.Nil ∷ [] } ∷ [])
 
-unknown_item_of_member : fault (only_member (named (codes "gone"))) ≡ Some (UnknownName (codes "gone"))
+unknown_item_of_member : fault (only_member (named (codes "gone")))
+    ≡ Some (UnknownName (codes "gone"))
 unknown_item_of_member = refl
 
-item_of_member_of_wrong_kind : fault (only_member (named (codes "n"))) ≡ Some (WrongKind (codes "n"))
+item_of_member_of_wrong_kind : fault (only_member (named (codes "n")))
+    ≡ Some (WrongKind (codes "n"))
 item_of_member_of_wrong_kind = refl

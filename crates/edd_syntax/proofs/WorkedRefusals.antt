@@ -31,7 +31,15 @@ abbrev Source : Type 0
 Source = Description Path
 
 abbrev of_items : List (item.Item Path) → Source
-of_items items = record { identification = record { manufacturer = 1; device_type = 2; device_revision = 3; dd_revision = 4 }; items = items }
+of_items items = record {
+  identification = record {
+    manufacturer = 1;
+    device_type = 2;
+    device_revision = 3;
+    dd_revision = 4;
+  };
+  items = items;
+}
 
 abbrev named : Name → Path
 named n = record { base = n; members = [] }
@@ -46,7 +54,11 @@ abbrev x : item.Item Path
 x = variable (codes "x") (integer ∷ [])
 
 abbrev method : List (Part Path) → item.Item Path
-method body = record { sort = item.MethodItem; name = codes "m"; attributes = Definition (body_from body) ∷ [] }
+method body = record {
+  sort = item.MethodItem;
+  name = codes "m";
+  attributes = Definition (body_from body) ∷ [];
+}
 
 -- a method beside the INTEGER variable x
 abbrev with_method : List (Part Path) → Source
@@ -68,13 +80,21 @@ abbrev label : Name → Attribute Path
 label text = OneText text_attribute.Label (Value (Quoted text))
 
 abbrev command : List (item.TransactionPart Path) → item.Item Path
-command parts = record { sort = item.CommandItem; name = codes "c"; attributes = item.Number 1 ∷ item.Operation operation.Read ∷ item.Transaction None parts ∷ [] }
+command parts = record {
+  sort = item.CommandItem;
+  name = codes "c";
+  attributes = item.Number 1
+      ∷ item.Operation operation.Read ∷ item.Transaction None parts ∷ [];
+}
 
 abbrev menu : Path → item.Item Path
 menu to = record {
   sort = item.MenuItem;
   name = codes "n";
-  attributes = item.Items (cond.Cons (Value (item.Reference to (record { display_value = false; read_only = false; hidden = false; review = false }))) cond.Nil) ∷ [];
+  attributes = item.Items (cond.Cons
+      (Value (item.Reference to
+      (record { display_value = false; read_only = false; hidden = false; review = false })))
+      cond.Nil) ∷ [];
 }
 
 abbrev no_qualifiers : DataQualifiers
@@ -90,13 +110,18 @@ unfolding resolved_unit resolved_stmt resolved_expr slots_of wrap
 nothing_is_broken = refl
 
 -- what there is too much of is refused before all else
-too_many_first : (unit : Source) (why : Refusal) → too_many unit ≡ why ∷ [] → refusal unit ≡ Some why
+too_many_first : (unit : Source) (why : Refusal) → too_many unit ≡ why ∷ []
+    → refusal unit ≡ Some why
 too_many_first unit why is =
-    ap (λ found. first_of ((found ++ (duplicate_names unit ++ (duplicate_attributes unit ++ (missing_attributes unit ++ wrong_uses unit)))) ++ profile_breaches (resolved_unit unit))) is
+    ap (λ found. first_of ((found
+    ++ (duplicate_names unit
+    ++ (duplicate_attributes unit ++ (missing_attributes unit ++ wrong_uses unit))))
+    ++ profile_breaches (resolved_unit unit))) is
 
 -- 65 declarators in one method
 abbrev many_locals : Source
-many_locals = of_items (method (Declare (replicate 65 (record { place = named (codes "i"); value = None })) ∷ []) ∷ [])
+many_locals = of_items (method
+    (Declare (replicate 65 (record { place = named (codes "i"); value = None })) ∷ []) ∷ [])
 
 too_many_locals : refusal many_locals ≡ Some (TooMany limit.Locals)
 unfolding slots_of
@@ -110,12 +135,15 @@ too_many_items : refusal many_items ≡ Some (TooMany limit.Items)
 unfolding slots_of
 too_many_items = too_many_first many_items (TooMany limit.Items) refl
 
-two_variables_p : refusal (of_items (variable (codes "p") (integer ∷ []) ∷ variable (codes "p") (integer ∷ []) ∷ [])) ≡ Some (DuplicateName (codes "p"))
+two_variables_p : refusal
+    (of_items (variable (codes "p") (integer ∷ []) ∷ variable (codes "p") (integer ∷ []) ∷ []))
+    ≡ Some (DuplicateName (codes "p"))
 unfolding resolved_unit resolved_stmt resolved_expr
 two_variables_p = refl
 
 -- `int i, i;`
-two_locals_i : refusal (with_method (declares (codes "i") ∷ declares (codes "i") ∷ [])) ≡ Some (DuplicateName (codes "i"))
+two_locals_i : refusal (with_method (declares (codes "i") ∷ declares (codes "i") ∷ []))
+    ≡ Some (DuplicateName (codes "i"))
 unfolding resolved_unit resolved_stmt resolved_expr slots_of
 two_locals_i = refl
 
@@ -123,58 +151,83 @@ two_locals_i = refl
 abbrev member_m : item.Member Path
 member_m = record { name = codes "m"; item = named (codes "x"); label = None; help = None }
 
-two_members_m : refusal (of_items (x ∷ record { sort = item.CollectionItem kind.Variable; name = codes "c"; attributes = Members (member_m ∷ member_m ∷ []) ∷ [] } ∷ [])) ≡ Some (DuplicateName (codes "m"))
+two_members_m : refusal (of_items
+    (x ∷ record {
+      sort = item.CollectionItem kind.Variable;
+      name = codes "c";
+      attributes = Members (member_m ∷ member_m ∷ []) ∷ [];
+    } ∷ [])) ≡ Some (DuplicateName (codes "m"))
 unfolding resolved_unit resolved_stmt resolved_expr words_of pieces unescape
 two_members_m = refl
 
-two_labels : refusal (of_items (variable (codes "p") (integer ∷ label (codes "a") ∷ label (codes "b") ∷ []) ∷ [])) ≡ Some (DuplicateAttribute (codes "LABEL"))
+two_labels : refusal (of_items
+    (variable (codes "p") (integer ∷ label (codes "a") ∷ label (codes "b") ∷ []) ∷ []))
+    ≡ Some (DuplicateAttribute (codes "LABEL"))
 unfolding resolved_unit resolved_cond resolved_expr words_of pieces unescape
 two_labels = refl
 
-no_type : refusal (of_items (variable (codes "p") (label (codes "x") ∷ []) ∷ [])) ≡ Some (MissingAttribute (codes "p") (codes "TYPE"))
+no_type : refusal (of_items (variable (codes "p") (label (codes "x") ∷ []) ∷ []))
+    ≡ Some (MissingAttribute (codes "p") (codes "TYPE"))
 unfolding resolved_unit resolved_cond resolved_expr words_of pieces unescape
 no_type = refl
 
 -- `MENU n { ITEMS { z } }`
-nothing_named_z : refusal (of_items (menu (named (codes "z")) ∷ [])) ≡ Some (UnknownName (codes "z"))
+nothing_named_z : refusal (of_items (menu (named (codes "z")) ∷ []))
+    ≡ Some (UnknownName (codes "z"))
 unfolding resolved_unit resolved_cond resolved_expr
 nothing_named_z = refl
 
 -- a MENU n, and a REQUEST `{ n }`
-menu_as_data_item : refusal (of_items (x ∷ menu (named (codes "x")) ∷ command (item.Request (cond.Cons (Value (item.Variable (named (codes "n")) None no_qualifiers)) cond.Nil) ∷ []) ∷ []))
+menu_as_data_item : refusal
+    (of_items (x ∷ menu (named (codes "x"))
+    ∷ command (item.Request (cond.Cons
+    (Value (item.Variable (named (codes "n")) None no_qualifiers)) cond.Nil) ∷ []) ∷ []))
     ≡ Some (WrongKind (codes "n"))
 unfolding resolved_unit resolved_cond resolved_expr
 menu_as_data_item = refl
 
-float_variable : refusal (of_items (variable (codes "f") (TypeOf (Other (codes "FLOAT")) [] ∷ []) ∷ [])) ≡ Some (FloatVariable (codes "f"))
+float_variable : refusal (of_items (variable (codes "f") (TypeOf (Other (codes "FLOAT")) [] ∷ [])
+    ∷ [])) ≡ Some (FloatVariable (codes "f"))
 unfolding resolved_unit
 float_variable = refl
 
-date_variable : refusal (of_items (variable (codes "v") (TypeOf (Other (codes "DATE")) [] ∷ []) ∷ [])) ≡ Some (OtherType (codes "v") (codes "DATE"))
+date_variable : refusal (of_items (variable (codes "v") (TypeOf (Other (codes "DATE")) [] ∷ [])
+    ∷ [])) ≡ Some (OtherType (codes "v") (codes "DATE"))
 unfolding resolved_unit
 date_variable = refl
 
-five_octets : refusal (of_items (variable (codes "p") (TypeOf (Known var_type.Integer (Some 5)) [] ∷ []) ∷ [])) ≡ Some (BadSize (codes "p"))
+five_octets : refusal (of_items
+    (variable (codes "p") (TypeOf (Known var_type.Integer (Some 5)) [] ∷ []) ∷ []))
+    ≡ Some (BadSize (codes "p"))
 unfolding resolved_unit
 five_octets = refl
 
 -- `PUT_MESSAGE(1);`
-number_for_text : refusal (with_method (evaluates (calls (codes "PUT_MESSAGE") (expr.Value (Literal 1) ∷ [])) ∷ [])) ≡ Some Mismatch
+number_for_text : refusal
+    (with_method (evaluates (calls (codes "PUT_MESSAGE") (expr.Value (Literal 1) ∷ [])) ∷ []))
+    ≡ Some Mismatch
 unfolding resolved_unit resolved_stmt resolved_expr slots_of
 number_for_text = refl
 
 -- `int i; ivar_value(i);`: a local is no device variable
-local_for_variable : refusal (with_method (declares (codes "i") ∷ evaluates (calls (codes "ivar_value") (expr.Value (Reference (named (codes "i"))) ∷ [])) ∷ [])) ≡ Some Mismatch
+local_for_variable : refusal
+    (with_method (declares (codes "i")
+    ∷ evaluates (calls (codes "ivar_value") (expr.Value (Reference (named (codes "i"))) ∷ []))
+    ∷ [])) ≡ Some Mismatch
 unfolding resolved_unit resolved_stmt resolved_expr slots_of
 local_for_variable = refl
 
 -- `(abort());`
-abort_inside_expression : refusal (with_method (evaluates (Parentheses (calls (codes "abort") [])) ∷ [])) ≡ Some Mismatch
+abort_inside_expression : refusal
+    (with_method (evaluates (Parentheses (calls (codes "abort") [])) ∷ [])) ≡ Some Mismatch
 unfolding resolved_unit resolved_stmt resolved_expr slots_of
 abort_inside_expression = refl
 
 -- `VALIDITY IF (0.5) { FALSE; }`
-decimal_condition : refusal (of_items (variable (codes "v") (integer ∷ Validity (If Decimal (cond.Cons (Value false) cond.Nil) cond.Nil) ∷ []) ∷ [])) ≡ Some FloatValue
+decimal_condition : refusal
+    (of_items (variable (codes "v")
+    (integer ∷ Validity (If Decimal (cond.Cons (Value false) cond.Nil) cond.Nil) ∷ []) ∷ []))
+    ≡ Some FloatValue
 unfolding resolved_unit resolved_cond resolved_expr
 decimal_condition = refl
 
@@ -188,36 +241,52 @@ unfolding resolved_unit resolved_cond resolved_expr
 constant_256 = refl
 
 -- `REPLY { x <0> }`
-mask_0 : refusal (of_items (x ∷ command (reply (item.Variable (named (codes "x")) (Some 0) no_qualifiers) ∷ []) ∷ [])) ≡ Some ConstRange
+mask_0 : refusal (of_items
+    (x ∷ command (reply (item.Variable (named (codes "x")) (Some 0) no_qualifiers) ∷ []) ∷ []))
+    ≡ Some ConstRange
 unfolding resolved_unit resolved_cond resolved_expr
 mask_0 = refl
 
 -- `switch (1) { case -1: case 4294967295: }`
-labels_equal_as_32_bits : refusal (with_method (Statement (s.Switch (Literal 1) (body_from (CaseLabel (negsuc 0) ∷ CaseLabel (pos 4294967295) ∷ []))) ∷ [])) ≡ Some DuplicateCase
+labels_equal_as_32_bits : refusal
+    (with_method (Statement (s.Switch (Literal 1)
+    (body_from (CaseLabel (negsuc 0) ∷ CaseLabel (pos 4294967295) ∷ []))) ∷ []))
+    ≡ Some DuplicateCase
 unfolding resolved_unit resolved_stmt resolved_expr slots_of wrap
 labels_equal_as_32_bits = refl
 
 -- `SELECT (x) { CASE 1: "a"; CASE 1: "b"; }` has equal labels, which is allowed
-equal_labels_of_select : refusal (of_items (variable (codes "x") (integer ∷ OneText text_attribute.Label (Select (Reference (named (codes "x")))
-    (ConsArm (Case (pos 1) (cond.Cons (Value (Quoted (codes "a"))) cond.Nil)) (ConsArm (Case (pos 1) (cond.Cons (Value (Quoted (codes "b"))) cond.Nil)) NoArms))) ∷ []) ∷ [])) ≡ None
+equal_labels_of_select : refusal
+    (of_items (variable (codes "x")
+    (integer ∷ OneText text_attribute.Label (Select (Reference (named (codes "x")))
+    (ConsArm (Case (pos 1) (cond.Cons (Value (Quoted (codes "a"))) cond.Nil))
+    (ConsArm (Case (pos 1) (cond.Cons (Value (Quoted (codes "b"))) cond.Nil)) NoArms))) ∷ [])
+    ∷ [])) ≡ None
 unfolding resolved_unit resolved_cond resolved_expr words_of pieces unescape
 equal_labels_of_select = refl
 
 -- ---- an earlier rule wins over an earlier place
 
 -- a method that uses an unknown name stands before two variables p
-duplicate_before_unknown : refusal (of_items (method (sets (codes "gone") (Literal 1) ∷ []) ∷ variable (codes "p") (integer ∷ []) ∷ variable (codes "p") (integer ∷ []) ∷ []))
+duplicate_before_unknown : refusal
+    (of_items (method (sets (codes "gone") (Literal 1) ∷ []) ∷ variable (codes "p") (integer ∷ [])
+    ∷ variable (codes "p") (integer ∷ []) ∷ []))
     ≡ Some (DuplicateName (codes "p"))
 unfolding resolved_unit resolved_stmt resolved_expr slots_of
 duplicate_before_unknown = refl
 
 -- `break; PUT_MESSAGE(1);`
-mismatch_before_break : refusal (with_method (Statement s.Break ∷ evaluates (calls (codes "PUT_MESSAGE") (expr.Value (Literal 1) ∷ [])) ∷ [])) ≡ Some Mismatch
+mismatch_before_break : refusal
+    (with_method (Statement s.Break
+    ∷ evaluates (calls (codes "PUT_MESSAGE") (expr.Value (Literal 1) ∷ [])) ∷ [])) ≡ Some Mismatch
 unfolding resolved_unit resolved_stmt resolved_expr slots_of
 mismatch_before_break = refl
 
 -- a FLOAT variable twice
-duplicate_before_float : refusal (of_items (variable (codes "f") (TypeOf (Other (codes "FLOAT")) [] ∷ []) ∷ variable (codes "f") (TypeOf (Other (codes "FLOAT")) [] ∷ []) ∷ [])) ≡ Some (DuplicateName (codes "f"))
+duplicate_before_float : refusal
+    (of_items (variable (codes "f") (TypeOf (Other (codes "FLOAT")) [] ∷ [])
+    ∷ variable (codes "f") (TypeOf (Other (codes "FLOAT")) [] ∷ []) ∷ []))
+    ≡ Some (DuplicateName (codes "f"))
 unfolding resolved_unit
 duplicate_before_float = refl
 

@@ -49,22 +49,31 @@ abbrev integer : List (item.TypePart Path) → Attribute Path
 integer = item.TypeOf (item.Known var_type.Integer (Some 2))
 
 -- a variable with LABEL and TYPE
-label_alone : rows (item_with item.VariableItem (item.OneText text_attribute.Label text ∷ integer [] ∷ []) ∷ []) ≡ row (variable 0) attr.Label 0 ∷ []
+label_alone : rows (item_with item.VariableItem (item.OneText text_attribute.Label text ∷ integer []
+    ∷ []) ∷ []) ≡ row (variable 0) attr.Label 0 ∷ []
 unfolding rows_of_kind rows_at stands_for
 label_alone = refl
 
 -- a transaction has three rows, whatever is written in it
-unwritten_parts : rows (item_with item.CommandItem (item.Transaction None [] ∷ []) ∷ []) ≡ row command attr.Transaction 0 ∷ row command attr.Request 0 ∷ row command attr.Reply 0 ∷ []
+unwritten_parts : rows (item_with item.CommandItem (item.Transaction None [] ∷ []) ∷ [])
+    ≡ row command attr.Transaction 0 ∷ row command attr.Request 0 ∷ row command attr.Reply 0 ∷ []
 unfolding rows_of_kind rows_at stands_for
 unwritten_parts = refl
 
 abbrev everything : List (Item Path)
 everything =
     item_with item.MethodItem (item.Definition Nil ∷ item.Class (codes "C" ∷ []) ∷ [])
-    ∷ item_with item.VariableItem (integer (item.Element (Value (record { value = pos 1; text = Quoted []; help = None })) ∷ item.EditFormat text ∷ item.DisplayFormat text
-    ∷ item.MaxValue (Value (Literal 9)) ∷ item.MinValue (Value (Literal 1)) ∷ item.DefaultValue (Value (Literal 5)) ∷ []) ∷ item.OneText text_attribute.Label text ∷ [])
-    ∷ item_with item.CommandItem (item.Number 1 ∷ item.Operation operation.Read ∷ item.Transaction (Some 0) [] ∷ item.ResponseCodes [] ∷ item.Transaction (Some 1) [] ∷ [])
-    ∷ item_with item.VariableItem (item.Validity (Value true) ∷ item.OneText text_attribute.ConstantUnit text ∷ item.Handling (Value handling.Read) ∷ item.Class (codes "C" ∷ []) ∷ item.OneText text_attribute.Help text ∷ item.OneText text_attribute.Label text ∷ integer [] ∷ [])
+    ∷ item_with item.VariableItem
+    (integer (item.Element (Value (record { value = pos 1; text = Quoted []; help = None }))
+    ∷ item.EditFormat text ∷ item.DisplayFormat text
+    ∷ item.MaxValue (Value (Literal 9)) ∷ item.MinValue (Value (Literal 1))
+    ∷ item.DefaultValue (Value (Literal 5)) ∷ []) ∷ item.OneText text_attribute.Label text ∷ [])
+    ∷ item_with item.CommandItem (item.Number 1 ∷ item.Operation operation.Read
+    ∷ item.Transaction (Some 0) [] ∷ item.ResponseCodes [] ∷ item.Transaction (Some 1) [] ∷ [])
+    ∷ item_with item.VariableItem (item.Validity (Value true)
+    ∷ item.OneText text_attribute.ConstantUnit text ∷ item.Handling (Value handling.Read)
+    ∷ item.Class (codes "C" ∷ []) ∷ item.OneText text_attribute.Help text
+    ∷ item.OneText text_attribute.Label text ∷ integer [] ∷ [])
     ∷ item_with (item.CollectionItem kind.Variable) (item.Members [] ∷ [])
     ∷ item_with item.MenuItem (item.Items cond.Nil ∷ [])
     ∷ []

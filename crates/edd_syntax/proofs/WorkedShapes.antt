@@ -37,34 +37,61 @@ one = Literal 1
 abbrev integer : Attribute Path
 integer = TypeOf (Known var_type.Integer None) []
 
-variable_with_label : is_item is_path is_plain (item_with item.VariableItem (OneText text_attribute.Label (text (codes "a")) ∷ integer ∷ [])) ≡ true
+variable_with_label : is_item is_path is_plain
+    (item_with item.VariableItem (OneText text_attribute.Label (text (codes "a")) ∷ integer ∷ []))
+    ≡ true
 variable_with_label = refl
 
 -- ITEMS belongs to menus
-no_items_in_a_variable : is_item is_path is_plain (item_with item.VariableItem (item.Items cond.Nil ∷ [])) ≡ false
+no_items_in_a_variable : is_item is_path is_plain
+    (item_with item.VariableItem (item.Items cond.Nil ∷ [])) ≡ false
 no_items_in_a_variable = refl
 
 -- `LABEL IF (1) { "a"; "b"; }`
-one_value_in_a_branch : is_item is_path is_plain (item_with item.MenuItem (OneText text_attribute.Label (If one (cond.Cons (text (codes "a")) (cond.Cons (text (codes "b")) cond.Nil)) cond.Nil) ∷ [])) ≡ false
+one_value_in_a_branch : is_item is_path is_plain
+    (item_with item.MenuItem
+    (OneText text_attribute.Label
+    (If one (cond.Cons (text (codes "a")) (cond.Cons (text (codes "b")) cond.Nil)) cond.Nil) ∷ []))
+    ≡ false
 one_value_in_a_branch = refl
 
 -- `x\q`
-escapes_are_escapes : is_item is_path is_plain (item_with item.MenuItem (OneText text_attribute.Label (text (120 ∷ 92 ∷ 113 ∷ [])) ∷ [])) ≡ false
+escapes_are_escapes : is_item is_path is_plain
+    (item_with item.MenuItem (OneText text_attribute.Label (text (120 ∷ 92 ∷ 113 ∷ [])) ∷ []))
+    ≡ false
 escapes_are_escapes = refl
 
 abbrev body : List (Part Path) → Attribute Path
 body parts = Definition (body_from parts)
 
 -- `switch (1) { case 1: break; }`
-labels_in_a_switch : is_item is_path is_plain (item_with item.MethodItem (body (Statement (Switch one (body_from (CaseLabel (pos 1) ∷ Statement Break ∷ []))) ∷ []) ∷ [])) ≡ true
+labels_in_a_switch : is_item is_path is_plain
+    (item_with item.MethodItem
+    (body (Statement (Switch one (body_from (CaseLabel (pos 1) ∷ Statement Break ∷ []))) ∷ [])
+    ∷ [])) ≡ true
 labels_in_a_switch = refl
 
 -- `switch (1) { { case 1: break; } }`
-no_labels_in_an_inner_block : is_item is_path is_plain (item_with item.MethodItem (body (Statement (Switch one (body_from (Statement (Block (body_from (CaseLabel (pos 1) ∷ Statement Break ∷ []))) ∷ []))) ∷ []) ∷ [])) ≡ false
+no_labels_in_an_inner_block : is_item is_path is_plain
+    (item_with item.MethodItem
+    (body (Statement (Switch one
+    (body_from (Statement (Block (body_from (CaseLabel (pos 1) ∷ Statement Break ∷ []))) ∷ [])))
+    ∷ []) ∷ [])) ≡ false
 no_labels_in_an_inner_block = refl
 
 -- `MEMBERS { m, c.x; }`
-members_name_plain_items : is_item is_path is_plain (item_with (item.CollectionItem kind.Variable) (Members (record { name = codes "m"; item = record { base = codes "c"; members = codes "x" ∷ [] }; label = None; help = None } ∷ []) ∷ [])) ≡ false
+members_name_plain_items : is_item is_path is_plain
+    (item_with (item.CollectionItem kind.Variable)
+    (Members (record {
+      name = codes "m";
+      item = record {
+        base = codes "c";
+        members = codes "x"
+            ∷ [];
+      };
+      label = None;
+      help = None;
+    } ∷ []) ∷ [])) ≡ false
 members_name_plain_items = refl
 
 -- ---- strings
@@ -95,19 +122,31 @@ no_such_variable = refl
 -- ---- nodes
 
 -- LABEL with its value, CLASS with two words, TYPE with a list of two enumerators: 2 + 3 + 4
-nodes_of_a_variable : item_nodes (item_with item.VariableItem (OneText text_attribute.Label (text (codes "a")) ∷ Class (codes "A" ∷ codes "B" ∷ []) ∷
-    TypeOf (Known var_type.Enumerated None) (item.Element (Value (record { value = pos 0; text = Quoted (codes "a"); help = None })) ∷ item.Element (Value (record { value = pos 1; text = Quoted (codes "b"); help = None })) ∷ []) ∷ [])) ≡ 9
+nodes_of_a_variable : item_nodes
+    (item_with item.VariableItem (OneText text_attribute.Label (text (codes "a"))
+    ∷ Class (codes "A" ∷ codes "B" ∷ []) ∷
+    TypeOf (Known var_type.Enumerated None)
+    (item.Element (Value (record { value = pos 0; text = Quoted (codes "a"); help = None }))
+    ∷ item.Element (Value (record { value = pos 1; text = Quoted (codes "b"); help = None }))
+    ∷ []) ∷ [])) ≡ 9
 nodes_of_a_variable = refl
 
 -- NUMBER, OPERATION, a transaction with a REPLY of one constant, two response codes: 1 + 1 + 3 + 3
-nodes_of_a_command : item_nodes (item_with item.CommandItem (item.Number 1 ∷ item.Operation operation.Read ∷
+nodes_of_a_command : item_nodes
+    (item_with item.CommandItem (item.Number 1 ∷ item.Operation operation.Read ∷
     item.Transaction None (item.Reply (cond.Cons (Value (item.Constant 1)) cond.Nil) ∷ []) ∷
-    item.ResponseCodes (record { number = 0; class = class.Success; text = Quoted (codes "a") } ∷ record { number = 1; class = class.MiscError; text = Quoted (codes "b") } ∷ []) ∷ [])) ≡ 8
+    item.ResponseCodes (record { number = 0; class = class.Success; text = Quoted (codes "a") }
+    ∷ record { number = 1; class = class.MiscError; text = Quoted (codes "b") } ∷ []) ∷ [])) ≡ 8
 nodes_of_a_command = refl
 
 -- MEMBERS with one member, and DEFINITION with `x = 1;`, whose left side is no node: 2 and 4
-nodes_of_a_collection : item_nodes (item_with (item.CollectionItem kind.Variable) (Members (record { name = codes "m"; item = named (codes "x"); label = None; help = None } ∷ []) ∷ [])) ≡ 2
+nodes_of_a_collection : item_nodes
+    (item_with (item.CollectionItem kind.Variable)
+    (Members (record { name = codes "m"; item = named (codes "x"); label = None; help = None } ∷ [])
+    ∷ [])) ≡ 2
 nodes_of_a_collection = refl
 
-nodes_of_a_method : item_nodes (item_with item.MethodItem (body (Statement (Evaluate (Assign (named (codes "x")) one)) ∷ []) ∷ [])) ≡ 4
+nodes_of_a_method : item_nodes
+    (item_with item.MethodItem (body (Statement (Evaluate (Assign (named (codes "x")) one)) ∷ [])
+    ∷ [])) ≡ 4
 nodes_of_a_method = refl

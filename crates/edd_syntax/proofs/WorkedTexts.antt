@@ -29,7 +29,9 @@ unfolding words_of pieces unescape
 escapes_bar = refl
 
 -- `a |de|b`
-two_variants : words_of (Quoted (codes "a |de|b")) ≡ Variants (record { code = codes "en"; text = codes "a " }) (record { code = codes "de"; text = codes "b" } ∷ [])
+two_variants : words_of (Quoted (codes "a |de|b"))
+    ≡ Variants (record { code = codes "en"; text = codes "a " })
+    (record { code = codes "de"; text = codes "b" } ∷ [])
 unfolding words_of pieces unescape
 two_variants = refl
 
@@ -43,7 +45,8 @@ unfolding words_of pieces unescape
 bar_without_code_is_text = refl
 
 -- `|de|en|x`: the bar that closes a code opens none
-closing_bar_opens_nothing : words_of (Quoted (codes "|de|en|x")) ≡ Variants (record { code = codes "de"; text = codes "en|x" }) []
+closing_bar_opens_nothing : words_of (Quoted (codes "|de|en|x"))
+    ≡ Variants (record { code = codes "de"; text = codes "en|x" }) []
 unfolding words_of pieces unescape
 closing_bar_opens_nothing = refl
 
@@ -53,7 +56,9 @@ unfolding words_of pieces unescape
 english_code_alone = refl
 
 -- three digits, and two pairs of letters
-other_codes : words_of (Quoted (codes "|001|a|en us|b")) ≡ Variants (record { code = codes "001"; text = codes "a" }) (record { code = codes "en us"; text = codes "b" } ∷ [])
+other_codes : words_of (Quoted (codes "|001|a|en us|b"))
+    ≡ Variants (record { code = codes "001"; text = codes "a" })
+    (record { code = codes "en us"; text = codes "b" } ∷ [])
 unfolding words_of pieces unescape
 other_codes = refl
 

@@ -11,14 +11,16 @@ use Rattle.edd_syntax.specs.Strings.{too_many_strings}
 -- the breaches of the rules on counts, names and attributes, rule by rule
 abbrev pub name_breaches : Description Path → List Refusal
 name_breaches unit =
-    too_many unit ++ (duplicate_names unit ++ (duplicate_attributes unit ++ (missing_attributes unit ++ wrong_uses unit)))
+    too_many unit ++ (duplicate_names unit
+    ++ (duplicate_attributes unit ++ (missing_attributes unit ++ wrong_uses unit)))
 
 -- of the rules of the profile, which speak of the meaning of names, and of the number of strings
 abbrev pub profile_breaches : Option (Description Target) → List Refusal
 profile_breaches (Some resolved) = subset_breaches resolved ++ too_many_strings resolved
 profile_breaches None = []
 
--- all breaches, rule by rule and in the order of the source; the rules of the profile come after those on names
+-- all breaches, rule by rule and in the order of the source; the rules of the profile come after
+-- those on names
 abbrev pub breaches : Description Path → List Refusal
 breaches unit = name_breaches unit ++ profile_breaches (resolved_unit unit)
 

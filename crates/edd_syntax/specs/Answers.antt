@@ -18,12 +18,14 @@ pub data Answer : Type 0 where
 
 -- the answer that an answer in the code stands for
 abbrev pub answer_of : code.Answer → Answer
-answer_of (written.Go code sets) = Go code (map (λ set. record { variable = set.0; value = set.1 }) sets.items)
+answer_of (written.Go code sets) =
+    Go code (map (λ set. record { variable = set.0; value = set.1 }) sets.items)
 answer_of written.Abort = Abort
 
 -- ---- valid answers
 
--- why an answer can't be taken: it sets a variable that doesn't exist, or to a value out of its range
+-- why an answer can't be taken: it sets a variable that doesn't exist, or to a value out of its
+-- range
 pub data SetFault : Type 0 where
   BadVariable : SetFault
   OutOfRange : SetFault
@@ -37,7 +39,10 @@ set_fault types set = elim (slice_get types set.variable.0) [
 -- the fault of the first set that has one
 abbrev pub sets_fault : List VariableType → List Change → Option SetFault
 sets_fault types [] = None
-sets_fault types (set ∷ rest) = elim (set_fault types set) [ Some fault ↦ Some fault | None ↦ sets_fault types rest ]
+sets_fault types (set ∷ rest) = elim (set_fault types set) [
+  | Some fault ↦ Some fault
+  | None ↦ sets_fault types rest
+]
 
 abbrev pub answer_fault : List VariableType → Answer → Option SetFault
 answer_fault types (Go code sets) = sets_fault types sets

@@ -55,10 +55,16 @@ module _ (env : Environment) (d : List ℤ) where
     Ok (compare by a b)
   value (LogicalAnd left right) = do
     a ← value left
-    elim (is_zero a) [ true ↦ Ok (pos 0) | false ↦ (do b ← value right; Ok (truth (not (is_zero b)))) ]
+    elim (is_zero a) [
+      | true ↦ Ok (pos 0)
+      | false ↦ (do b ← value right; Ok (truth (not (is_zero b))))
+    ]
   value (LogicalOr left right) = do
     a ← value left
-    elim (is_zero a) [ true ↦ (do b ← value right; Ok (truth (not (is_zero b)))) | false ↦ Ok (pos 1) ]
+    elim (is_zero a) [
+      | true ↦ (do b ← value right; Ok (truth (not (is_zero b))))
+      | false ↦ Ok (pos 1)
+    ]
   value (Conditional test first second) = do
     a ← value test
     elim (is_zero a) [ true ↦ value second | false ↦ value first ]
@@ -90,7 +96,8 @@ module _ (env : Environment) (d : List ℤ) where
       Ok (xs ++ ys)
 
     -- of the first CASE whose label equals the value, else the default
-    pub case_chosen : {V : Type 0} → ℤ → Arms Target V → (otherwise : Trapping (List V)) → Trapping (List V)
+    pub case_chosen : {V : Type 0} → ℤ → Arms Target V → (otherwise : Trapping (List V))
+        → Trapping (List V)
     case_chosen a NoArms otherwise = otherwise
     case_chosen a (ConsArm (Case label body) rest) otherwise =
         elim (int_eq a label) [ true ↦ all_chosen body | false ↦ case_chosen a rest otherwise ]

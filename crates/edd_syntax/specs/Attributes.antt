@@ -58,7 +58,8 @@ menu_bits q = bit q.display_value + 2 * bit q.read_only + 4 * bit q.hidden + 8 *
 abbrev pub data_bits : DataQualifiers → ℕ
 data_bits q = bit q.info + 2 * bit q.index
 
--- the item that a reference of a checked unit names, and the variable; there no other target stands in an attribute
+-- the item that a reference of a checked unit names, and the variable; there no other target stands
+-- in an attribute
 abbrev pub item_of : Target → ItemNo
 item_of (Item i) = i
 item_of (Local slot) = item_no.Variable (record { 0 = 0 })
@@ -102,7 +103,8 @@ abbrev pub response : item.ResponseCode → Record
 response r = Response r.number r.class (words_of r.text)
 
 abbrev pub member : item.Member Target → Record
-member m = Member (name_words m.name) (item_of m.item) (option_map words_of m.label) (option_map words_of m.help)
+member m = Member (name_words m.name) (item_of m.item) (option_map words_of m.label)
+    (option_map words_of m.help)
 
 abbrev pub written_number : Option ℕ → List Record
 written_number (Some n) = Number (pos n) ∷ []
@@ -157,14 +159,19 @@ module _ (env : Environment) where
   -- the attributes that one written attribute stands for; transactions go by their position
   abbrev pub of_attribute : Attribute Target → List Named
   of_attribute (item.OneText which c) = (text_attr which, texts c) ∷ []
-  of_attribute (item.Class names) = (attr.Class, constant (map (λ n. Words (name_words n)) names)) ∷ []
-  of_attribute (item.Handling c) = (attr.Handling, one (λ h. Number (pos (handling_number h))) c) ∷ []
+  of_attribute (item.Class names) = (attr.Class, constant (map (λ n. Words (name_words n)) names))
+      ∷ []
+  of_attribute (item.Handling c) = (attr.Handling, one (λ h. Number (pos (handling_number h))) c)
+      ∷ []
   of_attribute (item.Validity c) = (attr.Validity, one (λ valid. Number (pos (bit valid))) c) ∷ []
-  of_attribute (item.TypeOf word parts) = (attr.Enumerators, list enumerator (elements parts)) ∷ of_parts parts
+  of_attribute (item.TypeOf word parts) = (attr.Enumerators, list enumerator (elements parts))
+      ∷ of_parts parts
   of_attribute (item.Number n) = (attr.Number, constant (Number (pos n) ∷ [])) ∷ []
-  of_attribute (item.Operation o) = (attr.Operation, constant (Number (pos (operation_number o)) ∷ [])) ∷ []
+  of_attribute (item.Operation o) =
+      (attr.Operation, constant (Number (pos (operation_number o)) ∷ [])) ∷ []
   of_attribute (item.Transaction number parts) = []
-  of_attribute (item.ResponseCodes responses) = (attr.ResponseCodes, constant (map response responses)) ∷ []
+  of_attribute (item.ResponseCodes responses) =
+      (attr.ResponseCodes, constant (map response responses)) ∷ []
   of_attribute (item.Items entries) = (attr.Items, list entry entries) ∷ []
   of_attribute (item.Members members) = (attr.Members, constant (map member members)) ∷ []
   of_attribute (item.Definition body) = []
@@ -181,7 +188,8 @@ module _ (env : Environment) where
   abbrev pub transactions : List (Attribute Target) → List (List Named)
   transactions [] = []
   transactions (item.Transaction number parts ∷ rest) =
-      ((attr.Transaction, constant (written_number number)) ∷ map of_transaction_part parts) ∷ transactions rest
+      ((attr.Transaction, constant (written_number number)) ∷ map of_transaction_part parts)
+      ∷ transactions rest
   transactions (_ ∷ rest) = transactions rest
 
 -- the meaning of an attribute; one that isn't written gives nothing
@@ -229,4 +237,8 @@ read_item env i a sub d =
 
 -- the meaning of an attribute under the values of a device
 unfoldable pub read_attribute : Description Target → AttrRef → List ℤ → Reading
-read_attribute unit at d = elim (item_at unit at.item) [ Some i ↦ read_item (environment unit) i at.attr at.sub d | None ↦ NoItem ]
+read_attribute unit at d =
+    elim (item_at unit at.item) [
+      | Some i ↦ read_item (environment unit) i at.attr at.sub d
+      | None ↦ NoItem
+    ]

@@ -1,5 +1,5 @@
--- Conditionals: values of the type V that depend on expressions. A single value is one `Cond`, each of whose branches is
--- again one; a list is any number of them.
+-- Conditionals: values of the type V that depend on expressions. A single value is one `Cond`, each
+-- of whose branches is again one; a list is any number of them.
 use Rattle.std.specs.Prelude.{ℤ, List, [], ◌∷◌}
 use Rattle.edd_syntax.specs.Expression.{Expr}
 

@@ -27,7 +27,8 @@ smallest_type = record { type = var_type.Integer; size = 1 }
 -- the type that is written; a size that isn't written is 1
 abbrev pub written_type : {R : Type 0} → List (Attribute R) → VariableType
 written_type [] = smallest_type
-written_type (TypeOf (Known type size) parts ∷ rest) = record { type = type; size = unwrap_or size 1 }
+written_type (TypeOf (Known type size) parts ∷ rest) =
+    record { type = type; size = unwrap_or size 1 }
 written_type (_ ∷ rest) = written_type rest
 
 -- what expressions and statements have to know of the description that they stand in
@@ -36,7 +37,10 @@ pub record Environment : Type 0 where
   pub variables : List VariableType
 
 abbrev pub environment : {R : Type 0} → Description R → Environment
-environment unit = record { variables = map (λ i. written_type i.attributes) (items_of kind.Variable unit) }
+environment unit = record {
+  variables = map (λ i. written_type i.attributes)
+      (items_of kind.Variable unit);
+}
 
 abbrev pub type_of_variable : Environment → VarNo → VariableType
 type_of_variable env v = type_at env.variables v

@@ -34,7 +34,8 @@ IsInRange t z = IsTrue (is_in_range t z)
 abbrev pub AreDeviceValues : List VariableType → List ℤ → Type 0
 AreDeviceValues = AllZip IsInRange
 
--- the type of a variable; past the last variable, which no reference names, it is an integer of one octet
+-- the type of a variable; past the last variable, which no reference names, it is an integer of one
+-- octet
 abbrev pub type_at : List VariableType → VarNo → VariableType
 type_at types v = slice_index_or types v.0 (record { type = var_type.Integer; size = 1 })
 

@@ -26,7 +26,8 @@ referred (Reference from) = Some from
 referred _ = None
 
 module _ (env : Environment) where
-  -- `++` and `--` store 1 more or 1 less; before the reference their value is what is read back, behind it what was read before
+  -- `++` and `--` store 1 more or 1 less; before the reference their value is what is read back,
+  -- behind it what was read before
   abbrev pub increment : IncrementOperator → Target → Action ℤ
   increment PreIncrement to = do
     old ← read to
@@ -51,7 +52,8 @@ module _ (env : Environment) where
   abbrev pub mismatch : Action ℤ
   mismatch = pure (pos 0)
 
-  -- what a function does with its arguments: it asks the host, reads or stores a variable, or aborts
+  -- what a function does with its arguments: it asks the host, reads or stores a variable, or
+  -- aborts
   abbrev pub call_builtin : Builtin → List Given → Action ℤ
   call_builtin builtin.PutMessage (Text text ∷ []) = ask (asks.PutMessage text)
   call_builtin builtin.PutMessage _ = mismatch
@@ -59,13 +61,16 @@ module _ (env : Environment) where
   call_builtin builtin.Acknowledge _ = mismatch
   call_builtin builtin.Delay (Number seconds _ ∷ Text text ∷ []) = ask (asks.Delay seconds text)
   call_builtin builtin.Delay _ = mismatch
-  call_builtin builtin.GetDevVarValue (Text text ∷ Number _ (Some (Item (item_no.Variable v))) ∷ []) = ask (asks.GetDevVarValue text v)
+  call_builtin builtin.GetDevVarValue (Text text ∷ Number _ (Some (Item (item_no.Variable v)))
+      ∷ []) = ask (asks.GetDevVarValue text v)
   call_builtin builtin.GetDevVarValue _ = mismatch
-  call_builtin builtin.SelectFromList (Text text ∷ Text choices ∷ []) = ask (asks.SelectFromList text choices)
+  call_builtin builtin.SelectFromList (Text text ∷ Text choices ∷ []) =
+      ask (asks.SelectFromList text choices)
   call_builtin builtin.SelectFromList _ = mismatch
   call_builtin builtin.SendCommand (Number n _ ∷ []) = ask (asks.SendCommand n)
   call_builtin builtin.SendCommand _ = mismatch
-  call_builtin builtin.SendCommandTrans (Number n _ ∷ Number transaction _ ∷ []) = ask (asks.SendCommandTrans n transaction)
+  call_builtin builtin.SendCommandTrans (Number n _ ∷ Number transaction _ ∷ []) =
+      ask (asks.SendCommandTrans n transaction)
   call_builtin builtin.SendCommandTrans _ = mismatch
   call_builtin builtin.SaveValues [] = ask asks.SaveValues
   call_builtin builtin.SaveValues _ = mismatch
@@ -73,9 +78,11 @@ module _ (env : Environment) where
   call_builtin builtin.IvarValue _ = mismatch
   call_builtin builtin.LvarValue (Number value _ ∷ []) = pure value
   call_builtin builtin.LvarValue _ = mismatch
-  call_builtin builtin.Iassign (Number _ (Some to) ∷ Number value _ ∷ []) = assign env to value >> pure (pos 0)
+  call_builtin builtin.Iassign (Number _ (Some to) ∷ Number value _ ∷ []) =
+      assign env to value >> pure (pos 0)
   call_builtin builtin.Iassign _ = mismatch
-  call_builtin builtin.Lassign (Number _ (Some to) ∷ Number value _ ∷ []) = assign env to value >> pure (pos 0)
+  call_builtin builtin.Lassign (Number _ (Some to) ∷ Number value _ ∷ []) =
+      assign env to value >> pure (pos 0)
   call_builtin builtin.Lassign _ = mismatch
   call_builtin builtin.Abort [] = stop Aborted
   call_builtin builtin.Abort _ = mismatch
@@ -107,10 +114,16 @@ module _ (env : Environment) where
       pure (compare by a b)
     evaluate (LogicalAnd left right) = do
       a ← evaluate left
-      elim (is_zero a) [ true ↦ pure (pos 0) | false ↦ (do b ← evaluate right; pure (truth (not (is_zero b)))) ]
+      elim (is_zero a) [
+        | true ↦ pure (pos 0)
+        | false ↦ (do b ← evaluate right; pure (truth (not (is_zero b))))
+      ]
     evaluate (LogicalOr left right) = do
       a ← evaluate left
-      elim (is_zero a) [ true ↦ (do b ← evaluate right; pure (truth (not (is_zero b)))) | false ↦ pure (pos 1) ]
+      elim (is_zero a) [
+        | true ↦ (do b ← evaluate right; pure (truth (not (is_zero b))))
+        | false ↦ pure (pos 1)
+      ]
     evaluate (Conditional test first second) = do
       a ← evaluate test
       elim (is_zero a) [ true ↦ evaluate second | false ↦ evaluate first ]

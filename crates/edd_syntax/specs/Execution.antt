@@ -40,11 +40,15 @@ left Breaks = pure Normal
 left completion = pure completion
 
 -- at most n turns that test first and end with the action `last`
-unfoldable pub turns : ℕ → (test : Action ℤ) → (body : Action Completion) → (last : Action ℤ) → Action Completion
+unfoldable pub turns : ℕ → (test : Action ℤ) → (body : Action Completion) → (last : Action ℤ)
+    → Action Completion
 turns zero test body last = stop stops.OutOfTurns
 turns (suc n) test body last = do
   a ← test
-  elim (is_zero a) [ true ↦ pure Normal | false ↦ body >>= next_turn (last >> turns n test body last) ]
+  elim (is_zero a) [
+    | true ↦ pure Normal
+    | false ↦ body >>= next_turn (last >> turns n test body last)
+  ]
 
 -- at most n turns that test last
 unfoldable pub turns_of_do : ℕ → (body : Action Completion) → (test : Action ℤ) → Action Completion
@@ -83,7 +87,8 @@ module _ (env : Environment) where
     execute (IfElse condition first otherwise) n = do
       a ← evaluate env condition
       elim (is_zero a) [ true ↦ execute otherwise n | false ↦ execute first n ]
-    execute (While condition body) n = turns n (evaluate env condition) (execute body n) (pure (pos 0))
+    execute (While condition body) n = turns n (evaluate env condition) (execute body n)
+        (pure (pos 0))
     execute (Do body condition) n = turns_of_do n (execute body n) (evaluate env condition)
     execute (For initial condition update body) n = do
       optional initial
@@ -98,7 +103,8 @@ module _ (env : Environment) where
     -- labels have no effect where a run comes to them
     pub execute_all : Body Target → ℕ → Action Completion
     execute_all Nil n = pure Normal
-    execute_all (Cons (Declare declarators) rest) n = declare declarators >>= next (execute_all rest n)
+    execute_all (Cons (Declare declarators) rest) n = declare declarators
+        >>= next (execute_all rest n)
     execute_all (Cons (Statement s) rest) n = execute s n >>= next (execute_all rest n)
     execute_all (Cons (CaseLabel label) rest) n = execute_all rest n
     execute_all (Cons DefaultLabel rest) n = execute_all rest n
@@ -106,10 +112,14 @@ module _ (env : Environment) where
     -- from the first `case` whose label, as 32 bits, equals the value
     pub execute_case : ℤ → Body Target → ℕ → (otherwise : Action Completion) → Action Completion
     execute_case value Nil n otherwise = otherwise
-    execute_case value (Cons (Declare declarators) rest) n otherwise = execute_case value rest n otherwise
+    execute_case value (Cons (Declare declarators) rest) n otherwise =
+        execute_case value rest n otherwise
     execute_case value (Cons (Statement s) rest) n otherwise = execute_case value rest n otherwise
     execute_case value (Cons (CaseLabel label) rest) n otherwise =
-        elim (int_eq value (wrap 32 label)) [ true ↦ execute_all rest n | false ↦ execute_case value rest n otherwise ]
+        elim (int_eq value (wrap 32 label)) [
+          | true ↦ execute_all rest n
+          | false ↦ execute_case value rest n otherwise
+        ]
     execute_case value (Cons DefaultLabel rest) n otherwise = execute_case value rest n otherwise
 
     -- from `default`
@@ -138,7 +148,13 @@ pub record Transcript : Type 0 where
   pub ending : Ending
 
 abbrev pub transcript : Ending → State → Transcript
-transcript ending s = record { requests = s.requests; changes = s.changes; values = s.values; answers = s.answers; ending = ending }
+transcript ending s = record {
+  requests = s.requests;
+  changes = s.changes;
+  values = s.values;
+  answers = s.answers;
+  ending = ending;
+}
 
 abbrev pub ending_of : Stop → Ending
 ending_of (stops.Trapped why) = Trapped why
@@ -152,7 +168,13 @@ ended (Stopped why s) = transcript (ending_of why) s
 
 -- the state in which a method starts: all slots 0
 abbrev pub opening : (slots : ℕ) → List ℤ → List Answer → State
-opening slots values answers = record { slots = replicate slots (pos 0); values = values; requests = []; changes = []; answers = answers }
+opening slots values answers = record {
+  slots = replicate slots (pos 0);
+  values = values;
+  requests = [];
+  changes = [];
+  answers = answers;
+}
 
 -- the run of a body from a state, in which each entry of a loop has n turns
 unfoldable pub run_body : ℕ → Environment → Body Target → State → Transcript
@@ -165,9 +187,13 @@ body_in (Definition body ∷ rest) = body
 body_in (_ ∷ rest) = body_in rest
 
 abbrev pub body_of : Description Target → MethNo → Body Target
-body_of unit m = elim (item_at unit (item_no.Method m)) [ Some i ↦ body_in i.attributes | None ↦ Nil ]
+body_of unit m = elim (item_at unit (item_no.Method m)) [
+  | Some i ↦ body_in i.attributes
+  | None ↦ Nil
+]
 
 -- the run of a method under these device values and answers
 unfoldable pub run : ℕ → Description Target → MethNo → List ℤ → List Answer → Transcript
 run n unit m values answers =
-    let body = body_of unit m in run_body n (environment unit) body (opening (slots_in body) values answers)
+    let body = body_of unit m in run_body n (environment unit) body
+    (opening (slots_in body) values answers)

@@ -1,4 +1,5 @@
--- Expressions of attributes and of methods. Those of attributes have no assignment, increment or call.
+-- Expressions of attributes and of methods. Those of attributes have no assignment, increment or
+-- call.
 use Rattle.std.specs.Prelude.{ℕ, List, [], ◌∷◌}
 use Rattle.edd_syntax.specs.declared.operators.Operator.{Operator}
 use Rattle.edd_syntax.specs.declared.operators.Comparison.{Comparison}

@@ -1,5 +1,6 @@
--- The grammar of texts and expressions, as a relation between a tree, the tokens from where it begins (`here`) and those behind it
--- (`rest`). The lists of tokens that are named in between are the tokens from a place on.
+-- The grammar of texts and expressions, as a relation between a tree, the tokens from where it
+-- begins (`here`) and those behind it (`rest`). The lists of tokens that are named in between are
+-- the tokens from a place on.
 use Rattle.std.specs.Prelude.{◌≡◌, ℕ, suc, ◌≤◌, ◌⊎◌, List, [], ◌∷◌, ◌++◌}
 use Rattle.edd_syntax.specs.declared.operators.Operator.{Operator}
 use Rattle.edd_syntax.specs.declared.operators.Operator.TheVariants as operator
@@ -39,11 +40,13 @@ OptionalSign s here rest = (here ≡ rest) ⊎ NextSign s here rest
 -- `.m.n`
 abbrev pub MembersHere : List Name → List Token → List Token → Type 0
 MembersHere [] here rest = here ≡ rest
-MembersHere (m ∷ ms) here rest = (behind : List Token) × (here ≡ Sign sign.Dot ∷ Identifier m ∷ behind) × MembersHere ms behind rest
+MembersHere (m ∷ ms) here rest = (behind : List Token)
+    × (here ≡ Sign sign.Dot ∷ Identifier m ∷ behind) × MembersHere ms behind rest
 
 -- `name.m.n`
 abbrev pub PathHere : Path → List Token → List Token → Type 0
-PathHere p here rest = (behind : List Token) × Next (Identifier p.base) here behind × MembersHere p.members behind rest
+PathHere p here rest = (behind : List Token) × Next (Identifier p.base) here behind
+    × MembersHere p.members behind rest
 
 -- a plain name
 abbrev pub PlainHere : Path → List Token → List Token → Type 0
@@ -62,7 +65,8 @@ BeginsString (Sign s ∷ rest) = ⊥
 -- these strings follow each other, and no further one follows
 abbrev pub StringsHere : List (List ℕ) → List Token → List Token → Type 0
 StringsHere [] here rest = (here ≡ rest) × ¬ BeginsString rest
-StringsHere (s ∷ ss) here rest = (behind : List Token) × Next (String s) here behind × StringsHere ss behind rest
+StringsHere (s ∷ ss) here rest = (behind : List Token) × Next (String s) here behind
+    × StringsHere ss behind rest
 
 abbrev pub joined : List (List ℕ) → List ℕ
 joined [] = []
@@ -71,8 +75,10 @@ joined (s ∷ ss) = s ++ joined ss
 -- one or more strings, whose insides are joined, or `[key]`
 abbrev pub TextHere : texts.Text → List Token → List Token → Type 0
 TextHere (Quoted raw) here rest =
-    (first : List ℕ) × (others : List (List ℕ)) × (raw ≡ joined (first ∷ others)) × StringsHere (first ∷ others) here rest
-TextHere (Key name) here rest = here ≡ Sign sign.OpenBracket ∷ Identifier name ∷ Sign sign.CloseBracket ∷ rest
+    (first : List ℕ) × (others : List (List ℕ)) × (raw ≡ joined (first ∷ others))
+    × StringsHere (first ∷ others) here rest
+TextHere (Key name) here rest = here ≡ Sign sign.OpenBracket ∷ Identifier name
+    ∷ Sign sign.CloseBracket ∷ rest
 
 -- ---- rows of operators, from 1, the loosest, to 15
 
@@ -129,32 +135,39 @@ abbrev mutual
       (inside : List Token) × NextSign sign.OpenParenthesis here inside
       × ExprHere p (loosest p) inner inside (Sign sign.CloseParenthesis ∷ rest)
   ExprHere p row (Call function arguments) here rest =
-      IsMethod p × (paren inside : List Token) × PlainHere function here paren × NextSign sign.OpenParenthesis paren inside
+      IsMethod p × (paren inside : List Token) × PlainHere function here paren
+      × NextSign sign.OpenParenthesis paren inside
       × ArgumentsHere p arguments inside (Sign sign.CloseParenthesis ∷ rest)
   -- row 14
   ExprHere p row (Increment PreIncrement to) here rest =
-      IsMethod p × (row ≤ 14) × (behind : List Token) × NextSign sign.Increment here behind × PathHere to behind rest
+      IsMethod p × (row ≤ 14) × (behind : List Token) × NextSign sign.Increment here behind
+      × PathHere to behind rest
   ExprHere p row (Increment PreDecrement to) here rest =
-      IsMethod p × (row ≤ 14) × (behind : List Token) × NextSign sign.Decrement here behind × PathHere to behind rest
+      IsMethod p × (row ≤ 14) × (behind : List Token) × NextSign sign.Decrement here behind
+      × PathHere to behind rest
   ExprHere p row (Increment PostIncrement to) here rest =
       IsMethod p × (row ≤ 14) × PathHere to here (Sign sign.Increment ∷ rest)
   ExprHere p row (Increment PostDecrement to) here rest =
       IsMethod p × (row ≤ 14) × PathHere to here (Sign sign.Decrement ∷ rest)
   -- row 13 groups to the right
   ExprHere p row (Unary op operand) here rest =
-      (row ≤ 13) × (behind : List Token) × NextSign (unary_sign op) here behind × ExprHere p 13 operand behind rest
+      (row ≤ 13) × (behind : List Token) × NextSign (unary_sign op) here behind
+      × ExprHere p 13 operand behind rest
   -- rows 3 to 12 group to the left
   ExprHere p row (Binary op left right) here rest =
       (row ≤ row_of op) × (behind : List Token)
-      × ExprHere p (row_of op) left here (Sign (sign.Operator op) ∷ behind) × ExprHere p (suc (row_of op)) right behind rest
+      × ExprHere p (row_of op) left here (Sign (sign.Operator op) ∷ behind)
+      × ExprHere p (suc (row_of op)) right behind rest
   ExprHere p row (Compare by left right) here rest =
       (row ≤ comparison_row by) × (behind : List Token)
       × ExprHere p (comparison_row by) left here (Sign (sign.Comparison by) ∷ behind)
       × ExprHere p (suc (comparison_row by)) right behind rest
   ExprHere p row (LogicalAnd left right) here rest =
-      (row ≤ 4) × (behind : List Token) × ExprHere p 4 left here (Sign sign.LogicalAnd ∷ behind) × ExprHere p 5 right behind rest
+      (row ≤ 4) × (behind : List Token) × ExprHere p 4 left here (Sign sign.LogicalAnd ∷ behind)
+      × ExprHere p 5 right behind rest
   ExprHere p row (LogicalOr left right) here rest =
-      (row ≤ 3) × (behind : List Token) × ExprHere p 3 left here (Sign sign.LogicalOr ∷ behind) × ExprHere p 4 right behind rest
+      (row ≤ 3) × (behind : List Token) × ExprHere p 3 left here (Sign sign.LogicalOr ∷ behind)
+      × ExprHere p 4 right behind rest
   -- row 2 groups to the right, and any expression of the place may stand in its middle
   ExprHere p row (Conditional test first second) here rest =
       (row ≤ 2) × (middle last : List Token)
@@ -173,7 +186,8 @@ abbrev mutual
   pub ArgumentsHere : Place → Arguments Path → List Token → List Token → Type 0
   ArgumentsHere p Nil here rest = here ≡ rest
   ArgumentsHere p (Cons (Value e) others) here rest =
-      (behind : List Token) × ExprHere p (loosest p) e here behind × MoreArgumentsHere p others behind rest
+      (behind : List Token) × ExprHere p (loosest p) e here behind
+      × MoreArgumentsHere p others behind rest
   ArgumentsHere p (Cons (Text text) others) here rest =
       (behind : List Token) × TextHere text here behind × MoreArgumentsHere p others behind rest
 

@@ -1,5 +1,5 @@
--- The grammar of attributes, items and the whole unit. Words such as READ and INTEGER aren't reserved: they are names that mean
--- something in their places.
+-- The grammar of attributes, items and the whole unit. Words such as READ and INTEGER aren't
+-- reserved: they are names that mean something in their places.
 use Rattle.std.specs.Prelude.{◌≡◌, ◌⊎◌, ℕ, zero, suc, nat_le, Bool, true, false, not, IsTrue, List, [], ◌∷◌, Option, Some, None, codes}
 use Rattle.std.specs.List.{list_all}
 use Rattle.edd_syntax.specs.declared.numbers.Kind.{Kind}
@@ -42,47 +42,57 @@ NextName name here rest = Next (Identifier name) here rest
 -- ---- repetitions
 
 -- any number of things, with nothing between them
-abbrev pub RowHere : {A : Type 0} → (A → List Token → List Token → Type 0) → List A → List Token → List Token → Type 0
+abbrev pub RowHere : {A : Type 0} → (A → List Token → List Token → Type 0) → List A → List Token
+    → List Token → Type 0
 RowHere Here [] here rest = here ≡ rest
-RowHere Here (x ∷ xs) here rest = (behind : List Token) × Here x here behind × RowHere Here xs behind rest
+RowHere Here (x ∷ xs) here rest = (behind : List Token) × Here x here behind
+    × RowHere Here xs behind rest
 
 -- n times the sign
 abbrev pub TimesHere : ℕ → Symbol → List Token → List Token → Type 0
 TimesHere zero s here rest = here ≡ rest
-TimesHere (suc n) s here rest = (behind : List Token) × NextSign s here behind × TimesHere n s behind rest
+TimesHere (suc n) s here rest = (behind : List Token) × NextSign s here behind
+    × TimesHere n s behind rest
 
 -- any number of things, each with any number of semicolons behind it
-abbrev pub ClosedHere : {A : Type 0} → (A → List Token → List Token → Type 0) → List A → List Token → List Token → Type 0
+abbrev pub ClosedHere : {A : Type 0} → (A → List Token → List Token → Type 0) → List A → List Token
+    → List Token → Type 0
 ClosedHere Here [] here rest = here ≡ rest
 ClosedHere Here (x ∷ xs) here rest =
-    (behind from : List Token) × Here x here behind × (n : ℕ) × TimesHere n sign.Semicolon behind from × ClosedHere Here xs from rest
+    (behind from : List Token) × Here x here behind × (n : ℕ) × TimesHere n sign.Semicolon behind
+    from × ClosedHere Here xs from rest
 
 -- one or more names, each further one behind a sign
 abbrev pub MoreNamesHere : Symbol → List Name → List Token → List Token → Type 0
 MoreNamesHere s [] here rest = here ≡ rest
 MoreNamesHere s (n ∷ more) here rest =
-    (from behind : List Token) × NextSign s here from × NextName n from behind × MoreNamesHere s more behind rest
+    (from behind : List Token) × NextSign s here from × NextName n from behind
+    × MoreNamesHere s more behind rest
 
 abbrev pub NamesHere : Symbol → List Name → List Token → List Token → Type 0
 NamesHere s [] here rest = ⊥
-NamesHere s (n ∷ more) here rest = (behind : List Token) × NextName n here behind × MoreNamesHere s more behind rest
+NamesHere s (n ∷ more) here rest = (behind : List Token) × NextName n here behind
+    × MoreNamesHere s more behind rest
 
 -- ---- qualifiers: one or more names in parentheses, with a comma between two of them or none
 
 abbrev pub MoreQualifiersHere : List Name → List Token → List Token → Type 0
 MoreQualifiersHere [] here rest = here ≡ rest
 MoreQualifiersHere (n ∷ more) here rest =
-    (from behind : List Token) × OptionalSign sign.Comma here from × NextName n from behind × MoreQualifiersHere more behind rest
+    (from behind : List Token) × OptionalSign sign.Comma here from × NextName n from behind
+    × MoreQualifiersHere more behind rest
 
 -- these names, each of which is allowed there; without parentheses there are none
 abbrev pub QualifiersHere : (allowed : List Name) → List Name → List Token → List Token → Type 0
 QualifiersHere allowed [] here rest = here ≡ rest
 QualifiersHere allowed (n ∷ more) here rest =
-    IsTrue (list_all (is_name_in allowed) (n ∷ more)) × (inside behind : List Token) × NextSign sign.OpenParenthesis here inside
+    IsTrue (list_all (is_name_in allowed) (n ∷ more)) × (inside behind : List Token)
+    × NextSign sign.OpenParenthesis here inside
     × NextName n inside behind × MoreQualifiersHere more behind (Sign sign.CloseParenthesis ∷ rest)
 
 abbrev pub menu_qualifier_names : List Name
-menu_qualifier_names = codes "DISPLAY_VALUE" ∷ codes "READ_ONLY" ∷ codes "HIDDEN" ∷ codes "REVIEW" ∷ []
+menu_qualifier_names = codes "DISPLAY_VALUE" ∷ codes "READ_ONLY" ∷ codes "HIDDEN" ∷ codes "REVIEW"
+    ∷ []
 
 abbrev pub menu_qualifiers : List Name → MenuQualifiers
 menu_qualifiers names = record {
@@ -96,7 +106,10 @@ abbrev pub data_qualifier_names : List Name
 data_qualifier_names = codes "INFO" ∷ codes "INDEX" ∷ []
 
 abbrev pub data_qualifiers : List Name → DataQualifiers
-data_qualifiers names = record { info = is_name_in names (codes "INFO"); index = is_name_in names (codes "INDEX") }
+data_qualifiers names = record {
+  info = is_name_in names (codes "INFO");
+  index = is_name_in names (codes "INDEX");
+}
 
 -- ---- values of attributes
 
@@ -108,8 +121,10 @@ abbrev pub HandlingHere : Handling → List Token → List Token → Type 0
 HandlingHere handling.Read here rest = NextName (codes "READ") here rest
 HandlingHere handling.Write here rest = NextName (codes "WRITE") here rest
 HandlingHere handling.ReadWrite here rest =
-    (here ≡ Identifier (codes "READ") ∷ Sign (sign.Operator operator.And) ∷ Identifier (codes "WRITE") ∷ rest)
-    ⊎ (here ≡ Identifier (codes "WRITE") ∷ Sign (sign.Operator operator.And) ∷ Identifier (codes "READ") ∷ rest)
+    (here ≡ Identifier (codes "READ") ∷ Sign (sign.Operator operator.And)
+    ∷ Identifier (codes "WRITE") ∷ rest)
+    ⊎ (here ≡ Identifier (codes "WRITE") ∷ Sign (sign.Operator operator.And)
+    ∷ Identifier (codes "READ") ∷ rest)
 
 abbrev pub TruthHere : Bool → List Token → List Token → Type 0
 TruthHere true here rest = NextName (codes "TRUE") here rest
@@ -122,33 +137,38 @@ OperationHere operation.Command here rest = NextWord word.Command here rest
 
 abbrev pub OptionalTextHere : Option texts.Text → List Token → List Token → Type 0
 OptionalTextHere None here rest = here ≡ rest
-OptionalTextHere (Some text) here rest = (behind : List Token) × NextSign sign.Comma here behind × TextHere text behind rest
+OptionalTextHere (Some text) here rest = (behind : List Token) × NextSign sign.Comma here behind
+    × TextHere text behind rest
 
 -- `{ label, text, help }`
 abbrev pub EnumeratorHere : item.Enumerator → List Token → List Token → Type 0
 EnumeratorHere e here rest =
-    (inside comma from behind : List Token) × NextSign sign.OpenBrace here inside × LabelHere e.value inside comma
+    (inside comma from behind : List Token) × NextSign sign.OpenBrace here inside
+    × LabelHere e.value inside comma
     × NextSign sign.Comma comma from × TextHere e.text from behind
     × OptionalTextHere e.help behind (Sign sign.CloseBrace ∷ rest)
 
 abbrev pub MaskHere : Option ℕ → List Token → List Token → Type 0
 MaskHere None here rest = here ≡ rest
 MaskHere (Some mask) here rest =
-    here ≡ Sign (sign.Comparison comparison.Less) ∷ Integer mask ∷ Sign (sign.Comparison comparison.Greater) ∷ rest
+    here ≡ Sign (sign.Comparison comparison.Less) ∷ Integer mask
+    ∷ Sign (sign.Comparison comparison.Greater) ∷ rest
 
 -- an integer, or a reference with a mask and qualifiers that may be missing
 abbrev pub DataItemHere : item.DataItem Path → List Token → List Token → Type 0
 DataItemHere (item.Constant n) here rest = Next (Integer n) here rest
 DataItemHere (item.Variable variable mask qualifiers) here rest =
     (from behind : List Token) × PathHere variable here from × MaskHere mask from behind
-    × (names : List Name) × (qualifiers ≡ data_qualifiers names) × QualifiersHere data_qualifier_names names behind rest
+    × (names : List Name) × (qualifiers ≡ data_qualifiers names)
+    × QualifiersHere data_qualifier_names names behind rest
 
 -- a text, or a reference with qualifiers that may be missing
 abbrev pub MenuEntryHere : item.MenuEntry Path → List Token → List Token → Type 0
 MenuEntryHere (item.Text text) here rest = TextHere text here rest
 MenuEntryHere (item.Reference to qualifiers) here rest =
     (behind : List Token) × PathHere to here behind
-    × (names : List Name) × (qualifiers ≡ menu_qualifiers names) × QualifiersHere menu_qualifier_names names behind rest
+    × (names : List Name) × (qualifiers ≡ menu_qualifiers names)
+    × QualifiersHere menu_qualifier_names names behind rest
 
 abbrev pub class_name : ResponseClass → Name
 class_name class.Success = codes "SUCCESS"
@@ -161,13 +181,15 @@ class_name class.MiscError = codes "MISC_ERROR"
 
 -- nothing, a semicolon or a comma
 abbrev pub ResponseEndHere : List Token → List Token → Type 0
-ResponseEndHere here rest = (here ≡ rest) ⊎ (NextSign sign.Semicolon here rest ⊎ NextSign sign.Comma here rest)
+ResponseEndHere here rest = (here ≡ rest)
+    ⊎ (NextSign sign.Semicolon here rest ⊎ NextSign sign.Comma here rest)
 
 -- `number, class, text`
 abbrev pub ResponseCodeHere : item.ResponseCode → List Token → List Token → Type 0
 ResponseCodeHere r here rest =
     (from behind : List Token)
-    × (here ≡ Integer r.number ∷ Sign sign.Comma ∷ Identifier (class_name r.class) ∷ Sign sign.Comma ∷ from)
+    × (here ≡ Integer r.number ∷ Sign sign.Comma ∷ Identifier (class_name r.class) ∷ Sign sign.Comma
+    ∷ from)
     × TextHere r.text from behind × ResponseEndHere behind rest
 
 -- `, label` and `, label, help`; a help stands behind a label alone
@@ -175,12 +197,14 @@ abbrev pub MemberTextsHere : (label help : Option texts.Text) → List Token →
 MemberTextsHere None None here rest = here ≡ rest
 MemberTextsHere None (Some help) here rest = ⊥
 MemberTextsHere (Some label) help here rest =
-    (behind : List Token) × OptionalTextHere (Some label) here behind × OptionalTextHere help behind rest
+    (behind : List Token) × OptionalTextHere (Some label) here behind × OptionalTextHere help behind
+    rest
 
 -- `name, item, label, help;`
 abbrev pub MemberHere : item.Member Path → List Token → List Token → Type 0
 MemberHere m here rest =
-    (from behind : List Token) × (here ≡ Identifier m.name ∷ Sign sign.Comma ∷ from) × PlainHere m.item from behind
+    (from behind : List Token) × (here ≡ Identifier m.name ∷ Sign sign.Comma ∷ from)
+    × PlainHere m.item from behind
     × MemberTextsHere m.label m.help behind (Sign sign.Semicolon ∷ rest)
 
 -- ---- types
@@ -192,26 +216,35 @@ type_name var_type.Enumerated = codes "ENUMERATED"
 type_name var_type.BitEnumerated = codes "BIT_ENUMERATED"
 
 abbrev pub type_names : List Name
-type_names = codes "INTEGER" ∷ codes "UNSIGNED_INTEGER" ∷ codes "ENUMERATED" ∷ codes "BIT_ENUMERATED" ∷ []
+type_names = codes "INTEGER" ∷ codes "UNSIGNED_INTEGER" ∷ codes "ENUMERATED"
+    ∷ codes "BIT_ENUMERATED" ∷ []
 
 abbrev pub SizeHere : Option ℕ → List Token → List Token → Type 0
 SizeHere None here rest = here ≡ rest
-SizeHere (Some size) here rest = here ≡ Sign sign.OpenParenthesis ∷ Integer size ∷ Sign sign.CloseParenthesis ∷ rest
+SizeHere (Some size) here rest = here ≡ Sign sign.OpenParenthesis ∷ Integer size
+    ∷ Sign sign.CloseParenthesis ∷ rest
 
 abbrev pub TypePartHere : TypePart Path → List Token → List Token → Type 0
-TypePartHere (item.DefaultValue c) here rest = (behind : List Token) × NextWord word.DefaultValue here behind × OneHere ValueExprHere c behind rest
-TypePartHere (item.MinValue c) here rest = (behind : List Token) × NextWord word.MinValue here behind × OneHere ValueExprHere c behind rest
-TypePartHere (item.MaxValue c) here rest = (behind : List Token) × NextWord word.MaxValue here behind × OneHere ValueExprHere c behind rest
-TypePartHere (item.DisplayFormat c) here rest = (behind : List Token) × NextWord word.DisplayFormat here behind × OneHere TextHere c behind rest
-TypePartHere (item.EditFormat c) here rest = (behind : List Token) × NextWord word.EditFormat here behind × OneHere TextHere c behind rest
+TypePartHere (item.DefaultValue c) here rest = (behind : List Token)
+    × NextWord word.DefaultValue here behind × OneHere ValueExprHere c behind rest
+TypePartHere (item.MinValue c) here rest = (behind : List Token)
+    × NextWord word.MinValue here behind × OneHere ValueExprHere c behind rest
+TypePartHere (item.MaxValue c) here rest = (behind : List Token)
+    × NextWord word.MaxValue here behind × OneHere ValueExprHere c behind rest
+TypePartHere (item.DisplayFormat c) here rest = (behind : List Token)
+    × NextWord word.DisplayFormat here behind × OneHere TextHere c behind rest
+TypePartHere (item.EditFormat c) here rest = (behind : List Token) × NextWord word.EditFormat here
+    behind × OneHere TextHere c behind rest
 TypePartHere (item.Element c) here rest =
-    (behind : List Token) × ElementHere EnumeratorHere c here behind × OptionalSign sign.Comma behind rest
+    (behind : List Token) × ElementHere EnumeratorHere c here behind
+    × OptionalSign sign.Comma behind rest
 
 -- a semicolon, or braces
 abbrev pub TypePartsHere : List (TypePart Path) → List Token → List Token → Type 0
 TypePartsHere parts here rest =
     ((parts ≡ []) × NextSign sign.Semicolon here rest)
-    ⊎ ((inside : List Token) × NextSign sign.OpenBrace here inside × RowHere TypePartHere parts inside (Sign sign.CloseBrace ∷ rest))
+    ⊎ ((inside : List Token) × NextSign sign.OpenBrace here inside
+    × RowHere TypePartHere parts inside (Sign sign.CloseBrace ∷ rest))
 
 -- neither `;` nor a brace
 abbrev pub is_inside_type : Token → Bool
@@ -228,25 +261,31 @@ behind_braces (suc depth) (Sign sign.OpenBrace ∷ rest) = behind_braces (suc (s
 behind_braces (suc depth) (Sign sign.CloseBrace ∷ rest) = behind_braces depth rest
 behind_braces (suc depth) (_ ∷ rest) = behind_braces (suc depth) rest
 
--- what stands behind another word: it ends at its first semicolon, or at the brace that closes a brace before one
+-- what stands behind another word: it ends at its first semicolon, or at the brace that closes a
+-- brace before one
 abbrev pub OtherEndHere : List Token → List Token → Type 0
 OtherEndHere here rest =
     NextSign sign.Semicolon here rest
-    ⊎ ((inside : List Token) × NextSign sign.OpenBrace here inside × (behind_braces 1 inside ≡ Some rest))
+    ⊎ ((inside : List Token) × NextSign sign.OpenBrace here inside
+    × (behind_braces 1 inside ≡ Some rest))
 
 -- these tokens, each of which is neither `;` nor a brace
 abbrev pub SkippedHere : List Token → List Token → List Token → Type 0
 SkippedHere [] here rest = here ≡ rest
-SkippedHere (t ∷ ts) here rest = IsTrue (is_inside_type t) × (behind : List Token) × Next t here behind × SkippedHere ts behind rest
+SkippedHere (t ∷ ts) here rest = IsTrue (is_inside_type t) × (behind : List Token)
+    × Next t here behind × SkippedHere ts behind rest
 
 abbrev pub OtherTypeHere : List Token → List Token → Type 0
-OtherTypeHere here rest = (skipped from : List Token) × SkippedHere skipped here from × OtherEndHere from rest
+OtherTypeHere here rest = (skipped from : List Token) × SkippedHere skipped here from
+    × OtherEndHere from rest
 
 abbrev pub TypeHere : item.TypeWord → List (TypePart Path) → List Token → List Token → Type 0
 TypeHere (item.Known type size) parts here rest =
-    (from behind : List Token) × NextName (type_name type) here from × SizeHere size from behind × TypePartsHere parts behind rest
+    (from behind : List Token) × NextName (type_name type) here from × SizeHere size from behind
+    × TypePartsHere parts behind rest
 TypeHere (item.Other name) parts here rest =
-    (parts ≡ []) × IsTrue (not (is_name_in type_names name)) × (from : List Token) × NextName name here from × OtherTypeHere from rest
+    (parts ≡ []) × IsTrue (not (is_name_in type_names name)) × (from : List Token)
+    × NextName name here from × OtherTypeHere from rest
 
 -- ---- transactions
 
@@ -269,18 +308,27 @@ abbrev pub TextWordHere : TextAttribute → List Token → List Token → Type 0
 TextWordHere which here rest = (k : Keyword) × (text_of_word k ≡ Some which) × NextWord k here rest
 
 abbrev pub AttributeHere : Attribute Path → List Token → List Token → Type 0
-AttributeHere (item.OneText which c) here rest = (behind : List Token) × TextWordHere which here behind × OneHere TextHere c behind rest
+AttributeHere (item.OneText which c) here rest = (behind : List Token)
+    × TextWordHere which here behind × OneHere TextHere c behind rest
 AttributeHere (item.Class names) here rest =
-    (behind : List Token) × NextWord word.Class here behind × NamesHere (sign.Operator operator.And) names behind (Sign sign.Semicolon ∷ rest)
-AttributeHere (item.Handling c) here rest = (behind : List Token) × NextWord word.Handling here behind × OneHere HandlingHere c behind rest
-AttributeHere (item.Validity c) here rest = (behind : List Token) × NextWord word.Validity here behind × OneHere TruthHere c behind rest
-AttributeHere (item.TypeOf type parts) here rest = (behind : List Token) × NextWord word.Type here behind × TypeHere type parts behind rest
-AttributeHere (item.Number n) here rest = here ≡ Reserved word.Number ∷ Integer n ∷ Sign sign.Semicolon ∷ rest
+    (behind : List Token) × NextWord word.Class here behind × NamesHere (sign.Operator operator.And)
+    names behind (Sign sign.Semicolon ∷ rest)
+AttributeHere (item.Handling c) here rest = (behind : List Token)
+    × NextWord word.Handling here behind × OneHere HandlingHere c behind rest
+AttributeHere (item.Validity c) here rest = (behind : List Token)
+    × NextWord word.Validity here behind × OneHere TruthHere c behind rest
+AttributeHere (item.TypeOf type parts) here rest = (behind : List Token)
+    × NextWord word.Type here behind × TypeHere type parts behind rest
+AttributeHere (item.Number n) here rest = here ≡ Reserved word.Number ∷ Integer n
+    ∷ Sign sign.Semicolon ∷ rest
 AttributeHere (item.Operation o) here rest =
-    (behind : List Token) × NextWord word.Operation here behind × OperationHere o behind (Sign sign.Semicolon ∷ rest)
+    (behind : List Token) × NextWord word.Operation here behind
+    × OperationHere o behind (Sign sign.Semicolon ∷ rest)
 AttributeHere (item.Transaction number parts) here rest =
-    (from brace inside : List Token) × NextWord word.Transaction here from × NumberHere number from brace
-    × NextSign sign.OpenBrace brace inside × ClosedHere TransactionPartHere parts inside (Sign sign.CloseBrace ∷ rest)
+    (from brace inside : List Token) × NextWord word.Transaction here from
+    × NumberHere number from brace
+    × NextSign sign.OpenBrace brace inside × ClosedHere TransactionPartHere parts inside
+    (Sign sign.CloseBrace ∷ rest)
 AttributeHere (item.ResponseCodes responses) here rest =
     (inside : List Token) × (here ≡ Reserved word.ResponseCodes ∷ Sign sign.OpenBrace ∷ inside)
     × RowHere ResponseCodeHere responses inside (Sign sign.CloseBrace ∷ rest)
@@ -308,7 +356,8 @@ abbrev pub ItemWordHere : ItemKind → List Token → List Token → Type 0
 ItemWordHere VariableItem here rest = NextWord word.Variable here rest
 ItemWordHere CommandItem here rest = NextWord word.Command here rest
 ItemWordHere MenuItem here rest = NextWord word.Menu here rest
-ItemWordHere (CollectionItem of) here rest = here ≡ Reserved word.Collection ∷ Reserved word.Of ∷ Reserved (kind_word of) ∷ rest
+ItemWordHere (CollectionItem of) here rest = here ≡ Reserved word.Collection ∷ Reserved word.Of
+    ∷ Reserved (kind_word of) ∷ rest
 ItemWordHere MethodItem here rest = NextWord word.Method here rest
 
 -- an attribute that this kind of item may have
@@ -317,8 +366,10 @@ OwnAttributeHere k a here rest = IsTrue (belongs_to k a) × AttributeHere a here
 
 abbrev pub ItemHere : Item Path → List Token → List Token → Type 0
 ItemHere i here rest =
-    (from inside : List Token) × ItemWordHere i.sort here from × (from ≡ Identifier i.name ∷ Sign sign.OpenBrace ∷ inside)
-    × ClosedHere (OwnAttributeHere (kind_of_item i.sort)) i.attributes inside (Sign sign.CloseBrace ∷ rest)
+    (from inside : List Token) × ItemWordHere i.sort here from
+    × (from ≡ Identifier i.name ∷ Sign sign.OpenBrace ∷ inside)
+    × ClosedHere (OwnAttributeHere (kind_of_item i.sort)) i.attributes inside (Sign sign.CloseBrace
+    ∷ rest)
 
 -- ---- the unit
 

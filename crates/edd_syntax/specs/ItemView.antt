@@ -38,18 +38,22 @@ unfoldable mutual
   pub cond_of : {R S V W : Type 0} → (R → S) → (V → W) → Cond R V → pure.Cond S W
   cond_of f g (Value v) = pure.Value (g v)
   cond_of f g (If' test shape first shape' otherwise) =
-      pure.If (expr_of f test) (pure.conds_from (conds_in f g first)) (pure.conds_from (conds_in f g otherwise))
-  cond_of f g (Select' on shape arms) = pure.Select (expr_of f on) (pure.arms_from (arms_in f g arms))
+      pure.If (expr_of f test) (pure.conds_from (conds_in f g first))
+      (pure.conds_from (conds_in f g otherwise))
+  cond_of f g (Select' on shape arms) =
+      pure.Select (expr_of f on) (pure.arms_from (arms_in f g arms))
 
   pub arm_of : {R S V W : Type 0} → (R → S) → (V → W) → Arm R V → pure.Arm S W
   arm_of f g (Case' label shape body) = pure.Case label (pure.conds_from (conds_in f g body))
   arm_of f g (Default' line shape body) = pure.Default (pure.conds_from (conds_in f g body))
 
-  pub conds_in : {R S V W : Type 0} {n : _} → (R → S) → (V → W) → Row_of-Cond R V n → List (pure.Cond S W)
+  pub conds_in : {R S V W : Type 0} {n : _} → (R → S) → (V → W) → Row_of-Cond R V n
+      → List (pure.Cond S W)
   conds_in f g end_of-Cond = []
   conds_in f g (more_of-Cond first rest) = cond_of f g first ∷ conds_in f g rest
 
-  pub arms_in : {R S V W : Type 0} {n : _} → (R → S) → (V → W) → Row_of-Arm R V n → List (pure.Arm S W)
+  pub arms_in : {R S V W : Type 0} {n : _} → (R → S) → (V → W) → Row_of-Arm R V n
+      → List (pure.Arm S W)
   arms_in f g end_of-Arm = []
   arms_in f g (more_of-Arm first rest) = arm_of f g first ∷ arms_in f g rest
 
@@ -60,7 +64,11 @@ conds_of f g conds = pure.conds_from (map (cond_of f g) conds)
 -- ---- attributes
 
 abbrev pub enumerator_of : Enumerator → items.Enumerator
-enumerator_of e = record { value = e.value; text = text_of e.text; help = option_map text_of e.help }
+enumerator_of e = record {
+  value = e.value;
+  text = text_of e.text;
+  help = option_map text_of e.help;
+}
 
 abbrev pub entry_of : {R S : Type 0} → (R → S) → MenuEntry R → items.MenuEntry S
 entry_of f (entry.Text text) = items.Text (text_of text)
@@ -68,13 +76,20 @@ entry_of f (entry.Reference to qualifiers) = items.Reference (f to) qualifiers
 
 abbrev pub data_item_of : {R S : Type 0} → (R → S) → DataItem R → items.DataItem S
 data_item_of f (data_item.Constant line value) = items.Constant value
-data_item_of f (data_item.Variable line variable mask qualifiers) = items.Variable (f variable) mask qualifiers
+data_item_of f (data_item.Variable line variable mask qualifiers) =
+    items.Variable (f variable) mask qualifiers
 
 abbrev pub response_code_of : ResponseCode → items.ResponseCode
 response_code_of r = record { number = r.number; class = r.class; text = text_of r.text }
 
 abbrev pub member_of : {R S : Type 0} → (R → S) → Member R → items.Member S
-member_of f m = record { name = string_bytes m.name; item = f m.item; label = option_map text_of m.label; help = option_map text_of m.help }
+member_of f m = record {
+  name = string_bytes m.name;
+  item = f m.item;
+  label = option_map text_of
+      m.label;
+  help = option_map text_of m.help;
+}
 
 abbrev pub type_word_of : TypeWord → items.TypeWord
 type_word_of (word.Known type size) = items.Known type size
@@ -88,8 +103,10 @@ type_part_of f (part.DisplayFormat line format) = items.DisplayFormat (cond_of f
 type_part_of f (part.EditFormat line format) = items.EditFormat (cond_of f text_of format)
 type_part_of f (part.Element element) = items.Element (cond_of f enumerator_of element)
 
-abbrev pub transaction_part_of : {R S : Type 0} → (R → S) → TransactionPart R → items.TransactionPart S
-transaction_part_of f (transaction.Request all) = items.Request (conds_of f (data_item_of f) all.items)
+abbrev pub transaction_part_of : {R S : Type 0} → (R → S) → TransactionPart R
+    → items.TransactionPart S
+transaction_part_of f (transaction.Request all) =
+    items.Request (conds_of f (data_item_of f) all.items)
 transaction_part_of f (transaction.Reply all) = items.Reply (conds_of f (data_item_of f) all.items)
 
 abbrev pub attribute_of : {R S : Type 0} → (R → S) → Attribute R → items.Attribute S
@@ -97,14 +114,18 @@ attribute_of f (attribute.OneText which c) = items.OneText which (cond_of f text
 attribute_of f (attribute.Class words) = items.Class (map string_bytes words.items)
 attribute_of f (attribute.Handling c) = items.Handling (cond_of f (λ h. h) c)
 attribute_of f (attribute.Validity c) = items.Validity (cond_of f (λ b. b) c)
-attribute_of f (attribute.TypeOf word parts) = items.TypeOf (type_word_of word) (map (type_part_of f) parts.items)
+attribute_of f (attribute.TypeOf word parts) =
+    items.TypeOf (type_word_of word) (map (type_part_of f) parts.items)
 attribute_of f (attribute.Number n) = items.Number n
 attribute_of f (attribute.Operation operation) = items.Operation operation
-attribute_of f (attribute.Transaction number parts) = items.Transaction number (map (transaction_part_of f) parts.items)
-attribute_of f (attribute.ResponseCodes codes) = items.ResponseCodes (map response_code_of codes.items)
+attribute_of f (attribute.Transaction number parts) =
+    items.Transaction number (map (transaction_part_of f) parts.items)
+attribute_of f (attribute.ResponseCodes codes) =
+    items.ResponseCodes (map response_code_of codes.items)
 attribute_of f (attribute.Items entries) = items.Items (conds_of f (entry_of f) entries.items)
 attribute_of f (attribute.Members members) = items.Members (map (member_of f) members.items)
-attribute_of f (attribute.Definition parts) = items.Definition (statement.body_from (map (part_of f) parts.items))
+attribute_of f (attribute.Definition parts) =
+    items.Definition (statement.body_from (map (part_of f) parts.items))
 
 -- ---- items
 
@@ -131,15 +152,57 @@ attributes_of (item.Collection d) = d.attributes.items
 attributes_of (item.Method d) = d.attributes.items
 
 abbrev pub item_of : {R S : Type 0} → (R → S) → Item R → items.Item S
-item_of f i = record { sort = sort_of i; name = name_of i; attributes = map (attribute_of f) (attributes_of i) }
+item_of f i = record {
+  sort = sort_of i;
+  name = name_of i;
+  attributes = map (attribute_of f)
+      (attributes_of i);
+}
 
 abbrev pub identification_of : Identification → items.Identification
-identification_of i = record { manufacturer = i.manufacturer; device_type = i.device_type; device_revision = i.device_revision; dd_revision = i.dd_revision }
+identification_of i = record {
+  manufacturer = i.manufacturer;
+  device_type = i.device_type;
+  device_revision = i.device_revision;
+  dd_revision = i.dd_revision;
+}
 
 -- the items of a unit, whose references are names
 abbrev pub named_items : List (Item Path) → List (items.Item references.Path)
 named_items all = map (item_of path_of) all
 
+-- ---- trees whose references are numbers already
+
+abbrev pub numbered_cond : {V W : Type 0} → (V → W) → Cond Target V → pure.Cond Target W
+numbered_cond = cond_of (λ r. r)
+
+abbrev pub numbered_arm : {V W : Type 0} → (V → W) → Arm Target V → pure.Arm Target W
+numbered_arm = arm_of (λ r. r)
+
+abbrev pub numbered_conds : {V W : Type 0} → (V → W) → List (Cond Target V) → pure.Conds Target W
+numbered_conds = conds_of (λ r. r)
+
+abbrev pub numbered_entry : MenuEntry Target → items.MenuEntry Target
+numbered_entry = entry_of (λ r. r)
+
+abbrev pub numbered_data_item : DataItem Target → items.DataItem Target
+numbered_data_item = data_item_of (λ r. r)
+
+abbrev pub numbered_member : Member Target → items.Member Target
+numbered_member = member_of (λ r. r)
+
+abbrev pub numbered_type_part : TypePart Target → items.TypePart Target
+numbered_type_part = type_part_of (λ r. r)
+
+abbrev pub numbered_transaction_part : TransactionPart Target → items.TransactionPart Target
+numbered_transaction_part = transaction_part_of (λ r. r)
+
+abbrev pub numbered_attribute : Attribute Target → items.Attribute Target
+numbered_attribute = attribute_of (λ r. r)
+
+abbrev pub numbered_item : Item Target → items.Item Target
+numbered_item = item_of (λ r. r)
+
 -- the items of a resolved unit
 abbrev pub numbered_items : List (Item Target) → List (items.Item Target)
-numbered_items all = map (item_of (λ r. r)) all
+numbered_items all = map numbered_item all

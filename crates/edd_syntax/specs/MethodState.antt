@@ -33,7 +33,8 @@ pub record State : Type 0 where
   -- the answers that are left
   pub answers : List Answer
 
--- why a run stops before its end: a trap, an abort, a request without an answer, or a loop without a turn left
+-- why a run stops before its end: a trap, an abort, a request without an answer, or a loop without
+-- a turn left
 pub data Stop : Type 0 where
   Trapped : Trap → Stop
   Aborted : Stop
@@ -91,9 +92,14 @@ read target = λ s. Done (read_from s target) s
 
 -- the variable gets this value, and the change is noted
 abbrev pub change : VarNo → ℤ → State → State
-change v z s = record s { values = slice_set s.values v.0 z; changes = s.changes ++ record { variable = v; value = z } ∷ [] }
+change v z s = record s {
+  values = slice_set s.values v.0 z;
+  changes = s.changes
+      ++ record { variable = v; value = z } ∷ [];
+}
 
--- a store keeps what fits the variable's type and size, and gives what is then read; no checked unit stores to another item
+-- a store keeps what fits the variable's type and size, and gives what is then read; no checked
+-- unit stores to another item
 abbrev pub assign_item : Environment → ItemNo → ℤ → Action ℤ
 assign_item env (item_no.Variable v) z =
     let t = type_of_variable env v in

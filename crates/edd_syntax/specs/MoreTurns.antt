@@ -1,4 +1,5 @@
--- The law of more turns: an outcome that isn't for want of turns is the same where loops have more turns.
+-- The law of more turns: an outcome that isn't for want of turns is the same where loops have more
+-- turns.
 use Rattle.std.specs.Prelude.{◌≡◌, ◌≢◌, ℕ, ◌≤◌, ℤ, List}
 use Rattle.edd_syntax.specs.declared.numbers.MethNo.{MethNo}
 use Rattle.edd_syntax.specs.Answers.{Answer}
@@ -24,14 +25,18 @@ Extends first second = (s : State) → IsOver (first s) → second s ≡ first s
 
 -- what a statement comes to, other than for want of turns, stays where each loop has more turns
 abbrev pub StatementsStay : Type 0
-StatementsStay = (env : Environment) (statement : Stmt Target) (n m : ℕ) → n ≤ m → Extends (execute env statement n) (execute env statement m)
+StatementsStay = (env : Environment) (statement : Stmt Target) (n m : ℕ) → n ≤ m
+    → Extends (execute env statement n) (execute env statement m)
 
 -- so does what the run of a body comes to, from any state
 abbrev pub BodiesStay : Type 0
 BodiesStay = (env : Environment) (body : Body Target) (n m : ℕ) → n ≤ m → (s : State)
-    → (run_body n env body s).ending ≢ ending.OutOfTurns → run_body m env body s ≡ run_body n env body s
+    → (run_body n env body s).ending ≢ ending.OutOfTurns → run_body m env body s
+    ≡ run_body n env body s
 
 -- so does what the run of a method comes to, under the same values and answers
 abbrev pub RunsStay : Type 0
-RunsStay = (unit : Description Target) (method : MethNo) (n m : ℕ) → n ≤ m → (values : List ℤ) (answers : List Answer)
-    → (run n unit method values answers).ending ≢ ending.OutOfTurns → run m unit method values answers ≡ run n unit method values answers
+RunsStay = (unit : Description Target) (method : MethNo) (n m : ℕ) → n ≤ m
+    → (values : List ℤ) (answers : List Answer)
+    → (run n unit method values answers).ending ≢ ending.OutOfTurns
+    → run m unit method values answers ≡ run n unit method values answers

@@ -1,5 +1,5 @@
--- The rules of a description on counts, names and attributes, each as the list of its breaches in the order of the source. Of two
--- things that clash the later one is the breach.
+-- The rules of a description on counts, names and attributes, each as the list of its breaches in
+-- the order of the source. Of two things that clash the later one is the breach.
 use Rattle.std.specs.Prelude.{ℕ, Bool, true, false, not, nat_lt, if◌then◌else◌, List, [], ◌∷◌, ◌++◌, length, map, filter, sum, Option, Some, None}
 use Rattle.std.specs.List.{list_any, flat_map}
 use Rattle.edd_syntax.specs.declared.limits.Limit.TheVariants as limit
@@ -55,9 +55,12 @@ kinds = kind.Variable ∷ kind.Command ∷ kind.Menu ∷ kind.Collection ∷ kin
 
 abbrev pub too_many : {R : Type 0} → Description R → List Refusal
 too_many unit =
-    refused_if (list_any (λ k. nat_lt item_limit (count_of k unit.items)) kinds) (TooMany limit.Items) ++
-    (refused_if (list_any (λ i. nat_lt transaction_limit (transaction_count i)) unit.items) (TooMany limit.Transactions) ++
-    (refused_if (list_any (λ i. nat_lt local_limit (locals_of i)) unit.items) (TooMany limit.Locals) ++
+    refused_if (list_any (λ k. nat_lt item_limit (count_of k unit.items)) kinds)
+    (TooMany limit.Items) ++
+    (refused_if (list_any (λ i. nat_lt transaction_limit (transaction_count i)) unit.items)
+    (TooMany limit.Transactions) ++
+    (refused_if (list_any (λ i. nat_lt local_limit (locals_of i)) unit.items) (TooMany limit.Locals)
+    ++
     refused_if (nat_lt node_limit (unit_nodes unit)) (TooMany limit.Nodes)))
 
 -- ---- two items, two members of a collection or two locals of a block with one name
@@ -70,8 +73,10 @@ abbrev mutual
   pub repeated_locals : (block : List Name) → Body Path → List Name
   repeated_locals block Nil = []
   repeated_locals block (Cons (Declare declarators) rest) =
-      repeated block (names_declared declarators) ++ repeated_locals (names_declared declarators ++ block) rest
-  repeated_locals block (Cons (Statement first) rest) = repeated_inside first ++ repeated_locals block rest
+      repeated block (names_declared declarators)
+      ++ repeated_locals (names_declared declarators ++ block) rest
+  repeated_locals block (Cons (Statement first) rest) = repeated_inside first
+      ++ repeated_locals block rest
   repeated_locals block (Cons (CaseLabel label) rest) = repeated_locals block rest
   repeated_locals block (Cons DefaultLabel rest) = repeated_locals block rest
 
@@ -81,7 +86,8 @@ abbrev mutual
   repeated_inside (s.Evaluate e) = []
   repeated_inside (s.Block body) = repeated_locals [] body
   repeated_inside (s.If condition first) = repeated_inside first
-  repeated_inside (s.IfElse condition first otherwise) = repeated_inside first ++ repeated_inside otherwise
+  repeated_inside (s.IfElse condition first otherwise) = repeated_inside first
+      ++ repeated_inside otherwise
   repeated_inside (s.While condition body) = repeated_inside body
   repeated_inside (s.Do body condition) = repeated_inside body
   repeated_inside (s.For initial condition update body) = repeated_inside body
@@ -96,7 +102,8 @@ repeated_in_attributes before [] = []
 repeated_in_attributes before (item.Members members ∷ rest) =
     let names = map (λ m. m.name) members in
     repeated before names ++ repeated_in_attributes (names ++ before) rest
-repeated_in_attributes before (item.Definition body ∷ rest) = repeated_locals [] body ++ repeated_in_attributes before rest
+repeated_in_attributes before (item.Definition body ∷ rest) = repeated_locals [] body
+    ++ repeated_in_attributes before rest
 repeated_in_attributes before (_ ∷ rest) = repeated_in_attributes before rest
 
 -- `before` are the names of the items so far
@@ -141,7 +148,8 @@ transaction_part_word (item.Reply all) = attr_word attr.Reply
 -- the repeated words in the braces of an attribute
 abbrev pub repeated_words_inside : {R : Type 0} → Attribute R → List Name
 repeated_words_inside (item.TypeOf word parts) = repeated [] (flat_map type_part_words parts)
-repeated_words_inside (item.Transaction number parts) = repeated [] (map transaction_part_word parts)
+repeated_words_inside (item.Transaction number parts) =
+    repeated [] (map transaction_part_word parts)
 repeated_words_inside _ = []
 
 -- a transaction may stand any number of times
@@ -149,22 +157,26 @@ abbrev pub repeated_words : {R : Type 0} → (before : List Name) → List (Attr
 repeated_words before [] = []
 repeated_words before (a ∷ rest) =
     let word = attribute_word a in
-    (if is_transaction a then [] else repeated before (word ∷ [])) ++ (repeated_words_inside a ++ repeated_words (word ∷ before) rest)
+    (if is_transaction a then [] else repeated before (word ∷ []))
+    ++ (repeated_words_inside a ++ repeated_words (word ∷ before) rest)
 
 abbrev pub duplicate_attributes : {R : Type 0} → Description R → List Refusal
-duplicate_attributes unit = map DuplicateAttribute (flat_map (λ i. repeated_words [] i.attributes) unit.items)
+duplicate_attributes unit =
+    map DuplicateAttribute (flat_map (λ i. repeated_words [] i.attributes) unit.items)
 
 -- ---- a missing attribute
 
 abbrev pub required_words : Kind → List Name
 required_words kind.Variable = spelling keyword.Type ∷ []
-required_words kind.Command = attr_word attr.Number ∷ attr_word attr.Operation ∷ attr_word attr.Transaction ∷ []
+required_words kind.Command = attr_word attr.Number ∷ attr_word attr.Operation
+    ∷ attr_word attr.Transaction ∷ []
 required_words kind.Menu = attr_word attr.Items ∷ []
 required_words kind.Collection = attr_word attr.Members ∷ []
 required_words kind.Method = attr_word attr.Definition ∷ []
 
 abbrev pub missing_words : {R : Type 0} → Item R → List Name
-missing_words i = filter (λ word. not (is_name_in (map attribute_word i.attributes) word)) (required_words (kind_of_item i.sort))
+missing_words i = filter (λ word. not (is_name_in (map attribute_word i.attributes) word))
+    (required_words (kind_of_item i.sort))
 
 abbrev pub missing_attributes : {R : Type 0} → Description R → List Refusal
 missing_attributes unit = flat_map (λ i. map (MissingAttribute i.name) (missing_words i)) unit.items
@@ -174,11 +186,13 @@ missing_attributes unit = flat_map (λ i. map (MissingAttribute i.name) (missing
 abbrev pub is_kind_among : List Kind → Kind → Bool
 is_kind_among allowed k = list_any (same_kind k) allowed
 
--- Behind the name of something of kind k, which is the item i where that is known. A member has the kind after OF; what it names
--- is judged where the member stands, and not here.
-abbrev pub faults_along : Description Path → (allowed : List Kind) → Name → Kind → Option ItemNo → (members : List Name) → List Refusal
+-- Behind the name of something of kind k, which is the item i where that is known. A member has the
+-- kind after OF; what it names is judged where the member stands, and not here.
+abbrev pub faults_along : Description Path → (allowed : List Kind) → Name → Kind → Option ItemNo
+    → (members : List Name) → List Refusal
 faults_along unit allowed name k i [] = refused_if (not (is_kind_among allowed k)) (WrongKind name)
-faults_along unit allowed name k None (m ∷ rest) = refused_if (not (same_kind k kind.Collection)) (WrongKind name)
+faults_along unit allowed name k None (m ∷ rest) = refused_if (not (same_kind k kind.Collection))
+    (WrongKind name)
 faults_along unit allowed name k (Some i) (m ∷ rest) =
     if not (same_kind k kind.Collection) then WrongKind name ∷ []
     else elim (member_at unit i m) [
@@ -200,7 +214,10 @@ faults_of_item unit allowed path =
 
 abbrev pub faults_of_use : Description Path → Use → List Refusal
 faults_of_use unit (OfItem scope allowed path) =
-    elim (look_up path.base scope) [ Some slot ↦ faults_of_local path path.members | None ↦ faults_of_item unit allowed path ]
+    elim (look_up path.base scope) [
+      | Some slot ↦ faults_of_local path path.members
+      | None ↦ faults_of_item unit allowed path
+    ]
 faults_of_use unit (OfFunction path) =
     elim (look_up path.base builtins) [ Some f ↦ [] | None ↦ UnknownName path.base ∷ [] ]
 

@@ -13,7 +13,8 @@ use Rattle.edd_syntax.specs.Item as item
 use Rattle.edd_syntax.specs.Item.{ItemKind, TypePart, TransactionPart, Attribute, Description}
 use Rattle.edd_syntax.specs.Resolution.{Scope, variable_kinds, entry_kinds, member_kinds, declared, all_declared}
 
--- a use of a name: a reference, with the locals that can be used there and the kinds of items that may stand there, or a call
+-- a use of a name: a reference, with the locals that can be used there and the kinds of items that
+-- may stand there, or a call
 pub data Use : Type 0 where
   OfItem : Scope → (kinds : List Kind) → Path → Use
   OfFunction : Path → Use
@@ -31,16 +32,19 @@ abbrev mutual
   expr_uses scope (Compare by left right) = expr_uses scope left ++ expr_uses scope right
   expr_uses scope (LogicalAnd left right) = expr_uses scope left ++ expr_uses scope right
   expr_uses scope (LogicalOr left right) = expr_uses scope left ++ expr_uses scope right
-  expr_uses scope (Conditional test first second) = expr_uses scope test ++ (expr_uses scope first ++ expr_uses scope second)
+  expr_uses scope (Conditional test first second) = expr_uses scope test
+      ++ (expr_uses scope first ++ expr_uses scope second)
   expr_uses scope (Assign to value) = OfItem scope variable_kinds to ∷ expr_uses scope value
-  expr_uses scope (CompoundAssign op to value) = OfItem scope variable_kinds to ∷ expr_uses scope value
+  expr_uses scope (CompoundAssign op to value) = OfItem scope variable_kinds to
+      ∷ expr_uses scope value
   expr_uses scope (Increment op to) = OfItem scope variable_kinds to ∷ []
   expr_uses scope (Call function arguments) = OfFunction function ∷ argument_uses scope arguments
 
   pub argument_uses : Scope → Arguments Path → List Use
   argument_uses scope expr.Nil = []
   argument_uses scope (expr.Cons (Text text) rest) = argument_uses scope rest
-  argument_uses scope (expr.Cons (expr.Value e) rest) = expr_uses scope e ++ argument_uses scope rest
+  argument_uses scope (expr.Cons (expr.Value e) rest) = expr_uses scope e
+      ++ argument_uses scope rest
 
 abbrev pub optional_uses : Scope → Option (Expr Path) → List Use
 optional_uses scope None = []
@@ -50,20 +54,27 @@ optional_uses scope (Some e) = expr_uses scope e
 
 abbrev pub declarator_uses : Scope → (next : ℕ) → List (Declarator Path) → List Use
 declarator_uses scope next [] = []
-declarator_uses scope next (d ∷ rest) = optional_uses scope d.value ++ declarator_uses (declared d.place next scope) (next + 1) rest
+declarator_uses scope next (d ∷ rest) = optional_uses scope d.value
+    ++ declarator_uses (declared d.place next scope) (next + 1) rest
 
 abbrev mutual
   pub stmt_uses : Stmt Path → Scope → (next : ℕ) → List Use
   stmt_uses s.Empty scope next = []
   stmt_uses (s.Evaluate e) scope next = expr_uses scope e
   stmt_uses (s.Block body) scope next = body_uses body scope next
-  stmt_uses (s.If condition first) scope next = expr_uses scope condition ++ stmt_uses first scope next
+  stmt_uses (s.If condition first) scope next = expr_uses scope condition
+      ++ stmt_uses first scope next
   stmt_uses (s.IfElse condition first otherwise) scope next =
-      expr_uses scope condition ++ (stmt_uses first scope next ++ stmt_uses otherwise scope (next + slots_of first))
-  stmt_uses (s.While condition body) scope next = expr_uses scope condition ++ stmt_uses body scope next
-  stmt_uses (s.Do body condition) scope next = stmt_uses body scope next ++ expr_uses scope condition
+      expr_uses scope condition
+      ++ (stmt_uses first scope next ++ stmt_uses otherwise scope (next + slots_of first))
+  stmt_uses (s.While condition body) scope next = expr_uses scope condition
+      ++ stmt_uses body scope next
+  stmt_uses (s.Do body condition) scope next = stmt_uses body scope next
+      ++ expr_uses scope condition
   stmt_uses (s.For initial condition update body) scope next =
-      optional_uses scope initial ++ (optional_uses scope condition ++ (optional_uses scope update ++ stmt_uses body scope next))
+      optional_uses scope initial
+      ++ (optional_uses scope condition
+      ++ (optional_uses scope update ++ stmt_uses body scope next))
   stmt_uses (s.Switch on body) scope next = expr_uses scope on ++ body_uses body scope next
   stmt_uses s.Break scope next = []
   stmt_uses s.Continue scope next = []
@@ -72,8 +83,10 @@ abbrev mutual
   pub body_uses : Body Path → Scope → (next : ℕ) → List Use
   body_uses Nil scope next = []
   body_uses (Cons (Declare declarators) rest) scope next =
-      declarator_uses scope next declarators ++ body_uses rest (all_declared scope next declarators) (next + length declarators)
-  body_uses (Cons (Statement first) rest) scope next = stmt_uses first scope next ++ body_uses rest scope (next + slots_of first)
+      declarator_uses scope next declarators ++ body_uses rest (all_declared scope next declarators)
+      (next + length declarators)
+  body_uses (Cons (Statement first) rest) scope next = stmt_uses first scope next
+      ++ body_uses rest scope (next + slots_of first)
   body_uses (Cons (CaseLabel label) rest) scope next = body_uses rest scope next
   body_uses (Cons DefaultLabel rest) scope next = body_uses rest scope next
 
@@ -85,7 +98,8 @@ attribute_expr_uses = expr_uses []
 abbrev mutual
   pub cond_uses : {V : Type 0} → (of : V → List Use) → Cond Path V → List Use
   cond_uses of (Value v) = of v
-  cond_uses of (If condition first otherwise) = attribute_expr_uses condition ++ (conds_uses of first ++ conds_uses of otherwise)
+  cond_uses of (If condition first otherwise) = attribute_expr_uses condition
+      ++ (conds_uses of first ++ conds_uses of otherwise)
   cond_uses of (Select on arms) = attribute_expr_uses on ++ arms_uses of arms
 
   pub conds_uses : {V : Type 0} → (of : V → List Use) → Conds Path V → List Use
@@ -131,7 +145,8 @@ attribute_uses sort (item.Operation o) = []
 attribute_uses sort (item.Transaction number parts) = flat_map transaction_part_uses parts
 attribute_uses sort (item.ResponseCodes responses) = []
 attribute_uses sort (item.Items entries) = conds_uses entry_uses entries
-attribute_uses sort (item.Members members) = flat_map (λ m. OfItem [] (member_kinds sort) m.item ∷ []) members
+attribute_uses sort (item.Members members) =
+    flat_map (λ m. OfItem [] (member_kinds sort) m.item ∷ []) members
 attribute_uses sort (item.Definition body) = body_uses body [] 0
 
 abbrev pub item_uses : item.Item Path → List Use

@@ -37,4 +37,5 @@ refused_if false why = []
 -- the names that equal one in `before` or an earlier one of the list
 abbrev pub repeated : (before : List Name) → List Name → List Name
 repeated before [] = []
-repeated before (n ∷ rest) = if is_name_in before n then n ∷ repeated (n ∷ before) rest else repeated (n ∷ before) rest
+repeated before (n ∷ rest) = if is_name_in before n then n ∷ repeated (n ∷ before) rest else
+    repeated (n ∷ before) rest

@@ -1,6 +1,7 @@
--- What names mean. An item's number is the count of items of its kind before it, a local's slot the count of declarators of its
--- method before it. A name means the innermost local that was declared before it and whose block is open there, else the item;
--- `c.m` means the item of the member m of c.
+-- What names mean. An item's number is the count of items of its kind before it, a local's slot the
+-- count of declarators of its method before it. A name means the innermost local that was declared
+-- before it and whose block is open there, else the item; `c.m` means the item of the member m of
+-- c.
 use Rattle.std.specs.Prelude.{ℕ, ◌+◌, Bool, List, [], ◌∷◌, ◌++◌, length, filter, find, map, Option, Some, None, option_map, option_and_then, codes, if◌then◌else◌}
 use Rattle.std.specs.Str.{bytes_eq}
 use Rattle.std.specs.List.{list_any, flat_map}
@@ -28,10 +29,12 @@ abbrev pub count_of : {R : Type 0} → Kind → List (item.Item R) → ℕ
 count_of k items = length (filter (λ i. same_kind (kind_of_item i.sort) k) items)
 
 -- the names and numbers of items behind those in `before`
-abbrev pub numbered_names : {R : Type 0} → (before items : List (item.Item R)) → List (Name × ItemNo)
+abbrev pub numbered_names : {R : Type 0} → (before items : List (item.Item R))
+    → List (Name × ItemNo)
 numbered_names before [] = []
 numbered_names before (i ∷ rest) =
-    (i.name, item_number (kind_of_item i.sort) (count_of (kind_of_item i.sort) before)) ∷ numbered_names (before ++ i ∷ []) rest
+    (i.name, item_number (kind_of_item i.sort) (count_of (kind_of_item i.sort) before))
+    ∷ numbered_names (before ++ i ∷ []) rest
 
 abbrev pub item_named : Description Path → Name → Option ItemNo
 item_named unit name = look_up name (numbered_names [] unit.items)
@@ -79,7 +82,10 @@ member_at unit i m = option_and_then (λ found. member_in found m) (item_at unit
 abbrev pub along : Description Path → ItemNo → (members : List Name) → Option ItemNo
 along unit i [] = Some i
 along unit i (m ∷ rest) =
-    elim (option_and_then (item_of_member unit) (member_at unit i m)) [ Some j ↦ along unit j rest | None ↦ None ]
+    elim (option_and_then (item_of_member unit) (member_at unit i m)) [
+      | Some j ↦ along unit j rest
+      | None ↦ None
+    ]
 
 -- ---- uses of names
 
@@ -106,7 +112,10 @@ local_meant slot (m ∷ rest) = None
 -- what a reference means at a place where an item of these kinds may stand
 abbrev pub meaning : Description Path → Scope → (kinds : List Kind) → Path → Option Target
 meaning unit scope kinds path =
-    elim (look_up path.base scope) [ Some slot ↦ local_meant slot path.members | None ↦ item_meant unit kinds path ]
+    elim (look_up path.base scope) [
+      | Some slot ↦ local_meant slot path.members
+      | None ↦ item_meant unit kinds path
+    ]
 
 -- the name of a function that a method may call
 abbrev pub builtin_name : Builtin → Name
@@ -127,8 +136,10 @@ builtin_name builtin.ProcessAbort = codes "process_abort"
 
 abbrev pub all_builtins : List Builtin
 all_builtins =
-    builtin.PutMessage ∷ builtin.Acknowledge ∷ builtin.Delay ∷ builtin.GetDevVarValue ∷ builtin.SelectFromList ∷
-    builtin.SendCommand ∷ builtin.SendCommandTrans ∷ builtin.SaveValues ∷ builtin.IvarValue ∷ builtin.LvarValue ∷
+    builtin.PutMessage ∷ builtin.Acknowledge ∷ builtin.Delay ∷ builtin.GetDevVarValue
+    ∷ builtin.SelectFromList ∷
+    builtin.SendCommand ∷ builtin.SendCommandTrans ∷ builtin.SaveValues ∷ builtin.IvarValue
+    ∷ builtin.LvarValue ∷
     builtin.Iassign ∷ builtin.Lassign ∷ builtin.Abort ∷ builtin.ProcessAbort ∷ []
 
 -- the functions that a method may call, by their names

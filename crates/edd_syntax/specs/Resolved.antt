@@ -7,8 +7,8 @@ use Rattle.edd_syntax.specs.ResolvedTrees.{resolved_unit}
 use Rattle.edd_syntax.specs.Accepted.{name_breaches}
 use Rattle.edd_syntax.specs.SubsetRules.{subset_breaches}
 
--- the description is that of a unit as a parser makes it, with the meaning of each name; no rule on counts, names and
--- attributes is broken
+-- the description is that of a unit as a parser makes it, with the meaning of each name; no rule on
+-- counts, names and attributes is broken
 pub record IsResolved (d : Description Target) : Type 0 where
   pub unit : Description Path
   pub well_formed : IsTrue (are_items unit.items)

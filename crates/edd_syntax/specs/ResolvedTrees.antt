@@ -1,4 +1,5 @@
--- The trees of a unit with the meaning of each name in its place. A tree with a name that means nothing has none.
+-- The trees of a unit with the meaning of each name in its place. A tree with a name that means
+-- nothing has none.
 use Rattle.std.specs.Prelude.{ℕ, ◌+◌, List, [], ◌∷◌, length, Option, Some, None}
 use Rattle.edd_syntax.specs.declared.numbers.Kind.{Kind}
 use Rattle.edd_syntax.specs.Reference.{Path, Target, Local}
@@ -32,17 +33,35 @@ module _ (at : Path → Option Target) where
     resolved_expr (Reference from) = do from' ← at from; Some (Reference from')
     resolved_expr (Parentheses inner) = do inner' ← resolved_expr inner; Some (Parentheses inner')
     resolved_expr (Unary op operand) = do operand' ← resolved_expr operand; Some (Unary op operand')
-    resolved_expr (Binary op left right) = do left' ← resolved_expr left; right' ← resolved_expr right; Some (Binary op left' right')
-    resolved_expr (Compare by left right) = do left' ← resolved_expr left; right' ← resolved_expr right; Some (Compare by left' right')
-    resolved_expr (LogicalAnd left right) = do left' ← resolved_expr left; right' ← resolved_expr right; Some (LogicalAnd left' right')
-    resolved_expr (LogicalOr left right) = do left' ← resolved_expr left; right' ← resolved_expr right; Some (LogicalOr left' right')
+    resolved_expr (Binary op left right) = do
+      left' ← resolved_expr left
+      right' ← resolved_expr right
+      Some (Binary op left' right')
+    resolved_expr (Compare by left right) = do
+      left' ← resolved_expr left
+      right' ← resolved_expr right
+      Some (Compare by left' right')
+    resolved_expr (LogicalAnd left right) = do
+      left' ← resolved_expr left
+      right' ← resolved_expr right
+      Some (LogicalAnd left' right')
+    resolved_expr (LogicalOr left right) = do
+      left' ← resolved_expr left
+      right' ← resolved_expr right
+      Some (LogicalOr left' right')
     resolved_expr (Conditional test first second) = do
       test' ← resolved_expr test
       first' ← resolved_expr first
       second' ← resolved_expr second
       Some (Conditional test' first' second')
-    resolved_expr (Assign to value) = do to' ← at to; value' ← resolved_expr value; Some (Assign to' value')
-    resolved_expr (CompoundAssign op to value) = do to' ← at to; value' ← resolved_expr value; Some (CompoundAssign op to' value')
+    resolved_expr (Assign to value) = do
+      to' ← at to
+      value' ← resolved_expr value
+      Some (Assign to' value')
+    resolved_expr (CompoundAssign op to value) = do
+      to' ← at to
+      value' ← resolved_expr value
+      Some (CompoundAssign op to' value')
     resolved_expr (Increment op to) = do to' ← at to; Some (Increment op to')
     resolved_expr (Call name arguments) = do
       function ← function_meant name
@@ -51,7 +70,9 @@ module _ (at : Path → Option Target) where
 
     pub resolved_arguments : Arguments Path → Option (Arguments Target)
     resolved_arguments expr.Nil = Some expr.Nil
-    resolved_arguments (expr.Cons (Text text) rest) = do rest' ← resolved_arguments rest; Some (expr.Cons (Text text) rest')
+    resolved_arguments (expr.Cons (Text text) rest) = do
+      rest' ← resolved_arguments rest
+      Some (expr.Cons (Text text) rest')
     resolved_arguments (expr.Cons (expr.Value e) rest) = do
       e' ← resolved_expr e
       rest' ← resolved_arguments rest
@@ -71,9 +92,13 @@ module _ (at : Path → Option Target) where
       first' ← resolved_conds of first
       otherwise' ← resolved_conds of otherwise
       Some (If condition' first' otherwise')
-    resolved_cond of (Select on arms) = do on' ← resolved_expr on; arms' ← resolved_arms of arms; Some (Select on' arms')
+    resolved_cond of (Select on arms) = do
+      on' ← resolved_expr on
+      arms' ← resolved_arms of arms
+      Some (Select on' arms')
 
-    pub resolved_conds : {V W : Type 0} → (of : V → Option W) → Conds Path V → Option (Conds Target W)
+    pub resolved_conds : {V W : Type 0} → (of : V → Option W) → Conds Path V
+        → Option (Conds Target W)
     resolved_conds of cond.Nil = Some cond.Nil
     resolved_conds of (cond.Cons first rest) = do
       first' ← resolved_cond of first
@@ -102,7 +127,8 @@ module _ (unit : Description Path) where
   at_scope scope = meaning unit scope variable_kinds
 
   -- a local can be used behind its own declarator
-  abbrev pub resolved_declarators : Scope → (next : ℕ) → List (Declarator Path) → Option (List (Declarator Target))
+  abbrev pub resolved_declarators : Scope → (next : ℕ) → List (Declarator Path)
+      → Option (List (Declarator Target))
   resolved_declarators scope next [] = Some []
   resolved_declarators scope next (d ∷ rest) = do
     value ← resolved_optional (at_scope scope) d.value
@@ -112,8 +138,12 @@ module _ (unit : Description Path) where
   unfoldable mutual
     pub resolved_stmt : Stmt Path → Scope → (next : ℕ) → Option (Stmt Target)
     resolved_stmt s.Empty scope next = Some s.Empty
-    resolved_stmt (s.Evaluate e) scope next = do e' ← resolved_expr (at_scope scope) e; Some (s.Evaluate e')
-    resolved_stmt (s.Block body) scope next = do body' ← resolved_body body scope next; Some (s.Block body')
+    resolved_stmt (s.Evaluate e) scope next = do
+      e' ← resolved_expr (at_scope scope) e
+      Some (s.Evaluate e')
+    resolved_stmt (s.Block body) scope next = do
+      body' ← resolved_body body scope next
+      Some (s.Block body')
     resolved_stmt (s.If condition first) scope next = do
       condition' ← resolved_expr (at_scope scope) condition
       first' ← resolved_stmt first scope next
@@ -156,8 +186,12 @@ module _ (unit : Description Path) where
       first' ← resolved_stmt first scope next
       rest' ← resolved_body rest scope (next + slots_of first)
       Some (Cons (Statement first') rest')
-    resolved_body (Cons (CaseLabel label) rest) scope next = do rest' ← resolved_body rest scope next; Some (Cons (CaseLabel label) rest')
-    resolved_body (Cons DefaultLabel rest) scope next = do rest' ← resolved_body rest scope next; Some (Cons DefaultLabel rest')
+    resolved_body (Cons (CaseLabel label) rest) scope next = do
+      rest' ← resolved_body rest scope next
+      Some (Cons (CaseLabel label) rest')
+    resolved_body (Cons DefaultLabel rest) scope next = do
+      rest' ← resolved_body rest scope next
+      Some (Cons DefaultLabel rest')
 
   -- ---- attributes, in which no local can be used
 
@@ -169,7 +203,9 @@ module _ (unit : Description Path) where
 
   abbrev pub resolved_entry : item.MenuEntry Path → Option (item.MenuEntry Target)
   resolved_entry (item.Text text) = Some (item.Text text)
-  resolved_entry (item.Reference to qualifiers) = do to' ← item_among entry_kinds to; Some (item.Reference to' qualifiers)
+  resolved_entry (item.Reference to qualifiers) = do
+    to' ← item_among entry_kinds to
+    Some (item.Reference to' qualifiers)
 
   abbrev pub resolved_data : item.DataItem Path → Option (item.DataItem Target)
   resolved_data (item.Constant n) = Some (item.Constant n)
@@ -186,34 +222,52 @@ module _ (unit : Description Path) where
   resolved_one = resolved_cond at_attribute unchanged
 
   abbrev pub resolved_type_part : TypePart Path → Option (TypePart Target)
-  resolved_type_part (item.DefaultValue c) = do c' ← resolved_cond at_attribute (resolved_expr at_attribute) c; Some (item.DefaultValue c')
-  resolved_type_part (item.MinValue c) = do c' ← resolved_cond at_attribute (resolved_expr at_attribute) c; Some (item.MinValue c')
-  resolved_type_part (item.MaxValue c) = do c' ← resolved_cond at_attribute (resolved_expr at_attribute) c; Some (item.MaxValue c')
+  resolved_type_part (item.DefaultValue c) = do
+    c' ← resolved_cond at_attribute (resolved_expr at_attribute) c
+    Some (item.DefaultValue c')
+  resolved_type_part (item.MinValue c) = do
+    c' ← resolved_cond at_attribute (resolved_expr at_attribute) c
+    Some (item.MinValue c')
+  resolved_type_part (item.MaxValue c) = do
+    c' ← resolved_cond at_attribute (resolved_expr at_attribute) c
+    Some (item.MaxValue c')
   resolved_type_part (item.DisplayFormat c) = do c' ← resolved_one c; Some (item.DisplayFormat c')
   resolved_type_part (item.EditFormat c) = do c' ← resolved_one c; Some (item.EditFormat c')
   resolved_type_part (item.Element c) = do c' ← resolved_one c; Some (item.Element c')
 
   abbrev pub resolved_transaction_part : TransactionPart Path → Option (TransactionPart Target)
-  resolved_transaction_part (item.Request all) = do all' ← resolved_conds at_attribute resolved_data all; Some (item.Request all')
-  resolved_transaction_part (item.Reply all) = do all' ← resolved_conds at_attribute resolved_data all; Some (item.Reply all')
+  resolved_transaction_part (item.Request all) = do
+    all' ← resolved_conds at_attribute resolved_data all
+    Some (item.Request all')
+  resolved_transaction_part (item.Reply all) = do
+    all' ← resolved_conds at_attribute resolved_data all
+    Some (item.Reply all')
 
   abbrev pub resolved_attribute : ItemKind → Attribute Path → Option (Attribute Target)
-  resolved_attribute sort (item.OneText which c) = do c' ← resolved_one c; Some (item.OneText which c')
+  resolved_attribute sort (item.OneText which c) = do
+    c' ← resolved_one c
+    Some (item.OneText which c')
   resolved_attribute sort (item.Class words) = Some (item.Class words)
   resolved_attribute sort (item.Handling c) = do c' ← resolved_one c; Some (item.Handling c')
   resolved_attribute sort (item.Validity c) = do c' ← resolved_one c; Some (item.Validity c')
-  resolved_attribute sort (item.TypeOf word parts) = do parts' ← each resolved_type_part parts; Some (item.TypeOf word parts')
+  resolved_attribute sort (item.TypeOf word parts) = do
+    parts' ← each resolved_type_part parts
+    Some (item.TypeOf word parts')
   resolved_attribute sort (item.Number n) = Some (item.Number n)
   resolved_attribute sort (item.Operation o) = Some (item.Operation o)
   resolved_attribute sort (item.Transaction number parts) = do
     parts' ← each resolved_transaction_part parts
     Some (item.Transaction number parts')
   resolved_attribute sort (item.ResponseCodes responses) = Some (item.ResponseCodes responses)
-  resolved_attribute sort (item.Items entries) = do entries' ← resolved_conds at_attribute resolved_entry entries; Some (item.Items entries')
+  resolved_attribute sort (item.Items entries) = do
+    entries' ← resolved_conds at_attribute resolved_entry entries
+    Some (item.Items entries')
   resolved_attribute sort (item.Members members) = do
     members' ← each (resolved_member (member_kinds sort)) members
     Some (item.Members members')
-  resolved_attribute sort (item.Definition body) = do body' ← resolved_body body [] 0; Some (item.Definition body')
+  resolved_attribute sort (item.Definition body) = do
+    body' ← resolved_body body [] 0
+    Some (item.Definition body')
 
   abbrev pub resolved_item : item.Item Path → Option (item.Item Target)
   resolved_item i = do

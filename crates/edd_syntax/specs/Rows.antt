@@ -53,10 +53,12 @@ is_written a attributes = list_any (stands_for a) attributes
 -- the positions of transactions, the next being `next`
 abbrev pub transaction_positions : {R : Type 0} → (next : ℕ) → List (Attribute R) → List ℕ
 transaction_positions next [] = []
-transaction_positions next (item.Transaction number parts ∷ rest) = next ∷ transaction_positions (suc next) rest
+transaction_positions next (item.Transaction number parts ∷ rest) = next
+    ∷ transaction_positions (suc next) rest
 transaction_positions next (_ ∷ rest) = transaction_positions next rest
 
--- each transaction has its three attributes, written or not; another attribute stands at 0 where it is written
+-- each transaction has its three attributes, written or not; another attribute stands at 0 where it
+-- is written
 abbrev pub positions : {R : Type 0} → Attr → List (Attribute R) → List ℕ
 positions a attributes =
     if is_of_transaction a then transaction_positions 0 attributes
@@ -73,14 +75,18 @@ item_rows number a attributes = rows_at number a (positions a attributes)
 -- of items of a kind, the first of which has the number `next`
 abbrev pub rows_from : {R : Type 0} → Kind → Attr → (next : ℕ) → List (Item R) → List AttrRef
 rows_from k a next [] = []
-rows_from k a next (i ∷ rest) = item_rows (item_number k next) a i.attributes ++ rows_from k a (suc next) rest
+rows_from k a next (i ∷ rest) = item_rows (item_number k next) a i.attributes
+    ++ rows_from k a (suc next) rest
 
 -- the attributes by their numbers
 abbrev pub attributes_in_order : List Attr
 attributes_in_order =
-    attr.Label ∷ attr.Help ∷ attr.Class ∷ attr.Handling ∷ attr.ConstantUnit ∷ attr.Validity ∷ attr.DefaultValue ∷ attr.MinValue
-    ∷ attr.MaxValue ∷ attr.DisplayFormat ∷ attr.EditFormat ∷ attr.Enumerators ∷ attr.Number ∷ attr.Operation ∷ attr.Transaction
-    ∷ attr.Request ∷ attr.Reply ∷ attr.ResponseCodes ∷ attr.Items ∷ attr.Members ∷ attr.Definition ∷ []
+    attr.Label ∷ attr.Help ∷ attr.Class ∷ attr.Handling ∷ attr.ConstantUnit ∷ attr.Validity
+    ∷ attr.DefaultValue ∷ attr.MinValue
+    ∷ attr.MaxValue ∷ attr.DisplayFormat ∷ attr.EditFormat ∷ attr.Enumerators ∷ attr.Number
+    ∷ attr.Operation ∷ attr.Transaction
+    ∷ attr.Request ∷ attr.Reply ∷ attr.ResponseCodes ∷ attr.Items ∷ attr.Members ∷ attr.Definition
+    ∷ []
 
 abbrev pub of_kind : {R : Type 0} → Kind → List (Item R) → List (Item R)
 of_kind k items = filter (λ i. same_kind (kind_of_item i.sort) k) items

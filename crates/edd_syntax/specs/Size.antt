@@ -1,4 +1,5 @@
--- The nodes and the height of trees. The left side of an assignment, the reference of `++` and texts are no nodes.
+-- The nodes and the height of trees. The left side of an assignment, the reference of `++` and
+-- texts are no nodes.
 use Rattle.std.specs.Prelude.{ℕ, ◌+◌, max, Bool, true, false, if◌then◌else◌, List, [], ◌∷◌, length, map, sum, Option, Some, None}
 use Rattle.std.specs.List.{list_any}
 use Rattle.edd_syntax.specs.Expression as expr
@@ -34,11 +35,13 @@ abbrev mutual
   argument_nodes (expr.Cons (Text text) rest) = argument_nodes rest
   argument_nodes (expr.Cons (expr.Value e) rest) = nodes e + argument_nodes rest
 
--- A single value is a node with the nodes `of` it; in a list each element is one node. So are IF, SELECT, CASE and DEFAULT.
+-- A single value is a node with the nodes `of` it; in a list each element is one node. So are IF,
+-- SELECT, CASE and DEFAULT.
 abbrev mutual
   pub cond_nodes : {R V : Type 0} → (of : V → ℕ) → Cond R V → ℕ
   cond_nodes of (Value v) = 1 + of v
-  cond_nodes of (If condition first otherwise) = 1 + (nodes condition + (conds_nodes of first + conds_nodes of otherwise))
+  cond_nodes of (If condition first otherwise) =
+      1 + (nodes condition + (conds_nodes of first + conds_nodes of otherwise))
   cond_nodes of (Select on arms) = 1 + (nodes on + arms_nodes of arms)
 
   pub conds_nodes : {R V : Type 0} → (of : V → ℕ) → Conds R V → ℕ
@@ -65,11 +68,13 @@ abbrev mutual
   statement_nodes (s.Evaluate e) = 1 + nodes e
   statement_nodes (s.Block body) = 1 + body_nodes body
   statement_nodes (s.If condition first) = 1 + (nodes condition + statement_nodes first)
-  statement_nodes (s.IfElse condition first otherwise) = 1 + (nodes condition + (statement_nodes first + statement_nodes otherwise))
+  statement_nodes (s.IfElse condition first otherwise) =
+      1 + (nodes condition + (statement_nodes first + statement_nodes otherwise))
   statement_nodes (s.While condition body) = 1 + (nodes condition + statement_nodes body)
   statement_nodes (s.Do body condition) = 1 + (statement_nodes body + nodes condition)
   statement_nodes (s.For initial condition update body) =
-      1 + (optional_nodes initial + (optional_nodes condition + (optional_nodes update + statement_nodes body)))
+      1 + (optional_nodes initial
+      + (optional_nodes condition + (optional_nodes update + statement_nodes body)))
   statement_nodes (s.Switch on body) = 1 + (nodes on + body_nodes body)
   statement_nodes s.Break = 1
   statement_nodes s.Continue = 1
@@ -78,7 +83,8 @@ abbrev mutual
   -- each declaration, statement and label is a node
   pub body_nodes : {R : Type 0} → Body R → ℕ
   body_nodes Nil = 0
-  body_nodes (Cons (Declare declarators) rest) = 1 + (declarator_nodes declarators + body_nodes rest)
+  body_nodes (Cons (Declare declarators) rest) =
+      1 + (declarator_nodes declarators + body_nodes rest)
   body_nodes (Cons (Statement statement) rest) = statement_nodes statement + body_nodes rest
   body_nodes (Cons (CaseLabel label) rest) = 1 + body_nodes rest
   body_nodes (Cons DefaultLabel rest) = 1 + body_nodes rest
@@ -108,14 +114,15 @@ abbrev pub transaction_part_nodes : {R : Type 0} → TransactionPart R → ℕ
 transaction_part_nodes (item.Request all) = 1 + conds_nodes leaf all
 transaction_part_nodes (item.Reply all) = 1 + conds_nodes leaf all
 
--- Each written attribute is a node, and so is each class word, response code and member. The elements of a type's list are
--- together one more.
+-- Each written attribute is a node, and so is each class word, response code and member. The
+-- elements of a type's list are together one more.
 abbrev pub attribute_nodes : {R : Type 0} → Attribute R → ℕ
 attribute_nodes (item.OneText which c) = 1 + cond_nodes leaf c
 attribute_nodes (item.Class words) = 1 + length words
 attribute_nodes (item.Handling c) = 1 + cond_nodes leaf c
 attribute_nodes (item.Validity c) = 1 + cond_nodes leaf c
-attribute_nodes (item.TypeOf word parts) = 1 + ((if list_any is_element parts then 1 else 0) + sum (map type_part_nodes parts))
+attribute_nodes (item.TypeOf word parts) =
+    1 + ((if list_any is_element parts then 1 else 0) + sum (map type_part_nodes parts))
 attribute_nodes (item.Number n) = 1
 attribute_nodes (item.Operation o) = 1
 attribute_nodes (item.Transaction number parts) = 1 + sum (map transaction_part_nodes parts)
@@ -143,7 +150,8 @@ abbrev mutual
   height (Compare by left right) = 1 + max (height left) (height right)
   height (LogicalAnd left right) = 1 + max (height left) (height right)
   height (LogicalOr left right) = 1 + max (height left) (height right)
-  height (Conditional test first second) = 1 + max (height test) (max (height first) (height second))
+  height (Conditional test first second) =
+      1 + max (height test) (max (height first) (height second))
   height (Assign to value) = 1 + height value
   height (CompoundAssign op to value) = 1 + height value
   height (Increment op to) = 1
@@ -158,7 +166,8 @@ abbrev mutual
 abbrev mutual
   pub cond_height : {R V : Type 0} → (of : V → ℕ) → Cond R V → ℕ
   cond_height of (Value v) = 1 + of v
-  cond_height of (If condition first otherwise) = 1 + max (height condition) (max (conds_height of first) (conds_height of otherwise))
+  cond_height of (If condition first otherwise) =
+      1 + max (height condition) (max (conds_height of first) (conds_height of otherwise))
   cond_height of (Select on arms) = 1 + max (height on) (arms_height of arms)
 
   pub conds_height : {R V : Type 0} → (of : V → ℕ) → Conds R V → ℕ
@@ -184,11 +193,13 @@ abbrev mutual
   statement_height (s.Evaluate e) = 1 + height e
   statement_height (s.Block body) = 1 + body_height body
   statement_height (s.If condition first) = 1 + max (height condition) (statement_height first)
-  statement_height (s.IfElse condition first otherwise) = 1 + max (height condition) (max (statement_height first) (statement_height otherwise))
+  statement_height (s.IfElse condition first otherwise) =
+      1 + max (height condition) (max (statement_height first) (statement_height otherwise))
   statement_height (s.While condition body) = 1 + max (height condition) (statement_height body)
   statement_height (s.Do body condition) = 1 + max (statement_height body) (height condition)
   statement_height (s.For initial condition update body) =
-      1 + max (max (optional_height initial) (optional_height condition)) (max (optional_height update) (statement_height body))
+      1 + max (max (optional_height initial) (optional_height condition))
+      (max (optional_height update) (statement_height body))
   statement_height (s.Switch on body) = 1 + max (height on) (body_height body)
   statement_height s.Break = 1
   statement_height s.Continue = 1
@@ -196,8 +207,10 @@ abbrev mutual
 
   pub body_height : {R : Type 0} → Body R → ℕ
   body_height Nil = 0
-  body_height (Cons (Declare declarators) rest) = max (1 + declarator_height declarators) (body_height rest)
-  body_height (Cons (Statement statement) rest) = max (statement_height statement) (body_height rest)
+  body_height (Cons (Declare declarators) rest) = max (1 + declarator_height declarators)
+      (body_height rest)
+  body_height (Cons (Statement statement) rest) =
+      max (statement_height statement) (body_height rest)
   body_height (Cons (CaseLabel label) rest) = body_height rest
   body_height (Cons DefaultLabel rest) = body_height rest
 

@@ -16,7 +16,8 @@ use Rattle.edd_syntax.specs.Grammar.{Next, NextSign, NextWord, OptionalSign, Pla
 abbrev pub LabelHere : ℤ → List Token → List Token → Type 0
 LabelHere z here rest =
     ((n : ℕ) × (z ≡ pos n) × Next (Integer n) here rest)
-    ⊎ ((n : ℕ) × (z ≡ neg_ℤ (pos n)) × (here ≡ Sign (sign.Operator operator.Subtract) ∷ Integer n ∷ rest))
+    ⊎ ((n : ℕ) × (z ≡ neg_ℤ (pos n)) × (here ≡ Sign (sign.Operator operator.Subtract) ∷ Integer n
+    ∷ rest))
 
 -- the next token is this word
 abbrev pub BeginsWord : Keyword → List Token → Type 0
@@ -25,7 +26,8 @@ BeginsWord k here = (rest : List Token) × NextWord k here rest
 -- `WORD label :`
 abbrev pub CaseHere : Keyword → ℤ → List Token → List Token → Type 0
 CaseHere k label here rest =
-    (from colon : List Token) × NextWord k here from × LabelHere label from colon × NextSign sign.Colon colon rest
+    (from colon : List Token) × NextWord k here from × LabelHere label from colon
+    × NextSign sign.Colon colon rest
 
 -- ---- conditionals, whose values are spelled by `Here`
 
@@ -45,11 +47,15 @@ module _ {V : Type 0} (Here : V → List Token → List Token → Type 0) where
     pub OneHere : Cond Path V → List Token → List Token → Type 0
     OneHere (Value v) here rest = Here v here (Sign sign.Semicolon ∷ rest)
     OneHere (cond.If condition first otherwise) here rest =
-        (test brace inside behind : List Token) × NextWord word.If here test × ConditionHere InAttribute condition test brace
-        × NextSign sign.OpenBrace brace inside × OnlyHere first inside (Sign sign.CloseBrace ∷ behind) × ElseHere otherwise behind rest
+        (test brace inside behind : List Token) × NextWord word.If here test
+        × ConditionHere InAttribute condition test brace
+        × NextSign sign.OpenBrace brace inside
+        × OnlyHere first inside (Sign sign.CloseBrace ∷ behind) × ElseHere otherwise behind rest
     OneHere (Select on arms) here rest =
-        (test brace inside : List Token) × NextWord word.Select here test × ConditionHere InAttribute on test brace
-        × NextSign sign.OpenBrace brace inside × OneArmsHere arms inside (Sign sign.CloseBrace ∷ rest)
+        (test brace inside : List Token) × NextWord word.Select here test
+        × ConditionHere InAttribute on test brace
+        × NextSign sign.OpenBrace brace inside
+        × OneArmsHere arms inside (Sign sign.CloseBrace ∷ rest)
 
     -- exactly one value
     pub OnlyHere : Conds Path V → List Token → List Token → Type 0
@@ -62,16 +68,19 @@ module _ {V : Type 0} (Here : V → List Token → List Token → Type 0) where
     ElseHere cond.Nil here rest = NoElse here rest
     ElseHere (cond.Cons c cond.Nil) here rest =
         (from : List Token) × NextWord word.Else here from
-        × (((inside : List Token) × NextSign sign.OpenBrace from inside × OneHere c inside (Sign sign.CloseBrace ∷ rest))
+        × (((inside : List Token) × NextSign sign.OpenBrace from inside
+        × OneHere c inside (Sign sign.CloseBrace ∷ rest))
         ⊎ (IsIf c × OneHere c from rest))
     ElseHere (cond.Cons c (cond.Cons d more)) here rest = ⊥
 
     pub OneArmsHere : Arms Path V → List Token → List Token → Type 0
     OneArmsHere NoArms here rest = here ≡ rest
     OneArmsHere (ConsArm (Case label body) arms) here rest =
-        (from behind : List Token) × CaseHere word.Case label here from × OnlyHere body from behind × OneArmsHere arms behind rest
+        (from behind : List Token) × CaseHere word.Case label here from × OnlyHere body from behind
+        × OneArmsHere arms behind rest
     OneArmsHere (ConsArm (Default body) arms) here rest =
-        (from behind : List Token) × (here ≡ Reserved word.Default ∷ Sign sign.Colon ∷ from) × OnlyHere body from behind
+        (from behind : List Token) × (here ≡ Reserved word.Default ∷ Sign sign.Colon ∷ from)
+        × OnlyHere body from behind
         × OneArmsHere arms behind rest
 
   -- ---- a list: any number of elements, each with a comma behind it or none
@@ -80,20 +89,26 @@ module _ {V : Type 0} (Here : V → List Token → List Token → Type 0) where
     pub ListHere : Conds Path V → List Token → List Token → Type 0
     ListHere cond.Nil here rest = here ≡ rest
     ListHere (cond.Cons c more) here rest =
-        (behind from : List Token) × ElementHere c here behind × OptionalSign sign.Comma behind from × ListHere more from rest
+        (behind from : List Token) × ElementHere c here behind × OptionalSign sign.Comma behind from
+        × ListHere more from rest
 
     pub ElementHere : Cond Path V → List Token → List Token → Type 0
     ElementHere (Value v) here rest = Here v here rest
     ElementHere (cond.If condition first otherwise) here rest =
-        (test brace inside behind : List Token) × NextWord word.If here test × ConditionHere InAttribute condition test brace
-        × NextSign sign.OpenBrace brace inside × ListHere first inside (Sign sign.CloseBrace ∷ behind)
+        (test brace inside behind : List Token) × NextWord word.If here test
+        × ConditionHere InAttribute condition test brace
+        × NextSign sign.OpenBrace brace inside
+        × ListHere first inside (Sign sign.CloseBrace ∷ behind)
         × (((otherwise ≡ cond.Nil) × NoElse behind rest)
-        ⊎ (((from inside : List Token) × NextWord word.Else behind from × NextSign sign.OpenBrace from inside
+        ⊎ (((from inside : List Token) × NextWord word.Else behind from
+        × NextSign sign.OpenBrace from inside
         × ListHere otherwise inside (Sign sign.CloseBrace ∷ rest))
         ⊎ ((from : List Token) × NextWord word.Else behind from × ElseIfHere otherwise from rest)))
     ElementHere (Select on arms) here rest =
-        (test brace inside : List Token) × NextWord word.Select here test × ConditionHere InAttribute on test brace
-        × NextSign sign.OpenBrace brace inside × ListArmsHere arms inside (Sign sign.CloseBrace ∷ rest)
+        (test brace inside : List Token) × NextWord word.Select here test
+        × ConditionHere InAttribute on test brace
+        × NextSign sign.OpenBrace brace inside
+        × ListArmsHere arms inside (Sign sign.CloseBrace ∷ rest)
 
     -- the IF behind an ELSE, which has no comma of its own
     pub ElseIfHere : Conds Path V → List Token → List Token → Type 0
@@ -104,30 +119,36 @@ module _ {V : Type 0} (Here : V → List Token → List Token → Type 0) where
     pub ListArmsHere : Arms Path V → List Token → List Token → Type 0
     ListArmsHere NoArms here rest = here ≡ rest
     ListArmsHere (ConsArm (Case label body) arms) here rest =
-        (from behind : List Token) × CaseHere word.Case label here from × ListHere body from behind × ListArmsHere arms behind rest
+        (from behind : List Token) × CaseHere word.Case label here from × ListHere body from behind
+        × ListArmsHere arms behind rest
     ListArmsHere (ConsArm (Default body) arms) here rest =
-        (from behind : List Token) × (here ≡ Reserved word.Default ∷ Sign sign.Colon ∷ from) × ListHere body from behind
+        (from behind : List Token) × (here ≡ Reserved word.Default ∷ Sign sign.Colon ∷ from)
+        × ListHere body from behind
         × ListArmsHere arms behind rest
 
 -- ---- declarations
 
 abbrev pub ValueHere : Option (Expr Path) → List Token → List Token → Type 0
 ValueHere None here rest = here ≡ rest
-ValueHere (Some e) here rest = (behind : List Token) × NextSign sign.Equals here behind × ExprHere InMethod 1 e behind rest
+ValueHere (Some e) here rest = (behind : List Token) × NextSign sign.Equals here behind
+    × ExprHere InMethod 1 e behind rest
 
 -- `name` or `name = e`
 abbrev pub DeclaratorHere : Declarator Path → List Token → List Token → Type 0
-DeclaratorHere d here rest = (behind : List Token) × PlainHere d.place here behind × ValueHere d.value behind rest
+DeclaratorHere d here rest = (behind : List Token) × PlainHere d.place here behind
+    × ValueHere d.value behind rest
 
 abbrev pub MoreDeclaratorsHere : List (Declarator Path) → List Token → List Token → Type 0
 MoreDeclaratorsHere [] here rest = here ≡ rest
 MoreDeclaratorsHere (d ∷ more) here rest =
-    (from behind : List Token) × NextSign sign.Comma here from × DeclaratorHere d from behind × MoreDeclaratorsHere more behind rest
+    (from behind : List Token) × NextSign sign.Comma here from × DeclaratorHere d from behind
+    × MoreDeclaratorsHere more behind rest
 
 -- one or more, parted by commas
 abbrev pub DeclaratorsHere : List (Declarator Path) → List Token → List Token → Type 0
 DeclaratorsHere [] here rest = ⊥
-DeclaratorsHere (d ∷ more) here rest = (behind : List Token) × DeclaratorHere d here behind × MoreDeclaratorsHere more behind rest
+DeclaratorsHere (d ∷ more) here rest = (behind : List Token) × DeclaratorHere d here behind
+    × MoreDeclaratorsHere more behind rest
 
 -- `int` or `long`, which are the same
 abbrev pub LocalTypeHere : List Token → List Token → Type 0
@@ -145,28 +166,36 @@ abbrev mutual
   StmtHere Empty here rest = NextSign sign.Semicolon here rest
   StmtHere (Evaluate e) here rest = ExprHere InMethod 1 e here (Sign sign.Semicolon ∷ rest)
   StmtHere (Block body) here rest =
-      (inside : List Token) × NextSign sign.OpenBrace here inside × BodyHere false body inside (Sign sign.CloseBrace ∷ rest)
+      (inside : List Token) × NextSign sign.OpenBrace here inside
+      × BodyHere false body inside (Sign sign.CloseBrace ∷ rest)
   -- no `else` follows an `if` that has none: it would belong to this `if`
   StmtHere (If condition first) here rest =
-      (test from : List Token) × NextWord word.MethodIf here test × ConditionHere InMethod condition test from
+      (test from : List Token) × NextWord word.MethodIf here test × ConditionHere InMethod condition
+      test from
       × StmtHere first from rest × ¬ BeginsWord word.MethodElse rest
   StmtHere (IfElse condition first otherwise) here rest =
-      (test from behind : List Token) × NextWord word.MethodIf here test × ConditionHere InMethod condition test from
+      (test from behind : List Token) × NextWord word.MethodIf here test
+      × ConditionHere InMethod condition test from
       × StmtHere first from (Reserved word.MethodElse ∷ behind) × StmtHere otherwise behind rest
   StmtHere (While condition body) here rest =
-      (test from : List Token) × NextWord word.While here test × ConditionHere InMethod condition test from × StmtHere body from rest
+      (test from : List Token) × NextWord word.While here test × ConditionHere InMethod condition
+      test from × StmtHere body from rest
   StmtHere (Do body condition) here rest =
-      (from test : List Token) × NextWord word.Do here from × StmtHere body from (Reserved word.While ∷ test)
+      (from test : List Token) × NextWord word.Do here from
+      × StmtHere body from (Reserved word.While ∷ test)
       × ConditionHere InMethod condition test (Sign sign.Semicolon ∷ rest)
   StmtHere (For initial condition update body) here rest =
-      (paren inside second third behind : List Token) × NextWord word.For here paren × NextSign sign.OpenParenthesis paren inside
+      (paren inside second third behind : List Token) × NextWord word.For here paren
+      × NextSign sign.OpenParenthesis paren inside
       × OptionalExprHere initial inside (Sign sign.Semicolon ∷ second)
       × OptionalExprHere condition second (Sign sign.Semicolon ∷ third)
       × OptionalExprHere update third (Sign sign.CloseParenthesis ∷ behind)
       × StmtHere body behind rest
   StmtHere (Switch on body) here rest =
-      (test brace inside : List Token) × NextWord word.Switch here test × ConditionHere InMethod on test brace
-      × NextSign sign.OpenBrace brace inside × BodyHere true body inside (Sign sign.CloseBrace ∷ rest)
+      (test brace inside : List Token) × NextWord word.Switch here test
+      × ConditionHere InMethod on test brace
+      × NextSign sign.OpenBrace brace inside
+      × BodyHere true body inside (Sign sign.CloseBrace ∷ rest)
   StmtHere Break here rest = here ≡ Reserved word.Break ∷ Sign sign.Semicolon ∷ rest
   StmtHere Continue here rest = here ≡ Reserved word.Continue ∷ Sign sign.Semicolon ∷ rest
   StmtHere Return here rest = here ≡ Reserved word.Return ∷ Sign sign.Semicolon ∷ rest
@@ -175,12 +204,15 @@ abbrev mutual
   pub BodyHere : (labels : Bool) → Body Path → List Token → List Token → Type 0
   BodyHere labels Nil here rest = here ≡ rest
   BodyHere labels (Cons (Declare declarators) more) here rest =
-      (from behind : List Token) × LocalTypeHere here from × DeclaratorsHere declarators from (Sign sign.Semicolon ∷ behind)
+      (from behind : List Token) × LocalTypeHere here from × DeclaratorsHere declarators from
+      (Sign sign.Semicolon ∷ behind)
       × BodyHere labels more behind rest
   BodyHere labels (Cons (Statement first) more) here rest =
       (behind : List Token) × StmtHere first here behind × BodyHere labels more behind rest
   BodyHere labels (Cons (CaseLabel label) more) here rest =
-      IsTrue labels × (behind : List Token) × CaseHere word.MethodCase label here behind × BodyHere labels more behind rest
+      IsTrue labels × (behind : List Token) × CaseHere word.MethodCase label here behind
+      × BodyHere labels more behind rest
   BodyHere labels (Cons DefaultLabel more) here rest =
-      IsTrue labels × (behind : List Token) × (here ≡ Reserved word.MethodDefault ∷ Sign sign.Colon ∷ behind)
+      IsTrue labels × (behind : List Token) × (here ≡ Reserved word.MethodDefault ∷ Sign sign.Colon
+      ∷ behind)
       × BodyHere labels more behind rest

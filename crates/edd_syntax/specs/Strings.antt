@@ -28,7 +28,8 @@ abbrev mutual
   expr_texts (Compare by left right) = expr_texts left ++ expr_texts right
   expr_texts (LogicalAnd left right) = expr_texts left ++ expr_texts right
   expr_texts (LogicalOr left right) = expr_texts left ++ expr_texts right
-  expr_texts (Conditional test first second) = expr_texts test ++ (expr_texts first ++ expr_texts second)
+  expr_texts (Conditional test first second) = expr_texts test
+      ++ (expr_texts first ++ expr_texts second)
   expr_texts (Assign to value) = expr_texts value
   expr_texts (CompoundAssign op to value) = expr_texts value
   expr_texts (Increment op to) = []
@@ -58,7 +59,8 @@ abbrev pub strings_of_texts : List texts.Text → List Words
 strings_of_texts = map words_of
 
 abbrev pub member_strings : {R : Type 0} → item.Member R → List Words
-member_strings m = name_words m.name ∷ strings_of_texts (optional_text m.label ++ optional_text m.help)
+member_strings m = name_words m.name
+    ∷ strings_of_texts (optional_text m.label ++ optional_text m.help)
 
 abbrev pub attribute_strings : {R : Type 0} → Attribute R → List Words
 attribute_strings (item.OneText which c) = strings_of_texts (values_in c)
@@ -72,7 +74,8 @@ attribute_strings (item.Transaction number parts) = []
 attribute_strings (item.ResponseCodes responses) = strings_of_texts (map (λ r. r.text) responses)
 attribute_strings (item.Items entries) = strings_of_texts (flat_map entry_texts (values_of entries))
 attribute_strings (item.Members members) = flat_map member_strings members
-attribute_strings (item.Definition body) = strings_of_texts (flat_map (λ p. expr_texts p.expression) (body_expressions body))
+attribute_strings (item.Definition body) =
+    strings_of_texts (flat_map (λ p. expr_texts p.expression) (body_expressions body))
 
 abbrev pub unit_strings : {R : Type 0} → Description R → List Words
 unit_strings unit = flat_map attribute_strings (attributes_of unit)
@@ -83,7 +86,8 @@ abbrev pub same_variants : List Variant → List Variant → Bool
 same_variants [] [] = true
 same_variants [] (w ∷ ws) = false
 same_variants (v ∷ vs) [] = false
-same_variants (v ∷ vs) (w ∷ ws) = bytes_eq v.code w.code && bytes_eq v.text w.text && same_variants vs ws
+same_variants (v ∷ vs) (w ∷ ws) = bytes_eq v.code w.code && bytes_eq v.text w.text
+    && same_variants vs ws
 
 -- the same variants in the same order, or the same key
 abbrev pub same_words : Words → Words → Bool
@@ -101,4 +105,5 @@ abbrev pub string_limit : ℕ
 string_limit = 65535
 
 abbrev pub too_many_strings : {R : Type 0} → Description R → List Refusal
-too_many_strings unit = refused_if (nat_lt string_limit (length (different (unit_strings unit)))) (TooMany limit.Strings)
+too_many_strings unit = refused_if (nat_lt string_limit (length (different (unit_strings unit))))
+    (TooMany limit.Strings)

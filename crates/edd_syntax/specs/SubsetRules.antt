@@ -1,5 +1,5 @@
--- The rules of the profile on a description whose names have their meanings, each as the list of its breaches in the order of the
--- source.
+-- The rules of the profile on a description whose names have their meanings, each as the list of
+-- its breaches in the order of the source.
 use Rattle.std.specs.Prelude.{Bool, true, false, not, ◌||◌, ◌&&◌, nat_lt, ◌==◌, if◌then◌else◌, ℤ, List, [], ◌∷◌, ◌++◌, map, Option, Some, None, codes}
 use Rattle.std.specs.Str.{bytes_eq}
 use Rattle.std.specs.List.{list_any, flat_map}
@@ -28,16 +28,19 @@ use Rattle.edd_syntax.specs.Refusal.{Refusal, FloatVariable, OtherType, BadSize,
 
 abbrev pub type_breaches : (variable : Name) → item.TypeWord → List Refusal
 type_breaches variable (item.Known type None) = []
-type_breaches variable (item.Known type (Some size)) = refused_if (size == 0 || nat_lt 4 size) (BadSize variable)
+type_breaches variable (item.Known type (Some size)) = refused_if (size == 0 || nat_lt 4 size)
+    (BadSize variable)
 type_breaches variable (item.Other word) =
-    if bytes_eq word (codes "FLOAT") || bytes_eq word (codes "DOUBLE") then FloatVariable variable ∷ [] else OtherType variable word ∷ []
+    if bytes_eq word (codes "FLOAT") || bytes_eq word (codes "DOUBLE") then FloatVariable variable
+    ∷ [] else OtherType variable word ∷ []
 
 abbrev pub types_in : {R : Type 0} → Attribute R → List item.TypeWord
 types_in (item.TypeOf word parts) = word ∷ []
 types_in _ = []
 
 abbrev pub wrong_types : {R : Type 0} → Description R → List Refusal
-wrong_types unit = flat_map (λ i. flat_map (type_breaches i.name) (flat_map types_in i.attributes)) unit.items
+wrong_types unit = flat_map (λ i. flat_map (type_breaches i.name) (flat_map types_in i.attributes))
+    unit.items
 
 -- ---- the expressions of an attribute or a method, from left to right
 
@@ -59,11 +62,13 @@ abbrev mutual
   stmt_expressions (s.Evaluate e) = record { is_statement = true; expression = e } ∷ []
   stmt_expressions (s.Block body) = body_expressions body
   stmt_expressions (s.If condition first) = part_of condition ++ stmt_expressions first
-  stmt_expressions (s.IfElse condition first otherwise) = part_of condition ++ (stmt_expressions first ++ stmt_expressions otherwise)
+  stmt_expressions (s.IfElse condition first otherwise) = part_of condition
+      ++ (stmt_expressions first ++ stmt_expressions otherwise)
   stmt_expressions (s.While condition body) = part_of condition ++ stmt_expressions body
   stmt_expressions (s.Do body condition) = stmt_expressions body ++ part_of condition
   stmt_expressions (s.For initial condition update body) =
-      optional_part initial ++ (optional_part condition ++ (optional_part update ++ stmt_expressions body))
+      optional_part initial ++ (optional_part condition
+      ++ (optional_part update ++ stmt_expressions body))
   stmt_expressions (s.Switch on body) = part_of on ++ body_expressions body
   stmt_expressions s.Break = []
   stmt_expressions s.Continue = []
@@ -71,7 +76,8 @@ abbrev mutual
 
   pub body_expressions : {R : Type 0} → Body R → List (Placed R)
   body_expressions Nil = []
-  body_expressions (Cons (Declare declarators) rest) = flat_map (λ d. optional_part d.value) declarators ++ body_expressions rest
+  body_expressions (Cons (Declare declarators) rest) = flat_map (λ d. optional_part d.value)
+      declarators ++ body_expressions rest
   body_expressions (Cons (Statement first) rest) = stmt_expressions first ++ body_expressions rest
   body_expressions (Cons (CaseLabel label) rest) = body_expressions rest
   body_expressions (Cons DefaultLabel rest) = body_expressions rest
@@ -80,17 +86,21 @@ abbrev mutual
 abbrev mutual
   pub cond_expressions : {R V : Type 0} → (of : V → List (Placed R)) → Cond R V → List (Placed R)
   cond_expressions of (Value v) = of v
-  cond_expressions of (If condition first otherwise) = part_of condition ++ (conds_expressions of first ++ conds_expressions of otherwise)
+  cond_expressions of (If condition first otherwise) = part_of condition
+      ++ (conds_expressions of first ++ conds_expressions of otherwise)
   cond_expressions of (Select on arms) = part_of on ++ arms_expressions of arms
 
   pub conds_expressions : {R V : Type 0} → (of : V → List (Placed R)) → Conds R V → List (Placed R)
   conds_expressions of cond.Nil = []
-  conds_expressions of (cond.Cons first rest) = cond_expressions of first ++ conds_expressions of rest
+  conds_expressions of (cond.Cons first rest) = cond_expressions of first
+      ++ conds_expressions of rest
 
   pub arms_expressions : {R V : Type 0} → (of : V → List (Placed R)) → Arms R V → List (Placed R)
   arms_expressions of NoArms = []
-  arms_expressions of (ConsArm (Case label body) rest) = conds_expressions of body ++ arms_expressions of rest
-  arms_expressions of (ConsArm (Default body) rest) = conds_expressions of body ++ arms_expressions of rest
+  arms_expressions of (ConsArm (Case label body) rest) = conds_expressions of body
+      ++ arms_expressions of rest
+  arms_expressions of (ConsArm (Default body) rest) = conds_expressions of body
+      ++ arms_expressions of rest
 
 abbrev pub no_expressions : {R V : Type 0} → V → List (Placed R)
 no_expressions v = []
@@ -167,7 +177,8 @@ is_abort builtin.Abort = true
 is_abort builtin.ProcessAbort = true
 is_abort _ = false
 
-abbrev pub call_breaches : (is_statement : Bool) → (function : Target) → Arguments Target → List Refusal
+abbrev pub call_breaches : (is_statement : Bool) → (function : Target) → Arguments Target
+    → List Refusal
 call_breaches is_statement (Function f) arguments =
     refused_if (not (all_fit (parameters f) arguments) || (is_abort f && not is_statement)) Mismatch
 call_breaches is_statement (Local slot) arguments = Mismatch ∷ []
@@ -180,10 +191,14 @@ abbrev mutual
   call_mismatches is_statement (Reference from) = []
   call_mismatches is_statement (Parentheses inner) = call_mismatches false inner
   call_mismatches is_statement (Unary op operand) = call_mismatches false operand
-  call_mismatches is_statement (Binary op left right) = call_mismatches false left ++ call_mismatches false right
-  call_mismatches is_statement (Compare by left right) = call_mismatches false left ++ call_mismatches false right
-  call_mismatches is_statement (LogicalAnd left right) = call_mismatches false left ++ call_mismatches false right
-  call_mismatches is_statement (LogicalOr left right) = call_mismatches false left ++ call_mismatches false right
+  call_mismatches is_statement (Binary op left right) = call_mismatches false left
+      ++ call_mismatches false right
+  call_mismatches is_statement (Compare by left right) = call_mismatches false left
+      ++ call_mismatches false right
+  call_mismatches is_statement (LogicalAnd left right) = call_mismatches false left
+      ++ call_mismatches false right
+  call_mismatches is_statement (LogicalOr left right) = call_mismatches false left
+      ++ call_mismatches false right
   call_mismatches is_statement (Conditional test first second) =
       call_mismatches false test ++ (call_mismatches false first ++ call_mismatches false second)
   call_mismatches is_statement (Assign to value) = call_mismatches false value
@@ -195,7 +210,8 @@ abbrev mutual
   pub argument_mismatches : Arguments Target → List Refusal
   argument_mismatches expr.Nil = []
   argument_mismatches (expr.Cons (expr.Text text) rest) = argument_mismatches rest
-  argument_mismatches (expr.Cons (expr.Value e) rest) = call_mismatches false e ++ argument_mismatches rest
+  argument_mismatches (expr.Cons (expr.Value e) rest) = call_mismatches false e
+      ++ argument_mismatches rest
 
 -- ---- options and enumerators that the type of a variable can't have
 
@@ -228,15 +244,19 @@ part_breaches type (item.MinValue c) = refused_if (is_enumerated type) Mismatch
 part_breaches type (item.MaxValue c) = refused_if (is_enumerated type) Mismatch
 part_breaches type (item.DisplayFormat c) = refused_if (is_enumerated type) Mismatch
 part_breaches type (item.EditFormat c) = refused_if (is_enumerated type) Mismatch
-part_breaches type (item.Element c) = if is_enumerated type then [] else map (λ e. Mismatch) (values_in c)
+part_breaches type (item.Element c) = if is_enumerated type then [] else map (λ e. Mismatch)
+    (values_in c)
 
 abbrev pub type_option_breaches : {R : Type 0} → Attribute R → List Refusal
-type_option_breaches (item.TypeOf (item.Known type size) parts) = flat_map (part_breaches type) parts
+type_option_breaches (item.TypeOf (item.Known type size) parts) =
+    flat_map (part_breaches type) parts
 type_option_breaches _ = []
 
 abbrev pub mismatches : Description Target → List Refusal
 mismatches unit =
-    flat_map (λ a. type_option_breaches a ++ flat_map (λ p. call_mismatches p.is_statement p.expression) (attribute_expressions a)) (attributes_of unit)
+    flat_map (λ a. type_option_breaches a
+    ++ flat_map (λ p. call_mismatches p.is_statement p.expression) (attribute_expressions a))
+    (attributes_of unit)
 
 -- ---- a decimal in an expression
 
@@ -263,7 +283,8 @@ abbrev mutual
   argument_decimals (expr.Cons (expr.Value e) rest) = decimals e ++ argument_decimals rest
 
 abbrev pub float_values : {R : Type 0} → Description R → List Refusal
-float_values unit = flat_map (λ a. flat_map (λ p. decimals p.expression) (attribute_expressions a)) (attributes_of unit)
+float_values unit = flat_map (λ a. flat_map (λ p. decimals p.expression) (attribute_expressions a))
+    (attributes_of unit)
 
 -- ---- `break` outside a loop or `switch`, `continue` outside a loop
 
@@ -277,7 +298,8 @@ abbrev mutual
       breaks_outside in_loop in_switch first ++ breaks_outside in_loop in_switch otherwise
   breaks_outside in_loop in_switch (s.While condition body) = breaks_outside true in_switch body
   breaks_outside in_loop in_switch (s.Do body condition) = breaks_outside true in_switch body
-  breaks_outside in_loop in_switch (s.For initial condition update body) = breaks_outside true in_switch body
+  breaks_outside in_loop in_switch (s.For initial condition update body) =
+      breaks_outside true in_switch body
   breaks_outside in_loop in_switch (s.Switch on body) = breaks_outside_in in_loop true body
   breaks_outside in_loop in_switch s.Break = refused_if (not (in_loop || in_switch)) BreakOutside
   breaks_outside in_loop in_switch s.Continue = refused_if (not in_loop) BreakOutside
@@ -285,11 +307,14 @@ abbrev mutual
 
   pub breaks_outside_in : (in_loop in_switch : Bool) → Body Target → List Refusal
   breaks_outside_in in_loop in_switch Nil = []
-  breaks_outside_in in_loop in_switch (Cons (Declare declarators) rest) = breaks_outside_in in_loop in_switch rest
+  breaks_outside_in in_loop in_switch (Cons (Declare declarators) rest) =
+      breaks_outside_in in_loop in_switch rest
   breaks_outside_in in_loop in_switch (Cons (Statement first) rest) =
       breaks_outside in_loop in_switch first ++ breaks_outside_in in_loop in_switch rest
-  breaks_outside_in in_loop in_switch (Cons (CaseLabel label) rest) = breaks_outside_in in_loop in_switch rest
-  breaks_outside_in in_loop in_switch (Cons DefaultLabel rest) = breaks_outside_in in_loop in_switch rest
+  breaks_outside_in in_loop in_switch (Cons (CaseLabel label) rest) =
+      breaks_outside_in in_loop in_switch rest
+  breaks_outside_in in_loop in_switch (Cons DefaultLabel rest) = breaks_outside_in in_loop in_switch
+      rest
 
 abbrev pub bodies_in : {R : Type 0} → Attribute R → List (Body R)
 bodies_in (item.Definition body) = body ∷ []
@@ -337,19 +362,22 @@ abbrev mutual
   pub repeated_labels : Labels → Body Target → List Refusal
   repeated_labels so_far Nil = []
   repeated_labels so_far (Cons (Declare declarators) rest) = repeated_labels so_far rest
-  repeated_labels so_far (Cons (Statement first) rest) = repeated_labels_inside first ++ repeated_labels so_far rest
+  repeated_labels so_far (Cons (Statement first) rest) = repeated_labels_inside first
+      ++ repeated_labels so_far rest
   repeated_labels so_far (Cons (CaseLabel label) rest) =
       refused_if (is_label_in so_far.cases (wrap 32 label)) DuplicateCase ++
       repeated_labels (record so_far { cases = wrap 32 label ∷ so_far.cases }) rest
   repeated_labels so_far (Cons DefaultLabel rest) =
-      refused_if so_far.has_default DuplicateCase ++ repeated_labels (record so_far { has_default = true }) rest
+      refused_if so_far.has_default DuplicateCase
+      ++ repeated_labels (record so_far { has_default = true }) rest
 
   pub repeated_labels_inside : Stmt Target → List Refusal
   repeated_labels_inside s.Empty = []
   repeated_labels_inside (s.Evaluate e) = []
   repeated_labels_inside (s.Block body) = repeated_labels no_labels body
   repeated_labels_inside (s.If condition first) = repeated_labels_inside first
-  repeated_labels_inside (s.IfElse condition first otherwise) = repeated_labels_inside first ++ repeated_labels_inside otherwise
+  repeated_labels_inside (s.IfElse condition first otherwise) = repeated_labels_inside first
+      ++ repeated_labels_inside otherwise
   repeated_labels_inside (s.While condition body) = repeated_labels_inside body
   repeated_labels_inside (s.Do body condition) = repeated_labels_inside body
   repeated_labels_inside (s.For initial condition update body) = repeated_labels_inside body
@@ -372,7 +400,8 @@ abbrev mutual
   pub arms_defaults : {R V : Type 0} → (had : Bool) → Arms R V → List Refusal
   arms_defaults had NoArms = []
   arms_defaults had (ConsArm (Case label body) rest) = conds_defaults body ++ arms_defaults had rest
-  arms_defaults had (ConsArm (Default body) rest) = refused_if had DuplicateCase ++ (conds_defaults body ++ arms_defaults true rest)
+  arms_defaults had (ConsArm (Default body) rest) = refused_if had DuplicateCase
+      ++ (conds_defaults body ++ arms_defaults true rest)
 
 abbrev pub type_part_defaults : {R : Type 0} → TypePart R → List Refusal
 type_part_defaults (item.DefaultValue c) = cond_defaults c
@@ -407,4 +436,6 @@ duplicate_cases unit = flat_map repeated_cases (attributes_of unit)
 
 abbrev pub subset_breaches : Description Target → List Refusal
 subset_breaches unit =
-    wrong_types unit ++ (mismatches unit ++ (float_values unit ++ (wrong_breaks unit ++ (wrong_constants unit ++ duplicate_cases unit))))
+    wrong_types unit ++ (mismatches unit
+    ++ (float_values unit ++ (wrong_breaks unit
+    ++ (wrong_constants unit ++ duplicate_cases unit))))

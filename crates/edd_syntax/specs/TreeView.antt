@@ -1,7 +1,8 @@
--- What expressions and statements in the code stand for: trees of the pure syntax, without lines and pointers. `f` says what a
--- reference stands for.
+-- What expressions and statements in the code stand for: trees of the pure syntax, without lines
+-- and pointers. `f` says what a reference stands for.
 use Rattle.std.specs.Prelude.{List, [], ◌∷◌, map, option_map, string_bytes}
 use Rattle.edd_syntax.specs.declared.reference.Path.{Path}
+use Rattle.edd_syntax.specs.declared.reference.Target.{Target}
 use Rattle.edd_syntax.specs.declared.expr.Expr.{Expr, Row_of-Argument, end_of-Argument, more_of-Argument}
 use Rattle.edd_syntax.specs.declared.expr.Expr.TheVariants.{Literal, Decimal, Reference, Parentheses', Unary', Binary', Compare', LogicalAnd', LogicalOr', Conditional', Assign', CompoundAssign', Increment, Call'}
 use Rattle.edd_syntax.specs.declared.expr.Argument.{Argument}
@@ -30,11 +31,13 @@ abbrev mutual
   expr_of f (Compare' by p left q right) = pure.Compare by (expr_of f left) (expr_of f right)
   expr_of f (LogicalAnd' p left q right) = pure.LogicalAnd (expr_of f left) (expr_of f right)
   expr_of f (LogicalOr' p left q right) = pure.LogicalOr (expr_of f left) (expr_of f right)
-  expr_of f (Conditional' p test q first r second) = pure.Conditional (expr_of f test) (expr_of f first) (expr_of f second)
+  expr_of f (Conditional' p test q first r second) = pure.Conditional (expr_of f test)
+      (expr_of f first) (expr_of f second)
   expr_of f (Assign' to p value) = pure.Assign (f to) (expr_of f value)
   expr_of f (CompoundAssign' op to p value) = pure.CompoundAssign op (f to) (expr_of f value)
   expr_of f (Increment by to) = pure.Increment by (f to)
-  expr_of f (Call' line function shape arguments) = pure.Call (f function) (pure.arguments_from (arguments_in f arguments))
+  expr_of f (Call' line function shape arguments) =
+      pure.Call (f function) (pure.arguments_from (arguments_in f arguments))
 
   -- the arguments that a vector holds
   pub arguments_in : {R S : Type 0} {n : _} → (R → S) → Row_of-Argument R n → List (pure.Argument S)
@@ -54,12 +57,15 @@ abbrev mutual
   stmt_of f (Evaluate e) = statement.Evaluate (expr_of f e)
   stmt_of f (Block' shape parts) = statement.Block (statement.body_from (parts_in f parts))
   stmt_of f (If' test p first) = statement.If (expr_of f test) (stmt_of f first)
-  stmt_of f (IfElse' test p first q otherwise) = statement.IfElse (expr_of f test) (stmt_of f first) (stmt_of f otherwise)
+  stmt_of f (IfElse' test p first q otherwise) = statement.IfElse (expr_of f test) (stmt_of f first)
+      (stmt_of f otherwise)
   stmt_of f (While' test p body) = statement.While (expr_of f test) (stmt_of f body)
   stmt_of f (Do' p body test) = statement.Do (stmt_of f body) (expr_of f test)
   stmt_of f (For' initial test update p body) =
-      statement.For (option_map (expr_of f) initial) (option_map (expr_of f) test) (option_map (expr_of f) update) (stmt_of f body)
-  stmt_of f (Switch' on shape parts) = statement.Switch (expr_of f on) (statement.body_from (parts_in f parts))
+      statement.For (option_map (expr_of f) initial) (option_map (expr_of f) test)
+      (option_map (expr_of f) update) (stmt_of f body)
+  stmt_of f (Switch' on shape parts) =
+      statement.Switch (expr_of f on) (statement.body_from (parts_in f parts))
   stmt_of f (Break line) = statement.Break
   stmt_of f (Continue line) = statement.Continue
   stmt_of f Return = statement.Return
@@ -74,3 +80,20 @@ abbrev mutual
   part_of f (Statement s) = statement.Statement (stmt_of f s)
   part_of f (CaseLabel line label) = statement.CaseLabel label
   part_of f (DefaultLabel line) = statement.DefaultLabel
+
+-- ---- trees whose references are numbers already
+
+abbrev pub numbered_expr : Expr Target → pure.Expr Target
+numbered_expr = expr_of (λ r. r)
+
+abbrev pub numbered_argument : Argument Target → pure.Argument Target
+numbered_argument = argument_of (λ r. r)
+
+abbrev pub numbered_declarator : Declarator Target → statement.Declarator Target
+numbered_declarator = declarator_of (λ r. r)
+
+abbrev pub numbered_stmt : Stmt Target → statement.Stmt Target
+numbered_stmt = stmt_of (λ r. r)
+
+abbrev pub numbered_part : Part Target → statement.Part Target
+numbered_part = part_of (λ r. r)

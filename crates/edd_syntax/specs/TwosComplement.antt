@@ -1,4 +1,5 @@
--- Whole numbers in two's complement: what is left of a number in w bits, and the operators at that width.
+-- Whole numbers in two's complement: what is left of a number in w bits, and the operators at that
+-- width.
 use Rattle.std.specs.Prelude.{ℕ, ◌-◌, ◌*◌, ◌^◌, Bool, not, ◌&&◌, ℤ, pos, negsuc, ◌+ℤ◌, ◌-ℤ◌, ◌*ℤ◌, neg_ℤ, nat_lt, suc, if◌then◌else◌, unsigned_abs, bit_and, bit_or, bit_xor, int_lt, int_le, int_div, int_rem, Result, Ok, Err}
 use Rattle.std.specs.Int.{int_rem_euclid, int_shr}
 use Rattle.std.specs.Ordering.{int_eq}
@@ -49,7 +50,8 @@ bitwise f w a b = as_signed w (f (residue w a) (residue w b))
 abbrev pub divide : (ℤ → ℤ → ℤ) → ℕ → ℤ → ℤ → Result ℤ Trap
 divide f w a b =
     if is_zero b then Err trap.DivZero
-    else (if int_eq a (neg_ℤ (pos (2 ^ (w - 1)))) && int_eq b (negsuc 0) then Err trap.DivOverflow else Ok (f a b))
+    else (if int_eq a (neg_ℤ (pos (2 ^ (w - 1)))) && int_eq b (negsuc 0) then Err trap.DivOverflow
+    else Ok (f a b))
 
 -- `<<` and `>>`, by f: a count outside 0 to w - 1 traps
 abbrev pub shift : (ℤ → ℕ → ℤ) → ℕ → ℤ → ℤ → Result ℤ Trap

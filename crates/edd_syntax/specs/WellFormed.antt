@@ -1,5 +1,5 @@
--- What the trees of a unit keep. `good` tests a reference, and `plain` a reference that has to be a plain name: that of a called
--- function, of a declared local and of a member's item.
+-- What the trees of a unit keep. `good` tests a reference, and `plain` a reference that has to be a
+-- plain name: that of a called function, of a declared local and of a member's item.
 use Rattle.std.specs.Prelude.{ℕ, ◌^◌, Bool, true, false, not, ◌&&◌, nat_le, nat_lt, ℤ, unsigned_abs, List, [], ◌∷◌, Option, Some, None}
 use Rattle.std.specs.List.{list_all}
 use Rattle.edd_syntax.specs.declared.numbers.Kind.{Kind}
@@ -101,7 +101,8 @@ module _ {R : Type 0} (good plain : R → Bool) where
   is_pure_expr (Compare by left right) = is_pure_expr left && is_pure_expr right
   is_pure_expr (LogicalAnd left right) = is_pure_expr left && is_pure_expr right
   is_pure_expr (LogicalOr left right) = is_pure_expr left && is_pure_expr right
-  is_pure_expr (Conditional test first second) = is_pure_expr test && is_pure_expr first && is_pure_expr second
+  is_pure_expr (Conditional test first second) = is_pure_expr test && is_pure_expr first
+      && is_pure_expr second
   is_pure_expr (Assign to value) = false
   is_pure_expr (CompoundAssign op to value) = false
   is_pure_expr (Increment op to) = false
@@ -110,7 +111,8 @@ module _ {R : Type 0} (good plain : R → Bool) where
   abbrev mutual
     pub is_cond : {V : Type 0} → (V → Bool) → Cond R V → Bool
     is_cond of (Value v) = of v
-    is_cond of (If condition first otherwise) = is_pure_expr condition && are_conds of first && are_conds of otherwise
+    is_cond of (If condition first otherwise) = is_pure_expr condition && are_conds of first
+        && are_conds of otherwise
     is_cond of (Select on arms) = is_pure_expr on && are_arms of arms
 
     pub are_conds : {V : Type 0} → (V → Bool) → Conds R V → Bool
@@ -119,7 +121,8 @@ module _ {R : Type 0} (good plain : R → Bool) where
 
     pub are_arms : {V : Type 0} → (V → Bool) → Arms R V → Bool
     are_arms of NoArms = true
-    are_arms of (ConsArm (Case label body) rest) = is_label label && are_conds of body && are_arms of rest
+    are_arms of (ConsArm (Case label body) rest) = is_label label && are_conds of body
+        && are_arms of rest
     are_arms of (ConsArm (Default body) rest) = are_conds of body && are_arms of rest
 
   -- exactly one value in each branch; ELSE may be missing
@@ -154,11 +157,13 @@ module _ {R : Type 0} (good plain : R → Bool) where
     is_stmt (s.Evaluate e) = is_expr e
     is_stmt (s.Block body) = is_body false body
     is_stmt (s.If condition first) = is_expr condition && is_stmt first
-    is_stmt (s.IfElse condition first otherwise) = is_expr condition && is_stmt first && is_stmt otherwise
+    is_stmt (s.IfElse condition first otherwise) = is_expr condition && is_stmt first
+        && is_stmt otherwise
     is_stmt (s.While condition body) = is_expr condition && is_stmt body
     is_stmt (s.Do body condition) = is_stmt body && is_expr condition
     is_stmt (s.For initial condition update body) =
-        if_some is_expr initial && if_some is_expr condition && if_some is_expr update && is_stmt body
+        if_some is_expr initial && if_some is_expr condition && if_some is_expr update
+        && is_stmt body
     is_stmt (s.Switch on body) = is_expr on && is_body true body
     is_stmt s.Break = true
     is_stmt s.Continue = true
@@ -166,7 +171,8 @@ module _ {R : Type 0} (good plain : R → Bool) where
 
     pub is_body : (labels : Bool) → Body R → Bool
     is_body labels Nil = true
-    is_body labels (Cons (Declare declarators) rest) = is_not_empty declarators && list_all is_declarator declarators && is_body labels rest
+    is_body labels (Cons (Declare declarators) rest) = is_not_empty declarators
+        && list_all is_declarator declarators && is_body labels rest
     is_body labels (Cons (Statement statement) rest) = is_stmt statement && is_body labels rest
     is_body labels (Cons (CaseLabel label) rest) = labels && is_label label && is_body labels rest
     is_body labels (Cons DefaultLabel rest) = labels && is_body labels rest
@@ -222,7 +228,8 @@ module _ {R : Type 0} (good plain : R → Bool) where
   is_attribute (item.TypeOf word parts) = is_type word parts
   is_attribute (item.Number n) = is_number n
   is_attribute (item.Operation o) = true
-  is_attribute (item.Transaction number parts) = if_some is_number number && list_all is_transaction_part parts
+  is_attribute (item.Transaction number parts) = if_some is_number number
+      && list_all is_transaction_part parts
   is_attribute (item.ResponseCodes responses) = list_all is_response_code responses
   is_attribute (item.Items entries) = are_conds is_entry entries
   is_attribute (item.Members members) = list_all is_member members

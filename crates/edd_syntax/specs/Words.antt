@@ -70,10 +70,15 @@ with_text here p = record p { before = here ++ p.before }
 
 -- a code opens a variant, whose text goes up to the next code
 abbrev pub with_code : List ℕ → Pieces → Pieces
-with_code code p = record { before = []; variants = record { code = code; text = p.before } ∷ p.variants }
+with_code code p = record {
+  before = [];
+  variants = record { code = code; text = p.before }
+      ∷ p.variants;
+}
 
--- The pieces of the characters behind the first `read`, which belong to what was read before. A backslash and the character
--- after it are passed together, so neither opens a code. Behind a code reading goes on after the bar that closes it.
+-- The pieces of the characters behind the first `read`, which belong to what was read before. A
+-- backslash and the character after it are passed together, so neither opens a code. Behind a code
+-- reading goes on after the bar that closes it.
 unfoldable pub pieces : (read : ℕ) → List ℕ → Pieces
 pieces read [] = record { before = []; variants = [] }
 pieces (suc read) (c ∷ rest) = pieces read rest
@@ -97,20 +102,27 @@ is_escape c = c == 34 || c == backslash || c == 110 || c == 116 || c == bar
 abbrev mutual
   pub has_escapes : List ℕ → Bool
   has_escapes [] = true
-  has_escapes (c ∷ rest) = elim (c == backslash) [ true ↦ is_escaped rest | false ↦ has_escapes rest ]
+  has_escapes (c ∷ rest) = elim (c == backslash) [
+    | true ↦ is_escaped rest
+    | false ↦ has_escapes rest
+  ]
 
   pub is_escaped : List ℕ → Bool
   is_escaped [] = false
   is_escaped (c ∷ rest) = is_escape c && has_escapes rest
 
--- what a backslash and the character c stand for: `n` a line feed, `t` a tab, and the others themselves
+-- what a backslash and the character c stand for: `n` a line feed, `t` a tab, and the others
+-- themselves
 abbrev pub escaped : ℕ → ℕ
 escaped c = if c == 110 then 10 else (if c == 116 then 9 else c)
 
 unfoldable mutual
   pub unescape : List ℕ → List ℕ
   unescape [] = []
-  unescape (c ∷ rest) = elim (c == backslash) [ true ↦ after_backslash rest | false ↦ c ∷ unescape rest ]
+  unescape (c ∷ rest) = elim (c == backslash) [
+    | true ↦ after_backslash rest
+    | false ↦ c ∷ unescape rest
+  ]
 
   pub after_backslash : List ℕ → List ℕ
   after_backslash [] = []
@@ -129,7 +141,8 @@ english = codes "en"
 abbrev pub variants_of : List ℕ → List Variant → Words
 variants_of [] (v ∷ vs) = Variants (unescaped v) (map unescaped vs)
 variants_of [] [] = Variants (record { code = english; text = [] }) []
-variants_of (c ∷ before) vs = Variants (unescaped (record { code = english; text = c ∷ before })) (map unescaped vs)
+variants_of (c ∷ before) vs = Variants (unescaped (record { code = english; text = c ∷ before }))
+    (map unescaped vs)
 
 -- the string of a text of the source
 unfoldable pub words_of : Text → Words

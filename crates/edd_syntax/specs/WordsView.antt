@@ -16,5 +16,6 @@ abbrev pub variant_of : Variant → strings.Variant
 variant_of v = record { code = string_bytes v.code; text = string_bytes v.text }
 
 abbrev pub string_of : Words → strings.Words
-string_of (words.Variants first rest) = strings.Variants (variant_of first) (map variant_of rest.items)
+string_of (words.Variants first rest) = strings.Variants (variant_of first)
+    (map variant_of rest.items)
 string_of (words.Key key) = strings.Key (string_bytes key.name)

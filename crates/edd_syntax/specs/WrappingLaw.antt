@@ -6,7 +6,9 @@ use Rattle.edd_syntax.specs.TwosComplement.{wrap}
 abbrev pub IsCongruent : (m : ℕ) → ℤ → ℤ → Type 0
 IsCongruent m x y = (k : ℤ) × (x ≡ y +ℤ k *ℤ pos m)
 
--- a wrapped number lies from -2 ^ (w - 1) to 2 ^ (w - 1) - 1, and is a multiple of 2 ^ w from the number itself
+-- a wrapped number lies from -2 ^ (w - 1) to 2 ^ (w - 1) - 1, and is a multiple of 2 ^ w from the
+-- number itself
 abbrev pub WrappingKeepsTheNumber : Type 0
 WrappingKeepsTheNumber = (w : ℕ) (z : ℤ) → 1 ≤ w →
-    IsTrue (int_le (neg_ℤ (pos (2 ^ (w - 1)))) (wrap w z)) × IsTrue (int_lt (wrap w z) (pos (2 ^ (w - 1)))) × IsCongruent (2 ^ w) z (wrap w z)
+    IsTrue (int_le (neg_ℤ (pos (2 ^ (w - 1)))) (wrap w z))
+    × IsTrue (int_lt (wrap w z) (pos (2 ^ (w - 1)))) × IsCongruent (2 ^ w) z (wrap w z)

@@ -5,7 +5,8 @@ use crate::numbers::VarNo;
 /// The answer to a request.
 #[derive(Drop)]
 pub enum Answer {
-    /// The method goes on with `code` as the request's value, after the variables were set in order.
+    /// The method goes on with `code` as the request's value, after the variables were set in
+    /// order.
     Go { code: i32, sets: Vec<(VarNo, i64)> },
     /// The method ends.
     Abort,

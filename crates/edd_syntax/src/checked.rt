@@ -16,13 +16,17 @@ use std::rc::Rc;
 pub struct Checked {
     pub identification: Identification,
     pub items: Rc<Vec<Item<Target>>>,
-    pub ghost checked: { ∥ IsChecked (description (identification_of identification) (numbered_items items.value.items)) ∥₁ },
+    pub ghost checked: { ∥ IsChecked
+        (description (identification_of identification) (numbered_items items.value.items)) ∥₁ },
 }
 
 impl Checked {
-    /// The same description, which breaks no rule of the profile, and with which it shares its trees.
+    /// The same description, which breaks no rule of the profile, and with which it shares its
+    /// trees.
     pub fn new(resolved: &Resolved) -> Result<Checked, AllocError>
-        requires no_breach { subset_breaches (description (identification_of resolved.now.identification) (numbered_items resolved.now.items.value.items)) ≡ [] }
+        requires no_breach { subset_breaches
+            (description (identification_of resolved.now.identification)
+            (numbered_items resolved.now.items.value.items)) ≡ [] }
         ensures identification { IfOk result (λ c. c.identification ≡ resolved.now.identification) }
         ensures items { IfOk result (λ c. c.items.value ≡ resolved.now.items.value) }
     {

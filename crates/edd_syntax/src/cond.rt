@@ -2,7 +2,8 @@
 
 use crate::expr::Expr;
 
-/// A value, or values that depend on expressions. A single value has one conditional at each branch, a list any number.
+/// A value, or values that depend on expressions. A single value has one conditional at each
+/// branch, a list any number.
 #[cycle(cond)]
 #[derive(Drop)]
 pub enum Cond<R, V> {

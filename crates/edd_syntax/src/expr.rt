@@ -3,7 +3,8 @@
 use crate::operators::{Comparison, IncrementOperator, Operator, UnaryOperator};
 use crate::text::Text;
 
-/// An expression of an attribute or a method. Lines stand where a refusal may name them, and have no meaning.
+/// An expression of an attribute or a method. Lines stand where a refusal may name them, and have
+/// no meaning.
 #[cycle(expr)]
 #[derive(Drop)]
 pub enum Expr<R> {

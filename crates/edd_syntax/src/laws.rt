@@ -8,14 +8,15 @@ pub fn statements_stay()
     ensures { StatementsStay }
 {}
 
-/// What a whole run comes to, other than for want of turns, stays where each loop has more turns: the requests, the changes, the
-/// values, the answers that are left, and the ending.
+/// What a whole run comes to, other than for want of turns, stays where each loop has more turns:
+/// the requests, the changes, the values, the answers that are left, and the ending.
 pub fn runs_stay()
     ensures bodies { BodiesStay }
     ensures methods { RunsStay }
 {}
 
-/// A number that is wrapped to a width lies in the range of that width, a multiple of 2 to the power of the width from what it was.
+/// A number that is wrapped to a width lies in the range of that width, a multiple of 2 to the
+/// power of the width from what it was.
 pub fn wrapping_keeps_the_number()
     ensures { WrappingKeepsTheNumber }
 {}

@@ -9,13 +9,14 @@ use crate::reference::Target;
 use std::alloc::{AllocError, Global};
 use std::rc::Rc;
 
-/// A description whose references are targets. It comes from a unit whose names all mean something, and in which no rule on
-/// counts, names and attributes is broken.
+/// A description whose references are targets. It comes from a unit whose names all mean something,
+/// and in which no rule on counts, names and attributes is broken.
 #[derive(Drop)]
 pub struct Resolved {
     pub identification: Identification,
     pub items: Rc<Vec<Item<Target>>>,
-    pub ghost resolved: { ∥ IsResolved (description (identification_of identification) (numbered_items items.value.items)) ∥₁ },
+    pub ghost resolved: { ∥ IsResolved
+        (description (identification_of identification) (numbered_items items.value.items)) ∥₁ },
 }
 
 impl Resolved {
@@ -25,7 +26,8 @@ impl Resolved {
         identification: Identification,
         items: Vec<Item<Target>>,
     ) -> Result<Resolved, AllocError>
-        requires { IsResolved (description (identification_of identification) (numbered_items items.items)) }
+        requires { IsResolved (description (identification_of identification)
+            (numbered_items items.items)) }
         ensures identification { IfOk result (λ r. r.identification ≡ identification) }
         ensures items { IfOk result (λ r. r.items.value.items ≡ items.items) }
     {

@@ -4,7 +4,7 @@ ghost use Rattle.std.specs.Prelude.{◌≡◌, ◌++◌, ◌≤◌, map, filter,
 ghost use Rattle.std.specs.List.{list_any, list_all, flat_map};
 ghost use Rattle.edd_syntax.specs.declared.numbers.Kind.{Kind};
 ghost use Rattle.edd_syntax.specs.Item.{kind_of_item};
-ghost use Rattle.edd_syntax.specs.ItemView.{attribute_of, item_of, type_part_of, numbered_items};
+ghost use Rattle.edd_syntax.specs.ItemView.{numbered_items, numbered_attribute, numbered_item, numbered_type_part};
 ghost use Rattle.edd_syntax.specs.NameRules as rules;
 ghost use Rattle.edd_syntax.specs.Resolution.{count_of};
 ghost use Rattle.edd_syntax.specs.Rows as order;
@@ -16,7 +16,7 @@ use crate::reference::Target;
 use std::alloc::{AllocError, Global};
 
 fn part_attr(part: &TypePart<Target>) -> Attr
-    ensures { result ≡ order.part_attr (type_part_of (λ r. r) part.now) }
+    ensures { result ≡ order.part_attr (numbered_type_part part.now) }
 {
     match part {
         TypePart::DefaultValue { .. } => Attr::DefaultValue,
@@ -30,13 +30,13 @@ fn part_attr(part: &TypePart<Target>) -> Attr
 
 #[tactic(auto, unfolding(crate::specs::Rows::part_stands_for))]
 fn is_part(part: &TypePart<Target>, attr: Attr) -> bool
-    ensures { result ≡ order.part_stands_for attr (type_part_of (λ r. r) part.now) }
+    ensures { result ≡ order.part_stands_for attr (numbered_type_part part.now) }
 {
     attr == part_attr(part)
 }
 
 fn has_part(parts: &[TypePart<Target>], attr: Attr) -> bool
-    ensures { result ≡ list_any (order.part_stands_for attr) (map (type_part_of (λ r. r)) parts.now) }
+    ensures { result ≡ list_any (order.part_stands_for attr) (map numbered_type_part parts.now) }
 {
     for part in parts {
         if is_part(part, attr) {
@@ -49,7 +49,7 @@ fn has_part(parts: &[TypePart<Target>], attr: Attr) -> bool
 // Whether a written attribute stands for this one.
 #[tactic(auto, unfolding(crate::specs::Rows::stands_for), using(crate::proofs::RowLaws::any_part))]
 fn stands_for(attribute: &Attribute<Target>, attr: Attr) -> bool
-    ensures { result ≡ order.stands_for attr (attribute_of (λ r. r) attribute.now) }
+    ensures { result ≡ order.stands_for attr (numbered_attribute attribute.now) }
 {
     let written = match attribute {
         Attribute::OneText(which, _) => which.attr(),
@@ -69,7 +69,7 @@ fn stands_for(attribute: &Attribute<Target>, attr: Attr) -> bool
 }
 
 fn is_written(attributes: &[Attribute<Target>], attr: Attr) -> bool
-    ensures { result ≡ order.is_written attr (map (attribute_of (λ r. r)) attributes.now) }
+    ensures { result ≡ order.is_written attr (map numbered_attribute attributes.now) }
 {
     for attribute in attributes {
         if stands_for(attribute, attr) {
@@ -80,7 +80,7 @@ fn is_written(attributes: &[Attribute<Target>], attr: Attr) -> bool
 }
 
 fn is_transaction(attribute: &Attribute<Target>) -> bool
-    ensures { result ≡ rules.is_transaction (attribute_of (λ r. r) attribute.now) }
+    ensures { result ≡ rules.is_transaction (numbered_attribute attribute.now) }
 {
     matches!(attribute, Attribute::Transaction { .. })
 }
@@ -92,9 +92,10 @@ fn push_transactions(
     item: ItemNo,
     attr: Attr,
 ) -> Result<(), AllocError>
-    requires { length (filter rules.is_transaction (map (attribute_of (λ r. r)) attributes.now)) ≤ 4096 }
+    requires { length (filter rules.is_transaction (map numbered_attribute attributes.now)) ≤ 4096 }
     ensures { OnOk result (rows.new.items
-        ≡ rows.old.items ++ order.rows_at item attr (order.transaction_positions 0 (map (attribute_of (λ r. r)) attributes.now))) }
+        ≡ rows.old.items ++ order.rows_at item attr
+        (order.transaction_positions 0 (map numbered_attribute attributes.now))) }
 {
     let mut sub = 0;
     for attribute in attributes {
@@ -114,8 +115,9 @@ fn push_item(
     item: ItemNo,
     attr: Attr,
 ) -> Result<(), AllocError>
-    requires { length (filter rules.is_transaction (map (attribute_of (λ r. r)) attributes.now)) ≤ 4096 }
-    ensures { OnOk result (rows.new.items ≡ rows.old.items ++ order.item_rows item attr (map (attribute_of (λ r. r)) attributes.now)) }
+    requires { length (filter rules.is_transaction (map numbered_attribute attributes.now)) ≤ 4096 }
+    ensures { OnOk result (rows.new.items ≡ rows.old.items
+        ++ order.item_rows item attr (map numbered_attribute attributes.now)) }
 {
     if attr.is_of_transaction() {
         return push_transactions(rows, attributes, item, attr);
@@ -133,9 +135,11 @@ fn push_items(
     kind: Kind,
     attr: Attr,
 ) -> Result<(), AllocError>
-    requires few { count_of kind (map (item_of (λ r. r)) items.now) ≤ 4096 }
-    requires transactions { IsTrue (list_all (λ i. nat_le (rules.transaction_count i) 4096) (map (item_of (λ r. r)) items.now)) }
-    ensures { OnOk result (rows.new.items ≡ rows.old.items ++ order.rows_from kind attr 0 (order.of_kind kind (map (item_of (λ r. r)) items.now))) }
+    requires few { count_of kind (map numbered_item items.now) ≤ 4096 }
+    requires transactions { IsTrue (list_all (λ i. nat_le (rules.transaction_count i) 4096)
+        (map numbered_item items.now)) }
+    ensures { OnOk result (rows.new.items ≡ rows.old.items ++ order.rows_from kind attr 0
+        (order.of_kind kind (map numbered_item items.now))) }
 {
     let mut number = 0;
     for item in items {
@@ -154,10 +158,12 @@ fn push_attributes(
     kind: Kind,
     attrs: &[Attr],
 ) -> Result<(), AllocError>
-    requires few { count_of kind (map (item_of (λ r. r)) items.now) ≤ 4096 }
-    requires transactions { IsTrue (list_all (λ i. nat_le (rules.transaction_count i) 4096) (map (item_of (λ r. r)) items.now)) }
+    requires few { count_of kind (map numbered_item items.now) ≤ 4096 }
+    requires transactions { IsTrue (list_all (λ i. nat_le (rules.transaction_count i) 4096)
+        (map numbered_item items.now)) }
     ensures { OnOk result (rows.new.items
-        ≡ rows.old.items ++ flat_map (order.rows_of_attr (map (item_of (λ r. r)) items.now) kind) attrs.now) }
+        ≡ rows.old.items ++ flat_map (order.rows_of_attr (map numbered_item items.now) kind)
+        attrs.now) }
 {
     for attr in attrs {
         push_items(rows, items, kind, *attr)?;
@@ -171,10 +177,11 @@ fn push_kinds(
     items: &[Item<Target>],
     kinds: &[Kind],
 ) -> Result<(), AllocError>
-    requires few { (k : Kind) → count_of k (map (item_of (λ r. r)) items.now) ≤ 4096 }
-    requires transactions { IsTrue (list_all (λ i. nat_le (rules.transaction_count i) 4096) (map (item_of (λ r. r)) items.now)) }
+    requires few { (k : Kind) → count_of k (map numbered_item items.now) ≤ 4096 }
+    requires transactions { IsTrue (list_all (λ i. nat_le (rules.transaction_count i) 4096)
+        (map numbered_item items.now)) }
     ensures { OnOk result (rows.new.items
-        ≡ rows.old.items ++ flat_map (order.rows_of_kind (map (item_of (λ r. r)) items.now)) kinds.now) }
+        ≡ rows.old.items ++ flat_map (order.rows_of_kind (map numbered_item items.now)) kinds.now) }
 {
     for kind in kinds {
         push_attributes(rows, items, *kind, &ATTRIBUTES)?;
@@ -183,10 +190,12 @@ fn push_kinds(
 }
 
 impl Checked {
-    /// The written attributes other than TYPE, by kind, attribute, item and position. A transaction has all three of its
-    /// attributes, written or not; `sub` is its position among the transactions of its command, and else 0.
+    /// The written attributes other than TYPE, by kind, attribute, item and position. A transaction
+    /// has all three of its attributes, written or not; `sub` is its position among the
+    /// transactions of its command, and else 0.
     pub fn rows(&self, alloc: Global) -> Result<Vec<AttrRef>, AllocError>
-        ensures { IfOk result (λ rows. rows.items ≡ order.rows (numbered_items self.now.items.value.items)) }
+        ensures { IfOk result (λ rows. rows.items
+            ≡ order.rows (numbered_items self.now.items.value.items)) }
     {
         let mut rows = Vec::new(alloc);
         push_kinds(&mut rows, &self.items, &KINDS)?;

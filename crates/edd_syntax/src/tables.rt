@@ -31,7 +31,8 @@ impl Kind {
         }
     }
 
-    /// The item of the kind by its number among the items of that kind, which counts from 0 (this profile).
+    /// The item of the kind by its number among the items of that kind, which counts from 0 (this
+    /// profile).
     pub fn item(self, index: u16) -> ItemNo
         ensures { result ≡ numbers.item_number self index }
     {
@@ -46,7 +47,8 @@ impl Kind {
 }
 
 impl ItemNo {
-    /// The item by the number of its kind and its own among the items of that kind, where there is such a kind (this profile).
+    /// The item by the number of its kind and its own among the items of that kind, where there is
+    /// such a kind (this profile).
     #[inline(always)]
     pub fn from_numbers(kind: u8, index: u16) -> Option<ItemNo>
         ensures { result ≡ numbers.item_from_numbers kind index }
@@ -126,8 +128,8 @@ impl Attr {
         }
     }
 
-    /// The word of the attribute, as EDDL has it (IEC 61804-3). ENUMERATORS is a word of this profile, since the list of a type
-    /// stands without one.
+    /// The word of the attribute, as EDDL has it (IEC 61804-3). ENUMERATORS is a word of this
+    /// profile, since the list of a type stands without one.
     pub fn word(self) -> &'static str
         ensures { result.now ≡ numbers.attr_word self }
     {
@@ -184,7 +186,8 @@ impl Attr {
         }
     }
 
-    /// Whether each transaction of a command has the attribute, and not the command itself (EDDL, IEC 61804-3).
+    /// Whether each transaction of a command has the attribute, and not the command itself (EDDL,
+    /// IEC 61804-3).
     pub fn is_of_transaction(self) -> bool
         ensures { result ≡ attributes.is_of_transaction self }
     {

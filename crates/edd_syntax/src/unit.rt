@@ -9,8 +9,9 @@ use crate::item::{Identification, Item};
 use crate::reference::Path;
 use std::alloc::{AllocError, Global};
 
-/// A description, whose references are names. Each attribute is one of its item's kind, a single value has one value in each
-/// branch, trees have a height of at most 100, names and numbers are tokens, and each backslash of a text begins an escape.
+/// A description, whose references are names. Each attribute is one of its item's kind, a single
+/// value has one value in each branch, trees have a height of at most 100, names and numbers are
+/// tokens, and each backslash of a text begins an escape.
 #[derive(Drop)]
 pub struct Unit {
     pub identification: Identification,
@@ -34,10 +35,11 @@ impl Unit {
     pub fn push(&mut self, item: Item<Path>) -> Result<(), AllocError>
         requires { IsTrue (is_item is_path is_plain (item_of path_of item)) }
         ensures identification { self.new.identification ≡ self.old.identification }
-        ensures ok { OnOk result
+        ensures sound { OnOk result
             (named_items self.new.items.items
             ≡ named_items self.old.items.items ++ item_of path_of item ∷ []) }
-        ensures err { OnErr result (named_items self.new.items.items ≡ named_items self.old.items.items) }
+        ensures kept { OnErr result (named_items self.new.items.items
+            ≡ named_items self.old.items.items) }
     {
         self.items.push(item)?;
         Ok(())

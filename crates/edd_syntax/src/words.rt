@@ -4,7 +4,8 @@ ghost use Rattle.std.specs.Prelude.{IsTrue, string_bytes};
 ghost use Rattle.edd_syntax.specs.Names.{is_name};
 ghost use Rattle.edd_syntax.specs.Words.{is_code};
 
-/// A text in one language. The code is two lower-case letters, two such pairs with a space between, or three digits.
+/// A text in one language. The code is two lower-case letters, two such pairs with a space between,
+/// or three digits.
 #[derive(PartialEq, Eq, Hash, Drop)]
 pub struct Variant {
     pub code: String,

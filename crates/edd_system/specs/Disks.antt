@@ -31,19 +31,29 @@ HasNoneBeside files = option_map without_beside files ≡ files
 
 -- the new file has taken the place, and all others stand where they stood
 abbrev pub moved : List ℕ → PlainFiles → PlainFiles
-moved place files = record files { bytes = λ other. if bytes_eq other place then files.beside else files.bytes other; beside = None }
+moved place files = record files {
+  bytes = λ other. if bytes_eq other place then files.beside else
+      files.bytes other;
+  beside = None;
+}
 
 -- the file at the place has these bytes, all others have what they had, and no new file is left
 abbrev pub replaced : List ℕ → List ℕ → PlainFiles → PlainFiles
 replaced place bytes files = moved place (with_beside bytes files)
 
--- what became of the plain files and of what streams were given, where the bytes were written that way
-abbrev pub Wrote : Way → List ℕ → List ℕ → PlainFiles → Option PlainFiles → Option (List ℕ) → Option (List ℕ) → Type 0
-Wrote Beside place bytes files after given given_after = (after ≡ Some (replaced place bytes files)) × (given_after ≡ given)
-Wrote AsItIs place bytes files after given given_after = (after ≡ Some files) × (given_after ≡ option_map (λ before. before ++ bytes) given)
+-- what became of the plain files and of what streams were given, where the bytes were written that
+-- way
+abbrev pub Wrote : Way → List ℕ → List ℕ → PlainFiles → Option PlainFiles → Option (List ℕ)
+    → Option (List ℕ) → Type 0
+Wrote Beside place bytes files after given given_after = (after ≡ Some (replaced place bytes files))
+    × (given_after ≡ given)
+Wrote AsItIs place bytes files after given given_after = (after ≡ Some files)
+    × (given_after ≡ option_map (λ before. before ++ bytes) given)
 Wrote Refused place bytes files after given given_after = ⊥
 
 -- the bytes were written under the name in the way that is right for what stands where it leads
-abbrev pub Saved : List Identity → List ℕ → List ℕ → (List ℕ → Standing) → PlainFiles → Option PlainFiles → Option (List ℕ) → Option (List ℕ) → Type 0
+abbrev pub Saved : List Identity → List ℕ → List ℕ → (List ℕ → Standing) → PlainFiles
+    → Option PlainFiles → Option (List ℕ) → Option (List ℕ) → Type 0
 Saved opened name bytes standing files after given given_after =
-    (way : Way) × IsWay (standing (files.place name)) opened way × Wrote way (files.place name) bytes files after given given_after
+    (way : Way) × IsWay (standing (files.place name)) opened way × Wrote way (files.place name)
+    bytes files after given given_after

@@ -21,8 +21,8 @@ IsReplaceable (Plain _) = ⊤
 IsReplaceable (Fixed _) = ⊥
 IsReplaceable Stream = ⊥
 
--- the way for what stands there: a file that was opened is refused, and of the others plain files and new ones are written beside
--- their place, and all else is written as it is
+-- the way for what stands there: a file that was opened is refused, and of the others plain files
+-- and new ones are written beside their place, and all else is written as it is
 abbrev pub IsWay : Standing → List Identity → Way → Type 0
 IsWay standing opened Refused = IsOpened standing opened
 IsWay standing opened Beside = ¬ (IsOpened standing opened) × IsReplaceable standing

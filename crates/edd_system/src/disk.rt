@@ -7,8 +7,8 @@ ghost use Rattle.edd_system.specs.Disks.{PlainFiles, with_beside, without_beside
 use crate::way::Standing;
 use std::io;
 
-/// A disk with its links, plain files, streams and devices. What is said of it holds where it says what it has: a disk in memory
-/// can, and the system's says nothing.
+/// A disk with its links, plain files, streams and devices. What is said of it holds where it says
+/// what it has: a disk in memory can, and the system's says nothing.
 pub trait Disk {
     /// A new file, which has no place yet.
     type New: Drop;
@@ -24,7 +24,8 @@ pub trait Disk {
 
     /// The place to which a name leads.
     fn place_of(&self, name: &str) -> io::Result<String>
-        ensures { IfOk result (λ place. IfSome (files self.now) (λ f. string_bytes place ≡ f.place name.now)) };
+        ensures { IfOk result (λ place. IfSome (files self.now) (λ f. string_bytes place
+            ≡ f.place name.now)) };
 
     /// What stands at a place, if it may be written.
     fn look(&self, place: &str) -> io::Result<Standing>
@@ -33,19 +34,23 @@ pub trait Disk {
     /// Makes an empty file beside the place.
     fn create_beside(&mut self, place: &str) -> io::Result<Self::New>
         ensures made { OnOk result (files self.new ≡ option_map (with_beside []) (files self.old)) }
-        ensures kept { option_map without_beside (files self.new) ≡ option_map without_beside (files self.old) }
+        ensures kept { option_map without_beside (files self.new)
+            ≡ option_map without_beside (files self.old) }
         ensures none { OnErr result (files self.new ≡ option_map without_beside (files self.old)) }
         ensures given { given self.new ≡ given self.old };
 
     /// Writes all bytes of the new file.
     fn fill(&mut self, new: &mut Self::New, bytes: &[u8]) -> io::Result<()>
-        ensures filled { OnOk result (files self.new ≡ option_map (with_beside bytes.now) (files self.old)) }
-        ensures kept { option_map without_beside (files self.new) ≡ option_map without_beside (files self.old) }
+        ensures filled { OnOk result (files self.new ≡ option_map (with_beside bytes.now)
+            (files self.old)) }
+        ensures kept { option_map without_beside (files self.new)
+            ≡ option_map without_beside (files self.old) }
         ensures given { given self.new ≡ given self.old };
 
     /// Gives the place to the new file, in one step.
     fn put(&mut self, new: &mut Self::New, place: &str) -> io::Result<()>
-        ensures moved { OnOk result (files self.new ≡ option_map (moved place.now) (files self.old)) }
+        ensures moved { OnOk result
+            (files self.new ≡ option_map (moved place.now) (files self.old)) }
         ensures kept { OnErr result (files self.new ≡ files self.old) }
         ensures given { given self.new ≡ given self.old };
 
@@ -56,6 +61,7 @@ pub trait Disk {
 
     /// Writes to the stream or device that stands at the place.
     fn give(&mut self, place: &str, bytes: &[u8]) -> io::Result<()>
-        ensures given { OnOk result (given self.new ≡ option_map (λ before. before ++ bytes.now) (given self.old)) }
+        ensures given { OnOk result (given self.new ≡ option_map (λ before. before ++ bytes.now)
+            (given self.old)) }
         ensures kept { files self.new ≡ files self.old };
 }

@@ -1,4 +1,5 @@
-//! The files of the system, so written that none is lost: an image is written beside its place, and then takes it.
+//! The files of the system, so written that none is lost: an image is written beside its place, and
+//! then takes it.
 #![tactic(auto)]
 
 mod disk;

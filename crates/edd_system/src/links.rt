@@ -42,7 +42,8 @@ fn next<R: Files + AllocGlobal>(rt: &R, link: &str) -> io::Result<String> {
     Ok(path.into_string())
 }
 
-/// Follows the links that stand under a name. The last name of a link that leads to nothing is free.
+/// Follows the links that stand under a name. The last name of a link that leads to nothing is
+/// free.
 pub fn follow<R: Files + AllocGlobal>(rt: &R, name: &str) -> io::Result<String> {
     let mut place = name.to_string(rt.alloc())?;
     for _ in 0..MOST_LINKS {

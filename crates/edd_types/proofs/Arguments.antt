@@ -22,31 +22,37 @@ and_and_false true false = refl
 and_and_false false b = refl
 
 module _ {X : Type 0} (view : X → Argument Target) where
-  pub none_is_not_one : (p : Parameter) (xs : List X) → length xs < 1 → false ≡ all_fit (p ∷ []) (arguments_from (map view xs))
+  pub none_is_not_one : (p : Parameter) (xs : List X) → length xs < 1
+      → false ≡ all_fit (p ∷ []) (arguments_from (map view xs))
   none_is_not_one p [] h = refl
   none_is_not_one p (x ∷ xs) h = absurd (omega arith)
 
-  pub many_are_not_one : (p : Parameter) (xs : List X) → 2 ≤ length xs → false ≡ all_fit (p ∷ []) (arguments_from (map view xs))
+  pub many_are_not_one : (p : Parameter) (xs : List X) → 2 ≤ length xs
+      → false ≡ all_fit (p ∷ []) (arguments_from (map view xs))
   many_are_not_one p [] h = absurd (omega arith)
   many_are_not_one p (x ∷ []) h = absurd (omega arith)
   many_are_not_one p (x ∷ y ∷ xs) h = sym (and_false (rules.fits p (view x)))
 
-  pub few_are_not_two : (p q : Parameter) (xs : List X) → length xs < 2 → false ≡ all_fit (p ∷ q ∷ []) (arguments_from (map view xs))
+  pub few_are_not_two : (p q : Parameter) (xs : List X) → length xs < 2
+      → false ≡ all_fit (p ∷ q ∷ []) (arguments_from (map view xs))
   few_are_not_two p q [] h = refl
   few_are_not_two p q (x ∷ []) h = sym (and_false (rules.fits p (view x)))
   few_are_not_two p q (x ∷ y ∷ xs) h = absurd (omega arith)
 
-  pub many_are_not_two : (p q : Parameter) (xs : List X) → 3 ≤ length xs → false ≡ all_fit (p ∷ q ∷ []) (arguments_from (map view xs))
+  pub many_are_not_two : (p q : Parameter) (xs : List X) → 3 ≤ length xs
+      → false ≡ all_fit (p ∷ q ∷ []) (arguments_from (map view xs))
   many_are_not_two p q [] h = absurd (omega arith)
   many_are_not_two p q (x ∷ []) h = absurd (omega arith)
   many_are_not_two p q (x ∷ y ∷ []) h = absurd (omega arith)
-  many_are_not_two p q (x ∷ y ∷ z ∷ xs) h = sym (and_and_false (rules.fits p (view x)) (rules.fits q (view y)))
+  many_are_not_two p q (x ∷ y ∷ z ∷ xs) h =
+      sym (and_and_false (rules.fits p (view x)) (rules.fits q (view y)))
 
 pub ruleset not_one = (none_is_not_one, many_are_not_one)
 
 pub ruleset not_two = (few_are_not_two, many_are_not_two)
 
-pub some_are_not_none : {X : Type 0} (view : X → Argument Target) (xs : List X) → 1 ≤ length xs → false ≡ all_fit [] (arguments_from (map view xs))
+pub some_are_not_none : {X : Type 0} (view : X → Argument Target) (xs : List X) → 1 ≤ length xs
+    → false ≡ all_fit [] (arguments_from (map view xs))
 some_are_not_none view [] h = absurd (omega arith)
 some_are_not_none view (x ∷ xs) h = refl
 
@@ -70,16 +76,24 @@ few_parameters builtin.ProcessAbort = omega arith
 
 -- ---- a call and its arguments
 
-module _ (is_statement : Bool) (function : Target) (arguments : Arguments Target) (fits : Bool) (first : first_of (call_breaches is_statement function arguments) ≡ (if fits then None else Some Mismatch)) where
-  pub call_breaks : fits ≡ false → Some Mismatch ≡ first_of (call_breaches is_statement function arguments ++ argument_mismatches arguments)
-  call_breaks h = sym (first_of-append_some (call_breaches is_statement function arguments) (argument_mismatches arguments) Mismatch (sym (first ∙ chosen fits h)))
+module _ (is_statement : Bool) (function : Target) (arguments : Arguments Target) (fits : Bool)
+    (first : first_of (call_breaches is_statement function arguments)
+    ≡ (if fits then None else Some Mismatch)) where
+  pub call_breaks : fits ≡ false
+      → Some Mismatch ≡ first_of (call_breaches is_statement function arguments
+      ++ argument_mismatches arguments)
+  call_breaks h = sym (first_of-append_some (call_breaches is_statement function arguments)
+      (argument_mismatches arguments) Mismatch (sym (first ∙ chosen fits h)))
     where
       chosen : (b : Bool) → b ≡ false → (if b then None else Some Mismatch) ≡ Some Mismatch
       chosen true e = absurd (false≢true (sym e))
       chosen false e = refl
 
-  pub call_passes : fits ≡ true → first_of (call_breaches is_statement function arguments ++ argument_mismatches arguments) ≡ first_of (argument_mismatches arguments)
-  call_passes h = first_of-append_none (call_breaches is_statement function arguments) (argument_mismatches arguments) (sym (first ∙ chosen fits h))
+  pub call_passes : fits ≡ true
+      → first_of (call_breaches is_statement function arguments ++ argument_mismatches arguments)
+      ≡ first_of (argument_mismatches arguments)
+  call_passes h = first_of-append_none (call_breaches is_statement function arguments)
+      (argument_mismatches arguments) (sym (first ∙ chosen fits h))
     where
       chosen : (b : Bool) → b ≡ true → (if b then None else Some Mismatch) ≡ None
       chosen true e = refl

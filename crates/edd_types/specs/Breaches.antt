@@ -75,20 +75,24 @@ has_default had (Default body) = true
 abbrev mutual
   pub in_cond : {V : Type 0} → Breach → (of : V → List Refusal) → Cond Target V → List Refusal
   in_cond b of (Value v) = of v
-  in_cond b of (If condition first otherwise) = in_part b condition ++ (in_conds b of first ++ in_conds b of otherwise)
+  in_cond b of (If condition first otherwise) = in_part b condition
+      ++ (in_conds b of first ++ in_conds b of otherwise)
   in_cond b of (Select on arms) = in_part b on ++ in_arms b of false arms
 
   pub in_conds : {V : Type 0} → Breach → (of : V → List Refusal) → Conds Target V → List Refusal
   in_conds b of cond.Nil = []
   in_conds b of (cond.Cons first rest) = in_cond b of first ++ in_conds b of rest
 
-  pub in_arms : {V : Type 0} → Breach → (of : V → List Refusal) → (had : Bool) → Arms Target V → List Refusal
+  pub in_arms : {V : Type 0} → Breach → (of : V → List Refusal) → (had : Bool) → Arms Target V
+      → List Refusal
   in_arms b of had NoArms = []
   in_arms b of had (ConsArm (Case label body) rest) = in_conds b of body ++ in_arms b of had rest
-  in_arms b of had (ConsArm (Default body) rest) = in_default b had ++ (in_conds b of body ++ in_arms b of true rest)
+  in_arms b of had (ConsArm (Default body) rest) = in_default b had
+      ++ (in_conds b of body ++ in_arms b of true rest)
 
 -- in one arm
-abbrev pub in_arm : {V : Type 0} → Breach → (of : V → List Refusal) → (had : Bool) → Arm Target V → List Refusal
+abbrev pub in_arm : {V : Type 0} → Breach → (of : V → List Refusal) → (had : Bool) → Arm Target V
+    → List Refusal
 in_arm b of had (Case label body) = in_conds b of body
 in_arm b of had (Default body) = in_default b had ++ in_conds b of body
 
@@ -105,7 +109,8 @@ in_optional b e = in_expressions b (optional_part e)
 
 -- in the three parts of `for`
 unfoldable pub in_header : Breach → (initial condition update : Option (Expr Target)) → List Refusal
-in_header b initial condition update = in_optional b initial ++ (in_optional b condition ++ in_optional b update)
+in_header b initial condition update = in_optional b initial
+    ++ (in_optional b condition ++ in_optional b update)
 
 -- in the values of declarators
 unfoldable pub in_declarators : Breach → List (Declarator Target) → List Refusal

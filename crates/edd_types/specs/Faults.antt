@@ -7,8 +7,10 @@ use Rattle.edd_types.specs.declared.fault.TypeFault.TheVariants as fault
 
 -- the rule that is broken, with its names; want of memory is none
 abbrev pub refusal_of_fault : TypeFault → Option Refusal
-refusal_of_fault (fault.FloatVariable variable) = Some (refusal.FloatVariable (string_bytes variable))
-refusal_of_fault (fault.OtherType variable word) = Some (refusal.OtherType (string_bytes variable) (string_bytes word))
+refusal_of_fault (fault.FloatVariable variable) =
+    Some (refusal.FloatVariable (string_bytes variable))
+refusal_of_fault (fault.OtherType variable word) =
+    Some (refusal.OtherType (string_bytes variable) (string_bytes word))
 refusal_of_fault (fault.BadSize variable) = Some (refusal.BadSize (string_bytes variable))
 refusal_of_fault (fault.Mismatch line) = Some refusal.Mismatch
 refusal_of_fault (fault.FloatValue line) = Some refusal.FloatValue

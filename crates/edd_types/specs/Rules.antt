@@ -20,7 +20,8 @@ why rule.DuplicateCase = refusal.DuplicateCase
 
 -- the breaches in an attribute
 abbrev pub broken_in : Rule → Attribute Target → List Refusal
-broken_in rule.Mismatch a = type_option_breaches a ++ flat_map (λ p. call_mismatches p.is_statement p.expression) (attribute_expressions a)
+broken_in rule.Mismatch a = type_option_breaches a
+    ++ flat_map (λ p. call_mismatches p.is_statement p.expression) (attribute_expressions a)
 broken_in rule.FloatValue a = flat_map (λ p. decimals p.expression) (attribute_expressions a)
 broken_in rule.BreakOutside a = flat_map (breaks_outside_in false false) (bodies_in a)
 broken_in rule.ConstRange a = attribute_data_breaches a
@@ -38,5 +39,6 @@ broken r items = flat_map (λ i. flat_map (broken_in r) i.attributes) items
 -- all breaches, rule after rule
 unfoldable pub all_broken : List (Item Target) → List Refusal
 all_broken items =
-    in_items items ++ (broken rule.Mismatch items ++ (broken rule.FloatValue items ++ (broken rule.BreakOutside items
+    in_items items ++ (broken rule.Mismatch items
+    ++ (broken rule.FloatValue items ++ (broken rule.BreakOutside items
     ++ (broken rule.ConstRange items ++ broken rule.DuplicateCase items))))

@@ -1,4 +1,5 @@
--- The labels of a `switch` that were met so far, and what one more part of its body adds and repeats.
+-- The labels of a `switch` that were met so far, and what one more part of its body adds and
+-- repeats.
 use Rattle.std.specs.Prelude.{◌≡◌, true, ℤ, List, [], ◌∷◌}
 use Rattle.std.specs.Ordering.{int_cmp}
 use Rattle.std.specs.BTreeSet.{contains}
@@ -19,7 +20,8 @@ pub record Holds (labels : Labels) (so_far : rules.Labels) : Type 0 where
 abbrev pub repeats : rules.Labels → Part Target → List Refusal
 repeats so_far (Declare declarators) = []
 repeats so_far (Statement first) = repeated_labels_inside first
-repeats so_far (CaseLabel label) = refused_if (is_label_in so_far.cases (wrap 32 label)) DuplicateCase
+repeats so_far (CaseLabel label) = refused_if (is_label_in so_far.cases (wrap 32 label))
+    DuplicateCase
 repeats so_far DefaultLabel = refused_if so_far.has_default DuplicateCase
 
 -- the labels behind a part

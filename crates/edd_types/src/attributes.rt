@@ -2,7 +2,7 @@
 
 ghost use Rattle.std.specs.Prelude.{◌≡◌, map};
 ghost use Rattle.std.specs.List.{flat_map};
-ghost use Rattle.edd_syntax.specs.ItemView.{attribute_of, type_part_of, transaction_part_of};
+ghost use Rattle.edd_syntax.specs.ItemView.{numbered_attribute, numbered_transaction_part, numbered_type_part};
 ghost use Rattle.edd_syntax.specs.Refusal.{first_of};
 ghost use Rattle.edd_types.specs.Breaches.{refusal_of, in_type_part, in_transaction_part, in_attribute};
 ghost use Rattle.edd_types.specs.Found.{found};
@@ -16,7 +16,8 @@ use edd_syntax::reference::Target;
 /// The line of the first such breach in an option or an enumerator of a type.
 #[tactic(auto, using(crate::proofs::BareViews::bare_values))]
 pub fn check_type_part(part: &TypePart<Target>, breach: Breach) -> Result<(), u32>
-    ensures { found (refusal_of breach) result ≡ first_of (in_type_part breach (type_part_of (λ r. r) part.now)) }
+    ensures { found (refusal_of breach) result
+        ≡ first_of (in_type_part breach (numbered_type_part part.now)) }
 {
     match part {
         TypePart::DefaultValue { value, .. } => check_cond(value, breach),
@@ -29,7 +30,8 @@ pub fn check_type_part(part: &TypePart<Target>, breach: Breach) -> Result<(), u3
 }
 
 fn check_type_parts(parts: &[TypePart<Target>], breach: Breach) -> Result<(), u32>
-    ensures { found (refusal_of breach) result ≡ first_of (flat_map (in_type_part breach) (map (type_part_of (λ r. r)) parts.now)) }
+    ensures { found (refusal_of breach) result
+        ≡ first_of (flat_map (in_type_part breach) (map numbered_type_part parts.now)) }
 {
     for part in parts {
         check_type_part(part, breach)?;
@@ -39,7 +41,8 @@ fn check_type_parts(parts: &[TypePart<Target>], breach: Breach) -> Result<(), u3
 
 #[tactic(auto, using(crate::proofs::BareViews::bare_values))]
 fn check_transaction_part(part: &TransactionPart<Target>, breach: Breach) -> Result<(), u32>
-    ensures { found (refusal_of breach) result ≡ first_of (in_transaction_part breach (transaction_part_of (λ r. r) part.now)) }
+    ensures { found (refusal_of breach) result
+        ≡ first_of (in_transaction_part breach (numbered_transaction_part part.now)) }
 {
     match part {
         TransactionPart::Request(all) => check_conds(all, breach),
@@ -50,7 +53,8 @@ fn check_transaction_part(part: &TransactionPart<Target>, breach: Breach) -> Res
 /// The line of the first such breach in a transaction.
 pub fn check_transaction(parts: &[TransactionPart<Target>], breach: Breach) -> Result<(), u32>
     ensures { found (refusal_of breach) result
-        ≡ first_of (flat_map (in_transaction_part breach) (map (transaction_part_of (λ r. r)) parts.now)) }
+        ≡ first_of (flat_map (in_transaction_part breach)
+        (map numbered_transaction_part parts.now)) }
 {
     for part in parts {
         check_transaction_part(part, breach)?;
@@ -61,7 +65,8 @@ pub fn check_transaction(parts: &[TransactionPart<Target>], breach: Breach) -> R
 /// The line of the first such breach in an attribute.
 #[tactic(auto, using(crate::proofs::BareViews::bare_values))]
 pub fn check_inside(attribute: &Attribute<Target>, breach: Breach) -> Result<(), u32>
-    ensures { found (refusal_of breach) result ≡ first_of (in_attribute breach (attribute_of (λ r. r) attribute.now)) }
+    ensures { found (refusal_of breach) result
+        ≡ first_of (in_attribute breach (numbered_attribute attribute.now)) }
 {
     match attribute {
         Attribute::OneText(_, c) => check_cond(c, breach),

@@ -2,7 +2,7 @@
 
 ghost use Rattle.std.specs.Prelude.{◌≡◌, [], ◌∷◌, map};
 ghost use Rattle.edd_syntax.specs.Statement.{body_from};
-ghost use Rattle.edd_syntax.specs.TreeView.{stmt_of, part_of};
+ghost use Rattle.edd_syntax.specs.TreeView.{numbered_part, numbered_stmt};
 ghost use Rattle.edd_syntax.specs.SubsetRules.{breaks_outside, breaks_outside_in};
 ghost use Rattle.edd_syntax.specs.Refusal.{first_of, BreakOutside};
 ghost use Rattle.edd_types.specs.Found.{found};
@@ -14,7 +14,8 @@ use edd_syntax::stmt::{Part, Stmt};
 #[cycle(breaks)]
 #[tactic(auto, using(edd_syntax::proofs::FirstLaws::firsts))]
 pub fn check_breaks(s: &Stmt<Target>, in_loop: bool, in_switch: bool) -> Result<(), u32>
-    ensures { found BreakOutside result ≡ first_of (breaks_outside in_loop in_switch (stmt_of (λ r. r) s.now)) }
+    ensures { found BreakOutside result
+        ≡ first_of (breaks_outside in_loop in_switch (numbered_stmt s.now)) }
 {
     match s {
         Stmt::Empty | Stmt::Evaluate(_) | Stmt::Return => Ok(()),
@@ -42,7 +43,8 @@ pub fn check_breaks(s: &Stmt<Target>, in_loop: bool, in_switch: bool) -> Result<
 #[cycle(breaks)]
 #[tactic(auto, using(edd_syntax::proofs::FirstLaws::firsts))]
 pub fn check_parts(parts: &[Part<Target>], in_loop: bool, in_switch: bool) -> Result<(), u32>
-    ensures { found BreakOutside result ≡ first_of (breaks_outside_in in_loop in_switch (body_from (map (part_of (λ r. r)) parts.now))) }
+    ensures { found BreakOutside result
+        ≡ first_of (breaks_outside_in in_loop in_switch (body_from (map numbered_part parts.now))) }
 {
     for part in parts {
         check_part(part, in_loop, in_switch)?;
@@ -53,7 +55,8 @@ pub fn check_parts(parts: &[Part<Target>], in_loop: bool, in_switch: bool) -> Re
 #[cycle(breaks)]
 #[tactic(auto, using(edd_syntax::proofs::FirstLaws::firsts))]
 fn check_part(part: &Part<Target>, in_loop: bool, in_switch: bool) -> Result<(), u32>
-    ensures { found BreakOutside result ≡ first_of (breaks_outside_in in_loop in_switch (body_from (part_of (λ r. r) part.now ∷ []))) }
+    ensures { found BreakOutside result
+        ≡ first_of (breaks_outside_in in_loop in_switch (body_from (numbered_part part.now ∷ []))) }
 {
     match part {
         Part::Declare(_) | Part::CaseLabel { .. } | Part::DefaultLabel { .. } => Ok(()),

@@ -2,7 +2,7 @@
 
 ghost use Rattle.std.specs.Prelude.{◌≡◌, ◌≤◌, [], ◌∷◌, map, length, if◌then◌else◌, Some, None};
 ghost use Rattle.edd_syntax.specs.Expression.{arguments_from};
-ghost use Rattle.edd_syntax.specs.TreeView.{expr_of, argument_of};
+ghost use Rattle.edd_syntax.specs.TreeView.{numbered_argument, numbered_expr};
 ghost use Rattle.edd_syntax.specs.SubsetRules as rules;
 ghost use Rattle.edd_syntax.specs.SubsetRules.{all_fit, is_abort, call_breaches, call_mismatches, argument_mismatches};
 ghost use Rattle.edd_syntax.specs.Refusal.{first_of, Mismatch};
@@ -14,7 +14,7 @@ use edd_syntax::operators::{Builtin, Parameter};
 use edd_syntax::reference::Target;
 
 fn is_text(argument: &Argument<Target>) -> bool
-    ensures { result ≡ rules.is_text (argument_of (λ r. r) argument.now) }
+    ensures { result ≡ rules.is_text (numbered_argument argument.now) }
 {
     match argument {
         Argument::Text(_) => true,
@@ -23,7 +23,7 @@ fn is_text(argument: &Argument<Target>) -> bool
 }
 
 fn is_device_variable(argument: &Argument<Target>) -> bool
-    ensures { result ≡ rules.is_device_variable (argument_of (λ r. r) argument.now) }
+    ensures { result ≡ rules.is_device_variable (numbered_argument argument.now) }
 {
     match argument {
         Argument::Value(Expr::Reference(Target::Item(ItemNo::Variable(_)))) => true,
@@ -32,7 +32,7 @@ fn is_device_variable(argument: &Argument<Target>) -> bool
 }
 
 fn fits(parameter: Parameter, argument: &Argument<Target>) -> bool
-    ensures { result ≡ rules.fits parameter (argument_of (λ r. r) argument.now) }
+    ensures { result ≡ rules.fits parameter (numbered_argument argument.now) }
 {
     match parameter {
         Parameter::Text => is_text(argument),
@@ -43,7 +43,7 @@ fn fits(parameter: Parameter, argument: &Argument<Target>) -> bool
 
 #[tactic(auto, using(crate::proofs::Arguments::some_are_not_none))]
 fn are_none(arguments: &[Argument<Target>]) -> bool
-    ensures { result ≡ all_fit [] (arguments_from (map (argument_of (λ r. r)) arguments.now)) }
+    ensures { result ≡ all_fit [] (arguments_from (map numbered_argument arguments.now)) }
 {
     match arguments {
         [] => true,
@@ -53,7 +53,7 @@ fn are_none(arguments: &[Argument<Target>]) -> bool
 
 #[tactic(auto, using(crate::proofs::Arguments::not_one))]
 fn is_one(first: Parameter, arguments: &[Argument<Target>]) -> bool
-    ensures { result ≡ all_fit (first ∷ []) (arguments_from (map (argument_of (λ r. r)) arguments.now)) }
+    ensures { result ≡ all_fit (first ∷ []) (arguments_from (map numbered_argument arguments.now)) }
 {
     match arguments {
         [only] => fits(first, only),
@@ -63,7 +63,8 @@ fn is_one(first: Parameter, arguments: &[Argument<Target>]) -> bool
 
 #[tactic(auto, using(crate::proofs::Arguments::not_two))]
 fn are_two(first: Parameter, second: Parameter, arguments: &[Argument<Target>]) -> bool
-    ensures { result ≡ all_fit (first ∷ second ∷ []) (arguments_from (map (argument_of (λ r. r)) arguments.now)) }
+    ensures { result ≡ all_fit (first ∷ second ∷ [])
+        (arguments_from (map numbered_argument arguments.now)) }
 {
     match arguments {
         [one, other] => fits(first, one) && fits(second, other),
@@ -71,10 +72,12 @@ fn are_two(first: Parameter, second: Parameter, arguments: &[Argument<Target>]) 
     }
 }
 
-// The arguments are such as these parameters ask for, in number and kind. No function has more than two.
+// The arguments are such as these parameters ask for, in number and kind. No function has more than
+// two.
 fn all_fit(parameters: &[Parameter], arguments: &[Argument<Target>]) -> bool
     requires { length parameters.now ≤ 2 }
-    ensures { result ≡ all_fit parameters.now (arguments_from (map (argument_of (λ r. r)) arguments.now)) }
+    ensures { result ≡ all_fit parameters.now
+        (arguments_from (map numbered_argument arguments.now)) }
 {
     match parameters {
         [] => are_none(arguments),
@@ -86,7 +89,8 @@ fn all_fit(parameters: &[Parameter], arguments: &[Argument<Target>]) -> bool
 // An abort is a statement of its own.
 #[tactic(auto, using(crate::proofs::Arguments::few_parameters))]
 fn is_call(function: Target, arguments: &[Argument<Target>], is_statement: bool) -> bool
-    ensures { first_of (call_breaches is_statement function (arguments_from (map (argument_of (λ r. r)) arguments.now)))
+    ensures { first_of (call_breaches is_statement function
+        (arguments_from (map numbered_argument arguments.now)))
         ≡ (if result then None else Some Mismatch) }
 {
     match function {
@@ -98,11 +102,13 @@ fn is_call(function: Target, arguments: &[Argument<Target>], is_statement: bool)
     }
 }
 
-/// The line of the first call with arguments that its function does not take, or of an abort inside an expression.
+/// The line of the first call with arguments that its function does not take, or of an abort inside
+/// an expression.
 #[cycle(calls)]
 #[tactic(auto, using(edd_syntax::proofs::FirstLaws::firsts))]
 pub fn check_calls(e: &Expr<Target>, is_statement: bool) -> Result<(), u32>
-    ensures { found Mismatch result ≡ first_of (call_mismatches is_statement (expr_of (λ r. r) e.now)) }
+    ensures { found Mismatch result
+        ≡ first_of (call_mismatches is_statement (numbered_expr e.now)) }
 {
     match e {
         Expr::Literal(_) | Expr::Decimal { .. } | Expr::Reference(_) | Expr::Increment(_, _) => {
@@ -149,7 +155,8 @@ pub fn check_calls(e: &Expr<Target>, is_statement: bool) -> Result<(), u32>
 #[cycle(calls)]
 #[tactic(auto, using(edd_syntax::proofs::FirstLaws::firsts))]
 fn check_arguments(arguments: &[Argument<Target>]) -> Result<(), u32>
-    ensures { found Mismatch result ≡ first_of (argument_mismatches (arguments_from (map (argument_of (λ r. r)) arguments.now))) }
+    ensures { found Mismatch result
+        ≡ first_of (argument_mismatches (arguments_from (map numbered_argument arguments.now))) }
 {
     for argument in arguments {
         check_argument(argument)?;
@@ -160,7 +167,8 @@ fn check_arguments(arguments: &[Argument<Target>]) -> Result<(), u32>
 #[cycle(calls)]
 #[tactic(auto, using(edd_syntax::proofs::FirstLaws::firsts))]
 fn check_argument(argument: &Argument<Target>) -> Result<(), u32>
-    ensures { found Mismatch result ≡ first_of (argument_mismatches (arguments_from (argument_of (λ r. r) argument.now ∷ []))) }
+    ensures { found Mismatch result
+        ≡ first_of (argument_mismatches (arguments_from (numbered_argument argument.now ∷ []))) }
 {
     match argument {
         Argument::Text(_) => Ok(()),

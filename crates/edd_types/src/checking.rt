@@ -1,7 +1,7 @@
 //! The check of a description against the profile.
 
 ghost use Rattle.std.specs.Prelude.{◌≡◌, [], Some, None, map, IfOk, IfErr, OnOk};
-ghost use Rattle.edd_syntax.specs.ItemView.{identification_of, item_of, numbered_items};
+ghost use Rattle.edd_syntax.specs.ItemView.{identification_of, numbered_items, numbered_item};
 ghost use Rattle.edd_syntax.specs.Refusal.{first_of};
 ghost use Rattle.edd_syntax.specs.Resolved.{description};
 ghost use Rattle.edd_syntax.specs.SubsetRules.{subset_breaches};
@@ -44,8 +44,8 @@ fn fault_of_rule(rule: Rule, line: u32) -> TypeFault
 }
 
 fn check_types(alloc: Global, items: &[Item<Target>]) -> Result<(), TypeFault>
-    ensures sound { OnOk result (None ≡ first_of (in_items (map (item_of (λ r. r)) items.now))) }
-    ensures refused { IfErr result (IsFirstOf (in_items (map (item_of (λ r. r)) items.now))) }
+    ensures sound { OnOk result (None ≡ first_of (in_items (map numbered_item items.now))) }
+    ensures refused { IfErr result (IsFirstOf (in_items (map numbered_item items.now))) }
 {
     match wrong_type(items) {
         None => Ok(()),
@@ -54,8 +54,8 @@ fn check_types(alloc: Global, items: &[Item<Target>]) -> Result<(), TypeFault>
 }
 
 fn check_rule(alloc: Global, items: &[Item<Target>], rule: Rule) -> Result<(), TypeFault>
-    ensures sound { OnOk result (None ≡ first_of (broken rule (map (item_of (λ r. r)) items.now))) }
-    ensures refused { IfErr result (IsFirstOf (broken rule (map (item_of (λ r. r)) items.now))) }
+    ensures sound { OnOk result (None ≡ first_of (broken rule (map numbered_item items.now))) }
+    ensures refused { IfErr result (IsFirstOf (broken rule (map numbered_item items.now))) }
 {
     match check_items(items, rule, alloc)? {
         None => Ok(()),
@@ -65,8 +65,8 @@ fn check_rule(alloc: Global, items: &[Item<Target>], rule: Rule) -> Result<(), T
 
 #[tactic(auto, using(edd_syntax::proofs::FirstLaws::firsts), unfolding(crate::specs::Rules::all_broken))]
 fn check_all(alloc: Global, items: &[Item<Target>]) -> Result<(), TypeFault>
-    ensures sound { OnOk result (None ≡ first_of (all_broken (map (item_of (λ r. r)) items.now))) }
-    ensures refused { IfErr result (IsFirstOf (all_broken (map (item_of (λ r. r)) items.now))) }
+    ensures sound { OnOk result (None ≡ first_of (all_broken (map numbered_item items.now))) }
+    ensures refused { IfErr result (IsFirstOf (all_broken (map numbered_item items.now))) }
 {
     check_types(alloc, items)?;
     check_rule(alloc, items, Rule::Mismatch)?;
@@ -76,14 +76,17 @@ fn check_all(alloc: Global, items: &[Item<Target>]) -> Result<(), TypeFault>
     check_rule(alloc, items, Rule::DuplicateCase)
 }
 
-/// Checks a description against the profile, rule by rule: the types and sizes of variables, then what functions and types
-/// take, decimals, `break` and `continue`, data constants and masks, labels. The answer shares the trees of the given one.
+/// Checks a description against the profile, rule by rule: the types and sizes of variables, then
+/// what functions and types take, decimals, `break` and `continue`, data constants and masks,
+/// labels. The answer shares the trees of the given one.
 pub fn check(alloc: Global, resolved: &Resolved) -> Result<Checked, TypeFault>
     ensures identification { IfOk result (λ c. c.identification ≡ resolved.now.identification) }
     ensures items { IfOk result (λ c. c.items.value ≡ resolved.now.items.value) }
-    ensures accepted { OnOk result (subset_breaches (description (identification_of resolved.now.identification)
+    ensures accepted { OnOk result
+        (subset_breaches (description (identification_of resolved.now.identification)
         (numbered_items resolved.now.items.value.items)) ≡ []) }
-    ensures refused { IfErr result (IsFirstOf (subset_breaches (description (identification_of resolved.now.identification)
+    ensures refused { IfErr result
+        (IsFirstOf (subset_breaches (description (identification_of resolved.now.identification)
         (numbered_items resolved.now.items.value.items)))) }
 {
     check_all(alloc, &resolved.items)?;

@@ -2,7 +2,7 @@
 
 ghost use Rattle.std.specs.Prelude.{◌≡◌, ◌∷◌, [], map, false};
 ghost use Rattle.edd_syntax.specs.Conditional.{conds_from, arms_from};
-ghost use Rattle.edd_syntax.specs.ItemView.{cond_of, arm_of};
+ghost use Rattle.edd_syntax.specs.ItemView.{numbered_arm, numbered_cond};
 ghost use Rattle.edd_syntax.specs.Refusal.{first_of};
 ghost use Rattle.edd_types.specs.Breaches.{refusal_of, in_cond, in_conds, in_arm, in_arms, has_default};
 ghost use Rattle.edd_types.specs.Found.{found};
@@ -16,7 +16,8 @@ use edd_syntax::reference::Target;
 #[cycle(conditionals)]
 #[tactic(auto, using(crate::proofs::UnderConditions::walks))]
 pub fn check_cond<V: CheckValue>(c: &Cond<Target, V>, breach: Breach) -> Result<(), u32>
-    ensures { found (refusal_of breach) result ≡ first_of (in_cond breach (V.breaches breach) (cond_of (λ r. r) (λ v. v) c.now)) }
+    ensures { found (refusal_of breach) result
+        ≡ first_of (in_cond breach (V.breaches breach) (numbered_cond (λ v. v) c.now)) }
 {
     match c {
         Cond::Value(v) => v.check_value(breach),
@@ -41,7 +42,8 @@ pub fn check_cond<V: CheckValue>(c: &Cond<Target, V>, breach: Breach) -> Result<
 #[tactic(auto, using(crate::proofs::UnderConditions::walks))]
 pub fn check_conds<V: CheckValue>(all: &[Cond<Target, V>], breach: Breach) -> Result<(), u32>
     ensures { found (refusal_of breach) result
-        ≡ first_of (in_conds breach (V.breaches breach) (conds_from (map (cond_of (λ r. r) (λ v. v)) all.now))) }
+        ≡ first_of (in_conds breach (V.breaches breach)
+        (conds_from (map (numbered_cond (λ v. v)) all.now))) }
 {
     for c in all {
         check_cond(c, breach)?;
@@ -53,7 +55,8 @@ pub fn check_conds<V: CheckValue>(all: &[Cond<Target, V>], breach: Breach) -> Re
 #[tactic(auto, using(crate::proofs::UnderConditions::walks))]
 fn check_arms<V: CheckValue>(arms: &[Arm<Target, V>], breach: Breach) -> Result<(), u32>
     ensures { found (refusal_of breach) result
-        ≡ first_of (in_arms breach (V.breaches breach) false (arms_from (map (arm_of (λ r. r) (λ v. v)) arms.now))) }
+        ≡ first_of (in_arms breach (V.breaches breach) false
+        (arms_from (map (numbered_arm (λ v. v)) arms.now))) }
 {
     let mut had = false;
     for arm in arms {
@@ -67,7 +70,7 @@ fn check_arms<V: CheckValue>(arms: &[Arm<Target, V>], breach: Breach) -> Result<
 #[tactic(auto, using(crate::proofs::UnderConditions::walks))]
 fn check_arm<V: CheckValue>(arm: &Arm<Target, V>, breach: Breach, had: bool) -> Result<(), u32>
     ensures { found (refusal_of breach) result
-        ≡ first_of (in_arm breach (V.breaches breach) had (arm_of (λ r. r) (λ v. v) arm.now)) }
+        ≡ first_of (in_arm breach (V.breaches breach) had (numbered_arm (λ v. v) arm.now)) }
 {
     match arm {
         Arm::Case { body, .. } => check_conds(body, breach),
@@ -83,7 +86,7 @@ fn check_arm<V: CheckValue>(arm: &Arm<Target, V>, breach: Breach, had: bool) -> 
 // Whether the SELECT has its DEFAULT behind this arm.
 #[tactic(auto, using(crate::proofs::UnderConditions::walks))]
 fn has_default<V>(arm: &Arm<Target, V>, had: bool) -> bool
-    ensures { result ≡ has_default had (arm_of (λ r. r) (λ v. v) arm.now) }
+    ensures { result ≡ has_default had (numbered_arm (λ v. v) arm.now) }
 {
     match arm {
         Arm::Case { .. } => had,

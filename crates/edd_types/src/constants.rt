@@ -1,7 +1,7 @@
 //! Constants and masks of data items.
 
 ghost use Rattle.std.specs.Prelude.{◌≡◌};
-ghost use Rattle.edd_syntax.specs.ItemView.{data_item_of};
+ghost use Rattle.edd_syntax.specs.ItemView.{numbered_data_item};
 ghost use Rattle.edd_syntax.specs.SubsetRules.{data_breaches};
 ghost use Rattle.edd_syntax.specs.Refusal.{first_of, ConstRange};
 ghost use Rattle.edd_types.specs.Found.{found};
@@ -11,7 +11,7 @@ use edd_syntax::reference::Target;
 
 /// The line of a constant over 255 or of a mask of 0.
 pub fn check_item(item: &DataItem<Target>) -> Result<(), u32>
-    ensures { found ConstRange result ≡ first_of (data_breaches (data_item_of (λ r. r) item.now)) }
+    ensures { found ConstRange result ≡ first_of (data_breaches (numbered_data_item item.now)) }
 {
     match item {
         DataItem::Constant { line, value } if *value > 255 => Err(*line),

@@ -2,7 +2,7 @@
 
 ghost use Rattle.std.specs.Prelude.{◌≡◌, [], ◌∷◌, ◌++◌, map};
 ghost use Rattle.edd_syntax.specs.Expression.{arguments_from};
-ghost use Rattle.edd_syntax.specs.TreeView.{expr_of, argument_of};
+ghost use Rattle.edd_syntax.specs.TreeView.{numbered_argument, numbered_expr};
 ghost use Rattle.edd_syntax.specs.SubsetRules.{decimals, argument_decimals};
 ghost use Rattle.edd_syntax.specs.Refusal.{first_of, FloatValue};
 ghost use Rattle.edd_types.specs.Found.{found};
@@ -14,7 +14,7 @@ use edd_syntax::reference::Target;
 #[cycle(decimals)]
 #[tactic(auto, using(edd_syntax::proofs::FirstLaws::firsts))]
 pub fn check_decimals(e: &Expr<Target>) -> Result<(), u32>
-    ensures { found FloatValue result ≡ first_of (decimals (expr_of (λ r. r) e.now)) }
+    ensures { found FloatValue result ≡ first_of (decimals (numbered_expr e.now)) }
 {
     match e {
         Expr::Literal(_) | Expr::Reference(_) | Expr::Increment(_, _) => Ok(()),
@@ -51,7 +51,8 @@ pub fn check_decimals(e: &Expr<Target>) -> Result<(), u32>
 #[cycle(decimals)]
 #[tactic(auto, using(edd_syntax::proofs::FirstLaws::firsts))]
 fn check_arguments(arguments: &[Argument<Target>]) -> Result<(), u32>
-    ensures { found FloatValue result ≡ first_of (argument_decimals (arguments_from (map (argument_of (λ r. r)) arguments.now))) }
+    ensures { found FloatValue result
+        ≡ first_of (argument_decimals (arguments_from (map numbered_argument arguments.now))) }
 {
     for argument in arguments {
         check_argument(argument)?;
@@ -62,7 +63,8 @@ fn check_arguments(arguments: &[Argument<Target>]) -> Result<(), u32>
 #[cycle(decimals)]
 #[tactic(auto, using(edd_syntax::proofs::FirstLaws::firsts))]
 fn check_argument(argument: &Argument<Target>) -> Result<(), u32>
-    ensures { found FloatValue result ≡ first_of (argument_decimals (arguments_from (argument_of (λ r. r) argument.now ∷ []))) }
+    ensures { found FloatValue result
+        ≡ first_of (argument_decimals (arguments_from (numbered_argument argument.now ∷ []))) }
 {
     match argument {
         Argument::Text(_) => Ok(()),

@@ -6,11 +6,12 @@ ghost use Rattle.edd_types.specs.declared.fault.TypeFault.TheVariants.{Memory};
 use std::alloc::AllocError;
 use thiserror::Error;
 
-/// The first rule of the profile that is broken: a variable of type FLOAT or DOUBLE; another word for its type; a size other
-/// than 1 to 4 octets; arguments that a function does not take, an abort inside an expression, or an option or an enumerator
-/// that a type does not have; a decimal in an expression; `break` outside a loop and `switch`, or `continue` outside a loop; a
-/// data constant over 255, or a mask of 0; two equal labels of one `switch`, a second `default`, or a second DEFAULT of one
-/// SELECT. It prints its number, its kind and its names or its line, counted from 1.
+/// The first rule of the profile that is broken: a variable of type FLOAT or DOUBLE; another word
+/// for its type; a size other than 1 to 4 octets; arguments that a function does not take, an abort
+/// inside an expression, or an option or an enumerator that a type does not have; a decimal in an
+/// expression; `break` outside a loop and `switch`, or `continue` outside a loop; a data constant
+/// over 255, or a mask of 0; two equal labels of one `switch`, a second `default`, or a second
+/// DEFAULT of one SELECT. It prints its number, its kind and its names or its line, counted from 1.
 #[derive(Debug, Drop, Error)]
 pub enum TypeFault {
     #[error("30 FLOAT_VARIABLE {0}")]

@@ -2,7 +2,7 @@
 
 ghost use Rattle.std.specs.Prelude.{◌≡◌, ◌∷◌, [], map, not, IfOk, OnOk};
 ghost use Rattle.edd_syntax.specs.Statement.{body_from, CaseLabel, DefaultLabel};
-ghost use Rattle.edd_syntax.specs.TreeView.{stmt_of, part_of};
+ghost use Rattle.edd_syntax.specs.TreeView.{numbered_part, numbered_stmt};
 ghost use Rattle.edd_syntax.specs.SubsetRules.{no_labels, repeated_labels, repeated_labels_inside};
 ghost use Rattle.edd_syntax.specs.SubsetRules as rules;
 ghost use Rattle.edd_syntax.specs.Refusal.{first_of, refused_if, DuplicateCase};
@@ -33,11 +33,12 @@ impl Labels {
     }
 }
 
-/// The line of the first label that its `switch` has already, in the body of a `switch` or in another block.
+/// The line of the first label that its `switch` has already, in the body of a `switch` or in
+/// another block.
 #[cycle(labels)]
 pub fn check_labels(parts: &[Part<Target>], alloc: Global) -> Result<Option<u32>, AllocError>
     ensures { IfOk result (λ line. found_at DuplicateCase line
-        ≡ first_of (repeated_labels no_labels (body_from (map (part_of (λ r. r)) parts.now)))) }
+        ≡ first_of (repeated_labels no_labels (body_from (map numbered_part parts.now)))) }
 {
     let mut labels = Labels::new(alloc);
     for part in parts {
@@ -55,9 +56,10 @@ fn add_part(
     alloc: Global,
 ) -> Result<Option<u32>, AllocError>
     ensures found { (so_far : rules.Labels) → Holds labels.old so_far
-        → IfOk result (λ line. found_at DuplicateCase line ≡ first_of (repeats so_far (part_of (λ r. r) part.now))) }
+        → IfOk result (λ line. found_at DuplicateCase line
+        ≡ first_of (repeats so_far (numbered_part part.now))) }
     ensures adds { (so_far : rules.Labels) → Holds labels.old so_far
-        → OnOk result (Holds labels.new (behind so_far (part_of (λ r. r) part.now))) }
+        → OnOk result (Holds labels.new (behind so_far (numbered_part part.now))) }
 {
     match part {
         Part::Declare(_) => Ok(None),
@@ -77,7 +79,8 @@ fn add_part(
 #[cycle(labels)]
 #[tactic(auto, using(edd_syntax::proofs::FirstLaws::firsts))]
 fn check_inside(s: &Stmt<Target>, alloc: Global) -> Result<Option<u32>, AllocError>
-    ensures { IfOk result (λ line. found_at DuplicateCase line ≡ first_of (repeated_labels_inside (stmt_of (λ r. r) s.now))) }
+    ensures { IfOk result (λ line. found_at DuplicateCase line
+        ≡ first_of (repeated_labels_inside (numbered_stmt s.now))) }
 {
     match s {
         Stmt::Block(parts) => check_labels(parts, alloc),

@@ -2,7 +2,7 @@
 
 ghost use Rattle.std.specs.Prelude.{◌≡◌, map};
 ghost use Rattle.std.specs.List.{flat_map};
-ghost use Rattle.edd_syntax.specs.ItemView.{attribute_of, type_part_of};
+ghost use Rattle.edd_syntax.specs.ItemView.{numbered_attribute, numbered_type_part};
 ghost use Rattle.edd_syntax.specs.SubsetRules as rules;
 ghost use Rattle.edd_syntax.specs.SubsetRules.{part_breaches, type_option_breaches};
 ghost use Rattle.edd_syntax.specs.Refusal.{first_of, Mismatch};
@@ -25,7 +25,7 @@ fn is_enumerated(kind: VarType) -> bool
 
 #[tactic(auto, using(crate::proofs::RuleLaws::enumerators_in_cond))]
 fn check_option(part: &TypePart<Target>, kind: VarType) -> Result<(), u32>
-    ensures { found Mismatch result ≡ first_of (part_breaches kind (type_part_of (λ r. r) part.now)) }
+    ensures { found Mismatch result ≡ first_of (part_breaches kind (numbered_type_part part.now)) }
 {
     match (part, is_enumerated(kind)) {
         (TypePart::DefaultValue { .. }, _) => Ok(()),
@@ -42,7 +42,8 @@ fn check_option(part: &TypePart<Target>, kind: VarType) -> Result<(), u32>
 }
 
 fn check_options(parts: &[TypePart<Target>], kind: VarType) -> Result<(), u32>
-    ensures { found Mismatch result ≡ first_of (flat_map (part_breaches kind) (map (type_part_of (λ r. r)) parts.now)) }
+    ensures { found Mismatch result
+        ≡ first_of (flat_map (part_breaches kind) (map numbered_type_part parts.now)) }
 {
     for part in parts {
         check_option(part, kind)?;
@@ -52,7 +53,8 @@ fn check_options(parts: &[TypePart<Target>], kind: VarType) -> Result<(), u32>
 
 /// The line of the first option or enumerator that the type in an attribute does not have.
 pub fn check_type(attribute: &Attribute<Target>) -> Result<(), u32>
-    ensures { found Mismatch result ≡ first_of (type_option_breaches (attribute_of (λ r. r) attribute.now)) }
+    ensures { found Mismatch result
+        ≡ first_of (type_option_breaches (numbered_attribute attribute.now)) }
 {
     match attribute {
         Attribute::TypeOf {

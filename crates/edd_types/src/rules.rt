@@ -1,7 +1,7 @@
 //! The rules of the profile that are broken on a line.
 
 ghost use Rattle.std.specs.Prelude.{◌≡◌, false, map, IfOk};
-ghost use Rattle.edd_syntax.specs.ItemView.{attribute_of, item_of};
+ghost use Rattle.edd_syntax.specs.ItemView.{numbered_attribute, numbered_item};
 ghost use Rattle.std.specs.List.{flat_map};
 ghost use Rattle.edd_syntax.specs.Refusal.{first_of, Mismatch, BreakOutside, ConstRange};
 ghost use Rattle.edd_types.specs.declared.rules.Rule.TheVariants as rule;
@@ -17,8 +17,8 @@ use edd_syntax::item::{Attribute, Item};
 use edd_syntax::reference::Target;
 use std::alloc::{AllocError, Global};
 
-/// A rule of the profile: arguments and options that fit, no decimals, `break` and `continue` inside something, constants and
-/// masks in their range, no label twice.
+/// A rule of the profile: arguments and options that fit, no decimals, `break` and `continue`
+/// inside something, constants and masks in their range, no label twice.
 #[derive(Clone, Copy)]
 pub enum Rule {
     Mismatch,
@@ -30,7 +30,8 @@ pub enum Rule {
 
 #[tactic(auto, using(edd_syntax::proofs::FirstLaws::firsts, crate::proofs::RuleLaws::calls_in_attribute))]
 fn check_mismatches(attribute: &Attribute<Target>) -> Result<(), u32>
-    ensures { found Mismatch result ≡ first_of (broken_in rule.Mismatch (attribute_of (λ r. r) attribute.now)) }
+    ensures { found Mismatch result
+        ≡ first_of (broken_in rule.Mismatch (numbered_attribute attribute.now)) }
 {
     check_type(attribute)?;
     check_inside(attribute, Breach::Call)
@@ -38,7 +39,8 @@ fn check_mismatches(attribute: &Attribute<Target>) -> Result<(), u32>
 
 #[tactic(auto, using(edd_syntax::proofs::FirstLaws::flat_one))]
 fn check_breaks_in(attribute: &Attribute<Target>) -> Result<(), u32>
-    ensures { found BreakOutside result ≡ first_of (broken_in rule.BreakOutside (attribute_of (λ r. r) attribute.now)) }
+    ensures { found BreakOutside result
+        ≡ first_of (broken_in rule.BreakOutside (numbered_attribute attribute.now)) }
 {
     match attribute {
         Attribute::Definition(parts) => check_parts(parts, false, false),
@@ -48,7 +50,8 @@ fn check_breaks_in(attribute: &Attribute<Target>) -> Result<(), u32>
 
 #[tactic(auto, using(crate::proofs::RuleLaws::constants_in_parts))]
 fn check_constants(attribute: &Attribute<Target>) -> Result<(), u32>
-    ensures { found ConstRange result ≡ first_of (broken_in rule.ConstRange (attribute_of (λ r. r) attribute.now)) }
+    ensures { found ConstRange result
+        ≡ first_of (broken_in rule.ConstRange (numbered_attribute attribute.now)) }
 {
     match attribute {
         Attribute::Transaction { parts, .. } => check_transaction(parts, Breach::Constant),
@@ -58,15 +61,16 @@ fn check_constants(attribute: &Attribute<Target>) -> Result<(), u32>
 
 #[tactic(auto, using(crate::proofs::RuleLaws::defaults_in_attribute))]
 fn check_defaults(attribute: &Attribute<Target>) -> Result<(), u32>
-    requires { is_definition (attribute_of (λ r. r) attribute.now) ≡ false }
-    ensures { found (why rule.DuplicateCase) result ≡ first_of (broken_in rule.DuplicateCase (attribute_of (λ r. r) attribute.now)) }
+    requires { is_definition (numbered_attribute attribute.now) ≡ false }
+    ensures { found (why rule.DuplicateCase) result
+        ≡ first_of (broken_in rule.DuplicateCase (numbered_attribute attribute.now)) }
 {
     check_inside(attribute, Breach::Default)
 }
 
 fn check_repeats(attribute: &Attribute<Target>, alloc: Global) -> Result<Option<u32>, AllocError>
     ensures { IfOk result (λ line. found_at (why rule.DuplicateCase) line
-        ≡ first_of (broken_in rule.DuplicateCase (attribute_of (λ r. r) attribute.now))) }
+        ≡ first_of (broken_in rule.DuplicateCase (numbered_attribute attribute.now))) }
 {
     match attribute {
         Attribute::Definition(parts) => check_labels(parts, alloc),
@@ -81,7 +85,8 @@ fn check_attribute(
     rule: Rule,
     alloc: Global,
 ) -> Result<Option<u32>, AllocError>
-    ensures { IfOk result (λ line. found_at (why rule) line ≡ first_of (broken_in rule (attribute_of (λ r. r) attribute.now))) }
+    ensures { IfOk result (λ line. found_at (why rule) line
+        ≡ first_of (broken_in rule (numbered_attribute attribute.now))) }
 {
     match rule {
         Rule::Mismatch => Ok(check_mismatches(attribute).err()),
@@ -98,7 +103,7 @@ fn check_attributes(
     alloc: Global,
 ) -> Result<Option<u32>, AllocError>
     ensures { IfOk result (λ line. found_at (why rule) line
-        ≡ first_of (flat_map (broken_in rule) (map (attribute_of (λ r. r)) attributes.now))) }
+        ≡ first_of (flat_map (broken_in rule) (map numbered_attribute attributes.now))) }
 {
     for attribute in attributes {
         if let Some(line) = check_attribute(attribute, rule, alloc)? {
@@ -114,7 +119,8 @@ pub fn check_items(
     rule: Rule,
     alloc: Global,
 ) -> Result<Option<u32>, AllocError>
-    ensures { IfOk result (λ line. found_at (why rule) line ≡ first_of (broken rule (map (item_of (λ r. r)) items.now))) }
+    ensures { IfOk result (λ line. found_at (why rule) line
+        ≡ first_of (broken rule (map numbered_item items.now))) }
 {
     for item in items {
         if let Some(line) = check_attributes(item.attributes(), rule, alloc)? {

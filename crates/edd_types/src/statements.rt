@@ -2,7 +2,7 @@
 
 ghost use Rattle.std.specs.Prelude.{◌≡◌, ◌∷◌, [], map, option_map};
 ghost use Rattle.edd_syntax.specs.Statement.{body_from};
-ghost use Rattle.edd_syntax.specs.TreeView.{expr_of, declarator_of, stmt_of, part_of};
+ghost use Rattle.edd_syntax.specs.TreeView.{numbered_declarator, numbered_expr, numbered_part, numbered_stmt};
 ghost use Rattle.edd_syntax.specs.Refusal.{first_of};
 ghost use Rattle.edd_types.specs.Breaches.{refusal_of, in_statement, in_body, in_optional, in_header, in_declarators};
 ghost use Rattle.edd_types.specs.Found.{found};
@@ -14,7 +14,8 @@ use edd_syntax::stmt::{Declarator, Part, Stmt};
 
 #[tactic(auto, using(crate::proofs::InStatements::walks))]
 fn check_optional(e: &Option<Expr<Target>>, breach: Breach) -> Result<(), u32>
-    ensures { found (refusal_of breach) result ≡ first_of (in_optional breach (option_map (expr_of (λ r. r)) e.now)) }
+    ensures { found (refusal_of breach) result
+        ≡ first_of (in_optional breach (option_map numbered_expr e.now)) }
 {
     match e {
         None => Ok(()),
@@ -31,8 +32,8 @@ fn check_header(
     breach: Breach,
 ) -> Result<(), u32>
     ensures { found (refusal_of breach) result
-        ≡ first_of (in_header breach (option_map (expr_of (λ r. r)) initial.now)
-        (option_map (expr_of (λ r. r)) condition.now) (option_map (expr_of (λ r. r)) update.now)) }
+        ≡ first_of (in_header breach (option_map numbered_expr initial.now)
+        (option_map numbered_expr condition.now) (option_map numbered_expr update.now)) }
 {
     check_optional(initial, breach)?;
     check_optional(condition, breach)?;
@@ -43,7 +44,8 @@ fn check_header(
 #[cycle(statements)]
 #[tactic(auto, using(crate::proofs::InStatements::walks))]
 pub fn check_statement(s: &Stmt<Target>, breach: Breach) -> Result<(), u32>
-    ensures { found (refusal_of breach) result ≡ first_of (in_statement breach (stmt_of (λ r. r) s.now)) }
+    ensures { found (refusal_of breach) result
+        ≡ first_of (in_statement breach (numbered_stmt s.now)) }
 {
     match s {
         Stmt::Empty | Stmt::Break { .. } | Stmt::Continue { .. } | Stmt::Return => Ok(()),
@@ -86,7 +88,8 @@ pub fn check_statement(s: &Stmt<Target>, breach: Breach) -> Result<(), u32>
 #[cycle(statements)]
 #[tactic(auto, using(crate::proofs::InStatements::walks))]
 pub fn check_parts(parts: &[Part<Target>], breach: Breach) -> Result<(), u32>
-    ensures { found (refusal_of breach) result ≡ first_of (in_body breach (body_from (map (part_of (λ r. r)) parts.now))) }
+    ensures { found (refusal_of breach) result
+        ≡ first_of (in_body breach (body_from (map numbered_part parts.now))) }
 {
     for part in parts {
         check_part(part, breach)?;
@@ -97,7 +100,8 @@ pub fn check_parts(parts: &[Part<Target>], breach: Breach) -> Result<(), u32>
 #[cycle(statements)]
 #[tactic(auto, using(crate::proofs::InStatements::walks))]
 fn check_part(part: &Part<Target>, breach: Breach) -> Result<(), u32>
-    ensures { found (refusal_of breach) result ≡ first_of (in_body breach (body_from (part_of (λ r. r) part.now ∷ []))) }
+    ensures { found (refusal_of breach) result
+        ≡ first_of (in_body breach (body_from (numbered_part part.now ∷ []))) }
 {
     match part {
         Part::Declare(declarators) => check_declarators(declarators, breach),
@@ -108,7 +112,8 @@ fn check_part(part: &Part<Target>, breach: Breach) -> Result<(), u32>
 
 #[tactic(auto, using(crate::proofs::InStatements::walks))]
 fn check_declarators(declarators: &[Declarator<Target>], breach: Breach) -> Result<(), u32>
-    ensures { found (refusal_of breach) result ≡ first_of (in_declarators breach (map (declarator_of (λ r. r)) declarators.now)) }
+    ensures { found (refusal_of breach) result
+        ≡ first_of (in_declarators breach (map numbered_declarator declarators.now)) }
 {
     for d in declarators {
         check_optional(&d.value, breach)?;

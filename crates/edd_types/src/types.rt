@@ -1,7 +1,7 @@
 //! The types of variables.
 
 ghost use Rattle.std.specs.Prelude.{◌≡◌, [], ◌∷◌, map, option_map};
-ghost use Rattle.edd_syntax.specs.ItemView.{item_of, attribute_of, type_word_of};
+ghost use Rattle.edd_syntax.specs.ItemView.{type_word_of, numbered_attribute, numbered_item};
 ghost use Rattle.edd_syntax.specs.SubsetRules.{type_breaches};
 ghost use Rattle.edd_syntax.specs.Refusal.{first_of};
 ghost use Rattle.edd_types.specs.WrongTypes.{refusal_of_wrong, in_attributes, in_items};
@@ -18,7 +18,8 @@ pub enum WrongType<'a> {
 }
 
 fn wrong_word<'a>(name: &'a str, word: &'a TypeWord) -> Option<WrongType<'a>>
-    ensures { option_map refusal_of_wrong result ≡ first_of (type_breaches name.now (type_word_of word.now)) }
+    ensures { option_map refusal_of_wrong result
+        ≡ first_of (type_breaches name.now (type_word_of word.now)) }
 {
     match word {
         TypeWord::Known {
@@ -39,7 +40,7 @@ fn wrong_word<'a>(name: &'a str, word: &'a TypeWord) -> Option<WrongType<'a>>
 
 fn wrong_attribute<'a>(name: &'a str, attribute: &'a Attribute<Target>) -> Option<WrongType<'a>>
     ensures { option_map refusal_of_wrong result
-        ≡ first_of (in_attributes name.now (attribute_of (λ r. r) attribute.now ∷ [])) }
+        ≡ first_of (in_attributes name.now (numbered_attribute attribute.now ∷ [])) }
 {
     match attribute {
         Attribute::TypeOf { word, .. } => wrong_word(name, word),
@@ -49,7 +50,7 @@ fn wrong_attribute<'a>(name: &'a str, attribute: &'a Attribute<Target>) -> Optio
 
 fn wrong_attributes<'a>(name: &'a str, attributes: &'a [Attribute<Target>]) -> Option<WrongType<'a>>
     ensures { option_map refusal_of_wrong result
-        ≡ first_of (in_attributes name.now (map (attribute_of (λ r. r)) attributes.now)) }
+        ≡ first_of (in_attributes name.now (map numbered_attribute attributes.now)) }
 {
     for attribute in attributes {
         if let Some(wrong) = wrong_attribute(name, attribute) {
@@ -60,14 +61,16 @@ fn wrong_attributes<'a>(name: &'a str, attributes: &'a [Attribute<Target>]) -> O
 }
 
 fn wrong_item(item: &Item<Target>) -> Option<WrongType>
-    ensures { option_map refusal_of_wrong result ≡ first_of (in_items (item_of (λ r. r) item.now ∷ [])) }
+    ensures { option_map refusal_of_wrong result
+        ≡ first_of (in_items (numbered_item item.now ∷ [])) }
 {
     wrong_attributes(item.name(), item.attributes())
 }
 
 /// The first variable of a type that the profile doesn't have.
 pub fn wrong_type(items: &[Item<Target>]) -> Option<WrongType>
-    ensures { option_map refusal_of_wrong result ≡ first_of (in_items (map (item_of (λ r. r)) items.now)) }
+    ensures { option_map refusal_of_wrong result
+        ≡ first_of (in_items (map numbered_item items.now)) }
 {
     for item in items {
         if let Some(wrong) = wrong_item(item) {

@@ -1,8 +1,8 @@
 //! The values that stand under conditions.
 
 ghost use Rattle.std.specs.Prelude.{◌≡◌, List};
-ghost use Rattle.edd_syntax.specs.TreeView.{expr_of};
-ghost use Rattle.edd_syntax.specs.ItemView.{data_item_of, enumerator_of};
+ghost use Rattle.edd_syntax.specs.TreeView.{numbered_expr};
+ghost use Rattle.edd_syntax.specs.ItemView.{enumerator_of, numbered_data_item};
 ghost use Rattle.edd_syntax.specs.Refusal.{Refusal, first_of};
 ghost use Rattle.edd_types.specs.declared.breach.Breach.{Breach};
 ghost use Rattle.edd_types.specs.Breaches.{refusal_of, in_part, in_nothing, in_enumerator, in_data_item};
@@ -58,7 +58,7 @@ impl CheckValue for MenuEntry<Target> {
 }
 
 impl CheckValue for Expr<Target> {
-    ghost breaches = { λ b e. in_part b (expr_of (λ r. r) e) };
+    ghost breaches = { λ b e. in_part b (numbered_expr e) };
 
     fn check_value(&self, breach: Breach) -> Result<(), u32> {
         check_expression(breach, self, false)
@@ -77,7 +77,7 @@ impl CheckValue for Enumerator {
 }
 
 impl CheckValue for DataItem<Target> {
-    ghost breaches = { λ b d. in_data_item b (data_item_of (λ r. r) d) };
+    ghost breaches = { λ b d. in_data_item b (numbered_data_item d) };
 
     fn check_value(&self, breach: Breach) -> Result<(), u32> {
         match breach {

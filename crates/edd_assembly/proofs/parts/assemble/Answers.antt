@@ -2,7 +2,7 @@ use Rattle.std.proofs.Common.{◌∙◌, ap, sym, subst, ◌≤◌, List, map, I
 use Rattle.std.specs.List.{list_all}
 use Rattle.edd_syntax.specs.declared.item.Item.{Item}
 use Rattle.edd_syntax.specs.declared.reference.Target.{Target}
-use Rattle.edd_syntax.specs.ItemView.{identification_of, item_of, numbered_items}
+use Rattle.edd_syntax.specs.ItemView.{identification_of, numbered_items, numbered_item}
 use Rattle.edd_syntax.specs.Resolution.{count_of}
 use Rattle.edd_syntax.specs.Resolved.{description}
 use Rattle.edd_syntax.proofs.WithinLimits.{few_when_checked}
@@ -12,10 +12,15 @@ use Rattle.edd_assembly.proofs.parts.assemble.Goals as goal
 
 pub assemble_items-requires-clause-few : goal.assemble_items-requires-clause-few
 assemble_items-requires-clause-few c k =
-    subst (λ (items : List (Item Target)). count_of k (map (item_of (λ r. r)) items) ≤ 4096) (sym (c.deref-2.ensures.value ∙ ap (λ v. v.items) c.deref.ensures))
-    (few_when_checked (description (identification_of c.args.checked.now.identification) (numbered_items c.args.checked.now.items.value.items)) c.args.checked.now.checked k)
+    subst (λ (items : List (Item Target)). count_of k (map numbered_item items) ≤ 4096)
+    (sym (c.deref-2.ensures.value ∙ ap (λ v. v.items) c.deref.ensures))
+    (few_when_checked (description (identification_of c.args.checked.now.identification)
+    (numbered_items c.args.checked.now.items.value.items)) c.args.checked.now.checked k)
 
 pub assemble_items-requires-clause-small : goal.assemble_items-requires-clause-small
 assemble_items-requires-clause-small c =
-    subst (λ (items : List (Item Target)). IsTrue (list_all is_small_variable (map (item_of (λ r. r)) items))) (sym (c.deref-2.ensures.value ∙ ap (λ v. v.items) c.deref.ensures))
-    (small_when_checked (description (identification_of c.args.checked.now.identification) (numbered_items c.args.checked.now.items.value.items)) c.args.checked.now.checked)
+    subst (λ (items : List (Item Target)). IsTrue
+    (list_all is_small_variable (map numbered_item items)))
+    (sym (c.deref-2.ensures.value ∙ ap (λ v. v.items) c.deref.ensures))
+    (small_when_checked (description (identification_of c.args.checked.now.identification)
+    (numbered_items c.args.checked.now.items.value.items)) c.args.checked.now.checked)

@@ -1,6 +1,6 @@
 use Rattle.std.proofs.Common.{◌≡◌, ◌+◌, ◌<◌, ℕ, List, [], ◌∷◌, arith, sym, ap, ◌∙◌, ◌++◌, length, map, take, append_assoc, length-append}
 use Rattle.std.proofs.lemmas.List.{length-map, take_all}
-use Rattle.edd_syntax.specs.ItemView.{arm_of}
+use Rattle.edd_syntax.specs.ItemView.{numbered_arm}
 use Rattle.edd_attrs.specs.Writing.{header, headers, hole_of, holes_of}
 use Rattle.edd_attrs.proofs.Arms.{holes_taken}
 use Rattle.edd_attrs.proofs.Loops.{flat_take, viewed_at}
@@ -8,7 +8,7 @@ use Rattle.edd_attrs.proofs.conditions.open_cases.Goals as goal
 
 pub loop-arm-preserved : goal.loop-arm-preserved
 loop-arm-preserved g c =
-    let view = arm_of (λ r. r) g.V.Element.view in
+    let view = numbered_arm g.V.Element.view in
     let arms = map view c.args.arms.now in
     let i = c.loop-arm.arm-index in
     let arm = view c.arm-item.result in
@@ -24,14 +24,19 @@ loop-arm-preserved g c =
           ∙ ap (λ (code : List ℕ). start ++ code) (sym (flat_take header arms i arm below at));
       holes = c.in_ok-push.ensures.items
           ∙ ap (λ hs. hs ++ c.in_ok-open_arm.field-0 ∷ []) c.loop-arm.invariant.holes
-          ∙ ap (λ h. holes_of (length start) (take i arms) ++ h ∷ []) (c.in_ok-open_arm.ensures.hole ∙ ap (λ p. hole_of p arm) place)
+          ∙ ap (λ h. holes_of (length start) (take i arms) ++ h ∷ []) (c.in_ok-open_arm.ensures.hole
+          ∙ ap (λ p. hole_of p arm) place)
           ∙ sym (holes_taken (length start) i arms arm below at);
     }
 
 pub returns-clause-code : goal.returns-clause-code
 returns-clause-code g c =
-    c.loop-arm.invariant.code ∙ ap (λ xs. c.args.code.now ++ headers xs) (take_all c.loop-arm.arm-index (map (arm_of (λ r. r) g.V.Element.view) c.args.arms.now) (omega (arith, length-map c.args.arms.now (arm_of (λ r. r) g.V.Element.view))))
+    c.loop-arm.invariant.code ∙ ap (λ xs. c.args.code.now ++ headers xs)
+    (take_all c.loop-arm.arm-index (map (numbered_arm g.V.Element.view) c.args.arms.now)
+    (omega (arith, length-map c.args.arms.now (numbered_arm g.V.Element.view))))
 
 pub returns-clause-holes : goal.returns-clause-holes
 returns-clause-holes g c =
-    c.loop-arm.invariant.holes ∙ ap (holes_of (length c.args.code.now)) (take_all c.loop-arm.arm-index (map (arm_of (λ r. r) g.V.Element.view) c.args.arms.now) (omega (arith, length-map c.args.arms.now (arm_of (λ r. r) g.V.Element.view))))
+    c.loop-arm.invariant.holes ∙ ap (holes_of (length c.args.code.now))
+    (take_all c.loop-arm.arm-index (map (numbered_arm g.V.Element.view) c.args.arms.now)
+    (omega (arith, length-map c.args.arms.now (numbered_arm g.V.Element.view))))

@@ -1,7 +1,7 @@
 use Rattle.std.proofs.Common.{arith, refl, subst, List, map}
 use Rattle.std.proofs.lemmas.Grind.{common_steps}
 use Rattle.std.proofs.lemmas.List.{length-map}
-use Rattle.edd_syntax.specs.ItemView.{type_part_of}
+use Rattle.edd_syntax.specs.ItemView.{numbered_type_part}
 use Rattle.edd_syntax.specs.Words.{Words}
 use Rattle.edd_code.specs.Tables.{Overflows}
 use Rattle.edd_code.specs.Written.{WritesBlock}
@@ -14,38 +14,59 @@ use Rattle.edd_attrs.proofs.lowering.write_parts.Goals as goal
 
 pub write_part-requires : goal.write_part-requires
 write_part-requires c =
-    part_kept (map (type_part_of (λ r. r)) c.args.parts.now) c.loop-part.part-index (type_part_of (λ r. r) c.part-item.result) (omega (arith, length-map c.args.parts.now (type_part_of (λ r. r))))
-    (viewed_at (type_part_of (λ r. r)) c.args.parts.now c.loop-part.part-index c.part-item.result (omega arith) c.part-item.is) c.requires
+    part_kept (map numbered_type_part c.args.parts.now) c.loop-part.part-index
+    (numbered_type_part c.part-item.result)
+    (omega (arith, length-map c.args.parts.now numbered_type_part))
+    (viewed_at numbered_type_part c.args.parts.now c.loop-part.part-index c.part-item.result
+    (omega arith) c.part-item.is) c.requires
 
 pub loop-part-init : goal.loop-part-init
 loop-part-init c = record {
-  front = front_starts element_strings IsPartsBlock (map (type_part_of (λ r. r)) c.args.parts.now) c.args.table.now c.args.code.now;
+  front = front_starts element_strings IsPartsBlock (map numbered_type_part c.args.parts.now)
+      c.args.table.now c.args.code.now;
   grows = no_growth c.args.table.now;
 }
 
 pub loop-part-preserved : goal.loop-part-preserved
 loop-part-preserved c = record {
   front =
-      front_grows element_strings IsPartsBlock c.loop-part.part-index (map (type_part_of (λ r. r)) c.args.parts.now) (type_part_of (λ r. r) c.part-item.result)
-      c.args.table.now c.loop-part.table c.write_part.new.table c.args.code.now c.loop-part.code c.write_part.new.code (omega (arith, length-map c.args.parts.now (type_part_of (λ r. r))))
-      (viewed_at (type_part_of (λ r. r)) c.args.parts.now c.loop-part.part-index c.part-item.result (omega arith) c.part-item.is) c.loop-part.invariant.front
-      (part_step (type_part_of (λ r. r) c.part-item.result) c.loop-part.table c.write_part.new.table c.loop-part.code c.write_part.new.code c.in_ok-write_part.ensures.ok);
-  grows = grows_on c.args.table.now c.loop-part.table c.write_part.new.table c.loop-part.invariant.grows c.in_ok-write_part.ensures.grows;
+      front_grows element_strings IsPartsBlock c.loop-part.part-index
+      (map numbered_type_part c.args.parts.now) (numbered_type_part c.part-item.result)
+      c.args.table.now c.loop-part.table c.write_part.new.table c.args.code.now c.loop-part.code
+      c.write_part.new.code (omega (arith, length-map c.args.parts.now numbered_type_part))
+      (viewed_at numbered_type_part c.args.parts.now c.loop-part.part-index c.part-item.result
+      (omega arith) c.part-item.is) c.loop-part.invariant.front
+      (part_step (numbered_type_part c.part-item.result) c.loop-part.table c.write_part.new.table
+      c.loop-part.code c.write_part.new.code c.in_ok-write_part.ensures.sound);
+  grows = grows_on c.args.table.now c.loop-part.table c.write_part.new.table
+      c.loop-part.invariant.grows c.in_ok-write_part.ensures.grows;
 }
 
 pub returns-in_err-write_part-clause-grows : goal.returns-in_err-write_part-clause-grows
-returns-in_err-write_part-clause-grows c = grows_on c.args.table.now c.loop-part.table c.write_part.new.table c.loop-part.invariant.grows c.in_err-write_part.ensures.grows
+returns-in_err-write_part-clause-grows c = grows_on c.args.table.now c.loop-part.table
+    c.write_part.new.table c.loop-part.invariant.grows c.in_err-write_part.ensures.grows
 
-pub returns-in_err-write_part-clause-too_many : goal.returns-in_err-write_part-clause-too_many
-returns-in_err-write_part-clause-too_many c h =
-    let over : Overflows c.loop-part.table (element_strings (type_part_of (λ r. r) c.part-item.result)) = grind (arith, common_steps) in
-    subst (λ (ws : List Words). Overflows c.args.table.now ws) (element_strings_are (map (type_part_of (λ r. r)) c.args.parts.now))
-    (front_overflows element_strings IsPartsBlock c.loop-part.part-index (map (type_part_of (λ r. r)) c.args.parts.now) (type_part_of (λ r. r) c.part-item.result) c.args.table.now c.loop-part.table c.args.code.now c.loop-part.code
-    (omega (arith, length-map c.args.parts.now (type_part_of (λ r. r)))) (viewed_at (type_part_of (λ r. r)) c.args.parts.now c.loop-part.part-index c.part-item.result (omega arith) c.part-item.is) c.loop-part.invariant.front over)
+pub returns-in_err-write_part-clause-refused : goal.returns-in_err-write_part-clause-refused
+returns-in_err-write_part-clause-refused c h =
+    let over : Overflows c.loop-part.table (element_strings (numbered_type_part c.part-item.result))
+    = grind (arith, common_steps) in
+    subst (λ (ws : List Words). Overflows c.args.table.now ws)
+    (element_strings_are (map numbered_type_part c.args.parts.now))
+    (front_overflows element_strings IsPartsBlock c.loop-part.part-index
+    (map numbered_type_part c.args.parts.now) (numbered_type_part c.part-item.result)
+    c.args.table.now c.loop-part.table c.args.code.now c.loop-part.code
+    (omega (arith, length-map c.args.parts.now numbered_type_part))
+    (viewed_at numbered_type_part c.args.parts.now c.loop-part.part-index c.part-item.result
+    (omega arith) c.part-item.is) c.loop-part.invariant.front over)
 
-pub returns-clause-ok : goal.returns-clause-ok
-returns-clause-ok c =
-    subst (λ (ws : List Words). WritesBlock c.args.table.now c.args.code.now ws (λ numbered b. IsPartsBlock numbered (map (type_part_of (λ r. r)) c.args.parts.now) b) c.loop-part.table c.loop-part.code)
-    (element_strings_are (map (type_part_of (λ r. r)) c.args.parts.now))
-    (front_ends element_strings IsPartsBlock c.loop-part.part-index (map (type_part_of (λ r. r)) c.args.parts.now) c.args.table.now c.loop-part.table c.args.code.now c.loop-part.code
-    (omega (arith, length-map c.args.parts.now (type_part_of (λ r. r)))) c.loop-part.invariant.front (λ numbered. refl))
+pub returns-clause-sound : goal.returns-clause-sound
+returns-clause-sound c =
+    subst (λ (ws : List Words). WritesBlock c.args.table.now c.args.code.now ws
+    (λ numbered b. IsPartsBlock numbered (map numbered_type_part c.args.parts.now) b)
+    c.loop-part.table c.loop-part.code)
+    (element_strings_are (map numbered_type_part c.args.parts.now))
+    (front_ends element_strings IsPartsBlock c.loop-part.part-index
+    (map numbered_type_part c.args.parts.now) c.args.table.now c.loop-part.table c.args.code.now
+    c.loop-part.code
+    (omega (arith, length-map c.args.parts.now numbered_type_part)) c.loop-part.invariant.front
+    (λ numbered. refl))

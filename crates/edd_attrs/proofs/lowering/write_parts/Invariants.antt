@@ -1,5 +1,5 @@
 use Rattle.std.proofs.Common.{map}
-use Rattle.edd_syntax.specs.ItemView.{type_part_of}
+use Rattle.edd_syntax.specs.ItemView.{numbered_type_part}
 use Rattle.edd_code.specs.Tables.{Grows}
 use Rattle.edd_attrs.specs.Writing.{element_strings}
 use Rattle.edd_attrs.proofs.Loops.{Front}
@@ -9,6 +9,7 @@ use Rattle.edd_attrs.proofs.lowering.write_parts.Given as goal
 -- the parts so far are written
 abbrev pub invariant-loop-part : goal.invariant-loop-part
 invariant-loop-part l = record {
-  front : Front element_strings IsPartsBlock l.part-index (map (type_part_of (λ r. r)) l.parts) l.initial.table l.initial.code l.table l.code;
+  front : Front element_strings IsPartsBlock l.part-index (map numbered_type_part l.parts)
+      l.initial.table l.initial.code l.table l.code;
   grows : Grows l.initial.table l.table;
 }

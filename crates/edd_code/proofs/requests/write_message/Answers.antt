@@ -6,7 +6,7 @@ use Rattle.edd_syntax.specs.declared.reference.Target.{Target}
 use Rattle.edd_syntax.specs.declared.text.Text as code_text
 use Rattle.edd_syntax.specs.Expression.{Arguments, arguments_from}
 use Rattle.edd_syntax.specs.Strings.{argument_texts}
-use Rattle.edd_syntax.specs.TreeView.{argument_of}
+use Rattle.edd_syntax.specs.TreeView.{numbered_argument}
 use Rattle.edd_syntax.specs.WordsView.{text_of}
 use Rattle.edd_image.specs.declared.instruction.Ask.TheVariants as ask
 use Rattle.edd_code.specs.Expressions.{no_value}
@@ -17,15 +17,28 @@ use Rattle.edd_code.proofs.Carried.{carried}
 use Rattle.edd_code.proofs.NumberedBlocks.{ask_part, same_part}
 use Rattle.edd_code.proofs.requests.write_message.Goals as goal
 
-pub returns-in_ok-put-in-Some-clause-ok : goal.returns-in_ok-put-in-Some-clause-ok
+pub returns-in_ok-put-in-Some-clause-sound : goal.returns-in_ok-put-in-Some-clause-sound
 unfolding call_block
-returns-in_ok-put-in-Some-clause-ok c =
-    let is = only_text_is (arguments_from (map (argument_of (λ r. r)) c.args.arguments.now)) (text_of c.in-Some.text.now) (sym (ap (option_map (λ (t : Bor code_text.Text). text_of t.now)) c.in-Some.is) ∙ c.only_text.ensures) in
-    subst (λ (a : Arguments Target). WritesPart c.args.table.now c.args.code.now (argument_texts a) (λ number. call_block number builtin.PutMessage a) c.add_text.new.table c.put.new.code) (sym is)
-    (ask_part c.args.table.now c.add_text.new.table c.args.code.now c.put.new.code (text_of c.in-Some.text.now) c.in_ok-number-in-Some.number ask.PutMessage c.in_ok-number-in-Some.ensures.table c.in_ok-number-in-Some.ensures.number c.in_ok-put-in-Some.ensures.code)
+returns-in_ok-put-in-Some-clause-sound c =
+    let is = only_text_is (arguments_from (map numbered_argument c.args.arguments.now))
+    (text_of c.in-Some.text.now)
+    (sym (ap (option_map (λ (t : Bor code_text.Text). text_of t.now)) c.in-Some.is)
+    ∙ c.only_text.ensures) in
+    subst (λ (a : Arguments Target). WritesPart c.args.table.now c.args.code.now (argument_texts a)
+    (λ number. call_block number builtin.PutMessage a) c.add_text.new.table c.put.new.code)
+    (sym is)
+    (ask_part c.args.table.now c.add_text.new.table c.args.code.now c.put.new.code
+    (text_of c.in-Some.text.now) c.in_ok-number-in-Some.number ask.PutMessage
+    c.in_ok-number-in-Some.ensures.table c.in_ok-number-in-Some.ensures.number
+    c.in_ok-put-in-Some.ensures.code)
 
-pub returns-in-None-clause-ok : goal.returns-in-None-clause-ok
-returns-in-None-clause-ok c =
+pub returns-in-None-clause-sound : goal.returns-in-None-clause-sound
+returns-in-None-clause-sound c =
     carried c.write_misfit.result
-    (same_part c.args.code.now c.write_misfit.new.code (argument_texts (arguments_from (map (argument_of (λ r. r)) c.args.arguments.now))) (λ number. no_value) (λ number. call_block number builtin.PutMessage (arguments_from (map (argument_of (λ r. r)) c.args.arguments.now))) (λ number.
-    sym (no_message number (arguments_from (map (argument_of (λ r. r)) c.args.arguments.now)) (sym (ap (option_map (λ (t : Bor code_text.Text). text_of t.now)) c.in-None.is) ∙ c.only_text.ensures)))) c.write_misfit.ensures.ok
+    (same_part c.args.code.now c.write_misfit.new.code
+    (argument_texts (arguments_from (map numbered_argument c.args.arguments.now)))
+    (λ number. no_value) (λ number. call_block number builtin.PutMessage
+    (arguments_from (map numbered_argument c.args.arguments.now))) (λ number.
+    sym (no_message number (arguments_from (map numbered_argument c.args.arguments.now))
+    (sym (ap (option_map (λ (t : Bor code_text.Text). text_of t.now)) c.in-None.is)
+    ∙ c.only_text.ensures)))) c.write_misfit.ensures.sound

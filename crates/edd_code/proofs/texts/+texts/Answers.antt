@@ -4,7 +4,7 @@ use Rattle.std.proofs.lemmas.Grind.{common_steps}
 use Rattle.std.proofs.lemmas.List.{length-map}
 use Rattle.edd_syntax.specs.Strings.{expr_texts, strings_of_texts}
 use Rattle.edd_syntax.specs.Text as texts
-use Rattle.edd_syntax.specs.TreeView.{argument_of, expr_of}
+use Rattle.edd_syntax.specs.TreeView.{numbered_argument, numbered_expr}
 use Rattle.edd_syntax.specs.WellFormed.{is_text}
 use Rattle.edd_syntax.specs.WordsView.{text_of}
 use Rattle.edd_code.specs.Tables.{Overflows}
@@ -15,74 +15,112 @@ use Rattle.edd_code.proofs.Numbered.{texts_overflow_second}
 use Rattle.edd_code.proofs.TextsHeld.{argument_falls, argument_held, argument_kept, argument_overflows, both_held, call_nodes, call_texts, one_held, text_held, texts_of, viewed_at}
 use Rattle.edd_code.proofs.texts.+texts.Goals as goal
 
-pub add_argument-returns-in_ok-add_text-in-Text-clause-ok : goal.add_argument-returns-in_ok-add_text-in-Text-clause-ok
-add_argument-returns-in_ok-add_text-in-Text-clause-ok t c =
+pub add_argument-returns-in_ok-add_text-in-Text-clause-sound :
+    goal.add_argument-returns-in_ok-add_text-in-Text-clause-sound
+add_argument-returns-in_ok-add_text-in-Text-clause-sound t c =
     text_held c.args.argument.now c.in-Text.text c.in-Text.is
-    (one_held c.args.table.now c.add_text.new.table (text_of c.in-Text.text) c.in_ok-add_text-in-Text.ensures.table c.in_ok-add_text-in-Text.field-0 c.in_ok-add_text-in-Text.ensures.number)
+    (one_held c.args.table.now c.add_text.new.table (text_of c.in-Text.text)
+    c.in_ok-add_text-in-Text.ensures.table c.in_ok-add_text-in-Text.field-0
+    c.in_ok-add_text-in-Text.ensures.number)
 
 pub add_argument_texts-add_argument-requires : goal.add_argument_texts-add_argument-requires
 add_argument_texts-add_argument-requires t c =
-    let x = argument_of (λ r. r) c.argument-item.result in
-    let at = viewed_at (argument_of (λ r. r)) c.args.arguments.now c.loop-argument.argument-index c.argument-item.result (omega arith) c.argument-item.is in
-    let within : c.loop-argument.argument-index < length (map (argument_of (λ r. r)) c.args.arguments.now) = omega (arith, length-map c.args.arguments.now (argument_of (λ r. r))) in
-    let h = argument_falls (map (argument_of (λ r. r)) c.args.arguments.now) c.loop-argument.argument-index x within at in
-    let m = c.decreases in
-    (omega (arith, h, m), argument_kept (map (argument_of (λ r. r)) c.args.arguments.now) c.loop-argument.argument-index x within at c.requires)
+    let x = numbered_argument c.argument-item.result in
+    let at = viewed_at numbered_argument c.args.arguments.now c.loop-argument.argument-index
+    c.argument-item.result (omega arith) c.argument-item.is in
+    let within : c.loop-argument.argument-index
+    < length (map numbered_argument c.args.arguments.now) =
+    omega (arith, length-map c.args.arguments.now numbered_argument) in
+    let h = argument_falls (map numbered_argument c.args.arguments.now)
+    c.loop-argument.argument-index x within at in
+    let m = c.decreases in (
+      omega (arith, h, m),
+      argument_kept (map numbered_argument c.args.arguments.now)
+          c.loop-argument.argument-index x within at c.requires,
+    )
 
-pub add_argument_texts-returns-in_err-add_argument-clause-too_many : goal.add_argument_texts-returns-in_err-add_argument-clause-too_many
-add_argument_texts-returns-in_err-add_argument-clause-too_many t c h =
-    let x = argument_of (λ r. r) c.argument-item.result in
-    let over : Overflows c.loop-argument.table (strings_of_texts (texts_of (x ∷ []))) = grind (arith, common_steps) in
-    argument_overflows (map (argument_of (λ r. r)) c.args.arguments.now) c.loop-argument.argument-index x (omega (arith, length-map c.args.arguments.now (argument_of (λ r. r))))
-    (viewed_at (argument_of (λ r. r)) c.args.arguments.now c.loop-argument.argument-index c.argument-item.result (omega arith) c.argument-item.is) c.loop-argument.invariant.held over
+pub add_argument_texts-returns-in_err-add_argument-clause-refused :
+    goal.add_argument_texts-returns-in_err-add_argument-clause-refused
+add_argument_texts-returns-in_err-add_argument-clause-refused t c h =
+    let x = numbered_argument c.argument-item.result in
+    let over : Overflows c.loop-argument.table (strings_of_texts (texts_of (x ∷ []))) =
+    grind (arith, common_steps) in
+    argument_overflows (map numbered_argument c.args.arguments.now) c.loop-argument.argument-index x
+    (omega (arith, length-map c.args.arguments.now numbered_argument))
+    (viewed_at numbered_argument c.args.arguments.now c.loop-argument.argument-index
+    c.argument-item.result (omega arith) c.argument-item.is) c.loop-argument.invariant.held over
 
 pub add_argument_texts-loop-argument-preserved : goal.add_argument_texts-loop-argument-preserved
 add_argument_texts-loop-argument-preserved t c = record {
   held =
-      argument_held (map (argument_of (λ r. r)) c.args.arguments.now) c.loop-argument.argument-index (argument_of (λ r. r) c.argument-item.result) (omega (arith, length-map c.args.arguments.now (argument_of (λ r. r))))
-      (viewed_at (argument_of (λ r. r)) c.args.arguments.now c.loop-argument.argument-index c.argument-item.result (omega arith) c.argument-item.is) c.loop-argument.invariant.held c.in_ok-add_argument.ensures.ok;
-  grows = grows_on c.args.table.now c.loop-argument.table c.add_argument.new.table c.loop-argument.invariant.grows c.in_ok-add_argument.ensures.grows;
+      argument_held (map numbered_argument c.args.arguments.now) c.loop-argument.argument-index
+      (numbered_argument c.argument-item.result)
+      (omega (arith, length-map c.args.arguments.now numbered_argument))
+      (viewed_at numbered_argument c.args.arguments.now c.loop-argument.argument-index
+      c.argument-item.result (omega arith) c.argument-item.is) c.loop-argument.invariant.held
+      c.in_ok-add_argument.ensures.sound;
+  grows = grows_on c.args.table.now c.loop-argument.table c.add_argument.new.table
+      c.loop-argument.invariant.grows c.in_ok-add_argument.ensures.grows;
 }
 
-pub add_both-returns-clause-ok : goal.add_both-returns-clause-ok
-add_both-returns-clause-ok t c =
-    carried c.add_texts-2.result (both_held (expr_texts (expr_of (λ r. r) c.args.left.now)) (expr_texts (expr_of (λ r. r) c.args.right.now)) c.in_ok-add_texts.ensures.ok) c.add_texts-2.ensures.ok
+pub add_both-returns-clause-sound : goal.add_both-returns-clause-sound
+add_both-returns-clause-sound t c =
+    carried c.add_texts-2.result (both_held (expr_texts (numbered_expr c.args.left.now))
+    (expr_texts (numbered_expr c.args.right.now)) c.in_ok-add_texts.ensures.sound)
+    c.add_texts-2.ensures.sound
 
-pub add_both-returns-clause-too_many : goal.add_both-returns-clause-too_many
-add_both-returns-clause-too_many t c h =
-    texts_overflow_second (expr_texts (expr_of (λ r. r) c.args.left.now)) (expr_texts (expr_of (λ r. r) c.args.right.now)) c.in_ok-add_texts.ensures.ok (c.add_texts-2.ensures.too_many h)
+pub add_both-returns-clause-refused : goal.add_both-returns-clause-refused
+add_both-returns-clause-refused t c h =
+    texts_overflow_second (expr_texts (numbered_expr c.args.left.now))
+    (expr_texts (numbered_expr c.args.right.now)) c.in_ok-add_texts.ensures.sound
+    (c.add_texts-2.ensures.refused h)
 
 pub add_texts-add_argument_texts-requires : goal.add_texts-add_argument_texts-requires
 add_texts-add_argument_texts-requires t c =
-    let h = call_nodes c.args.e.now c.in-Call.line c.in-Call.function c.in-Call.arguments c.deref-in-Call.result.now c.in-Call.is c.deref-in-Call.ensures.value in
+    let h = call_nodes c.args.e.now c.in-Call.line c.in-Call.function c.in-Call.arguments
+    c.deref-in-Call.result.now c.in-Call.is c.deref-in-Call.ensures.value in
     let m = c.decreases in (
       omega (arith, h, m),
       subst (λ (ts : List texts.Text). list_all is_text ts ≡ true)
-          (sym (call_texts c.args.e.now c.in-Call.line c.in-Call.function c.in-Call.arguments c.deref-in-Call.result.now c.in-Call.is c.deref-in-Call.ensures.value)) c.requires,
+          (sym (call_texts c.args.e.now c.in-Call.line c.in-Call.function c.in-Call.arguments
+          c.deref-in-Call.result.now c.in-Call.is c.deref-in-Call.ensures.value)) c.requires,
     )
 
-pub add_texts-returns-in-Call-clause-ok : goal.add_texts-returns-in-Call-clause-ok
-add_texts-returns-in-Call-clause-ok t c =
+pub add_texts-returns-in-Call-clause-sound : goal.add_texts-returns-in-Call-clause-sound
+add_texts-returns-in-Call-clause-sound t c =
     carried c.add_argument_texts.result (λ w.
     subst (λ (ts : List texts.Text). HoldsTexts c.args.table.now ts c.add_argument_texts.new.table)
-    (call_texts c.args.e.now c.in-Call.line c.in-Call.function c.in-Call.arguments c.deref-in-Call.result.now c.in-Call.is c.deref-in-Call.ensures.value) w) c.add_argument_texts.ensures.ok
+    (call_texts c.args.e.now c.in-Call.line c.in-Call.function c.in-Call.arguments
+    c.deref-in-Call.result.now c.in-Call.is c.deref-in-Call.ensures.value) w)
+    c.add_argument_texts.ensures.sound
 
-pub add_texts-returns-in-Call-clause-too_many : goal.add_texts-returns-in-Call-clause-too_many
-add_texts-returns-in-Call-clause-too_many t c h =
+pub add_texts-returns-in-Call-clause-refused : goal.add_texts-returns-in-Call-clause-refused
+add_texts-returns-in-Call-clause-refused t c h =
     subst (λ (ts : List texts.Text). Overflows c.args.table.now (strings_of_texts ts))
-    (call_texts c.args.e.now c.in-Call.line c.in-Call.function c.in-Call.arguments c.deref-in-Call.result.now c.in-Call.is c.deref-in-Call.ensures.value) (c.add_argument_texts.ensures.too_many h)
+    (call_texts c.args.e.now c.in-Call.line c.in-Call.function c.in-Call.arguments
+    c.deref-in-Call.result.now c.in-Call.is c.deref-in-Call.ensures.value)
+    (c.add_argument_texts.ensures.refused h)
 
-pub add_texts-returns-in_err-add_both-in-Conditional-clause-too_many : goal.add_texts-returns-in_err-add_both-in-Conditional-clause-too_many
-add_texts-returns-in_err-add_both-in-Conditional-clause-too_many t c h =
-    let test = expr_texts (expr_of (λ r. r) c.deref-in-Conditional.result.now) in
-    let rest = expr_texts (expr_of (λ r. r) c.deref-in-Conditional-2.result.now) ++ expr_texts (expr_of (λ r. r) c.deref-in-Conditional-3.result.now) in
-    let is : expr_texts (expr_of (λ r. r) c.args.e.now) ≡ test ++ rest = grind (arith, common_steps) in
-    let over : Overflows c.add_texts-in-Conditional.new.table (strings_of_texts rest) = grind (arith, common_steps) in
-    subst (λ (ts : List texts.Text). Overflows c.args.table.now (strings_of_texts ts)) (sym is) (texts_overflow_second test rest c.in_ok-add_texts-in-Conditional.ensures.ok over)
+pub add_texts-returns-in_err-add_both-in-Conditional-clause-refused :
+    goal.add_texts-returns-in_err-add_both-in-Conditional-clause-refused
+add_texts-returns-in_err-add_both-in-Conditional-clause-refused t c h =
+    let test = expr_texts (numbered_expr c.deref-in-Conditional.result.now) in
+    let rest = expr_texts (numbered_expr c.deref-in-Conditional-2.result.now)
+    ++ expr_texts (numbered_expr c.deref-in-Conditional-3.result.now) in
+    let is : expr_texts (numbered_expr c.args.e.now) ≡ test ++ rest = grind (arith, common_steps) in
+    let over : Overflows c.add_texts-in-Conditional.new.table (strings_of_texts rest) =
+    grind (arith, common_steps) in
+    subst (λ (ts : List texts.Text). Overflows c.args.table.now (strings_of_texts ts)) (sym is)
+    (texts_overflow_second test rest c.in_ok-add_texts-in-Conditional.ensures.sound over)
 
-pub add_texts-returns-in_ok-add_both-in-Conditional-clause-ok : goal.add_texts-returns-in_ok-add_both-in-Conditional-clause-ok
-add_texts-returns-in_ok-add_both-in-Conditional-clause-ok t c =
-    let test = expr_texts (expr_of (λ r. r) c.deref-in-Conditional.result.now) in
-    let rest = expr_texts (expr_of (λ r. r) c.deref-in-Conditional-2.result.now) ++ expr_texts (expr_of (λ r. r) c.deref-in-Conditional-3.result.now) in
-    let is : expr_texts (expr_of (λ r. r) c.args.e.now) ≡ test ++ rest = grind (arith, common_steps) in
-    subst (λ (ts : List texts.Text). HoldsTexts c.args.table.now ts c.add_both-in-Conditional.new.table) (sym is) (both_held test rest c.in_ok-add_texts-in-Conditional.ensures.ok c.in_ok-add_both-in-Conditional.ensures.ok)
+pub add_texts-returns-in_ok-add_both-in-Conditional-clause-sound :
+    goal.add_texts-returns-in_ok-add_both-in-Conditional-clause-sound
+add_texts-returns-in_ok-add_both-in-Conditional-clause-sound t c =
+    let test = expr_texts (numbered_expr c.deref-in-Conditional.result.now) in
+    let rest = expr_texts (numbered_expr c.deref-in-Conditional-2.result.now)
+    ++ expr_texts (numbered_expr c.deref-in-Conditional-3.result.now) in
+    let is : expr_texts (numbered_expr c.args.e.now) ≡ test ++ rest = grind (arith, common_steps) in
+    subst (λ (ts : List texts.Text). HoldsTexts c.args.table.now ts
+    c.add_both-in-Conditional.new.table) (sym is)
+    (both_held test rest c.in_ok-add_texts-in-Conditional.ensures.sound
+    c.in_ok-add_both-in-Conditional.ensures.sound)

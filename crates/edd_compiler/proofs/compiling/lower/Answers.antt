@@ -1,6 +1,6 @@
 use Rattle.std.proofs.Common.{subst, sym, ◌∙◌}
 use Rattle.std.specs.List.{All}
-use Rattle.edd_code.specs.Units.{unit_of}
+use Rattle.edd_code.specs.Units.{description_of}
 use Rattle.edd_compiler.specs.Lowering.{IsPlain}
 use Rattle.edd_compiler.proofs.CompiledTexts.{of_bad}
 use Rattle.edd_compiler.proofs.ImageParts.{too_many}
@@ -10,8 +10,11 @@ use Rattle.edd_compiler.proofs.compiling.lower.Goals as goal
 
 pub returns-clause-refused : goal.returns-clause-refused
 returns-clause-refused c = of_bad c.lower_rows.result c.lower_rows.ensures.refused
-    (λ e is. over_more e (too_many (unit_of c.args.checked.now) c.different_strings_count.ensures.within (c.strings_stand_in_rows.ensures.of_rows (unit_of c.args.checked.now))) is)
+    (λ e is. over_more e (too_many (description_of c.args.checked.now)
+    c.different_strings_count.ensures.within
+    (c.strings_stand_in_rows.ensures.of_rows (description_of c.args.checked.now))) is)
 
 pub lower_rows-requires : goal.lower_rows-requires
 lower_rows-requires c =
-    subst (All IsPlain) (sym (c.deref.ensures.value ∙ c.in_ok-rows.ensures)) (rows_plain (unit_of c.args.checked.now) c.args.checked.now.checked)
+    subst (All IsPlain) (sym (c.deref.ensures.value ∙ c.in_ok-rows.ensures))
+    (rows_plain (description_of c.args.checked.now) c.args.checked.now.checked)

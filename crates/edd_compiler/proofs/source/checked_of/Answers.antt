@@ -9,13 +9,18 @@ use Rattle.edd_compiler.proofs.source.checked_of.Goals as goal
 
 pub returns-in_err-resolved-clause-refused : goal.returns-in_err-resolved-clause-refused
 returns-in_err-resolved-clause-refused c =
-    let p = err_from_is_err_and c.from_residual-in_err-resolved.result c.from_residual-in_err-resolved.ensures.1 in rw (p.1, p.2)
-    (name_refused c.args.text.now (unit_view c.in_ok-unit.unit) c.in_ok-unit.ensures.unit c.in_err-resolved.field-0.0 c.in_err-resolved.ensures.refused)
+    let p = err_from_is_err_and c.from_residual-in_err-resolved.result
+    c.from_residual-in_err-resolved.ensures.1 in rw (p.1, p.2)
+    (name_refused c.args.text.now (unit_view c.in_ok-unit.unit) c.in_ok-unit.ensures.sound
+    c.in_err-resolved.field-0.0 c.in_err-resolved.ensures.refused)
 
-pub returns-clause-description : goal.returns-clause-description
-returns-clause-description c =
-    let same = ap (λ i. description (identification_of i) (numbered_items c.in_ok-check.field-0.items.value.items)) c.in_ok-check.ensures.identification
-    ∙ ap (λ items. description (identification_of c.in_ok-resolved.resolved.identification) (numbered_items items.items)) c.in_ok-check.ensures.items in (
+pub returns-clause-sound : goal.returns-clause-sound
+returns-clause-sound c =
+    let same = ap (λ i. description (identification_of i)
+    (numbered_items c.in_ok-check.field-0.items.value.items))
+    c.in_ok-check.ensures.identification
+    ∙ ap (λ items. description (identification_of c.in_ok-resolved.resolved.identification)
+    (numbered_items items.items)) c.in_ok-check.ensures.items in (
       record {
         is_resolved = record {
           unit = unit_view c.in_ok-unit.unit;
@@ -25,5 +30,5 @@ returns-clause-description c =
         };
         no_breach = ap subset_breaches same ∙ c.in_ok-check.ensures.accepted;
       },
-      c.in_ok-unit.ensures.unit,
+      c.in_ok-unit.ensures.sound,
     )

@@ -9,4 +9,5 @@ pub returns-in-Err : goal.returns-in-Err
 returns-in-Err c = not_utf8 c.if-text-gt1048576.false c.in-Err.ensures.cases.0
 
 pub returns : goal.returns
-returns c = given c.args.text.now c.tokens.result c.if-text-gt1048576.false c.in_default.ensures.cases.1 c.tokens.ensures
+returns c = given c.args.text.now c.tokens.result c.if-text-gt1048576.false
+    c.in_default.ensures.cases.1 c.tokens.ensures

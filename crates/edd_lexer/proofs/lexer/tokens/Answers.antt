@@ -10,7 +10,9 @@ use Rattle.edd_lexer.proofs.lexer.tokens.Goals as goal
 pub returns-in-Wrong : goal.returns-in-Wrong
 returns-in-Wrong c =
     let text = c.args.text.now in
-    let stops = on_wrong (map (lexeme_of text) c.loop-rest.tokens.items) (length text) c.loop-rest.fresh c.loop-rest.rest.now c.in-Wrong.fault (let some = c.in-len1-up.len_at_least in omega arith) (sym c.in-Wrong.ensures.read) in
+    let stops = on_wrong (map (lexeme_of text) c.loop-rest.tokens.items) (length text)
+    c.loop-rest.fresh c.loop-rest.rest.now c.in-Wrong.fault
+    (let some = c.in-len1-up.len_at_least in omega arith) (sym c.in-Wrong.ensures.read) in
     let P : Option Fault → Type 0 = λ o. IfSome o (λ fault. tokens_of text ≡ Err fault) in
     subst P (sym c.refusal.ensures) (sym c.loop-rest.invariant.read ∙ stops)
 
@@ -18,10 +20,13 @@ pub loop-rest-preserved-in-Gap : goal.loop-rest-preserved-in-Gap
 loop-rest-preserved-in-Gap c =
     let text = c.args.text.now in
     let here = c.loop-rest.rest.now in
-    let same = on_gap (map (lexeme_of text) c.loop-rest.tokens.items) (length text) c.loop-rest.fresh here c.in-Gap.next c.in-Gap.behind.now (let lt = c.in-Gap.ensures.leads.shorter in omega arith) (sym c.in-Gap.ensures.read) in
+    let same = on_gap (map (lexeme_of text) c.loop-rest.tokens.items) (length text)
+    c.loop-rest.fresh here c.in-Gap.next c.in-Gap.behind.now
+    (let lt = c.in-Gap.ensures.leads.shorter in omega arith) (sym c.in-Gap.ensures.read) in
     record {
       within = (let lt = c.in-Gap.ensures.leads.shorter in omega arith);
-      is_end = end_of_end text here c.in-Gap.behind.now c.loop-rest.invariant.is_end c.loop-rest.invariant.within c.in-Gap.ensures.leads;
+      is_end = end_of_end text here c.in-Gap.behind.now c.loop-rest.invariant.is_end
+          c.loop-rest.invariant.within c.in-Gap.ensures.leads;
       read = sym same ∙ c.loop-rest.invariant.read;
     }
 
@@ -30,29 +35,36 @@ loop-rest-preserved c =
     let text = c.args.text.now in
     let here = c.loop-rest.rest.now in
     let behind = c.in-Token.behind.now in
-    let same = on_token (map (lexeme_of text) c.loop-rest.tokens.items) text c.loop-rest.fresh here behind c.in-Token.kind c.loop-rest.invariant.is_end c.loop-rest.invariant.within
+    let same = on_token (map (lexeme_of text) c.loop-rest.tokens.items) text c.loop-rest.fresh here
+    behind c.in-Token.kind c.loop-rest.invariant.is_end c.loop-rest.invariant.within
     c.in-Token.ensures.leads.shorter (sym c.in-Token.ensures.read) in
     record {
       within = (let lt = c.in-Token.ensures.leads.shorter in omega arith);
-      is_end = end_of_end text here behind c.loop-rest.invariant.is_end c.loop-rest.invariant.within c.in-Token.ensures.leads;
-      read = rw (c.in_ok-push-in-Token.ensures.items, map_push) (sym same ∙ c.loop-rest.invariant.read);
+      is_end = end_of_end text here behind c.loop-rest.invariant.is_end c.loop-rest.invariant.within
+          c.in-Token.ensures.leads;
+      read = rw (c.in_ok-push-in-Token.ensures.items, map_push)
+          (sym same ∙ c.loop-rest.invariant.read);
     }
 
 pub returns : goal.returns
 returns c =
     let text = c.args.text.now in
-    sym c.loop-rest.invariant.read ∙ at_end (map (lexeme_of text) c.loop-rest.tokens.items) (length text) c.loop-rest.fresh c.loop-rest.rest.now (let none = c.in_default.len_below in omega arith)
+    sym c.loop-rest.invariant.read ∙ at_end (map (lexeme_of text) c.loop-rest.tokens.items)
+    (length text) c.loop-rest.fresh c.loop-rest.rest.now
+    (let none = c.in_default.len_below in omega arith)
 
 pub loop-rest-preserved-then-is_blank : goal.loop-rest-preserved-then-is_blank
 loop-rest-preserved-then-is_blank c =
     let text = c.args.text.now in
     let here = c.loop-rest.rest.now in
     let some : 0 < length here = (let h = c.in-len1-up.len_at_least in omega arith) in
-    let same = on_blank (map (lexeme_of text) c.loop-rest.tokens.items) (length text) c.loop-rest.fresh here some (sym c.is_blank.ensures ∙ c.if-is_blank.true) in
+    let same = on_blank (map (lexeme_of text) c.loop-rest.tokens.items) (length text)
+    c.loop-rest.fresh here some (sym c.is_blank.ensures ∙ c.if-is_blank.true) in
     let e = c.behind_byte-rest.ensures in
     let IsEnd : List ℕ → Type 0 = λ x. x ≡ drop (length text - length x) text in
     record {
       within = omega (arith, ap length e, length-drop 1 here);
-      is_end = subst IsEnd (sym e) (behind_first text here c.loop-rest.invariant.is_end c.loop-rest.invariant.within some);
+      is_end = subst IsEnd (sym e) (behind_first text here c.loop-rest.invariant.is_end
+          c.loop-rest.invariant.within some);
       read = rw (e, c.fresh_behind-fresh.ensures) (sym same ∙ c.loop-rest.invariant.read);
     }

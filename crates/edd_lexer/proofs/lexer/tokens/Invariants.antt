@@ -9,7 +9,8 @@ abbrev pub invariant-loop-rest : goal.invariant-loop-rest
 invariant-loop-rest l = record {
   within : length l.rest ≤ length l.fn.text;
   is_end : l.rest ≡ drop (length l.fn.text - length l.rest) l.fn.text;
-  read : with_front (map (lexeme_of l.fn.text) l.tokens.items) (tokens_from (length l.fn.text) l.fresh l.rest) ≡ tokens_of l.fn.text;
+  read : with_front (map (lexeme_of l.fn.text) l.tokens.items)
+      (tokens_from (length l.fn.text) l.fresh l.rest) ≡ tokens_of l.fn.text;
 }
 
 abbrev pub decreases-loop-rest : goal.decreases-loop-rest

@@ -2,7 +2,9 @@ use Rattle.edd_lexer.proofs.Steps.{long_word, short_word}
 use Rattle.edd_lexer.proofs.lexer.word_at.Goals as goal
 
 pub returns-then-length-gt255 : goal.returns-then-length-gt255
-returns-then-length-gt255 c = long_word c.args.text.now c.behind_name-rest.result.now c.behind_name-rest.ensures.rest c.if-length-gt255.true
+returns-then-length-gt255 c = long_word c.args.text.now c.behind_name-rest.result.now
+    c.behind_name-rest.ensures.rest c.if-length-gt255.true
 
 pub returns : goal.returns
-returns c = short_word c.args.text.now c.behind_name-rest.result.now _ c.behind_name-rest.ensures.rest c.if-length-gt255.false c.word_kind.ensures
+returns c = short_word c.args.text.now c.behind_name-rest.result.now _
+    c.behind_name-rest.ensures.rest c.if-length-gt255.false c.word_kind.ensures

@@ -7,7 +7,13 @@ use Rattle.edd_loader.proofs.attributes.are_attribute_rows.Given as goal
 
 abbrev pub invariant-loop-index : goal.invariant-loop-index
 invariant-loop-index l =
-    (list_all (is_attribute_row l.counts) (rows_on (attribute_fields l.bytes) 16 l.count l.start l.index)
-    && (rise (rows_on (attribute_fields l.bytes) 16 l.count l.start l.index) && fills l.place (map (λ r. r.span) (rows_on (attribute_fields l.bytes) 16 l.count l.start l.index)) l.end))
-    ≡ (list_all (is_attribute_row l.counts) (rows_from (attribute_fields l.bytes) 16 l.count l.start)
-    && (rise (rows_from (attribute_fields l.bytes) 16 l.count l.start) && fills 0 (map (λ r. r.span) (rows_from (attribute_fields l.bytes) 16 l.count l.start)) l.end))
+    (list_all (is_attribute_row l.counts) (rows_on (attribute_fields l.bytes) 16 l.count l.start
+    l.index)
+    && (rise (rows_on (attribute_fields l.bytes) 16 l.count l.start l.index)
+    && fills l.place (map (λ r. r.span) (rows_on (attribute_fields l.bytes) 16 l.count l.start
+    l.index)) l.end))
+    ≡ (list_all (is_attribute_row l.counts)
+    (rows_from (attribute_fields l.bytes) 16 l.count l.start)
+    && (rise (rows_from (attribute_fields l.bytes) 16 l.count l.start)
+    && fills 0 (map (λ r. r.span) (rows_from (attribute_fields l.bytes) 16 l.count l.start))
+    l.end))

@@ -8,5 +8,8 @@ use Rattle.edd_loader.proofs.rows.are_name_rows.Given as goal
 
 abbrev pub invariant-loop-index : goal.invariant-loop-index
 invariant-loop-index l =
-    (list_all (λ r. r.padding == 0) (rows_on (name_fields l.bytes) 8 l.count l.start l.index) && fills l.place (map (λ r. r.span) (rows_on (name_fields l.bytes) 8 l.count l.start l.index)) l.end)
-    ≡ (list_all (λ r. r.padding == 0) (rows_from (name_fields l.bytes) 8 l.count l.start) && fills 0 (map (λ r. r.span) (rows_from (name_fields l.bytes) 8 l.count l.start)) l.end)
+    (list_all (λ r. r.padding == 0) (rows_on (name_fields l.bytes) 8 l.count l.start l.index)
+    && fills l.place (map (λ r. r.span)
+    (rows_on (name_fields l.bytes) 8 l.count l.start l.index)) l.end)
+    ≡ (list_all (λ r. r.padding == 0) (rows_from (name_fields l.bytes) 8 l.count l.start)
+    && fills 0 (map (λ r. r.span) (rows_from (name_fields l.bytes) 8 l.count l.start)) l.end)

@@ -6,4 +6,6 @@ use Rattle.edd_loader.proofs.RowTurns.{rows_on}
 use Rattle.edd_loader.proofs.rows.are_variable_rows.Given as goal
 
 abbrev pub invariant-loop-index : goal.invariant-loop-index
-invariant-loop-index l = list_all is_variable_row (rows_on (variable_fields l.bytes) 4 l.count l.start l.index) ≡ list_all is_variable_row (rows_from (variable_fields l.bytes) 4 l.count l.start)
+invariant-loop-index l =
+    list_all is_variable_row (rows_on (variable_fields l.bytes) 4 l.count l.start l.index)
+    ≡ list_all is_variable_row (rows_from (variable_fields l.bytes) 4 l.count l.start)

@@ -8,6 +8,10 @@ use Rattle.edd_loader.proofs.sections.all_names.Given as goal
 
 abbrev pub invariant-loop-index : goal.invariant-loop-index
 invariant-loop-index l = record {
-  within : list_all (λ r. lies_within (length l.names) r.span) (rows_on (name_fields l.bytes) 8 l.count l.start l.index) ≡ true;
-  same : list_all (λ r. is_name (part r.span l.names)) (rows_on (name_fields l.bytes) 8 l.count l.start l.index) ≡ list_all (λ r. is_name (part r.span l.names)) (rows_from (name_fields l.bytes) 8 l.count l.start);
+  within : list_all (λ r. lies_within (length l.names) r.span)
+      (rows_on (name_fields l.bytes) 8 l.count l.start l.index) ≡ true;
+  same : list_all (λ r. is_name (part r.span l.names))
+      (rows_on (name_fields l.bytes) 8 l.count l.start l.index)
+      ≡ list_all (λ r. is_name (part r.span l.names))
+      (rows_from (name_fields l.bytes) 8 l.count l.start);
 }

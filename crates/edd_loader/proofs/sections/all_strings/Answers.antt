@@ -7,21 +7,35 @@ use Rattle.edd_loader.proofs.sections.all_strings.Goals as goal
 
 pub part-requires : goal.part-requires
 part-requires c =
-    let here = row_at (string_fields c.args.bytes.now) 8 c.args.count c.args.start c.loop-index.index c.loop-index-test.true in
-    span_inside _ _ _ _ c.string_start-place.ensures c.string_length-size.ensures (first_passes (lies_within (length c.args.strings.now)) _ _ _ here c.loop-index.invariant.within)
+    let here = row_at (string_fields c.args.bytes.now) 8 c.args.count c.args.start
+    c.loop-index.index c.loop-index-test.true in
+    span_inside _ _ _ _ c.string_start-place.ensures c.string_length-size.ensures
+    (first_passes (lies_within (length c.args.strings.now)) _ _ _ here
+    c.loop-index.invariant.within)
 
 pub returns-then-not-is_string : goal.returns-then-not-is_string
 returns-then-not-is_string c =
-    let here = row_at (string_fields c.args.bytes.now) 8 c.args.count c.args.start c.loop-index.index c.loop-index-test.true in
-    each_fails (λ r. is_string (part r c.args.strings.now)) _ _ _ _ here (part_tested is_string _ _ _ _ _ _ _ c.is_string.ensures c.part.ensures c.string_start-place.ensures c.string_length-size.ensures c.if-not-is_string.true) c.loop-index.invariant.same
+    let here = row_at (string_fields c.args.bytes.now) 8 c.args.count c.args.start
+    c.loop-index.index c.loop-index-test.true in
+    each_fails (λ r. is_string (part r c.args.strings.now)) _ _ _ _ here
+    (part_tested is_string _ _ _ _ _ _ _ c.is_string.ensures c.part.ensures
+    c.string_start-place.ensures c.string_length-size.ensures c.if-not-is_string.true)
+    c.loop-index.invariant.same
 
 pub loop-index-preserved : goal.loop-index-preserved
 loop-index-preserved c =
-    let here = row_at (string_fields c.args.bytes.now) 8 c.args.count c.args.start c.loop-index.index c.loop-index-test.true in
+    let here = row_at (string_fields c.args.bytes.now) 8 c.args.count c.args.start
+    c.loop-index.index c.loop-index-test.true in
     record {
-      within = rest_passes (lies_within (length c.args.strings.now)) _ _ _ here c.loop-index.invariant.within;
-      same = each_goes (λ r. is_string (part r c.args.strings.now)) _ _ _ _ here (part_tested is_string _ _ _ _ _ _ _ c.is_string.ensures c.part.ensures c.string_start-place.ensures c.string_length-size.ensures c.if-not-is_string.false) c.loop-index.invariant.same;
+      within = rest_passes (lies_within (length c.args.strings.now)) _ _ _ here
+          c.loop-index.invariant.within;
+      same = each_goes (λ r. is_string (part r c.args.strings.now)) _ _ _ _ here
+          (part_tested is_string _ _ _ _ _ _ _ c.is_string.ensures c.part.ensures
+          c.string_start-place.ensures c.string_length-size.ensures c.if-not-is_string.false)
+          c.loop-index.invariant.same;
     }
 
 pub returns : goal.returns
-returns c = each_done (λ r. is_string (part r c.args.strings.now)) _ _ (no_row (string_fields c.args.bytes.now) 8 (c.args.count - c.loop-index.index) _ (omega arith)) c.loop-index.invariant.same
+returns c = each_done (λ r. is_string (part r c.args.strings.now)) _ _
+    (no_row (string_fields c.args.bytes.now) 8 (c.args.count - c.loop-index.index) _ (omega arith))
+    c.loop-index.invariant.same

@@ -8,6 +8,10 @@ use Rattle.edd_loader.proofs.sections.all_strings.Given as goal
 
 abbrev pub invariant-loop-index : goal.invariant-loop-index
 invariant-loop-index l = record {
-  within : list_all (lies_within (length l.strings)) (rows_on (string_fields l.bytes) 8 l.count l.start l.index) ≡ true;
-  same : list_all (λ r. is_string (part r l.strings)) (rows_on (string_fields l.bytes) 8 l.count l.start l.index) ≡ list_all (λ r. is_string (part r l.strings)) (rows_from (string_fields l.bytes) 8 l.count l.start);
+  within : list_all (lies_within (length l.strings))
+      (rows_on (string_fields l.bytes) 8 l.count l.start l.index) ≡ true;
+  same : list_all (λ r. is_string (part r l.strings))
+      (rows_on (string_fields l.bytes) 8 l.count l.start l.index)
+      ≡ list_all (λ r. is_string (part r l.strings))
+      (rows_from (string_fields l.bytes) 8 l.count l.start);
 }

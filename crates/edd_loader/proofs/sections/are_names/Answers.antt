@@ -4,15 +4,32 @@ use Rattle.edd_loader.proofs.Spaces.{rooms, names_are, names_lie}
 use Rattle.edd_loader.proofs.sections.are_names.Goals as goal
 
 pub part-requires : goal.part-requires
-part-requires c = omega (arith, rooms _ c.requires.sections, c.name_bytes_start-place.ensures.start, c.names_length-size.ensures)
+part-requires c = omega (
+  arith,
+  rooms _ c.requires.sections,
+  c.name_bytes_start-place.ensures.start,
+  c.names_length-size.ensures,
+)
 
 pub all_names-requires-clause-room : goal.all_names-requires-clause-room
-all_names-requires-clause-room c = omega (arith, rooms _ c.requires.sections, c.name_rows_start-start.ensures.start, c.item_count-count.ensures ∙ ap item_count c.counts.ensures)
+all_names-requires-clause-room c =
+    omega (
+      arith,
+      rooms _ c.requires.sections,
+      c.name_rows_start-start.ensures.start,
+      c.item_count-count.ensures ∙ ap item_count c.counts.ensures,
+    )
 
 pub all_names-requires-clause-within : goal.all_names-requires-clause-within
 all_names-requires-clause-within c =
-    names_lie _ _ _ _ _ _ c.requires.sections c.requires.rows c.part.ensures c.name_bytes_start-place.ensures.start c.names_length-size.ensures c.name_rows_start-start.ensures.start (c.item_count-count.ensures ∙ ap item_count c.counts.ensures)
+    names_lie _ _ _ _ _ _ c.requires.sections c.requires.rows c.part.ensures
+    c.name_bytes_start-place.ensures.start c.names_length-size.ensures
+    c.name_rows_start-start.ensures.start (c.item_count-count.ensures
+    ∙ ap item_count c.counts.ensures)
 
 pub returns : goal.returns
 returns c =
-    c.all_names.ensures ∙ names_are _ _ _ _ _ _ c.part.ensures c.name_bytes_start-place.ensures.start c.names_length-size.ensures c.name_rows_start-start.ensures.start (c.item_count-count.ensures ∙ ap item_count c.counts.ensures)
+    c.all_names.ensures ∙ names_are _ _ _ _ _ _ c.part.ensures
+    c.name_bytes_start-place.ensures.start c.names_length-size.ensures
+    c.name_rows_start-start.ensures.start (c.item_count-count.ensures
+    ∙ ap item_count c.counts.ensures)

@@ -8,17 +8,23 @@ pub returns-in-Some : goal.returns-in-Some
 returns-in-Some c = of_code _ _ _ (are_parsed _ c.requires) c.in-Some.ensures
 
 pub returns-in-Some-text_in : goal.returns-in-Some-text_in
-returns-in-Some-text_in c = in_english _ _ _ (are_parsed _ c.requires) c.in_default.ensures c.in-Some-text_in.ensures
+returns-in-Some-text_in c = in_english _ _ _ (are_parsed _ c.requires) c.in_default.ensures
+    c.in-Some-text_in.ensures
 
 pub as_text-requires : goal.as_text-requires
 as_text-requires c =
-    let here = sym c.variant_from.ensures.value ∙ ap (option_map piece_of) c.in-Some-variant_from.is in
-    text_utf8 (piece_of c.in-Some-variant_from.piece).0 (front_valid _ _ _ _ here c.in-Some-variant_from.ensures.shorter (omega arith) (are_parsed _ c.requires).valid)
+    let here = sym c.variant_from.ensures.value ∙ ap (option_map piece_of) c.in-Some-variant_from.is
+    in
+    text_utf8 (piece_of c.in-Some-variant_from.piece).0
+    (front_valid _ _ _ _ here c.in-Some-variant_from.ensures.shorter (omega arith)
+    (are_parsed _ c.requires).valid)
 
 pub returns-in-Some-variant_from : goal.returns-in-Some-variant_from
 returns-in-Some-variant_from c =
-    let here = sym c.variant_from.ensures.value ∙ ap (option_map piece_of) c.in-Some-variant_from.is in
-    the_first _ _ _ _ (are_parsed _ c.requires) c.in_default.ensures c.in_default-text_in.ensures here ∙ ap Some (sym c.as_text.ensures)
+    let here = sym c.variant_from.ensures.value ∙ ap (option_map piece_of) c.in-Some-variant_from.is
+    in
+    the_first _ _ _ _ (are_parsed _ c.requires) c.in_default.ensures c.in_default-text_in.ensures
+    here ∙ ap Some (sym c.as_text.ensures)
 
 pub returns-in-None : goal.returns-in-None
 returns-in-None c =

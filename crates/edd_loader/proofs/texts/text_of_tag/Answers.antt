@@ -12,4 +12,5 @@ pub returns-then-tag-eq0 : goal.returns-then-tag-eq0
 returns-then-tag-eq0 c = words_given _ _ _ _ c.if-tag-eq0.true c.choose.ensures
 
 pub returns-else-tag-eq0 : goal.returns-else-tag-eq0
-returns-else-tag-eq0 c = key_given _ _ _ _ c.if-tag-eq0.false (other_tag _ _ c.if-tag-eq0.false c.requires).0 c.as_text.ensures
+returns-else-tag-eq0 c = key_given _ _ _ _ c.if-tag-eq0.false
+    (other_tag _ _ c.if-tag-eq0.false c.requires).0 c.as_text.ensures

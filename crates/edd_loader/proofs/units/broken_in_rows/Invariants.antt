@@ -12,9 +12,17 @@ use Rattle.edd_loader.proofs.units.broken_in_rows.Given as goal
 
 abbrev pub invariant-loop-index : goal.invariant-loop-index
 invariant-loop-index l = record {
-  within : list_all (λ r. lies_within (length l.code) r.span) (rows_on (attribute_fields l.bytes) 16 l.count l.start l.index) ≡ true;
-  kept : (earlier : UnitRule) → fault_number (rule.Unit earlier) < fault_bound l.broken → AllByRecursion (RowKeeps l.version l.counts l.code earlier) (rows_on (attribute_fields l.bytes) 16 l.count l.start l.index)
-      → AllByRecursion (RowKeeps l.version l.counts l.code earlier) (rows_from (attribute_fields l.bytes) 16 l.count l.start);
-  back : (which : UnitRule) → AllByRecursion (RowKeeps l.version l.counts l.code which) (rows_from (attribute_fields l.bytes) 16 l.count l.start) → AllByRecursion (RowKeeps l.version l.counts l.code which) (rows_on (attribute_fields l.bytes) 16 l.count l.start l.index);
-  broken : IfSome l.broken (λ which. ¬ AllByRecursion (RowKeeps l.version l.counts l.code which) (rows_from (attribute_fields l.bytes) 16 l.count l.start));
+  within : list_all (λ r. lies_within (length l.code) r.span)
+      (rows_on (attribute_fields l.bytes) 16 l.count l.start l.index) ≡ true;
+  kept : (earlier : UnitRule) → fault_number (rule.Unit earlier) < fault_bound l.broken
+      → AllByRecursion (RowKeeps l.version l.counts l.code earlier)
+      (rows_on (attribute_fields l.bytes) 16 l.count l.start l.index)
+      → AllByRecursion (RowKeeps l.version l.counts l.code earlier)
+      (rows_from (attribute_fields l.bytes) 16 l.count l.start);
+  back : (which : UnitRule) → AllByRecursion (RowKeeps l.version l.counts l.code which)
+      (rows_from (attribute_fields l.bytes) 16 l.count l.start)
+      → AllByRecursion (RowKeeps l.version l.counts l.code which)
+      (rows_on (attribute_fields l.bytes) 16 l.count l.start l.index);
+  broken : IfSome l.broken (λ which. ¬ AllByRecursion (RowKeeps l.version l.counts l.code which)
+      (rows_from (attribute_fields l.bytes) 16 l.count l.start));
 }

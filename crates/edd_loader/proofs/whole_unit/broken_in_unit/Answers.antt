@@ -15,11 +15,15 @@ returns-then-not-survey c =
       λ land.
           let leads = survey_leads context code s seen land in
           elim c.then-not-survey.branch [
-            | then-not-survey-via-then-not-survey w ↦ let never : false ≡ true = sym w.if-not-survey.true ∙ leads.0 in absurd cc
-            | then-not-survey-via-else-not-survey+then-survey w ↦ let never : true ≡ false = sym w.if-survey.true ∙ leads.1 in absurd cc
+            | then-not-survey-via-then-not-survey w ↦ let never : false ≡ true =
+                sym w.if-not-survey.true ∙ leads.0 in absurd cc
+            | then-not-survey-via-else-not-survey+then-survey w ↦ let never : true ≡ false =
+                sym w.if-survey.true ∙ leads.1 in absurd cc
             | then-not-survey-via-else-not-survey+else-survey+then-not-are_settled w ↦
-                let all : (q : ℕ) → is_settled (mark_at w.deref.result.now q) ≡ true = rw w.deref.ensures.value leads.2 in
-                let never : false ≡ true = sym w.if-not-are_settled.true ∙ w.are_settled.ensures.1 all in
+                let all : (q : ℕ) → is_settled (mark_at w.deref.result.now q) ≡ true =
+                rw w.deref.ensures.value leads.2 in
+                let never : false ≡ true = sym w.if-not-are_settled.true
+                ∙ w.are_settled.ensures.1 all in
                 absurd cc
           ],
     )
@@ -30,9 +34,15 @@ returns-then-not-survey-2 c =
     let code = c.args.code.now in
     let s = c.in-Some-surveyed.survey in
     let seen : IsSurveyOf context code s = rw c.in-Some-surveyed.is at c.surveyed.ensures in
-    let settled : (q : ℕ) → is_settled (mark_at s.marks.items q) ≡ true = rw c.deref.ensures.value at (c.are_settled.ensures.0 c.if-not-are_settled.false) in
-    let land = survey_lands context code s seen c.if-not-survey.false c.if-survey.false settled in
-    (survey_chains context code s seen, land, λ has. let never : false ≡ true = sym c.if-not-survey-2.true ∙ (survey_agrees context code s seen land).1 has in absurd cc)
+    let settled : (q : ℕ) → is_settled (mark_at s.marks.items q) ≡ true =
+    rw c.deref.ensures.value at (c.are_settled.ensures.0 c.if-not-are_settled.false) in
+    let land = survey_lands context code s seen c.if-not-survey.false c.if-survey.false settled in (
+      survey_chains context code s seen,
+      land,
+      λ has. let never : false
+          ≡ true = sym c.if-not-survey-2.true ∙ (survey_agrees context code s seen land).1
+          has in absurd cc,
+    )
 
 pub returns-then-not-survey-3 : goal.returns-then-not-survey-3
 returns-then-not-survey-3 c =
@@ -40,9 +50,16 @@ returns-then-not-survey-3 c =
     let code = c.args.code.now in
     let s = c.in-Some-surveyed.survey in
     let seen : IsSurveyOf context code s = rw c.in-Some-surveyed.is at c.surveyed.ensures in
-    let settled : (q : ℕ) → is_settled (mark_at s.marks.items q) ≡ true = rw c.deref.ensures.value at (c.are_settled.ensures.0 c.if-not-are_settled.false) in
-    let land = survey_lands context code s seen c.if-not-survey.false c.if-survey.false settled in
-    (survey_chains context code s seen, land, (survey_agrees context code s seen land).0 c.if-not-survey-2.false, λ exist. let never : false ≡ true = sym c.if-not-survey-3.true ∙ survey_names context code s seen ∙ exist in absurd cc)
+    let settled : (q : ℕ) → is_settled (mark_at s.marks.items q) ≡ true =
+    rw c.deref.ensures.value at (c.are_settled.ensures.0 c.if-not-are_settled.false) in
+    let land = survey_lands context code s seen c.if-not-survey.false c.if-survey.false settled in (
+      survey_chains context code s seen,
+      land,
+      (survey_agrees context code s seen land).0
+          c.if-not-survey-2.false,
+      λ exist. let never : false ≡ true = sym c.if-not-survey-3.true
+          ∙ survey_names context code s seen ∙ exist in absurd cc,
+    )
 
 pub returns : goal.returns
 returns c =
@@ -50,7 +67,8 @@ returns c =
     let code = c.args.code.now in
     let s = c.in-Some-surveyed.survey in
     let seen : IsSurveyOf context code s = rw c.in-Some-surveyed.is at c.surveyed.ensures in
-    let settled : (q : ℕ) → is_settled (mark_at s.marks.items q) ≡ true = rw c.deref.ensures.value at (c.are_settled.ensures.0 c.if-not-are_settled.false) in
+    let settled : (q : ℕ) → is_settled (mark_at s.marks.items q) ≡ true =
+    rw c.deref.ensures.value at (c.are_settled.ensures.0 c.if-not-are_settled.false) in
     let land = survey_lands context code s seen c.if-not-survey.false c.if-survey.false settled in
     record {
       chain = survey_chains context code s seen;

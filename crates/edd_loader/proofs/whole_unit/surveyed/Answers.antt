@@ -7,13 +7,17 @@ use Rattle.edd_loader.proofs.Walks.{some_bytes}
 use Rattle.edd_loader.proofs.whole_unit.surveyed.Goals as goal
 
 pub loop-place-init : goal.loop-place-init
-loop-place-init c = rw c.of-survey.ensures (record { walk = c.requires.walk; room = c.requires.room; nothing = c.requires.nothing })
+loop-place-init c = rw c.of-survey.ensures
+    (record { walk = c.requires.walk; room = c.requires.room; nothing = c.requires.nothing })
 
 pub returns-in_default : goal.returns-in_default
-returns-in_default c = stops_short _ _ _ _ _ _ _ _ c.loop-place.invariant.walk c.loop-place-test.true (sym c.decode.ensures.value ∙ c.in_default.is)
+returns-in_default c = stops_short _ _ _ _ _ _ _ _ c.loop-place.invariant.walk
+    c.loop-place-test.true (sym c.decode.ensures.value ∙ c.in_default.is)
 
 pub returns-then-not-take_on : goal.returns-then-not-take_on
-returns-then-not-take_on c = not_allowed _ _ _ _ _ (c.in-Some.instruction, c.in-Some.next) _ _ _ c.loop-place.invariant.walk (sym c.decode.ensures.value ∙ c.in-Some.is) (sym c.take_on.ensures.allowed ∙ c.if-not-take_on.true)
+returns-then-not-take_on c = not_allowed _ _ _ _ _ (c.in-Some.instruction, c.in-Some.next) _ _ _
+    c.loop-place.invariant.walk (sym c.decode.ensures.value ∙ c.in-Some.is)
+    (sym c.take_on.ensures.allowed ∙ c.if-not-take_on.true)
 
 pub loop-place-preserved : goal.loop-place-preserved
 loop-place-preserved c =
@@ -22,15 +26,28 @@ loop-place-preserved c =
     let there = c.arrive-depth.new.self in
     let after = c.take_on.new.self in
     let i = c.in-Some.instruction in
-    let same_marks : there.marks ≡ before.marks = ap (λ (s : Survey). s.marks) c.arrive-depth.ensures.others in
-    let same_items : there.marks.items ≡ before.marks.items = ap (λ (s : Survey). s.marks.items) c.arrive-depth.ensures.others in
-    let same_leads : there.leads ≡ before.leads = ap (λ (s : Survey). s.leads) c.arrive-depth.ensures.others in
-    let same_names : there.names ≡ before.names = ap (λ (s : Survey). s.names) c.arrive-depth.ensures.others in
-    let size : vec_len there.marks ≡ length c.args.code.now = rw same_marks (omega (arith, before.marks.ok, c.loop-place.invariant.walk.sized)) in
+    let same_marks : there.marks ≡ before.marks =
+    ap (λ (s : Survey). s.marks) c.arrive-depth.ensures.others in
+    let same_items : there.marks.items ≡ before.marks.items = ap (λ (s : Survey). s.marks.items)
+    c.arrive-depth.ensures.others in
+    let same_leads : there.leads ≡ before.leads =
+    ap (λ (s : Survey). s.leads) c.arrive-depth.ensures.others in
+    let same_names : there.names ≡ before.names =
+    ap (λ (s : Survey). s.names) c.arrive-depth.ensures.others in
+    let size : vec_len there.marks ≡ length c.args.code.now =
+    rw same_marks (omega (arith, before.marks.ok, c.loop-place.invariant.walk.sized)) in
     record {
-      walk = walk_goes_on c.args.context c.args.code.now before.marks.items after.marks.items (brought before.goes_on before.depth) (brought after.goes_on after.depth) c.loop-place.place c.in-Some.next c.arrive-depth.result i before.leads before.agrees before.names after.leads after.agrees after.names there.agrees
-          c.loop-place.invariant.walk c.loop-place-test.true (sym c.decode.ensures.value ∙ c.in-Some.is) (sym c.take_on.ensures.allowed ∙ c.if-not-take_on.false) c.arrive-depth.ensures.depth c.arrive-depth.ensures.arrival
-          (rw same_names at (taken.names refl)) (rw (size, same_leads) at (taken.leads refl)) (brings_some after.goes_on after.depth ∙ taken.goes_on refl) (λ leads. rw same_items at (taken.agrees refl leads)) (taken.brought refl) (brings_room after.goes_on after.depth (taken.room refl))
+      walk = walk_goes_on c.args.context c.args.code.now before.marks.items after.marks.items
+          (brought before.goes_on before.depth) (brought after.goes_on after.depth)
+          c.loop-place.place c.in-Some.next c.arrive-depth.result i before.leads before.agrees
+          before.names after.leads after.agrees after.names there.agrees
+          c.loop-place.invariant.walk c.loop-place-test.true (sym c.decode.ensures.value
+          ∙ c.in-Some.is) (sym c.take_on.ensures.allowed ∙ c.if-not-take_on.false)
+          c.arrive-depth.ensures.depth c.arrive-depth.ensures.arrival
+          (rw same_names at (taken.names refl)) (rw (size, same_leads) at (taken.leads refl))
+          (brings_some after.goes_on after.depth ∙ taken.goes_on refl)
+          (λ leads. rw same_items at (taken.agrees refl leads)) (taken.brought refl)
+          (brings_room after.goes_on after.depth (taken.room refl))
           (rw (size, same_items) at (taken.marks refl));
       room = taken.room refl;
       nothing = taken.nothing refl;

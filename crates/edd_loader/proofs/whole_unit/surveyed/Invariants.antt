@@ -5,7 +5,8 @@ use Rattle.edd_loader.proofs.whole_unit.surveyed.Given as goal
 
 abbrev pub invariant-loop-place : goal.invariant-loop-place
 invariant-loop-place l = record {
-  walk : IsWalk l.context l.code l.survey.marks.items (brought l.survey.goes_on l.survey.depth) l.place l.survey.leads l.survey.agrees l.survey.names;
+  walk : IsWalk l.context l.code l.survey.marks.items (brought l.survey.goes_on l.survey.depth)
+      l.place l.survey.leads l.survey.agrees l.survey.names;
   room : l.survey.depth ≤ 128;
   nothing : l.survey.goes_on ≡ false → l.survey.depth ≡ 0;
 }

@@ -7,15 +7,22 @@ use Rattle.edd_machine.proofs.Widths.{again, divide_ok}
 use Rattle.edd_machine.proofs.arithmetic.remainder.Goals as goal
 use Rattle.edd_machine.proofs.arithmetic.remainder.Goals.{else-a-least-via-then-a-least+else-b-eqminus1, else-a-least-via-else-a-least}
 
-divides : (c : goal.Joined-else-a-least) → (c.args.a ≡ neg_ℤ (pos (2 ^ (width_of c.args.sort - 1))) → c.args.b ≡ negsuc 0 → ⊥) → divide int_rem (width_of c.args.sort) c.args.a c.args.b ≡ Ok (int_rem c.args.a c.args.b)
-divides c never = divide_ok int_rem (width_of c.args.sort) c.args.a c.args.b (λ e. c.if-b-eq0.false (ap (of_z w64) e)) never
+divides : (c : goal.Joined-else-a-least) → (c.args.a ≡ neg_ℤ (pos (2 ^ (width_of c.args.sort - 1)))
+    → c.args.b ≡ negsuc 0 → ⊥) → divide int_rem (width_of c.args.sort) c.args.a c.args.b
+    ≡ Ok (int_rem c.args.a c.args.b)
+divides c never = divide_ok int_rem (width_of c.args.sort) c.args.a c.args.b
+    (λ e. c.if-b-eq0.false (ap (of_z w64) e)) never
 
-value : (c : goal.Joined-else-a-least) → (c.args.a ≡ neg_ℤ (pos (2 ^ (width_of c.args.sort - 1))) → c.args.b ≡ negsuc 0 → ⊥)
-    → Ok (again (int_rem (again c.args.a) (again c.args.b))) ≡ divide int_rem (width_of c.args.sort) c.args.a c.args.b
+value : (c : goal.Joined-else-a-least) → (c.args.a ≡ neg_ℤ (pos (2 ^ (width_of c.args.sort - 1)))
+    → c.args.b ≡ negsuc 0 → ⊥)
+    → Ok (again (int_rem (again c.args.a) (again c.args.b))) ≡ divide int_rem (width_of c.args.sort)
+    c.args.a c.args.b
 value c never = ap Ok (rem_is w64 c.args.a c.args.b c.ranges.a c.ranges.b) ∙ sym (divides c never)
 
 pub returns-else-a-least : goal.returns-else-a-least
 returns-else-a-least c = elim c.else-a-least.branch [
-  | else-a-least-via-then-a-least+else-b-eqminus1 w ↦ value c (λ e f. w.if-b-eqminus1.false (ap (of_z w64) f))
-  | else-a-least-via-else-a-least w ↦ value c (λ e f. w.if-a-least.false (ap (of_z w64) (e ∙ sym c.least.ensures)))
+  | else-a-least-via-then-a-least+else-b-eqminus1 w ↦ value c
+      (λ e f. w.if-b-eqminus1.false (ap (of_z w64) f))
+  | else-a-least-via-else-a-least w ↦ value c
+      (λ e f. w.if-a-least.false (ap (of_z w64) (e ∙ sym c.least.ensures)))
 ]

@@ -7,7 +7,8 @@ pub returns-in-Attribute : goal.returns-in-Attribute
 returns-in-Attribute c =
     let fits : FitsSigned w64 c.from.result = search rules in
     let own : FitsSigned w64 (pos c.args.number) = rw c.from.ensures at fits in
-    rw c.in-Attribute.is (to_z-of_z w64 c.from.result fits ∙ c.from.ensures ∙ sym (int_wrap_fits w64 (pos c.args.number) own) ∙ sym (wrap_64 (pos c.args.number)))
+    rw c.in-Attribute.is (to_z-of_z w64 c.from.result fits ∙ c.from.ensures
+    ∙ sym (int_wrap_fits w64 (pos c.args.number) own) ∙ sym (wrap_64 (pos c.args.number)))
 
 pub returns-in-Method : goal.returns-in-Method
 returns-in-Method c =

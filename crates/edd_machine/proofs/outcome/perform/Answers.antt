@@ -13,13 +13,15 @@ pub returns-in-Pop : goal.returns-in-Pop
 returns-in-Pop c = λ env s. rw c.in-Pop.is (c.pop.ensures c.args.sort c.args.values.now env s)
 
 pub returns-in-Duplicate : goal.returns-in-Duplicate
-returns-in-Duplicate c = λ env s. rw c.in-Duplicate.is (c.duplicate.ensures c.args.sort c.args.values.now env s)
+returns-in-Duplicate c =
+    λ env s. rw c.in-Duplicate.is (c.duplicate.ensures c.args.sort c.args.values.now env s)
 
 pub returns-in-Operate : goal.returns-in-Operate
 returns-in-Operate c = λ env s. rw c.in-Operate.is (c.operate_two.ensures c.args.values.now env s)
 
 pub returns-in-Compare : goal.returns-in-Compare
-returns-in-Compare c = λ env s. rw c.in-Compare.is (c.compare_two.ensures c.args.sort c.args.values.now env s)
+returns-in-Compare c = λ env s. rw c.in-Compare.is
+    (c.compare_two.ensures c.args.sort c.args.values.now env s)
 
 pub returns-in-Negate : goal.returns-in-Negate
 returns-in-Negate c = λ env s. rw c.in-Negate.is (c.negate_top.ensures c.args.values.now env s)
@@ -28,18 +30,23 @@ pub returns-in-Not : goal.returns-in-Not
 returns-in-Not c = λ env s. rw c.in-Not.is (c.not_top.ensures c.args.sort c.args.values.now env s)
 
 pub returns-in-Complement : goal.returns-in-Complement
-returns-in-Complement c = λ env s. rw c.in-Complement.is (c.complement_top.ensures c.args.sort c.args.values.now env s)
+returns-in-Complement c =
+    λ env s. rw c.in-Complement.is (c.complement_top.ensures c.args.sort c.args.values.now env s)
 
 pub returns-in-JumpIfZero : goal.returns-in-JumpIfZero
-returns-in-JumpIfZero c = λ env s. rw c.in-JumpIfZero.is (c.jump_if_zero.ensures c.args.sort c.args.values.now env s)
+returns-in-JumpIfZero c =
+    λ env s. rw c.in-JumpIfZero.is (c.jump_if_zero.ensures c.args.sort c.args.values.now env s)
 
 pub returns-in-JumpIfNotZero : goal.returns-in-JumpIfNotZero
-returns-in-JumpIfNotZero c = λ env s. rw c.in-JumpIfNotZero.is (c.jump_if_not_zero.ensures c.args.sort c.args.values.now env s)
+returns-in-JumpIfNotZero c = λ env s. rw c.in-JumpIfNotZero.is
+    (c.jump_if_not_zero.ensures c.args.sort c.args.values.now env s)
 
 pub returns-in-Number : goal.returns-in-Number
-returns-in-Number c = λ env s. rw c.in-Number.is (c.give_number.ensures c.args.sort c.args.values.now env s)
+returns-in-Number c = λ env s. rw c.in-Number.is
+    (c.give_number.ensures c.args.sort c.args.values.now env s)
 
 pub returns-in-Case : goal.returns-in-Case
 returns-in-Case c =
     let fits : FitsSigned w64 c.in-Case.label = search rules in
-    λ env s. rw c.in-Case.is (simp to_z-of_z at (c.case.ensures c.args.sort c.args.values.now env s))
+    λ env s. rw c.in-Case.is
+    (simp to_z-of_z at (c.case.ensures c.args.sort c.args.values.now env s))

@@ -10,8 +10,11 @@ use Rattle.edd_machine.proofs.reading.run.Given as goal
 abbrev pub invariant-loop-instruction : goal.invariant-loop-instruction
 invariant-loop-instruction l = record {
   state : IsStateIn l.image l.fn.unit (at_place l.image l.fn.unit l.values l.place l.operands);
-  gives : (r : Given) → Gives (environment_of (contents_in l.image)) (at_place l.image l.fn.unit l.values l.place l.operands) r
-      → Gives (environment_of (contents_in l.image)) (opening (running_unit l.image l.fn.unit) l.fn.unit.slots l.values) (after l.records.items r);
+  gives : (r : Given) → Gives (environment_of (contents_in l.image))
+      (at_place l.image l.fn.unit l.values l.place l.operands) r
+      → Gives (environment_of (contents_in l.image))
+      (opening (running_unit l.image l.fn.unit) l.fn.unit.slots l.values)
+      (after l.records.items r);
 }
 
 abbrev pub decreases-loop-instruction : goal.decreases-loop-instruction

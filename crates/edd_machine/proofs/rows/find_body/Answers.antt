@@ -8,18 +8,39 @@ use Rattle.edd_machine.proofs.rows.find_body.Goals as goal
 
 pub returns-clause-unit : goal.returns-clause-unit
 returns-clause-unit c =
-    let found : Some (unit_at c.bytes-bytes.result.now (attribute_fields c.bytes-bytes.result.now c.in_ok-row.row)) ≡ option_map (unit_at c.bytes-bytes.result.now) (body_of (contents_in c.bytes-bytes.result.now) c.args.method) = ap (option_map (unit_at c.bytes-bytes.result.now)) c.in_ok-row.ensures.row in
-    let at : Some c.unit_of.result ≡ option_map (unit_at c.args.image.now) (body_of (contents_in c.args.image.now) c.args.method) = rw c.bytes-bytes.ensures.value at (ap Some c.unit_of.ensures ∙ found) in
-    (is_body_unit c.args.image.now c.args.method c.unit_of.result c.bytes-bytes.ensures.valid at).unit
+    let found : Some (unit_at c.bytes-bytes.result.now
+    (attribute_fields c.bytes-bytes.result.now c.in_ok-row.row))
+    ≡ option_map (unit_at c.bytes-bytes.result.now)
+    (body_of (contents_in c.bytes-bytes.result.now) c.args.method) =
+    ap (option_map (unit_at c.bytes-bytes.result.now)) c.in_ok-row.ensures.row in
+    let at : Some c.placed_unit.result ≡ option_map (unit_at c.args.image.now)
+    (body_of (contents_in c.args.image.now) c.args.method) = rw c.bytes-bytes.ensures.sound at
+    (ap Some c.placed_unit.ensures ∙ found) in
+    (is_body_unit c.args.image.now c.args.method c.placed_unit.result c.bytes-bytes.ensures.valid
+    at).unit
 
 pub returns-clause-sort : goal.returns-clause-sort
 returns-clause-sort c =
-    let found : Some (unit_at c.bytes-bytes.result.now (attribute_fields c.bytes-bytes.result.now c.in_ok-row.row)) ≡ option_map (unit_at c.bytes-bytes.result.now) (body_of (contents_in c.bytes-bytes.result.now) c.args.method) = ap (option_map (unit_at c.bytes-bytes.result.now)) c.in_ok-row.ensures.row in
-    let at : Some c.unit_of.result ≡ option_map (unit_at c.args.image.now) (body_of (contents_in c.args.image.now) c.args.method) = rw c.bytes-bytes.ensures.value at (ap Some c.unit_of.ensures ∙ found) in
-    (is_body_unit c.args.image.now c.args.method c.unit_of.result c.bytes-bytes.ensures.valid at).sort
+    let found : Some (unit_at c.bytes-bytes.result.now
+    (attribute_fields c.bytes-bytes.result.now c.in_ok-row.row))
+    ≡ option_map (unit_at c.bytes-bytes.result.now)
+    (body_of (contents_in c.bytes-bytes.result.now) c.args.method) =
+    ap (option_map (unit_at c.bytes-bytes.result.now)) c.in_ok-row.ensures.row in
+    let at : Some c.placed_unit.result ≡ option_map (unit_at c.args.image.now)
+    (body_of (contents_in c.args.image.now) c.args.method) = rw c.bytes-bytes.ensures.sound at
+    (ap Some c.placed_unit.ensures ∙ found) in
+    (is_body_unit c.args.image.now c.args.method c.placed_unit.result c.bytes-bytes.ensures.valid
+    at).sort
 
 pub returns-clause-slots : goal.returns-clause-slots
 returns-clause-slots c =
-    let found : Some (unit_at c.bytes-bytes.result.now (attribute_fields c.bytes-bytes.result.now c.in_ok-row.row)) ≡ option_map (unit_at c.bytes-bytes.result.now) (body_of (contents_in c.bytes-bytes.result.now) c.args.method) = ap (option_map (unit_at c.bytes-bytes.result.now)) c.in_ok-row.ensures.row in
-    let at : Some c.unit_of.result ≡ option_map (unit_at c.args.image.now) (body_of (contents_in c.args.image.now) c.args.method) = rw c.bytes-bytes.ensures.value at (ap Some c.unit_of.ensures ∙ found) in
-    (is_body_unit c.args.image.now c.args.method c.unit_of.result c.bytes-bytes.ensures.valid at).slots
+    let found : Some (unit_at c.bytes-bytes.result.now
+    (attribute_fields c.bytes-bytes.result.now c.in_ok-row.row))
+    ≡ option_map (unit_at c.bytes-bytes.result.now)
+    (body_of (contents_in c.bytes-bytes.result.now) c.args.method) =
+    ap (option_map (unit_at c.bytes-bytes.result.now)) c.in_ok-row.ensures.row in
+    let at : Some c.placed_unit.result ≡ option_map (unit_at c.args.image.now)
+    (body_of (contents_in c.args.image.now) c.args.method) = rw c.bytes-bytes.ensures.sound at
+    (ap Some c.placed_unit.ensures ∙ found) in
+    (is_body_unit c.args.image.now c.args.method c.placed_unit.result c.bytes-bytes.ensures.valid
+    at).slots

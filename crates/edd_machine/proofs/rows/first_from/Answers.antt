@@ -11,7 +11,8 @@ loop-low-preserved-then-rank_at-key c =
     record {
       rises = omega arith;
       ends = c.loop-low.invariant.ends;
-      below = below_middle f c.args.count middle c.args.key c.requires.rising (omega arith) (omega (arith, c.rank_at.ensures));
+      below = below_middle f c.args.count middle c.args.key c.requires.rising (omega arith)
+          (omega (arith, c.rank_at.ensures));
       above = c.loop-low.invariant.above;
     }
 
@@ -23,5 +24,6 @@ loop-low-preserved c =
       rises = omega arith;
       ends = omega arith;
       below = c.loop-low.invariant.below;
-      above = above_middle f c.args.count middle c.args.key c.requires.rising (omega (arith, c.rank_at.ensures));
+      above = above_middle f c.args.count middle c.args.key c.requires.rising
+          (omega (arith, c.rank_at.ensures));
     }

@@ -8,7 +8,8 @@ invariant-loop-low l = record {
   rises : l.low ≤ l.high;
   ends : l.high ≤ l.count;
   below : (i : ℕ) → i < l.low → rank_of (attribute_fields l.bytes (l.start + 16 * i)) < l.key;
-  above : (i : ℕ) → l.high ≤ i → i < l.count → l.key ≤ rank_of (attribute_fields l.bytes (l.start + 16 * i));
+  above : (i : ℕ) → l.high ≤ i → i < l.count
+      → l.key ≤ rank_of (attribute_fields l.bytes (l.start + 16 * i));
 }
 
 abbrev pub decreases-loop-low : goal.decreases-loop-low

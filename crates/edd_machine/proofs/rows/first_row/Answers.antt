@@ -10,17 +10,25 @@ pub attribute_count-count-requires : goal.attribute_count-count-requires
 attribute_count-count-requires c = has_header _ _ refl c.requires.valid
 
 pub first_from-requires-clause-room : goal.first_from-requires-clause-room
-first_from-requires-clause-room c = omega (arith, rooms _ (valid_sections _ c.requires.valid), ap (λ (s : Starts). s.attribute_rows) c.requires.starts, c.attribute_count-count.ensures)
+first_from-requires-clause-room c = omega (
+  arith,
+  rooms _ (valid_sections _ c.requires.valid),
+  ap (λ (s : Starts). s.attribute_rows) c.requires.starts,
+  c.attribute_count-count.ensures,
+)
 
 pub first_from-requires-clause-rising : goal.first_from-requires-clause-rising
 first_from-requires-clause-rising c =
-    let start : c.args.starts.attribute_rows ≡ attribute_rows_start c.args.bytes.now = ap (λ (s : Starts). s.attribute_rows) c.requires.starts in
-    let rises = image_rises c.args.bytes.now c.requires.valid (record { below = λ i. (c.type_inv.bytes i).fits }) in
+    let start : c.args.starts.attribute_rows ≡ attribute_rows_start c.args.bytes.now =
+    ap (λ (s : Starts). s.attribute_rows) c.requires.starts in
+    let rises = image_rises c.args.bytes.now c.requires.valid
+    (record { below = λ i. (c.type_inv.bytes i).fits }) in
     rw (start, c.attribute_count-count.ensures) rises
 
 pub returns : goal.returns
 returns c =
-    let start : c.args.starts.attribute_rows ≡ attribute_rows_start c.args.bytes.now = ap (λ (s : Starts). s.attribute_rows) c.requires.starts in
+    let start : c.args.starts.attribute_rows ≡ attribute_rows_start c.args.bytes.now =
+    ap (λ (s : Starts). s.attribute_rows) c.requires.starts in
     record {
       end = omega (arith, c.first_from.ensures.end, c.attribute_count-count.ensures);
       below = rw start at c.first_from.ensures.below;

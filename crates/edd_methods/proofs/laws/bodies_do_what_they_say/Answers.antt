@@ -5,4 +5,5 @@ pub returns-clause-whole : goal.returns-clause-whole
 returns-clause-whole c = body_is_whole
 
 pub returns-clause-same : goal.returns-clause-same
-returns-clause-same c text machine env block_of body means n = body_same text machine env block_of n body means
+returns-clause-same c text machine env block_of body means n = body_same text machine env block_of n
+    body means

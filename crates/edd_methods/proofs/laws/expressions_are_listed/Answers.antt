@@ -7,7 +7,9 @@ use Rattle.edd_methods.proofs.laws.expressions_are_listed.Goals as goal
 
 pub returns-clause-means : goal.returns-clause-means
 returns-clause-means c text machine env block_of body slots few all =
-    each_in_listed (Means block_of text machine env) body (each_slot (slots_in body) (2 ^ 8) few body slots) all
+    each_in_listed (Means block_of text machine env) body
+    (each_slot (slots_in body) (2 ^ 8) few body slots) all
 
 pub returns-clause-spelled : goal.returns-clause-spelled
-returns-clause-spelled c block_of body slots few all = each_in_listed (IsSpelled block_of) body (each_slot (slots_in body) (2 ^ 8) few body slots) all
+returns-clause-spelled c block_of body slots few all = each_in_listed (IsSpelled block_of) body
+    (each_slot (slots_in body) (2 ^ 8) few body slots) all

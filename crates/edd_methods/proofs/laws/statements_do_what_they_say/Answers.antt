@@ -5,4 +5,5 @@ pub returns-clause-whole : goal.returns-clause-whole
 returns-clause-whole c = statement_is_whole
 
 pub returns-clause-same : goal.returns-clause-same
-returns-clause-same c text machine env block_of x means n = statement_same text machine env block_of n x means
+returns-clause-same c text machine env block_of x means n = statement_same text machine env block_of
+    n x means

@@ -1,5 +1,5 @@
 use Rattle.std.proofs.Common.{◌≡◌, map}
-use Rattle.edd_syntax.specs.ItemView.{attribute_of}
+use Rattle.edd_syntax.specs.ItemView.{numbered_attribute}
 use Rattle.edd_syntax.specs.Statement.{body_from}
 use Rattle.edd_syntax.specs.TreeView.{part_of}
 use Rattle.std.specs.Borrow.{Bor}
@@ -9,4 +9,5 @@ use Rattle.edd_methods.proofs.method.body_among.Given as goal
 
 -- the attributes so far are no body
 abbrev pub invariant-loop-attribute : goal.invariant-loop-attribute
-invariant-loop-attribute l = body_in (map (attribute_of (λ r. r)) (drop l.attribute-index l.attributes)) ≡ body_in (map (attribute_of (λ r. r)) l.attributes)
+invariant-loop-attribute l = body_in (map numbered_attribute (drop l.attribute-index l.attributes))
+    ≡ body_in (map numbered_attribute l.attributes)

@@ -2,7 +2,7 @@ use Rattle.std.proofs.Common.{◌≡◌, ◌∙◌, refl, sym, ap, map, List, []
 use Rattle.std.specs.Prelude.{◌==◌, Vec, vec_len}
 use Rattle.std.specs.declared.alloc.Global.{Global}
 use Rattle.std.proofs.lemmas.Bool.{eqb-true}
-use Rattle.edd_syntax.specs.TreeView.{argument_of, expr_of}
+use Rattle.edd_syntax.specs.TreeView.{numbered_argument, numbered_expr}
 use Rattle.edd_syntax.proofs.TreeRows.{call_is}
 use Rattle.edd_methods.proofs.WrittenPieces.{abort_when, no_abort_when}
 use Rattle.edd_methods.proofs.pieces.is_abort_call.Goals as goal
@@ -22,14 +22,18 @@ pub returns-then-is_empty : goal.returns-then-is_empty
 returns-then-is_empty c =
     let a = c.in-Call in
     c.is_abort.ensures
-    ∙ abort_when (expr_of (λ r. r) c.args.e.now) a.function (map (argument_of (λ r. r)) a.arguments.items)
+    ∙ abort_when (numbered_expr c.args.e.now) a.function (map numbered_argument a.arguments.items)
     (call_is (λ r. r) c.args.e.now a.line a.function a.arguments a.is)
-    (ap (map (argument_of (λ r. r))) (none a.arguments.items (ap (λ n. n == 0) (counted a.arguments) ∙ sym c.is_empty.ensures ∙ c.if-is_empty.true)))
+    (ap (map numbered_argument)
+    (none a.arguments.items (ap (λ n. n == 0) (counted a.arguments) ∙ sym c.is_empty.ensures
+    ∙ c.if-is_empty.true)))
 
 pub returns-else-is_empty : goal.returns-else-is_empty
 returns-else-is_empty c =
     let a = c.in-Call in
     c.if-is_empty.false
-    ∙ no_abort_when (expr_of (λ r. r) c.args.e.now) a.function (map (argument_of (λ r. r)) a.arguments.items)
+    ∙ no_abort_when (numbered_expr c.args.e.now) a.function
+    (map numbered_argument a.arguments.items)
     (call_is (λ r. r) c.args.e.now a.line a.function a.arguments a.is)
-    (some (argument_of (λ r. r)) a.arguments.items (ap (λ n. n == 0) (counted a.arguments) ∙ sym c.is_empty.ensures ∙ c.if-is_empty.false))
+    (some numbered_argument a.arguments.items (ap (λ n. n == 0) (counted a.arguments)
+    ∙ sym c.is_empty.ensures ∙ c.if-is_empty.false))

@@ -5,4 +5,5 @@ use Rattle.edd_image.specs.Spelling.{spelling}
 use Rattle.edd_methods.proofs.statements.write_jump.Goals as goal
 
 pub returns : goal.returns
-returns c = c.in_ok-put.ensures.code ∙ ap (λ n. c.args.code.now ++ spelling (instruction.Jump n)) (sym (mod-eq_of_lt (omega arith)))
+returns c = c.in_ok-put.ensures.code ∙ ap (λ n. c.args.code.now ++ spelling (instruction.Jump n))
+    (sym (mod-eq_of_lt (omega arith)))

@@ -3,14 +3,15 @@ use Rattle.std.specs.Prelude.{string_bytes}
 use Rattle.edd_syntax.specs.NameRules.{faults_along}
 use Rattle.edd_syntax.specs.Numbers.{kind_of}
 use Rattle.edd_syntax.specs.Resolution.{along}
-use Rattle.edd_name_meanings.specs.Directory.{unit_of}
+use Rattle.edd_name_meanings.specs.Directory.{description_of}
 use Rattle.edd_name_meanings.specs.Paths.{Reaches}
 use Rattle.edd_name_meanings.proofs.follow.follow.Given as goal
 
 -- at this step, the rest of the path has the faults and the meaning of the whole
 abbrev pub invariant-loop-member : goal.invariant-loop-member
 invariant-loop-member l =
-    Reaches (unit_of l.names) l.allowed
-    (faults_along (unit_of l.names) l.allowed (string_bytes l.path.base) (kind_of l.fn.from) (Some l.fn.from) (map string_bytes l.path.members.items))
-    (along (unit_of l.names) l.fn.from (map string_bytes l.path.members.items))
+    Reaches (description_of l.names) l.allowed
+    (faults_along (description_of l.names) l.allowed (string_bytes l.path.base) (kind_of l.fn.from)
+    (Some l.fn.from) (map string_bytes l.path.members.items))
+    (along (description_of l.names) l.fn.from (map string_bytes l.path.members.items))
     l.here (map string_bytes (drop l.member-index l.path.members.items))

@@ -11,4 +11,7 @@ use Rattle.edd_name_meanings.proofs.members.add_attributes.Given as goal
 
 -- the map has what it had, and the members so far
 abbrev pub invariant-loop-attribute : goal.invariant-loop-attribute
-invariant-loop-attribute l = (q : Name) → member_named q l.into ≡ option_or (member_named q l.fn.into) (found_up_to (attribute_of path_of) members_in (λ m. bytes_eq m.name q) l.attribute-index l.attributes)
+invariant-loop-attribute l = (q : Name) → member_named q l.into
+    ≡ option_or (member_named q l.fn.into)
+    (found_up_to (attribute_of path_of) members_in (λ m. bytes_eq m.name q) l.attribute-index
+    l.attributes)

@@ -10,4 +10,6 @@ use Rattle.edd_name_meanings.proofs.members.add_collections.Given as goal
 
 -- the collections are those among the items so far
 abbrev pub invariant-loop-item : goal.invariant-loop-item
-invariant-loop-item l = AreCollections l.all.items (filter (λ i. same_kind (kind_of_item i.sort) kind.Collection) (map (item_of path_of) (take l.item-index l.items)))
+invariant-loop-item l = AreCollections l.all.items
+    (filter (λ i. same_kind (kind_of_item i.sort) kind.Collection)
+    (map (item_of path_of) (take l.item-index l.items)))

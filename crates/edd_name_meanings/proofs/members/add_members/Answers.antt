@@ -22,12 +22,24 @@ loop-member-init c = λ q. sym (or_none (member_named q c.args.into.now))
 
 pub loop-member-preserved : goal.loop-member-preserved
 loop-member-preserved c = λ q.
-    gathered_more (member_of path_of) (λ m. m ∷ []) (λ m. bytes_eq m.name q) (member_named q c.args.into.now) (member_named q c.loop-member.into) (member_named q c.put_first.new.map) c.loop-member.member-index c.args.members.now c.member-item.result (omega arith) c.member-item.is
-    (ap (option_map (λ r. member_of path_of r.now)) (c.in_ok-put_first.ensures.sound q) ∙ mapped_or (λ r. member_of path_of r.now) (at q c.loop-member.into) _ ∙ ap (option_or (member_named q c.loop-member.into)) (mapped_if (λ r. member_of path_of r.now) (bytes_eq c.deref.result.now q) _ ∙ ap (λ n. find (λ y. bytes_eq n q) (member_of path_of c.member-item.result ∷ [])) c.deref.ensures))
+    gathered_more (member_of path_of) (λ m. m ∷ []) (λ m. bytes_eq m.name q)
+    (member_named q c.args.into.now) (member_named q c.loop-member.into)
+    (member_named q c.put_first.new.map) c.loop-member.member-index c.args.members.now
+    c.member-item.result (omega arith) c.member-item.is
+    (ap (option_map (λ r. member_of path_of r.now)) (c.in_ok-put_first.ensures.sound q)
+    ∙ mapped_or (λ r. member_of path_of r.now) (at q c.loop-member.into) _
+    ∙ ap (option_or (member_named q c.loop-member.into))
+    (mapped_if (λ r. member_of path_of r.now) (bytes_eq c.deref.result.now q) _
+    ∙ ap (λ n. find (λ y. bytes_eq n q) (member_of path_of c.member-item.result ∷ []))
+    c.deref.ensures))
     (c.loop-member.invariant q)
 
 pub returns-clause-sound : goal.returns-clause-sound
 returns-clause-sound c = λ q.
     c.loop-member.invariant q
-    ∙ ap (λ xs. option_or (member_named q c.args.into.now) (find (λ m. bytes_eq m.name q) (flat_map (λ m. m ∷ []) (map (member_of path_of) xs)))) (take_all c.loop-member.member-index c.args.members.now (omega arith))
-    ∙ ap (λ ms. option_or (member_named q c.args.into.now) (find (λ m. bytes_eq m.name q) ms)) (flat_map_single (λ m. m) (map (member_of path_of) c.args.members.now) ∙ map_same (map (member_of path_of) c.args.members.now))
+    ∙ ap (λ xs. option_or (member_named q c.args.into.now)
+    (find (λ m. bytes_eq m.name q) (flat_map (λ m. m ∷ []) (map (member_of path_of) xs))))
+    (take_all c.loop-member.member-index c.args.members.now (omega arith))
+    ∙ ap (λ ms. option_or (member_named q c.args.into.now) (find (λ m. bytes_eq m.name q) ms))
+    (flat_map_single (λ m. m) (map (member_of path_of) c.args.members.now)
+    ∙ map_same (map (member_of path_of) c.args.members.now))

@@ -10,4 +10,6 @@ use Rattle.edd_name_meanings.proofs.members.add_members.Given as goal
 
 -- the map has what it had, and the members so far
 abbrev pub invariant-loop-member : goal.invariant-loop-member
-invariant-loop-member l = (q : Name) → member_named q l.into ≡ option_or (member_named q l.fn.into) (found_up_to (member_of path_of) (λ m. m ∷ []) (λ m. bytes_eq m.name q) l.member-index l.members)
+invariant-loop-member l = (q : Name) → member_named q l.into ≡ option_or (member_named q l.fn.into)
+    (found_up_to (member_of path_of) (λ m. m ∷ []) (λ m. bytes_eq m.name q) l.member-index
+    l.members)

@@ -20,8 +20,16 @@ number_item-requires c =
 
 pub loop-item-preserved : goal.loop-item-preserved
 loop-item-preserved c = (
-  λ k. c.in_ok-number_item.ensures.counted k ∙ ap (λ n. n + (if same_kind (kind_of_item (item_of path_of c.item-item.result).sort) k then 1 else 0)) (c.loop-item.invariant.0 k) ∙ counted_more (item_of path_of) k c.loop-item.item-index c.args.items.now c.item-item.result (omega arith) c.item-item.is,
+  λ k. c.in_ok-number_item.ensures.counted k
+      ∙ ap (λ n. n + (if same_kind (kind_of_item (item_of path_of c.item-item.result).sort) k then 1
+      else 0)) (c.loop-item.invariant.0 k) ∙ counted_more (item_of path_of) k c.loop-item.item-index
+      c.args.items.now c.item-item.result (omega arith) c.item-item.is,
   λ q. c.in_ok-number_item.ensures.sound q
-      ∙ ap (λ o. option_or o (if_named (item_of path_of c.item-item.result).name q (item_number (kind_of_item (item_of path_of c.item-item.result).sort) (count_in c.loop-item.counts (kind_of_item (item_of path_of c.item-item.result).sort))))) (c.loop-item.invariant.1 q)
-      ∙ numbered_more (item_of path_of) c.loop-item.item-index c.args.items.now c.item-item.result q _ (omega arith) c.item-item.is (c.loop-item.invariant.0 (kind_of_item (item_of path_of c.item-item.result).sort)),
+      ∙ ap (λ o. option_or o (if_named (item_of path_of c.item-item.result).name q
+      (item_number (kind_of_item (item_of path_of c.item-item.result).sort)
+      (count_in c.loop-item.counts (kind_of_item (item_of path_of c.item-item.result).sort)))))
+      (c.loop-item.invariant.1 q)
+      ∙ numbered_more (item_of path_of) c.loop-item.item-index c.args.items.now c.item-item.result q
+      _ (omega arith) c.item-item.is
+      (c.loop-item.invariant.0 (kind_of_item (item_of path_of c.item-item.result).sort)),
 )

@@ -12,4 +12,5 @@ use Rattle.edd_name_meanings.proofs.numbering.number_all.Given as goal
 abbrev pub invariant-loop-item : goal.invariant-loop-item
 invariant-loop-item l =
     ((k : Kind) → count_in l.counts k ≡ count_of k (so_far (item_of path_of) l.item-index l.items))
-    × ((q : Name) → at q l.numbers ≡ look_up q (numbered_names [] (so_far (item_of path_of) l.item-index l.items)))
+    × ((q : Name) → at q l.numbers
+    ≡ look_up q (numbered_names [] (so_far (item_of path_of) l.item-index l.items)))

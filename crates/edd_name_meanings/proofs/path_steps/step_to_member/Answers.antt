@@ -3,7 +3,7 @@ use Rattle.std.specs.Prelude.{option_and_then}
 use Rattle.edd_syntax.specs.ItemView.{member_of}
 use Rattle.edd_syntax.specs.TreeView.{path_of}
 use Rattle.edd_syntax.specs.Resolution.{item_named, of_kind}
-use Rattle.edd_name_meanings.specs.Directory.{unit_of}
+use Rattle.edd_name_meanings.specs.Directory.{description_of}
 use Rattle.edd_name_meanings.proofs.path_steps.step_to_member.Goals as goal
 
 pub returns-in-Some-clause-sound : goal.returns-in-Some-clause-sound
@@ -12,5 +12,6 @@ returns-in-Some-clause-sound c = (
   sym c.in-Some.ensures,
   refl,
   refl,
-  c.item_of_kind.ensures ∙ ap (option_and_then (of_kind c.in-Some.of)) (c.item.ensures ∙ ap (item_named (unit_of c.args.names.now)) c.deref.ensures),
+  c.item_of_kind.ensures ∙ ap (option_and_then (of_kind c.in-Some.of))
+      (c.item.ensures ∙ ap (item_named (description_of c.args.names.now)) c.deref.ensures),
 )

@@ -5,4 +5,5 @@ use Rattle.edd_name_meanings.proofs.references.find_local.Given as goal
 
 -- the locals so far have other names
 abbrev pub invariant-loop-local : goal.invariant-loop-local
-invariant-loop-local l = look_up l.name (scope_of (drop l.local-index l.scope)) ≡ look_up l.name (scope_of l.scope)
+invariant-loop-local l = look_up l.name (scope_of (drop l.local-index l.scope))
+    ≡ look_up l.name (scope_of l.scope)

@@ -8,4 +8,5 @@ use Rattle.edd_name_rules.proofs.attributes.missing_attribute.Given as goal
 
 -- the items so far have no missing attribute
 abbrev pub invariant-loop-item : goal.invariant-loop-item
-invariant-loop-item l = first_from missing_in (item_of path_of) items_split l.item-index l.items ≡ first_from missing_in (item_of path_of) items_split 0 l.items
+invariant-loop-item l = first_from missing_in (item_of path_of) items_split l.item-index l.items
+    ≡ first_from missing_in (item_of path_of) items_split 0 l.items

@@ -13,8 +13,13 @@ use Rattle.edd_name_rules.proofs.attributes.missing_in_item.Goals as goal
 pub returns-in-Method : goal.returns-in-Method
 returns-in-Method c =
     c.missing_word-in-Method.ensures
-    ∙ ap (λ w. first_of (missing_among c.deref-in-Method.result.now (map (attribute_of path_of) c.deref-in-Method-2.result.now) (w ∷ []))) c.word-in-Method.ensures
-    ∙ ap (λ n. first_of (missing_among n (map (attribute_of path_of) c.deref-in-Method-2.result.now) (attr_word attr.Definition ∷ []))) c.deref-in-Method.ensures
-    ∙ ap (λ xs. first_of (missing_among (string_bytes c.in-Method.d.name) (map (attribute_of path_of) xs) (attr_word attr.Definition ∷ []))) c.deref-in-Method-2.ensures.value
+    ∙ ap (λ w. first_of (missing_among c.deref-in-Method.result.now
+    (map (attribute_of path_of) c.deref-in-Method-2.result.now) (w ∷ [])))
+    c.word-in-Method.ensures
+    ∙ ap (λ n. first_of (missing_among n (map (attribute_of path_of) c.deref-in-Method-2.result.now)
+    (attr_word attr.Definition ∷ []))) c.deref-in-Method.ensures
+    ∙ ap (λ xs. first_of (missing_among (string_bytes c.in-Method.d.name)
+    (map (attribute_of path_of) xs) (attr_word attr.Definition ∷ [])))
+    c.deref-in-Method-2.ensures.value
     ∙ sym (ap first_of (one_item (item_of path_of (Method c.in-Method.d))))
     ∙ ap (λ i. first_of (missing_in (item_of path_of i ∷ []))) (sym c.in-Method.is)

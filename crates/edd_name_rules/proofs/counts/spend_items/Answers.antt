@@ -8,8 +8,12 @@ use Rattle.edd_name_rules.proofs.counts.spend_items.Goals as goal
 
 pub loop-item-preserved : goal.loop-item-preserved
 loop-item-preserved c =
-    goes_on (count_of c.args.kind) (item_of path_of) (items_split c.args.kind) _ _ c.loop-item.item-index c.args.items.now c.item-item.result _ (omega arith) c.item-item.is c.in_ok-left.ensures c.loop-item.invariant
+    goes_on (count_of c.args.kind) (item_of path_of) (items_split c.args.kind) _ _
+    c.loop-item.item-index c.args.items.now c.item-item.result _ (omega arith) c.item-item.is
+    c.in_ok-left.ensures c.loop-item.invariant
 
 pub returns-in_err-left : goal.returns-in_err-left
 returns-in_err-left c =
-    c.from_residual.ensures ∙ stops_at (count_of c.args.kind) (item_of path_of) (items_split c.args.kind) _ c.loop-item.item-index c.args.items.now c.item-item.result _ (omega arith) c.item-item.is c.in_err-left.ensures c.loop-item.invariant
+    c.from_residual.ensures ∙ stops_at (count_of c.args.kind) (item_of path_of)
+    (items_split c.args.kind) _ c.loop-item.item-index c.args.items.now c.item-item.result _
+    (omega arith) c.item-item.is c.in_err-left.ensures c.loop-item.invariant

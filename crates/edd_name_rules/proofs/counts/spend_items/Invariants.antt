@@ -9,4 +9,5 @@ use Rattle.edd_name_rules.proofs.counts.spend_items.Given as goal
 -- what is left is enough for those to come exactly if the budget was enough for all
 abbrev pub invariant-loop-item : goal.invariant-loop-item
 invariant-loop-item l =
-    spent_from (count_of l.kind) (item_of path_of) (items_split l.kind) l.left l.item-index l.items ≡ spent_from (count_of l.kind) (item_of path_of) (items_split l.kind) l.fn.budget 0 l.items
+    spent_from (count_of l.kind) (item_of path_of) (items_split l.kind) l.left l.item-index l.items
+    ≡ spent_from (count_of l.kind) (item_of path_of) (items_split l.kind) l.fn.budget 0 l.items

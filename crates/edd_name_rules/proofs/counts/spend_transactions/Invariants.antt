@@ -9,4 +9,6 @@ use Rattle.edd_name_rules.proofs.counts.spend_transactions.Given as goal
 -- what is left is enough for those to come exactly if the budget was enough for all
 abbrev pub invariant-loop-attribute : goal.invariant-loop-attribute
 invariant-loop-attribute l =
-    spent_from transactions_in (attribute_of path_of) transactions_split l.left l.attribute-index l.attributes ≡ spent_from transactions_in (attribute_of path_of) transactions_split l.fn.budget 0 l.attributes
+    spent_from transactions_in (attribute_of path_of) transactions_split l.left l.attribute-index
+    l.attributes ≡ spent_from transactions_in (attribute_of path_of) transactions_split
+    l.fn.budget 0 l.attributes

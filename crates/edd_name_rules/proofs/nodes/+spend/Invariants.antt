@@ -8,4 +8,6 @@ use Rattle.edd_name_rules.proofs.nodes.+spend.Given as goal
 -- what is left is enough for those to come exactly if the budget was enough for all
 abbrev pub invariant-spend_arguments-loop-a : goal.invariant-spend_arguments-loop-a
 invariant-spend_arguments-loop-a l =
-    spent_from (λ xs. argument_nodes (arguments_from xs)) (argument_of path_of) argument_nodes_split l.left l.a-index l.arguments ≡ spent_from (λ xs. argument_nodes (arguments_from xs)) (argument_of path_of) argument_nodes_split l.fn.budget 0 l.arguments
+    spent_from (λ xs. argument_nodes (arguments_from xs)) (argument_of path_of) argument_nodes_split
+    l.left l.a-index l.arguments ≡ spent_from (λ xs. argument_nodes (arguments_from xs))
+    (argument_of path_of) argument_nodes_split l.fn.budget 0 l.arguments

@@ -7,15 +7,22 @@ use Rattle.edd_name_rules.proofs.nodes.+spend_statement.Goals as goal
 
 pub spend_parts-loop-part-preserved : goal.spend_parts-loop-part-preserved
 spend_parts-loop-part-preserved t c =
-    goes_on (λ xs. body_nodes (body_from xs)) (part_of path_of) body_nodes_split _ _ c.loop-part.part-index c.args.parts.now c.part-item.result _ (omega arith) c.part-item.is c.in_ok-left.ensures c.loop-part.invariant
+    goes_on (λ xs. body_nodes (body_from xs)) (part_of path_of) body_nodes_split _ _
+    c.loop-part.part-index c.args.parts.now c.part-item.result _ (omega arith) c.part-item.is
+    c.in_ok-left.ensures c.loop-part.invariant
 
 pub spend_parts-returns-in_err-left : goal.spend_parts-returns-in_err-left
 spend_parts-returns-in_err-left t c =
-    c.from_residual.ensures ∙ stops_at (λ xs. body_nodes (body_from xs)) (part_of path_of) body_nodes_split _ c.loop-part.part-index c.args.parts.now c.part-item.result _ (omega arith) c.part-item.is c.in_err-left.ensures c.loop-part.invariant
+    c.from_residual.ensures ∙ stops_at (λ xs. body_nodes (body_from xs)) (part_of path_of)
+    body_nodes_split _ c.loop-part.part-index c.args.parts.now c.part-item.result _
+    (omega arith) c.part-item.is c.in_err-left.ensures c.loop-part.invariant
 
 pub spend_statement-returns-in-Block : goal.spend_statement-returns-in-Block
-spend_statement-returns-in-Block t c = spent_block _ _ _ _ _ _ _ c.in-Block.is c.deref.ensures.value c.in_ok-left.ensures c.spend_parts.ensures
+spend_statement-returns-in-Block t c = spent_block _ _ _ _ _ _ _ c.in-Block.is c.deref.ensures.value
+    c.in_ok-left.ensures c.spend_parts.ensures
 
-pub spend_statement-returns-in_ok-spend-in-Switch : goal.spend_statement-returns-in_ok-spend-in-Switch
+pub spend_statement-returns-in_ok-spend-in-Switch :
+    goal.spend_statement-returns-in_ok-spend-in-Switch
 spend_statement-returns-in_ok-spend-in-Switch t c =
-    spent_switch _ _ _ _ _ _ _ _ _ c.in-Switch.is c.deref-in-Switch.ensures.value c.in_ok-left.ensures c.in_ok-spend-in-Switch.ensures c.spend_parts-in-Switch.ensures
+    spent_switch _ _ _ _ _ _ _ _ _ c.in-Switch.is c.deref-in-Switch.ensures.value
+    c.in_ok-left.ensures c.in_ok-spend-in-Switch.ensures c.spend_parts-in-Switch.ensures

@@ -8,4 +8,6 @@ use Rattle.edd_name_rules.proofs.nodes.+spend_statement.Given as goal
 -- what is left is enough for those to come exactly if the budget was enough for all
 abbrev pub invariant-spend_parts-loop-part : goal.invariant-spend_parts-loop-part
 invariant-spend_parts-loop-part l =
-    spent_from (λ xs. body_nodes (body_from xs)) (part_of path_of) body_nodes_split l.left l.part-index l.parts ≡ spent_from (λ xs. body_nodes (body_from xs)) (part_of path_of) body_nodes_split l.fn.budget 0 l.parts
+    spent_from (λ xs. body_nodes (body_from xs)) (part_of path_of) body_nodes_split l.left
+    l.part-index l.parts ≡ spent_from (λ xs. body_nodes (body_from xs)) (part_of path_of)
+    body_nodes_split l.fn.budget 0 l.parts

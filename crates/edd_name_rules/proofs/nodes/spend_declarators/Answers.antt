@@ -6,8 +6,12 @@ use Rattle.edd_name_rules.proofs.nodes.spend_declarators.Goals as goal
 
 pub loop-d-preserved : goal.loop-d-preserved
 loop-d-preserved c =
-    goes_on declarator_nodes (declarator_of path_of) declarator_nodes_split _ _ c.loop-d.d-index c.args.declarators.now c.d-item.result _ (omega arith) c.d-item.is c.in_ok-left.ensures c.loop-d.invariant
+    goes_on declarator_nodes (declarator_of path_of) declarator_nodes_split _ _ c.loop-d.d-index
+    c.args.declarators.now c.d-item.result _ (omega arith) c.d-item.is c.in_ok-left.ensures
+    c.loop-d.invariant
 
 pub returns-in_err-left : goal.returns-in_err-left
 returns-in_err-left c =
-    c.from_residual.ensures ∙ stops_at declarator_nodes (declarator_of path_of) declarator_nodes_split _ c.loop-d.d-index c.args.declarators.now c.d-item.result _ (omega arith) c.d-item.is c.in_err-left.ensures c.loop-d.invariant
+    c.from_residual.ensures ∙ stops_at declarator_nodes (declarator_of path_of)
+    declarator_nodes_split _ c.loop-d.d-index c.args.declarators.now c.d-item.result _
+    (omega arith) c.d-item.is c.in_err-left.ensures c.loop-d.invariant

@@ -7,4 +7,6 @@ use Rattle.edd_name_rules.proofs.nodes.spend_declarators.Given as goal
 -- what is left is enough for those to come exactly if the budget was enough for all
 abbrev pub invariant-loop-d : goal.invariant-loop-d
 invariant-loop-d l =
-    spent_from declarator_nodes (declarator_of path_of) declarator_nodes_split l.left l.d-index l.declarators ≡ spent_from declarator_nodes (declarator_of path_of) declarator_nodes_split l.fn.budget 0 l.declarators
+    spent_from declarator_nodes (declarator_of path_of) declarator_nodes_split l.left l.d-index
+    l.declarators ≡ spent_from declarator_nodes (declarator_of path_of) declarator_nodes_split
+    l.fn.budget 0 l.declarators

@@ -9,4 +9,5 @@ use Rattle.edd_name_rules.proofs.repeats.has_option.Given as goal
 -- the parts so far have other words
 abbrev pub invariant-loop-part : goal.invariant-loop-part
 invariant-loop-part l =
-    is_name_in (flat_map type_part_words (map (type_part_of path_of) (drop l.part-index l.parts))) l.word ≡ is_name_in (flat_map type_part_words (map (type_part_of path_of) l.parts)) l.word
+    is_name_in (flat_map type_part_words (map (type_part_of path_of) (drop l.part-index l.parts)))
+    l.word ≡ is_name_in (flat_map type_part_words (map (type_part_of path_of) l.parts)) l.word

@@ -11,13 +11,27 @@ use Rattle.edd_name_rules.proofs.SeenBefore.{at_start, goes_on, stops_at, at_the
 use Rattle.edd_name_rules.proofs.repeats.repeated_attribute.Goals as goal
 
 pub loop-i-init : goal.loop-i-init
-loop-i-init c = at_start (attribute_of path_of) (λ a. attribute_word a ∷ []) repeated_here repeated_words words_step here_same c.args.attributes.now
+loop-i-init c = at_start (attribute_of path_of) (λ a. attribute_word a ∷ []) repeated_here
+    repeated_words words_step here_same c.args.attributes.now
 
 pub loop-i-preserved : goal.loop-i-preserved
-loop-i-preserved c = goes_on (attribute_of path_of) (λ a. attribute_word a ∷ []) repeated_here repeated_words words_step here_same c.loop-i.i c.args.attributes.now c.index-attributes-i.result c.loop-i-test.true c.index-attributes-i.is (c.in_default.ensures ∙ ap (λ ns. first_of (repeated_here ns (attribute_of path_of c.index-attributes-i.result))) (sym (flat_map_single attribute_word (map (attribute_of path_of) (take c.loop-i.i c.args.attributes.now))))) c.loop-i.invariant
+loop-i-preserved c = goes_on (attribute_of path_of) (λ a. attribute_word a ∷ []) repeated_here
+    repeated_words words_step here_same c.loop-i.i c.args.attributes.now c.index-attributes-i.result
+    c.loop-i-test.true c.index-attributes-i.is (c.in_default.ensures
+    ∙ ap (λ ns. first_of (repeated_here ns (attribute_of path_of c.index-attributes-i.result)))
+    (sym (flat_map_single attribute_word
+    (map (attribute_of path_of) (take c.loop-i.i c.args.attributes.now))))) c.loop-i.invariant
 
 pub returns-in-Some : goal.returns-in-Some
-returns-in-Some c = stops_at (attribute_of path_of) (λ a. attribute_word a ∷ []) repeated_here repeated_words words_step here_same c.loop-i.i c.args.attributes.now c.index-attributes-i.result _ c.loop-i-test.true c.index-attributes-i.is (c.in-Some.ensures ∙ ap (λ ns. first_of (repeated_here ns (attribute_of path_of c.index-attributes-i.result))) (sym (flat_map_single attribute_word (map (attribute_of path_of) (take c.loop-i.i c.args.attributes.now))))) c.loop-i.invariant
+returns-in-Some c = stops_at (attribute_of path_of) (λ a. attribute_word a ∷ []) repeated_here
+    repeated_words words_step here_same c.loop-i.i c.args.attributes.now c.index-attributes-i.result
+    _ c.loop-i-test.true c.index-attributes-i.is
+    (c.in-Some.ensures ∙ ap (λ ns. first_of
+    (repeated_here ns (attribute_of path_of c.index-attributes-i.result)))
+    (sym (flat_map_single attribute_word
+    (map (attribute_of path_of) (take c.loop-i.i c.args.attributes.now))))) c.loop-i.invariant
 
 pub returns : goal.returns
-returns c = at_the_end (attribute_of path_of) (λ a. attribute_word a ∷ []) repeated_here repeated_words words_step here_same (λ b. refl) c.loop-i.i c.args.attributes.now (drop_of_length-le c.args.attributes.now (omega arith)) c.loop-i.invariant
+returns c = at_the_end (attribute_of path_of) (λ a. attribute_word a ∷ []) repeated_here
+    repeated_words words_step here_same (λ b. refl) c.loop-i.i c.args.attributes.now
+    (drop_of_length-le c.args.attributes.now (omega arith)) c.loop-i.invariant

@@ -9,8 +9,17 @@ use Rattle.edd_name_rules.proofs.repeats.repeated_in_items.Goals as goal
 
 pub loop-item-preserved : goal.loop-item-preserved
 loop-item-preserved c =
-    goes_on (flat_map (λ i. repeated_words [] i.attributes)) (item_of path_of) (flat_split (λ i. repeated_words [] i.attributes)) c.loop-item.item-index c.args.items.now c.item-item.result (omega arith) c.item-item.is (c.in_default.ensures ∙ ap first_of (sym (flat_one (λ i. repeated_words [] i.attributes) (item_of path_of c.item-item.result)))) c.loop-item.invariant
+    goes_on (flat_map (λ i. repeated_words [] i.attributes)) (item_of path_of)
+    (flat_split (λ i. repeated_words [] i.attributes)) c.loop-item.item-index c.args.items.now
+    c.item-item.result (omega arith) c.item-item.is (c.in_default.ensures
+    ∙ ap first_of (sym (flat_one (λ i. repeated_words [] i.attributes)
+    (item_of path_of c.item-item.result)))) c.loop-item.invariant
 
 pub returns-in-Some : goal.returns-in-Some
 returns-in-Some c =
-    stops_at (flat_map (λ i. repeated_words [] i.attributes)) (item_of path_of) (flat_split (λ i. repeated_words [] i.attributes)) c.loop-item.item-index c.args.items.now c.item-item.result _ (omega arith) c.item-item.is (c.in-Some.ensures ∙ ap first_of (sym (flat_one (λ i. repeated_words [] i.attributes) (item_of path_of c.item-item.result)))) c.loop-item.invariant
+    stops_at (flat_map (λ i. repeated_words [] i.attributes)) (item_of path_of)
+    (flat_split (λ i. repeated_words [] i.attributes)) c.loop-item.item-index c.args.items.now
+    c.item-item.result _ (omega arith) c.item-item.is
+    (c.in-Some.ensures ∙ ap first_of
+    (sym (flat_one (λ i. repeated_words [] i.attributes) (item_of path_of c.item-item.result))))
+    c.loop-item.invariant

@@ -8,4 +8,7 @@ use Rattle.edd_name_rules.proofs.repeats.repeated_in_items.Given as goal
 
 -- the items so far have no attribute twice
 abbrev pub invariant-loop-item : goal.invariant-loop-item
-invariant-loop-item l = first_from (flat_map (λ i. repeated_words [] i.attributes)) (item_of path_of) (flat_split (λ i. repeated_words [] i.attributes)) l.item-index l.items ≡ first_from (flat_map (λ i. repeated_words [] i.attributes)) (item_of path_of) (flat_split (λ i. repeated_words [] i.attributes)) 0 l.items
+invariant-loop-item l = first_from (flat_map (λ i. repeated_words [] i.attributes))
+    (item_of path_of) (flat_split (λ i. repeated_words [] i.attributes)) l.item-index l.items
+    ≡ first_from (flat_map (λ i. repeated_words [] i.attributes)) (item_of path_of)
+    (flat_split (λ i. repeated_words [] i.attributes)) 0 l.items

@@ -10,13 +10,24 @@ use Rattle.edd_name_rules.proofs.SeenBefore.{at_start, goes_on, stops_at, at_the
 use Rattle.edd_name_rules.proofs.repeats.repeated_option.Goals as goal
 
 pub loop-i-init : goal.loop-i-init
-loop-i-init c = at_start (type_part_of path_of) type_part_words (λ b y. repeated b (type_part_words y)) (λ b ys. repeated b (flat_map type_part_words ys)) options_step options_same c.args.parts.now
+loop-i-init c = at_start (type_part_of path_of) type_part_words
+    (λ b y. repeated b (type_part_words y)) (λ b ys. repeated b (flat_map type_part_words ys))
+    options_step options_same c.args.parts.now
 
 pub loop-i-preserved : goal.loop-i-preserved
-loop-i-preserved c = goes_on (type_part_of path_of) type_part_words (λ b y. repeated b (type_part_words y)) (λ b ys. repeated b (flat_map type_part_words ys)) options_step options_same c.loop-i.i c.args.parts.now c.index-parts-i.result c.loop-i-test.true c.index-parts-i.is (c.in_default.ensures) c.loop-i.invariant
+loop-i-preserved c = goes_on (type_part_of path_of) type_part_words
+    (λ b y. repeated b (type_part_words y)) (λ b ys. repeated b (flat_map type_part_words ys))
+    options_step options_same c.loop-i.i c.args.parts.now c.index-parts-i.result c.loop-i-test.true
+    c.index-parts-i.is (c.in_default.ensures) c.loop-i.invariant
 
 pub returns-in-Some : goal.returns-in-Some
-returns-in-Some c = stops_at (type_part_of path_of) type_part_words (λ b y. repeated b (type_part_words y)) (λ b ys. repeated b (flat_map type_part_words ys)) options_step options_same c.loop-i.i c.args.parts.now c.index-parts-i.result _ c.loop-i-test.true c.index-parts-i.is (c.in-Some.ensures) c.loop-i.invariant
+returns-in-Some c = stops_at (type_part_of path_of) type_part_words
+    (λ b y. repeated b (type_part_words y)) (λ b ys. repeated b (flat_map type_part_words ys))
+    options_step options_same c.loop-i.i c.args.parts.now c.index-parts-i.result _
+    c.loop-i-test.true c.index-parts-i.is (c.in-Some.ensures) c.loop-i.invariant
 
 pub returns : goal.returns
-returns c = at_the_end (type_part_of path_of) type_part_words (λ b y. repeated b (type_part_words y)) (λ b ys. repeated b (flat_map type_part_words ys)) options_step options_same (λ b. refl) c.loop-i.i c.args.parts.now (drop_of_length-le c.args.parts.now (omega arith)) c.loop-i.invariant
+returns c = at_the_end (type_part_of path_of) type_part_words
+    (λ b y. repeated b (type_part_words y)) (λ b ys. repeated b (flat_map type_part_words ys))
+    options_step options_same (λ b. refl) c.loop-i.i c.args.parts.now
+    (drop_of_length-le c.args.parts.now (omega arith)) c.loop-i.invariant

@@ -9,4 +9,6 @@ use Rattle.edd_name_rules.proofs.repeats.repeated_option.Given as goal
 
 -- nothing so far stands twice
 abbrev pub invariant-loop-i : goal.invariant-loop-i
-invariant-loop-i l = Seen (type_part_of path_of) type_part_words (λ b y. repeated b (type_part_words y)) (λ b ys. repeated b (flat_map type_part_words ys)) options_step options_same l.i l.parts
+invariant-loop-i l = Seen (type_part_of path_of) type_part_words
+    (λ b y. repeated b (type_part_words y)) (λ b ys. repeated b (flat_map type_part_words ys))
+    options_step options_same l.i l.parts

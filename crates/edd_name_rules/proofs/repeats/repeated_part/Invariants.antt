@@ -8,4 +8,5 @@ use Rattle.edd_name_rules.proofs.repeats.repeated_part.Given as goal
 -- no part so far stands twice
 abbrev pub invariant-loop-i : goal.invariant-loop-i
 invariant-loop-i l =
-    repeated_from (λ p. transaction_part_word (transaction_part_of path_of p)) l.i l.parts ≡ repeated_from (λ p. transaction_part_word (transaction_part_of path_of p)) 0 l.parts
+    repeated_from (λ p. transaction_part_word (transaction_part_of path_of p)) l.i l.parts
+    ≡ repeated_from (λ p. transaction_part_word (transaction_part_of path_of p)) 0 l.parts

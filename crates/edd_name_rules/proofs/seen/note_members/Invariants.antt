@@ -8,4 +8,5 @@ use Rattle.edd_name_rules.proofs.seen.note_members.Given as goal
 
 -- the names so far are new
 abbrev pub invariant-loop-member : goal.invariant-loop-member
-invariant-loop-member l = (before : List Name) → HasSeen before l.fn.seen → Noted (λ m. (member_of path_of m).name) before l.seen l.member-index l.members
+invariant-loop-member l = (before : List Name) → HasSeen before l.fn.seen
+    → Noted (λ m. (member_of path_of m).name) before l.seen l.member-index l.members

@@ -8,4 +8,5 @@ use Rattle.edd_name_rules.proofs.sizes.has_element.Given as goal
 -- the parts so far are no elements
 abbrev pub invariant-loop-part : goal.invariant-loop-part
 invariant-loop-part l =
-    list_any is_element (map (type_part_of path_of) (drop l.part-index l.parts)) ≡ list_any is_element (map (type_part_of path_of) l.parts)
+    list_any is_element (map (type_part_of path_of) (drop l.part-index l.parts))
+    ≡ list_any is_element (map (type_part_of path_of) l.parts)

@@ -10,8 +10,15 @@ use Rattle.edd_name_rules.proofs.sizes.spend_items.Goals as goal
 
 pub loop-item-preserved : goal.loop-item-preserved
 loop-item-preserved c =
-    goes_on (λ xs. sum (map item_nodes xs)) (item_of path_of) (sum_split item_nodes) _ _ c.loop-item.item-index c.args.items.now c.item-item.result _ (omega arith) c.item-item.is (c.in_ok-left.ensures ∙ ap (spent c.loop-item.left) (sum_one item_nodes (item_of path_of c.item-item.result))) c.loop-item.invariant
+    goes_on (λ xs. sum (map item_nodes xs)) (item_of path_of) (sum_split item_nodes) _ _
+    c.loop-item.item-index c.args.items.now c.item-item.result _ (omega arith) c.item-item.is
+    (c.in_ok-left.ensures ∙ ap (spent c.loop-item.left)
+    (sum_one item_nodes (item_of path_of c.item-item.result))) c.loop-item.invariant
 
 pub returns-in_err-left : goal.returns-in_err-left
 returns-in_err-left c =
-    c.from_residual.ensures ∙ stops_at (λ xs. sum (map item_nodes xs)) (item_of path_of) (sum_split item_nodes) _ c.loop-item.item-index c.args.items.now c.item-item.result _ (omega arith) c.item-item.is (c.in_err-left.ensures ∙ ap (spent c.loop-item.left) (sum_one item_nodes (item_of path_of c.item-item.result))) c.loop-item.invariant
+    c.from_residual.ensures ∙ stops_at (λ xs. sum (map item_nodes xs)) (item_of path_of)
+    (sum_split item_nodes) _ c.loop-item.item-index c.args.items.now c.item-item.result _
+    (omega arith) c.item-item.is (c.in_err-left.ensures
+    ∙ ap (spent c.loop-item.left) (sum_one item_nodes (item_of path_of c.item-item.result)))
+    c.loop-item.invariant

@@ -10,8 +10,14 @@ use Rattle.edd_name_rules.proofs.sizes.spend_type_parts.Goals as goal
 
 pub loop-part-preserved : goal.loop-part-preserved
 loop-part-preserved c =
-    goes_on (λ xs. sum (map type_part_nodes xs)) (type_part_of path_of) (sum_split type_part_nodes) _ _ c.loop-part.part-index c.args.parts.now c.part-item.result _ (omega arith) c.part-item.is (c.in_ok-left.ensures ∙ ap (spent c.loop-part.left) (sum_one type_part_nodes _)) c.loop-part.invariant
+    goes_on (λ xs. sum (map type_part_nodes xs)) (type_part_of path_of) (sum_split type_part_nodes)
+    _ _ c.loop-part.part-index c.args.parts.now c.part-item.result _ (omega arith)
+    c.part-item.is (c.in_ok-left.ensures
+    ∙ ap (spent c.loop-part.left) (sum_one type_part_nodes _)) c.loop-part.invariant
 
 pub returns-in_err-left : goal.returns-in_err-left
 returns-in_err-left c =
-    c.from_residual.ensures ∙ stops_at (λ xs. sum (map type_part_nodes xs)) (type_part_of path_of) (sum_split type_part_nodes) _ c.loop-part.part-index c.args.parts.now c.part-item.result _ (omega arith) c.part-item.is (c.in_err-left.ensures ∙ ap (spent c.loop-part.left) (sum_one type_part_nodes _)) c.loop-part.invariant
+    c.from_residual.ensures ∙ stops_at (λ xs. sum (map type_part_nodes xs)) (type_part_of path_of)
+    (sum_split type_part_nodes) _ c.loop-part.part-index c.args.parts.now c.part-item.result _
+    (omega arith) c.part-item.is (c.in_err-left.ensures
+    ∙ ap (spent c.loop-part.left) (sum_one type_part_nodes _)) c.loop-part.invariant

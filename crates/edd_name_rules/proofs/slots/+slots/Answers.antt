@@ -9,20 +9,29 @@ use Rattle.edd_name_rules.proofs.slots.+slots.Goals as goal
 
 pub spend_slots_in-loop-part-preserved : goal.spend_slots_in-loop-part-preserved
 spend_slots_in-loop-part-preserved t c =
-    goes_on (λ xs. slots_in (body_from xs)) (part_of path_of) slots_split _ _ c.loop-part.part-index c.args.parts.now c.part-item.result _ (omega arith) c.part-item.is c.in_ok-left.ensures c.loop-part.invariant
+    goes_on (λ xs. slots_in (body_from xs)) (part_of path_of) slots_split _ _ c.loop-part.part-index
+    c.args.parts.now c.part-item.result _ (omega arith) c.part-item.is c.in_ok-left.ensures
+    c.loop-part.invariant
 
 pub spend_slots_in-returns-in_err-left : goal.spend_slots_in-returns-in_err-left
 spend_slots_in-returns-in_err-left t c =
-    c.from_residual.ensures ∙ stops_at (λ xs. slots_in (body_from xs)) (part_of path_of) slots_split _ c.loop-part.part-index c.args.parts.now c.part-item.result _ (omega arith) c.part-item.is c.in_err-left.ensures c.loop-part.invariant
+    c.from_residual.ensures ∙ stops_at (λ xs. slots_in (body_from xs)) (part_of path_of) slots_split
+    _ c.loop-part.part-index c.args.parts.now c.part-item.result _ (omega arith) c.part-item.is
+    c.in_err-left.ensures c.loop-part.invariant
 
 pub spend_slots-returns-in-Block : goal.spend_slots-returns-in-Block
 unfolding slots_of
 spend_slots-returns-in-Block t c =
-    c.spend_slots_in.ensures ∙ ap (λ xs. spent c.args.left (slots_in (body_from (map (part_of path_of) xs)))) c.deref.ensures.value
+    c.spend_slots_in.ensures
+    ∙ ap (λ xs. spent c.args.left (slots_in (body_from (map (part_of path_of) xs))))
+    c.deref.ensures.value
     ∙ ap (λ s. spent c.args.left (slots_of s)) (sym (block_is path_of c.args.s.now _ c.in-Block.is))
 
 pub spend_slots-returns-in-Switch : goal.spend_slots-returns-in-Switch
 unfolding slots_of
 spend_slots-returns-in-Switch t c =
-    c.spend_slots_in-in-Switch.ensures ∙ ap (λ xs. spent c.args.left (slots_in (body_from (map (part_of path_of) xs)))) c.deref-in-Switch.ensures.value
-    ∙ ap (λ s. spent c.args.left (slots_of s)) (sym (switch_is path_of c.args.s.now _ _ c.in-Switch.is))
+    c.spend_slots_in-in-Switch.ensures
+    ∙ ap (λ xs. spent c.args.left (slots_in (body_from (map (part_of path_of) xs))))
+    c.deref-in-Switch.ensures.value
+    ∙ ap (λ s. spent c.args.left (slots_of s))
+    (sym (switch_is path_of c.args.s.now _ _ c.in-Switch.is))

@@ -8,4 +8,6 @@ use Rattle.edd_name_rules.proofs.slots.+slots.Given as goal
 -- what is left is enough for those to come exactly if the budget was enough for all
 abbrev pub invariant-spend_slots_in-loop-part : goal.invariant-spend_slots_in-loop-part
 invariant-spend_slots_in-loop-part l =
-    spent_from (λ xs. slots_in (body_from xs)) (part_of path_of) slots_split l.left l.part-index l.parts ≡ spent_from (λ xs. slots_in (body_from xs)) (part_of path_of) slots_split l.fn.budget 0 l.parts
+    spent_from (λ xs. slots_in (body_from xs)) (part_of path_of) slots_split l.left l.part-index
+    l.parts ≡ spent_from (λ xs. slots_in (body_from xs)) (part_of path_of) slots_split
+    l.fn.budget 0 l.parts

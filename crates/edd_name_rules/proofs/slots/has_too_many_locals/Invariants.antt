@@ -9,4 +9,6 @@ use Rattle.edd_name_rules.proofs.slots.has_too_many_locals.Given as goal
 -- the items so far have not too many
 abbrev pub invariant-loop-item : goal.invariant-loop-item
 invariant-loop-item l =
-    list_any (λ i. nat_lt local_limit (locals_of i)) (map (item_of path_of) (drop l.item-index l.items)) ≡ list_any (λ i. nat_lt local_limit (locals_of i)) (map (item_of path_of) l.items)
+    list_any (λ i. nat_lt local_limit (locals_of i))
+    (map (item_of path_of) (drop l.item-index l.items))
+    ≡ list_any (λ i. nat_lt local_limit (locals_of i)) (map (item_of path_of) l.items)

@@ -8,8 +8,12 @@ use Rattle.edd_name_rules.proofs.slots.spend_locals.Goals as goal
 
 pub loop-attribute-preserved : goal.loop-attribute-preserved
 loop-attribute-preserved c =
-    goes_on locals_in (attribute_of path_of) locals_split _ _ c.loop-attribute.attribute-index c.args.attributes.now c.attribute-item.result _ (omega arith) c.attribute-item.is c.in_ok-left.ensures c.loop-attribute.invariant
+    goes_on locals_in (attribute_of path_of) locals_split _ _ c.loop-attribute.attribute-index
+    c.args.attributes.now c.attribute-item.result _ (omega arith) c.attribute-item.is
+    c.in_ok-left.ensures c.loop-attribute.invariant
 
 pub returns-in_err-left : goal.returns-in_err-left
 returns-in_err-left c =
-    c.from_residual.ensures ∙ stops_at locals_in (attribute_of path_of) locals_split _ c.loop-attribute.attribute-index c.args.attributes.now c.attribute-item.result _ (omega arith) c.attribute-item.is c.in_err-left.ensures c.loop-attribute.invariant
+    c.from_residual.ensures ∙ stops_at locals_in (attribute_of path_of) locals_split _
+    c.loop-attribute.attribute-index c.args.attributes.now c.attribute-item.result _
+    (omega arith) c.attribute-item.is c.in_err-left.ensures c.loop-attribute.invariant

@@ -7,4 +7,5 @@ use Rattle.edd_name_rules.proofs.ValueNodes.{nodes_of_list}
 use Rattle.edd_name_rules.proofs.values.spend_data.Goals as goal
 
 pub returns : goal.returns
-returns c = c.spend_conds.ensures ∙ ap (spent c.args.budget) (nodes_of_list path_of (data_item_of path_of) leaf c.args.all.now)
+returns c = c.spend_conds.ensures
+    ∙ ap (spent c.args.budget) (nodes_of_list path_of (data_item_of path_of) leaf c.args.all.now)

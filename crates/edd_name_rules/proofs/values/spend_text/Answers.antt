@@ -7,4 +7,5 @@ use Rattle.edd_name_rules.proofs.ValueNodes.{nodes_of_cond}
 use Rattle.edd_name_rules.proofs.values.spend_text.Goals as goal
 
 pub returns : goal.returns
-returns c = c.spend_cond.ensures ∙ ap (spent c.args.budget) (nodes_of_cond path_of text_of leaf c.args.c.now)
+returns c = c.spend_cond.ensures
+    ∙ ap (spent c.args.budget) (nodes_of_cond path_of text_of leaf c.args.c.now)

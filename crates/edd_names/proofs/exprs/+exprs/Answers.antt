@@ -4,8 +4,8 @@ use Rattle.edd_syntax.specs.Expression.{arguments_from}
 use Rattle.edd_syntax.specs.NameUses.{argument_uses}
 use Rattle.edd_syntax.specs.Resolution.{meaning, variable_kinds}
 use Rattle.edd_syntax.specs.ResolvedTrees.{resolved_arguments}
-use Rattle.edd_syntax.specs.TreeView.{path_of, argument_of}
-use Rattle.edd_name_meanings.specs.Directory.{unit_of}
+use Rattle.edd_syntax.specs.TreeView.{path_of, argument_of, numbered_argument}
+use Rattle.edd_name_meanings.specs.Directory.{description_of}
 use Rattle.edd_name_meanings.specs.Meanings.{scope_of}
 use Rattle.edd_names.specs.ResolvedParts.{resolved_argument}
 use Rattle.edd_names.proofs.Copying.{at_start, one_more, stops, none_at_end, meant_at_end}
@@ -15,41 +15,115 @@ use Rattle.edd_name_rules.proofs.Passing.{passed}
 use Rattle.edd_names.proofs.exprs.+exprs.Goals as goal
 
 pub add_arguments-loop-argument-init : goal.add_arguments-loop-argument-init
-add_arguments-loop-argument-init t c = at_start (unit_of c.args.names.now) (argument_of path_of) (argument_of (λ r. r)) (λ xs. argument_uses (scope_of c.args.scope.now) (arguments_from xs)) (argument_uses_split (scope_of c.args.scope.now)) (resolved_argument (meaning (unit_of c.args.names.now) (scope_of c.args.scope.now) variable_kinds)) (λ xs. resolved_arguments (meaning (unit_of c.args.names.now) (scope_of c.args.scope.now) variable_kinds) (arguments_from xs)) arguments_from (arguments_joined (meaning (unit_of c.args.names.now) (scope_of c.args.scope.now) variable_kinds)) c.args.arguments.now c.args.all.now.items c.requires
+add_arguments-loop-argument-init t c = at_start (description_of c.args.names.now)
+    (argument_of path_of)
+    numbered_argument (λ xs. argument_uses (scope_of c.args.scope.now) (arguments_from xs))
+    (argument_uses_split (scope_of c.args.scope.now))
+    (resolved_argument (meaning (description_of c.args.names.now) (scope_of c.args.scope.now)
+    variable_kinds)) (λ xs. resolved_arguments
+    (meaning (description_of c.args.names.now) (scope_of c.args.scope.now) variable_kinds)
+    (arguments_from xs)) arguments_from
+    (arguments_joined (meaning (description_of c.args.names.now) (scope_of c.args.scope.now)
+    variable_kinds)) c.args.arguments.now c.args.all.now.items c.requires
 
 pub add_arguments-loop-argument-preserved : goal.add_arguments-loop-argument-preserved
 add_arguments-loop-argument-preserved t c =
-    one_more (unit_of c.args.names.now) (argument_of path_of) (argument_of (λ r. r)) (λ xs. argument_uses (scope_of c.args.scope.now) (arguments_from xs)) (argument_uses_split (scope_of c.args.scope.now)) (resolved_argument (meaning (unit_of c.args.names.now) (scope_of c.args.scope.now) variable_kinds)) (λ xs. resolved_arguments (meaning (unit_of c.args.names.now) (scope_of c.args.scope.now) variable_kinds) (arguments_from xs)) arguments_from (arguments_joined (meaning (unit_of c.args.names.now) (scope_of c.args.scope.now) variable_kinds)) c.loop-argument.argument-index c.args.arguments.now c.argument-item.result c.loop-argument.all.items c.add_argument.new.all.items c.in_ok-add_argument.ensures.sound.0 (omega arith) c.argument-item.is
-    c.in_ok-add_argument.ensures.accepted c.in_ok-add_argument.ensures.sound.2 c.in_ok-add_argument.ensures.sound.1 c.loop-argument.invariant
+    one_more (description_of c.args.names.now) (argument_of path_of) numbered_argument
+    (λ xs. argument_uses (scope_of c.args.scope.now) (arguments_from xs))
+    (argument_uses_split (scope_of c.args.scope.now))
+    (resolved_argument (meaning (description_of c.args.names.now) (scope_of c.args.scope.now)
+    variable_kinds)) (λ xs. resolved_arguments
+    (meaning (description_of c.args.names.now) (scope_of c.args.scope.now) variable_kinds)
+    (arguments_from xs)) arguments_from
+    (arguments_joined (meaning (description_of c.args.names.now) (scope_of c.args.scope.now)
+    variable_kinds)) c.loop-argument.argument-index c.args.arguments.now c.argument-item.result
+    c.loop-argument.all.items c.add_argument.new.all.items c.in_ok-add_argument.ensures.sound.0
+    (omega arith) c.argument-item.is
+    c.in_ok-add_argument.ensures.accepted c.in_ok-add_argument.ensures.sound.2
+    c.in_ok-add_argument.ensures.sound.1 c.loop-argument.invariant
 
-pub add_arguments-returns-in_err-add_argument-clause-refused : goal.add_arguments-returns-in_err-add_argument-clause-refused
+pub add_arguments-returns-in_err-add_argument-clause-refused :
+    goal.add_arguments-returns-in_err-add_argument-clause-refused
 add_arguments-returns-in_err-add_argument-clause-refused t c =
     passed c.from_residual.result c.in_err-add_argument.field-0.0 _ c.from_residual.ensures.1
-    (stops (unit_of c.args.names.now) (argument_of path_of) (argument_of (λ r. r)) (λ xs. argument_uses (scope_of c.args.scope.now) (arguments_from xs)) (argument_uses_split (scope_of c.args.scope.now)) (resolved_argument (meaning (unit_of c.args.names.now) (scope_of c.args.scope.now) variable_kinds)) (λ xs. resolved_arguments (meaning (unit_of c.args.names.now) (scope_of c.args.scope.now) variable_kinds) (arguments_from xs)) arguments_from (arguments_joined (meaning (unit_of c.args.names.now) (scope_of c.args.scope.now) variable_kinds)) c.loop-argument.argument-index c.args.arguments.now c.argument-item.result c.loop-argument.all.items c.in_err-add_argument.field-0.0 (omega arith) c.argument-item.is c.in_err-add_argument.ensures.refused c.loop-argument.invariant)
+    (stops (description_of c.args.names.now) (argument_of path_of) numbered_argument
+    (λ xs. argument_uses (scope_of c.args.scope.now) (arguments_from xs))
+    (argument_uses_split (scope_of c.args.scope.now))
+    (resolved_argument (meaning (description_of c.args.names.now) (scope_of c.args.scope.now)
+    variable_kinds)) (λ xs. resolved_arguments
+    (meaning (description_of c.args.names.now) (scope_of c.args.scope.now) variable_kinds)
+    (arguments_from xs)) arguments_from
+    (arguments_joined (meaning (description_of c.args.names.now) (scope_of c.args.scope.now)
+    variable_kinds)) c.loop-argument.argument-index c.args.arguments.now c.argument-item.result
+    c.loop-argument.all.items c.in_err-add_argument.field-0.0 (omega arith) c.argument-item.is
+    c.in_err-add_argument.ensures.refused c.loop-argument.invariant)
 
 pub add_arguments-returns-clause-accepted : goal.add_arguments-returns-clause-accepted
 add_arguments-returns-clause-accepted t c =
-    none_at_end (unit_of c.args.names.now) (argument_of path_of) (argument_of (λ r. r)) (λ xs. argument_uses (scope_of c.args.scope.now) (arguments_from xs)) (argument_uses_split (scope_of c.args.scope.now)) (resolved_argument (meaning (unit_of c.args.names.now) (scope_of c.args.scope.now) variable_kinds)) (λ xs. resolved_arguments (meaning (unit_of c.args.names.now) (scope_of c.args.scope.now) variable_kinds) (arguments_from xs)) arguments_from (arguments_joined (meaning (unit_of c.args.names.now) (scope_of c.args.scope.now) variable_kinds)) (no_use (unit_of c.args.names.now)) c.loop-argument.argument-index c.args.arguments.now c.loop-argument.all.items (drop_of_length-le c.args.arguments.now (omega arith)) c.loop-argument.invariant
+    none_at_end (description_of c.args.names.now) (argument_of path_of) numbered_argument
+    (λ xs. argument_uses (scope_of c.args.scope.now) (arguments_from xs))
+    (argument_uses_split (scope_of c.args.scope.now))
+    (resolved_argument (meaning (description_of c.args.names.now) (scope_of c.args.scope.now)
+    variable_kinds)) (λ xs. resolved_arguments
+    (meaning (description_of c.args.names.now) (scope_of c.args.scope.now) variable_kinds)
+    (arguments_from xs)) arguments_from
+    (arguments_joined (meaning (description_of c.args.names.now) (scope_of c.args.scope.now)
+    variable_kinds)) (no_use (description_of c.args.names.now)) c.loop-argument.argument-index
+    c.args.arguments.now c.loop-argument.all.items
+    (drop_of_length-le c.args.arguments.now (omega arith)) c.loop-argument.invariant
 
 pub add_arguments-returns-clause-sound : goal.add_arguments-returns-clause-sound
 add_arguments-returns-clause-sound t c =
-    meant_at_end (unit_of c.args.names.now) (argument_of path_of) (argument_of (λ r. r)) (λ xs. argument_uses (scope_of c.args.scope.now) (arguments_from xs)) (argument_uses_split (scope_of c.args.scope.now)) (resolved_argument (meaning (unit_of c.args.names.now) (scope_of c.args.scope.now) variable_kinds)) (λ xs. resolved_arguments (meaning (unit_of c.args.names.now) (scope_of c.args.scope.now) variable_kinds) (arguments_from xs)) arguments_from (arguments_joined (meaning (unit_of c.args.names.now) (scope_of c.args.scope.now) variable_kinds)) (no_arguments (meaning (unit_of c.args.names.now) (scope_of c.args.scope.now) variable_kinds)) c.loop-argument.argument-index c.args.arguments.now c.loop-argument.all.items (drop_of_length-le c.args.arguments.now (omega arith)) c.loop-argument.invariant
+    meant_at_end (description_of c.args.names.now) (argument_of path_of) numbered_argument
+    (λ xs. argument_uses (scope_of c.args.scope.now) (arguments_from xs))
+    (argument_uses_split (scope_of c.args.scope.now))
+    (resolved_argument (meaning (description_of c.args.names.now) (scope_of c.args.scope.now)
+    variable_kinds)) (λ xs. resolved_arguments
+    (meaning (description_of c.args.names.now) (scope_of c.args.scope.now) variable_kinds)
+    (arguments_from xs)) arguments_from
+    (arguments_joined (meaning (description_of c.args.names.now) (scope_of c.args.scope.now)
+    variable_kinds)) (no_arguments
+    (meaning (description_of c.args.names.now) (scope_of c.args.scope.now) variable_kinds))
+    c.loop-argument.argument-index c.args.arguments.now c.loop-argument.all.items
+    (drop_of_length-le c.args.arguments.now (omega arith)) c.loop-argument.invariant
 
-pub copy_expr-returns-in_err-function-in-Call-clause-refused : goal.copy_expr-returns-in_err-function-in-Call-clause-refused
+pub copy_expr-returns-in_err-function-in-Call-clause-refused :
+    goal.copy_expr-returns-in_err-function-in-Call-clause-refused
 copy_expr-returns-in_err-function-in-Call-clause-refused t c =
-    passed c.from_residual-in_err-function-in-Call.result c.in_err-function-in-Call.field-0.0 _ c.from_residual-in_err-function-in-Call.ensures.1
-    (call_fault (unit_of c.args.names.now) c.args.e.now _ _ _ c.deref-in-Call.result.now c.in-Call.is c.deref-in-Call.ensures.value (scope_of c.args.scope.now) c.in_err-function-in-Call.field-0.0 c.in_err-function-in-Call.ensures.refused)
+    passed c.from_residual-in_err-function-in-Call.result c.in_err-function-in-Call.field-0.0 _
+    c.from_residual-in_err-function-in-Call.ensures.1
+    (call_fault (description_of c.args.names.now) c.args.e.now _ _ _ c.deref-in-Call.result.now
+    c.in-Call.is c.deref-in-Call.ensures.value (scope_of c.args.scope.now)
+    c.in_err-function-in-Call.field-0.0 c.in_err-function-in-Call.ensures.refused)
 
-pub copy_expr-returns-in_ok-function-in-Call-clause-accepted : goal.copy_expr-returns-in_ok-function-in-Call-clause-accepted
+pub copy_expr-returns-in_ok-function-in-Call-clause-accepted :
+    goal.copy_expr-returns-in_ok-function-in-Call-clause-accepted
 copy_expr-returns-in_ok-function-in-Call-clause-accepted t c =
-    call_none (unit_of c.args.names.now) c.args.e.now _ _ _ c.deref-in-Call.result.now c.in-Call.is c.deref-in-Call.ensures.value (scope_of c.args.scope.now) c.in_ok-function-in-Call.ensures.accepted
+    call_none (description_of c.args.names.now) c.args.e.now _ _ _ c.deref-in-Call.result.now
+    c.in-Call.is
+    c.deref-in-Call.ensures.value (scope_of c.args.scope.now)
+    c.in_ok-function-in-Call.ensures.accepted
 
-pub copy_expr-returns-in_ok-function-in-Call-clause-sound : goal.copy_expr-returns-in_ok-function-in-Call-clause-sound
+pub copy_expr-returns-in_ok-function-in-Call-clause-sound :
+    goal.copy_expr-returns-in_ok-function-in-Call-clause-sound
 copy_expr-returns-in_ok-function-in-Call-clause-sound t c =
-    call_means (unit_of c.args.names.now) c.args.e.now _ _ _ c.deref-in-Call.result.now c.in-Call.is c.deref-in-Call.ensures.value (meaning (unit_of c.args.names.now) (scope_of c.args.scope.now) variable_kinds) c.in_ok-function-in-Call.function c.in_ok-function-in-Call.arguments c.in_ok-function-in-Call.ensures.function c.in_ok-function-in-Call.ensures.arguments
+    call_means (description_of c.args.names.now) c.args.e.now _ _ _ c.deref-in-Call.result.now
+    c.in-Call.is
+    c.deref-in-Call.ensures.value
+    (meaning (description_of c.args.names.now) (scope_of c.args.scope.now) variable_kinds)
+    c.in_ok-function-in-Call.function c.in_ok-function-in-Call.arguments
+    c.in_ok-function-in-Call.ensures.function c.in_ok-function-in-Call.ensures.arguments
 
 pub copy_expr-copy_call-requires : goal.copy_expr-copy_call-requires
-copy_expr-copy_call-requires t c = (call_falls t c.args.e.now _ _ _ c.deref-in-Call.result.now c.in-Call.is c.deref-in-Call.ensures.value (sym c.decreases), tt)
+copy_expr-copy_call-requires t c = (
+  call_falls t c.args.e.now _ _ _ c.deref-in-Call.result.now c.in-Call.is
+      c.deref-in-Call.ensures.value (sym c.decreases),
+  tt,
+)
 
 pub add_arguments-add_argument-requires : goal.add_arguments-add_argument-requires
-add_arguments-add_argument-requires t c = (argument_falls t c.loop-argument.argument-index c.args.arguments.now c.argument-item.result (omega arith) c.argument-item.is (sym c.decreases), tt)
+add_arguments-add_argument-requires t c = (
+  argument_falls t c.loop-argument.argument-index c.args.arguments.now c.argument-item.result
+      (omega arith) c.argument-item.is (sym c.decreases),
+  tt,
+)

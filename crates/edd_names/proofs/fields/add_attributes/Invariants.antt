@@ -1,9 +1,9 @@
 use Rattle.std.specs.List.{flat_map}
-use Rattle.edd_syntax.specs.ItemView.{attribute_of, item_of}
+use Rattle.edd_syntax.specs.ItemView.{attribute_of, item_of, numbered_attribute}
 use Rattle.edd_syntax.specs.NameUses.{attribute_uses}
 use Rattle.edd_syntax.specs.ResolvedTrees.{each, resolved_attribute}
 use Rattle.edd_syntax.specs.TreeView.{path_of}
-use Rattle.edd_name_meanings.specs.Directory.{unit_of}
+use Rattle.edd_name_meanings.specs.Directory.{description_of}
 use Rattle.edd_names.proofs.Copying.{Copied}
 use Rattle.edd_names.proofs.ExprSteps.{each_joined}
 use Rattle.edd_syntax.proofs.FirstLaws.{flat_split}
@@ -11,4 +11,12 @@ use Rattle.edd_names.proofs.fields.add_attributes.Given as goal
 
 -- those so far are copied
 abbrev pub invariant-loop-attribute : goal.invariant-loop-attribute
-invariant-loop-attribute l = Copied (unit_of l.fn.names) (attribute_of path_of) (attribute_of (λ r. r)) (flat_map (attribute_uses (item_of path_of l.fn.item).sort)) (flat_split (attribute_uses (item_of path_of l.fn.item).sort)) (resolved_attribute (unit_of l.fn.names) (item_of path_of l.fn.item).sort) (each (resolved_attribute (unit_of l.fn.names) (item_of path_of l.fn.item).sort)) (λ ws. ws) (each_joined (resolved_attribute (unit_of l.fn.names) (item_of path_of l.fn.item).sort)) l.attribute-index l.attributes l.copies.items
+invariant-loop-attribute l = Copied (description_of l.fn.names) (attribute_of path_of)
+    numbered_attribute
+    (flat_map (attribute_uses (item_of path_of l.fn.item).sort))
+    (flat_split (attribute_uses (item_of path_of l.fn.item).sort))
+    (resolved_attribute (description_of l.fn.names) (item_of path_of l.fn.item).sort)
+    (each (resolved_attribute (description_of l.fn.names) (item_of path_of l.fn.item).sort))
+    (λ ws. ws)
+    (each_joined (resolved_attribute (description_of l.fn.names) (item_of path_of l.fn.item).sort))
+    l.attribute-index l.attributes l.copies.items

@@ -15,22 +15,39 @@ use Rattle.edd_names.proofs.resolving.resolve.Goals as goal
 
 pub returns-in_err-check_rules-clause-refused : goal.returns-in_err-check_rules-clause-refused
 returns-in_err-check_rules-clause-refused c =
-    passed c.from_residual.result (of_rule c.in_err-check_rules.field-0.0) _ c.from_residual.ensures.1
+    passed c.from_residual.result (of_rule c.in_err-check_rules.field-0.0) _
+    c.from_residual.ensures.1
     (fault_before (unit_view c.args.unit.now) (of_rule c.in_err-check_rules.field-0.0)
-    (subst (λ xs. IsFirst (of_rule c.in_err-check_rules.field-0.0) (rules_before (described (named_items xs)))) c.deref.ensures.value (rule_first _ _ c.in_err-check_rules.ensures.refused)))
+    (subst (λ xs. IsFirst (of_rule c.in_err-check_rules.field-0.0)
+    (rules_before (described (named_items xs)))) c.deref.ensures.value
+    (rule_first _ _ c.in_err-check_rules.ensures.refused)))
 
 pub returns-in_err-names-clause-refused : goal.returns-in_err-names-clause-refused
 returns-in_err-names-clause-refused c =
-    passed c.from_residual-in_err-names.result c.in_err-names.field-0.0 _ c.from_residual-in_err-names.ensures.1
-    (subst (λ f. IsFirst f (name_breaches (unit_view c.args.unit.now))) (sym c.in_err-names.ensures.refused) (memory_refused (first_of (name_breaches (unit_view c.args.unit.now)))))
+    passed c.from_residual-in_err-names.result c.in_err-names.field-0.0 _
+    c.from_residual-in_err-names.ensures.1
+    (subst (λ f. IsFirst f (name_breaches (unit_view c.args.unit.now)))
+    (sym c.in_err-names.ensures.refused)
+    (memory_refused (first_of (name_breaches (unit_view c.args.unit.now)))))
 
 pub returns-clause-sound : goal.returns-clause-sound
 returns-clause-sound c =
-    subst (λ d. IfOk c.resolve_uses.result (λ r. resolved_unit d ≡ Some (description (identification_of r.identification) (numbered_items r.items.value.items))))
-    (same_unit c.in_ok-names.names c.args.unit.now c.deref-2.result.now c.in_ok-names.ensures.identification c.in_ok-names.ensures.items c.deref-2.ensures.value) c.resolve_uses.ensures.sound
+    subst (λ d. IfOk c.resolve_uses.result (λ r. resolved_unit d
+    ≡ Some (description (identification_of r.identification)
+    (numbered_items r.items.value.items))))
+    (same_unit c.in_ok-names.names c.args.unit.now c.deref-2.result.now
+    c.in_ok-names.ensures.identification c.in_ok-names.ensures.items c.deref-2.ensures.value)
+    c.resolve_uses.ensures.sound
 
 pub returns-clause-accepted : goal.returns-clause-accepted
-returns-clause-accepted c = subst (λ d. IfOk c.resolve_uses.result (λ r. name_breaches d ≡ [])) (same_unit c.in_ok-names.names c.args.unit.now c.deref-2.result.now c.in_ok-names.ensures.identification c.in_ok-names.ensures.items c.deref-2.ensures.value) c.resolve_uses.ensures.accepted
+returns-clause-accepted c = subst (λ d. IfOk c.resolve_uses.result (λ r. name_breaches d ≡ []))
+    (same_unit c.in_ok-names.names c.args.unit.now c.deref-2.result.now
+    c.in_ok-names.ensures.identification c.in_ok-names.ensures.items c.deref-2.ensures.value)
+    c.resolve_uses.ensures.accepted
 
 pub returns-clause-refused : goal.returns-clause-refused
-returns-clause-refused c = subst (λ d. IfErr c.resolve_uses.result (λ f. IsFirst f (name_breaches d))) (same_unit c.in_ok-names.names c.args.unit.now c.deref-2.result.now c.in_ok-names.ensures.identification c.in_ok-names.ensures.items c.deref-2.ensures.value) c.resolve_uses.ensures.refused
+returns-clause-refused c =
+    subst (λ d. IfErr c.resolve_uses.result (λ f. IsFirst f (name_breaches d)))
+    (same_unit c.in_ok-names.names c.args.unit.now c.deref-2.result.now
+    c.in_ok-names.ensures.identification c.in_ok-names.ensures.items c.deref-2.ensures.value)
+    c.resolve_uses.ensures.refused

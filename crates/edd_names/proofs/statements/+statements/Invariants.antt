@@ -1,7 +1,7 @@
 use Rattle.std.proofs.Common.{◌≡◌, ◌+◌, map, drop}
 use Rattle.edd_syntax.specs.Statement.{body_from, slots_in}
-use Rattle.edd_syntax.specs.TreeView.{path_of, part_of}
-use Rattle.edd_name_meanings.specs.Directory.{unit_of}
+use Rattle.edd_syntax.specs.TreeView.{path_of, part_of, numbered_part}
+use Rattle.edd_name_meanings.specs.Directory.{description_of}
 use Rattle.edd_name_meanings.specs.Meanings.{scope_of}
 use Rattle.edd_names.proofs.CopyingIn.{Copied}
 use Rattle.edd_names.proofs.StatementSteps.{behind, uses_here, uses_from, uses_split, meant_here, meant_from, parts_joined, stmt_depth, parts_depth, part_depth}
@@ -10,8 +10,13 @@ use Rattle.edd_names.proofs.statements.+statements.Given as goal
 -- the parts so far are copied, and their locals took as many slots as they have
 abbrev pub invariant-add_parts-loop-part : goal.invariant-add_parts-loop-part
 invariant-add_parts-loop-part l =
-    Copied (unit_of l.fn.names) (part_of path_of) (part_of (λ r. r)) behind uses_here uses_from uses_split (meant_here (unit_of l.fn.names)) (meant_from (unit_of l.fn.names)) body_from (parts_joined (unit_of l.fn.names)) (scope_of l.fn.scope.items, l.fn.next) (scope_of l.scope.items, l.next) l.part-index l.parts l.copies.items
-    × (l.next + slots_in (body_from (map (part_of path_of) (drop l.part-index l.parts))) ≡ l.fn.next + slots_in (body_from (map (part_of path_of) l.parts)))
+    Copied (description_of l.fn.names) (part_of path_of) numbered_part behind uses_here uses_from
+    uses_split (meant_here (description_of l.fn.names)) (meant_from (description_of l.fn.names))
+    body_from
+    (parts_joined (description_of l.fn.names)) (scope_of l.fn.scope.items, l.fn.next)
+    (scope_of l.scope.items, l.next) l.part-index l.parts l.copies.items
+    × (l.next + slots_in (body_from (map (part_of path_of) (drop l.part-index l.parts))) ≡ l.fn.next
+    + slots_in (body_from (map (part_of path_of) l.parts)))
 
 abbrev pub decreases-copy_stmt : goal.decreases-copy_stmt
 decreases-copy_stmt l = stmt_depth l.s.now

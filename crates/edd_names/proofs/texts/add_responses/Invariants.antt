@@ -4,4 +4,5 @@ use Rattle.edd_names.proofs.texts.add_responses.Given as goal
 
 -- those so far are copied
 abbrev pub invariant-loop-response : goal.invariant-loop-response
-invariant-loop-response l = map response_code_of l.copies.items ≡ map response_code_of (take l.response-index l.responses)
+invariant-loop-response l = map response_code_of l.copies.items
+    ≡ map response_code_of (take l.response-index l.responses)

@@ -4,4 +4,5 @@ use Rattle.edd_names.proofs.texts.add_words.Given as goal
 
 -- those so far are copied
 abbrev pub invariant-loop-word : goal.invariant-loop-word
-invariant-loop-word l = map string_bytes l.copies.items ≡ map string_bytes (take l.word-index l.words)
+invariant-loop-word l = map string_bytes l.copies.items
+    ≡ map string_bytes (take l.word-index l.words)

@@ -1,9 +1,9 @@
 use Rattle.std.specs.List.{flat_map}
-use Rattle.edd_syntax.specs.ItemView.{item_of}
+use Rattle.edd_syntax.specs.ItemView.{item_of, numbered_item}
 use Rattle.edd_syntax.specs.NameUses.{item_uses}
 use Rattle.edd_syntax.specs.ResolvedTrees.{each, resolved_item}
 use Rattle.edd_syntax.specs.TreeView.{path_of}
-use Rattle.edd_name_meanings.specs.Directory.{unit_of}
+use Rattle.edd_name_meanings.specs.Directory.{description_of}
 use Rattle.edd_names.proofs.Copying.{Copied}
 use Rattle.edd_names.proofs.ExprSteps.{each_joined}
 use Rattle.edd_syntax.proofs.FirstLaws.{flat_split}
@@ -11,4 +11,7 @@ use Rattle.edd_names.proofs.unit_items.add_items.Given as goal
 
 -- those so far are copied
 abbrev pub invariant-loop-item : goal.invariant-loop-item
-invariant-loop-item l = Copied (unit_of l.fn.names) (item_of path_of) (item_of (λ r. r)) (flat_map item_uses) (flat_split item_uses) (resolved_item (unit_of l.fn.names)) (each (resolved_item (unit_of l.fn.names))) (λ ws. ws) (each_joined (resolved_item (unit_of l.fn.names))) l.item-index l.items l.copies.items
+invariant-loop-item l = Copied (description_of l.fn.names) (item_of path_of) numbered_item
+    (flat_map item_uses) (flat_split item_uses) (resolved_item (description_of l.fn.names))
+    (each (resolved_item (description_of l.fn.names))) (λ ws. ws)
+    (each_joined (resolved_item (description_of l.fn.names))) l.item-index l.items l.copies.items

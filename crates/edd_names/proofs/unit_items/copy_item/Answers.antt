@@ -1,11 +1,15 @@
 use Rattle.std.proofs.Common.{◌∙◌, ap, map}
-use Rattle.edd_syntax.specs.ItemView.{attribute_of, item_of}
+use Rattle.edd_syntax.specs.ItemView.{attribute_of, item_of, numbered_attribute, numbered_item}
 use Rattle.edd_syntax.specs.TreeView.{path_of}
-use Rattle.edd_name_meanings.specs.Directory.{unit_of}
+use Rattle.edd_name_meanings.specs.Directory.{description_of}
 use Rattle.edd_names.proofs.ItemSteps.{item_means}
 use Rattle.edd_names.proofs.unit_items.copy_item.Goals as goal
 
 pub returns-clause-sound : goal.returns-clause-sound
 returns-clause-sound c =
-    item_means (unit_of c.args.names.now) (item_of path_of c.args.item.now) (item_of (λ r. r) c.like.result) (map (attribute_of path_of) c.attributes.result.now) (map (attribute_of (λ r. r)) c.in_ok-attributes.attributes.items)
-    (ap (map (attribute_of path_of)) c.attributes.ensures) c.in_ok-attributes.ensures.sound c.like.ensures.sort (c.like.ensures.name ∙ c.in_ok-name.ensures.ok ∙ c.name.ensures) c.like.ensures.attributes
+    item_means (description_of c.args.names.now) (item_of path_of c.args.item.now)
+    (numbered_item c.like.result) (map (attribute_of path_of) c.attributes.result.now)
+    (map numbered_attribute c.in_ok-attributes.attributes.items)
+    (ap (map (attribute_of path_of)) c.attributes.ensures) c.in_ok-attributes.ensures.sound
+    c.like.ensures.sort (c.like.ensures.name ∙ c.in_ok-name.ensures.ok ∙ c.name.ensures)
+    c.like.ensures.attributes

@@ -13,7 +13,11 @@ loop-set-preserved c =
     let set : VarNo × ℤ = get_or c.args.sets.now c.loop-set.set-index d in
     let fits : FitsSigned w64 set.1 = search rules in
     record {
-      exist = others_exist c.args.numbers.now c.args.sets.now c.loop-set.set-index d c.loop-set-test.true c.loop-set.invariant.exist;
-      values = c.loop-set.invariant.values ∙ one_is_made c.loop-set.numbers c.args.sets.now c.loop-set.set-index d c.loop-set-test.true
-          ∙ ap (λ (z : ℤ). values_set (slice_set c.loop-set.numbers set.0.0 z) (map change_of (drop (c.loop-set.set-index + 1) c.args.sets.now))) (sym (to_z-of_z w64 set.1 fits));
+      exist = others_exist c.args.numbers.now c.args.sets.now c.loop-set.set-index d
+          c.loop-set-test.true c.loop-set.invariant.exist;
+      values = c.loop-set.invariant.values ∙ one_is_made c.loop-set.numbers c.args.sets.now
+          c.loop-set.set-index d c.loop-set-test.true
+          ∙ ap (λ (z : ℤ). values_set (slice_set c.loop-set.numbers set.0.0 z)
+          (map change_of (drop (c.loop-set.set-index + 1) c.args.sets.now)))
+          (sym (to_z-of_z w64 set.1 fits));
     }

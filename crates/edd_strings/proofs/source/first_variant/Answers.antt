@@ -13,4 +13,8 @@ returns-2 c =
           inl (grind (arith, nat_tests, w.if-is_empty.ensures))
       | else-is_empty-via-then-is_empty+in-None-1 w ↦ inr (cc)
     ] in
-    rw (words-english_first c.args.part.text.now c.args.part.next h, c.in_ok-from_str.ensures.ok, c.in_ok-unescape.ensures) refl
+    rw (
+      words-english_first c.args.part.text.now c.args.part.next h,
+      c.in_ok-from_str.ensures.ok,
+      c.in_ok-unescape.ensures,
+    ) refl

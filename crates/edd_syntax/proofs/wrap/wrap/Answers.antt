@@ -8,4 +8,7 @@ pub returns : goal.returns
 unfolding wrap
 returns c =
     let fits : FitsSigned w64 c.as_signed.result = search rules in
-    to_z-of_z w64 c.as_signed.result fits ∙ c.as_signed.ensures ∙ ap (as_signed c.args.width) c.residue.ensures.value ∙ ap (λ z. as_signed c.args.width (residue c.args.width z)) (to_z-of_z w128 c.args.z c.ranges.z)
+    to_z-of_z w64 c.as_signed.result fits ∙ c.as_signed.ensures
+    ∙ ap (as_signed c.args.width) c.residue.ensures.value
+    ∙ ap (λ z. as_signed c.args.width (residue c.args.width z))
+    (to_z-of_z w128 c.args.z c.ranges.z)

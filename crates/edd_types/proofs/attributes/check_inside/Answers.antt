@@ -1,6 +1,6 @@
 use Rattle.std.proofs.Common.{◌∙◌, ap, sym, map}
 use Rattle.edd_syntax.specs.Conditional.{conds_from}
-use Rattle.edd_syntax.specs.ItemView.{cond_of, entry_of, attribute_of}
+use Rattle.edd_syntax.specs.ItemView.{numbered_attribute, numbered_cond, numbered_entry}
 use Rattle.edd_syntax.specs.Refusal.{first_of}
 use Rattle.edd_types.specs.Breaches.{in_conds, in_nothing, in_attribute}
 use Rattle.edd_types.proofs.BareViews.{bare_entries}
@@ -9,5 +9,6 @@ use Rattle.edd_types.proofs.attributes.check_inside.Goals as goal
 pub returns-in-Items : goal.returns-in-Items
 returns-in-Items c =
     c.check_conds.ensures ∙ ap first_of (bare_entries c.args.breach c.deref-in-Items.result.now)
-    ∙ ap (λ xs. first_of (in_conds c.args.breach (in_nothing c.args.breach) (conds_from (map (cond_of (λ r. r) (entry_of (λ r. r))) xs)))) c.deref-in-Items.ensures.value
-    ∙ ap (λ a. first_of (in_attribute c.args.breach (attribute_of (λ r. r) a))) (sym c.in-Items.is)
+    ∙ ap (λ xs. first_of (in_conds c.args.breach (in_nothing c.args.breach)
+    (conds_from (map (numbered_cond numbered_entry) xs)))) c.deref-in-Items.ensures.value
+    ∙ ap (λ a. first_of (in_attribute c.args.breach (numbered_attribute a))) (sym c.in-Items.is)

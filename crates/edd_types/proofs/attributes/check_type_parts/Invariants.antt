@@ -1,6 +1,6 @@
 use Rattle.std.proofs.Common.{◌≡◌}
 use Rattle.std.specs.List.{flat_map}
-use Rattle.edd_syntax.specs.ItemView.{type_part_of}
+use Rattle.edd_syntax.specs.ItemView.{numbered_type_part}
 use Rattle.edd_types.specs.Breaches.{in_type_part}
 use Rattle.edd_syntax.proofs.FirstLaws.{first_from, flat_split}
 use Rattle.edd_types.proofs.attributes.check_type_parts.Given as goal
@@ -8,5 +8,7 @@ use Rattle.edd_types.proofs.attributes.check_type_parts.Given as goal
 -- the parts so far have no breach
 abbrev pub invariant-loop-part : goal.invariant-loop-part
 invariant-loop-part l =
-    first_from (flat_map (in_type_part l.breach)) (type_part_of (λ r. r)) (flat_split (in_type_part l.breach)) l.part-index l.parts
-    ≡ first_from (flat_map (in_type_part l.breach)) (type_part_of (λ r. r)) (flat_split (in_type_part l.breach)) 0 l.parts
+    first_from (flat_map (in_type_part l.breach)) numbered_type_part
+    (flat_split (in_type_part l.breach)) l.part-index l.parts
+    ≡ first_from (flat_map (in_type_part l.breach)) numbered_type_part
+    (flat_split (in_type_part l.breach)) 0 l.parts

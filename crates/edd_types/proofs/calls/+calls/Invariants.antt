@@ -1,6 +1,6 @@
 use Rattle.std.proofs.Common.{◌≡◌}
 use Rattle.edd_syntax.specs.Expression.{arguments_from}
-use Rattle.edd_syntax.specs.TreeView.{argument_of}
+use Rattle.edd_syntax.specs.TreeView.{numbered_argument}
 use Rattle.edd_syntax.specs.SubsetRules.{argument_mismatches}
 use Rattle.edd_syntax.proofs.FirstLaws.{first_from}
 use Rattle.edd_types.proofs.Splits.{mismatches_split}
@@ -9,5 +9,7 @@ use Rattle.edd_types.proofs.calls.+calls.Given as goal
 -- the arguments so far have no breach
 abbrev pub invariant-check_arguments-loop-argument : goal.invariant-check_arguments-loop-argument
 invariant-check_arguments-loop-argument l =
-    first_from (λ xs. argument_mismatches (arguments_from xs)) (argument_of (λ r. r)) mismatches_split l.argument-index l.arguments
-    ≡ first_from (λ xs. argument_mismatches (arguments_from xs)) (argument_of (λ r. r)) mismatches_split 0 l.arguments
+    first_from (λ xs. argument_mismatches (arguments_from xs)) numbered_argument mismatches_split
+    l.argument-index l.arguments
+    ≡ first_from (λ xs. argument_mismatches (arguments_from xs)) numbered_argument mismatches_split
+    0 l.arguments

@@ -1,5 +1,5 @@
 use Rattle.std.proofs.Common.{◌≡◌}
-use Rattle.edd_syntax.specs.ItemView.{attribute_of}
+use Rattle.edd_syntax.specs.ItemView.{numbered_attribute}
 use Rattle.edd_types.specs.WrongTypes.{in_attributes}
 use Rattle.edd_syntax.proofs.FirstLaws.{first_from}
 use Rattle.edd_types.proofs.TypeBreaches.{attributes_split}
@@ -8,4 +8,6 @@ use Rattle.edd_types.proofs.types.wrong_attributes.Given as goal
 -- the attributes so far have no breach
 abbrev pub invariant-loop-attribute : goal.invariant-loop-attribute
 invariant-loop-attribute l =
-    first_from (in_attributes l.name) (attribute_of (λ r. r)) (attributes_split l.name) l.attribute-index l.attributes ≡ first_from (in_attributes l.name) (attribute_of (λ r. r)) (attributes_split l.name) 0 l.attributes
+    first_from (in_attributes l.name) numbered_attribute (attributes_split l.name) l.attribute-index
+    l.attributes ≡ first_from (in_attributes l.name) numbered_attribute
+    (attributes_split l.name) 0 l.attributes

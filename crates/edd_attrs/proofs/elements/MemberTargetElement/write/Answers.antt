@@ -17,30 +17,54 @@ use Rattle.edd_attrs.proofs.elements.MemberTargetElement.write.Goals as goal
 abbrev words_or_none : Option Text → List Words
 words_or_none o = option_to_list (option_map words_of (option_map text_of o))
 
-pub returns-in_err-name-clause-too_many : goal.returns-in_err-name-clause-too_many
-returns-in_err-name-clause-too_many c h =
-    let over : Overflows c.args.table.now (name_words (string_bytes c.args.self.now.name) ∷ []) = grind (arith, common_steps) in
-    overflows_head c.args.table.now (name_words (string_bytes c.args.self.now.name)) (words_or_none c.args.self.now.label ++ words_or_none c.args.self.now.help) over
+pub returns-in_err-name-clause-refused : goal.returns-in_err-name-clause-refused
+returns-in_err-name-clause-refused c h =
+    let over : Overflows c.args.table.now (name_words (string_bytes c.args.self.now.name) ∷ []) =
+    grind (arith, common_steps) in
+    overflows_head c.args.table.now (name_words (string_bytes c.args.self.now.name))
+    (words_or_none c.args.self.now.label ++ words_or_none c.args.self.now.help) over
 
-pub returns-in_err-label-clause-too_many : goal.returns-in_err-label-clause-too_many
-returns-in_err-label-clause-too_many c h =
-    let over : Overflows c.add_name.new.table (words_or_none c.args.self.now.label) = grind (arith, common_steps) in
-    let named : GrowsBy c.args.table.now (name_words (string_bytes c.args.self.now.name) ∷ []) c.add_name.new.table = grind (arith, common_steps) in
-    overflows_tail c.args.table.now c.add_name.new.table (name_words (string_bytes c.args.self.now.name)) (words_or_none c.args.self.now.label ++ words_or_none c.args.self.now.help) named
-    (overflows_first c.add_name.new.table (words_or_none c.args.self.now.label) (words_or_none c.args.self.now.help) over)
+pub returns-in_err-label-clause-refused : goal.returns-in_err-label-clause-refused
+returns-in_err-label-clause-refused c h =
+    let over : Overflows c.add_name.new.table (words_or_none c.args.self.now.label) =
+    grind (arith, common_steps) in
+    let named : GrowsBy c.args.table.now (name_words (string_bytes c.args.self.now.name) ∷ [])
+    c.add_name.new.table = grind (arith, common_steps) in
+    overflows_tail c.args.table.now c.add_name.new.table
+    (name_words (string_bytes c.args.self.now.name)) (words_or_none c.args.self.now.label
+    ++ words_or_none c.args.self.now.help) named
+    (overflows_first c.add_name.new.table (words_or_none c.args.self.now.label)
+    (words_or_none c.args.self.now.help) over)
 
-pub returns-in_err-help-clause-too_many : goal.returns-in_err-help-clause-too_many
-returns-in_err-help-clause-too_many c h =
-    let over : Overflows c.add_optional.new.table (words_or_none c.args.self.now.help) = grind (arith, common_steps) in
-    let named : GrowsBy c.args.table.now (name_words (string_bytes c.args.self.now.name) ∷ []) c.add_name.new.table = grind (arith, common_steps) in
-    overflows_tail c.args.table.now c.add_name.new.table (name_words (string_bytes c.args.self.now.name)) (words_or_none c.args.self.now.label ++ words_or_none c.args.self.now.help) named
-    (overflows_second c.add_name.new.table (words_or_none c.args.self.now.label) c.add_optional.new.table (words_or_none c.args.self.now.help) c.in_ok-label.ensures.table over)
+pub returns-in_err-help-clause-refused : goal.returns-in_err-help-clause-refused
+returns-in_err-help-clause-refused c h =
+    let over : Overflows c.add_optional.new.table (words_or_none c.args.self.now.help) =
+    grind (arith, common_steps) in
+    let named : GrowsBy c.args.table.now (name_words (string_bytes c.args.self.now.name) ∷ [])
+    c.add_name.new.table = grind (arith, common_steps) in
+    overflows_tail c.args.table.now c.add_name.new.table
+    (name_words (string_bytes c.args.self.now.name)) (words_or_none c.args.self.now.label
+    ++ words_or_none c.args.self.now.help) named
+    (overflows_second c.add_name.new.table (words_or_none c.args.self.now.label)
+    c.add_optional.new.table (words_or_none c.args.self.now.help) c.in_ok-label.ensures.table
+    over)
 
-pub returns-clause-ok : goal.returns-clause-ok
-returns-clause-ok c =
-    let named : GrowsBy c.args.table.now (name_words (string_bytes c.args.self.now.name) ∷ []) c.add_name.new.table = grind (arith, common_steps) in
-    let keeps : Keeps c.add_name.new.table (name_words (string_bytes c.args.self.now.name)) c.in_ok-name.name = subst (λ (bytes : List ℕ). Keeps c.add_name.new.table (name_words bytes) c.in_ok-name.name) c.deref.ensures c.in_ok-name.ensures.number in
-    member_written c.args.table.now c.add_name.new.table c.add_optional.new.table c.add_optional-2.new.table c.args.code.now c.put.new.code (item_of c.args.self.now.item)
-    (name_words (string_bytes c.args.self.now.name)) (option_map words_of (option_map text_of c.args.self.now.label)) (option_map words_of (option_map text_of c.args.self.now.help)) c.in_ok-name.name c.in_ok-label.label c.in_ok-help.help
-    named keeps c.in_ok-label.ensures.table c.in_ok-label.ensures.number c.in_ok-help.ensures.table c.in_ok-help.ensures.number
-    (c.in_ok-put.ensures.code ∙ ap (λ (i : ItemNo). c.args.code.now ++ spelling (instruction.Member c.in_ok-name.name i c.in_ok-label.label c.in_ok-help.help)) c.item_of.ensures)
+pub returns-clause-sound : goal.returns-clause-sound
+returns-clause-sound c =
+    let named : GrowsBy c.args.table.now (name_words (string_bytes c.args.self.now.name) ∷ [])
+    c.add_name.new.table = grind (arith, common_steps) in
+    let keeps : Keeps c.add_name.new.table (name_words (string_bytes c.args.self.now.name))
+    c.in_ok-name.name = subst (λ (bytes : List ℕ). Keeps c.add_name.new.table (name_words bytes)
+    c.in_ok-name.name) c.deref.ensures c.in_ok-name.ensures.number in
+    member_written c.args.table.now c.add_name.new.table c.add_optional.new.table
+    c.add_optional-2.new.table c.args.code.now c.put.new.code (item_of c.args.self.now.item)
+    (name_words (string_bytes c.args.self.now.name))
+    (option_map words_of (option_map text_of c.args.self.now.label))
+    (option_map words_of (option_map text_of c.args.self.now.help)) c.in_ok-name.name
+    c.in_ok-label.label c.in_ok-help.help
+    named keeps c.in_ok-label.ensures.table c.in_ok-label.ensures.number c.in_ok-help.ensures.table
+    c.in_ok-help.ensures.number
+    (c.in_ok-put.ensures.code
+    ∙ ap (λ (i : ItemNo). c.args.code.now
+    ++ spelling (instruction.Member c.in_ok-name.name i c.in_ok-label.label c.in_ok-help.help))
+    c.item_of.ensures)

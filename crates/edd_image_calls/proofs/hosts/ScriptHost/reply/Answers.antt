@@ -12,9 +12,17 @@ pair g = record { request = g.0; answer = answer_of g.1 }
 abbrev book : List (Request × code.Answer) → ℕ → ℕ → Book
 book given nothing failed = record { pairs = map pair given; nothing = nothing; failed = failed }
 
-noted : (given more : List (Request × code.Answer)) (g : Request × code.Answer) (nothing failed : ℕ) → more ≡ given ++ g ∷ [] → book more nothing failed ≡ with_pair (book given nothing failed) (pair g)
+noted : (given more : List (Request × code.Answer)) (g : Request × code.Answer) (nothing failed : ℕ)
+    → more ≡ given ++ g ∷ [] → book more nothing failed ≡ with_pair (book given nothing failed)
+    (pair g)
 noted given more g nothing failed e =
-    ap (λ (xs : List (Request × code.Answer)). book xs nothing failed) e ∙ ap (λ (ps : List Pair). record { pairs = ps; nothing = nothing; failed = failed }) (map-append pair given (g ∷ []))
+    ap (λ (xs : List (Request × code.Answer)). book xs nothing failed) e
+    ∙ ap (λ (ps : List Pair). record { pairs = ps; nothing = nothing; failed = failed })
+    (map-append pair given (g ∷ []))
 
 pub returns : goal.returns
-returns c = (answer_of c.in-Some.answer, noted _ _ (c.args.request.now, c.in-Some.answer) _ _ c.in-Ok.ensures.items)
+returns c = (
+  answer_of c.in-Some.answer,
+  noted _ _ (c.args.request.now, c.in-Some.answer) _ _
+      c.in-Ok.ensures.items,
+)

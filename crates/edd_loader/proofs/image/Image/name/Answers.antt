@@ -6,13 +6,19 @@ use Rattle.edd_loader.specs.Lookups.{name_in_row}
 use Rattle.edd_loader.proofs.LookupLaws.{named_in_place, no_name}
 use Rattle.edd_loader.proofs.image.Image.name.Goals as goal
 
-pub returns-then-not-has_item-clause-value : goal.returns-then-not-has_item-clause-value
-returns-then-not-has_item-clause-value c = no_name c.args.self.now c.args.item
-    (subst (λ counts. item_exists counts c.args.item ≡ false) c.counts-counts.ensures (sym c.has_item.ensures ∙ c.if-not-has_item.true))
+pub returns-then-not-has_item-clause-sound : goal.returns-then-not-has_item-clause-sound
+returns-then-not-has_item-clause-sound c = no_name c.args.self.now c.args.item
+    (subst (λ counts. item_exists counts c.args.item ≡ false) c.counts-counts.ensures
+    (sym c.has_item.ensures ∙ c.if-not-has_item.true))
 
-pub returns-clause-value : goal.returns-clause-value
-returns-clause-value c = sym (
-    named_in_place c.args.self.now c.args.item (subst (λ counts. item_exists counts c.args.item ≡ true) c.counts-counts.ensures (sym c.has_item.ensures ∙ c.if-not-has_item.false))
-    ∙ ap (name_in_row (contents_in c.args.self.now)) (sym (c.place_of_item-place.ensures ∙ ap (λ counts. place_of_item counts c.args.item) c.counts-counts.ensures))
-    ∙ subst (λ b. name_in_row (contents_in b) c.place_of_item-place.result ≡ Some c.name_at.result.now) c.self.view_is c.name_at.ensures.value
+pub returns-clause-sound : goal.returns-clause-sound
+returns-clause-sound c = sym (
+    named_in_place c.args.self.now c.args.item
+    (subst (λ counts. item_exists counts c.args.item ≡ true) c.counts-counts.ensures
+    (sym c.has_item.ensures ∙ c.if-not-has_item.false))
+    ∙ ap (name_in_row (contents_in c.args.self.now))
+    (sym (c.place_of_item-place.ensures ∙ ap (λ counts. place_of_item counts c.args.item)
+    c.counts-counts.ensures))
+    ∙ subst (λ b. name_in_row (contents_in b) c.place_of_item-place.result
+    ≡ Some c.name_at.result.now) c.self.view_is c.name_at.ensures.sound
     ∙ ap Some (sym c.as_text.ensures))

@@ -7,5 +7,8 @@ use Rattle.edd_loader.proofs.survey.Survey.take_on.Goals as goal
 
 pub returns-clause-brought : goal.returns-clause-brought
 returns-clause-brought c = λ _ agrees.
-    ap (λ (s : Survey). brought s.goes_on s.depth) c.jump-2.ensures.others ∙ c.bring.ensures.brought (c.jump-2.ensures.kept agrees)
-    ∙ rw (c.onward.ensures, c.saturating_sub-rest.ensures, c.takes-takes.ensures) (brought_onward (c.args.depth - takes c.args.instruction) c.args.next (leaves c.args.instruction))
+    ap (λ (s : Survey). brought s.goes_on s.depth) c.jump-2.ensures.others
+    ∙ c.bring.ensures.brought (c.jump-2.ensures.kept agrees)
+    ∙ rw (c.onward.ensures, c.saturating_sub-rest.ensures, c.takes-takes.ensures)
+    (brought_onward (c.args.depth - takes c.args.instruction) c.args.next
+    (leaves c.args.instruction))

@@ -17,7 +17,11 @@ pub stored-kept-requires-clause-high : goal.stored-kept-requires-clause-high
 stored-kept-requires-clause-high c = (kind_sized _ _ _ c.requires.valid c.in-Some.ensures.row).1
 
 pub index_mut-requires : goal.index_mut-requires
-index_mut-requires c = omega (arith, values_counted _ _ c.requires.valid c.requires.values, c.requires.exists)
+index_mut-requires c = omega (
+  arith,
+  values_counted _ _ c.requires.valid c.requires.values,
+  c.requires.exists,
+)
 
 pub returns-clause-acts : goal.returns-clause-acts
 returns-clause-acts c =
@@ -25,11 +29,16 @@ returns-clause-acts c =
     let operand_fits : FitsSigned w64 c.top.result = search rules in
     let kept_fits : FitsSigned w64 c.stored-kept.result = search rules in
     let read_fits : FitsSigned w64 c.wrapped.result = search rules in
-    let kept = to_z-of_z w64 c.stored-kept.result kept_fits ∙ c.stored-kept.ensures ∙ ap (store c.in-Some.kind.var_type c.in-Some.kind.size) (to_z-of_z w64 c.top.result operand_fits) in
+    let kept = to_z-of_z w64 c.stored-kept.result kept_fits ∙ c.stored-kept.ensures
+    ∙ ap (store c.in-Some.kind.var_type c.in-Some.kind.size)
+    (to_z-of_z w64 c.top.result operand_fits) in
     let read = to_z-of_z w64 c.wrapped.result read_fits ∙ c.wrapped.ensures in
     record {
       effect = _;
-      is = store_acts (environment_of (contents_in c.args.image.now)) s c.args.variable c.args.next _ _ _ c.top.ensures (type_there _ _ _ c.requires.valid c.in-Some.ensures.row);
-      state = stored_state s c.args.next c.args.variable.0 (width_of c.args.self.now.unit.sort) _ _ _ _ _ kept read c.set_top.ensures _ refl ∙ ap (state_of c.args.image.now) (sym c.emit_nothing.ensures);
+      is = store_acts (environment_of (contents_in c.args.image.now)) s c.args.variable c.args.next
+          _ _ _ c.top.ensures (type_there _ _ _ c.requires.valid c.in-Some.ensures.row);
+      state = stored_state s c.args.next c.args.variable.0 (width_of c.args.self.now.unit.sort) _ _
+          _ _ _ kept read c.set_top.ensures _ refl ∙ ap (state_of c.args.image.now)
+          (sym c.emit_nothing.ensures);
       emitted = ap (λ (m : Machine). m.emitted) (sym c.emit_nothing.ensures);
     }

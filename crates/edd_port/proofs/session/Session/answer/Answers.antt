@@ -6,19 +6,26 @@ use Rattle.edd_port.specs.Refusals.{refusal}
 use Rattle.edd_port.proofs.Accepted.{room, exist, next_machine}
 use Rattle.edd_port.proofs.session.Session.answer.Goals as goal
 
-accepted : (c : goal.After-take_answer-arg-1) → refusal (types_in c.self.inside.image.now) c.self.inside.machine.status (answer_of c.args.answer.now) ≡ None
+accepted : (c : goal.After-take_answer-arg-1)
+    → refusal (types_in c.self.inside.image.now) c.self.inside.machine.status
+    (answer_of c.args.answer.now) ≡ None
 accepted c = sym c.fault_of_answer.ensures ∙ ap (option_map answer_fault_of) c.in_default.is
 
 pub take_answer-requires-clause-room : goal.take_answer-requires-clause-room
-take_answer-requires-clause-room c = room c.self.inside.image.now c.self.inside.machine (answer_of c.args.answer.now) c.self.invariant.1 (accepted c)
+take_answer-requires-clause-room c = room c.self.inside.image.now c.self.inside.machine
+    (answer_of c.args.answer.now) c.self.invariant.1 (accepted c)
 
 pub take_answer-requires-clause-exist : goal.take_answer-requires-clause-exist
-take_answer-requires-clause-exist c = exist c.self.inside.image.now c.self.inside.machine (answer_of c.args.answer.now) c.self.invariant.1 (accepted c)
+take_answer-requires-clause-exist c = exist c.self.inside.image.now c.self.inside.machine
+    (answer_of c.args.answer.now) c.self.invariant.1 (accepted c)
 
 pub invariant_of-self : goal.invariant_of-self
 invariant_of-self c =
-    let taken : refusal (types_in c.self.inside.image.now) c.self.inside.machine.status (answer_of c.args.answer.now) ≡ None = sym c.fault_of_answer.ensures ∙ ap (option_map answer_fault_of) c.in_default.is in (
+    let taken : refusal (types_in c.self.inside.image.now) c.self.inside.machine.status
+    (answer_of c.args.answer.now) ≡ None = sym c.fault_of_answer.ensures
+    ∙ ap (option_map answer_fault_of) c.in_default.is in (
       c.self.invariant.0,
-      next_machine c.self.inside.image.now c.self.inside.machine (answer_of c.args.answer.now) c.self.invariant.1 taken c.take_answer.new.machine c.take_answer.ensures.code
+      next_machine c.self.inside.image.now c.self.inside.machine (answer_of c.args.answer.now)
+          c.self.invariant.1 taken c.take_answer.new.machine c.take_answer.ensures.code
           c.take_answer.ensures.unit (c.take_answer.ensures.state c.self.inside.image.now),
     )

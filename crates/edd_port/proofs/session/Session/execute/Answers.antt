@@ -15,12 +15,14 @@ loop-left-preserved c =
       | in_default w ↦ let clash : false ≡ true = sym w.matches-is ∙ c.if-matches.true in absurd cc
     ] in
     record {
-      advances = goes _ _ _ _ _ _ _ c.loop-left.invariant.advances runs fewer c.step.ensures.step c.step.ensures.machine;
+      advances = goes _ _ _ _ _ _ _ c.loop-left.invariant.advances runs fewer c.step.ensures.step
+          c.step.ensures.machine;
       image = c.loop-left.invariant.image;
       taken = c.loop-left.invariant.taken;
     }
 
-over : (c : goal.After-self-1) → (c.loop-left.left ≡ 0) ⊎ (c.loop-left.self-inside.machine.status ≡ Running → ⊥)
+over : (c : goal.After-self-1) → (c.loop-left.left ≡ 0)
+    ⊎ (c.loop-left.self-inside.machine.status ≡ Running → ⊥)
 over c = elim c.loop-left-test.branch [
   | then-loop-left-test+else-matches w ↦ inr (elim w.match-matches.branch [
     | in-Running w' ↦ let clash : true ≡ false = sym w'.matches-is ∙ w.if-matches.false in absurd cc
@@ -29,14 +31,18 @@ over c = elim c.loop-left-test.branch [
   | else-loop-left-test w ↦ inl (omega (arith, w.loop-left-test.false))
 ]
 
-done : (c : goal.After-self-1) → Advanced c.loop-left.self-inside.image.now c.args.budget (c.args.budget - c.loop-left.left) c.self.inside.machine c.loop-left.self-inside.machine
+done : (c : goal.After-self-1) → Advanced c.loop-left.self-inside.image.now c.args.budget
+    (c.args.budget - c.loop-left.left) c.self.inside.machine c.loop-left.self-inside.machine
 done c = ends _ _ _ _ _ c.loop-left.invariant.advances (over c)
 
 -- the outcome of the session as it was is that of its first machine
-same : (c : goal.After-self-1) → advanced c.args.self.now c.args.budget ≡ execute (environment c.loop-left.self-inside.image.now) c.args.budget (state_of c.loop-left.self-inside.image.now c.self.inside.machine) []
+same : (c : goal.After-self-1) → advanced c.args.self.now c.args.budget
+    ≡ execute (environment c.loop-left.self-inside.image.now) c.args.budget
+    (state_of c.loop-left.self-inside.image.now c.self.inside.machine) []
 same c =
     sym (ap (λ (r : Run). advanced r c.args.budget) c.self.view_is)
-    ∙ ap (λ (b : List ℕ). execute (environment b) c.args.budget (state_of b c.self.inside.machine) []) (sym (ap (λ i. i.now) c.loop-left.invariant.image))
+    ∙ ap (λ (b : List ℕ). execute (environment b) c.args.budget (state_of b c.self.inside.machine)
+    []) (sym (ap (λ i. i.now) c.loop-left.invariant.image))
 
 pub returns-clause-state : goal.returns-clause-state
 returns-clause-state c = (done c).state ∙ sym (ap (λ (o : Outcome). o.state) (same c))

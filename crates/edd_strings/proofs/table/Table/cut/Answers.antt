@@ -8,8 +8,13 @@ use Rattle.edd_strings.proofs.table.Table.cut.Goals as goal
 
 pub invariant_of-self : goal.invariant_of-self
 invariant_of-self c =
-    subst AreStrings (take-map string_of c.from.result c.self.inside.strings.keys ∙ sym (ap (map string_of) c.truncate.ensures.keys)) (AreStrings-take _ c.from.result c.self.invariant)
+    subst AreStrings (take-map string_of c.from.result c.self.inside.strings.keys
+    ∙ sym (ap (map string_of) c.truncate.ensures.keys))
+    (AreStrings-take _ c.from.result c.self.invariant)
 
 pub returns : goal.returns
 returns c =
-    ap (map string_of) c.truncate.ensures.keys ∙ sym (take-map string_of c.from.result c.self.inside.strings.keys) ∙ ap (λ (n : ℕ). take n (map string_of c.self.inside.strings.keys)) c.from.ensures ∙ ap (take c.args.count) c.self.view_is
+    ap (map string_of) c.truncate.ensures.keys
+    ∙ sym (take-map string_of c.from.result c.self.inside.strings.keys)
+    ∙ ap (λ (n : ℕ). take n (map string_of c.self.inside.strings.keys)) c.from.ensures
+    ∙ ap (take c.args.count) c.self.view_is

@@ -10,9 +10,16 @@ use Rattle.edd_strings.proofs.table.Table.has_room.Goals as goal
 pub returns-else-len-lt-MAX_STRINGS : goal.returns-else-len-lt-MAX_STRINGS
 returns-else-len-lt-MAX_STRINGS c =
     let Holds : List Words → Type 0 = λ strings. Contains strings (string_of c.args.words.now) in (
-      (λ is. inr (subst Holds c.self.view_is (held c.self.inside.strings.keys c.args.words.now (sym c.contains.ensures ∙ is)))),
+      (λ is. inr (subst Holds c.self.view_is
+          (held c.self.inside.strings.keys c.args.words.now (sym c.contains.ensures ∙ is)))),
       (λ either. elim either [
-        | inl room ↦ absurd (omega (arith, room, ap (λ (ss : List Words). length ss) c.self.view_is, length-map c.self.inside.strings.keys string_of))
-        | inr holds ↦ c.contains.ensures ∙ found c.self.inside.strings.keys c.args.words.now (subst Holds (sym c.self.view_is) holds)
+        | inl room ↦ absurd (omega (
+          arith,
+          room,
+          ap (λ (ss : List Words). length ss) c.self.view_is,
+          length-map c.self.inside.strings.keys string_of,
+        ))
+        | inr holds ↦ c.contains.ensures ∙ found c.self.inside.strings.keys c.args.words.now
+            (subst Holds (sym c.self.view_is) holds)
       ]),
     )

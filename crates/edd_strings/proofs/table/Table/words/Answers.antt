@@ -7,4 +7,5 @@ use Rattle.edd_strings.proofs.table.Table.words.Goals as goal
 
 pub returns-clause-valid : goal.returns-clause-valid
 returns-clause-valid c =
-    subst (λ (strings : List Words). All (λ s. IsTrue (are_words s)) strings) c.self.view_is (all_are_words c.self.inside.strings.keys)
+    subst (λ (strings : List Words). All (λ s. IsTrue (are_words s)) strings) c.self.view_is
+    (all_are_words c.self.inside.strings.keys)

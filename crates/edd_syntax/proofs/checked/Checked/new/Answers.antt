@@ -10,6 +10,10 @@ use Rattle.edd_syntax.proofs.checked.Checked.new.Goals as goal
 
 pub invariant_of-result : goal.invariant_of-result
 invariant_of-result c = record {
-  checked = subst (λ (items : Vec (Item Target) Global). ∥ IsChecked (description (identification_of c.args.resolved.now.identification) (numbered_items items.items)) ∥₁)
-      (sym c.in_ok-clone.ensures.cases) (∥∥₁_map c.args.resolved.now.resolved (λ r. record { is_resolved = r; no_breach = c.requires.no_breach }));
+  checked = subst (λ (items : Vec (Item Target) Global). ∥ IsChecked
+      (description (identification_of c.args.resolved.now.identification)
+      (numbered_items items.items)) ∥₁)
+      (sym c.in_ok-clone.ensures.cases)
+      (∥∥₁_map c.args.resolved.now.resolved
+      (λ r. record { is_resolved = r; no_breach = c.requires.no_breach }));
 }

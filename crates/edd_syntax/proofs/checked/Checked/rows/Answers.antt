@@ -2,7 +2,7 @@ use Rattle.std.proofs.Common.{◌∙◌, ap, sym, subst, ◌≤◌, List, map, n
 use Rattle.std.specs.List.{list_all}
 use Rattle.edd_syntax.specs.declared.item.Item.{Item}
 use Rattle.edd_syntax.specs.declared.reference.Target.{Target}
-use Rattle.edd_syntax.specs.ItemView.{identification_of, item_of, numbered_items}
+use Rattle.edd_syntax.specs.ItemView.{identification_of, numbered_items, numbered_item}
 use Rattle.edd_syntax.specs.NameRules.{transaction_count}
 use Rattle.edd_syntax.specs.Resolution.{count_of}
 use Rattle.edd_syntax.specs.Resolved.{description}
@@ -11,10 +11,15 @@ use Rattle.edd_syntax.proofs.checked.Checked.rows.Goals as goal
 
 pub push_kinds-requires-clause-few : goal.push_kinds-requires-clause-few
 push_kinds-requires-clause-few c k =
-    subst (λ (items : List (Item Target)). count_of k (map (item_of (λ r. r)) items) ≤ 4096) (sym (c.deref-2.ensures.value ∙ ap (λ v. v.items) c.deref.ensures))
-    (few_when_checked (description (identification_of c.args.self.now.identification) (numbered_items c.args.self.now.items.value.items)) c.args.self.now.checked k)
+    subst (λ (items : List (Item Target)). count_of k (map numbered_item items) ≤ 4096)
+    (sym (c.deref-2.ensures.value ∙ ap (λ v. v.items) c.deref.ensures))
+    (few_when_checked (description (identification_of c.args.self.now.identification)
+    (numbered_items c.args.self.now.items.value.items)) c.args.self.now.checked k)
 
 pub push_kinds-requires-clause-transactions : goal.push_kinds-requires-clause-transactions
 push_kinds-requires-clause-transactions c =
-    subst (λ (items : List (Item Target)). IsTrue (list_all (λ i. nat_le (transaction_count i) 4096) (map (item_of (λ r. r)) items))) (sym (c.deref-2.ensures.value ∙ ap (λ v. v.items) c.deref.ensures))
-    (few_transactions_when_checked (description (identification_of c.args.self.now.identification) (numbered_items c.args.self.now.items.value.items)) c.args.self.now.checked)
+    subst (λ (items : List (Item Target)). IsTrue (list_all (λ i. nat_le (transaction_count i) 4096)
+    (map numbered_item items)))
+    (sym (c.deref-2.ensures.value ∙ ap (λ v. v.items) c.deref.ensures))
+    (few_transactions_when_checked (description (identification_of c.args.self.now.identification)
+    (numbered_items c.args.self.now.items.value.items)) c.args.self.now.checked)

@@ -8,6 +8,7 @@ use Rattle.edd_syntax.proofs.resolved.Resolved.new.Goals as goal
 
 pub invariant_of-result : goal.invariant_of-result
 invariant_of-result c = record {
-  resolved = subst (λ (items : Vec (Item Target) Global). ∥ IsResolved (description (identification_of c.args.identification) (numbered_items items.items)) ∥₁)
+  resolved = subst (λ (items : Vec (Item Target) Global). ∥ IsResolved
+      (description (identification_of c.args.identification) (numbered_items items.items)) ∥₁)
       (sym c.in_ok-new.ensures.ok) ∣ c.requires ∣₁;
 }
