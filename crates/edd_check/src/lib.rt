@@ -1,72 +1,70 @@
-//! Why a text is refused, at its place, with what helps.
+//! Why a text is refused, at each place, with what helps, and what is surely not meant in one that is
+//! accepted.
 //!
-//! A refusal's number, kind and detail are those of the compiler's own fault. Its place and its helps are found in the tokens;
-//! of them nothing is proved but that they are found safely and in bounded time.
+//! Whether a text is refused is what the compiler says, and its refusal is the first. Of places,
+//! helps, further faults and warnings nothing is proved but that they are found safely and in
+//! bounded time.
 #![tactic(auto)]
 
-mod declarations;
-mod diagnostic;
-mod lexical;
-mod located;
-mod names;
-mod nearest;
-mod places;
-mod printing;
-mod syntax;
-mod trials;
-mod words;
+mod accepted;
+mod choices;
+mod grammar;
+mod refusals;
+mod reports;
 
-pub use diagnostic::{Diagnostic, Help, Span};
+pub use choices::{Choices, Level};
 use edd_compiler::{Fault, compile};
-use edd_display::ShowFault;
-use edd_lexer::lex;
-use edd_lexer::token::Token;
-use std::alloc::Global;
+use edd_places::lines::Lines;
+use edd_reports::{Source, print_diagnostic, print_more};
+pub use edd_reports::{Format, ReportFault};
+pub use edd_warnings::{LINTS, Lint};
+pub use reports::Reports;
+use std::alloc::{AllocError, Global};
 use std::io::Write;
 
-// The tokens of a text; none of one that has no tokens.
-fn tokens_of(alloc: Global, text: &[u8]) -> Result<Vec<Token>, ShowFault> {
-    match lex(alloc, text) {
-        Ok(tokens) => Ok(tokens),
-        Err(edd_lexer::fault::LexFault::Memory) => Err(ShowFault::Memory),
-        Err(_) => Ok(Vec::new(alloc)),
-    }
-}
-
-// What is said of a fault.
-fn explained(alloc: Global, text: &[u8], fault: &Fault) -> Result<Diagnostic, ShowFault> {
-    let refusal = fault.to_string(alloc)?;
-    let tokens = tokens_of(alloc, text)?;
-    match fault {
-        Fault::Lex(why) => lexical::diagnostic(alloc, text, why, refusal),
-        Fault::Parse(why) => syntax::diagnostic(alloc, text, &tokens, why, refusal),
-        Fault::Name(why) => names::of_name(alloc, text, &tokens, why, refusal),
-        Fault::Type(why) => names::of_type(alloc, text, &tokens, why, refusal),
-        Fault::TooManyStrings | Fault::Memory => { Ok(Diagnostic::new(alloc, refusal)) }
-    }
-}
-
-/// Why a text is not compiled; nothing of one that is.
-pub fn diagnose(alloc: Global, text: &[u8]) -> Result<Option<Diagnostic>, ShowFault> {
+/// What is said of a text.
+pub fn diagnose(alloc: Global, text: &[u8], choices: &Choices) -> Result<Reports, AllocError> {
+    let mut reports = Reports::new(alloc);
     match compile(alloc, text) {
-        Ok(_) => Ok(None),
-        Err(Fault::Memory) => Err(ShowFault::Memory),
-        Err(fault) => Ok(Some(explained(alloc, text, &fault)?)),
+        Ok(_image) => accepted::of_text(alloc, text, choices, &mut reports)?,
+        Err(Fault::Memory) => return Err(AllocError),
+        Err(fault) => refusals::of_fault(alloc, text, fault, &mut reports)?,
     }
+    Ok(reports)
 }
 
-/// Prints why the text of the source of this name is not compiled. Says whether it is refused.
+fn print_all<W: Write>(
+    alloc: Global,
+    source: Source<'_>,
+    reports: &Reports,
+    format: Format,
+    out: &mut W,
+) -> Result<(), ReportFault> {
+    for found in &reports.shown {
+        print_diagnostic(alloc, source, found, format, out)?;
+    }
+    if 0 < reports.more {
+        print_more(alloc, source, reports.more, format, out)?;
+    }
+    Ok(())
+}
+
+/// Prints what is said of the text of the source of this name. Says whether it is refused, or a lint
+/// that is denied finds something.
 pub fn check<W: Write>(
     alloc: Global,
     name: &str,
     text: &[u8],
+    choices: &Choices,
+    format: Format,
     out: &mut W,
-) -> Result<bool, ShowFault> {
-    match diagnose(alloc, text)? {
-        Some(found) => {
-            printing::print_diagnostic(alloc, name, text, &found, out)?;
-            Ok(true)
-        }
-        None => Ok(false),
-    }
+) -> Result<bool, ReportFault> {
+    let reports = diagnose(alloc, text, choices)?;
+    let lines = Lines::of(alloc, text)?;
+    let source = Source {
+        name,
+        lines: &lines,
+    };
+    print_all(alloc, source, &reports, format, out)?;
+    Ok(reports.is_refused)
 }

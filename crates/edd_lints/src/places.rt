@@ -4,11 +4,22 @@ use edd_lexer::token::{Token, TokenKind};
 use edd_syntax::symbols::{Keyword, Symbol};
 use std::alloc::{AllocError, Global};
 
-/// A token by its line and its text. Without a text it is the first token of the line.
+/// A token by its line, its text and the byte at which it begins. Without a byte it is the first
+/// token of the line with this text, without a text the first of the line.
 #[derive(Clone, Copy)]
 pub struct Mark<'a> {
     pub line: u32,
     pub word: Option<&'a str>,
+    pub start: Option<u32>,
+}
+
+/// The first token of a line with a text.
+pub fn first_on<'a>(line: u32, word: &'a str) -> Mark<'a> {
+    Mark {
+        line,
+        word: Some(word),
+        start: None,
+    }
 }
 
 /// A token as it is written.
@@ -26,6 +37,7 @@ pub fn mark_of<'a>(text: &'a [u8], token: &Token) -> Mark<'a> {
     Mark {
         line: token.line,
         word: Some(word_of(text, token)),
+        start: Some(token.start),
     }
 }
 
@@ -66,6 +78,7 @@ impl<'a> Places<'a> {
             None => Mark {
                 line: 1,
                 word: None,
+                start: None,
             },
         };
         Places {
@@ -106,6 +119,10 @@ impl<'a> Places<'a> {
                 return self.last;
             }
         }
-        Mark { line, word: None }
+        Mark {
+            line,
+            word: None,
+            start: None,
+        }
     }
 }

@@ -4,11 +4,13 @@ use crate::lint::Lint;
 use crate::places::Mark;
 use std::alloc::{AllocError, Global};
 
-/// A token by its line and its text. Without a text it is the first token of the line.
+/// A token by its line, counted from 1, its text and the byte at which it begins. Without a byte it is
+/// the first token of the line with this text, without a text the first of the line.
 #[derive(Drop)]
 pub struct Spot {
     pub line: u32,
     pub word: Option<String>,
+    pub start: Option<u32>,
 }
 
 /// Something that is in the language and surely not meant.
@@ -19,6 +21,8 @@ pub struct Warning {
     pub line: u32,
     /// The text of that token. Without one it is the first token of the line.
     pub word: Option<String>,
+    /// The byte at which that token begins. Without one it is the first with this text on the line.
+    pub start: Option<u32>,
     /// One line of plain words.
     pub message: String,
     /// The place of what is in conflict with it, if there is one.
@@ -54,6 +58,7 @@ impl Findings {
             lint,
             line: at.line,
             word: owned(self.alloc, at.word)?,
+            start: at.start,
             message,
             other: None,
         })?;
@@ -71,11 +76,13 @@ impl Findings {
         let spot = Spot {
             line: other.line,
             word: owned(self.alloc, other.word)?,
+            start: other.start,
         };
         self.warnings.push(Warning {
             lint,
             line: at.line,
             word: owned(self.alloc, at.word)?,
+            start: at.start,
             message,
             other: Some(spot),
         })?;

@@ -3,7 +3,7 @@
 use edd_lints::constants::{Known, Width, evaluate, is_literal};
 use edd_lints::expressions::{Walk, check_condition, check_expression};
 use edd_lints::lint::Lint;
-use edd_lints::places::Mark;
+use edd_lints::places::{Mark, first_on};
 use edd_lints::warning::Findings;
 use edd_syntax::expr::Expr;
 use edd_syntax::operators::Builtin;
@@ -35,14 +35,11 @@ fn abort_of(e: &Expr<Target>) -> Option<Mark<'static>> {
         return None;
     };
     match *function {
-        Target::Function(Builtin::Abort) => Some(Mark {
-            line: *line,
-            word: Some(Builtin::Abort.name()),
-        }),
-        Target::Function(Builtin::ProcessAbort) => Some(Mark {
-            line: *line,
-            word: Some(Builtin::ProcessAbort.name()),
-        }),
+        Target::Function(Builtin::Abort) => Some(first_on(*line, Builtin::Abort.name())),
+        Target::Function(Builtin::ProcessAbort) => Some(first_on(
+            *line,
+            Builtin::ProcessAbort.name(),
+        )),
         _ => None,
     }
 }
@@ -308,18 +305,12 @@ fn check_statement<'a>(
             })
         }
         Stmt::Break { line } => Ok(Flow {
-            ends: Some(Mark {
-                line: *line,
-                word: Some(Keyword::Break.spelling()),
-            }),
+            ends: Some(first_on(*line, Keyword::Break.spelling())),
             breaks: true,
             leaves: false,
         }),
         Stmt::Continue { line } => Ok(Flow {
-            ends: Some(Mark {
-                line: *line,
-                word: Some(Keyword::Continue.spelling()),
-            }),
+            ends: Some(first_on(*line, Keyword::Continue.spelling())),
             breaks: false,
             leaves: false,
         }),

@@ -2,17 +2,15 @@
 //! what helps, and the faults of the items behind it. Proved is that all of it is safe and ends.
 #![tactic(auto)]
 
-mod finding;
+mod candidates;
 mod grammar;
 mod later;
-mod lexical;
 mod located;
-mod scanning;
 mod sections;
 mod syntax;
 mod trials;
 
-pub use finding::Found;
+pub use edd_lexical_repairs::Found;
 pub use grammar::{Grammar, TextFault, tokens_of};
 pub use later::{LaterFault, explained, later_faults};
 use std::alloc::{AllocError, Global};
@@ -25,7 +23,7 @@ pub fn found_in<G: Grammar>(
     refusal: String,
 ) -> Result<Found, AllocError> {
     match fault {
-        TextFault::Lex(why) => lexical::found_in(alloc, text, why, refusal),
+        TextFault::Lex(why) => edd_lexical_repairs::found_in(alloc, text, why, refusal),
         TextFault::Parse(why) => {
             let tokens = tokens_of(alloc, text)?;
             syntax::found_in::<G>(alloc, text, &tokens, why, refusal)

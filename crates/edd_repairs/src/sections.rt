@@ -4,7 +4,7 @@
 //! item before. Behind a fault the braces may be off: those that are still open where an item begins
 //! miss their closing ones, and as many closing ones that come later are taken for these.
 
-use crate::scanning::{Scanned, Shape, byte_at, piece_at};
+use edd_lexical_repairs::scanning::{Scanned, Shape, byte_at, piece_at};
 use edd_places::words::{kind_word, text_in};
 use edd_syntax::numbers::KINDS;
 use std::alloc::{AllocError, Global};

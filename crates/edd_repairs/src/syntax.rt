@@ -1,14 +1,17 @@
 //! What is said of a text that spells no unit.
 
-use crate::finding::Found;
 use crate::grammar::{Grammar, TextFault};
 use crate::located::{Where, located, place_on, tokens_on};
 use crate::trials::{Change, Misfit};
-use edd_lexer::token::Token;
+use edd_lexer::token::{Token, TokenKind};
+use edd_lexical_repairs::Found;
+use edd_lexical_repairs::scanning::byte_at;
 use edd_places::diagnostic::{Diagnostic, Finding};
 use edd_places::outline::Outline;
 use edd_places::words::{Span, item_kind, kind_word, span_of, word_of};
 use edd_syntax::numbers::{ATTRIBUTES, Attr, KINDS, Kind};
+use edd_syntax::operators::Operator;
+use edd_syntax::symbols::{Keyword, Symbol};
 use edd_token_reader::fault::ParseFault;
 use std::alloc::{AllocError, Global};
 
@@ -125,14 +128,65 @@ fn help_change(
             format!(in alloc; "a {sign} is missing here")?
         }
         Change::Before(sign) => format!(in alloc; "a {sign} is missing before {word}")?,
+        Change::Missing(what) => format!(in alloc; "{} is missing before {word}", what.name)?,
         Change::Instead(other) => {
             found.place = Some(span_of(token));
             format!(in alloc; "{other} may be meant in place of {word}")?
         }
-        Change::LeaveOut => format!(in alloc; "{word} may be left out")?,
+        Change::LeaveOut => {
+            found.place = Some(span_of(token));
+            format!(in alloc; "{word} may be left out")?
+        }
+        Change::Quoted => format!(in alloc; "quotes may be missing around {word}")?,
+        Change::Renamed => format!(in alloc; "{word} is a reserved word and can be no name")?,
     };
     found.help(text)?;
     Ok(())
+}
+
+const IDENTIFICATION: &str =
+    "a description begins with MANUFACTURER .., DEVICE_TYPE .., DEVICE_REVISION .., DD_REVISION ..";
+
+// What is wrong about a token that does not fit, where what stands around it says so.
+fn told_by_neighbours(at: Misfit<'_>, token: &Token) -> Option<&'static str> {
+    let before = at.before()?;
+    let is_word = matches!(token.kind, TokenKind::Name | TokenKind::Keyword(_));
+    let is_joined = before.end == token.start;
+    match before.kind {
+        TokenKind::String if is_word && is_joined => {
+            Some("a quote inside of a text is written \\\"")
+        }
+        TokenKind::Name if is_operator(token, Operator::Subtract) && is_joined => {
+            Some("a name has letters, digits and _ alone")
+        }
+        _ if is_operator(token, Operator::Multiply) && ends_comment(at.text, token) => {
+            Some("no comment is open here: comments do not stand inside of one another")
+        }
+        TokenKind::Keyword(Keyword::Return) if before.line == token.line && !is_brace(token) => {
+            Some("a method gives no value: return stands alone")
+        }
+        _ => None,
+    }
+}
+
+fn is_operator(token: &Token, operator: Operator) -> bool {
+    token.kind == TokenKind::Symbol(Symbol::Operator(operator))
+}
+
+// Whether a star and what is right behind it are `*/`.
+fn ends_comment(text: &[u8], star: &Token) -> bool {
+    byte_at(text, star.end as usize) == b'/'
+}
+
+fn is_brace(token: &Token) -> bool {
+    token.kind == TokenKind::Symbol(Symbol::CloseBrace)
+}
+
+fn is_condition(token: &Token) -> bool {
+    matches!(
+        token.kind,
+        TokenKind::Keyword(Keyword::If | Keyword::Select)
+    )
 }
 
 // What helps where a token does not fit.
@@ -154,7 +208,13 @@ fn help_misfit<G: Grammar>(
         return help_change(alloc, at, change, found);
     }
     let word = short(at.text, token);
-    let text = format!(in alloc; "{word} fits nothing here")?;
+    let text = if at.number == 0 {
+        String::from_str(alloc, IDENTIFICATION)?
+    } else if at.wants_text::<G>(alloc)? {
+        String::from_str(alloc, "a text belongs here: quotes may be missing")?
+    } else {
+        format!(in alloc; "{word} fits nothing here")?
+    };
     found.help(text)?;
     if item_kind(token).is_some() {
         help_open(alloc, at.tokens, outline, at.number, found)?;
@@ -169,19 +229,43 @@ fn misfit<G: Grammar>(
 ) -> Result<(), AllocError> {
     let outline = Outline::of(alloc, at.tokens)?;
     let Some(token) = at.tokens.get(at.number) else {
-        found.place = end_of(at.tokens);
-        let text = String::from_str(alloc, "the text ends here, and something is missing")?;
-        found.help(text)?;
-        return help_open(alloc, at.tokens, &outline, at.tokens.len(), found);
+        return help_end(alloc, at.tokens, &outline, found);
     };
     found.place = Some(span_of(token));
-    let attr = attribute_of(word_of(at.text, token));
-    if let (Some(kind), Some(attr)) = (outline.kind_around(at.tokens, at.number), attr) {
-        if help_attribute(alloc, kind, attr, found)? {
-            return Ok(());
+    if let Some(text) = told_by_neighbours(at, token) {
+        return found.help(String::from_str(alloc, text)?);
+    }
+    if let Some(kind) = outline.kind_around(at.tokens, at.number) {
+        if is_condition(token) {
+            return found.help(String::from_str(alloc, CONDITION)?);
+        }
+        if let Some(attr) = attribute_of(word_of(at.text, token)) {
+            if help_attribute(alloc, kind, attr, found)? {
+                return Ok(());
+            }
         }
     }
     help_misfit::<G>(alloc, at, &outline, found)
+}
+
+const CONDITION: &str =
+    "a condition stands behind the word of an attribute, as in LABEL IF (..) { ..; }";
+
+// What helps where the text ends too early.
+fn help_end(
+    alloc: Global,
+    tokens: &[Token],
+    outline: &Outline,
+    found: &mut Diagnostic,
+) -> Result<(), AllocError> {
+    found.place = end_of(tokens);
+    let text = if tokens.is_empty() {
+        IDENTIFICATION
+    } else {
+        "the text ends here, and something is missing"
+    };
+    found.help(String::from_str(alloc, text)?)?;
+    help_open(alloc, tokens, outline, tokens.len(), found)
 }
 
 // Whether the text up to a token's end is refused for this word.

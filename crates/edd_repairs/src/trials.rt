@@ -1,11 +1,12 @@
 //! Edits of the token that does not fit, of which the best one is what helps.
 
+use crate::candidates::{
+    BEFORE, BEHIND, Missing, missing_before, nearest_word, signs_for, word_for,
+};
 use crate::grammar::Grammar;
 use crate::located::{Edit, LineTokens, line_of, spread};
 use edd_lexer::token::{Token, TokenKind};
-use edd_places::nearest::Nearest;
-use edd_places::words::{Span, is_sign, word_of};
-use edd_syntax::symbols::{Keyword, Symbol};
+use edd_places::words::{Span, word_of};
 use std::alloc::{AllocError, Global};
 
 /// What an edit does.
@@ -15,8 +16,14 @@ pub enum Change<'a> {
     Behind(&'static str),
     /// The sign stands before the token.
     Before(&'static str),
+    /// Something that is no sign stands before the token.
+    Missing(Missing),
     Instead(&'a str),
     LeaveOut,
+    /// The token is a text.
+    Quoted,
+    /// The token is a name.
+    Renamed,
 }
 
 /// A text, its tokens, and the token of a line that does not fit.
@@ -35,80 +42,14 @@ struct Best<'a> {
     line: u32,
 }
 
-/// The signs that may be missing behind a token, and before one.
-const BEHIND: [&str; 6] = [";", ",", ")", "}", "]", ">"];
-
-const BEFORE: [&str; 3] = ["(", "{", ":"];
-
-/// The words with which items, attributes and statements begin, and others that the grammar asks
-/// for.
-const WORDS: [Keyword; 50] = [
-    Keyword::Manufacturer,
-    Keyword::DeviceType,
-    Keyword::DeviceRevision,
-    Keyword::DdRevision,
-    Keyword::Variable,
-    Keyword::Command,
-    Keyword::Menu,
-    Keyword::Collection,
-    Keyword::Method,
-    Keyword::Of,
-    Keyword::Label,
-    Keyword::Help,
-    Keyword::Class,
-    Keyword::Handling,
-    Keyword::ConstantUnit,
-    Keyword::Validity,
-    Keyword::Type,
-    Keyword::Number,
-    Keyword::Operation,
-    Keyword::Transaction,
-    Keyword::ResponseCodes,
-    Keyword::Request,
-    Keyword::Reply,
-    Keyword::Items,
-    Keyword::Members,
-    Keyword::Definition,
-    Keyword::If,
-    Keyword::Else,
-    Keyword::Select,
-    Keyword::Case,
-    Keyword::Default,
-    Keyword::DefaultValue,
-    Keyword::MinValue,
-    Keyword::MaxValue,
-    Keyword::DisplayFormat,
-    Keyword::EditFormat,
-    Keyword::Int,
-    Keyword::Long,
-    Keyword::MethodIf,
-    Keyword::MethodElse,
-    Keyword::While,
-    Keyword::Do,
-    Keyword::For,
-    Keyword::Switch,
-    Keyword::MethodCase,
-    Keyword::MethodDefault,
-    Keyword::Break,
-    Keyword::Continue,
-    Keyword::Return,
-    Keyword::Signed,
-];
-
-/// The reserved word that is nearest to a word.
-fn nearest_word(alloc: Global, word: &str) -> Result<Option<&'static str>, AllocError> {
-    let mut nearest = Nearest::to(word);
-    for keyword in WORDS {
-        nearest.look(alloc, keyword.spelling())?;
-    }
-    Ok(nearest.found)
-}
-
 fn edit_of<'a>(number: usize, change: Change<'a>) -> Edit<'a> {
     let (before, instead) = match change {
         Change::Behind(sign) | Change::Before(sign) => (sign, None),
+        Change::Missing(what) => (what.spelling, None),
         Change::Instead(word) => ("", Some(word)),
         Change::LeaveOut => ("", Some("")),
+        Change::Quoted => ("", Some("\"\"")),
+        Change::Renamed => ("", Some("x")),
     };
     Edit {
         token: number,
@@ -150,6 +91,7 @@ impl<'a> Misfit<'a> {
         Ok(())
     }
 
+    // Tries the words that may be meant by a word.
     fn attempt_words<G: Grammar>(
         &self,
         alloc: Global,
@@ -158,19 +100,69 @@ impl<'a> Misfit<'a> {
         let Some(token) = self.tokens.get(self.number) else {
             return Ok(());
         };
-        if is_sign(self.tokens, self.number, Symbol::Equals) {
-            self.attempt::<G>(alloc, best, Change::Instead("=="))?;
+        if !matches!(token.kind, TokenKind::Name | TokenKind::Keyword(_)) {
+            return Ok(());
         }
-        if matches!(token.kind, TokenKind::Name | TokenKind::Keyword(_)) {
-            let word = word_of(self.text, token);
-            if let Some(near) = nearest_word(alloc, word)? {
-                self.attempt::<G>(alloc, best, Change::Instead(near))?;
+        let word = word_of(self.text, token);
+        match word_for(word) {
+            Some("") => self.attempt::<G>(alloc, best, Change::LeaveOut)?,
+            Some(other) => self.attempt::<G>(alloc, best, Change::Instead(other))?,
+            None => {}
+        }
+        match nearest_word(alloc, word)? {
+            Some(near) => self.attempt::<G>(alloc, best, Change::Instead(near)),
+            None => Ok(()),
+        }
+    }
+
+    // Tries the signs that may be meant by a sign.
+    fn attempt_signs<G: Grammar>(
+        &self,
+        alloc: Global,
+        best: &mut Best<'a>,
+    ) -> Result<(), AllocError> {
+        if let Some(token) = self.tokens.get(self.number) {
+            for sign in signs_for(token.kind) {
+                self.attempt::<G>(alloc, best, Change::Instead(*sign))?;
             }
         }
         Ok(())
     }
 
-    /// The change with which the text gets farthest, if one leads past the token behind.
+    // Tries what may be missing before the token.
+    fn attempt_missing<G: Grammar>(
+        &self,
+        alloc: Global,
+        best: &mut Best<'a>,
+    ) -> Result<(), AllocError> {
+        let Some(token) = self.tokens.get(self.number) else {
+            return Ok(());
+        };
+        let word = word_of(self.text, token);
+        for what in missing_before(self.kind_before(), token.kind, word) {
+            self.attempt::<G>(alloc, best, Change::Missing(*what))?;
+        }
+        Ok(())
+    }
+
+    // Tries the token as a text, or as a name where it is a reserved word.
+    fn attempt_kinds<G: Grammar>(
+        &self,
+        alloc: Global,
+        best: &mut Best<'a>,
+    ) -> Result<(), AllocError> {
+        let Some(token) = self.tokens.get(self.number) else {
+            return Ok(());
+        };
+        match token.kind {
+            TokenKind::Keyword(_) => self.attempt::<G>(alloc, best, Change::Renamed),
+            TokenKind::Name => self.attempt::<G>(alloc, best, Change::Quoted),
+            _ => Ok(()),
+        }
+    }
+
+    /// The change with which the text gets farthest, if one leads past the token behind. Of changes
+    /// that get as far it is the first one.
     pub fn best_change<G: Grammar>(&self, alloc: Global) -> Result<Option<Change<'a>>, AllocError> {
         let mut best = Best {
             change: None,
@@ -180,17 +172,41 @@ impl<'a> Misfit<'a> {
         for sign in BEHIND {
             self.attempt::<G>(alloc, &mut best, Change::Behind(sign))?;
         }
+        self.attempt::<G>(alloc, &mut best, Change::LeaveOut)?;
+        self.attempt_signs::<G>(alloc, &mut best)?;
         for sign in BEFORE {
             self.attempt::<G>(alloc, &mut best, Change::Before(sign))?;
         }
-        self.attempt::<G>(alloc, &mut best, Change::LeaveOut)?;
+        self.attempt_missing::<G>(alloc, &mut best)?;
+        self.attempt_kinds::<G>(alloc, &mut best)?;
         Ok(best.change)
+    }
+
+    /// Whether a text fits where a name stands that does not.
+    pub fn wants_text<G: Grammar>(&self, alloc: Global) -> Result<bool, AllocError> {
+        let mut best = Best {
+            change: None,
+            line: self.own_line(),
+        };
+        if self.kind_before() != Some(TokenKind::String) {
+            self.attempt_kinds::<G>(alloc, &mut best)?;
+        }
+        Ok(matches!(best.change, Some(Change::Quoted)))
+    }
+
+    /// The token before.
+    pub fn before(&self) -> Option<&'a Token> {
+        self.tokens.get(self.number.checked_sub(1)?)
+    }
+
+    fn kind_before(&self) -> Option<TokenKind> {
+        let token = self.before()?;
+        Some(token.kind)
     }
 
     /// Where the token before ends.
     pub fn end_before(&self) -> Option<Span> {
-        let token = self.tokens.get(self.number.checked_sub(1)?)?;
-        let end = token.end as usize;
+        let end = self.before()?.end as usize;
         Some(Span { start: end, end })
     }
 
@@ -203,13 +219,14 @@ impl<'a> Misfit<'a> {
         Some(Misfit { number, ..*self })
     }
 
-    /// The reserved word that is meant by the token, if it leads past the token behind.
+    /// The word or the sign that is meant by the token, if it leads past the token behind.
     pub fn best_word<G: Grammar>(&self, alloc: Global) -> Result<Option<Change<'a>>, AllocError> {
         let mut best = Best {
             change: None,
             line: self.own_line().saturating_add(2),
         };
         self.attempt_words::<G>(alloc, &mut best)?;
+        self.attempt_signs::<G>(alloc, &mut best)?;
         Ok(best.change)
     }
 }

@@ -45,7 +45,15 @@ struct Ended {
     bytes: Vec<u8>,
 }
 
-// Whether the last line is a refusal with a number, or the first one is after a place, as `check` prints it.
+// Whether a line of `check` is a refusal by a lint that is denied, or one in JSON.
+fn is_other_refusal(line: &str) -> bool {
+    line.contains(": denied ")
+        || line.contains("\"severity\":\"refused\"")
+        || line.contains("\"severity\":\"denied\"")
+}
+
+// Whether the last line is a refusal with a number, or the first one is after a place, as `check`
+// prints it, or a line is a refusal in another form of `check`.
 fn is_refusal(printed: &[u8]) -> bool {
     let text = str::from_utf8(printed).unwrap_or("");
     let first = text.lines().next().unwrap_or("");
@@ -55,7 +63,7 @@ fn is_refusal(printed: &[u8]) -> bool {
         None => first.split(": refused ").last().unwrap_or(""),
     };
     let number = refusal.split(' ').next().unwrap_or("");
-    number.parse::<u16>().is_ok()
+    number.parse::<u16>().is_ok() || text.lines().any(is_other_refusal)
 }
 
 // Runs `edd` with these words over these files.

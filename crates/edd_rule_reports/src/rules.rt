@@ -6,7 +6,9 @@ use edd_name_meanings::fault::NameFault;
 use edd_places::diagnostic::{Diagnostic, Finding};
 use edd_places::nearest::Nearest;
 use edd_places::words::kind_word;
+use edd_syntax::limits::Limit;
 use edd_syntax::operators::{Builtin, Parameter};
+use edd_syntax::symbols::Keyword;
 use edd_types::fault::TypeFault;
 use std::alloc::{AllocError, Global};
 
@@ -98,24 +100,56 @@ fn function_of(word: &str) -> Option<Builtin> {
         .find(|function| function.name() == word)
 }
 
+// What helps at a function with other arguments, at the brace of an enumerator, or at an option.
 fn mismatch_help(alloc: Global, word: &str) -> Result<String, AllocError> {
     match function_of(word) {
         Some(Builtin::Abort | Builtin::ProcessAbort) => {
             format!(in alloc; "{word} takes nothing and is a statement of its own")
         }
         Some(function) => function_help(alloc, function),
-        None => String::from_str(
+        None if word == "{" => String::from_str(
             alloc,
-            "this fits neither the type nor the function around it",
+            "values with names stand in ENUMERATED and BIT_ENUMERATED alone",
         ),
+        None => { format!(in alloc; "an enumerated type has no {word}, only DEFAULT_VALUE") }
     }
 }
 
-fn unknown_help(alloc: Global, source: &Source<'_>, name: &str) -> Result<String, AllocError> {
-    match source.nearest(alloc, name)? {
-        Some(near) => format!(in alloc; "{near} may be meant"),
-        None => format!(in alloc; "nothing is declared with the name {name}"),
+// What helps where a word leaves or goes on with nothing.
+fn break_help(word: &str) -> &'static str {
+    if word == Keyword::Continue.spelling() {
+        "continue goes on with a loop, and there is none around it"
+    } else {
+        "break leaves a loop or a switch, and there is none around it"
     }
+}
+
+fn limit_help(limit: Limit) -> &'static str {
+    match limit {
+        Limit::Items => "there are at most 4096 items of a kind",
+        Limit::Transactions => "a command has at most 4096 transactions",
+        Limit::Locals => "a method has at most 64 locals",
+        Limit::Nodes => "a description has at most 524288 nodes",
+        Limit::Strings => "a description has at most 65535 different texts",
+    }
+}
+
+// What helps where a name means nothing: where it does, or the nearest one.
+fn help_unknown(
+    alloc: Global,
+    source: &Source<'_>,
+    name: &str,
+    found: &mut Diagnostic,
+) -> Result<(), AllocError> {
+    if let Some(number) = source.declared(name) {
+        let text = format!(in alloc; "{name} means nothing here, but is declared")?;
+        return found.help_at(source.span(number), text);
+    }
+    let text = match source.nearest(alloc, name)? {
+        Some(near) => format!(in alloc; "{near} may be meant")?,
+        None => format!(in alloc; "nothing is declared with the name {name}")?,
+    };
+    found.help(text)
 }
 
 // The type that is nearest to a word.
@@ -173,14 +207,21 @@ fn missing_help(
 // A help that is the same for each breach of a rule.
 fn plain_help(rule: &Rule<'_>) -> Option<&'static str> {
     match rule {
-        Rule::TooMany(_) => Some("`edd explain 40` has the limits"),
+        Rule::TooMany(limit) => Some(limit_help(*limit)),
         Rule::FloatVariable(_) => Some("numbers are whole: take INTEGER (4) in a smaller unit"),
         Rule::BadSize(_) => Some("a variable has 1 to 4 octets"),
         Rule::FloatValue(_) => Some("numbers are whole: take a smaller unit"),
-        Rule::BreakOutside(_) => Some("it stands in no loop that it could leave"),
         Rule::ConstRange(_) => Some("a constant is an octet, 0 to 255, and a mask is not 0"),
         Rule::DuplicateCase(_) => Some("this case is there already"),
         _ => None,
+    }
+}
+
+// The word at the place of a breach.
+fn word_there<'a>(source: &Source<'a>, breach: &Breach<'_>) -> &'a str {
+    match breach.place {
+        Some(number) => source.word(number),
+        None => "",
     }
 }
 
@@ -191,15 +232,12 @@ fn own_help(
     breach: &Breach<'_>,
 ) -> Result<Option<String>, AllocError> {
     match breach.rule {
-        Rule::UnknownName(name) => Ok(Some(unknown_help(alloc, source, name)?)),
         Rule::MissingAttribute { word, .. } => missing_help(alloc, source, breach, word),
         Rule::OtherType { word, .. } => Ok(Some(type_help(alloc, word)?)),
-        Rule::Mismatch(_) => {
-            let word = match breach.place {
-                Some(number) => source.word(number),
-                None => "",
-            };
-            Ok(Some(mismatch_help(alloc, word)?))
+        Rule::Mismatch(_) => Ok(Some(mismatch_help(alloc, word_there(source, breach))?)),
+        Rule::BreakOutside(_) => {
+            let help = break_help(word_there(source, breach));
+            Ok(Some(String::from_str(alloc, help)?))
         }
         _ => Ok(None),
     }
@@ -222,6 +260,9 @@ pub fn diagnostic(
     }
     if let Some(text) = own_help(alloc, source, breach)? {
         found.help(text)?;
+    }
+    if let Rule::UnknownName(name) = breach.rule {
+        help_unknown(alloc, source, name, &mut found)?;
     }
     help_beside(alloc, source, breach, &mut found)?;
     Ok(found)

@@ -115,6 +115,11 @@ impl<'a> Source<'a> {
         self.items.get(name).copied()
     }
 
+    /// The token that first declares a name, as an item, a member or a local.
+    pub fn declared(&self, name: &str) -> Option<usize> {
+        self.names.get(name).copied()
+    }
+
     /// The item whose name is a token.
     pub fn item_at(&self, name: usize) -> Option<Declared> {
         self.outline.item_at(name)

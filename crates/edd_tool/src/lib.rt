@@ -3,6 +3,7 @@
 
 ghost use Rattle.std.specs.Prelude.{◌≤◌};
 
+mod checking;
 mod files;
 mod playing;
 mod requests;

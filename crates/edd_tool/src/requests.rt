@@ -2,12 +2,12 @@
 
 ghost use Rattle.std.specs.Prelude.{◌≤◌};
 
+use crate::checking::{check_text, choices_of, push_lints};
 use crate::files::{FileFault, Files, read_all};
 use crate::playing::play_bytes;
 use crate::script::{self, ScriptFault};
 use crate::{COMMAND_LINE, DONE, FILE, MEMORY, REFUSED};
-use edd_check::check;
-use edd_command_line::{NoRequest, Request, Run};
+use edd_command_line::{Form, Lints, NoRequest, Request, Run};
 use edd_compiler::{Fault, compile};
 use edd_display::{ShowFault, print, print_text, show};
 use edd_dump::dump;
@@ -15,7 +15,7 @@ use edd_explanations::explain;
 use edd_loader::{Image, LoadFault, load};
 use edd_machine::{Values, ValuesFault};
 use edd_port::PlayFault;
-use std::alloc::Global;
+use std::alloc::{AllocError, Global};
 use std::io::Write;
 
 /// Why the program stops before its end.
@@ -33,6 +33,8 @@ pub enum Stop<'a> {
     Play(PlayFault),
     /// Nothing is refused with this number.
     NoRefusal(u32),
+    /// No lint has this name.
+    NoLint(&'a str),
     /// A refusal that is printed already.
     Shown,
     /// The output could not be written.
@@ -102,6 +104,12 @@ impl From<ShowFault> for Stop<'_> {
             ShowFault::Output => Stop::Output,
             ShowFault::WrongValues => Stop::Values(ValuesFault::Count),
         }
+    }
+}
+
+impl From<AllocError> for Stop<'_> {
+    fn from(_error: AllocError) -> Self {
+        Stop::Memory
     }
 }
 
@@ -224,15 +232,14 @@ fn try_source<'a, F: Files, W: Write>(
 fn check_source<'a, F: Files, W: Write>(
     alloc: Global,
     source: &'a str,
+    lints: &Lints<'a>,
+    form: Form,
     files: &mut F,
     out: &mut W,
 ) -> Result<(), Stop<'a>> {
+    let choices = choices_of(alloc, lints)?;
     let text = read(alloc, files, source)?;
-    if check(alloc, source, &text, out)? {
-        Err(Stop::Shown)
-    } else {
-        Ok(())
-    }
+    check_text(alloc, source, &text, &choices, form, out)
 }
 
 fn dump_file<'a, F: Files, W: Write>(
@@ -286,7 +293,11 @@ pub fn answer<'a, F: Files, W: Write>(
         } => show_file(alloc, image, script, language, files, out),
         Request::Play { image, run } => play_file(alloc, image, run, files, out),
         Request::Try { source, run } => try_source(alloc, source, run, files, out),
-        Request::Check { source } => check_source(alloc, source, files, out),
+        Request::Check {
+            source,
+            lints,
+            form,
+        } => check_source(alloc, source, &lints, form, files, out),
         Request::Dump { image } => dump_file(alloc, image, files, out),
         Request::Explain { number } => print_explanation(alloc, number, out),
     }
@@ -311,6 +322,11 @@ pub fn report<W: Write>(alloc: Global, stop: &Stop<'_>, out: &mut W) -> Result<(
                 format_args!("error: nothing is refused with the number {number}"),
             )
         }
+        Stop::NoLint(name) => {
+            let mut line = format!(in alloc; "error: no lint has the name {name}: the lints are")?;
+            push_lints(&mut line)?;
+            print(alloc, out, line.as_str())
+        }
         Stop::Output => Err(ShowFault::Output),
         Stop::Memory => Err(ShowFault::Memory),
     }
@@ -322,7 +338,7 @@ pub fn status(stop: &Stop<'_>) -> u8
 {
     match stop {
         Stop::Help(_) => DONE,
-        Stop::CommandLine(_) | Stop::NoRefusal(_) => COMMAND_LINE,
+        Stop::CommandLine(_) | Stop::NoRefusal(_) | Stop::NoLint(_) => COMMAND_LINE,
         Stop::Shown
         | Stop::NotCompiled(_)
         | Stop::NotLoaded(_)

@@ -3,7 +3,7 @@
 use crate::enumerators::check_enumerators;
 use edd_lints::constants::{Known, Width, evaluate};
 use edd_lints::lint::Lint;
-use edd_lints::places::{Mark, Places};
+use edd_lints::places::{Mark, Places, first_on};
 use edd_lints::warning::Findings;
 use edd_syntax::cond::{Arm, Cond};
 use edd_syntax::expr::Expr;
@@ -72,10 +72,7 @@ struct Placed<'a> {
 
 fn option_at<'a>(attr: Attr, line: u32) -> Placed<'a> {
     let what = attr.word();
-    let at = Mark {
-        line,
-        word: Some(what),
-    };
+    let at = first_on(line, what);
     Placed { what, at }
 }
 

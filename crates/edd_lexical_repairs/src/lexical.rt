@@ -8,7 +8,7 @@ use crate::scanning::{Scanned, Shape, byte_at, piece_at};
 use edd_lexer::fault::LexFault;
 use edd_lexer::lex;
 use edd_places::diagnostic::{Diagnostic, Finding};
-use edd_places::words::Span;
+use edd_places::words::{Span, text_in};
 use std::alloc::{AllocError, Global};
 
 // Where the first byte of a line is, counted from 1; the end of the text where there is no such
@@ -128,18 +128,35 @@ fn first_bad_escape(text: &[u8], span: Span) -> Span {
     span
 }
 
-fn help_of(fault: &LexFault) -> &'static str {
+// What helps where no token has a character.
+fn help_of_character(character: &str) -> &'static str {
+    match character.chars().next() {
+        Some('\'' | '`' | '‘' | '’' | '‚' | '“' | '”' | '„' | '«' | '»') =>
+            "a text stands between two \"",
+        Some('–' | '—' | '−') => "a minus is written -",
+        Some('\u{a0}') => "this is no space, though it looks like one",
+        _ => "no token has this character outside of strings and comments",
+    }
+}
+
+// Whether a word that is no number is meant as a name.
+fn is_like_name(word: &str) -> bool {
+    let is_number = word.starts_with("0x") || word.starts_with("0X") || word.contains('.');
+    !is_number && word.bytes().any(|byte| byte.is_ascii_alphabetic())
+}
+
+fn help_of(fault: &LexFault, word: &str) -> &'static str {
     match fault {
         LexFault::TooLong => "a text has at most 1048576 bytes",
         LexFault::NotUtf8 { .. } => "save the source as UTF-8",
-        LexFault::BadCharacter { .. } =>
-            "no token has this character outside of strings and comments",
+        LexFault::BadCharacter { .. } => help_of_character(word),
         LexFault::OpenComment { .. } => "the comment that begins here is never closed by */",
         LexFault::OpenString { .. } =>
             "the string that begins here is never closed; a quote may be missing before it",
         LexFault::BadEscape { .. } => "the escapes are \\\" \\\\ \\n \\t and \\|",
+        LexFault::BadNumber { .. } if is_like_name(word) => "a name begins with a letter or _",
         LexFault::BadNumber { .. } =>
-            "a number has decimal digits alone, no 0 in front, and is at most 4294967295",
+            "a number has no 0 in front, unless it is as 0x1F, and is at most 4294967295",
         LexFault::Directive { .. } => "run the preprocessor first",
         LexFault::Memory => "",
     }
@@ -198,6 +215,33 @@ fn place_on(
     Ok(None)
 }
 
+// The first string that goes over the end of its line.
+fn first_long_string(text: &[u8]) -> Option<Span> {
+    let mut place = 0;
+    for _ in 0..text.len() {
+        if text.len() <= place {
+            return None;
+        }
+        let piece = piece_at(text, place);
+        if piece.shape == Shape::String && text_in(text, piece.span).contains('\n') {
+            return Some(piece.span);
+        }
+        place = piece.span.end;
+    }
+    None
+}
+
+// Says which string may be the one that misses its quote, where an earlier one is likelier.
+fn help_long_string(alloc: Global, text: &[u8], found: &mut Diagnostic) -> Result<(), AllocError> {
+    match first_long_string(text) {
+        Some(place) => {
+            let help = String::from_str(alloc, "a string goes over several lines, which begins")?;
+            found.help_at(Some(place), help)
+        }
+        None => Ok(()),
+    }
+}
+
 /// What is said of a text that has no tokens.
 pub fn found_in(
     alloc: Global,
@@ -214,8 +258,14 @@ pub fn found_in(
         Some(line) => place_on(alloc, text, line, fault, &mut diagnostic)?,
         None => None,
     };
-    let help = String::from_str(alloc, help_of(fault))?;
-    diagnostic.help(help)?;
+    let word = match diagnostic.place {
+        Some(place) => text_in(text, place),
+        None => "",
+    };
+    diagnostic.help(String::from_str(alloc, help_of(fault, word))?)?;
+    if let LexFault::OpenString { .. } = fault {
+        help_long_string(alloc, text, &mut diagnostic)?;
+    }
     Ok(Found {
         diagnostic,
         goes_on,

@@ -1,0 +1,49 @@
+//! Which lints are shown, and which refuse a source.
+
+use edd_warnings::Lint;
+use std::alloc::{AllocError, Global};
+
+/// What is done where a lint finds something.
+#[derive(Clone, Copy, PartialEq, Eq, Debug)]
+pub enum Level {
+    Allow,
+    Warn,
+    Deny,
+}
+
+/// The lints that are not to be shown, and those that refuse a source. One that is both refuses.
+#[derive(Drop)]
+pub struct Choices {
+    allowed: Vec<Lint>,
+    denied: Vec<Lint>,
+}
+
+impl Choices {
+    /// Each lint warns.
+    pub fn new(alloc: Global) -> Choices {
+        Choices {
+            allowed: Vec::new(alloc),
+            denied: Vec::new(alloc),
+        }
+    }
+
+    pub fn allow(&mut self, lint: Lint) -> Result<(), AllocError> {
+        self.allowed.push(lint)?;
+        Ok(())
+    }
+
+    pub fn deny(&mut self, lint: Lint) -> Result<(), AllocError> {
+        self.denied.push(lint)?;
+        Ok(())
+    }
+
+    pub fn level(&self, lint: Lint) -> Level {
+        if self.denied.contains(&lint) {
+            Level::Deny
+        } else if self.allowed.contains(&lint) {
+            Level::Allow
+        } else {
+            Level::Warn
+        }
+    }
+}

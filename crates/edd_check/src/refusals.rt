@@ -1,0 +1,135 @@
+//! All that is said of a text that is refused.
+
+use crate::grammar::Compiler;
+use crate::reports::Reports;
+use edd_breaches::{Breach, breaches};
+use edd_compiler::{Fault, unit_of};
+use edd_lexer::token::Token;
+use edd_places::diagnostic::{Diagnostic, Finding};
+use edd_repairs::{LaterFault, TextFault, explained, found_in, later_faults, tokens_of};
+use edd_rule_reports::{Source, diagnostic};
+use std::alloc::{AllocError, Global};
+
+// Shows the faults of later items.
+fn show_later(
+    alloc: Global,
+    text: &[u8],
+    faults: &[LaterFault],
+    reports: &mut Reports,
+) -> Result<(), AllocError> {
+    for fault in faults {
+        if reports.has_room() {
+            reports.show(explained::<Compiler>(alloc, text, fault)?)?;
+        } else {
+            reports.pass();
+        }
+    }
+    Ok(())
+}
+
+// What is said of a text that has no tokens, or whose tokens spell no unit.
+fn of_text(
+    alloc: Global,
+    text: &[u8],
+    fault: &TextFault,
+    refusal: String,
+    reports: &mut Reports,
+) -> Result<(), AllocError> {
+    let found = found_in::<Compiler>(alloc, text, fault, refusal)?;
+    let goes_on = found.goes_on;
+    reports.show(found.diagnostic)?;
+    match goes_on {
+        Some(from) => {
+            let faults = later_faults::<Compiler>(alloc, text, from, fault)?;
+            show_later(alloc, text, &faults, reports)
+        }
+        None => Ok(()),
+    }
+}
+
+// Shows breaches. The first refusal is the compiler's: where no breach is it, it stands by itself.
+fn show_breaches(
+    alloc: Global,
+    source: &Source<'_>,
+    found: &[Breach<'_>],
+    refusal: String,
+    reports: &mut Reports,
+) -> Result<(), AllocError> {
+    let mut refusal = Some(refusal);
+    for breach in found {
+        if !reports.has_room() {
+            reports.pass();
+            continue;
+        }
+        let made = diagnostic(alloc, source, breach)?;
+        if let Some(first) = refusal.take() {
+            if !is_refusal(&made, first.as_str()) {
+                reports.show(of_limit(alloc, first)?)?;
+            }
+        }
+        reports.show(made)?;
+    }
+    match refusal.take() {
+        Some(first) => reports.show(of_limit(alloc, first)?),
+        None => Ok(()),
+    }
+}
+
+fn is_refusal(found: &Diagnostic, refusal: &str) -> bool {
+    match &found.finding {
+        Finding::Refused(own) => own.as_str() == refusal,
+        Finding::Warned { .. } => false,
+    }
+}
+
+// A refusal for which no token stands.
+fn of_limit(alloc: Global, refusal: String) -> Result<Diagnostic, AllocError> {
+    let mut found = Diagnostic::new(alloc, Finding::Refused(refusal));
+    found.help(String::from_str(alloc, "`edd explain 40` has the limits")?)?;
+    Ok(found)
+}
+
+fn of_tokens(
+    alloc: Global,
+    text: &[u8],
+    tokens: &[Token],
+    refusal: String,
+    reports: &mut Reports,
+) -> Result<(), AllocError> {
+    let Ok(unit) = unit_of(alloc, text) else {
+        return Err(AllocError);
+    };
+    let source = Source::of(alloc, text, tokens)?;
+    let found = breaches(alloc, text, tokens, &unit.items)?;
+    show_breaches(alloc, &source, &found, refusal, reports)
+}
+
+// What is said of a text that breaks rules.
+fn of_rules(
+    alloc: Global,
+    text: &[u8],
+    refusal: String,
+    reports: &mut Reports,
+) -> Result<(), AllocError> {
+    let tokens = tokens_of(alloc, text)?;
+    of_tokens(alloc, text, &tokens, refusal, reports)
+}
+
+/// What is said of a text with this fault.
+pub fn of_fault(
+    alloc: Global,
+    text: &[u8],
+    fault: Fault,
+    reports: &mut Reports,
+) -> Result<(), AllocError> {
+    let refusal = fault.to_string(alloc)?;
+    reports.is_refused = true;
+    match fault {
+        Fault::Lex(why) => of_text(alloc, text, &TextFault::Lex(why), refusal, reports),
+        Fault::Parse(why) => of_text(alloc, text, &TextFault::Parse(why), refusal, reports),
+        Fault::Name(_why) => of_rules(alloc, text, refusal, reports),
+        Fault::Type(_why) => of_rules(alloc, text, refusal, reports),
+        Fault::TooManyStrings => reports.show(of_limit(alloc, refusal)?),
+        Fault::Memory => Err(AllocError),
+    }
+}

@@ -1,0 +1,40 @@
+//! What is shown of a source.
+
+use edd_places::diagnostic::Diagnostic;
+use std::alloc::{AllocError, Global};
+
+/// The most that is shown of a source.
+pub const MOST: usize = 100;
+
+/// What is shown, how much more there is, and whether the source is refused.
+#[derive(Drop)]
+pub struct Reports {
+    pub shown: Vec<Diagnostic>,
+    pub more: usize,
+    pub is_refused: bool,
+}
+
+impl Reports {
+    pub fn new(alloc: Global) -> Reports {
+        Reports {
+            shown: Vec::new(alloc),
+            more: 0,
+            is_refused: false,
+        }
+    }
+
+    /// Whether one more is shown.
+    pub fn has_room(&self) -> bool {
+        self.shown.len() < MOST
+    }
+
+    pub fn show(&mut self, found: Diagnostic) -> Result<(), AllocError> {
+        self.shown.push(found)?;
+        Ok(())
+    }
+
+    /// Counts one that is not shown.
+    pub fn pass(&mut self) {
+        self.more = self.more.saturating_add(1);
+    }
+}

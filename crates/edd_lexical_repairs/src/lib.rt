@@ -1,0 +1,10 @@
+//! What is said of a text that has no tokens: the place of its fault and what helps; and a text cut
+//! into pieces, whether or not it has tokens. Proved is that all of it is safe and ends.
+#![tactic(auto)]
+
+mod finding;
+mod lexical;
+pub mod scanning;
+
+pub use finding::Found;
+pub use lexical::found_in;
