@@ -53,6 +53,37 @@ const BODY: Missing = Missing {
     name: "DEFINITION {",
 };
 
+const TYPE_WORD: Missing = Missing {
+    spelling: "INTEGER",
+    name: "a type",
+};
+
+const CASE: Missing = Missing {
+    spelling: "CASE",
+    name: "CASE",
+};
+
+const NUMBER: Missing = Missing {
+    spelling: "NUMBER",
+    name: "NUMBER",
+};
+
+const LIMIT: Missing = Missing {
+    spelling: "MAX_VALUE",
+    name: "a word such as MAX_VALUE",
+};
+
+const LABEL: Missing = Missing {
+    spelling: "LABEL",
+    name: "a word such as LABEL",
+};
+
+const AFTER_TYPE: &[Missing] = &[TYPE_WORD];
+
+const BEFORE_NUMBER: &[Missing] = &[CASE, NUMBER, LIMIT];
+
+const BEFORE_TEXT: &[Missing] = &[LABEL];
+
 const AFTER_COLLECTION: &[Missing] = &[OF, NAME];
 
 const AFTER_NAMED: &[Missing] = &[NAME];
@@ -69,6 +100,7 @@ const BEFORE_OTHER: &[Missing] = &[VALUE, TEXT];
 fn missing_after(before: Option<TokenKind>) -> Option<&'static [Missing]> {
     match before {
         Some(TokenKind::Keyword(Keyword::Collection)) => Some(AFTER_COLLECTION),
+        Some(TokenKind::Keyword(Keyword::Type)) => Some(AFTER_TYPE),
         Some(
             TokenKind::Keyword(
                 Keyword::Variable
@@ -100,6 +132,8 @@ pub fn missing_before(
         },
         TokenKind::Symbol(Symbol::OpenBrace) => BEFORE_BRACE,
         TokenKind::Keyword(_) => BEFORE_STATEMENT,
+        TokenKind::Integer(_) => BEFORE_NUMBER,
+        TokenKind::String => BEFORE_TEXT,
         _ => BEFORE_OTHER,
     }
 }

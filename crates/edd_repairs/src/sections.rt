@@ -47,6 +47,34 @@ struct Scan<'a> {
     is_inside: bool,
 }
 
+// The words in column 1 with which items begin that this profile leaves out.
+const LEFT_OUT: [&str; 20] = [
+    "ARRAY",
+    "AXIS",
+    "BLOCK",
+    "CHART",
+    "DOMAIN",
+    "FILE",
+    "GRAPH",
+    "GRID",
+    "IMAGE",
+    "IMPORT",
+    "LIST",
+    "PROGRAM",
+    "RECORD",
+    "REFRESH",
+    "SOURCE",
+    "STYLE",
+    "UNIT",
+    "VARIABLE_LIST",
+    "WAVEFORM",
+    "WRITE_AS_ONE",
+];
+
+fn is_left_out_word(word: &str) -> bool {
+    LEFT_OUT.iter().any(|left_out| *left_out == word)
+}
+
 // Whether a word begins an item.
 fn is_item_word(word: &str) -> bool {
     KINDS.iter().any(|kind| kind_word(*kind) == word)
@@ -64,11 +92,16 @@ impl<'a> Scan<'a> {
     // Whether an item begins with a piece.
     fn begins(&self, piece: Scanned) -> bool {
         let is_word = piece.shape == Shape::Word && self.before != Before::Of;
-        if !is_word || !is_item_word(text_in(self.text, piece.span)) {
+        let word = text_in(self.text, piece.span);
+        let is_closed = self.depth == 0;
+        let begins_line = is_first(self.text, piece.span.start);
+        if is_word && is_left_out_word(word) {
+            return is_closed && begins_line && self.from < piece.span.start;
+        }
+        if !is_word || !is_item_word(word) {
             return false;
         }
-        let is_closed = self.depth == 0;
-        if is_first(self.text, piece.span.start) {
+        if begins_line {
             is_closed || self.may_be_off
         } else {
             is_closed && self.before == Before::CloseBrace
@@ -137,10 +170,11 @@ impl<'a> Scan<'a> {
     }
 
     fn take(&mut self, piece: Scanned) -> Result<(), AllocError> {
+        let word = text_in(self.text, piece.span);
         if self.begins(piece) {
             self.begin(piece.span.start)?;
+            self.may_be_off = self.may_be_off && !is_left_out_word(word);
         }
-        let word = text_in(self.text, piece.span);
         match piece.shape {
             Shape::Gap | Shape::Comment => {}
             Shape::Sign => self.take_sign(piece.span.start),

@@ -3,10 +3,11 @@
 use crate::candidates::{
     BEFORE, BEHIND, Missing, missing_before, nearest_word, signs_for, word_for,
 };
-use crate::grammar::Grammar;
+use crate::grammar::{Grammar, TextFault};
 use crate::located::{Edit, LineTokens, line_of, spread};
 use edd_lexer::token::{Token, TokenKind};
 use edd_places::words::{Span, word_of};
+use edd_token_reader::fault::ParseFault;
 use std::alloc::{AllocError, Global};
 
 /// What an edit does.
@@ -25,6 +26,9 @@ pub enum Change<'a> {
     /// The token is a name.
     Renamed,
 }
+
+/// Behind all lines of a text.
+const PAST: u32 = u32::MAX - 1;
 
 /// A text, its tokens, and the token of a line that does not fit.
 #[derive(Clone, Copy)]
@@ -58,20 +62,35 @@ fn edit_of<'a>(number: usize, change: Change<'a>) -> Edit<'a> {
     }
 }
 
-// The line at which a text is refused by its grammar, as late as it gets where it is not.
-fn line_reached<G: Grammar>(alloc: Global, text: &[u8]) -> Result<u32, AllocError> {
-    match G::text_fault(alloc, text)? {
-        None => Ok(u32::MAX),
-        Some(fault) => Ok(line_of(&fault).unwrap_or(0)),
-    }
-}
-
 impl<'a> Misfit<'a> {
     // The line of the token in the spread text.
     fn own_line(&self) -> u32 {
         let behind = self.number.saturating_sub(self.line.first);
         let behind = u32::try_from(behind).unwrap_or(u32::MAX);
         self.line.line.saturating_add(behind)
+    }
+
+    // Whether the token or the one behind is this word.
+    fn is_near(&self, word: &str) -> bool {
+        for token in self.tokens.iter().skip(self.number).take(2) {
+            if word_of(self.text, token) == word {
+                return true;
+            }
+        }
+        false
+    }
+
+    // The line at which a changed text is refused by its grammar, as late as it gets where it is
+    // not. That of a word which is left out is not known, but it is a later one of the text.
+    fn line_reached<G: Grammar>(&self, alloc: Global, text: &[u8]) -> Result<u32, AllocError> {
+        let line = match G::text_fault(alloc, text)? {
+            None => u32::MAX,
+            Some(TextFault::Parse(ParseFault::Unsupported { word })) => {
+                if self.is_near(word.as_str()) { 0 } else { PAST }
+            }
+            Some(fault) => line_of(&fault).unwrap_or(0),
+        };
+        Ok(line)
     }
 
     // Tries a change, which has to lead past the token behind.
@@ -83,7 +102,7 @@ impl<'a> Misfit<'a> {
     ) -> Result<(), AllocError> {
         let edit = Some(edit_of(self.number, change));
         let text = spread(alloc, self.text, self.tokens, self.line, edit)?;
-        let reached = line_reached::<G>(alloc, &text)?;
+        let reached = self.line_reached::<G>(alloc, &text)?;
         if best.line < reached {
             best.line = reached;
             best.change = Some(change);
