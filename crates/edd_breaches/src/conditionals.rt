@@ -149,26 +149,19 @@ fn walk_arms<'a, V: Value>(
     arms: &'a [Arm<Path, V>],
     walk: &mut Walk<'a>,
 ) -> Result<(), AllocError> {
-    let mut had = false;
+    let mut default = None;
     for arm in arms {
-        walk_arm(arm, had, walk)?;
-        had = had || is_default(arm);
+        walk_arm(arm, &mut default, walk)?;
     }
     Ok(())
 }
 
-fn is_default<V>(arm: &Arm<Path, V>) -> bool {
-    match arm {
-        Arm::Case { .. } => false,
-        Arm::Default { .. } => true,
-    }
-}
-
+// `default` is the token of the first DEFAULT so far.
 #[cycle(conditionals)]
 #[tactic(auto, using(crate::proofs::Falls::falls))]
 fn walk_arm<'a, V: Value>(
     arm: &'a Arm<Path, V>,
-    had: bool,
+    default: &mut Option<Option<usize>>,
     walk: &mut Walk<'a>,
 ) -> Result<(), AllocError> {
     match arm {
@@ -179,8 +172,9 @@ fn walk_arm<'a, V: Value>(
         }
         Arm::Default { line, body } => {
             let place = walk.trail.word(Keyword::Default);
-            if had {
-                walk.note(Rule::DuplicateCase(*line), place)?;
+            match *default {
+                Some(earlier) => walk.note_clash(Rule::DuplicateCase(*line), place, earlier)?,
+                None => *default = Some(place),
             }
             walk_conds(body, walk)
         }

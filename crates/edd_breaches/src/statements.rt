@@ -9,7 +9,7 @@ use edd_syntax::wrap::wrap;
 use edd_trails::breach::Rule;
 use edd_trails::walk::Walk;
 use std::alloc::{AllocError, Global};
-use std::collections::BTreeSet;
+use std::collections::BTreeMap;
 
 /// What stands around a statement.
 #[derive(Clone, Copy)]
@@ -34,18 +34,18 @@ impl Around {
     }
 }
 
-// The labels of a block so far, as numbers of 32 bits.
+// The labels of a block so far, as numbers of 32 bits, each with the token of its word.
 #[derive(Drop)]
 struct Labels {
-    cases: BTreeSet<i64>,
-    has_default: bool,
+    cases: BTreeMap<i64, Option<usize>>,
+    default: Option<Option<usize>>,
 }
 
 impl Labels {
     fn new(alloc: Global) -> Labels {
         Labels {
-            cases: BTreeSet::new(alloc),
-            has_default: false,
+            cases: BTreeMap::new(alloc),
+            default: None,
         }
     }
 }
@@ -98,20 +98,24 @@ fn walk_case<'a>(
 ) -> Result<(), AllocError> {
     let place = walk.trail.word(Keyword::MethodCase);
     walk.trail.sign(Symbol::Colon);
-    if labels.cases.insert(wrap(32, i128::from(label)))? {
-        return Ok(());
+    let label = wrap(32, i128::from(label));
+    match labels.cases.get(&label).copied() {
+        Some(earlier) => walk.note_clash(Rule::DuplicateCase(line), place, earlier),
+        None => {
+            labels.cases.insert(label, place)?;
+            Ok(())
+        }
     }
-    walk.note(Rule::DuplicateCase(line), place)
 }
 
 fn walk_default<'a>(line: u32, labels: &mut Labels, walk: &mut Walk<'a>) -> Result<(), AllocError> {
     let place = walk.trail.word(Keyword::MethodDefault);
-    let had = labels.has_default;
-    labels.has_default = true;
-    if had {
-        walk.note(Rule::DuplicateCase(line), place)
-    } else {
-        Ok(())
+    match labels.default {
+        Some(earlier) => walk.note_clash(Rule::DuplicateCase(line), place, earlier),
+        None => {
+            labels.default = Some(place);
+            Ok(())
+        }
     }
 }
 

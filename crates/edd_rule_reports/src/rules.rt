@@ -175,8 +175,10 @@ fn help_beside(
     found: &mut Diagnostic,
 ) -> Result<(), AllocError> {
     if let Some(earlier) = breach.earlier {
-        let word = source.word(earlier);
-        let text = format!(in alloc; "{word} is there already")?;
+        let text = match breach.rule {
+            Rule::DuplicateCase(_) => String::from_str(alloc, "this case is there already")?,
+            _ => format!(in alloc; "{} is there already", source.word(earlier))?,
+        };
         return found.help_at(source.span(earlier), text);
     }
     if let Rule::WrongKind(name) = breach.rule {
@@ -212,7 +214,6 @@ fn plain_help(rule: &Rule<'_>) -> Option<&'static str> {
         Rule::BadSize(_) => Some("a variable has 1 to 4 octets"),
         Rule::FloatValue(_) => Some("numbers are whole: take a smaller unit"),
         Rule::ConstRange(_) => Some("a constant is an octet, 0 to 255, and a mask is not 0"),
-        Rule::DuplicateCase(_) => Some("this case is there already"),
         _ => None,
     }
 }
