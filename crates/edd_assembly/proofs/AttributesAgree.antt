@@ -99,6 +99,7 @@ module _ (unit : Description Target) (lowered : List Lowered) (strings : List Wo
   existing (items_no.Menu n) = refl
   existing (items_no.Collection n) = refl
   existing (items_no.Method n) = refl
+  existing (items_no.Array n) = refl
 
   module _ (ref : AttrRef) (values : List ℤ)
       (in_range : AreDeviceValues (environment unit).variables values) where

@@ -17,7 +17,8 @@ kind_at n =
     if n == 2 then kind.Command else
     if n == 3 then kind.Menu else
     if n == 4 then kind.Collection else
-    kind.Method
+    if n == 5 then kind.Method else
+    kind.Array
 
 kind_again : (k : Kind) → kind_at (kind_number k) ≡ k
 kind_again kind.Variable = refl
@@ -25,6 +26,7 @@ kind_again kind.Command = refl
 kind_again kind.Menu = refl
 kind_again kind.Collection = refl
 kind_again kind.Method = refl
+kind_again kind.Array = refl
 
 pub same_kinds : (k j : Kind) → same_kind k j ≡ true → k ≡ j
 same_kinds k j h = sym (kind_again k) ∙ ap kind_at (eqb-true (kind_number k) (kind_number j) h)
@@ -44,6 +46,7 @@ item_again (items.Command n) = refl
 item_again (items.Menu n) = refl
 item_again (items.Collection n) = refl
 item_again (items.Method n) = refl
+item_again (items.Array n) = refl
 
 pub numbered_kind : (k : Kind) (n : ℕ) → kind_of (item_number k n) ≡ k
 numbered_kind kind.Variable n = refl
@@ -51,6 +54,7 @@ numbered_kind kind.Command n = refl
 numbered_kind kind.Menu n = refl
 numbered_kind kind.Collection n = refl
 numbered_kind kind.Method n = refl
+numbered_kind kind.Array n = refl
 
 pub numbered_index : (k : Kind) (n : ℕ) → index_of (item_number k n) ≡ n
 numbered_index kind.Variable n = refl
@@ -58,3 +62,4 @@ numbered_index kind.Command n = refl
 numbered_index kind.Menu n = refl
 numbered_index kind.Collection n = refl
 numbered_index kind.Method n = refl
+numbered_index kind.Array n = refl

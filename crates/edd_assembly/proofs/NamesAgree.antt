@@ -46,16 +46,19 @@ module _ (items : List (Item Target)) where
   -- the names of the kinds behind a kind
   abbrev behind_variables : List Name
   behind_variables = names kind.Command
-      ++ (names kind.Menu ++ (names kind.Collection ++ (names kind.Method ++ [])))
+      ++ (names kind.Menu ++ (names kind.Collection ++ (names kind.Method ++ (names kind.Array ++ []))))
 
   abbrev behind_commands : List Name
-  behind_commands = names kind.Menu ++ (names kind.Collection ++ (names kind.Method ++ []))
+  behind_commands = names kind.Menu ++ (names kind.Collection ++ (names kind.Method ++ (names kind.Array ++ [])))
 
   abbrev behind_menus : List Name
-  behind_menus = names kind.Collection ++ (names kind.Method ++ [])
+  behind_menus = names kind.Collection ++ (names kind.Method ++ (names kind.Array ++ []))
 
   abbrev behind_collections : List Name
-  behind_collections = names kind.Method ++ []
+  behind_collections = names kind.Method ++ (names kind.Array ++ [])
+
+  abbrev behind_methods : List Name
+  behind_methods = names kind.Array ++ []
 
   past_variables : (n : ℕ) → slice_get (names_of items) (count_of kind.Variable items + n)
       ≡ slice_get behind_variables n
@@ -87,6 +90,16 @@ module _ (items : List (Item Target)) where
       ∙ past_menus (count_of kind.Collection items + n)
       ∙ behind (names kind.Collection) behind_collections (count_of kind.Collection items + n) n
       (omega (arith, as_many kind.Collection))
+
+  past_methods : (n : ℕ)
+      → slice_get (names_of items) (count_of kind.Variable items + count_of kind.Command items
+      + count_of kind.Menu items + count_of kind.Collection items + count_of kind.Method items + n)
+      ≡ slice_get behind_methods n
+  past_methods n =
+      ap (slice_get (names_of items)) (omega arith)
+      ∙ past_collections (count_of kind.Method items + n)
+      ∙ behind (names kind.Method) behind_methods (count_of kind.Method items + n) n
+      (omega (arith, as_many kind.Method))
 
   of_its_kind : (k : Kind) (n : ℕ) → slice_get (names k) n
       ≡ option_map (λ i. i.name) (slice_get (of_kind k items) n)
@@ -145,5 +158,13 @@ module _ (unit : Description Target) (lowered : List Lowered) (strings : List Wo
       by_number unit.items kind.Method n.0 (read_at (items_no.Method n))
       (λ h. read_is (count_of kind.Variable unit.items + count_of kind.Command unit.items
       + count_of kind.Menu unit.items + count_of kind.Collection unit.items + n.0)
-      ∙ past_collections unit.items n.0 ∙ within (names unit.items kind.Method) [] n.0 h)
+      ∙ past_collections unit.items n.0
+      ∙ within (names unit.items kind.Method) (behind_methods unit.items) n.0 h)
       (nat_lt n.0 (count_of kind.Method unit.items)) refl
+  names_agree (items_no.Array n) =
+      by_number unit.items kind.Array n.0 (read_at (items_no.Array n))
+      (λ h. read_is (count_of kind.Variable unit.items + count_of kind.Command unit.items
+      + count_of kind.Menu unit.items + count_of kind.Collection unit.items
+      + count_of kind.Method unit.items + n.0)
+      ∙ past_methods unit.items n.0 ∙ within (names unit.items kind.Array) [] n.0 h)
+      (nat_lt n.0 (count_of kind.Array unit.items)) refl

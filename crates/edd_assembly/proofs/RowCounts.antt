@@ -27,10 +27,10 @@ of_one_kind : (items : List (Item Target)) (k : Kind) → length (names_of_kind 
     ≡ count_of k items
 of_one_kind items k = length-map _ _
 
--- all names are those of the five kinds
+-- all names are those of the six kinds
 pub as_many_names : (items : List (Item Target)) → length (names_of items)
     ≡ count_of kind.Variable items + count_of kind.Command items + count_of kind.Menu items
-    + count_of kind.Collection items + count_of kind.Method items
+    + count_of kind.Collection items + count_of kind.Method items + count_of kind.Array items
 as_many_names items =
     omega (
       arith,
@@ -39,15 +39,21 @@ as_many_names items =
       of_one_kind items kind.Menu,
       of_one_kind items kind.Collection,
       of_one_kind items kind.Method,
+      of_one_kind items kind.Array,
       length-append (names_of_kind kind.Variable items) (names_of_kind kind.Command items
           ++ (names_of_kind kind.Menu items
-          ++ (names_of_kind kind.Collection items ++ (names_of_kind kind.Method items ++ [])))),
+          ++ (names_of_kind kind.Collection items ++ (names_of_kind kind.Method items
+          ++ (names_of_kind kind.Array items ++ []))))),
       length-append (names_of_kind kind.Command items) (names_of_kind kind.Menu items
-          ++ (names_of_kind kind.Collection items ++ (names_of_kind kind.Method items ++ []))),
+          ++ (names_of_kind kind.Collection items ++ (names_of_kind kind.Method items
+          ++ (names_of_kind kind.Array items ++ [])))),
       length-append (names_of_kind kind.Menu items) (names_of_kind kind.Collection items
-          ++ (names_of_kind kind.Method items ++ [])),
-      length-append (names_of_kind kind.Collection items) (names_of_kind kind.Method items ++ []),
-      length-append (names_of_kind kind.Method items) [],
+          ++ (names_of_kind kind.Method items
+          ++ (names_of_kind kind.Array items ++ []))),
+      length-append (names_of_kind kind.Collection items) (names_of_kind kind.Method items
+          ++ (names_of_kind kind.Array items ++ [])),
+      length-append (names_of_kind kind.Method items) (names_of_kind kind.Array items ++ []),
+      length-append (names_of_kind kind.Array items) [],
     )
 
 pub ruleset row_counts = (

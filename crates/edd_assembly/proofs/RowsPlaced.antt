@@ -165,6 +165,7 @@ module _ (identification : Identification) (items : List (Item Target)) (strings
   exists kind.Menu n h = lt-ltb n (count_of kind.Menu items) h
   exists kind.Collection n h = lt-ltb n (count_of kind.Collection items) h
   exists kind.Method n h = lt-ltb n (count_of kind.Method items) h
+  exists kind.Array n h = lt-ltb n (count_of kind.Array items) h
 
   module _ (k : Kind) (a : Attr) where
     item_placed : (n : ℕ) → n < count_of k items → (ws : List (Attribute Target))

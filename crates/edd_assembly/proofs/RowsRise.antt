@@ -40,6 +40,7 @@ kind_back kind.Command n = refl
 kind_back kind.Menu n = refl
 kind_back kind.Collection n = refl
 kind_back kind.Method n = refl
+kind_back kind.Array n = refl
 
 index_back : (k : Kind) (n : ℕ) → index_of (item_number k n) ≡ n
 index_back kind.Variable n = refl
@@ -47,6 +48,7 @@ index_back kind.Command n = refl
 index_back kind.Menu n = refl
 index_back kind.Collection n = refl
 index_back kind.Method n = refl
+index_back kind.Array n = refl
 
 not_body : (a : Attr) → is_of_transaction a ≡ true → same_attr a attr.Definition ≡ false
 not_body attr.Transaction h = refl

@@ -36,6 +36,7 @@ module _ (unit : Description Target) (lowered : List Lowered) (strings : List Wo
   counts_agree kind.Menu = refl
   counts_agree kind.Collection = refl
   counts_agree kind.Method = refl
+  counts_agree kind.Array = refl
 
   types_agree : (environment_of (contents_of (assembled unit lowered strings))).types
       ≡ (environment unit).variables

@@ -38,6 +38,7 @@ fn counts_of(identification: Identification, items: &[Item<Target>], strings: &[
         menus: count(items, Kind::Menu),
         collections: count(items, Kind::Collection),
         methods: count(items, Kind::Method),
+        arrays: count(items, Kind::Array),
         strings: strings.len() as u16,
         manufacturer: identification.manufacturer,
         device_type: identification.device_type,
@@ -82,7 +83,8 @@ fn parts_of(
 ) -> Result<Parts, AllocError>
     requires variables_counted { counts.variables ≡ length variables.items }
     requires names_counted { counts.variables + counts.commands + counts.menus + counts.collections
-        + counts.methods ≡ length names.rows.items }
+        + counts.methods + counts.arrays ≡ length names.rows.items }
+    requires no_arrays { counts.arrays ≡ 0 }
     requires strings_counted { counts.strings ≡ length strings.rows.items }
     ensures { IfOk result (λ parts. sections_of parts
         ≡ assembly.sections counts variables.items names.rows.items code.rows.items code.bytes.items

@@ -219,6 +219,7 @@ counts_with count = record {
   menus = count kind.Menu;
   collections = count kind.Collection;
   methods = count kind.Method;
+  arrays = count kind.Array;
   strings = 0;
   manufacturer = 0;
   device_type = 0;
@@ -237,6 +238,7 @@ item_readable count (item_no.Command n) h k = refl
 item_readable count (item_no.Menu n) h k = refl
 item_readable count (item_no.Collection n) h k = refl
 item_readable count (item_no.Method n) h k = refl
+item_readable count (item_no.Array n) h k = refl
 
 abbrev pub is_whole : Description Target → Tree → Bool
 is_whole d t = is_good (λ k. count_of k d.items) (reads_of (λ k. count_of k d.items)) t

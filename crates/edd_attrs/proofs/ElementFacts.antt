@@ -259,6 +259,7 @@ module _ (unit : Description Target) (reads : Target → Bool) where
   item_there (item_no.Menu n) h = h
   item_there (item_no.Collection n) h = h
   item_there (item_no.Method n) h = h
+  item_there (item_no.Array n) h = h
 
   pub enumerator_fine : (e : item.Enumerator) → good_enumerator e ≡ true
       → is_fine unit (enumerator e) ≡ true

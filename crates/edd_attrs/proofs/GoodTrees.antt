@@ -160,6 +160,7 @@ kind_variable (item_no.Command n) h = absurd cc
 kind_variable (item_no.Menu n) h = absurd cc
 kind_variable (item_no.Collection n) h = absurd cc
 kind_variable (item_no.Method n) h = absurd cc
+kind_variable (item_no.Array n) h = absurd cc
 
 mask_small : (mask : Option ℕ) → if_some is_small mask ≡ true → is_small (mask_number mask) ≡ true
 mask_small None h = refl

@@ -60,6 +60,7 @@ module _ (unit : Description Target) (strings later : List Words) where
   item_still (items.Menu n) h = h
   item_still (items.Collection n) h = h
   item_still (items.Method n) h = h
+  item_still (items.Array n) h = h
 
   request_still : (a : Ask) → request_exists (attribute_context unit strings).counts a ≡ true
       → request_exists (attribute_context unit (strings ++ later)).counts a ≡ true

@@ -20,19 +20,19 @@ use Rattle.edd_syntax.specs.declared.item.DataQualifiers.{DataQualifiers}
 use Rattle.edd_syntax.specs.declared.reference.Target.{Target}
 use Rattle.edd_syntax.specs.Words.{Words}
 use Rattle.edd_syntax.specs.Item.{Description}
-use Rattle.edd_syntax.specs.Numbers.{index_of}
 use Rattle.edd_syntax.specs.Resolution.{count_of}
 use Rattle.edd_syntax.specs.Attributes as source
 use Rattle.edd_syntax.specs.Attributes.{bit, menu_bits, data_bits}
 use Rattle.edd_image.specs.declared.records.Record.{Record}
 use Rattle.edd_image.specs.declared.records.Record.TheVariants as records
 use Rattle.edd_image.specs.declared.unit.Context.{Context}
-use Rattle.edd_image.specs.Spelling.{IsSpelled, IsOptional}
+use Rattle.edd_image.specs.Spelling.{IsListed, IsSpelled, IsOptional}
 use Rattle.edd_image.specs.References.{names_exist, item_exists, variable_exists, optional_string_exists}
 use Rattle.edd_image.specs.Agreement.{class_number, mask_number, IsString, IsOptionalString, SameRecord, string_of_table, attribute_context}
 use Rattle.edd_attrs.specs.Code.{giving}
 use Rattle.edd_attrs.specs.Records.{is_number, is_label, counts_in, is_fine}
 use Rattle.edd_code.proofs.BothTests.{both_of}
+use Rattle.edd_syntax.proofs.NoArrays.{no_arrays}
 
 -- what a record needs so that its code gives it: a number is one of 32 bits
 abbrev pub IsSayable : Record → Type 0
@@ -91,26 +91,28 @@ number_is (negsuc n) h = absurd cc
 -- ---- what the records of a tree say of the records that the code gives
 
 module _ (unit : Description Target) (few : (k : Kind) → count_of k unit.items ≤ 4096) where
-  index_small : (item : ItemNo) → item_exists (counts_in unit) item ≡ true → index_of item < 2 ^ 16
-  index_small (items.Variable n) h =
+  entry_listed : (item : ItemNo) → item_exists (counts_in unit) item ≡ true → IsListed item
+  entry_listed (items.Variable n) h =
       omega (arith, ltb-true n.0 (count_of kind.Variable unit.items) h, few kind.Variable)
-  index_small (items.Command n) h = omega (
+  entry_listed (items.Command n) h = omega (
     arith,
     ltb-true n.0 (count_of kind.Command unit.items) h,
     few kind.Command,
   )
-  index_small (items.Menu n) h = omega (
+  entry_listed (items.Menu n) h = omega (
     arith,
     ltb-true n.0 (count_of kind.Menu unit.items) h,
     few kind.Menu,
   )
-  index_small (items.Collection n) h =
+  entry_listed (items.Collection n) h =
       omega (arith, ltb-true n.0 (count_of kind.Collection unit.items) h, few kind.Collection)
-  index_small (items.Method n) h = omega (
+  entry_listed (items.Method n) h = omega (
     arith,
     ltb-true n.0 (count_of kind.Method unit.items) h,
     few kind.Method,
   )
+  entry_listed (items.Array n) h =
+      omega (arith, ltb-true n.0 (count_of kind.Array unit.items) h, no_arrays unit.items)
 
   module _ (strings : List Words) (few_strings : length strings ≤ 65535) where
     string_small : (w : Words) (s : StrNo) → IsString (string_of_table strings) w s → s.0 < 65535
@@ -135,7 +137,7 @@ module _ (unit : Description Target) (few : (k : Kind) → count_of k unit.items
         subst IsSpelledRecord (sym (same ∙ ap records.Number n.1))
         ((n.2, (tt, tt)), (n.0, refl, n.2))
     record_spelled (source.Entry item quals) r fine same =
-        subst IsSpelledRecord (sym same) (((index_small item fine, menu_small quals), tt), tt)
+        subst IsSpelledRecord (sym same) (((entry_listed item fine, menu_small quals), tt), tt)
     record_spelled (source.DataConst n) r fine same =
         subst IsSpelledRecord (sym same) ((ltb-true n 256 fine, tt), tt)
     record_spelled (source.DataVar v mask quals) r fine same =
@@ -144,7 +146,7 @@ module _ (unit : Description Target) (few : (k : Kind) → count_of k unit.items
         subst IsSpelledRecord (sym same) (
           (
             (
-              index_small (items.Variable v) parts.0,
+              entry_listed (items.Variable v) parts.0,
               ltb-true (mask_number mask) (2 ^ 32) parts.1,
               data_small quals,
             ),
@@ -181,7 +183,7 @@ module _ (unit : Description Target) (few : (k : Kind) → count_of k unit.items
           (
             (
               omega (arith, string_small name same.0 same.4),
-              index_small item fine,
+              entry_listed item fine,
               optional_small label same.1 same.5,
               optional_small help same.2 same.6,
             ),
@@ -214,6 +216,7 @@ module _ (unit : Description Target) (few : (k : Kind) → count_of k unit.items
     item_there (items.Menu n) h = h
     item_there (items.Collection n) h = h
     item_there (items.Method n) h = h
+    item_there (items.Array n) h = h
 
     abbrev Exists : Record → Type 0
     Exists r = list_all (names_exist context) (giving r) ≡ true

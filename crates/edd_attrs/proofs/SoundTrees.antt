@@ -84,6 +84,7 @@ module _ (unit : Description Target) (few : (k : Kind) → count_of k unit.items
       of_item (item_no.Menu n) = refl
       of_item (item_no.Collection n) = refl
       of_item (item_no.Method n) = refl
+      of_item (item_no.Array n) = refl
 
       here : (t : Target) → reads t ≡ reads_existing (attribute_context unit strings).counts t
       here (target.Item i) = of_item i

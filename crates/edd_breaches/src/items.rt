@@ -4,7 +4,7 @@ use crate::attributes::{Members, walk_attribute};
 use edd_lexer::token::Token;
 use edd_syntax::item::{Attribute, Item};
 use edd_syntax::limits::Limit;
-use edd_syntax::numbers::{Attr, Kind};
+use edd_syntax::numbers::{Attr, KINDS, Kind};
 use edd_syntax::reference::Path;
 use edd_syntax::symbols::Keyword;
 use edd_trails::breach::{Breach, RANKS, Rank, Rule};
@@ -21,37 +21,29 @@ const MOST_TRANSACTIONS: usize = 4096;
 
 const MOST_LOCALS: usize = 64;
 
-const KINDS: [Kind; 5] = [
-    Kind::Variable,
-    Kind::Command,
-    Kind::Menu,
-    Kind::Collection,
-    Kind::Method,
-];
-
-/// The word with which an item of a kind begins.
-fn keyword_of(kind: Kind) -> Keyword {
-    match kind {
-        Kind::Variable => Keyword::Variable,
-        Kind::Command => Keyword::Command,
-        Kind::Menu => Keyword::Menu,
-        Kind::Collection => Keyword::Collection,
-        Kind::Method => Keyword::Method,
+/// The word with which an item begins.
+fn keyword_of(item: &Item<Path>) -> Keyword {
+    match item {
+        Item::Variable(_) => Keyword::Variable,
+        Item::Command(_) => Keyword::Command,
+        Item::Menu(_) => Keyword::Menu,
+        Item::Collection(_) => Keyword::Collection,
+        Item::Method(_) => Keyword::Method,
     }
 }
 
-// The attributes that an item of a kind needs.
-fn needed(kind: Kind) -> [Option<&'static str>; 3] {
-    match kind {
-        Kind::Variable => [Some(Keyword::Type.spelling()), None, None],
-        Kind::Command => [
+// The attributes that an item needs.
+fn needed(item: &Item<Path>) -> [Option<&'static str>; 3] {
+    match item {
+        Item::Variable(_) => [Some(Keyword::Type.spelling()), None, None],
+        Item::Command(_) => [
             Some(Attr::Number.word()),
             Some(Attr::Operation.word()),
             Some(Attr::Transaction.word()),
         ],
-        Kind::Menu => [Some(Attr::Items.word()), None, None],
-        Kind::Collection => [Some(Attr::Members.word()), None, None],
-        Kind::Method => [Some(Attr::Definition.word()), None, None],
+        Item::Menu(_) => [Some(Attr::Items.word()), None, None],
+        Item::Collection(_) => [Some(Attr::Members.word()), None, None],
+        Item::Method(_) => [Some(Attr::Definition.word()), None, None],
     }
 }
 
@@ -61,7 +53,7 @@ fn note_missing<'a>(
     place: Option<usize>,
     walk: &mut Walk<'a>,
 ) -> Result<(), AllocError> {
-    for needed in needed(item.kind()) {
+    for needed in needed(item) {
         if let Some(word) = needed {
             if !has_word(words, word) {
                 let item = item.name();
@@ -101,7 +93,7 @@ fn walk_item<'a>(
     too_many: &mut TooMany,
     walk: &mut Walk<'a>,
 ) -> Result<(), AllocError> {
-    walk.trail.word(keyword_of(item.kind()));
+    walk.trail.word(keyword_of(item));
     let name = item.name();
     let place = walk.trail.name(name);
     match names.get(name).copied() {

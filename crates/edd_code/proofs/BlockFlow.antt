@@ -123,6 +123,7 @@ item_runs (item_no.Command n) d few = no_value_runs d few
 item_runs (item_no.Menu n) d few = no_value_runs d few
 item_runs (item_no.Collection n) d few = no_value_runs d few
 item_runs (item_no.Method n) d few = no_value_runs d few
+item_runs (item_no.Array n) d few = no_value_runs d few
 
 pub read_runs : (t : Target) (d : ℕ) → d ≤ 128 → Runs (load_block t) d (suc d)
 read_runs (Local slot) d few = push_runs (instruction.GetLocal slot) d refl refl refl few
@@ -135,6 +136,7 @@ store_item_runs (item_no.Command n) d few = nothing_runs (suc d)
 store_item_runs (item_no.Menu n) d few = nothing_runs (suc d)
 store_item_runs (item_no.Collection n) d few = nothing_runs (suc d)
 store_item_runs (item_no.Method n) d few = nothing_runs (suc d)
+store_item_runs (item_no.Array n) d few = nothing_runs (suc d)
 
 pub store_runs : (t : Target) (d : ℕ) → suc d ≤ 128 → Runs (store_block t) (suc d) (suc d)
 store_runs (Local slot) d few = change_runs (instruction.SetLocal slot) d refl refl refl few

@@ -51,6 +51,7 @@ variable_is (Value (Reference (Item (item_no.Command n)))) v h = absurd cc
 variable_is (Value (Reference (Item (item_no.Menu n)))) v h = absurd cc
 variable_is (Value (Reference (Item (item_no.Collection n)))) v h = absurd cc
 variable_is (Value (Reference (Item (item_no.Method n)))) v h = absurd cc
+variable_is (Value (Reference (Item (item_no.Array n)))) v h = absurd cc
 variable_is (Value (Reference (Local slot))) v h = absurd cc
 variable_is (Value (Reference (Function f))) v h = absurd cc
 variable_is (Value (Literal value)) v h = absurd cc
@@ -221,6 +222,7 @@ module _ (number : Words → StrNo) where
   no_get (Cons (Text t) (Cons (Value (Reference (Item (item_no.Menu n)))) rest)) h = refl
   no_get (Cons (Text t) (Cons (Value (Reference (Item (item_no.Collection n)))) rest)) h = refl
   no_get (Cons (Text t) (Cons (Value (Reference (Item (item_no.Method n)))) rest)) h = refl
+  no_get (Cons (Text t) (Cons (Value (Reference (Item (item_no.Array n)))) rest)) h = refl
   no_get (Cons (Text t) (Cons (Value (Reference (Local slot))) rest)) h = refl
   no_get (Cons (Text t) (Cons (Value (Reference (Function f))) rest)) h = refl
   no_get (Cons (Text t) (Cons (Value (Literal value)) rest)) h = refl

@@ -28,6 +28,7 @@ kind_is kind.Command n = refl
 kind_is kind.Menu n = refl
 kind_is kind.Collection n = refl
 kind_is kind.Method n = refl
+kind_is kind.Array n = refl
 
 index_is : (k : Kind) (n : ℕ) → index_of (item_number k n) ≡ n
 index_is kind.Variable n = refl
@@ -35,6 +36,7 @@ index_is kind.Command n = refl
 index_is kind.Menu n = refl
 index_is kind.Collection n = refl
 index_is kind.Method n = refl
+index_is kind.Array n = refl
 
 same_self : (k : Kind) → same_kind k k ≡ true
 same_self kind.Variable = refl
@@ -42,6 +44,7 @@ same_self kind.Command = refl
 same_self kind.Menu = refl
 same_self kind.Collection = refl
 same_self kind.Method = refl
+same_self kind.Array = refl
 
 counted : (k : Kind) (xs ys : List (item.Item Path)) → count_of k (xs ++ ys) ≡ count_of k xs
     + count_of k ys

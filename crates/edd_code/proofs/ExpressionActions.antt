@@ -99,6 +99,7 @@ module _ (text : StrNo → Option Words) (around : device.Environment) where
   item_means (item_no.Menu n) operands s = no_value_means operands s
   item_means (item_no.Collection n) operands s = no_value_means operands s
   item_means (item_no.Method n) operands s = no_value_means operands s
+  item_means (item_no.Array n) operands s = no_value_means operands s
 
   pub read_means : (from : Target) → Means (load_block from) (read from)
   unfolding blocks.does act
@@ -119,6 +120,7 @@ module _ (text : StrNo → Option Words) (around : device.Environment) where
   store_means (Item (item_no.Menu n)) z operands s = refl
   store_means (Item (item_no.Collection n)) z operands s = refl
   store_means (Item (item_no.Method n)) z operands s = refl
+  store_means (Item (item_no.Array n)) z operands s = refl
   store_means (Function f) z operands s = refl
 
   -- a variable gets the topmost operand, and in its place is 0

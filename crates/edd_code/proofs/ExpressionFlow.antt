@@ -96,6 +96,7 @@ item_runs (item_no.Command n) d few = no_value_runs d few
 item_runs (item_no.Menu n) d few = no_value_runs d few
 item_runs (item_no.Collection n) d few = no_value_runs d few
 item_runs (item_no.Method n) d few = no_value_runs d few
+item_runs (item_no.Array n) d few = no_value_runs d few
 
 read_runs : (t : Target) (d : ℕ) → d ≤ 128 → Runs (read_block t) d (suc d)
 read_runs (Item i) d few = item_runs i d few

@@ -17,6 +17,7 @@ item_size (item_no.Command n) = omega arith
 item_size (item_no.Menu n) = omega arith
 item_size (item_no.Collection n) = omega arith
 item_size (item_no.Method n) = omega arith
+item_size (item_no.Array n) = omega arith
 
 read_size : (t : Target) → size (read_block t) ≤ 5
 read_size (Item i) = item_size i

@@ -37,6 +37,7 @@ item_spelled counts (item_no.Command n) few is = no_value_spelled
 item_spelled counts (item_no.Menu n) few is = no_value_spelled
 item_spelled counts (item_no.Collection n) few is = no_value_spelled
 item_spelled counts (item_no.Method n) few is = no_value_spelled
+item_spelled counts (item_no.Array n) few is = no_value_spelled
 
 read_spelled : (counts : Counts) (t : Target) → counts.variables ≤ 65536 → reads_existing counts t
     ≡ true → AreSpelled (read_block t)
@@ -86,6 +87,7 @@ module _ (context : Context) (plain : Target → Bool) where
   item_named (item_no.Menu n) is = refl
   item_named (item_no.Collection n) is = refl
   item_named (item_no.Method n) is = refl
+  item_named (item_no.Array n) is = refl
 
   read_named : (t : Target) → reads_existing context.counts t ≡ true
       → all_straight (names_exist context) (read_block t) ≡ true

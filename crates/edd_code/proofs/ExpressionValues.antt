@@ -68,6 +68,7 @@ module _ (machine : Environment) (d : List ℤ) where
   item_does (item_no.Menu n) operands = no_value_does operands
   item_does (item_no.Collection n) operands = no_value_does operands
   item_does (item_no.Method n) operands = no_value_does operands
+  item_does (item_no.Array n) operands = no_value_does operands
 
   read_does : (t : Target) (operands : List ℤ) → does machine d (read_block t) operands
       ≡ Goes [] (read d t ∷ operands)

@@ -28,6 +28,7 @@ item_size (item_no.Command n) = omega arith
 item_size (item_no.Menu n) = omega arith
 item_size (item_no.Collection n) = omega arith
 item_size (item_no.Method n) = omega arith
+item_size (item_no.Array n) = omega arith
 
 read_size : (t : Target) → size (load_block t) ≤ 5
 read_size (Local slot) = omega arith
@@ -40,6 +41,7 @@ store_item_size (item_no.Command n) = omega arith
 store_item_size (item_no.Menu n) = omega arith
 store_item_size (item_no.Collection n) = omega arith
 store_item_size (item_no.Method n) = omega arith
+store_item_size (item_no.Array n) = omega arith
 
 store_size : (t : Target) → size (store_block t) ≤ 3
 store_size (Local slot) = omega arith

@@ -75,6 +75,7 @@ module _ (context : Context) (variables : context.counts.variables ≤ 65536)
   item_stands (item_no.Menu n) is = no_value_stands
   item_stands (item_no.Collection n) is = no_value_stands
   item_stands (item_no.Method n) is = no_value_stands
+  item_stands (item_no.Array n) is = no_value_stands
 
   read_stands : (t : Target) → uses_existing context t ≡ true → Stands (load_block t)
   read_stands (Local slot) is = one_stands (instruction.GetLocal slot) (short_slot slot is) is
@@ -89,6 +90,7 @@ module _ (context : Context) (variables : context.counts.variables ≤ 65536)
   store_item_stands (item_no.Menu n) is = nothing_stands
   store_item_stands (item_no.Collection n) is = nothing_stands
   store_item_stands (item_no.Method n) is = nothing_stands
+  store_item_stands (item_no.Array n) is = nothing_stands
 
   store_stands : (t : Target) → uses_existing context t ≡ true → Stands (store_block t)
   store_stands (Local slot) is = one_stands (instruction.SetLocal slot) (short_slot slot is) is

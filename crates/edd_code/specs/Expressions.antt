@@ -21,6 +21,7 @@ item_block (item_no.Command n) = no_value
 item_block (item_no.Menu n) = no_value
 item_block (item_no.Collection n) = no_value
 item_block (item_no.Method n) = no_value
+item_block (item_no.Array n) = no_value
 
 -- no attribute refers to a local or a function
 abbrev pub read_block : Target → Block

@@ -34,6 +34,7 @@ store_item_block (item_no.Command n) = Nothing
 store_item_block (item_no.Menu n) = Nothing
 store_item_block (item_no.Collection n) = Nothing
 store_item_block (item_no.Method n) = Nothing
+store_item_block (item_no.Array n) = Nothing
 
 -- the topmost operand is stored, and in its place is what is then read back
 abbrev pub store_block : Target → Block

@@ -35,6 +35,7 @@ places_of index kind.Command = index.commands.items
 places_of index kind.Menu = index.menus.items
 places_of index kind.Collection = index.collections.items
 places_of index kind.Method = index.methods.items
+places_of index kind.Array = index.arrays.items
 
 -- the index has the places of these items
 abbrev pub IsIndexOf : List (Item Target) → ItemIndex → Type 0

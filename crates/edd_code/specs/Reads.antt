@@ -14,6 +14,7 @@ item_is_there counts (item_no.Command n) = true
 item_is_there counts (item_no.Menu n) = true
 item_is_there counts (item_no.Collection n) = true
 item_is_there counts (item_no.Method n) = true
+item_is_there counts (item_no.Array n) = true
 
 -- where a reference is a variable, it is one of so many
 abbrev pub reads_existing : Counts → Target → Bool

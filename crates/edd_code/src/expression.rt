@@ -19,9 +19,11 @@ pub(crate) fn write_item(code: &mut Emitter, item: ItemNo) -> Result<(), AllocEr
 {
     match item {
         ItemNo::Variable(variable) => put(code, Instruction::Variable(variable)),
-        ItemNo::Command(_) | ItemNo::Menu(_) | ItemNo::Collection(_) | ItemNo::Method(_) => {
-            put(code, Instruction::Push(0))
-        }
+        ItemNo::Command(_)
+        | ItemNo::Menu(_)
+        | ItemNo::Collection(_)
+        | ItemNo::Method(_)
+        | ItemNo::Array(_) => put(code, Instruction::Push(0)),
     }
 }
 

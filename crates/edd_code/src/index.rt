@@ -20,6 +20,7 @@ pub struct ItemIndex {
     pub menus: Vec<usize>,
     pub collections: Vec<usize>,
     pub methods: Vec<usize>,
+    pub arrays: Vec<usize>,
 }
 
 // Adds the place of an item that is of the kind.
@@ -65,6 +66,7 @@ impl ItemIndex {
             menus: places_of_kind(alloc, items, Kind::Menu)?,
             collections: places_of_kind(alloc, items, Kind::Collection)?,
             methods: places_of_kind(alloc, items, Kind::Method)?,
+            arrays: places_of_kind(alloc, items, Kind::Array)?,
         })
     }
 
@@ -77,6 +79,7 @@ impl ItemIndex {
             Kind::Menu => &self.menus,
             Kind::Collection => &self.collections,
             Kind::Method => &self.methods,
+            Kind::Array => &self.arrays,
         }
     }
 }

@@ -35,6 +35,7 @@ a_method (items.Command n) may = absurd (false≢true may)
 a_method (items.Menu n) may = absurd (false≢true may)
 a_method (items.Collection n) may = absurd (false≢true may)
 a_method (items.Method m) may = (m, refl)
+a_method (items.Array m) may = absurd cc
 
 module _ (d : Description Target) where
   plain : (row : AttrRef) → is_placed (counts_of d.identification d.items 0) row ≡ true

@@ -12,7 +12,10 @@ use Rattle.edd_syntax.specs.SubsetRules.{subset_breaches}
 use Rattle.edd_name_meanings.specs.declared.fault.NameFault.{NameFault}
 use Rattle.edd_name_meanings.specs.declared.fault.NameFault.TheVariants as name
 use Rattle.edd_name_meanings.specs.Faults.{IsFound, IsFirst}
-use Rattle.edd_compiler.specs.Faults.{of_name, Explains}
+use Rattle.edd_types.specs.declared.fault.TypeFault.{TypeFault}
+use Rattle.edd_types.specs.declared.fault.TypeFault.TheVariants as type
+use Rattle.edd_types.specs.Faults.{IsFirstOf}
+use Rattle.edd_compiler.specs.Faults.{of_name, of_type, Explains}
 use Rattle.edd_compiler.specs.Sources.{IsUnitOf}
 
 first_stays : {A : Type 0} (xs ys : List A) (x : A) → first_of xs ≡ Some x
@@ -43,3 +46,19 @@ module _ (text : List ℕ) (unit : Description Path) (spelled : IsUnitOf text un
     pub profile_decides : refusal unit ≡ first_of (subset_breaches d ++ too_many_strings d)
     profile_decides = ap (λ xs. first_of (xs ++ profile_breaches (resolved_unit unit))) no_breach
         ∙ ap (λ m. first_of (profile_breaches m)) meanings
+
+    broken_profile_rule : (why : Refusal) → first_of (subset_breaches d) ≡ Some why
+        → refusal unit ≡ Some why
+    broken_profile_rule why is = profile_decides
+        ∙ first_stays (subset_breaches d) (too_many_strings d) why is
+
+    pub type_refused : (e : TypeFault) → IsFirstOf (subset_breaches d) e → Explains text (of_type e)
+    type_refused (type.FloatVariable variable) is = (unit, spelled, broken_profile_rule _ is)
+    type_refused (type.OtherType variable word) is = (unit, spelled, broken_profile_rule _ is)
+    type_refused (type.BadSize variable) is = (unit, spelled, broken_profile_rule _ is)
+    type_refused (type.Mismatch line) is = (unit, spelled, broken_profile_rule _ is)
+    type_refused (type.FloatValue line) is = (unit, spelled, broken_profile_rule _ is)
+    type_refused (type.BreakOutside line) is = (unit, spelled, broken_profile_rule _ is)
+    type_refused (type.ConstRange line) is = (unit, spelled, broken_profile_rule _ is)
+    type_refused (type.DuplicateCase line) is = (unit, spelled, broken_profile_rule _ is)
+    type_refused type.Memory is = tt

@@ -40,6 +40,7 @@ fn read(
         Err(ReadFault::DivZero) => Ok(Found::Trap(Trap::DivZero)),
         Err(ReadFault::DivOverflow) => Ok(Found::Trap(Trap::DivOverflow)),
         Err(ReadFault::BadShift) => Ok(Found::Trap(Trap::BadShift)),
+        Err(ReadFault::NoElement) => Ok(Found::Trap(Trap::NoElement)),
         Err(ReadFault::WrongValues) => Err(ShowFault::WrongValues),
         Err(ReadFault::Memory) => Err(ShowFault::Memory),
     }
@@ -221,6 +222,7 @@ fn count_of(counts: &Counts, kind: Kind) -> u16 {
         Kind::Menu => counts.menus,
         Kind::Collection => counts.collections,
         Kind::Method => counts.methods,
+        Kind::Array => counts.arrays,
     }
 }
 

@@ -19,6 +19,7 @@ pub fn trap_word(trap: Trap) -> &'static str {
         Trap::DivZero => "DIV_ZERO",
         Trap::DivOverflow => "DIV_OVERFLOW",
         Trap::BadShift => "BAD_SHIFT",
+        Trap::NoElement => "NO_ELEMENT",
     }
 }
 

@@ -13,6 +13,7 @@ fn count_of(sections: &Sections<'_>, kind: Kind) -> u16 {
         Kind::Menu => sections.counts.menus,
         Kind::Collection => sections.counts.collections,
         Kind::Method => sections.counts.methods,
+        Kind::Array => sections.counts.arrays,
     }
 }
 

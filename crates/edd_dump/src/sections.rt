@@ -207,12 +207,14 @@ impl<'a> Sections<'a> {
         let menus = commands + usize::from(self.counts.commands);
         let collections = menus + usize::from(self.counts.menus);
         let methods = collections + usize::from(self.counts.collections);
+        let arrays = methods + usize::from(self.counts.methods);
         let before = match item {
             ItemNo::Variable(_) => 0,
             ItemNo::Command(_) => commands,
             ItemNo::Menu(_) => menus,
             ItemNo::Collection(_) => collections,
             ItemNo::Method(_) => methods,
+            ItemNo::Array(_) => arrays,
         };
         before + usize::from(item.index())
     }

@@ -8,7 +8,7 @@ use Rattle.edd_syntax.specs.Text.{Name}
 use Rattle.edd_syntax.specs.Token.{Token, Reserved, Identifier, Sign}
 use Rattle.edd_syntax.specs.Reference.{Path}
 use Rattle.edd_syntax.specs.Item.{ItemKind, VariableItem, CommandItem, MenuItem, CollectionItem, MethodItem, kind_of_item, Attribute, Item}
-use Rattle.edd_syntax.specs.ItemGrammar.{RowHere, ClosedHere, kind_word, ItemWordHere, OwnAttributeHere, ItemHere}
+use Rattle.edd_syntax.specs.ItemGrammar.{RowHere, ClosedHere, KindHere, ItemWordHere, OwnAttributeHere, ItemHere}
 use Rattle.edd_syntax.specs.Size.{attribute_height, item_height}
 use Rattle.edd_grammar.specs.Reading.{at, at_word, expect_word, name_at}
 use Rattle.edd_grammar.specs.WordReading.{at_end, closed, row_inside}
@@ -23,36 +23,37 @@ use Rattle.edd_grammar.proofs.CompleteAttributes.{attribute_shorter, own_attribu
 -- ---- the words of items
 
 kind_sound : (here : List Token) (k : Kind) (rest : List Token) → kind_at here ≡ Some (k, rest)
-    → here ≡ Reserved (kind_word k) ∷ rest
+    → KindHere k here rest
 unfolding kind_at
 kind_sound here k rest x =
     branch (at_word word.Variable here) _ _ _ x
-    (λ t y. as_read (λ k r. here ≡ Reserved (kind_word k) ∷ r) kind.Variable k (drop 1 here)
+    (λ t y. as_read (λ k r. KindHere k here r) kind.Variable k (drop 1 here)
     rest y (at_word_is word.Variable here t)) (λ _ x1.
     branch (at_word word.Command here) _ _ _ x1
-    (λ t y. as_read (λ k r. here ≡ Reserved (kind_word k) ∷ r) kind.Command k (drop 1 here) rest
+    (λ t y. as_read (λ k r. KindHere k here r) kind.Command k (drop 1 here) rest
     y (at_word_is word.Command here t)) (λ _ x2.
     branch (at_word word.Menu here) _ _ _ x2
-    (λ t y. as_read (λ k r. here ≡ Reserved (kind_word k) ∷ r) kind.Menu k (drop 1 here) rest y
+    (λ t y. as_read (λ k r. KindHere k here r) kind.Menu k (drop 1 here) rest y
     (at_word_is word.Menu here t)) (λ _ x3.
     branch (at_word word.Collection here) _ _ _ x3
-    (λ t y. as_read (λ k r. here ≡ Reserved (kind_word k) ∷ r) kind.Collection k (drop 1 here)
+    (λ t y. as_read (λ k r. KindHere k here r) kind.Collection k (drop 1 here)
     rest y (at_word_is word.Collection here t)) (λ _ x4.
     branch (at_word word.Method here) _ _ _ x4
-    (λ t y. as_read (λ k r. here ≡ Reserved (kind_word k) ∷ r) kind.Method k (drop 1 here) rest
+    (λ t y. as_read (λ k r. KindHere k here r) kind.Method k (drop 1 here) rest
     y (at_word_is word.Method here t)) (λ _ y. absurd cc)))))
 
-kind_again : (k : Kind) (rest : List Token) → kind_at (Reserved (kind_word k) ∷ rest)
-    ≡ Some (k, rest)
+kind_again : (k : Kind) (here rest : List Token) → KindHere k here rest
+    → kind_at here ≡ Some (k, rest)
 unfolding kind_at
-kind_again kind.Variable rest = refl
-kind_again kind.Command rest = refl
-kind_again kind.Menu rest = refl
-kind_again kind.Collection rest = refl
-kind_again kind.Method rest = refl
+kind_again kind.Variable here rest h = rw h refl
+kind_again kind.Command here rest h = rw h refl
+kind_again kind.Menu here rest h = rw h refl
+kind_again kind.Collection here rest h = rw h refl
+kind_again kind.Method here rest h = rw h refl
+kind_again kind.Array here rest h = absurd h
 
 sort_sound : (k : Kind) (here behind : List Token) (sort : ItemKind) (rest : List Token)
-    → here ≡ Reserved (kind_word k) ∷ behind → sort_behind k behind ≡ Some (sort, rest)
+    → KindHere k here behind → sort_behind k behind ≡ Some (sort, rest)
     → ItemWordHere sort here rest
 unfolding sort_behind
 sort_sound kind.Variable here behind sort rest e x = as_read (λ s r. ItemWordHere s here r)
@@ -67,8 +68,9 @@ sort_sound kind.Collection here behind sort rest e x =
     let a = bind_some (expect_word word.Of behind) _ (sort, rest) x in
     let b = bind_some (kind_at a.0) _ (sort, rest) a.2 in
     as_read (λ s r. ItemWordHere s here r) (CollectionItem b.0.0) sort b.0.1 rest b.2
-    (e ∙ ap (λ u. Reserved word.Collection ∷ u) (expect_word_is word.Of behind a.0 a.1
-    ∙ ap (λ u. Reserved word.Of ∷ u) (kind_sound a.0 b.0.0 b.0.1 b.1)))
+    (a.0, e ∙ ap (λ u. Reserved word.Collection ∷ u) (expect_word_is word.Of behind a.0 a.1),
+    kind_sound a.0 b.0.0 b.0.1 b.1)
+sort_sound kind.Array here behind sort rest e x = absurd e
 
 -- the kind is read, and what stands behind it
 record ReadsSort (sort : ItemKind) (here rest : List Token) : Type 0 where
@@ -88,12 +90,9 @@ sort_again MethodItem here rest h =
     record { behind = rest; kind_read = rw h refl; sort_read = refl }
 sort_again (CollectionItem of) here rest h =
     record {
-      behind = Reserved word.Of ∷ Reserved (kind_word of) ∷ rest;
-      kind_read = rw h refl;
-      sort_read = rw (
-        expect_word_again word.Of (Reserved (kind_word of) ∷ rest),
-        kind_again of rest,
-      ) refl;
+      behind = Reserved word.Of ∷ h.0;
+      kind_read = rw h.1 refl;
+      sort_read = rw (expect_word_again word.Of h.0, kind_again of h.0 rest h.2) refl;
     }
 
 -- ---- the attributes of an item
@@ -180,13 +179,23 @@ item_again height_left i here rest h low =
           i.attributes (Sign sign.OpenBrace ∷ h.1) rest (h.1, refl, h.4) low,
     ) refl
 
+kind_shorter : (k : Kind) (here rest : List Token) → KindHere k here rest
+    → length rest < length here
+kind_shorter kind.Variable here rest h = omega (arith, ap length h)
+kind_shorter kind.Command here rest h = omega (arith, ap length h)
+kind_shorter kind.Menu here rest h = omega (arith, ap length h)
+kind_shorter kind.Collection here rest h = omega (arith, ap length h)
+kind_shorter kind.Method here rest h = omega (arith, ap length h)
+kind_shorter kind.Array here rest h = absurd h
+
 word_shorter : (sort : ItemKind) (here rest : List Token) → ItemWordHere sort here rest
     → length rest < length here
 word_shorter VariableItem here rest h = omega (arith, ap length h)
 word_shorter CommandItem here rest h = omega (arith, ap length h)
 word_shorter MenuItem here rest h = omega (arith, ap length h)
 word_shorter MethodItem here rest h = omega (arith, ap length h)
-word_shorter (CollectionItem of) here rest h = omega (arith, ap length h)
+word_shorter (CollectionItem of) here rest h =
+    omega (arith, ap length h.1, kind_shorter of h.0 rest h.2)
 
 item_shorter : (i : Item Path) (here rest : List Token) → ItemHere i here rest
     → length rest < length here
@@ -216,7 +225,7 @@ starts_item MenuItem here rest h =
 starts_item MethodItem here rest h =
     rw h (record { no_end = refl; no_semicolon = refl; no_comma = refl })
 starts_item (CollectionItem of) here rest h =
-    rw h (record { no_end = refl; no_semicolon = refl; no_comma = refl })
+    rw h.1 (record { no_end = refl; no_semicolon = refl; no_comma = refl })
 
 end_no_semicolon : (rest : List Token) → at_end rest ≡ true → at sign.Semicolon rest ≡ false
 end_no_semicolon [] e = refl

@@ -2,6 +2,7 @@
 use Rattle.std.proofs.Common.{◌≡◌, ℕ, ◌≤◌, true, IsTrue, nat_le, List, [], ◌∷◌, Some, refl, arith}
 use Rattle.std.specs.List.{list_all}
 use Rattle.edd_syntax.specs.declared.numbers.Kind.{Kind}
+use Rattle.edd_syntax.specs.declared.numbers.Kind.TheVariants as kinds
 use Rattle.edd_syntax.specs.declared.symbols.Keyword.{Keyword}
 use Rattle.edd_syntax.specs.declared.symbols.Keyword.TheVariants as word
 use Rattle.edd_syntax.specs.declared.symbols.Symbol.TheVariants as sign
@@ -9,7 +10,7 @@ use Rattle.edd_syntax.specs.Token.{Token, Reserved, Identifier, Integer, Sign}
 use Rattle.edd_syntax.specs.Reference.{Path}
 use Rattle.edd_syntax.specs.Item.{ItemKind, VariableItem, CommandItem, MenuItem, CollectionItem, MethodItem, kind_of_item, Attribute, Item, Identification, Description}
 use Rattle.edd_syntax.specs.WellFormed.{is_path, is_plain, stands_in, is_item, are_items}
-use Rattle.edd_syntax.specs.ItemGrammar.{ClosedHere, kind_word, ItemWordHere, OwnAttributeHere, ItemHere, NumberedWordHere, IdentificationHere, Spells}
+use Rattle.edd_syntax.specs.ItemGrammar.{ClosedHere, KindHere, ItemWordHere, OwnAttributeHere, ItemHere, NumberedWordHere, IdentificationHere, Spells}
 use Rattle.edd_syntax.specs.Size.{attribute_height, item_height, height_limit}
 use Rattle.edd_grammar.specs.KeptTokens.{Kept}
 use Rattle.edd_grammar.specs.UnitReading.{item_at}
@@ -38,6 +39,14 @@ attributes_kept kind (a ∷ all) here rest h low k =
     is_le : (a b : ℕ) → a ≤ b → nat_le a b ≡ true
     is_le a b e = grind arith
 
+kind_kept : (of : Kind) (here rest : List Token) → KindHere of here rest → Kept here → Kept rest
+kind_kept kinds.Variable here rest h k = (kept_next (Reserved word.Variable) here rest h k).1
+kind_kept kinds.Command here rest h k = (kept_next (Reserved word.Command) here rest h k).1
+kind_kept kinds.Menu here rest h k = (kept_next (Reserved word.Menu) here rest h k).1
+kind_kept kinds.Collection here rest h k = (kept_next (Reserved word.Collection) here rest h k).1
+kind_kept kinds.Method here rest h k = (kept_next (Reserved word.Method) here rest h k).1
+kind_kept kinds.Array here rest h k = absurd h
+
 word_kept : (sort : ItemKind) (here rest : List Token) → ItemWordHere sort here rest → Kept here
     → Kept rest
 word_kept VariableItem here rest h k = (kept_next (Reserved word.Variable) here rest h k).1
@@ -45,10 +54,8 @@ word_kept CommandItem here rest h k = (kept_next (Reserved word.Command) here re
 word_kept MenuItem here rest h k = (kept_next (Reserved word.Menu) here rest h k).1
 word_kept MethodItem here rest h k = (kept_next (Reserved word.Method) here rest h k).1
 word_kept (CollectionItem of) here rest h k =
-    let behind = (kept_next (Reserved word.Collection) here
-    (Reserved word.Of ∷ Reserved (kind_word of) ∷ rest) h k).1 in
-    kept_tail (Reserved (kind_word of)) rest
-    (kept_tail (Reserved word.Of) (Reserved (kind_word of) ∷ rest) behind)
+    let behind = (kept_next (Reserved word.Collection) here (Reserved word.Of ∷ h.0) h.1 k).1 in
+    kind_kept of h.0 rest h.2 (kept_tail (Reserved word.Of) h.0 behind)
 
 item_kept : (i : Item Path) (here rest : List Token) → ItemHere i here rest
     → item_height i ≤ height_limit → Kept here → Both (is_item is_path is_plain i) rest

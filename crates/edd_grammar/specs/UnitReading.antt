@@ -35,6 +35,7 @@ sort_behind kind.Collection here = do
   (of, rest) ← kind_at behind
   Some (CollectionItem of, rest)
 sort_behind kind.Method here = Some (MethodItem, here)
+sort_behind kind.Array here = None
 
 -- the attributes of at most this height of a kind of item, in braces
 unfoldable pub attributes_at : Kind → ℕ → List Token → Read (List (Attribute Path))

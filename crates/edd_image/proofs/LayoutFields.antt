@@ -11,14 +11,15 @@ use Rattle.edd_image.proofs.LayoutRows.{part_read, variables_read, names_read, a
 
 -- ---- the header
 
-same_counts : {a a' b b' c c' d d' e e' f f' g g' h h' i i' j j' : ℕ} → a ≡ a' → b ≡ b' → c ≡ c'
-    → d ≡ d' → e ≡ e' → f ≡ f' → g ≡ g' → h ≡ h' → i ≡ i' → j ≡ j'
+same_counts : {a a' b b' c c' d d' e e' z z' f f' g g' h h' i i' j j' : ℕ} → a ≡ a' → b ≡ b' → c ≡ c'
+    → d ≡ d' → e ≡ e' → z ≡ z' → f ≡ f' → g ≡ g' → h ≡ h' → i ≡ i' → j ≡ j'
     → ◌≡◌ {A = Counts} (record {
       variables = a;
       commands = b;
       menus = c;
       collections = d;
       methods = e;
+      arrays = z;
       strings = f;
       manufacturer = g;
       device_type = h;
@@ -32,13 +33,14 @@ same_counts : {a a' b b' c c' d d' e e' f f' g g' h h' i i' j j' : ℕ} → a �
       menus = c';
       collections = d';
       methods = e';
+      arrays = z';
       strings = f';
       manufacturer = g';
       device_type = h';
       device_revision = i';
       dd_revision = j';
     })
-same_counts p q r s t u v w x y = cc
+same_counts p q r s t o u v w x y = cc
 
 counts_read : (s : Sections) → AreSections s → counts_in (layout s) ≡ s.counts
 unfolding layout header magic identification counts lengths number_at
@@ -48,6 +50,7 @@ counts_read s are = same_counts
     (from_be_bytes-to_be_bytes_2 s.counts.menus are.counts_fit.menus)
     (from_be_bytes-to_be_bytes_2 s.counts.collections are.counts_fit.collections)
     (from_be_bytes-to_be_bytes_2 s.counts.methods are.counts_fit.methods)
+    (sym are.no_arrays)
     (from_be_bytes-to_be_bytes_2 s.counts.strings are.counts_fit.strings)
     (from_be_bytes-to_be_bytes_4 s.counts.manufacturer are.counts_fit.manufacturer)
     (from_be_bytes-to_be_bytes_4 s.counts.device_type are.counts_fit.device_type)

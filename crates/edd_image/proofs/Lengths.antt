@@ -2,9 +2,8 @@
 use Rattle.std.proofs.Common.{◌≡◌, ℕ, ◌-◌, ◌<◌, ◌≤◌, Bool, true, false, cond, List, [], ◌∷◌, length, drop, Option, Some, None, refl, sym, subst, arith, length-drop}
 use Rattle.std.specs.Prelude.{IfSome, option_map, ◌==◌, nat_lt}
 use Rattle.std.specs.Int.{Width, w16, w32, w64, byte_len}
-use Rattle.edd_syntax.specs.Numbers.{item_from_numbers}
 use Rattle.edd_image.specs.declared.instruction.Instruction.{Instruction}
-use Rattle.edd_image.specs.Decoding.{◌>>=◌, byte_from, number_from, signed_from, item_from, basic_from, operator_of, comparison_of, unary_of, jump_from, entry_from, data_from, enumerator_from, response_from, member_from, record_from, ask_of, ask_from, instruction_from, instruction_at}
+use Rattle.edd_image.specs.Decoding.{◌>>=◌, byte_from, number_from, signed_from, listed_item, item_from, basic_from, operator_of, comparison_of, unary_of, jump_from, entry_from, data_from, enumerator_from, response_from, member_from, record_from, ask_of, ask_from, instruction_from, instruction_at}
 
 -- at most n bytes are left where something is read
 abbrev pub Leaves : {A : Type 0} → ℕ → Option (A × List ℕ) → Type 0
@@ -62,7 +61,7 @@ unfolding item_from
 item_leaves n bytes h =
     then_leaves n (byte_from bytes) _ (byte_leaves n bytes h) (λ kind h1.
     then_leaves n (number_from w16 kind.1) _ (number_leaves w16 n kind.1 h1) (λ m h2.
-    value_leaves n (item_from_numbers kind.0 m.0) _ (λ item. some_leaves n item m.1 h2)))
+    value_leaves n (listed_item kind.0 m.0) _ (λ item. some_leaves n item m.1 h2)))
 
 basic_leaves : (n code : ℕ) (bytes : List ℕ) → length bytes ≤ n → Leaves n (basic_from code bytes)
 unfolding basic_from

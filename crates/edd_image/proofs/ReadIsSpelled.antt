@@ -1,7 +1,7 @@
 -- An instruction that is read is spelled by the bytes that it was read from.
 use Rattle.std.proofs.Common.{◌≡◌, ℕ, ◌-◌, ◌<◌, ◌^◌, Bool, true, false, cond, List, [], ◌∷◌, ◌++◌, length, take, drop, Some, None, suc, refl, sym, ap, subst, ◌∙◌, append_assoc, arith, length-append}
 use Rattle.std.proofs.lemmas.List.{take-append-drop, drop_at}
-use Rattle.std.proofs.lemmas.Bool.{ltb-true, ltb-false, eqb-true, eqb-false}
+use Rattle.std.proofs.lemmas.Bool.{false≢true, ltb-true, ltb-false, eqb-true, eqb-false}
 use Rattle.std.specs.Prelude.{nat_lt, ◌==◌}
 use Rattle.std.specs.Int.{w16, w32, w64}
 use Rattle.edd_syntax.specs.declared.numbers.ItemNo.{ItemNo}
@@ -10,14 +10,14 @@ use Rattle.edd_syntax.specs.declared.operators.Operator.{Operator}
 use Rattle.edd_syntax.specs.declared.operators.Operator.TheVariants as operator
 use Rattle.edd_syntax.specs.declared.operators.Comparison.{Comparison}
 use Rattle.edd_syntax.specs.declared.operators.Comparison.TheVariants as comparison
-use Rattle.edd_syntax.specs.Numbers.{kind_number, kind_of, index_of, item_from_numbers}
+use Rattle.edd_syntax.specs.Numbers.{kind_number, kind_of, index_of}
 use Rattle.edd_image.specs.declared.instruction.Ask.{Ask}
 use Rattle.edd_image.specs.declared.instruction.Ask.TheVariants as ask
 use Rattle.edd_image.specs.declared.instruction.Instruction.{Instruction}
 use Rattle.edd_image.specs.declared.instruction.Instruction.TheVariants as instruction
 use Rattle.edd_image.specs.Layout.{u16, u32}
-use Rattle.edd_image.specs.Decoding.{byte_from, number_from, signed_from, optional_string, item_from, basic_from, operator_of, comparison_of, unary_of, jump_from, entry_from, data_from, enumerator_from, response_from, member_from, record_from, ask_of, ask_from, instruction_from, instruction_at}
-use Rattle.edd_image.specs.Spelling.{AreBytes, i64, item_bytes, optional_number, optional_bytes, operator_code, comparison_code, ask_bytes, spelling, IsOptional, IsAsk, IsSpelled}
+use Rattle.edd_image.specs.Decoding.{byte_from, number_from, signed_from, optional_string, item_from, basic_from, operator_of, comparison_of, unary_of, jump_from, entry_from, data_from, enumerator_from, response_from, member_from, record_from, ask_of, ask_from, instruction_from, instruction_at, listed_item}
+use Rattle.edd_image.specs.Spelling.{AreBytes, i64, item_bytes, optional_number, optional_bytes, operator_code, comparison_code, ask_bytes, spelling, IsOptional, IsAsk, IsListed, IsSpelled}
 use Rattle.edd_image.proofs.Readings.{Gives, gives_none, gives_some, gives_choice, gives_then, gives_map, Begins, drop_bytes, byte_took, u16_took, u32_took, i64_took}
 
 -- ---- codes
@@ -86,30 +86,35 @@ unary_is code =
 
 -- ---- operands
 
-item_is : (kind n : ℕ) → Gives (λ item. (kind_number (kind_of item) ≡ kind) × (index_of item ≡ n))
-    (item_from_numbers kind n)
-item_is kind n =
-    let P : ItemNo → Type 0 = λ item. (kind_number (kind_of item) ≡ kind) × (index_of item ≡ n) in
+item_is : (kind n : ℕ) → n < 2 ^ 16
+    → Gives (λ item. (kind_number (kind_of item) ≡ kind) × (index_of item ≡ n) × IsListed item)
+    (listed_item kind n)
+item_is kind n low =
+    let P : ItemNo → Type 0 = λ item. (kind_number (kind_of item) ≡ kind) × (index_of item ≡ n)
+    × IsListed item in
+    gives_choice P (kind == 6) _ _ (λ _. gives_none P) (λ no_array.
     gives_choice P (kind == 1) _ _ (λ e. gives_some P (items.Variable (record { 0 = n }))
-    (sym (eqb-true kind 1 e), refl)) (λ _.
+    (sym (eqb-true kind 1 e), refl, low)) (λ _.
     gives_choice P (kind == 2) _ _ (λ e. gives_some P (items.Command (record { 0 = n }))
-    (sym (eqb-true kind 2 e), refl)) (λ _.
+    (sym (eqb-true kind 2 e), refl, low)) (λ _.
     gives_choice P (kind == 3) _ _ (λ e. gives_some P (items.Menu (record { 0 = n }))
-    (sym (eqb-true kind 3 e), refl)) (λ _.
+    (sym (eqb-true kind 3 e), refl, low)) (λ _.
     gives_choice P (kind == 4) _ _ (λ e. gives_some P (items.Collection (record { 0 = n }))
-    (sym (eqb-true kind 4 e), refl)) (λ _.
+    (sym (eqb-true kind 4 e), refl, low)) (λ _.
     gives_choice P (kind == 5) _ _ (λ e. gives_some P (items.Method (record { 0 = n }))
-    (sym (eqb-true kind 5 e), refl)) (λ _. gives_none P)))))
+    (sym (eqb-true kind 5 e), refl, low)) (λ _.
+    gives_choice P (kind == 6) _ _ (λ e. absurd (false≢true (sym no_array ∙ e)))
+    (λ _. gives_none P)))))))
 
 item_took : (bytes : List ℕ) → AreBytes bytes
-    → Gives (λ x. Begins bytes (item_bytes x.0) x.1 × (index_of x.0 < 2 ^ 16)) (item_from bytes)
+    → Gives (λ x. Begins bytes (item_bytes x.0) x.1 × IsListed x.0) (item_from bytes)
 unfolding item_from
 item_took bytes are =
-    let P : ItemNo × List ℕ → Type 0 = λ x. Begins bytes (item_bytes x.0) x.1
-    × (index_of x.0 < 2 ^ 16) in
+    let P : ItemNo × List ℕ → Type 0 = λ x. Begins bytes (item_bytes x.0) x.1 × IsListed x.0 in
     gives_then P (byte_from bytes) _ (λ kind e1. let k = byte_took bytes are kind e1 in
     gives_then P (number_from w16 kind.1) _ (λ n e2. let m = u16_took kind.1 k.0.others n e2 in
-    gives_then P (item_from_numbers kind.0 n.0) _ (λ item e3. let h = item_is kind.0 n.0 item e3 in
+    gives_then P (listed_item kind.0 n.0) _ (λ item e3.
+    let h = item_is kind.0 n.0 m.1 item e3 in
     gives_some P (item, n.1) (
       record {
         is = k.0.is ∙ ap (λ (l : List ℕ). kind.0 ∷ l) m.0.is
@@ -117,7 +122,7 @@ item_took bytes are =
             ∙ ap (λ (a : ℕ). kind.0 ∷ (u16 a ++ n.1)) h.1);
         others = m.0.others;
       },
-      subst (λ (a : ℕ). a < 2 ^ 16) (sym h.1) m.1,
+      h.2,
     ))))
 
 optional_is : (n : ℕ) → n < 2 ^ 16 → IsOptional (optional_string n)

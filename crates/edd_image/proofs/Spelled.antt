@@ -19,7 +19,7 @@ use Rattle.edd_image.specs.declared.instruction.Instruction.{Instruction}
 use Rattle.edd_image.specs.declared.instruction.Instruction.TheVariants as instruction
 use Rattle.edd_image.specs.Layout.{u16, u32}
 use Rattle.edd_image.specs.Decoding.{byte_from, number_from, signed_from, optional_string, item_from, basic_from, operator_of, comparison_of, unary_of, jump_from, entry_from, data_from, enumerator_from, response_from, member_from, record_from, ask_of, ask_from, instruction_from, instruction_at}
-use Rattle.edd_image.specs.Spelling.{i64, item_bytes, optional_number, optional_bytes, operator_code, comparison_code, ask_bytes, spelling, IsOptional, IsAsk, IsSpelled}
+use Rattle.edd_image.specs.Spelling.{i64, item_bytes, optional_number, optional_bytes, operator_code, comparison_code, ask_bytes, spelling, IsOptional, IsAsk, IsListed, IsSpelled}
 
 enough : (w : Width) (n : ℕ) (rest : List ℕ) → length (to_be_bytes w n) ≡ byte_len w
     → ltb (length (to_be_bytes w n ++ rest)) (byte_len w) ≡ false
@@ -75,7 +75,7 @@ optional_is (Some s) h =
     let ne : eqb s.0 0xffff ≡ false = ne_eqb s.0 0xffff (λ e. omega (arith, e, h)) in
     rw ne refl
 
-item_again : (item : ItemNo) (rest : List ℕ) → index_of item < 2 ^ 16
+item_again : (item : ItemNo) (rest : List ℕ) → IsListed item
     → item_from (item_bytes item ++ rest) ≡ Some (item, rest)
 unfolding item_from byte_from
 item_again (items.Variable n) rest h = rw (u16_again n.0 rest h) refl
@@ -83,8 +83,9 @@ item_again (items.Command n) rest h = rw (u16_again n.0 rest h) refl
 item_again (items.Menu n) rest h = rw (u16_again n.0 rest h) refl
 item_again (items.Collection n) rest h = rw (u16_again n.0 rest h) refl
 item_again (items.Method n) rest h = rw (u16_again n.0 rest h) refl
+item_again (items.Array n) rest h = absurd h
 
-entry_again : (item : ItemNo) (quals : ℕ) (rest : List ℕ) → index_of item < 2 ^ 16 → quals < 16
+entry_again : (item : ItemNo) (quals : ℕ) (rest : List ℕ) → IsListed item → quals < 16
     → entry_from (item_bytes item ++ (u16 quals ++ rest)) ≡ Some (instruction.Item item quals, rest)
 unfolding entry_from
 entry_again item quals rest h lt =

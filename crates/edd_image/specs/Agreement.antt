@@ -139,6 +139,7 @@ counts_of i items strings = record {
   menus = count_of kind.Menu items;
   collections = count_of kind.Collection items;
   methods = count_of kind.Method items;
+  arrays = count_of kind.Array items;
   strings = strings;
   manufacturer = i.manufacturer;
   device_type = i.device_type;
@@ -177,6 +178,8 @@ place_of_item c (items.Command n) = c.variables + n.0
 place_of_item c (items.Menu n) = c.variables + c.commands + n.0
 place_of_item c (items.Collection n) = c.variables + c.commands + c.menus + n.0
 place_of_item c (items.Method n) = c.variables + c.commands + c.menus + c.collections + n.0
+place_of_item c (items.Array n) = c.variables + c.commands + c.menus + c.collections + c.methods
+    + n.0
 
 abbrev pub name_numbered : Contents → ItemNo → Option Name
 name_numbered c i =
@@ -202,6 +205,7 @@ count_in c kind.Command = c.commands
 count_in c kind.Menu = c.menus
 count_in c kind.Collection = c.collections
 count_in c kind.Method = c.methods
+count_in c kind.Array = c.arrays
 
 -- Identification, counts, names, types, and every attribute for all values of a device are those of
 -- the description, and the numbers of strings stand for its strings.

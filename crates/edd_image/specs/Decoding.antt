@@ -4,7 +4,8 @@ use Rattle.std.specs.Int.{Width, w16, w32, w64, byte_len, from_be_bytes, cast_si
 use Rattle.edd_syntax.specs.declared.numbers.VarNo.{VarNo}
 use Rattle.edd_syntax.specs.declared.numbers.StrNo.{StrNo}
 use Rattle.edd_syntax.specs.declared.numbers.ItemNo.{ItemNo}
-use Rattle.edd_syntax.specs.Numbers.{item_from_numbers}
+use Rattle.edd_syntax.specs.declared.numbers.Kind.TheVariants.{Array}
+use Rattle.edd_syntax.specs.Numbers.{kind_number, item_from_numbers}
 use Rattle.edd_syntax.specs.declared.operators.Operator.{Operator}
 use Rattle.edd_syntax.specs.declared.operators.Operator.TheVariants as operator
 use Rattle.edd_syntax.specs.declared.operators.Comparison.{Comparison}
@@ -43,12 +44,16 @@ string n = record { 0 = n }
 abbrev pub optional_string : ℕ → Option StrNo
 optional_string n = if n == 0xffff then None else Some (string n)
 
+-- an item that an entry or a member may name; an array is neither
+abbrev pub listed_item : ℕ → ℕ → Option ItemNo
+listed_item kind n = if kind == kind_number Array then None else item_from_numbers kind n
+
 -- an item by its kind and number
 unfoldable pub item_from : List ℕ → Option (ItemNo × List ℕ)
 item_from bytes = do
   kind ← byte_from bytes
   n ← number_from w16 kind.1
-  item ← item_from_numbers kind.0 n.0
+  item ← listed_item kind.0 n.0
   Some (item, n.1)
 
 -- ---- the instructions by their codes

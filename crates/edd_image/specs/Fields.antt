@@ -36,6 +36,8 @@ counts_in b = record {
   menus = number_at w16 b 32;
   collections = number_at w16 b 34;
   methods = number_at w16 b 36;
+  -- the first version of the layout has none
+  arrays = 0;
   strings = number_at w16 b 38;
   manufacturer = number_at w32 b 12;
   device_type = number_at w32 b 16;

@@ -101,13 +101,15 @@ layout_length s = 56 + 4 * length s.variables + 8 * length s.names + 16 * length
     + length s.code + 8 * length s.strings + length s.name_bytes + length s.string_bytes
 
 abbrev pub item_count : Counts → ℕ
-item_count c = c.variables + c.commands + c.menus + c.collections + c.methods
+item_count c = c.variables + c.commands + c.menus + c.collections + c.methods + c.arrays
 
 -- the counts are those of the lists, and each number fits its field
 pub record AreSections (s : Sections) : Type 0 where
   pub variables_counted : s.counts.variables ≡ length s.variables
   pub names_counted : item_count s.counts ≡ length s.names
   pub strings_counted : s.counts.strings ≡ length s.strings
+  -- the first version of the layout has none
+  pub no_arrays : s.counts.arrays ≡ 0
   pub counts_fit : CountsFit s.counts
   pub names_fit : AllByRecursion NameFits s.names
   pub attributes_fit : AllByRecursion AttributeFits s.attributes

@@ -27,6 +27,7 @@ item_exists counts (items.Command n) = nat_lt n.0 counts.commands
 item_exists counts (items.Menu n) = nat_lt n.0 counts.menus
 item_exists counts (items.Collection n) = nat_lt n.0 counts.collections
 item_exists counts (items.Method n) = nat_lt n.0 counts.methods
+item_exists counts (items.Array n) = nat_lt n.0 counts.arrays
 
 abbrev pub request_exists : Counts → Ask → Bool
 request_exists counts (ask.PutMessage s) = string_exists counts s

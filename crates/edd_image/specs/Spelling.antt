@@ -3,6 +3,7 @@ use Rattle.std.specs.Prelude.{ℕ, ◌<◌, ◌^◌, ℤ, List, [], ◌∷◌, �
 use Rattle.std.specs.Int.{w64, to_be_bytes, cast_unsigned}
 use Rattle.edd_syntax.specs.declared.numbers.StrNo.{StrNo}
 use Rattle.edd_syntax.specs.declared.numbers.ItemNo.{ItemNo}
+use Rattle.edd_syntax.specs.declared.numbers.ItemNo.TheVariants as items
 use Rattle.edd_syntax.specs.declared.operators.Operator.{Operator}
 use Rattle.edd_syntax.specs.declared.operators.Operator.TheVariants as operator
 use Rattle.edd_syntax.specs.declared.operators.Comparison.{Comparison}
@@ -121,6 +122,15 @@ IsAsk ask.SendCommand = ⊤
 IsAsk ask.SendCommandTrans = ⊤
 IsAsk ask.SaveValues = ⊤
 
+-- an item that an entry or a member may name; an array is neither
+abbrev pub IsListed : ItemNo → Type 0
+IsListed (items.Variable n) = n.0 < 2 ^ 16
+IsListed (items.Command n) = n.0 < 2 ^ 16
+IsListed (items.Menu n) = n.0 < 2 ^ 16
+IsListed (items.Collection n) = n.0 < 2 ^ 16
+IsListed (items.Method n) = n.0 < 2 ^ 16
+IsListed (items.Array n) = ⊥
+
 -- each operand is in its range
 abbrev pub IsSpelled : Instruction → Type 0
 IsSpelled instruction.End = ⊤
@@ -142,13 +152,13 @@ IsSpelled (instruction.JumpIfNotZero to) = to < 2 ^ 32
 IsSpelled (instruction.Case label to) = FitsSigned w64 label × (to < 2 ^ 32)
 IsSpelled (instruction.Text s) = s.0 < 2 ^ 16
 IsSpelled instruction.Number = ⊤
-IsSpelled (instruction.Item item quals) = (index_of item < 2 ^ 16) × (quals < 16)
+IsSpelled (instruction.Item item quals) = IsListed item × (quals < 16)
 IsSpelled (instruction.DataConst n) = n < 256
 IsSpelled (instruction.DataVar v mask quals) = (v.0 < 2 ^ 16) × (mask < 2 ^ 32) × (quals < 4)
 IsSpelled (instruction.Enumerator n text help) = FitsSigned w64 n × (text.0 < 2 ^ 16)
     × IsOptional help
 IsSpelled (instruction.Response n class text) = (n < 2 ^ 32) × (class < 7) × (text.0 < 2 ^ 16)
-IsSpelled (instruction.Member name item label help) = (name.0 < 2 ^ 16) × (index_of item < 2 ^ 16)
+IsSpelled (instruction.Member name item label help) = (name.0 < 2 ^ 16) × IsListed item
     × IsOptional label × IsOptional help
 IsSpelled (instruction.Ask request) = IsAsk request
 IsSpelled instruction.Abort = ⊤

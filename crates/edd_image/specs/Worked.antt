@@ -15,6 +15,7 @@ no_counts = record {
   menus = 0;
   collections = 0;
   methods = 0;
+  arrays = 0;
   strings = 0;
   manufacturer = 1;
   device_type = 2;

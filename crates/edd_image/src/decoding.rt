@@ -6,7 +6,7 @@ ghost use Rattle.std.specs.Int.{w16, w32, w64};
 ghost use Rattle.edd_image.specs.Decoding.{byte_from, number_from, signed_from, basic_from, jump_from, item_from, optional_string, entry_from, data_from, enumerator_from, response_from, member_from, record_from, ask_of, ask_from, instruction_from, instruction_at};
 
 use crate::instruction::{Ask, Instruction};
-use edd_syntax::numbers::{ItemNo, StrNo, VarNo};
+use edd_syntax::numbers::{ItemNo, Kind, StrNo, VarNo};
 use edd_syntax::operators::{Comparison, Operator};
 
 #[inline(always)]
@@ -84,6 +84,9 @@ fn item_from(bytes: &[u8]) -> Option<(ItemNo, &[u8])>
 {
     let (kind, rest) = byte_from(bytes)?;
     let (number, rest) = u16_from(rest)?;
+    if kind == Kind::Array.number() {
+        return None;
+    }
     let item = ItemNo::from_numbers(kind, number)?;
     Some((item, rest))
 }

@@ -173,6 +173,7 @@ pub fn counts(bytes: &[u8]) -> Counts
         menus: menu_count(bytes),
         collections: collection_count(bytes),
         methods: method_count(bytes),
+        arrays: 0,
         strings: string_count(bytes),
         manufacturer: manufacturer(bytes),
         device_type: device_type(bytes),

@@ -45,6 +45,7 @@ pub struct Counts {
     pub menus: u16,
     pub collections: u16,
     pub methods: u16,
+    pub arrays: u16,
     pub strings: u16,
     pub manufacturer: u32,
     pub device_type: u32,
@@ -52,7 +53,8 @@ pub struct Counts {
     pub dd_revision: u32,
 }
 
-/// The sections of an image in their order. Names stand by kind and number.
+/// The sections of an image in their order. Names stand by kind and number. There are no arrays in
+/// the first version of the layout.
 #[derive(Debug, Drop)]
 pub struct Parts {
     pub counts: Counts,
@@ -66,7 +68,8 @@ pub struct Parts {
     ghost variables_counted: { counts.variables ≡ vec_len variables },
     ghost names_counted: { counts.variables + counts.commands + counts.menus + counts.collections
         + counts.methods
-        ≡ vec_len names },
+        + counts.arrays ≡ vec_len names },
+    ghost no_arrays: { counts.arrays ≡ 0 },
     ghost strings_counted: { counts.strings ≡ vec_len strings },
     ghost fits: { 56 + 4 * vec_len variables + 8 * vec_len names + 16 * vec_len attributes
         + vec_len code

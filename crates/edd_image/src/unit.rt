@@ -173,6 +173,7 @@ impl Counts {
             ItemNo::Menu(number) => number.0 < self.menus,
             ItemNo::Collection(number) => number.0 < self.collections,
             ItemNo::Method(number) => number.0 < self.methods,
+            ItemNo::Array(number) => number.0 < self.arrays,
         }
     }
 

@@ -14,6 +14,7 @@ const NO_COUNTS: Counts = Counts {
     menus: 0,
     collections: 0,
     methods: 0,
+    arrays: 0,
     strings: 0,
     manufacturer: 1,
     device_type: 2,
@@ -67,6 +68,7 @@ fn an_endless_loop_is_written(rt: HostRuntime) -> Result<(), Fail> {
     let parts = Parts {
         counts: Counts {
             methods: 1,
+            arrays: 0,
             ..NO_COUNTS
         },
         variables: Vec::new(alloc),

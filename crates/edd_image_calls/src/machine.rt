@@ -38,6 +38,7 @@ fn values_in_their_ranges(rt: HostRuntime) -> Result<(), Fail> {
     let small = Small {
         variables: &[[INTEGER, 1, 0, 0]],
         methods: 0,
+        arrays: 0,
         rows: &[],
     };
     let bytes = image_of(alloc, small)?;
@@ -67,6 +68,7 @@ fn sets_of_an_answer(rt: HostRuntime) -> Result<(), Fail> {
     let small = Small {
         variables: &[[INTEGER, 1, 0, 0], [UNSIGNED, 2, 0, 0]],
         methods: 0,
+        arrays: 0,
         rows: &[],
     };
     let bytes = image_of(alloc, small)?;
@@ -99,6 +101,7 @@ fn validity_by_values(rt: HostRuntime) -> Result<(), Fail> {
     let small = Small {
         variables: &[[UNSIGNED, 4, 0, 0], [INTEGER, 1, 0, 0]],
         methods: 0,
+        arrays: 0,
         rows: &[
             ([1, 6, 0, 0, 0, 0], &ABOVE_ZERO),
             ([1, 6, 0, 1, 0, 0], &BY_MODE),
@@ -220,6 +223,7 @@ fn steps_of_methods(rt: HostRuntime) -> Result<(), Fail> {
         let small = Small {
             variables: &[[UNSIGNED, 1, 0, 0]],
             methods: 1,
+            arrays: 0,
             rows: &[([5, 21, 0, 0, 0, 0], code)],
         };
         let bytes = image_of(alloc, small)?;
@@ -240,12 +244,13 @@ const PRINTED_VALUES_FAULTS: [(ValuesFault, &str); 3] = [
     (ValuesFault::Memory, "no memory"),
 ];
 
-const PRINTED_READ_FAULTS: [(ReadFault, &str); 6] = [
+const PRINTED_READ_FAULTS: [(ReadFault, &str); 7] = [
     (ReadFault::NoItem, "203 NO_ITEM"),
     (ReadFault::WrongValues, "204 WRONG_VALUES"),
     (ReadFault::DivZero, "210 DIV_ZERO"),
     (ReadFault::DivOverflow, "211 DIV_OVERFLOW"),
     (ReadFault::BadShift, "212 BAD_SHIFT"),
+    (ReadFault::NoElement, "213 NO_ELEMENT"),
     (ReadFault::Memory, "no memory"),
 ];
 

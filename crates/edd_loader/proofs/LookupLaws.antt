@@ -196,6 +196,7 @@ place_inside c (items.Command n) h = omega (arith, ltb-true n.0 c.commands h)
 place_inside c (items.Menu n) h = omega (arith, ltb-true n.0 c.menus h)
 place_inside c (items.Collection n) h = omega (arith, ltb-true n.0 c.collections h)
 place_inside c (items.Method n) h = omega (arith, ltb-true n.0 c.methods h)
+place_inside c (items.Array n) h = omega (arith, ltb-true n.0 c.arrays h)
 
 -- the name of an item stands in the row of its place, among the rows that there are
 pub name_in_place : (b : List ℕ) (item : ItemNo) (name : Name) → name_numbered (contents_in b) item

@@ -21,7 +21,7 @@ use edd_image::{
     Counts, HEADER_LENGTH, NAME_ROW, STRING_ROW, VARIABLE_ROW, VarKind, counts, name_length,
     name_start, string_length, string_start, type_of, variable_count, variable_size, variable_type,
 };
-use edd_syntax::numbers::{CmdNo, CollNo, ItemNo, MenuNo, MethNo, VarNo};
+use edd_syntax::numbers::{ArrNo, CmdNo, CollNo, ItemNo, MenuNo, MethNo, VarNo};
 
 /// How many names stand before that of an item.
 pub fn place_of_item(counts: Counts, item: ItemNo) -> usize
@@ -31,12 +31,14 @@ pub fn place_of_item(counts: Counts, item: ItemNo) -> usize
     let menus = commands + counts.commands as usize;
     let collections = menus + counts.menus as usize;
     let methods = collections + counts.collections as usize;
+    let arrays = methods + counts.methods as usize;
     match item {
         ItemNo::Variable(number) => number.0 as usize,
         ItemNo::Command(number) => commands + number.0 as usize,
         ItemNo::Menu(number) => menus + number.0 as usize,
         ItemNo::Collection(number) => collections + number.0 as usize,
         ItemNo::Method(number) => methods + number.0 as usize,
+        ItemNo::Array(number) => arrays + number.0 as usize,
     }
 }
 
@@ -50,6 +52,7 @@ pub fn item_at(counts: Counts, place: usize) -> ItemNo
     let menus = commands + counts.commands as usize;
     let collections = menus + counts.menus as usize;
     let methods = collections + counts.collections as usize;
+    let arrays = methods + counts.methods as usize;
     if place < commands {
         ItemNo::Variable(VarNo(place as u16))
     } else if place < menus {
@@ -58,8 +61,10 @@ pub fn item_at(counts: Counts, place: usize) -> ItemNo
         ItemNo::Menu(MenuNo((place - menus) as u16))
     } else if place < methods {
         ItemNo::Collection(CollNo((place - collections) as u16))
-    } else {
+    } else if place < arrays {
         ItemNo::Method(MethNo((place - methods) as u16))
+    } else {
+        ItemNo::Array(ArrNo((place - arrays) as u16))
     }
 }
 

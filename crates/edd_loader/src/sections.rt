@@ -31,6 +31,7 @@ pub fn item_count(counts: Counts) -> usize
         + counts.menus as usize
         + counts.collections as usize
         + counts.methods as usize
+        + counts.arrays as usize
 }
 
 fn variable_rows_keep(bytes: &[u8]) -> bool

@@ -193,6 +193,8 @@ fault_read b ref values u read_fault.DivOverflow valid e are f g =
     (are, unit_read b ref values u (Err trap.DivOverflow) valid e f g)
 fault_read b ref values u read_fault.BadShift valid e are f g =
     (are, unit_read b ref values u (Err trap.BadShift) valid e f g)
+fault_read b ref values u read_fault.NoElement valid e are f g =
+    (are, unit_read b ref values u (Err trap.NoElement) valid e f g)
 fault_read b ref values u read_fault.Memory valid e are f g = (e, are)
 
 -- an error that was handed on

@@ -234,4 +234,6 @@ fault_given env s read_fault.DivOverflow why e g = let same : trap.DivOverflow �
     cc in subst (λ (t : Trap). Gives env s (Err t)) (sym same) g
 fault_given env s read_fault.BadShift why e g = let same : trap.BadShift ≡ why =
     cc in subst (λ (t : Trap). Gives env s (Err t)) (sym same) g
+fault_given env s read_fault.NoElement why e g = let same : trap.NoElement ≡ why =
+    cc in subst (λ (t : Trap). Gives env s (Err t)) (sym same) g
 fault_given env s read_fault.Memory why e g = absurd cc

@@ -29,6 +29,7 @@ trap_of read_fault.WrongValues = None
 trap_of read_fault.DivZero = Some trap.DivZero
 trap_of read_fault.DivOverflow = Some trap.DivOverflow
 trap_of read_fault.BadShift = Some trap.BadShift
+trap_of read_fault.NoElement = Some trap.NoElement
 trap_of read_fault.Memory = None
 
 -- what a fault says of the attribute and the values: the values are looked at only where there is
@@ -43,6 +44,8 @@ IsReadFault b ref values read_fault.DivOverflow = AreDeviceValues (types_in b) v
     × IsReading b ref values (Fault trap.DivOverflow)
 IsReadFault b ref values read_fault.BadShift = AreDeviceValues (types_in b) values
     × IsReading b ref values (Fault trap.BadShift)
+IsReadFault b ref values read_fault.NoElement = AreDeviceValues (types_in b) values
+    × IsReading b ref values (Fault trap.NoElement)
 IsReadFault b ref values read_fault.Memory = (is_no_item (contents_in b) ref ≡ false)
     × AreDeviceValues (types_in b) values
 

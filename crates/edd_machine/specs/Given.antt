@@ -19,4 +19,5 @@ GivesFault env s read_fault.WrongValues = ⊥
 GivesFault env s read_fault.DivZero = Gives env s (Err trap.DivZero)
 GivesFault env s read_fault.DivOverflow = Gives env s (Err trap.DivOverflow)
 GivesFault env s read_fault.BadShift = Gives env s (Err trap.BadShift)
+GivesFault env s read_fault.NoElement = Gives env s (Err trap.NoElement)
 GivesFault env s read_fault.Memory = Unit {0}

@@ -46,6 +46,8 @@ pub enum ReadFault {
     DivOverflow,
     #[error("212 BAD_SHIFT")]
     BadShift,
+    #[error("213 NO_ELEMENT")]
+    NoElement,
     #[error("no memory")]
     Memory,
 }
@@ -85,5 +87,6 @@ pub fn fault_of(trap: Trap) -> ReadFault
         Trap::DivZero => ReadFault::DivZero,
         Trap::DivOverflow => ReadFault::DivOverflow,
         Trap::BadShift => ReadFault::BadShift,
+        Trap::NoElement => ReadFault::NoElement,
     }
 }

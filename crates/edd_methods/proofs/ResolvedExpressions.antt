@@ -129,6 +129,7 @@ module _ (unit : Description Path) (context : Context)
   item_there (item_no.Menu n) is = refl
   item_there (item_no.Collection n) is = refl
   item_there (item_no.Method n) is = refl
+  item_there (item_no.Array n) is = refl
 
   pub meant_there : (scope : Scope) → IsBelow context.slots scope → (p : Path) (t : Target)
       → meaning unit scope variable_kinds p ≡ Some t → uses_existing context t ≡ true

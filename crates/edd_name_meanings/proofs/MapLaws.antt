@@ -142,6 +142,7 @@ few_of n h kind.Command = grind (arith, common_steps, nat_tests)
 few_of n h kind.Menu = grind (arith, common_steps, nat_tests)
 few_of n h kind.Collection = grind (arith, common_steps, nat_tests)
 few_of n h kind.Method = grind (arith, common_steps, nat_tests)
+few_of n h kind.Array = grind (arith, common_steps, nat_tests)
 
 pub is_some_copied : {X : Type 0} (r : Option (Bor X)) → is_some (option_copied r) ≡ is_some r
 is_some_copied (Some x) = refl

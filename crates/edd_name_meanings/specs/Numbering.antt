@@ -23,3 +23,4 @@ count_in c kind.Command = c.commands
 count_in c kind.Menu = c.menus
 count_in c kind.Collection = c.collections
 count_in c kind.Method = c.methods
+count_in c kind.Array = c.arrays

@@ -29,6 +29,7 @@ pub struct Counts {
     pub menus: u16,
     pub collections: u16,
     pub methods: u16,
+    pub arrays: u16,
 }
 
 impl Counts {
@@ -41,6 +42,7 @@ impl Counts {
             menus: 0,
             collections: 0,
             methods: 0,
+            arrays: 0,
         }
     }
 
@@ -54,6 +56,7 @@ impl Counts {
             Kind::Menu => self.menus,
             Kind::Collection => self.collections,
             Kind::Method => self.methods,
+            Kind::Array => self.arrays,
         }
     }
 
@@ -69,6 +72,7 @@ impl Counts {
             Kind::Menu => self.menus += 1,
             Kind::Collection => self.collections += 1,
             Kind::Method => self.methods += 1,
+            Kind::Array => self.arrays += 1,
         }
     }
 }

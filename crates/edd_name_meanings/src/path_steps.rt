@@ -81,7 +81,11 @@ fn member_of_item<'a>(
 {
     match item {
         ItemNo::Collection(n) => names.member(n, member),
-        ItemNo::Variable(_) | ItemNo::Command(_) | ItemNo::Menu(_) | ItemNo::Method(_) => None,
+        ItemNo::Variable(_)
+        | ItemNo::Command(_)
+        | ItemNo::Menu(_)
+        | ItemNo::Method(_)
+        | ItemNo::Array(_) => None,
     }
 }
 

@@ -64,6 +64,7 @@ pub fn has_too_many_items(items: &[Item<Path>]) -> bool
         || is_over(items, Kind::Menu)
         || is_over(items, Kind::Collection)
         || is_over(items, Kind::Method)
+        || is_over(items, Kind::Array)
 }
 
 #[tactic(auto, using(crate::proofs::Spends::over_limit))]

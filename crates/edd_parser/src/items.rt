@@ -101,6 +101,7 @@ fn sort_behind(cursor: &mut Cursor, kind_read: Kind) -> Result<Sort, ParseFault>
             Ok(Sort::Collection(member_kind(cursor)?))
         }
         Kind::Method => Ok(Sort::Method),
+        Kind::Array => Err(cursor.syntax()),
     }
 }
 

@@ -60,6 +60,15 @@ pub fn item_kind(token: &Token) -> Option<Kind> {
     }
 }
 
+/// The kinds of items that a source may have: arrays stand in images alone.
+pub const SOURCE_KINDS: [Kind; 5] = [
+    Kind::Variable,
+    Kind::Command,
+    Kind::Menu,
+    Kind::Collection,
+    Kind::Method,
+];
+
 /// The word with which an item of a kind begins in a source.
 pub fn kind_word(kind: Kind) -> &'static str {
     match kind {
@@ -68,6 +77,7 @@ pub fn kind_word(kind: Kind) -> &'static str {
         Kind::Menu => Keyword::Menu.spelling(),
         Kind::Collection => Keyword::Collection.spelling(),
         Kind::Method => Keyword::Method.spelling(),
+        Kind::Array => "ARRAY",
     }
 }
 

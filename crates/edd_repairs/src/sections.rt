@@ -5,8 +5,7 @@
 //! miss their closing ones, and as many closing ones that come later are taken for these.
 
 use edd_lexical_repairs::scanning::{Scanned, Shape, byte_at, piece_at};
-use edd_places::words::{kind_word, text_in};
-use edd_syntax::numbers::KINDS;
+use edd_places::words::{SOURCE_KINDS, kind_word, text_in};
 use std::alloc::{AllocError, Global};
 
 /// An item, with what stands behind it up to the next one.
@@ -77,7 +76,7 @@ fn is_left_out_word(word: &str) -> bool {
 
 // Whether a word begins an item.
 fn is_item_word(word: &str) -> bool {
-    KINDS.iter().any(|kind| kind_word(*kind) == word)
+    SOURCE_KINDS.iter().any(|kind| kind_word(*kind) == word)
 }
 
 // Whether a byte is the first of its line.

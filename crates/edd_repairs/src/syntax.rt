@@ -8,8 +8,8 @@ use edd_lexical_repairs::Found;
 use edd_lexical_repairs::scanning::byte_at;
 use edd_places::diagnostic::{Diagnostic, Finding};
 use edd_places::outline::Outline;
-use edd_places::words::{Span, item_kind, kind_word, span_of, word_of};
-use edd_syntax::numbers::{ATTRIBUTES, Attr, KINDS, Kind};
+use edd_places::words::{SOURCE_KINDS, Span, item_kind, kind_word, span_of, word_of};
+use edd_syntax::numbers::{ATTRIBUTES, Attr, Kind};
 use edd_syntax::operators::Operator;
 use edd_syntax::symbols::{Keyword, Symbol};
 use edd_token_reader::fault::ParseFault;
@@ -50,9 +50,19 @@ fn help_open(
     Ok(())
 }
 
+// Whether an item of a source may have the attribute.
+fn is_of_source(attr: Attr) -> bool {
+    SOURCE_KINDS.iter().any(|kind| attr.may_belong_to(*kind))
+}
+
 // The attribute with this word.
 fn attribute_of(word: &str) -> Option<Attr> {
-    ATTRIBUTES.iter().copied().find(|attr| attr.word() == word)
+    let attr = ATTRIBUTES.iter().copied().find(|attr| attr.word() == word)?;
+    if is_of_source(attr) {
+        Some(attr)
+    } else {
+        None
+    }
 }
 
 // Whether the word is that of an attribute that stands in the braces of TYPE.
@@ -70,7 +80,7 @@ fn is_option(attr: Attr) -> bool {
 // The kinds that have an attribute.
 fn push_kinds(line: &mut String, attr: Attr) -> Result<(), AllocError> {
     let mut between = " ";
-    for kind in KINDS {
+    for kind in SOURCE_KINDS {
         if attr.may_belong_to(kind) {
             line.push_str(between)?;
             line.push_str(kind_word(kind))?;

@@ -5,6 +5,7 @@ pub mod EveryAttribute
 pub mod FirstLaws
 pub mod KeptItems
 pub mod WithinLimits
+pub mod NoArrays
 pub mod NumberedLoops
 pub mod RowLaws
 pub mod TransactionRows

@@ -160,6 +160,7 @@ few_of_kind items kind.Command h = grind (arith, common_steps)
 few_of_kind items kind.Menu h = grind (arith, common_steps)
 few_of_kind items kind.Collection h = grind (arith, common_steps)
 few_of_kind items kind.Method h = grind (arith, common_steps)
+few_of_kind items kind.Array h = grind (arith, common_steps)
 
 -- ---- a checked description
 

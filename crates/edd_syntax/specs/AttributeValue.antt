@@ -29,6 +29,7 @@ item_value d (item_no.Command n) = pos 0
 item_value d (item_no.Menu n) = pos 0
 item_value d (item_no.Collection n) = pos 0
 item_value d (item_no.Method n) = pos 0
+item_value d (item_no.Array n) = pos 0
 
 -- no attribute refers to a local or a function
 abbrev pub read : List ℤ → Target → ℤ

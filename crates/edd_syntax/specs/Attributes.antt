@@ -71,6 +71,7 @@ variable_of_item (item_no.Command n) = record { 0 = 0 }
 variable_of_item (item_no.Menu n) = record { 0 = 0 }
 variable_of_item (item_no.Collection n) = record { 0 = 0 }
 variable_of_item (item_no.Method n) = record { 0 = 0 }
+variable_of_item (item_no.Array n) = record { 0 = 0 }
 
 abbrev pub variable_of : Target → VarNo
 variable_of target = variable_of_item (item_of target)

@@ -344,20 +344,23 @@ AttributeHere (item.Definition body) here rest =
 
 -- ---- items
 
-abbrev pub kind_word : Kind → Keyword
-kind_word kind.Variable = word.Variable
-kind_word kind.Command = word.Command
-kind_word kind.Menu = word.Menu
-kind_word kind.Collection = word.Collection
-kind_word kind.Method = word.Method
+-- the word of a kind that members of a collection may have
+abbrev pub KindHere : Kind → List Token → List Token → Type 0
+KindHere kind.Variable here rest = NextWord word.Variable here rest
+KindHere kind.Command here rest = NextWord word.Command here rest
+KindHere kind.Menu here rest = NextWord word.Menu here rest
+KindHere kind.Collection here rest = NextWord word.Collection here rest
+KindHere kind.Method here rest = NextWord word.Method here rest
+KindHere kind.Array here rest = ⊥
 
 -- the word of an item, for a collection with the kind of its members
 abbrev pub ItemWordHere : ItemKind → List Token → List Token → Type 0
 ItemWordHere VariableItem here rest = NextWord word.Variable here rest
 ItemWordHere CommandItem here rest = NextWord word.Command here rest
 ItemWordHere MenuItem here rest = NextWord word.Menu here rest
-ItemWordHere (CollectionItem of) here rest = here ≡ Reserved word.Collection ∷ Reserved word.Of
-    ∷ Reserved (kind_word of) ∷ rest
+ItemWordHere (CollectionItem of) here rest =
+    (behind : List Token) × (here ≡ Reserved word.Collection ∷ Reserved word.Of ∷ behind)
+    × KindHere of behind rest
 ItemWordHere MethodItem here rest = NextWord word.Method here rest
 
 -- an attribute that this kind of item may have

@@ -81,6 +81,7 @@ item_value values (item_no.Command n) = pos 0
 item_value values (item_no.Menu n) = pos 0
 item_value values (item_no.Collection n) = pos 0
 item_value values (item_no.Method n) = pos 0
+item_value values (item_no.Array n) = pos 0
 
 abbrev pub read_from : State → Target → ℤ
 read_from s (Local slot) = slice_index_or s.slots slot (pos 0)
@@ -109,6 +110,7 @@ assign_item env (item_no.Command n) z = pure z
 assign_item env (item_no.Menu n) z = pure z
 assign_item env (item_no.Collection n) z = pure z
 assign_item env (item_no.Method n) z = pure z
+assign_item env (item_no.Array n) z = pure z
 
 abbrev pub assign : Environment → Target → ℤ → Action ℤ
 assign env (Local slot) z = λ s. Done z (record s { slots = slice_set s.slots slot z })

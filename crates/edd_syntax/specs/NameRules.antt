@@ -51,7 +51,8 @@ abbrev pub transaction_count : {R : Type 0} → Item R → ℕ
 transaction_count i = length (filter is_transaction i.attributes)
 
 abbrev pub kinds : List Kind
-kinds = kind.Variable ∷ kind.Command ∷ kind.Menu ∷ kind.Collection ∷ kind.Method ∷ []
+kinds = kind.Variable ∷ kind.Command ∷ kind.Menu ∷ kind.Collection ∷ kind.Method
+    ∷ kind.Array ∷ []
 
 abbrev pub too_many : {R : Type 0} → Description R → List Refusal
 too_many unit =
@@ -173,6 +174,7 @@ required_words kind.Command = attr_word attr.Number ∷ attr_word attr.Operation
 required_words kind.Menu = attr_word attr.Items ∷ []
 required_words kind.Collection = attr_word attr.Members ∷ []
 required_words kind.Method = attr_word attr.Definition ∷ []
+required_words kind.Array = attr_word attr.Elements ∷ []
 
 abbrev pub missing_words : {R : Type 0} → Item R → List Name
 missing_words i = filter (λ word. not (is_name_in (map attribute_word i.attributes) word))

@@ -4,7 +4,7 @@ use Rattle.std.specs.List.{list_any}
 use Rattle.edd_syntax.specs.declared.symbols.Keyword.{Keyword}
 use Rattle.edd_syntax.specs.declared.symbols.Keyword.TheVariants as keyword
 use Rattle.edd_syntax.specs.declared.numbers.Kind.{Kind}
-use Rattle.edd_syntax.specs.declared.numbers.Kind.TheVariants.{Variable, Command, Menu, Collection, Method}
+use Rattle.edd_syntax.specs.declared.numbers.Kind.TheVariants.{Variable, Command, Menu, Collection, Method, Array}
 use Rattle.edd_syntax.specs.declared.numbers.ItemNo.{ItemNo}
 use Rattle.edd_syntax.specs.declared.numbers.ItemNo.TheVariants as item_no
 use Rattle.edd_syntax.specs.declared.numbers.Attr.{Attr}
@@ -22,6 +22,7 @@ kind_number Command = 2
 kind_number Menu = 3
 kind_number Collection = 4
 kind_number Method = 5
+kind_number Array = 6
 
 abbrev pub same_kind : Kind → Kind → Bool
 same_kind a b = kind_number a == kind_number b
@@ -33,6 +34,7 @@ kind_name Command = codes "command"
 kind_name Menu = codes "menu"
 kind_name Collection = codes "collection"
 kind_name Method = codes "method"
+kind_name Array = codes "array"
 
 -- the item of a kind by its number among the items of that kind
 abbrev pub item_number : Kind → ℕ → ItemNo
@@ -41,6 +43,7 @@ item_number Command n = item_no.Command (record { 0 = n })
 item_number Menu n = item_no.Menu (record { 0 = n })
 item_number Collection n = item_no.Collection (record { 0 = n })
 item_number Method n = item_no.Method (record { 0 = n })
+item_number Array n = item_no.Array (record { 0 = n })
 
 -- the item by the number of its kind and its own, where there is such a kind
 abbrev pub item_from_numbers : ℕ → ℕ → Option ItemNo
@@ -50,6 +53,7 @@ item_from_numbers kind n =
     if kind == 3 then Some (item_no.Menu (record { 0 = n })) else
     if kind == 4 then Some (item_no.Collection (record { 0 = n })) else
     if kind == 5 then Some (item_no.Method (record { 0 = n })) else
+    if kind == 6 then Some (item_no.Array (record { 0 = n })) else
     None
 
 abbrev pub kind_of : ItemNo → Kind
@@ -58,6 +62,7 @@ kind_of (item_no.Command n) = Command
 kind_of (item_no.Menu n) = Menu
 kind_of (item_no.Collection n) = Collection
 kind_of (item_no.Method n) = Method
+kind_of (item_no.Array n) = Array
 
 -- the number of an item among the items of its kind
 abbrev pub index_of : ItemNo → ℕ
@@ -66,6 +71,7 @@ index_of (item_no.Command n) = n.0
 index_of (item_no.Menu n) = n.0
 index_of (item_no.Collection n) = n.0
 index_of (item_no.Method n) = n.0
+index_of (item_no.Array n) = n.0
 
 -- ---- attributes
 
@@ -91,6 +97,7 @@ attr_number attr.ResponseCodes = 18
 attr_number attr.Items = 19
 attr_number attr.Members = 20
 attr_number attr.Definition = 21
+attr_number attr.Elements = 22
 
 -- the attribute of a number
 abbrev pub attr_from_number : ℕ → Option Attr
@@ -116,6 +123,7 @@ attr_from_number n =
     if n == 19 then Some attr.Items else
     if n == 20 then Some attr.Members else
     if n == 21 then Some attr.Definition else
+    if n == 22 then Some attr.Elements else
     None
 
 abbrev pub same_attr : Attr → Attr → Bool
@@ -144,11 +152,12 @@ attr_word attr.ResponseCodes = spelling keyword.ResponseCodes
 attr_word attr.Items = spelling keyword.Items
 attr_word attr.Members = spelling keyword.Members
 attr_word attr.Definition = spelling keyword.Definition
+attr_word attr.Elements = codes "ELEMENTS"
 
 -- the kinds whose items may have an attribute
 abbrev pub kinds_with : Attr → List Kind
-kinds_with attr.Label = Variable ∷ Menu ∷ Collection ∷ Method ∷ []
-kinds_with attr.Help = Variable ∷ Menu ∷ Collection ∷ Method ∷ []
+kinds_with attr.Label = Variable ∷ Menu ∷ Collection ∷ Method ∷ Array ∷ []
+kinds_with attr.Help = Variable ∷ Menu ∷ Collection ∷ Method ∷ Array ∷ []
 kinds_with attr.Class = Variable ∷ Method ∷ []
 kinds_with attr.Handling = Variable ∷ []
 kinds_with attr.ConstantUnit = Variable ∷ []
@@ -168,6 +177,7 @@ kinds_with attr.ResponseCodes = Command ∷ []
 kinds_with attr.Items = Menu ∷ []
 kinds_with attr.Members = Collection ∷ []
 kinds_with attr.Definition = Method ∷ []
+kinds_with attr.Elements = Array ∷ []
 
 -- the attribute that a text is
 abbrev pub text_attr : TextAttribute → Attr

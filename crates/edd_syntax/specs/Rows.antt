@@ -86,7 +86,7 @@ attributes_in_order =
     ∷ attr.MaxValue ∷ attr.DisplayFormat ∷ attr.EditFormat ∷ attr.Enumerators ∷ attr.Number
     ∷ attr.Operation ∷ attr.Transaction
     ∷ attr.Request ∷ attr.Reply ∷ attr.ResponseCodes ∷ attr.Items ∷ attr.Members ∷ attr.Definition
-    ∷ []
+    ∷ attr.Elements ∷ []
 
 abbrev pub of_kind : {R : Type 0} → Kind → List (Item R) → List (Item R)
 of_kind k items = filter (λ i. same_kind (kind_of_item i.sort) k) items

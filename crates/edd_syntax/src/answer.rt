@@ -21,4 +21,6 @@ pub enum Trap {
     DivOverflow,
     /// A shift by less than 0 or by the width or more.
     BadShift,
+    /// An array that has no element of the number.
+    NoElement,
 }

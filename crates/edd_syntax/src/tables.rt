@@ -6,12 +6,14 @@ ghost use Rattle.edd_syntax.specs.Numbers as numbers;
 ghost use Rattle.edd_syntax.specs.Resolution.{builtin_name};
 ghost use Rattle.edd_syntax.specs.SubsetRules.{parameters};
 
-use crate::numbers::{Attr, CmdNo, CollNo, ItemNo, Kind, MenuNo, MethNo, TextAttribute, VarNo};
+use crate::numbers::{
+    ArrNo, Attr, CmdNo, CollNo, ItemNo, Kind, MenuNo, MethNo, TextAttribute, VarNo,
+};
 use crate::operators::{Builtin, Parameter};
 use crate::symbols::Keyword;
 
 impl Kind {
-    /// The number of the kind in an image, from 1 to 5 (this profile).
+    /// The number of the kind in an image, from 1 to 6 (this profile).
     pub fn number(self) -> u8
         ensures { result ≡ numbers.kind_number self }
     {
@@ -28,6 +30,7 @@ impl Kind {
             Kind::Menu => "menu",
             Kind::Collection => "collection",
             Kind::Method => "method",
+            Kind::Array => "array",
         }
     }
 
@@ -42,6 +45,7 @@ impl Kind {
             Kind::Menu => ItemNo::Menu(MenuNo(index)),
             Kind::Collection => ItemNo::Collection(CollNo(index)),
             Kind::Method => ItemNo::Method(MethNo(index)),
+            Kind::Array => ItemNo::Array(ArrNo(index)),
         }
     }
 }
@@ -59,6 +63,7 @@ impl ItemNo {
             3 => Some(ItemNo::Menu(MenuNo(index))),
             4 => Some(ItemNo::Collection(CollNo(index))),
             5 => Some(ItemNo::Method(MethNo(index))),
+            6 => Some(ItemNo::Array(ArrNo(index))),
             _ => None,
         }
     }
@@ -73,6 +78,7 @@ impl ItemNo {
             ItemNo::Menu(_) => Kind::Menu,
             ItemNo::Collection(_) => Kind::Collection,
             ItemNo::Method(_) => Kind::Method,
+            ItemNo::Array(_) => Kind::Array,
         }
     }
 
@@ -86,12 +92,13 @@ impl ItemNo {
             ItemNo::Menu(number) => number.0,
             ItemNo::Collection(number) => number.0,
             ItemNo::Method(number) => number.0,
+            ItemNo::Array(number) => number.0,
         }
     }
 }
 
 impl Attr {
-    /// The number of the attribute in an image, from 1 to 21 (this profile).
+    /// The number of the attribute in an image, from 1 to 22 (this profile).
     pub fn number(self) -> u8
         ensures { result ≡ numbers.attr_number self }
     {
@@ -124,6 +131,7 @@ impl Attr {
             19 => Some(Attr::Items),
             20 => Some(Attr::Members),
             21 => Some(Attr::Definition),
+            22 => Some(Attr::Elements),
             _ => None,
         }
     }
@@ -155,6 +163,7 @@ impl Attr {
             Attr::Items => Keyword::Items.spelling(),
             Attr::Members => Keyword::Members.spelling(),
             Attr::Definition => Keyword::Definition.spelling(),
+            Attr::Elements => "ELEMENTS",
         }
     }
 
@@ -183,6 +192,7 @@ impl Attr {
             Attr::Items => matches!(kind, Kind::Menu),
             Attr::Members => matches!(kind, Kind::Collection),
             Attr::Definition => matches!(kind, Kind::Method),
+            Attr::Elements => matches!(kind, Kind::Array),
         }
     }
 

@@ -7,8 +7,9 @@ use edd_lints::places::{Mark, Places};
 use edd_lints::warning::Findings;
 use edd_syntax::cond::{Arm, Cond};
 use edd_syntax::item::{Attribute, Item, MenuEntry};
-use edd_syntax::numbers::{ItemNo, Kind};
+use edd_syntax::numbers::ItemNo;
 use edd_syntax::reference::Target;
+use edd_syntax::symbols::Keyword;
 use std::alloc::{AllocError, Global};
 
 /// How far the walk has come with a menu.
@@ -88,7 +89,7 @@ fn menu_of<'a>(
     places: Places<'a>,
 ) -> Result<Menu<'a>, AllocError> {
     let mut places = places;
-    let name = name_of_item(Kind::Menu, &mut places);
+    let name = name_of_item(Keyword::Menu, &mut places);
     let mut inner = Vec::new(alloc);
     for attribute in attributes {
         if let Attribute::Items(entries) = attribute {

@@ -11,19 +11,19 @@ use edd_syntax::symbols::Keyword;
 use std::alloc::{AllocError, Global};
 use std::collections::BTreeMap;
 
-fn keyword_of(kind: Kind) -> Keyword {
-    match kind {
-        Kind::Variable => Keyword::Variable,
-        Kind::Command => Keyword::Command,
-        Kind::Menu => Keyword::Menu,
-        Kind::Collection => Keyword::Collection,
-        Kind::Method => Keyword::Method,
+fn keyword_of(item: &Item<Target>) -> Keyword {
+    match item {
+        Item::Variable(_) => Keyword::Variable,
+        Item::Command(_) => Keyword::Command,
+        Item::Menu(_) => Keyword::Menu,
+        Item::Collection(_) => Keyword::Collection,
+        Item::Method(_) => Keyword::Method,
     }
 }
 
-/// Passes the name of an item at its declaration, and gives its place.
-pub fn name_of_item<'a>(kind: Kind, places: &mut Places<'a>) -> Mark<'a> {
-    places.to_word(keyword_of(kind));
+/// Passes the name of an item at its declaration, which begins with this word, and gives its place.
+pub fn name_of_item<'a>(word: Keyword, places: &mut Places<'a>) -> Mark<'a> {
+    places.to_word(word);
     places.to(TokenKind::Name)
 }
 
@@ -60,7 +60,7 @@ fn check_item<'a>(
         return Ok(());
     }
     let mut places = places;
-    let at = name_of_item(item.kind(), &mut places);
+    let at = name_of_item(keyword_of(item), &mut places);
     let message = format!(in findings.alloc; "nothing refers to {name}")?;
     findings.add(Lint::UnusedItem, at, message)
 }

@@ -4,7 +4,7 @@ use Rattle.edd_syntax.specs.ItemView.{identification_of, numbered_items}
 use Rattle.edd_syntax.specs.Resolved.{description}
 use Rattle.edd_syntax.specs.SubsetRules.{subset_breaches}
 use Rattle.edd_parser.specs.Units.{unit_view}
-use Rattle.edd_compiler.proofs.Refused.{name_refused}
+use Rattle.edd_compiler.proofs.Refused.{name_refused, type_refused}
 use Rattle.edd_compiler.proofs.source.checked_of.Goals as goal
 
 pub returns-in_err-resolved-clause-refused : goal.returns-in_err-resolved-clause-refused
@@ -13,6 +13,16 @@ returns-in_err-resolved-clause-refused c =
     c.from_residual-in_err-resolved.ensures.1 in rw (p.1, p.2)
     (name_refused c.args.text.now (unit_view c.in_ok-unit.unit) c.in_ok-unit.ensures.sound
     c.in_err-resolved.field-0.0 c.in_err-resolved.ensures.refused)
+
+pub returns-in_err-check-clause-refused : goal.returns-in_err-check-clause-refused
+returns-in_err-check-clause-refused c =
+    let p = err_from_is_err_and c.from_residual-in_err-check.result
+    c.from_residual-in_err-check.ensures.1 in rw (p.1, p.2)
+    (type_refused c.args.text.now (unit_view c.in_ok-unit.unit) c.in_ok-unit.ensures.sound
+    (description (identification_of c.in_ok-resolved.resolved.identification)
+    (numbered_items c.in_ok-resolved.resolved.items.value.items))
+    c.in_ok-resolved.ensures.sound c.in_ok-resolved.ensures.accepted
+    c.in_err-check.field-0.0 c.in_err-check.ensures.refused)
 
 pub returns-clause-sound : goal.returns-clause-sound
 returns-clause-sound c =
