@@ -5,13 +5,14 @@ use Rattle.std.proofs.lemmas.List.{take_at, drop_at, get_or-append-add}
 use Rattle.std.proofs.lemmas.Nat.{from_be_bytes-to_be_bytes_2, from_be_bytes-to_be_bytes_4}
 use Rattle.std.specs.Int.{Width, w16, w32, byte_len, from_be_bytes}
 use Rattle.std.specs.List.{AllByRecursion, flat_map}
+use Rattle.edd_syntax.specs.declared.numbers.Element.{Element}
 use Rattle.edd_image.specs.declared.parts.VarKind.{VarKind}
 use Rattle.edd_image.specs.declared.parts.NameRow.{NameRow}
 use Rattle.edd_image.specs.declared.parts.AttributeRow.{AttributeRow}
 use Rattle.edd_image.specs.declared.parts.StringRow.{StringRow}
-use Rattle.edd_image.specs.Layout.{variable_row, name_row, attribute_row, string_row, NameFits, AttributeFits, StringFits}
+use Rattle.edd_image.specs.Layout.{variable_row, name_row, attribute_row, element_row, string_row, NameFits, AttributeFits, ElementFits, StringFits}
 use Rattle.edd_image.specs.Fields.{number_at}
-use Rattle.edd_image.specs.Contents.{Span, part, VariableFields, NameFields, AttributeFields, variable_fields, name_fields, attribute_fields, string_fields, rows_from, fields_of_variable, fields_of_name, fields_of_attribute, fields_of_string}
+use Rattle.edd_image.specs.Contents.{Span, part, VariableFields, NameFields, AttributeFields, variable_fields, name_fields, attribute_fields, element_fields, string_fields, rows_from, fields_of_variable, fields_of_name, fields_of_attribute, fields_of_string}
 
 -- ---- numbers behind other bytes
 
@@ -88,6 +89,21 @@ attribute_read r fits before rest =
     (number_behind w16 before here 6 ∙ from_be_bytes-to_be_bytes_2 0 (omega arith))
     (same_span (number_behind w32 before here 8 ∙ from_be_bytes-to_be_bytes_4 r.start fits.2)
     (number_behind w32 before here 12 ∙ from_be_bytes-to_be_bytes_4 r.length fits.3))
+
+same_element : {a a' n n' v v' : ℕ} → a ≡ a' → n ≡ n' → v ≡ v'
+    → ◌≡◌ {A = Element}
+    (record { array = record { 0 = a }; number = n; var = record { 0 = v } })
+    (record { array = record { 0 = a' }; number = n'; var = record { 0 = v' } })
+same_element p q r = cc
+
+element_read : (e : Element) → ElementFits e → (before rest : List ℕ)
+    → element_fields (before ++ (element_row e ++ rest)) (length before) ≡ e
+unfolding number_at
+element_read e fits before rest =
+    let here = element_row e ++ rest in
+    same_element (number_first w16 before here ∙ from_be_bytes-to_be_bytes_2 e.array.0 fits.0)
+    (number_behind w32 before here 4 ∙ from_be_bytes-to_be_bytes_4 e.number fits.1)
+    (number_behind w16 before here 2 ∙ from_be_bytes-to_be_bytes_2 e.var.0 fits.2)
 
 string_read : (r : StringRow) → StringFits r → (before rest : List ℕ)
     → string_fields (before ++ (string_row r ++ rest)) (length before) ≡ fields_of_string r
@@ -175,6 +191,18 @@ attributes_read b count place xs fit before rest eb ec ep = rows_read attribute_
     fields_of_attribute AttributeFits 16 (λ x. refl) attribute_read b count place xs fit before rest
     eb ec ep
 
+map_of_same : {A : Type 0} (xs : List A) → map (λ x. x) xs ≡ xs
+map_of_same [] = refl
+map_of_same (x ∷ xs) = ap (λ rest. x ∷ rest) (map_of_same xs)
+
+pub elements_read : (b : List ℕ) (count place : ℕ) (xs : List Element)
+    → AllByRecursion ElementFits xs → (before rest : List ℕ)
+    → b ≡ before ++ (flat_map element_row xs ++ rest) → count ≡ length xs → place ≡ length before
+    → rows_from (element_fields b) 8 count place ≡ xs
+elements_read b count place xs fit before rest eb ec ep = rows_read element_row element_fields
+    (λ e. e) ElementFits 8 (λ x. refl) element_read b count place xs fit before rest eb ec ep
+    ∙ map_of_same xs
+
 pub strings_read : (b : List ℕ) (count place : ℕ) (xs : List StringRow)
     → AllByRecursion StringFits xs → (before rest : List ℕ)
     → b ≡ before ++ (flat_map string_row xs ++ rest) → count ≡ length xs → place ≡ length before
@@ -191,6 +219,9 @@ names_length_is xs = section_length name_row 8 (λ x. refl) xs
 pub attributes_length : (xs : List AttributeRow) → length (flat_map attribute_row xs)
     ≡ 16 * length xs
 attributes_length xs = section_length attribute_row 16 (λ x. refl) xs
+
+pub elements_length_is : (xs : List Element) → length (flat_map element_row xs) ≡ 8 * length xs
+elements_length_is xs = section_length element_row 8 (λ x. refl) xs
 
 pub strings_length_is : (xs : List StringRow) → length (flat_map string_row xs) ≡ 8 * length xs
 strings_length_is xs = section_length string_row 8 (λ x. refl) xs

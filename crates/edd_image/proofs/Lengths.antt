@@ -3,7 +3,7 @@ use Rattle.std.proofs.Common.{◌≡◌, ℕ, ◌-◌, ◌<◌, ◌≤◌, Bool,
 use Rattle.std.specs.Prelude.{IfSome, option_map, ◌==◌, nat_lt}
 use Rattle.std.specs.Int.{Width, w16, w32, w64, byte_len}
 use Rattle.edd_image.specs.declared.instruction.Instruction.{Instruction}
-use Rattle.edd_image.specs.Decoding.{◌>>=◌, byte_from, number_from, signed_from, listed_item, item_from, basic_from, operator_of, comparison_of, unary_of, jump_from, entry_from, data_from, enumerator_from, response_from, member_from, record_from, ask_of, ask_from, instruction_from, instruction_at}
+use Rattle.edd_image.specs.Decoding.{◌>>=◌, byte_from, number_from, signed_from, listed_item, item_from, basic_from, operator_of, comparison_of, unary_of, jump_from, entry_from, data_from, enumerator_from, response_from, member_from, element_from, record_from, ask_of, ask_from, instruction_from, instruction_at}
 
 -- at most n bytes are left where something is read
 abbrev pub Leaves : {A : Type 0} → ℕ → Option (A × List ℕ) → Type 0
@@ -83,7 +83,10 @@ basic_leaves n code bytes h =
     (then_leaves n (number_from w16 bytes) _ (number_leaves w16 n bytes h)
     (λ x k. some_leaves n _ x.1 k)) (
     choice_leaves n (code == 0x06) _ _ (some_leaves n _ bytes h) (
-    choice_leaves n (code == 0x07) _ _ (some_leaves n _ bytes h) (none_leaves n))))))))
+    choice_leaves n (code == 0x07) _ _ (some_leaves n _ bytes h) (
+    choice_leaves n (code == 0x08) _ _
+    (then_leaves n (number_from w16 bytes) _ (number_leaves w16 n bytes h)
+    (λ x k. some_leaves n _ x.1 k)) (none_leaves n)))))))))
 
 jump_leaves : (n code : ℕ) (bytes : List ℕ) → length bytes ≤ n → Leaves n (jump_from code bytes)
 unfolding jump_from
@@ -142,6 +145,15 @@ member_leaves n bytes h =
     then_leaves n (number_from w16 z.1) _ (number_leaves w16 n z.1 m)
     (λ u p. some_leaves n _ u.1 p))))
 
+element_leaves : (n : ℕ) (bytes : List ℕ) → length bytes ≤ n → Leaves n (element_from bytes)
+unfolding element_from
+element_leaves n bytes h =
+    then_leaves n (number_from w32 bytes) _ (number_leaves w32 n bytes h) (λ x k.
+    then_leaves n (number_from w16 x.1) _ (number_leaves w16 n x.1 k) (λ y l.
+    then_leaves n (number_from w16 y.1) _ (number_leaves w16 n y.1 l) (λ z m.
+    then_leaves n (number_from w16 z.1) _ (number_leaves w16 n z.1 m)
+    (λ u p. some_leaves n _ u.1 p))))
+
 record_leaves : (n code : ℕ) (bytes : List ℕ) → length bytes ≤ n → Leaves n (record_from code bytes)
 unfolding record_from
 record_leaves n code bytes h =
@@ -155,7 +167,8 @@ record_leaves n code bytes h =
     choice_leaves n (code == 0x44) _ _ (data_leaves n bytes h) (
     choice_leaves n (code == 0x45) _ _ (enumerator_leaves n bytes h) (
     choice_leaves n (code == 0x46) _ _ (response_leaves n bytes h) (
-    choice_leaves n (code == 0x47) _ _ (member_leaves n bytes h) (none_leaves n))))))))
+    choice_leaves n (code == 0x47) _ _ (member_leaves n bytes h) (
+    choice_leaves n (code == 0x48) _ _ (element_leaves n bytes h) (none_leaves n)))))))))
 
 ask_leaves : (n : ℕ) (bytes : List ℕ) → length bytes ≤ n → Leaves n (ask_from bytes)
 unfolding ask_from

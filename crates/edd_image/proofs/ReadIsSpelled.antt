@@ -16,7 +16,7 @@ use Rattle.edd_image.specs.declared.instruction.Ask.TheVariants as ask
 use Rattle.edd_image.specs.declared.instruction.Instruction.{Instruction}
 use Rattle.edd_image.specs.declared.instruction.Instruction.TheVariants as instruction
 use Rattle.edd_image.specs.Layout.{u16, u32}
-use Rattle.edd_image.specs.Decoding.{byte_from, number_from, signed_from, optional_string, item_from, basic_from, operator_of, comparison_of, unary_of, jump_from, entry_from, data_from, enumerator_from, response_from, member_from, record_from, ask_of, ask_from, instruction_from, instruction_at, listed_item}
+use Rattle.edd_image.specs.Decoding.{byte_from, number_from, signed_from, optional_string, item_from, basic_from, operator_of, comparison_of, unary_of, jump_from, entry_from, data_from, enumerator_from, response_from, member_from, element_from, record_from, ask_of, ask_from, instruction_from, instruction_at, listed_item}
 use Rattle.edd_image.specs.Spelling.{AreBytes, i64, item_bytes, optional_number, optional_bytes, operator_code, comparison_code, ask_bytes, spelling, IsOptional, IsAsk, IsListed, IsSpelled}
 use Rattle.edd_image.proofs.Readings.{Gives, gives_none, gives_some, gives_choice, gives_then, gives_map, Begins, drop_bytes, byte_took, u16_took, u32_took, i64_took}
 
@@ -174,8 +174,12 @@ module _ (code : ℕ) (bytes : List ℕ) (are : AreBytes bytes) where
       gives_choice P (code == 0x06) _ _
       (λ e. gives_some P (instruction.Pop, bytes) (tt, spelled e refl)) (λ _.
       gives_choice P (code == 0x07) _ _
-      (λ e. gives_some P (instruction.Duplicate, bytes) (tt, spelled e refl))
-      (λ _. gives_none P))))))))
+      (λ e. gives_some P (instruction.Duplicate, bytes) (tt, spelled e refl)) (λ _.
+      gives_choice P (code == 0x08) _ _
+      (λ e. gives_then P (number_from w16 bytes) _
+      (λ x r. let h = u16_took bytes are x r in gives_some P
+      (instruction.ReadElement (record { 0 = x.0 }), x.1) (h.1, spelled e h.0.is)))
+      (λ _. gives_none P)))))))))
 
   jump_says : Gives P (jump_from code bytes)
   unfolding jump_from P
@@ -278,6 +282,28 @@ module _ (code : ℕ) (bytes : List ℕ) (are : AreBytes bytes) where
             (m.0.is ∙ ap (λ (n : ℕ). u16 n ++ u.1) (sym p.1))))),
       )))))
 
+  element_says : (code == 0x48) ≡ true → Gives P (element_from bytes)
+  unfolding element_from P
+  element_says e =
+      gives_then P (number_from w32 bytes) _ (λ x r. let h = u32_took bytes are x r in
+      gives_then P (number_from w16 x.1) _ (λ y q. let k = u16_took x.1 h.0.others y q in
+      gives_then P (number_from w16 y.1) _ (λ z s. let l = u16_took y.1 k.0.others z s in
+      gives_then P (number_from w16 z.1) _ (λ u v. let m = u16_took z.1 l.0.others u v in
+      let o = optional_is z.0 l.1 in
+      let p = optional_is u.0 m.1 in
+      gives_some P (
+        instruction.Element x.0 (record { 0 = y.0 }) (optional_string z.0)
+            (optional_string u.0),
+        u.1,
+      ) (
+        (h.1, k.1, o.0, p.0),
+        spelled e (h.0.is ∙ ap (λ (t : List ℕ). u32 x.0 ++ t)
+            (k.0.is ∙ ap (λ (t : List ℕ). u16 y.0 ++ t) (l.0.is
+            ∙ ap (λ (n : ℕ). u16 n ++ z.1) (sym o.1)
+            ∙ ap (λ (t : List ℕ). optional_bytes (optional_string z.0) ++ t)
+            (m.0.is ∙ ap (λ (n : ℕ). u16 n ++ u.1) (sym p.1))))),
+      )))))
+
   record_says : Gives P (record_from code bytes)
   unfolding record_from P
   record_says =
@@ -295,7 +321,8 @@ module _ (code : ℕ) (bytes : List ℕ) (are : AreBytes bytes) where
       gives_choice P (code == 0x44) _ _ (λ e. data_says e) (λ _.
       gives_choice P (code == 0x45) _ _ (λ e. enumerator_says e) (λ _.
       gives_choice P (code == 0x46) _ _ (λ e. response_says e) (λ _.
-      gives_choice P (code == 0x47) _ _ (λ e. member_says e) (λ _. gives_none P))))))))
+      gives_choice P (code == 0x47) _ _ (λ e. member_says e) (λ _.
+      gives_choice P (code == 0x48) _ _ (λ e. element_says e) (λ _. gives_none P)))))))))
 
 -- the number of a request, with its operands
 ask_is : (b s t : ℕ) → s < 2 ^ 16 → t < 2 ^ 16

@@ -18,7 +18,7 @@ use Rattle.edd_image.specs.declared.instruction.Ask.TheVariants as ask
 use Rattle.edd_image.specs.declared.instruction.Instruction.{Instruction}
 use Rattle.edd_image.specs.declared.instruction.Instruction.TheVariants as instruction
 use Rattle.edd_image.specs.Layout.{u16, u32}
-use Rattle.edd_image.specs.Decoding.{byte_from, number_from, signed_from, optional_string, item_from, basic_from, operator_of, comparison_of, unary_of, jump_from, entry_from, data_from, enumerator_from, response_from, member_from, record_from, ask_of, ask_from, instruction_from, instruction_at}
+use Rattle.edd_image.specs.Decoding.{byte_from, number_from, signed_from, optional_string, item_from, basic_from, operator_of, comparison_of, unary_of, jump_from, entry_from, data_from, enumerator_from, response_from, member_from, element_from, record_from, ask_of, ask_from, instruction_from, instruction_at}
 use Rattle.edd_image.specs.Spelling.{i64, item_bytes, optional_number, optional_bytes, operator_code, comparison_code, ask_bytes, spelling, IsOptional, IsAsk, IsListed, IsSpelled}
 
 enough : (w : Width) (n : ℕ) (rest : List ℕ) → length (to_be_bytes w n) ≡ byte_len w
@@ -143,7 +143,7 @@ comparison_again comparison.GreaterOrEqual rest = refl
 pub instruction_again : (i : Instruction) (rest : List ℕ) → IsSpelled i
     → instruction_from (spelling i ++ rest) ≡ Some (i, rest)
 unfolding instruction_from basic_from unary_of jump_from record_from data_from enumerator_from
-    response_from member_from byte_from
+    response_from member_from element_from byte_from
 instruction_again instruction.End rest h = refl
 instruction_again (instruction.Push n) rest h = rw (u32_again n rest h) refl
 instruction_again (instruction.Variable v) rest h = rw (u16_again v.0 rest h) refl
@@ -152,6 +152,7 @@ instruction_again (instruction.GetLocal slot) rest h = rw (u16_again slot rest h
 instruction_again (instruction.SetLocal slot) rest h = rw (u16_again slot rest h) refl
 instruction_again instruction.Pop rest h = refl
 instruction_again instruction.Duplicate rest h = refl
+instruction_again (instruction.ReadElement a) rest h = rw (u16_again a.0 rest h) refl
 instruction_again (instruction.Operate op) rest h = operator_again op rest
 instruction_again (instruction.Compare op) rest h = comparison_again op rest
 instruction_again instruction.Negate rest h = refl
@@ -195,6 +196,16 @@ instruction_again (instruction.Member name item label help) rest h =
       u16_again name.0 (item_bytes item ++ (others ++ rest)) h.0,
       item_again item (others ++ rest)
           h.1,
+      u16_again (optional_number label) (optional_bytes help ++ rest)
+          (optional_below label h.2),
+      u16_again (optional_number help) rest (optional_below help h.3),
+      optional_is label h.2,
+      optional_is help h.3,
+    ) refl
+instruction_again (instruction.Element n v label help) rest h =
+    rw (
+      u32_again n (u16 v.0 ++ (optional_bytes label ++ (optional_bytes help ++ rest))) h.0,
+      u16_again v.0 (optional_bytes label ++ (optional_bytes help ++ rest)) h.1,
       u16_again (optional_number label) (optional_bytes help ++ rest)
           (optional_below label h.2),
       u16_again (optional_number help) rest (optional_below help h.3),

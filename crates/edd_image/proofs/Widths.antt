@@ -1,6 +1,6 @@
 -- The value of each operator fits the width of its operands, and what a variable keeps is in its
 -- range.
-use Rattle.std.proofs.Common.{◌≡◌, ℕ, zero, suc, ◌-◌, ◌*◌, ◌/◌, ◌<◌, ◌≤◌, ◌^◌, Bool, true, false, not, cond, ltb, ℤ, pos, negsuc, ◌-ℤ◌, ◌*ℤ◌, neg_ℤ, Result, Ok, Err, refl, sym, subst, ◌∙◌, arith}
+use Rattle.std.proofs.Common.{◌≡◌, ℕ, zero, suc, ◌-◌, ◌*◌, ◌/◌, ◌<◌, ◌≤◌, ◌^◌, Bool, true, false, not, cond, ltb, ℤ, pos, negsuc, List, Option, Some, None, ◌-ℤ◌, ◌*ℤ◌, neg_ℤ, Result, Ok, Err, refl, sym, subst, ◌∙◌, arith}
 use Rattle.std.proofs.Math.Nat.{mod-lt, pow-suc, div-le_self, mul-div-le, mul-le-mul_right}
 use Rattle.std.proofs.lemmas.Nat.{pow_pos, or_lt, xor_lt}
 use Rattle.std.proofs.lemmas.Int.{ints}
@@ -17,13 +17,14 @@ use Rattle.edd_syntax.specs.declared.operators.Operator.TheVariants as operator
 use Rattle.edd_syntax.specs.declared.operators.Comparison.{Comparison}
 use Rattle.edd_syntax.specs.declared.operators.Comparison.TheVariants as comparison
 use Rattle.edd_syntax.specs.declared.operators.UnaryOperator.TheVariants as unary_operator
+use Rattle.edd_syntax.specs.declared.numbers.VarNo.{VarNo}
 use Rattle.edd_syntax.specs.declared.types.VarType.{VarType}
 use Rattle.edd_syntax.specs.declared.types.VarType.TheVariants as var_type
 use Rattle.edd_syntax.specs.TwosComplement.{residue, as_signed, wrap, store, truth, is_zero, divide, shift, operate, compare, apply}
-use Rattle.edd_syntax.specs.DeviceValues.{VariableType, least, greatest, is_in_range}
+use Rattle.edd_syntax.specs.DeviceValues.{VariableType, value_at, least, greatest, is_in_range}
 use Rattle.edd_image.specs.declared.unit.Sort.{Sort}
 use Rattle.edd_image.specs.declared.unit.Sort.TheVariants.{Attribute, Method}
-use Rattle.edd_image.specs.Steps.{Fits, width_of}
+use Rattle.edd_image.specs.Steps.{Fits, width_of, value_or_trap}
 
 -- ---- residues
 
@@ -199,6 +200,13 @@ operate_fits sort operator.Xor a b z p q e = let w =
     width_of sort in is_ok sort _ z
     (as_signed_fits sort _ (xor_lt w (residue w a) (residue w b) (residue_below w a)
     (residue_below w b))) e
+
+-- ---- elements
+
+pub value_fits : (sort : Sort) (values : List ℤ) (found : Option VarNo) (z : ℤ)
+    → value_or_trap (width_of sort) values found ≡ Ok z → Fits sort z
+value_fits sort values None z e = absurd cc
+value_fits sort values (Some v) z e = is_ok sort _ z (wrap_fits sort (value_at values v)) e
 
 -- ---- what a variable keeps
 

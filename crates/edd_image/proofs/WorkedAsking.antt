@@ -33,9 +33,9 @@ use Rattle.edd_image.specs.Execution as image
 use Rattle.edd_image.specs.Execution.{Ending, Outcome, preceded, stepped}
 use Rattle.edd_image.specs.Reading as reading
 use Rattle.edd_image.specs.Contents.{AttributeFields, Contents, contents_in, rows_from}
-use Rattle.edd_image.specs.Fields.{number_at, name_rows_start, attribute_rows_start, code_start, string_rows_start, name_bytes_start, string_bytes_start, sections_end}
+use Rattle.edd_image.specs.Fields.{number_at, variable_rows_start, name_rows_start, attribute_rows_start, element_rows_start, code_start, string_rows_start, name_bytes_start, string_bytes_start, sections_end}
 use Rattle.edd_image.specs.Strings.{string_in, variants_from}
-use Rattle.edd_image.specs.Agreement.{string_numbered}
+use Rattle.edd_image.specs.Agreement.{machine_of, string_numbered}
 use Rattle.edd_image.specs.MethodAgreement.{ending_of, SameRequests, SameOutcome, AgreesOnMethod, AgreesOnMethods}
 use Rattle.edd_image.proofs.FollowedRuns.{follows_agrees}
 use Rattle.edd_image.proofs.Meetings.{waiting, aborted, going_on}
@@ -113,7 +113,7 @@ module _ (n m : ℕ) (values : List ℤ) (asked : List source.Request) (changed 
 -- ---- the machine
 
 abbrev env : Environment
-env = record { types = (environment asking_unit).variables }
+env = machine_of (environment asking_unit).variables
 
 -- at a place of the code
 abbrev at : ℕ → List ℤ → List ℤ → steps.State
@@ -250,23 +250,23 @@ abbrev held : Contents
 held = contents_in asking_image
 
 body_found : reading.body_of held first ≡ Some body
-unfolding contents_in rows_from number_at name_rows_start attribute_rows_start code_start string_rows_start name_bytes_start string_bytes_start sections_end
+unfolding contents_in rows_from number_at variable_rows_start name_rows_start attribute_rows_start element_rows_start code_start string_rows_start name_bytes_start string_bytes_start sections_end
 body_found = refl
 
 opens : (values : List ℤ) → reading.opening_of held body values ≡ at 0 [] values
-unfolding contents_in rows_from number_at name_rows_start attribute_rows_start code_start string_rows_start name_bytes_start string_bytes_start sections_end
+unfolding contents_in rows_from number_at variable_rows_start name_rows_start attribute_rows_start element_rows_start code_start string_rows_start name_bytes_start string_bytes_start sections_end
 opens values = refl
 
 same_types : reading.environment_of held ≡ env
-unfolding contents_in rows_from number_at name_rows_start attribute_rows_start code_start string_rows_start name_bytes_start string_bytes_start sections_end
+unfolding contents_in rows_from number_at variable_rows_start name_rows_start attribute_rows_start element_rows_start code_start string_rows_start name_bytes_start string_bytes_start sections_end
 same_types = refl
 
 string_known : string_numbered held (record { 0 = 0 }) ≡ Some says
-unfolding contents_in rows_from number_at name_rows_start attribute_rows_start code_start string_rows_start name_bytes_start string_bytes_start sections_end string_in variants_from number_from is_utf8 chars encode_utf8 words_of pieces unescape byte_from
+unfolding contents_in rows_from number_at variable_rows_start name_rows_start attribute_rows_start element_rows_start code_start string_rows_start name_bytes_start string_bytes_start sections_end string_in variants_from number_from is_utf8 chars encode_utf8 words_of pieces unescape byte_from
 string_known = refl
 
 one_method : held.counts.methods ≡ 1
-unfolding contents_in rows_from number_at name_rows_start attribute_rows_start code_start string_rows_start name_bytes_start string_bytes_start sections_end
+unfolding contents_in rows_from number_at variable_rows_start name_rows_start attribute_rows_start element_rows_start code_start string_rows_start name_bytes_start string_bytes_start sections_end
 one_method = refl
 
 source_runs : (n : ℕ) (values : List ℤ) (answers : List Answer) → run.run n asking_unit first values answers ≡ loop_run n n (st values [] [] answers)
@@ -358,20 +358,20 @@ module _ (code : List ℕ) (found : reading.body_of (contents_in (image_with cod
       (subst (λ (t : Transcript). SameOutcome (string_numbered w) t (other_run code here.row)) (source_put back.0 (λ e. not_out (sym over ∙ back.1.ending ∙ ap ending_of e))) back.1)
 
 exchanged_found : reading.body_of (contents_in (image_with exchanged_code)) first ≡ Some body
-unfolding contents_in rows_from number_at name_rows_start attribute_rows_start code_start string_rows_start name_bytes_start string_bytes_start sections_end
+unfolding contents_in rows_from number_at variable_rows_start name_rows_start attribute_rows_start element_rows_start code_start string_rows_start name_bytes_start string_bytes_start sections_end
 exchanged_found = refl
 
 exchanged_counts : (contents_in (image_with exchanged_code)).counts.methods ≡ 1
-unfolding contents_in rows_from number_at name_rows_start attribute_rows_start code_start string_rows_start name_bytes_start string_bytes_start sections_end
+unfolding contents_in rows_from number_at variable_rows_start name_rows_start attribute_rows_start element_rows_start code_start string_rows_start name_bytes_start string_bytes_start sections_end
 exchanged_counts = refl
 
 exchanged_ends : (other_run exchanged_code body).ending ≡ image.Ended
-unfolding contents_in rows_from number_at name_rows_start attribute_rows_start code_start string_rows_start name_bytes_start string_bytes_start sections_end image.execute image.execute_following step act instruction_at instruction_from basic_from operator_of comparison_of unary_of jump_from number_from byte_from ask_from ask_of wrap store operate compare
+unfolding contents_in rows_from number_at variable_rows_start name_rows_start attribute_rows_start element_rows_start code_start string_rows_start name_bytes_start string_bytes_start sections_end image.execute image.execute_following step act instruction_at instruction_from basic_from operator_of comparison_of unary_of jump_from number_from byte_from ask_from ask_of wrap store operate compare
 exchanged_ends = refl
 
 -- y is changed first
 exchanged_changes : (other_run exchanged_code body).changes ≡ record { variable = y; value = pos 2 } ∷ record { variable = x; value = pos 1 } ∷ []
-unfolding contents_in rows_from number_at name_rows_start attribute_rows_start code_start string_rows_start name_bytes_start string_bytes_start sections_end image.execute image.execute_following step act instruction_at instruction_from basic_from operator_of comparison_of unary_of jump_from number_from byte_from ask_from ask_of wrap store operate compare
+unfolding contents_in rows_from number_at variable_rows_start name_rows_start attribute_rows_start element_rows_start code_start string_rows_start name_bytes_start string_bytes_start sections_end image.execute image.execute_following step act instruction_at instruction_from basic_from operator_of comparison_of unary_of jump_from number_from byte_from ask_from ask_of wrap store operate compare
 exchanged_changes = refl
 
 -- the variable of the first change
@@ -383,19 +383,19 @@ pub not_exchanged : AgreesOnMethods asking_unit (contents_in (image_with exchang
 not_exchanged h = omega (arith, ap first_changed (sym exchanged_changes ∙ (as_put exchanged_code exchanged_found exchanged_counts exchanged_ends h).changes))
 
 unasked_found : reading.body_of (contents_in (image_with unasked_code)) first ≡ Some body
-unfolding contents_in rows_from number_at name_rows_start attribute_rows_start code_start string_rows_start name_bytes_start string_bytes_start sections_end
+unfolding contents_in rows_from number_at variable_rows_start name_rows_start attribute_rows_start element_rows_start code_start string_rows_start name_bytes_start string_bytes_start sections_end
 unasked_found = refl
 
 unasked_counts : (contents_in (image_with unasked_code)).counts.methods ≡ 1
-unfolding contents_in rows_from number_at name_rows_start attribute_rows_start code_start string_rows_start name_bytes_start string_bytes_start sections_end
+unfolding contents_in rows_from number_at variable_rows_start name_rows_start attribute_rows_start element_rows_start code_start string_rows_start name_bytes_start string_bytes_start sections_end
 unasked_counts = refl
 
 unasked_ends : (other_run unasked_code body).ending ≡ image.Ended
-unfolding contents_in rows_from number_at name_rows_start attribute_rows_start code_start string_rows_start name_bytes_start string_bytes_start sections_end image.execute image.execute_following step act instruction_at instruction_from basic_from operator_of comparison_of unary_of jump_from number_from byte_from ask_from ask_of wrap store operate compare apply
+unfolding contents_in rows_from number_at variable_rows_start name_rows_start attribute_rows_start element_rows_start code_start string_rows_start name_bytes_start string_bytes_start sections_end image.execute image.execute_following step act instruction_at instruction_from basic_from operator_of comparison_of unary_of jump_from number_from byte_from ask_from ask_of wrap store operate compare apply
 unasked_ends = refl
 
 unasked_requests : (other_run unasked_code body).requests ≡ []
-unfolding contents_in rows_from number_at name_rows_start attribute_rows_start code_start string_rows_start name_bytes_start string_bytes_start sections_end image.execute image.execute_following step act instruction_at instruction_from basic_from operator_of comparison_of unary_of jump_from number_from byte_from ask_from ask_of wrap store operate compare apply
+unfolding contents_in rows_from number_at variable_rows_start name_rows_start attribute_rows_start element_rows_start code_start string_rows_start name_bytes_start string_bytes_start sections_end image.execute image.execute_following step act instruction_at instruction_from basic_from operator_of comparison_of unary_of jump_from number_from byte_from ask_from ask_of wrap store operate compare apply
 unasked_requests = refl
 
 pub not_unasked : AgreesOnMethods asking_unit (contents_in (image_with unasked_code)) → ⊥

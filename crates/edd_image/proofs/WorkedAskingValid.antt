@@ -8,15 +8,15 @@ use Rattle.edd_image.specs.declared.rules.Rule.TheVariants as rule
 use Rattle.edd_image.specs.declared.rules.UnitRule.TheVariants as unit_rule
 use Rattle.edd_image.specs.Contents.{contents_in, rows_from}
 use Rattle.edd_image.specs.Decoding.{byte_from, number_from, operator_of, comparison_of, unary_of, jump_from, basic_from, ask_of, ask_from, instruction_from, instruction_at}
-use Rattle.edd_image.specs.Fields.{number_at, name_rows_start, attribute_rows_start, code_start, string_rows_start, name_bytes_start, string_bytes_start, sections_end}
-use Rattle.edd_image.specs.Layout.{magic, identification, counts, lengths, header, layout}
+use Rattle.edd_image.specs.Fields.{number_at, variable_rows_start, name_rows_start, attribute_rows_start, element_rows_start, code_start, string_rows_start, name_bytes_start, string_bytes_start, sections_end}
+use Rattle.edd_image.specs.Layout.{magic, identification, counts, lengths, extension, header, layout}
 use Rattle.edd_image.specs.Strings.{string_in, variants_from}
 use Rattle.edd_image.specs.Units.{instructions, instructions_from}
 use Rattle.edd_image.specs.Validity.{IsValid}
 use Rattle.edd_image.specs.WorkedMethods.{image_with, asking_parts, asking_image, exchanged_code, unasked_code}
 
 pub asking_layout : layout asking_parts ≡ asking_image
-unfolding layout header magic identification counts lengths
+unfolding layout header magic identification counts lengths extension
 asking_layout = refl
 
 -- the numbers of operands before its instructions
@@ -35,7 +35,7 @@ asking_depth place =
     0
 
 pub asking_valid : IsValid asking_image
-unfolding contents_in rows_from number_at name_rows_start attribute_rows_start code_start string_rows_start name_bytes_start string_bytes_start sections_end string_in variants_from is_utf8 chars encode_utf8 instructions instructions_from instruction_at instruction_from basic_from operator_of comparison_of unary_of jump_from ask_of ask_from byte_from number_from
+unfolding contents_in rows_from number_at variable_rows_start name_rows_start attribute_rows_start element_rows_start code_start string_rows_start name_bytes_start string_bytes_start sections_end string_in variants_from is_utf8 chars encode_utf8 instructions instructions_from instruction_at instruction_from basic_from operator_of comparison_of unary_of jump_from ask_of ask_from byte_from number_from
 asking_valid rule.Short = refl
 asking_valid rule.Magic = refl
 asking_valid rule.Version = refl
@@ -75,7 +75,7 @@ exchanged_depth place =
     0
 
 pub exchanged_valid : IsValid (image_with exchanged_code)
-unfolding contents_in rows_from number_at name_rows_start attribute_rows_start code_start string_rows_start name_bytes_start string_bytes_start sections_end string_in variants_from is_utf8 chars encode_utf8 instructions instructions_from instruction_at instruction_from basic_from operator_of comparison_of unary_of jump_from ask_of ask_from byte_from number_from
+unfolding contents_in rows_from number_at variable_rows_start name_rows_start attribute_rows_start element_rows_start code_start string_rows_start name_bytes_start string_bytes_start sections_end string_in variants_from is_utf8 chars encode_utf8 instructions instructions_from instruction_at instruction_from basic_from operator_of comparison_of unary_of jump_from ask_of ask_from byte_from number_from
 exchanged_valid rule.Short = refl
 exchanged_valid rule.Magic = refl
 exchanged_valid rule.Version = refl
@@ -116,7 +116,7 @@ unasked_depth place =
     0
 
 pub unasked_valid : IsValid (image_with unasked_code)
-unfolding contents_in rows_from number_at name_rows_start attribute_rows_start code_start string_rows_start name_bytes_start string_bytes_start sections_end string_in variants_from is_utf8 chars encode_utf8 instructions instructions_from instruction_at instruction_from basic_from operator_of comparison_of unary_of jump_from ask_of ask_from byte_from number_from
+unfolding contents_in rows_from number_at variable_rows_start name_rows_start attribute_rows_start element_rows_start code_start string_rows_start name_bytes_start string_bytes_start sections_end string_in variants_from is_utf8 chars encode_utf8 instructions instructions_from instruction_at instruction_from basic_from operator_of comparison_of unary_of jump_from ask_of ask_from byte_from number_from
 unasked_valid rule.Short = refl
 unasked_valid rule.Magic = refl
 unasked_valid rule.Version = refl

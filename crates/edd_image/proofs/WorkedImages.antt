@@ -6,30 +6,30 @@ use Rattle.edd_image.specs.declared.rules.Rule.TheVariants as rule
 use Rattle.edd_image.specs.declared.rules.UnitRule.TheVariants as unit_rule
 use Rattle.edd_image.specs.Decoding.{byte_from, number_from, signed_from, item_from, basic_from, unary_of, jump_from, record_from, entry_from, instruction_from, instruction_at}
 use Rattle.edd_image.specs.Units.{instructions, instructions_from}
-use Rattle.edd_image.specs.Fields.{number_at, name_rows_start, attribute_rows_start, code_start, string_rows_start, name_bytes_start, string_bytes_start, sections_end}
+use Rattle.edd_image.specs.Fields.{number_at, variable_rows_start, name_rows_start, attribute_rows_start, element_rows_start, code_start, string_rows_start, name_bytes_start, string_bytes_start, sections_end}
 use Rattle.edd_image.specs.Contents.{rows_from, contents_in}
 use Rattle.edd_image.specs.Strings.{string_in, variants_from}
 use Rattle.edd_image.specs.Validity.{IsValid}
 use Rattle.edd_image.specs.declared.records.Record.TheVariants as records
 use Rattle.edd_image.specs.Steps.{act, step}
 use Rattle.edd_image.specs.Reading.{IsReading, Records, NoItem, given_within}
-use Rattle.edd_image.specs.Layout.{magic, identification, counts, lengths, header, layout}
+use Rattle.edd_image.specs.Layout.{magic, identification, counts, lengths, extension, header, layout}
 use Rattle.edd_image.specs.Worked.{empty_parts, empty_image, loop_parts, loop_image, label_parts, label_image, label_of, handling_of}
 
 pub empty_layout : layout empty_parts ≡ empty_image
-unfolding layout header magic identification counts lengths
+unfolding layout header magic identification counts lengths extension
 empty_layout = refl
 
 pub loop_layout : layout loop_parts ≡ loop_image
-unfolding layout header magic identification counts lengths
+unfolding layout header magic identification counts lengths extension
 loop_layout = refl
 
 pub label_layout : layout label_parts ≡ label_image
-unfolding layout header magic identification counts lengths
+unfolding layout header magic identification counts lengths extension
 label_layout = refl
 
 pub empty_valid : IsValid empty_image
-unfolding contents_in rows_from number_at name_rows_start attribute_rows_start code_start
+unfolding contents_in rows_from number_at variable_rows_start name_rows_start attribute_rows_start element_rows_start code_start
     string_rows_start name_bytes_start string_bytes_start sections_end string_in variants_from
     is_utf8 chars encode_utf8 instructions instructions_from instruction_at instruction_from
     basic_from unary_of jump_from record_from entry_from byte_from number_from signed_from item_from
@@ -46,7 +46,7 @@ empty_valid (rule.Unit unit_rule.Depth) = tt
 empty_valid (rule.Unit unit_rule.Reference) = tt
 
 pub loop_valid : IsValid loop_image
-unfolding contents_in rows_from number_at name_rows_start attribute_rows_start code_start
+unfolding contents_in rows_from number_at variable_rows_start name_rows_start attribute_rows_start element_rows_start code_start
     string_rows_start name_bytes_start string_bytes_start sections_end string_in variants_from
     is_utf8 chars encode_utf8 instructions instructions_from instruction_at instruction_from
     basic_from unary_of jump_from record_from entry_from byte_from number_from signed_from item_from
@@ -74,7 +74,7 @@ loop_valid (rule.Unit unit_rule.Depth) = (
 loop_valid (rule.Unit unit_rule.Reference) = (refl, tt)
 
 pub label_valid : IsValid label_image
-unfolding contents_in rows_from number_at name_rows_start attribute_rows_start code_start
+unfolding contents_in rows_from number_at variable_rows_start name_rows_start attribute_rows_start element_rows_start code_start
     string_rows_start name_bytes_start string_bytes_start sections_end string_in variants_from
     is_utf8 chars encode_utf8 instructions instructions_from instruction_at instruction_from
     basic_from unary_of jump_from record_from entry_from byte_from number_from signed_from item_from
@@ -106,20 +106,20 @@ label_valid (rule.Unit unit_rule.Reference) = (refl, tt)
 
 pub label_read : IsReading label_image (label_of 0) (pos 0 ∷ [])
     (Records (records.Words (record { 0 = 0 }) ∷ []))
-unfolding contents_in rows_from number_at name_rows_start attribute_rows_start code_start
+unfolding contents_in rows_from number_at variable_rows_start name_rows_start attribute_rows_start element_rows_start code_start
     string_rows_start name_bytes_start string_bytes_start sections_end instruction_at
     instruction_from basic_from record_from number_from act step given_within
 label_read = (2, refl)
 
 pub handling_read : IsReading label_image (handling_of 0) (pos 0 ∷ [])
     (Records (records.Number (pos 3) ∷ []))
-unfolding contents_in rows_from number_at name_rows_start attribute_rows_start code_start
+unfolding contents_in rows_from number_at variable_rows_start name_rows_start attribute_rows_start element_rows_start code_start
     string_rows_start name_bytes_start string_bytes_start sections_end instruction_at
     instruction_from basic_from record_from number_from act step given_within
 handling_read = (2, refl)
 
 pub missing_read : IsReading label_image (label_of 1) (pos 0 ∷ []) NoItem
-unfolding contents_in rows_from number_at name_rows_start attribute_rows_start code_start
+unfolding contents_in rows_from number_at variable_rows_start name_rows_start attribute_rows_start element_rows_start code_start
     string_rows_start name_bytes_start string_bytes_start sections_end instruction_at
     instruction_from basic_from record_from number_from act step given_within
 missing_read = (2, refl)

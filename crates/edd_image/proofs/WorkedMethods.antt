@@ -17,7 +17,7 @@ use Rattle.edd_syntax.specs.Execution.{Transcript, execute, run_body, turns}
 use Rattle.edd_image.specs.declared.unit.Sort.TheVariants as sort
 use Rattle.edd_image.specs.Contents.{AttributeFields, contents_in, rows_from}
 use Rattle.edd_image.specs.Decoding.{number_from, instruction_at, instruction_from, basic_from, unary_of, jump_from}
-use Rattle.edd_image.specs.Fields.{number_at, name_rows_start, attribute_rows_start, code_start, string_rows_start, name_bytes_start, string_bytes_start, sections_end}
+use Rattle.edd_image.specs.Fields.{number_at, variable_rows_start, name_rows_start, attribute_rows_start, element_rows_start, code_start, string_rows_start, name_bytes_start, string_bytes_start, sections_end}
 use Rattle.edd_image.specs.Steps as steps
 use Rattle.edd_image.specs.Steps.{Environment, opening, act, step}
 use Rattle.edd_image.specs.Execution as image
@@ -92,13 +92,13 @@ body = record {
 }
 
 loop_found : reading.body_of (contents_in loop_image) first ≡ Some body
-unfolding contents_in rows_from number_at name_rows_start attribute_rows_start code_start
+unfolding contents_in rows_from number_at variable_rows_start name_rows_start attribute_rows_start element_rows_start code_start
     string_rows_start name_bytes_start string_bytes_start sections_end
 loop_found = refl
 
 loop_opens : (values : List ℤ) → reading.opening_of (contents_in loop_image) body values
     ≡ looping values
-unfolding contents_in rows_from number_at name_rows_start attribute_rows_start code_start
+unfolding contents_in rows_from number_at variable_rows_start name_rows_start attribute_rows_start element_rows_start code_start
     string_rows_start name_bytes_start string_bytes_start sections_end
 loop_opens values = refl
 
@@ -140,7 +140,7 @@ loop_agrees = record {
         (record { requests = tt; changes = refl; values = refl; answers = refl; ending = refl }))
 
 one_method : (contents_in loop_image).counts.methods ≡ 1
-unfolding contents_in rows_from number_at name_rows_start attribute_rows_start code_start
+unfolding contents_in rows_from number_at variable_rows_start name_rows_start attribute_rows_start element_rows_start code_start
     string_rows_start name_bytes_start string_bytes_start sections_end
 one_method = refl
 
@@ -156,19 +156,19 @@ methods_agree method there =
 -- ---- an end doesn't
 
 end_found : reading.body_of (contents_in end_image) first ≡ Some body
-unfolding contents_in rows_from number_at name_rows_start attribute_rows_start code_start
+unfolding contents_in rows_from number_at variable_rows_start name_rows_start attribute_rows_start element_rows_start code_start
     string_rows_start name_bytes_start string_bytes_start sections_end
 end_found = refl
 
 ends : (image.execute (reading.environment_of (contents_in end_image)) 1
     (reading.opening_of (contents_in end_image) body []) []).ending ≡ Ended
 unfolding image.execute image.execute_following step act instruction_at instruction_from basic_from
-    contents_in rows_from number_at name_rows_start attribute_rows_start code_start
+    contents_in rows_from number_at variable_rows_start name_rows_start attribute_rows_start element_rows_start code_start
     string_rows_start name_bytes_start string_bytes_start sections_end
 ends = refl
 
 one_method_ends : (contents_in end_image).counts.methods ≡ 1
-unfolding contents_in rows_from number_at name_rows_start attribute_rows_start code_start
+unfolding contents_in rows_from number_at variable_rows_start name_rows_start attribute_rows_start element_rows_start code_start
     string_rows_start name_bytes_start string_bytes_start sections_end
 one_method_ends = refl
 

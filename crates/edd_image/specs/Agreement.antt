@@ -33,7 +33,7 @@ use Rattle.edd_image.specs.declared.unit.Context.{Context}
 use Rattle.edd_image.specs.Decoding.{◌>>=◌}
 use Rattle.edd_image.specs.References.{item_exists}
 use Rattle.edd_image.specs.Units.{IsValidUnit}
-use Rattle.edd_image.specs.Steps.{opening}
+use Rattle.edd_image.specs.Steps.{Environment, opening}
 use Rattle.edd_image.specs.Contents.{part, Contents}
 use Rattle.edd_image.specs.Strings.{string_in}
 use Rattle.edd_image.specs.Reading as image
@@ -103,6 +103,10 @@ module _ (string_numbered : StrNo → Option Words) where
 
 -- ---- the code of one attribute
 
+-- what is round the runs of a description's image; no description has arrays
+abbrev pub machine_of : List VariableType → Environment
+machine_of types = record { types = types; elements = [] }
+
 -- what the tree of an item gives of an attribute before defaults; a transaction that isn't there
 -- gives nothing
 abbrev pub item_meaning : device.Environment → Item Target → Attr → (sub : ℕ) → source.Meaning
@@ -123,7 +127,7 @@ abbrev pub UnitMeans : List VariableType → (StrNo → Option Words) → source
     → Type 0
 UnitMeans types string_numbered meaning code = (values : List ℤ) → AreDeviceValues types values
     → (n : ℕ) × (given : Result (List Record) Trap)
-    × (given_within n (record { types = types }) (opening (record { sort = Attribute; code = code })
+    × (given_within n (machine_of types) (opening (record { sort = Attribute; code = code })
     0 values) ≡ Some given)
     × SameRun string_numbered (meaning values) given
 
@@ -214,6 +218,7 @@ pub record AgreesOnData (unit : Description Target) (c : Contents) : Type 0 wher
   pub counts : (k : Kind) → count_in c.counts k ≡ count_of k unit.items
   pub names : (i : ItemNo) → name_numbered c i ≡ option_map (λ x. x.name) (item_at unit i)
   pub types : (environment_of c).types ≡ (environment unit).variables
+  pub elements : c.elements ≡ []
   pub attributes : (ref : AttrRef) (values : List ℤ)
       → AreDeviceValues (environment unit).variables values
       → (n : ℕ) × (r : image.Reading) × (reading_within n c ref values ≡ Some r)

@@ -1,5 +1,6 @@
 -- What an image holds, field by field: as its bytes say, and as the parts that it was made of say.
 use Rattle.std.specs.Prelude.{ℕ, zero, suc, ◌+◌, ◌==◌, List, [], ◌∷◌, map, take, drop, Option, Some, None, unwrap_or, if◌then◌else◌}
+use Rattle.edd_syntax.specs.declared.numbers.Element.{Element}
 use Rattle.edd_syntax.specs.Numbers.{kind_number, kind_of, index_of, attr_number}
 use Rattle.edd_image.specs.declared.parts.VarKind.{VarKind}
 use Rattle.edd_image.specs.declared.parts.NameRow.{NameRow}
@@ -7,9 +8,9 @@ use Rattle.edd_image.specs.declared.parts.AttributeRow.{AttributeRow}
 use Rattle.edd_image.specs.declared.parts.StringRow.{StringRow}
 use Rattle.edd_image.specs.declared.parts.Counts.{Counts}
 use Rattle.edd_image.specs.declared.unit.Version.{Version}
-use Rattle.edd_image.specs.declared.unit.Version.TheVariants.{One}
+use Rattle.edd_image.specs.declared.unit.Version.TheVariants.{One, Two}
 use Rattle.edd_image.specs.Layout.{Sections, type_code, item_count}
-use Rattle.edd_image.specs.Fields.{version_number, header_zero, counts_in, attribute_count, names_length, code_length, strings_length, variable_rows_start, name_rows_start, attribute_rows_start, code_start, string_rows_start, name_bytes_start, string_bytes_start, variable_type, variable_size, variable_zero, name_start, name_length, name_zero, attribute_kind, attribute_number, attribute_item, attribute_sub, attribute_zero, attribute_start, attribute_length, string_start, string_length}
+use Rattle.edd_image.specs.Fields.{version_number, header_zero, extension_zero, counts_in, attribute_count, element_count, names_length, code_length, strings_length, variable_rows_start, name_rows_start, attribute_rows_start, element_rows_start, code_start, string_rows_start, name_bytes_start, string_bytes_start, variable_type, variable_size, variable_zero, name_start, name_length, name_zero, attribute_kind, attribute_number, attribute_item, attribute_sub, attribute_zero, attribute_start, attribute_length, element_array, element_variable, element_number, string_start, string_length}
 
 -- where something stands in its section
 pub record Span : Type 0 where
@@ -40,12 +41,13 @@ pub record AttributeFields : Type 0 where
 
 pub record Contents : Type 0 where
   pub version : Version
-  -- what stands where zeros are wanted in the header
+  -- the sum of what stands where zeros are wanted in the header
   pub padding : ℕ
   pub counts : Counts
   pub variables : List VariableFields
   pub names : List NameFields
   pub attributes : List AttributeFields
+  pub elements : List Element
   pub code : List ℕ
   pub strings : List Span
   pub name_bytes : List ℕ
@@ -55,7 +57,7 @@ pub record Contents : Type 0 where
 
 -- the version of a number, where it is known
 abbrev pub version_of : ℕ → Option Version
-version_of n = if n == 1 then Some One else None
+version_of n = if n == 1 then Some One else if n == 2 then Some Two else None
 
 abbrev pub variable_fields : List ℕ → ℕ → VariableFields
 variable_fields b row = record {
@@ -80,6 +82,13 @@ attribute_fields b row = record {
   span = record { start = attribute_start b row; size = attribute_length b row };
 }
 
+abbrev pub element_fields : List ℕ → ℕ → Element
+element_fields b row = record {
+  array = record { 0 = element_array b row };
+  number = element_number b row;
+  var = record { 0 = element_variable b row };
+}
+
 abbrev pub string_fields : List ℕ → ℕ → Span
 string_fields b row = record { start = string_start b row; size = string_length b row }
 
@@ -92,11 +101,12 @@ rows_from read size (suc n) place = read place ∷ rows_from read size n (place 
 unfoldable pub contents_in : List ℕ → Contents
 contents_in b = record {
   version = unwrap_or (version_of (version_number b)) One;
-  padding = header_zero b;
+  padding = header_zero b + extension_zero b;
   counts = counts_in b;
-  variables = rows_from (variable_fields b) 4 (counts_in b).variables variable_rows_start;
+  variables = rows_from (variable_fields b) 4 (counts_in b).variables (variable_rows_start b);
   names = rows_from (name_fields b) 8 (item_count (counts_in b)) (name_rows_start b);
   attributes = rows_from (attribute_fields b) 16 (attribute_count b) (attribute_rows_start b);
+  elements = rows_from (element_fields b) 8 (element_count b) (element_rows_start b);
   code = part (record { start = code_start b; size = code_length b }) b;
   strings = rows_from (string_fields b) 8 (counts_in b).strings (string_rows_start b);
   name_bytes = part (record { start = name_bytes_start b; size = names_length b }) b;
@@ -126,12 +136,13 @@ fields_of_string r = record { start = r.start; size = r.length }
 
 abbrev pub contents_of : Sections → Contents
 contents_of s = record {
-  version = One;
+  version = s.version;
   padding = 0;
   counts = s.counts;
   variables = map fields_of_variable s.variables;
   names = map fields_of_name s.names;
   attributes = map fields_of_attribute s.attributes;
+  elements = s.elements;
   code = s.code;
   strings = map fields_of_string s.strings;
   name_bytes = s.name_bytes;

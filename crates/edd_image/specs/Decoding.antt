@@ -2,6 +2,7 @@
 use Rattle.std.specs.Prelude.{ℕ, ℤ, ◌-◌, ◌==◌, List, [], ◌∷◌, length, take, drop, Option, Some, None, option_map, option_and_then, nat_lt, if◌then◌else◌}
 use Rattle.std.specs.Int.{Width, w16, w32, w64, byte_len, from_be_bytes, cast_signed}
 use Rattle.edd_syntax.specs.declared.numbers.VarNo.{VarNo}
+use Rattle.edd_syntax.specs.declared.numbers.ArrNo.{ArrNo}
 use Rattle.edd_syntax.specs.declared.numbers.StrNo.{StrNo}
 use Rattle.edd_syntax.specs.declared.numbers.ItemNo.{ItemNo}
 use Rattle.edd_syntax.specs.declared.numbers.Kind.TheVariants.{Array}
@@ -37,6 +38,9 @@ signed_from w bytes = if nat_lt (length bytes) (byte_len w) then None else Some
 abbrev pub variable : ℕ → VarNo
 variable n = record { 0 = n }
 
+abbrev pub array : ℕ → ArrNo
+array n = record { 0 = n }
+
 abbrev pub string : ℕ → StrNo
 string n = record { 0 = n }
 
@@ -58,7 +62,7 @@ item_from bytes = do
 
 -- ---- the instructions by their codes
 
--- constants, variables, slots and the stack
+-- constants, variables, slots, the stack and elements
 unfoldable pub basic_from : ℕ → List ℕ → Option (Instruction × List ℕ)
 basic_from code bytes =
     if code == 0x00 then Some (instruction.End, bytes) else
@@ -71,6 +75,8 @@ basic_from code bytes =
     if code == 0x05 then number_from w16 bytes >>= (λ n. Some (instruction.SetLocal n.0, n.1)) else
     if code == 0x06 then Some (instruction.Pop, bytes) else
     if code == 0x07 then Some (instruction.Duplicate, bytes) else
+    if code == 0x08 then number_from w16 bytes
+    >>= (λ n. Some (instruction.ReadElement (array n.0), n.1)) else
     None
 
 unfoldable pub operator_of : ℕ → Option Operator
@@ -160,6 +166,17 @@ member_from bytes = do
     help.1,
   )
 
+unfoldable pub element_from : List ℕ → Option (Instruction × List ℕ)
+element_from bytes = do
+  n ← number_from w32 bytes
+  v ← number_from w16 n.1
+  label ← number_from w16 v.1
+  help ← number_from w16 label.1
+  Some (
+    instruction.Element n.0 (variable v.0) (optional_string label.0) (optional_string help.0),
+    help.1,
+  )
+
 -- the records of an attribute
 unfoldable pub record_from : ℕ → List ℕ → Option (Instruction × List ℕ)
 record_from code bytes =
@@ -172,6 +189,7 @@ record_from code bytes =
     if code == 0x45 then enumerator_from bytes else
     if code == 0x46 then response_from bytes else
     if code == 0x47 then member_from bytes else
+    if code == 0x48 then element_from bytes else
     None
 
 -- a request by its number, with the operands s and t, which are 0 where they are not used

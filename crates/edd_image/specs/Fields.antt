@@ -1,5 +1,5 @@
 -- The fields of an image: numbers at places, the highest byte first.
-use Rattle.std.specs.Prelude.{ℕ, ◌+◌, ◌*◌, ◌==◌, Bool, ◌&&◌, List, take, drop, slice_index}
+use Rattle.std.specs.Prelude.{ℕ, ◌+◌, ◌*◌, ◌==◌, Bool, ◌&&◌, nat_le, List, length, take, drop, slice_index, if◌then◌else◌}
 use Rattle.std.specs.Int.{Width, w16, w32, byte_len, from_be_bytes}
 use Rattle.edd_image.specs.declared.parts.Counts.{Counts}
 use Rattle.edd_image.specs.Layout.{item_count}
@@ -21,6 +21,10 @@ has_magic b = slice_index b 0 == 0x45
 abbrev pub version_number : List ℕ → ℕ
 version_number b = number_at w16 b 4
 
+-- the header is that of the second version, and whole
+abbrev pub is_extended : List ℕ → Bool
+is_extended b = version_number b == 2 && nat_le 64 (length b)
+
 -- the zero behind the version
 abbrev pub header_zero : List ℕ → ℕ
 header_zero b = number_at w16 b 6
@@ -28,7 +32,18 @@ header_zero b = number_at w16 b 6
 abbrev pub total_length : List ℕ → ℕ
 total_length b = number_at w32 b 8
 
--- the identification and the six counts
+-- the first version of the layout has no arrays
+abbrev pub array_count : List ℕ → ℕ
+array_count b = if is_extended b then number_at w16 b 56 else 0
+
+-- the zero behind the count of arrays
+abbrev pub extension_zero : List ℕ → ℕ
+extension_zero b = if is_extended b then number_at w16 b 58 else 0
+
+abbrev pub element_count : List ℕ → ℕ
+element_count b = if is_extended b then number_at w32 b 60 else 0
+
+-- the identification and the seven counts
 abbrev pub counts_in : List ℕ → Counts
 counts_in b = record {
   variables = number_at w16 b 28;
@@ -36,8 +51,7 @@ counts_in b = record {
   menus = number_at w16 b 32;
   collections = number_at w16 b 34;
   methods = number_at w16 b 36;
-  -- the first version of the layout has none
-  arrays = 0;
+  arrays = array_count b;
   strings = number_at w16 b 38;
   manufacturer = number_at w32 b 12;
   device_type = number_at w32 b 16;
@@ -59,17 +73,20 @@ strings_length b = number_at w32 b 52
 
 -- ---- where the sections start, one behind the other
 
-abbrev pub variable_rows_start : ℕ
-variable_rows_start = header_length
+unfoldable pub variable_rows_start : List ℕ → ℕ
+variable_rows_start b = if version_number b == 2 then 64 else header_length
 
 unfoldable pub name_rows_start : List ℕ → ℕ
-name_rows_start b = variable_rows_start + 4 * (counts_in b).variables
+name_rows_start b = variable_rows_start b + 4 * (counts_in b).variables
 
 unfoldable pub attribute_rows_start : List ℕ → ℕ
 attribute_rows_start b = name_rows_start b + 8 * item_count (counts_in b)
 
+unfoldable pub element_rows_start : List ℕ → ℕ
+element_rows_start b = attribute_rows_start b + 16 * attribute_count b
+
 unfoldable pub code_start : List ℕ → ℕ
-code_start b = attribute_rows_start b + 16 * attribute_count b
+code_start b = element_rows_start b + 8 * element_count b
 
 unfoldable pub string_rows_start : List ℕ → ℕ
 string_rows_start b = code_start b + code_length b
@@ -124,6 +141,15 @@ attribute_start b row = number_at w32 b (row + 8)
 
 abbrev pub attribute_length : List ℕ → ℕ → ℕ
 attribute_length b row = number_at w32 b (row + 12)
+
+abbrev pub element_array : List ℕ → ℕ → ℕ
+element_array b row = number_at w16 b row
+
+abbrev pub element_variable : List ℕ → ℕ → ℕ
+element_variable b row = number_at w16 b (row + 2)
+
+abbrev pub element_number : List ℕ → ℕ → ℕ
+element_number b row = number_at w32 b (row + 4)
 
 abbrev pub string_start : List ℕ → ℕ → ℕ
 string_start b row = number_at w32 b row

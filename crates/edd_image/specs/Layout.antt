@@ -1,9 +1,10 @@
 -- The bytes of an image, as a function of its parts.
-use Rattle.std.specs.Prelude.{◌≡◌, ℕ, ◌+◌, ◌*◌, ◌^◌, ◌<◌, List, ◌∷◌, ◌++◌, length}
+use Rattle.std.specs.Prelude.{◌≡◌, ℕ, ◌+◌, ◌*◌, ◌^◌, ◌<◌, List, [], ◌∷◌, ◌++◌, length}
 use Rattle.std.specs.List.{AllByRecursion, flat_map}
 use Rattle.std.specs.Int.{w16, w32, to_be_bytes}
 use Rattle.edd_syntax.specs.declared.types.VarType.{VarType}
 use Rattle.edd_syntax.specs.declared.types.VarType.TheVariants.{Integer, UnsignedInteger, Enumerated, BitEnumerated}
+use Rattle.edd_syntax.specs.declared.numbers.Element.{Element}
 use Rattle.edd_syntax.specs.Numbers.{kind_number, kind_of, index_of, attr_number}
 use Rattle.edd_image.specs.declared.parts.VarKind.{VarKind}
 use Rattle.edd_image.specs.declared.parts.NameRow.{NameRow}
@@ -11,13 +12,18 @@ use Rattle.edd_image.specs.declared.parts.AttributeRow.{AttributeRow}
 use Rattle.edd_image.specs.declared.parts.StringRow.{StringRow}
 use Rattle.edd_image.specs.declared.parts.Counts.{Counts}
 use Rattle.edd_image.specs.declared.parts.Parts.{Parts}
+use Rattle.edd_image.specs.declared.unit.Version.{Version}
+use Rattle.edd_image.specs.declared.unit.Version.TheVariants.{One, Two}
+use Rattle.edd_image.specs.Versions.{version_code, header_size}
 
 -- the sections, without where they lie in memory
 pub record Sections : Type 0 where
+  pub version : Version
   pub counts : Counts
   pub variables : List VarKind
   pub names : List NameRow
   pub attributes : List AttributeRow
+  pub elements : List Element
   pub code : List ℕ
   pub strings : List StringRow
   pub name_bytes : List ℕ
@@ -25,10 +31,12 @@ pub record Sections : Type 0 where
 
 abbrev pub sections_of : Parts → Sections
 sections_of p = record {
+  version = p.version;
   counts = p.counts;
   variables = p.variables.items;
   names = p.names.items;
   attributes = p.attributes.items;
+  elements = p.elements.items;
   code = p.code.items;
   strings = p.strings.items;
   name_bytes = p.name_bytes.items;
@@ -66,6 +74,10 @@ attribute_key r = kind_number (kind_of r.item) ∷ attr_number r.attr
 abbrev pub attribute_row : AttributeRow → List ℕ
 attribute_row r = attribute_key r ++ (u32 r.start ++ u32 r.length)
 
+-- array, variable and number
+abbrev pub element_row : Element → List ℕ
+element_row e = u16 e.array.0 ++ (u16 e.var.0 ++ u32 e.number)
+
 abbrev pub string_row : StringRow → List ℕ
 string_row r = u32 r.start ++ u32 r.length
 
@@ -78,6 +90,9 @@ abbrev pub AttributeFits : AttributeRow → Type 0
 AttributeFits r = (index_of r.item < 2 ^ 16) × (r.sub < 2 ^ 16) × (r.start < 2 ^ 32)
     × (r.length < 2 ^ 32)
 
+abbrev pub ElementFits : Element → Type 0
+ElementFits e = (e.array.0 < 2 ^ 16) × (e.number < 2 ^ 32) × (e.var.0 < 2 ^ 16)
+
 abbrev pub StringFits : StringRow → Type 0
 StringFits r = (r.start < 2 ^ 32) × (r.length < 2 ^ 32)
 
@@ -87,6 +102,7 @@ pub record CountsFit (c : Counts) : Type 0 where
   pub menus : c.menus < 2 ^ 16
   pub collections : c.collections < 2 ^ 16
   pub methods : c.methods < 2 ^ 16
+  pub arrays : c.arrays < 2 ^ 16
   pub strings : c.strings < 2 ^ 16
   pub manufacturer : c.manufacturer < 2 ^ 32
   pub device_type : c.device_type < 2 ^ 32
@@ -97,8 +113,8 @@ pub record CountsFit (c : Counts) : Type 0 where
 
 -- header and sections together
 abbrev pub layout_length : Sections → ℕ
-layout_length s = 56 + 4 * length s.variables + 8 * length s.names + 16 * length s.attributes
-    + length s.code + 8 * length s.strings + length s.name_bytes + length s.string_bytes
+layout_length s = header_size s.version + 4 * length s.variables + 8 * length s.names
+    + 16 * length s.attributes + 8 * length s.elements + length s.code + 8 * length s.strings + length s.name_bytes + length s.string_bytes
 
 abbrev pub item_count : Counts → ℕ
 item_count c = c.variables + c.commands + c.menus + c.collections + c.methods + c.arrays
@@ -108,17 +124,19 @@ pub record AreSections (s : Sections) : Type 0 where
   pub variables_counted : s.counts.variables ≡ length s.variables
   pub names_counted : item_count s.counts ≡ length s.names
   pub strings_counted : s.counts.strings ≡ length s.strings
-  -- the first version of the layout has none
-  pub no_arrays : s.counts.arrays ≡ 0
+  -- the first version of the layout has neither
+  pub no_arrays : s.version ≡ One → s.counts.arrays ≡ 0
+  pub no_elements : s.version ≡ One → length s.elements ≡ 0
   pub counts_fit : CountsFit s.counts
   pub names_fit : AllByRecursion NameFits s.names
   pub attributes_fit : AllByRecursion AttributeFits s.attributes
+  pub elements_fit : AllByRecursion ElementFits s.elements
   pub strings_fit : AllByRecursion StringFits s.strings
   pub total_fits : layout_length s < 2 ^ 32
 
 -- `EDI1`, the version and a zero
-unfoldable pub magic : List ℕ
-magic = 0x45 ∷ 0x44 ∷ 0x49 ∷ 0x31 ∷ u16 1 ++ u16 0
+unfoldable pub magic : Version → List ℕ
+magic v = 0x45 ∷ 0x44 ∷ 0x49 ∷ 0x31 ∷ u16 (version_code v) ++ u16 0
 
 unfoldable pub identification : Counts → List ℕ
 identification c = u32 c.manufacturer
@@ -132,9 +150,15 @@ unfoldable pub lengths : Sections → List ℕ
 lengths s = u32 (length s.attributes)
     ++ (u32 (length s.name_bytes) ++ (u32 (length s.code) ++ u32 (length s.string_bytes)))
 
+-- how many arrays and element rows there are, which the second version says too
+unfoldable pub extension : Version → (arrays elements : ℕ) → List ℕ
+extension One arrays elements = []
+extension Two arrays elements = u16 arrays ++ (u16 0 ++ u32 elements)
+
 unfoldable pub header : Sections → List ℕ
-header s = magic ++ (u32 (layout_length s)
-    ++ (identification s.counts ++ (counts s.counts ++ lengths s)))
+header s = magic s.version ++ (u32 (layout_length s)
+    ++ (identification s.counts ++ (counts s.counts ++ (lengths s
+    ++ extension s.version s.counts.arrays (length s.elements)))))
 
 -- ---- the image
 
@@ -142,4 +166,5 @@ unfoldable pub layout : Sections → List ℕ
 layout s = header s ++ (flat_map variable_row s.variables
     ++ (flat_map name_row s.names
     ++ (flat_map attribute_row s.attributes
-    ++ (s.code ++ (flat_map string_row s.strings ++ (s.name_bytes ++ s.string_bytes))))))
+    ++ (flat_map element_row s.elements
+    ++ (s.code ++ (flat_map string_row s.strings ++ (s.name_bytes ++ s.string_bytes)))))))

@@ -12,5 +12,6 @@ pub mod Steps
 pub mod Strings
 pub mod Units
 pub mod Validity
+pub mod Versions
 pub mod Worked
 pub mod WorkedMethods

@@ -19,7 +19,7 @@ use Rattle.edd_image.specs.declared.records.Request.TheVariants as requests
 use Rattle.edd_image.specs.declared.unit.Context.{Context}
 use Rattle.edd_image.specs.declared.unit.Sort.TheVariants as sort
 use Rattle.edd_image.specs.declared.unit.Version.TheVariants.{One}
-use Rattle.edd_image.specs.Agreement.{AgreesOnData, IsString, string_of_table, string_numbered, unit_context}
+use Rattle.edd_image.specs.Agreement.{AgreesOnData, IsString, machine_of, string_of_table, string_numbered, unit_context}
 use Rattle.edd_image.specs.Contents.{AttributeFields, Contents}
 use Rattle.edd_image.specs.References.{item_exists}
 use Rattle.edd_image.specs.Reading as image
@@ -105,7 +105,7 @@ pub record IsMethodCode (unit : Description Target) (strings : List Words) (meth
   pub valid : IsValidUnit (method_context unit strings slots) code
   pub agrees : AgreesOnRuns (string_of_table strings) (environment unit).variables
       (λ n values answers. run.run n unit method values answers)
-      (λ k values answers. execute (record { types = (environment unit).variables }) k
+      (λ k values answers. execute (machine_of (environment unit).variables) k
       (opening (record { sort = sort.Method; code = code }) slots values) answers)
 
 -- ---- the whole image

@@ -27,9 +27,12 @@ use Rattle.edd_image.specs.Steps.{Effect, State, Environment, opening, step}
 abbrev pub variable_type_of : VariableFields → Option VariableType
 variable_type_of r = option_map (λ t. record { type = t; size = r.size }) (type_of r.type_number)
 
--- the types of the variables, by number
+-- the types of the variables, by number, and the elements of the arrays
 abbrev pub environment_of : Contents → Environment
-environment_of c = record { types = filter_map variable_type_of c.variables }
+environment_of c = record {
+  types = filter_map variable_type_of c.variables;
+  elements = c.elements;
+}
 
 abbrev pub is_row_of : ItemNo → Attr → AttributeFields → Bool
 is_row_of item a r = r.kind == kind_number (kind_of item)

@@ -4,6 +4,7 @@ use Rattle.edd_syntax.specs.declared.numbers.ItemNo.{ItemNo}
 use Rattle.edd_syntax.specs.declared.numbers.ItemNo.TheVariants as items
 use Rattle.edd_syntax.specs.declared.numbers.StrNo.{StrNo}
 use Rattle.edd_syntax.specs.declared.numbers.VarNo.{VarNo}
+use Rattle.edd_syntax.specs.declared.numbers.ArrNo.{ArrNo}
 use Rattle.edd_image.specs.declared.instruction.Ask.{Ask}
 use Rattle.edd_image.specs.declared.instruction.Ask.TheVariants as ask
 use Rattle.edd_image.specs.declared.instruction.Instruction.{Instruction}
@@ -21,13 +22,16 @@ optional_string_exists counts (Some s) = string_exists counts s
 abbrev pub variable_exists : Counts → VarNo → Bool
 variable_exists counts v = nat_lt v.0 counts.variables
 
+abbrev pub array_exists : Counts → ArrNo → Bool
+array_exists counts a = nat_lt a.0 counts.arrays
+
 abbrev pub item_exists : Counts → ItemNo → Bool
 item_exists counts (items.Variable n) = nat_lt n.0 counts.variables
 item_exists counts (items.Command n) = nat_lt n.0 counts.commands
 item_exists counts (items.Menu n) = nat_lt n.0 counts.menus
 item_exists counts (items.Collection n) = nat_lt n.0 counts.collections
 item_exists counts (items.Method n) = nat_lt n.0 counts.methods
-item_exists counts (items.Array n) = nat_lt n.0 counts.arrays
+item_exists counts (items.Array n) = array_exists counts n
 
 abbrev pub request_exists : Counts → Ask → Bool
 request_exists counts (ask.PutMessage s) = string_exists counts s
@@ -39,7 +43,7 @@ request_exists counts ask.SendCommand = true
 request_exists counts ask.SendCommandTrans = true
 request_exists counts ask.SaveValues = true
 
--- the strings, variables and items that it names, and the slot
+-- the strings, variables, arrays and items that it names, and the slot
 abbrev pub names_exist : Context → Instruction → Bool
 names_exist context instruction.End = true
 names_exist context (instruction.Push n) = true
@@ -49,6 +53,7 @@ names_exist context (instruction.GetLocal slot) = nat_lt slot context.slots
 names_exist context (instruction.SetLocal slot) = nat_lt slot context.slots
 names_exist context instruction.Pop = true
 names_exist context instruction.Duplicate = true
+names_exist context (instruction.ReadElement a) = array_exists context.counts a
 names_exist context (instruction.Operate op) = true
 names_exist context (instruction.Compare op) = true
 names_exist context instruction.Negate = true
@@ -69,5 +74,7 @@ names_exist context (instruction.Response n class text) = string_exists context.
 names_exist context (instruction.Member name item label help) = string_exists context.counts name
     && (item_exists context.counts item
     && (optional_string_exists context.counts label && optional_string_exists context.counts help))
+names_exist context (instruction.Element n v label help) = variable_exists context.counts v
+    && (optional_string_exists context.counts label && optional_string_exists context.counts help)
 names_exist context (instruction.Ask request) = request_exists context.counts request
 names_exist context instruction.Abort = true

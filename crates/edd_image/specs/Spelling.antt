@@ -71,6 +71,7 @@ spelling (instruction.GetLocal slot) = 0x04 ∷ u16 slot
 spelling (instruction.SetLocal slot) = 0x05 ∷ u16 slot
 spelling instruction.Pop = 0x06 ∷ []
 spelling instruction.Duplicate = 0x07 ∷ []
+spelling (instruction.ReadElement a) = 0x08 ∷ u16 a.0
 spelling (instruction.Operate op) = operator_code op ∷ []
 spelling (instruction.Compare op) = comparison_code op ∷ []
 spelling instruction.Negate = 0x20 ∷ []
@@ -90,6 +91,8 @@ spelling (instruction.Enumerator n text help) = 0x45
 spelling (instruction.Response n class text) = 0x46 ∷ (u32 n ++ class ∷ u16 text.0)
 spelling (instruction.Member name item label help) = 0x47
     ∷ (u16 name.0 ++ (item_bytes item ++ (optional_bytes label ++ optional_bytes help)))
+spelling (instruction.Element n v label help) = 0x48
+    ∷ (u32 n ++ (u16 v.0 ++ (optional_bytes label ++ optional_bytes help)))
 spelling (instruction.Ask request) = 0x50 ∷ ask_bytes request
 spelling instruction.Abort = 0x51 ∷ []
 
@@ -141,6 +144,7 @@ IsSpelled (instruction.GetLocal slot) = slot < 2 ^ 16
 IsSpelled (instruction.SetLocal slot) = slot < 2 ^ 16
 IsSpelled instruction.Pop = ⊤
 IsSpelled instruction.Duplicate = ⊤
+IsSpelled (instruction.ReadElement a) = a.0 < 2 ^ 16
 IsSpelled (instruction.Operate op) = ⊤
 IsSpelled (instruction.Compare op) = ⊤
 IsSpelled instruction.Negate = ⊤
@@ -159,6 +163,8 @@ IsSpelled (instruction.Enumerator n text help) = FitsSigned w64 n × (text.0 < 2
     × IsOptional help
 IsSpelled (instruction.Response n class text) = (n < 2 ^ 32) × (class < 7) × (text.0 < 2 ^ 16)
 IsSpelled (instruction.Member name item label help) = (name.0 < 2 ^ 16) × IsListed item
+    × IsOptional label × IsOptional help
+IsSpelled (instruction.Element n v label help) = (n < 2 ^ 32) × (v.0 < 2 ^ 16)
     × IsOptional label × IsOptional help
 IsSpelled (instruction.Ask request) = IsAsk request
 IsSpelled instruction.Abort = ⊤

@@ -7,7 +7,7 @@ use Rattle.edd_image.specs.declared.instruction.Ask.TheVariants as ask
 use Rattle.edd_image.specs.declared.instruction.Instruction.{Instruction}
 use Rattle.edd_image.specs.declared.instruction.Instruction.TheVariants as instruction
 use Rattle.edd_image.specs.declared.unit.Version.{Version}
-use Rattle.edd_image.specs.declared.unit.Version.TheVariants.{One}
+use Rattle.edd_image.specs.declared.unit.Version.TheVariants.{One, Two}
 use Rattle.edd_image.specs.declared.unit.Sort.{Sort}
 use Rattle.edd_image.specs.declared.unit.Sort.TheVariants.{Attribute, Method}
 use Rattle.edd_image.specs.declared.unit.Context.{Context}
@@ -69,6 +69,7 @@ takes (instruction.GetLocal slot) = 0
 takes (instruction.SetLocal slot) = 1
 takes instruction.Pop = 1
 takes instruction.Duplicate = 1
+takes (instruction.ReadElement a) = 1
 takes (instruction.Operate op) = 2
 takes (instruction.Compare op) = 2
 takes instruction.Negate = 1
@@ -86,6 +87,7 @@ takes (instruction.DataVar v mask quals) = 0
 takes (instruction.Enumerator n text help) = 0
 takes (instruction.Response n class text) = 0
 takes (instruction.Member name item label help) = 0
+takes (instruction.Element n v label help) = 0
 takes (instruction.Ask request) = numbers_asked request
 takes instruction.Abort = 0
 
@@ -99,6 +101,7 @@ leaves (instruction.GetLocal slot) = Some 1
 leaves (instruction.SetLocal slot) = Some 1
 leaves instruction.Pop = Some 0
 leaves instruction.Duplicate = Some 2
+leaves (instruction.ReadElement a) = Some 1
 leaves (instruction.Operate op) = Some 1
 leaves (instruction.Compare op) = Some 1
 leaves instruction.Negate = Some 1
@@ -116,6 +119,7 @@ leaves (instruction.DataVar v mask quals) = Some 0
 leaves (instruction.Enumerator n text help) = Some 0
 leaves (instruction.Response n class text) = Some 0
 leaves (instruction.Member name item label help) = Some 0
+leaves (instruction.Element n v label help) = Some 0
 leaves (instruction.Ask request) = Some 1
 leaves instruction.Abort = None
 
@@ -133,6 +137,7 @@ jump (instruction.GetLocal slot) = None
 jump (instruction.SetLocal slot) = None
 jump instruction.Pop = None
 jump instruction.Duplicate = None
+jump (instruction.ReadElement a) = None
 jump (instruction.Operate op) = None
 jump (instruction.Compare op) = None
 jump instruction.Negate = None
@@ -150,6 +155,7 @@ jump (instruction.DataVar v mask quals) = None
 jump (instruction.Enumerator n text help) = None
 jump (instruction.Response n class text) = None
 jump (instruction.Member name item label help) = None
+jump (instruction.Element n v label help) = None
 jump (instruction.Ask request) = None
 jump instruction.Abort = None
 
@@ -173,34 +179,44 @@ attributes_only = record { in_attributes = true; in_methods = false }
 abbrev pub methods_only : Allowed
 methods_only = record { in_attributes = false; in_methods = true }
 
+abbrev pub nowhere : Allowed
+nowhere = record { in_attributes = false; in_methods = false }
+
+-- the first version has no arrays
+abbrev pub from_version_two : Version → Allowed → Allowed
+from_version_two One a = nowhere
+from_version_two Two a = a
+
 abbrev pub allowed : Version → Instruction → Allowed
-allowed One instruction.End = everywhere
-allowed One (instruction.Push n) = everywhere
-allowed One (instruction.Variable v) = everywhere
-allowed One (instruction.Store v) = methods_only
-allowed One (instruction.GetLocal slot) = methods_only
-allowed One (instruction.SetLocal slot) = methods_only
-allowed One instruction.Pop = everywhere
-allowed One instruction.Duplicate = everywhere
-allowed One (instruction.Operate op) = everywhere
-allowed One (instruction.Compare op) = everywhere
-allowed One instruction.Negate = everywhere
-allowed One instruction.Not = everywhere
-allowed One instruction.Complement = everywhere
-allowed One (instruction.Jump to) = everywhere
-allowed One (instruction.JumpIfZero to) = everywhere
-allowed One (instruction.JumpIfNotZero to) = everywhere
-allowed One (instruction.Case label to) = everywhere
-allowed One (instruction.Text s) = attributes_only
-allowed One instruction.Number = attributes_only
-allowed One (instruction.Item item quals) = attributes_only
-allowed One (instruction.DataConst n) = attributes_only
-allowed One (instruction.DataVar v mask quals) = attributes_only
-allowed One (instruction.Enumerator n text help) = attributes_only
-allowed One (instruction.Response n class text) = attributes_only
-allowed One (instruction.Member name item label help) = attributes_only
-allowed One (instruction.Ask request) = methods_only
-allowed One instruction.Abort = methods_only
+allowed version instruction.End = everywhere
+allowed version (instruction.Push n) = everywhere
+allowed version (instruction.Variable v) = everywhere
+allowed version (instruction.Store v) = methods_only
+allowed version (instruction.GetLocal slot) = methods_only
+allowed version (instruction.SetLocal slot) = methods_only
+allowed version instruction.Pop = everywhere
+allowed version instruction.Duplicate = everywhere
+allowed version (instruction.ReadElement a) = from_version_two version everywhere
+allowed version (instruction.Operate op) = everywhere
+allowed version (instruction.Compare op) = everywhere
+allowed version instruction.Negate = everywhere
+allowed version instruction.Not = everywhere
+allowed version instruction.Complement = everywhere
+allowed version (instruction.Jump to) = everywhere
+allowed version (instruction.JumpIfZero to) = everywhere
+allowed version (instruction.JumpIfNotZero to) = everywhere
+allowed version (instruction.Case label to) = everywhere
+allowed version (instruction.Text s) = attributes_only
+allowed version instruction.Number = attributes_only
+allowed version (instruction.Item item quals) = attributes_only
+allowed version (instruction.DataConst n) = attributes_only
+allowed version (instruction.DataVar v mask quals) = attributes_only
+allowed version (instruction.Enumerator n text help) = attributes_only
+allowed version (instruction.Response n class text) = attributes_only
+allowed version (instruction.Member name item label help) = attributes_only
+allowed version (instruction.Element n v label help) = from_version_two version attributes_only
+allowed version (instruction.Ask request) = methods_only
+allowed version instruction.Abort = methods_only
 
 abbrev pub is_allowed : Version → Sort → Instruction → Bool
 is_allowed version Attribute i = (allowed version i).in_attributes

@@ -3,6 +3,7 @@ use Rattle.std.specs.Prelude.{ℕ, ◌+◌, ◌<◌, ◌==◌, Bool, true, false
 use Rattle.std.specs.List.{AllByRecursion, list_all}
 use Rattle.std.specs.Option.{option_map_or}
 use Rattle.edd_syntax.specs.declared.numbers.ItemNo.{ItemNo}
+use Rattle.edd_syntax.specs.declared.numbers.Element.{Element}
 use Rattle.edd_syntax.specs.declared.numbers.Attr.{Attr}
 use Rattle.edd_syntax.specs.declared.numbers.Attr.TheVariants as attr
 use Rattle.edd_syntax.specs.declared.types.VarType.{VarType}
@@ -18,7 +19,7 @@ use Rattle.edd_image.specs.declared.rules.UnitRule.{UnitRule}
 use Rattle.edd_image.specs.declared.rules.UnitRule.TheVariants as unit_rule
 use Rattle.edd_image.specs.declared.rules.Rule.{Rule}
 use Rattle.edd_image.specs.declared.rules.Rule.TheVariants as rule
-use Rattle.edd_image.specs.References.{item_exists}
+use Rattle.edd_image.specs.References.{array_exists, variable_exists, item_exists}
 use Rattle.edd_image.specs.Layout.{type_code}
 use Rattle.edd_image.specs.Fields.{header_length, has_magic, version_number, total_length, code_length, sections_end}
 use Rattle.edd_image.specs.Contents.{Span, part, VariableFields, AttributeFields, Contents, version_of, contents_in}
@@ -95,12 +96,29 @@ abbrev pub are_attribute_rows : Contents → Bool
 are_attribute_rows c = list_all (is_attribute_row c.counts) c.attributes
     && (rise c.attributes && fills 0 (map (λ r. r.span) c.attributes) (length c.code))
 
+abbrev pub is_element_row : Counts → Element → Bool
+is_element_row counts e = array_exists counts e.array && variable_exists counts e.var
+
+-- rows rise by array and number
+abbrev pub is_element_before : Element → Element → Bool
+is_element_before e next = nat_lt e.array.0 next.array.0
+    || (e.array.0 == next.array.0 && nat_lt e.number next.number)
+
+abbrev pub elements_rise : List Element → Bool
+elements_rise [] = true
+elements_rise (e ∷ []) = true
+elements_rise (e ∷ next ∷ rest) = is_element_before e next && elements_rise (next ∷ rest)
+
+abbrev pub are_element_rows : Contents → Bool
+are_element_rows c = list_all (is_element_row c.counts) c.elements && elements_rise c.elements
+
 abbrev pub are_string_rows : Contents → Bool
 are_string_rows c = fills 0 c.strings (length c.string_bytes)
 
 abbrev pub are_rows : Contents → Bool
 are_rows c = c.padding == 0
-    && (are_variable_rows c && (are_name_rows c && (are_attribute_rows c && are_string_rows c)))
+    && (are_variable_rows c && (are_name_rows c && (are_attribute_rows c
+    && (are_element_rows c && are_string_rows c))))
 
 -- ---- names and strings
 

@@ -5,6 +5,7 @@ use Rattle.edd_syntax.specs.declared.numbers.Attr.TheVariants as attr
 use Rattle.edd_syntax.specs.declared.numbers.AttrRef.{AttrRef}
 use Rattle.edd_syntax.specs.declared.types.VarType.TheVariants as var_type
 use Rattle.edd_image.specs.declared.parts.Counts.{Counts}
+use Rattle.edd_image.specs.declared.unit.Version.TheVariants.{One}
 use Rattle.edd_image.specs.Layout.{Sections}
 
 -- manufacturer 1, device type 2, device revision 3, description revision 4, and no items
@@ -27,10 +28,12 @@ no_counts = record {
 
 abbrev pub empty_parts : Sections
 empty_parts = record {
+  version = One;
   counts = no_counts;
   variables = [];
   names = [];
   attributes = [];
+  elements = [];
   code = [];
   strings = [];
   name_bytes = [];

@@ -14,6 +14,7 @@ use Rattle.edd_syntax.specs.Text.{Quoted}
 use Rattle.edd_syntax.specs.Expression.{Expr, Literal, Reference, Binary, Compare, Assign, Call, Text, arguments_from}
 use Rattle.edd_syntax.specs.Statement.{Stmt, Body, Nil, Cons, Statement, While, Block, Evaluate}
 use Rattle.edd_syntax.specs.Item.{Identification, Item, Description, TypeOf, Known, Definition, VariableItem, MethodItem}
+use Rattle.edd_image.specs.declared.unit.Version.TheVariants.{One}
 use Rattle.edd_image.specs.Layout.{Sections}
 use Rattle.edd_image.specs.Worked.{no_counts, with_code}
 
@@ -126,6 +127,7 @@ asking_image = image_with asking_code
 
 abbrev pub asking_parts : Sections
 asking_parts = record {
+  version = One;
   counts = record no_counts { variables = 2; methods = 1; strings = 1 };
   variables = record { var_type = UnsignedInteger; size = 1 }
       ∷ record { var_type = UnsignedInteger; size = 1 } ∷ [];
@@ -138,6 +140,7 @@ asking_parts = record {
     start = 0;
     length = 49;
   } ∷ [];
+  elements = [];
   code = asking_code;
   strings = record { start = 0; length = 9 } ∷ [];
   name_bytes = 0x78 ∷ 0x79 ∷ 0x6d ∷ [];

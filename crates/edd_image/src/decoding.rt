@@ -3,10 +3,10 @@
 ghost use Rattle.std.specs.Prelude.{◌≡◌, ◌-◌, ◌<◌, ◌≤◌, ◌∷◌, drop, length, ◌==◌, IfSome, option_map, nat_lt, if◌then◌else◌, None, Some};
 ghost use Rattle.edd_image.specs.declared.instruction.Instruction.TheVariants as instructions;
 ghost use Rattle.std.specs.Int.{w16, w32, w64};
-ghost use Rattle.edd_image.specs.Decoding.{byte_from, number_from, signed_from, basic_from, jump_from, item_from, optional_string, entry_from, data_from, enumerator_from, response_from, member_from, record_from, ask_of, ask_from, instruction_from, instruction_at};
+ghost use Rattle.edd_image.specs.Decoding.{byte_from, number_from, signed_from, basic_from, jump_from, item_from, optional_string, entry_from, data_from, enumerator_from, response_from, member_from, element_from, record_from, ask_of, ask_from, instruction_from, instruction_at};
 
 use crate::instruction::{Ask, Instruction};
-use edd_syntax::numbers::{ItemNo, Kind, StrNo, VarNo};
+use edd_syntax::numbers::{ArrNo, ItemNo, Kind, StrNo, VarNo};
 use edd_syntax::operators::{Comparison, Operator};
 
 #[inline(always)]
@@ -139,6 +139,16 @@ fn set_local_from(bytes: &[u8]) -> Option<(Instruction, &[u8])>
 {
     let (number, rest) = u16_from(bytes)?;
     Some((Instruction::SetLocal(number), rest))
+}
+
+#[inline(always)]
+#[tactic(auto, unfolding(crate::specs::Decoding::basic_from))]
+fn read_element_from(bytes: &[u8]) -> Option<(Instruction, &[u8])>
+    ensures value { option_map (λ x. (x.0, x.1.now)) result ≡ basic_from 0x08 bytes.now }
+    ensures left { IfSome result (λ x. length x.1.now ≤ length bytes.now) }
+{
+    let (number, rest) = u16_from(bytes)?;
+    Some((Instruction::ReadElement(ArrNo(number)), rest))
 }
 
 #[inline(always)]
@@ -277,6 +287,30 @@ fn member_from(bytes: &[u8]) -> Option<(Instruction, &[u8])>
 }
 
 #[inline(always)]
+#[tactic(auto, unfolding(crate::specs::Decoding::element_from))]
+fn element_from(bytes: &[u8]) -> Option<(Instruction, &[u8])>
+    ensures value { option_map (λ x. (x.0, x.1.now)) result ≡ element_from bytes.now }
+    ensures left { IfSome result (λ x. length x.1.now ≤ length bytes.now) }
+{
+    let (number, rest) = u32_from(bytes)?;
+    let (var, rest) = u16_from(rest)?;
+    let (label, rest) = u16_from(rest)?;
+    let (help, rest) = u16_from(rest)?;
+    let var = VarNo(var);
+    let label = optional_string(label);
+    let help = optional_string(help);
+    Some((
+        Instruction::Element {
+            number,
+            var,
+            label,
+            help,
+        },
+        rest,
+    ))
+}
+
+#[inline(always)]
 #[tactic(auto, unfolding(crate::specs::Decoding::record_from))]
 fn text_from(bytes: &[u8]) -> Option<(Instruction, &[u8])>
     ensures value { option_map (λ x. (x.0, x.1.now)) result ≡ record_from 0x40 bytes.now }
@@ -339,7 +373,8 @@ fn long_from(number: u8, bytes: &[u8]) -> Option<(Instruction, &[u8])>
         (if number == 0x44 then data_from bytes.now else
         if number == 0x45 then enumerator_from bytes.now else
         if number == 0x46 then response_from bytes.now else
-        if number == 0x47 then member_from bytes.now else None) else None) }
+        if number == 0x47 then member_from bytes.now else
+        if number == 0x48 then element_from bytes.now else None) else None) }
     ensures left { IfSome result (λ x. length x.1.now ≤ length bytes.now) }
 {
     match number {
@@ -347,6 +382,7 @@ fn long_from(number: u8, bytes: &[u8]) -> Option<(Instruction, &[u8])>
         0x45 => enumerator_from(bytes),
         0x46 => response_from(bytes),
         0x47 => member_from(bytes),
+        0x48 => element_from(bytes),
         _ => None,
     }
 }
@@ -381,6 +417,7 @@ fn numbered(number: u8, code: &[u8], next: usize) -> Option<(Instruction, usize)
         0x05 => placed(code, set_local_from(&code[next..])),
         0x06 => Some((Instruction::Pop, next)),
         0x07 => Some((Instruction::Duplicate, next)),
+        0x08 => placed(code, read_element_from(&code[next..])),
         0x10 => Some((Instruction::Operate(Operator::Add), next)),
         0x11 => Some((Instruction::Operate(Operator::Subtract), next)),
         0x12 => Some((Instruction::Operate(Operator::Multiply), next)),

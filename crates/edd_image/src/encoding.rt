@@ -172,6 +172,16 @@ fn member(name: StrNo, item: ItemNo, label: Option<StrNo>, help: Option<StrNo>) 
     bytes
 }
 
+fn element(number: u32, var: VarNo, label: Option<StrNo>, help: Option<StrNo>) -> Encoding
+    ensures { result.items ≡ spelling (Instruction.Element number var label help) }
+{
+    let mut bytes = with_u32(0x48, number);
+    put(&mut bytes, &var.0.to_be_bytes());
+    put_optional(&mut bytes, label);
+    put_optional(&mut bytes, help);
+    bytes
+}
+
 /// The bytes of a jump before its target, which are four more.
 pub fn head(jump: Jump) -> Encoding
     ensures head { (target : ℕ) → result.items ++ u32 target ≡ spelling (jump_to jump target) }
@@ -232,6 +242,7 @@ pub fn encode(instruction: Instruction) -> Encoding
         Instruction::SetLocal(slot) => with_u16(0x05, slot),
         Instruction::Pop => alone(0x06),
         Instruction::Duplicate => alone(0x07),
+        Instruction::ReadElement(array) => with_u16(0x08, array.0),
         Instruction::Operate(op) => alone(operator_number(op)),
         Instruction::Compare(by) => alone(comparison_number(by)),
         Instruction::Negate => alone(0x20),
@@ -258,6 +269,12 @@ pub fn encode(instruction: Instruction) -> Encoding
             label,
             help,
         } => member(name, item, label, help),
+        Instruction::Element {
+            number,
+            var,
+            label,
+            help,
+        } => element(number, var, label, help),
         Instruction::Ask(request) => ask(request),
         Instruction::Abort => alone(0x51),
     }

@@ -2,14 +2,17 @@
 
 ghost use Rattle.std.specs.Prelude.{◌≡◌, ◌≤◌, length};
 ghost use Rattle.edd_image.specs.Contents.{version_of};
-ghost use Rattle.edd_image.specs.Fields.{has_magic, version_number, header_zero, total_length, counts_in, attribute_count, names_length, code_length, strings_length, header_length, name_rows_start, attribute_rows_start, code_start, string_rows_start, name_bytes_start, string_bytes_start, sections_end};
+ghost use Rattle.edd_image.specs.Fields.{has_magic, version_number, is_extended, header_zero, extension_zero, array_count, element_count, total_length, counts_in, attribute_count, names_length, code_length, strings_length, header_length, name_rows_start, attribute_rows_start, code_start, string_rows_start, name_bytes_start, string_bytes_start, sections_end};
 
 use crate::fields::{u8_at, u16_at, u32_at};
 use crate::parts::Counts;
 use crate::unit::Version;
 
-/// How many bytes the header has. The variable rows stand behind it.
+/// How many bytes the header has at least.
 pub const HEADER_LENGTH: usize = 56;
+
+/// How many bytes the header has in the second version.
+pub const EXTENDED_HEADER_LENGTH: usize = 64;
 
 /// Whether the image begins with `EDI1`.
 pub fn has_magic(bytes: &[u8]) -> bool
@@ -27,11 +30,19 @@ pub fn version(bytes: &[u8]) -> Option<Version>
     requires { header_length ≤ length bytes.now }
     ensures { result ≡ version_of (version_number bytes.now) }
 {
-    if u16_at(bytes, 4) == 1 {
-        Some(Version::One)
-    } else {
-        None
+    match u16_at(bytes, 4) {
+        1 => Some(Version::One),
+        2 => Some(Version::Two),
+        _ => None,
     }
+}
+
+// Whether the header is that of the second version, and whole.
+fn is_extended(bytes: &[u8]) -> bool
+    requires { header_length ≤ length bytes.now }
+    ensures { result ≡ is_extended bytes.now }
+{
+    u16_at(bytes, 4) == 2 && bytes.len() >= EXTENDED_HEADER_LENGTH
 }
 
 /// The zero behind the version.
@@ -122,6 +133,42 @@ pub fn method_count(bytes: &[u8]) -> u16
     u16_at(bytes, 36)
 }
 
+/// How many arrays there are.
+pub fn array_count(bytes: &[u8]) -> u16
+    requires { header_length ≤ length bytes.now }
+    ensures { result ≡ array_count bytes.now }
+{
+    if is_extended(bytes) {
+        u16_at(bytes, 56)
+    } else {
+        0
+    }
+}
+
+/// The zero behind the count of arrays.
+pub fn extension_zero(bytes: &[u8]) -> u16
+    requires { header_length ≤ length bytes.now }
+    ensures { result ≡ extension_zero bytes.now }
+{
+    if is_extended(bytes) {
+        u16_at(bytes, 58)
+    } else {
+        0
+    }
+}
+
+/// How many element rows there are.
+pub fn element_count(bytes: &[u8]) -> u32
+    requires { header_length ≤ length bytes.now }
+    ensures { result ≡ element_count bytes.now }
+{
+    if is_extended(bytes) {
+        u32_at(bytes, 60)
+    } else {
+        0
+    }
+}
+
 /// How many strings there are.
 pub fn string_count(bytes: &[u8]) -> u16
     requires { header_length ≤ length bytes.now }
@@ -162,7 +209,7 @@ pub fn strings_length(bytes: &[u8]) -> u32
     u32_at(bytes, 52)
 }
 
-/// The identification and the six counts.
+/// The identification and the seven counts.
 pub fn counts(bytes: &[u8]) -> Counts
     requires { header_length ≤ length bytes.now }
     ensures { result ≡ counts_in bytes.now }
@@ -173,7 +220,7 @@ pub fn counts(bytes: &[u8]) -> Counts
         menus: menu_count(bytes),
         collections: collection_count(bytes),
         methods: method_count(bytes),
-        arrays: 0,
+        arrays: array_count(bytes),
         strings: string_count(bytes),
         manufacturer: manufacturer(bytes),
         device_type: device_type(bytes),

@@ -1,6 +1,6 @@
 //! The instructions of a unit.
 
-use edd_syntax::numbers::{ItemNo, StrNo, VarNo};
+use edd_syntax::numbers::{ArrNo, ItemNo, StrNo, VarNo};
 use edd_syntax::operators::{Comparison, Operator};
 
 /// A request as an instruction names it: its numbers come from the operands.
@@ -37,6 +37,7 @@ pub enum Instruction {
     SetLocal(u16),
     Pop,
     Duplicate,
+    ReadElement(ArrNo),
     Operate(Operator),
     Compare(Comparison),
     Negate,
@@ -74,6 +75,12 @@ pub enum Instruction {
     Member {
         name: StrNo,
         item: ItemNo,
+        label: Option<StrNo>,
+        help: Option<StrNo>,
+    },
+    Element {
+        number: u32,
+        var: VarNo,
         label: Option<StrNo>,
         help: Option<StrNo>,
     },

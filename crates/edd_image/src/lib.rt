@@ -15,17 +15,17 @@ mod rows;
 mod rules;
 mod starts;
 mod unit;
-mod worked;
+pub mod worked;
 mod writing;
 
 pub use decoding::decode;
 pub use emitter::{Emitter, Hole};
 pub use encoding::{Encoding, encode, head};
-pub use fields::{u8_at, u16_at, u32_at};
+pub use fields::{u16_at, u32_at};
 pub use header::{
-    HEADER_LENGTH, attribute_count, code_length, collection_count, command_count, counts,
-    dd_revision, device_revision, device_type, has_magic, header_zero, manufacturer, menu_count,
-    method_count, names_length, string_count, strings_length, total_length, variable_count,
+    EXTENDED_HEADER_LENGTH, HEADER_LENGTH, attribute_count, code_length, counts, dd_revision,
+    device_revision, device_type, element_count, extension_zero, has_magic, header_zero,
+    manufacturer, names_length, string_count, strings_length, total_length, variable_count,
     version,
 };
 pub use instruction::{Ask, Instruction, Jump};
@@ -39,19 +39,15 @@ pub use numbers::type_of;
 pub use parts::{AttributeRow, Counts, NameRow, Parts, StringRow, VarKind};
 pub use records::{Emitted, Record, Request, Status};
 pub use rows::{
-    ATTRIBUTE_ROW, NAME_ROW, STRING_ROW, VARIABLE_ROW, attribute_item, attribute_kind,
+    ATTRIBUTE_ROW, ELEMENT_ROW, NAME_ROW, STRING_ROW, VARIABLE_ROW, attribute_item, attribute_kind,
     attribute_length, attribute_number, attribute_start, attribute_sub, attribute_zero,
-    name_length, name_start, name_zero, string_length, string_start, variable_size, variable_type,
-    variable_zero,
+    element_array, element_number, element_variable, name_length, name_start, name_zero,
+    string_length, string_start, variable_size, variable_type, variable_zero,
 };
 pub use rules::{Rule, UnitRule};
 pub use starts::{
-    attribute_rows_start, code_start, name_bytes_start, name_rows_start, sections_end,
-    string_bytes_start, string_rows_start,
+    attribute_rows_start, code_start, element_rows_start, name_bytes_start, name_rows_start,
+    sections_end, string_bytes_start, string_rows_start, variable_rows_start,
 };
 pub use unit::{Context, Sort, Version, Way};
-pub use worked::{
-    asking_loops_agree, edits_break_their_rules, endless_loops_agree, label_is_read,
-    worked_images_are_valid, worked_layouts,
-};
 pub use writing::{CODE_LIMIT, WriteFault, write};

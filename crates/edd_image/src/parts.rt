@@ -1,8 +1,11 @@
 //! What an image is made of.
 
 ghost use Rattle.std.specs.Prelude.{◌≡◌, ◌+◌, ◌*◌, ◌<◌, ◌^◌, vec_len};
+ghost use Rattle.edd_image.specs.declared.unit.Version.TheVariants.{One};
+ghost use Rattle.edd_image.specs.Versions.{header_size};
 
-use edd_syntax::numbers::{Attr, ItemNo};
+use crate::unit::Version;
+use edd_syntax::numbers::{Attr, Element, ItemNo};
 use edd_syntax::types::VarType;
 
 /// The type and the size of a variable, in octets.
@@ -53,14 +56,16 @@ pub struct Counts {
     pub dd_revision: u32,
 }
 
-/// The sections of an image in their order. Names stand by kind and number. There are no arrays in
-/// the first version of the layout.
+/// The sections of an image in their order. Names stand by kind and number, elements by array and
+/// number. There are no arrays in the first version of the layout.
 #[derive(Debug, Drop)]
 pub struct Parts {
+    pub version: Version,
     pub counts: Counts,
     pub variables: Vec<VarKind>,
     pub names: Vec<NameRow>,
     pub attributes: Vec<AttributeRow>,
+    pub elements: Vec<Element>,
     pub code: Vec<u8>,
     pub strings: Vec<StringRow>,
     pub name_bytes: Vec<u8>,
@@ -69,9 +74,12 @@ pub struct Parts {
     ghost names_counted: { counts.variables + counts.commands + counts.menus + counts.collections
         + counts.methods
         + counts.arrays ≡ vec_len names },
-    ghost no_arrays: { counts.arrays ≡ 0 },
+    ghost no_arrays: { version ≡ One → counts.arrays ≡ 0 },
+    ghost no_elements: { version ≡ One → vec_len elements ≡ 0 },
     ghost strings_counted: { counts.strings ≡ vec_len strings },
-    ghost fits: { 56 + 4 * vec_len variables + 8 * vec_len names + 16 * vec_len attributes
+    ghost fits: { header_size version + 4 * vec_len variables + 8 * vec_len names
+        + 16 * vec_len attributes
+        + 8 * vec_len elements
         + vec_len code
         + 8 * vec_len strings + vec_len name_bytes + vec_len string_bytes < 2 ^ 32 },
 }

@@ -39,6 +39,13 @@ pub enum Record {
         label: Option<StrNo>,
         help: Option<StrNo>,
     },
+    /// An element of an array.
+    Element {
+        number: u32,
+        var: VarNo,
+        label: Option<StrNo>,
+        help: Option<StrNo>,
+    },
 }
 
 /// One request of a method, its arguments in written order.

@@ -1,7 +1,7 @@
 //! The fields of a row. `row` is the place of its first byte.
 
 ghost use Rattle.std.specs.Prelude.{◌≡◌, ◌+◌, ◌≤◌, length};
-ghost use Rattle.edd_image.specs.Fields.{variable_type, variable_size, variable_zero, name_start, name_length, name_zero, attribute_kind, attribute_number, attribute_item, attribute_sub, attribute_zero, attribute_start, attribute_length, string_start, string_length};
+ghost use Rattle.edd_image.specs.Fields.{variable_type, variable_size, variable_zero, name_start, name_length, name_zero, attribute_kind, attribute_number, attribute_item, attribute_sub, attribute_zero, attribute_start, attribute_length, element_array, element_variable, element_number, string_start, string_length};
 
 use crate::fields::{u8_at, u16_at, u32_at};
 
@@ -13,6 +13,9 @@ pub const NAME_ROW: usize = 8;
 
 /// How many bytes an attribute row has.
 pub const ATTRIBUTE_ROW: usize = 16;
+
+/// How many bytes an element row has.
+pub const ELEMENT_ROW: usize = 8;
 
 /// How many bytes a string row has.
 pub const STRING_ROW: usize = 8;
@@ -119,6 +122,30 @@ pub fn attribute_length(bytes: &[u8], row: usize) -> u32
     ensures { result ≡ attribute_length bytes.now row }
 {
     u32_at(bytes, row + 12)
+}
+
+/// The array of an element.
+pub fn element_array(bytes: &[u8], row: usize) -> u16
+    requires { row + ELEMENT_ROW ≤ length bytes.now }
+    ensures { result ≡ element_array bytes.now row }
+{
+    u16_at(bytes, row)
+}
+
+/// The variable of an element.
+pub fn element_variable(bytes: &[u8], row: usize) -> u16
+    requires { row + ELEMENT_ROW ≤ length bytes.now }
+    ensures { result ≡ element_variable bytes.now row }
+{
+    u16_at(bytes, row + 2)
+}
+
+/// The number of an element.
+pub fn element_number(bytes: &[u8], row: usize) -> u32
+    requires { row + ELEMENT_ROW ≤ length bytes.now }
+    ensures { result ≡ element_number bytes.now row }
+{
+    u32_at(bytes, row + 4)
 }
 
 /// Where a string starts among the bytes of the strings.

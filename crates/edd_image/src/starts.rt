@@ -2,12 +2,28 @@
 //! one before it.
 
 ghost use Rattle.std.specs.Prelude.{◌≡◌, ◌≤◌, ◌<◌, ◌+◌, ◌*◌, ◌^◌, length};
-ghost use Rattle.edd_image.specs.Fields.{header_length, name_rows_start, attribute_rows_start, code_start, string_rows_start, name_bytes_start, string_bytes_start, sections_end};
+ghost use Rattle.edd_image.specs.Fields.{header_length, variable_rows_start, name_rows_start, attribute_rows_start, element_rows_start, code_start, string_rows_start, name_bytes_start, string_bytes_start, sections_end};
 
+use crate::fields::u16_at;
 use crate::header::{
-    HEADER_LENGTH, attribute_count, code_length, collection_count, command_count, menu_count,
-    method_count, names_length, string_count, strings_length, variable_count,
+    EXTENDED_HEADER_LENGTH, HEADER_LENGTH, array_count, attribute_count, code_length,
+    collection_count, command_count, element_count, menu_count, method_count, names_length,
+    string_count, strings_length, variable_count,
 };
+
+/// Where the variable rows start.
+#[tactic(auto, unfolding(crate::specs::Fields::variable_rows_start))]
+pub fn variable_rows_start(bytes: &[u8]) -> usize
+    requires { header_length ≤ length bytes.now }
+    ensures start { result ≡ variable_rows_start bytes.now }
+    ensures small { result ≤ 64 }
+{
+    if u16_at(bytes, 4) == 2 {
+        EXTENDED_HEADER_LENGTH
+    } else {
+        HEADER_LENGTH
+    }
+}
 
 /// Where the name rows start.
 #[tactic(auto, unfolding(crate::specs::Fields::name_rows_start))]
@@ -16,7 +32,7 @@ pub fn name_rows_start(bytes: &[u8]) -> usize
     ensures start { result ≡ name_rows_start bytes.now }
     ensures small { result < 2 ^ 20 }
 {
-    HEADER_LENGTH + 4 * variable_count(bytes) as usize
+    variable_rows_start(bytes) + 4 * variable_count(bytes) as usize
 }
 
 /// Where the attribute rows start.
@@ -30,8 +46,19 @@ pub fn attribute_rows_start(bytes: &[u8]) -> usize
         + command_count(bytes) as usize
         + menu_count(bytes) as usize
         + collection_count(bytes) as usize
-        + method_count(bytes) as usize;
+        + method_count(bytes) as usize
+        + array_count(bytes) as usize;
     name_rows_start(bytes) + 8 * items
+}
+
+/// Where the element rows start.
+#[tactic(auto, unfolding(crate::specs::Fields::element_rows_start))]
+pub fn element_rows_start(bytes: &[u8]) -> usize
+    requires { header_length ≤ length bytes.now }
+    ensures start { result ≡ element_rows_start bytes.now }
+    ensures small { result < 2 ^ 37 }
+{
+    attribute_rows_start(bytes) + 16 * attribute_count(bytes) as usize
 }
 
 /// Where the code starts.
@@ -39,9 +66,9 @@ pub fn attribute_rows_start(bytes: &[u8]) -> usize
 pub fn code_start(bytes: &[u8]) -> usize
     requires { header_length ≤ length bytes.now }
     ensures start { result ≡ code_start bytes.now }
-    ensures small { result < 2 ^ 37 }
+    ensures small { result < 2 ^ 38 }
 {
-    attribute_rows_start(bytes) + 16 * attribute_count(bytes) as usize
+    element_rows_start(bytes) + 8 * element_count(bytes) as usize
 }
 
 /// Where the string rows start.
@@ -49,7 +76,7 @@ pub fn code_start(bytes: &[u8]) -> usize
 pub fn string_rows_start(bytes: &[u8]) -> usize
     requires { header_length ≤ length bytes.now }
     ensures start { result ≡ string_rows_start bytes.now }
-    ensures small { result < 2 ^ 38 }
+    ensures small { result < 2 ^ 39 }
 {
     code_start(bytes) + code_length(bytes) as usize
 }
@@ -59,7 +86,7 @@ pub fn string_rows_start(bytes: &[u8]) -> usize
 pub fn name_bytes_start(bytes: &[u8]) -> usize
     requires { header_length ≤ length bytes.now }
     ensures start { result ≡ name_bytes_start bytes.now }
-    ensures small { result < 2 ^ 39 }
+    ensures small { result < 2 ^ 40 }
 {
     string_rows_start(bytes) + 8 * string_count(bytes) as usize
 }
@@ -69,7 +96,7 @@ pub fn name_bytes_start(bytes: &[u8]) -> usize
 pub fn string_bytes_start(bytes: &[u8]) -> usize
     requires { header_length ≤ length bytes.now }
     ensures start { result ≡ string_bytes_start bytes.now }
-    ensures small { result < 2 ^ 40 }
+    ensures small { result < 2 ^ 41 }
 {
     name_bytes_start(bytes) + names_length(bytes) as usize
 }
@@ -79,7 +106,7 @@ pub fn string_bytes_start(bytes: &[u8]) -> usize
 pub fn sections_end(bytes: &[u8]) -> usize
     requires { header_length ≤ length bytes.now }
     ensures start { result ≡ sections_end bytes.now }
-    ensures small { result < 2 ^ 41 }
+    ensures small { result < 2 ^ 42 }
 {
     string_bytes_start(bytes) + strings_length(bytes) as usize
 }

@@ -1,17 +1,43 @@
 //! What the rules on a unit speak of.
 
 ghost use Rattle.std.specs.Prelude.{◌≡◌};
-ghost use Rattle.edd_image.specs.Units.{takes, onward, jump, is_allowed};
-ghost use Rattle.edd_image.specs.References.{names_exist, string_exists, optional_string_exists, variable_exists, item_exists, request_exists};
+ghost use Rattle.edd_image.specs.Versions.{version_code, header_size};
+ghost use Rattle.edd_image.specs.Units.{takes, onward, jump, allowed, is_allowed};
+ghost use Rattle.edd_image.specs.References.{names_exist, string_exists, optional_string_exists, variable_exists, array_exists, item_exists, request_exists};
 
+use crate::header::{EXTENDED_HEADER_LENGTH, HEADER_LENGTH};
 use crate::instruction::{Ask, Instruction};
 use crate::parts::Counts;
-use edd_syntax::numbers::{ItemNo, StrNo, VarNo};
+use edd_syntax::numbers::{ArrNo, ItemNo, StrNo, VarNo};
 
 /// A version of the layout.
 #[derive(Clone, Copy, PartialEq, Eq, Debug)]
 pub enum Version {
     One,
+    /// With item arrays.
+    Two,
+}
+
+impl Version {
+    /// The number that stands for it in the header.
+    pub fn number(self) -> u16
+        ensures { result ≡ version_code self }
+    {
+        match self {
+            Version::One => 1,
+            Version::Two => 2,
+        }
+    }
+
+    /// How many bytes its header has.
+    pub fn header_size(self) -> usize
+        ensures { result ≡ header_size self }
+    {
+        match self {
+            Version::One => HEADER_LENGTH,
+            Version::Two => EXTENDED_HEADER_LENGTH,
+        }
+    }
 }
 
 /// Whether a unit gives an attribute or runs a method.
@@ -57,6 +83,7 @@ impl Instruction {
             | Instruction::JumpIfNotZero(_)
             | Instruction::Case { .. }
             | Instruction::Number
+            | Instruction::ReadElement(_)
             | Instruction::Ask(Ask::Delay(_))
             | Instruction::Ask(Ask::SendCommand) => 1,
             Instruction::Operate(_)
@@ -85,6 +112,7 @@ impl Instruction {
             | Instruction::Not
             | Instruction::Complement
             | Instruction::Case { .. }
+            | Instruction::ReadElement(_)
             | Instruction::Ask(_) => 1,
             _ => 0,
         };
@@ -108,32 +136,52 @@ impl Instruction {
         }
     }
 
+    // Whether the unit of an attribute may have it.
+    #[inline(always)]
+    fn is_in_attributes(self, version: Version) -> bool
+        ensures { result ≡ (allowed version self).in_attributes }
+    {
+        match self {
+            Instruction::Store(_)
+            | Instruction::GetLocal(_)
+            | Instruction::SetLocal(_)
+            | Instruction::Ask(_)
+            | Instruction::Abort => false,
+            Instruction::ReadElement(_) | Instruction::Element { .. } => {
+                matches!(version, Version::Two)
+            }
+            _ => true,
+        }
+    }
+
+    // Whether the unit of a method may have it.
+    #[inline(always)]
+    fn is_in_methods(self, version: Version) -> bool
+        ensures { result ≡ (allowed version self).in_methods }
+    {
+        match self {
+            Instruction::Text(_)
+            | Instruction::Number
+            | Instruction::Item { .. }
+            | Instruction::DataConst(_)
+            | Instruction::DataVar { .. }
+            | Instruction::Enumerator { .. }
+            | Instruction::Response { .. }
+            | Instruction::Member { .. }
+            | Instruction::Element { .. } => false,
+            Instruction::ReadElement(_) => matches!(version, Version::Two),
+            _ => true,
+        }
+    }
+
     /// Whether a unit of this sort may have it in an image of this version.
     #[inline(always)]
     pub fn is_allowed(self, version: Version, sort: Sort) -> bool
         ensures { result ≡ is_allowed version sort self }
     {
-        let Version::One = version;
         match sort {
-            Sort::Attribute => !matches!(
-                self,
-                Instruction::Store(_)
-                    | Instruction::GetLocal(_)
-                    | Instruction::SetLocal(_)
-                    | Instruction::Ask(_)
-                    | Instruction::Abort
-            ),
-            Sort::Method => !matches!(
-                self,
-                Instruction::Text(_)
-                    | Instruction::Number
-                    | Instruction::Item { .. }
-                    | Instruction::DataConst(_)
-                    | Instruction::DataVar { .. }
-                    | Instruction::Enumerator { .. }
-                    | Instruction::Response { .. }
-                    | Instruction::Member { .. }
-            ),
+            Sort::Attribute => self.is_in_attributes(version),
+            Sort::Method => self.is_in_methods(version),
         }
     }
 }
@@ -163,6 +211,13 @@ impl Counts {
         variable.0 < self.variables
     }
 
+    /// Whether there is such an array.
+    pub fn has_array(self, array: ArrNo) -> bool
+        ensures { result ≡ array_exists self array }
+    {
+        array.0 < self.arrays
+    }
+
     /// Whether there is such an item.
     pub fn has_item(self, item: ItemNo) -> bool
         ensures { result ≡ item_exists self item }
@@ -173,7 +228,7 @@ impl Counts {
             ItemNo::Menu(number) => number.0 < self.menus,
             ItemNo::Collection(number) => number.0 < self.collections,
             ItemNo::Method(number) => number.0 < self.methods,
-            ItemNo::Array(number) => number.0 < self.arrays,
+            ItemNo::Array(number) => self.has_array(number),
         }
     }
 
@@ -200,6 +255,7 @@ impl Context {
         match instruction {
             Instruction::Variable(v) | Instruction::Store(v) => counts.has_variable(v),
             Instruction::DataVar { var, .. } => counts.has_variable(var),
+            Instruction::ReadElement(array) => counts.has_array(array),
             Instruction::GetLocal(slot) | Instruction::SetLocal(slot) => slot < self.slots,
             Instruction::Text(s) => counts.has_string(s),
             Instruction::Response { text, .. } => counts.has_string(text),
@@ -215,6 +271,16 @@ impl Context {
             } => {
                 counts.has_string(name)
                     && counts.has_item(item)
+                    && counts.has_optional_string(label)
+                    && counts.has_optional_string(help)
+            }
+            Instruction::Element {
+                var,
+                label,
+                help,
+                ..
+            } => {
+                counts.has_variable(var)
                     && counts.has_optional_string(label)
                     && counts.has_optional_string(help)
             }

@@ -3,10 +3,12 @@
 ghost use Rattle.std.specs.Prelude.{◌≡◌, ◌≤◌, ◌<◌, ◌++◌, ◌↔◌, OnOk, IfOk, IsOk, vec_len};
 ghost use Rattle.std.specs.List.{AllByRecursion, flat_map};
 ghost use Rattle.edd_image.specs.declared.writing.WriteFault.TheVariants.{Memory};
-ghost use Rattle.edd_image.specs.Layout.{sections_of, magic, lengths, layout_length, identification, counts, header, layout, variable_row, name_row, attribute_key, attribute_row, string_row, u16, u32, CountsFit, AreSections, NameFits, AttributeFits, StringFits};
+ghost use Rattle.edd_image.specs.Layout.{sections_of, magic, lengths, layout_length, identification, counts, extension, header, layout, variable_row, name_row, attribute_key, attribute_row, element_row, string_row, u16, u32, CountsFit, AreSections, NameFits, AttributeFits, ElementFits, StringFits};
 
 use crate::numbers::type_code;
 use crate::parts::{AttributeRow, Counts, NameRow, Parts, StringRow, VarKind};
+use crate::unit::Version;
+use edd_syntax::numbers::Element;
 use std::alloc::{AllocError, Global};
 
 /// Why an image could not be written.
@@ -77,6 +79,15 @@ fn put_attribute(out: &mut Vec<u8>, row: AttributeRow) -> Result<(), AllocError>
     put_u32(out, row.length)
 }
 
+fn put_element(out: &mut Vec<u8>, row: Element) -> Result<(), AllocError>
+    ensures bytes { OnOk result (out.new.items ≡ out.old.items ++ element_row row) }
+    ensures fits { ElementFits row }
+{
+    put_u16(out, row.array.0)?;
+    put_u16(out, row.var.0)?;
+    put_u32(out, row.number)
+}
+
 fn put_string(out: &mut Vec<u8>, row: StringRow) -> Result<(), AllocError>
     ensures bytes { OnOk result (out.new.items ≡ out.old.items ++ string_row row) }
     ensures fits { StringFits row }
@@ -109,12 +120,31 @@ fn put_counts(out: &mut Vec<u8>, numbers: Counts) -> Result<(), AllocError>
 }
 
 #[tactic(auto, unfolding(crate::specs::Layout::magic))]
-fn put_magic(out: &mut Vec<u8>) -> Result<(), AllocError>
-    ensures { OnOk result (out.new.items ≡ out.old.items ++ magic) }
+fn put_magic(out: &mut Vec<u8>, version: Version) -> Result<(), AllocError>
+    ensures { OnOk result (out.new.items ≡ out.old.items ++ magic version) }
 {
     out.extend_from_slice(b"EDI1")?;
-    put_u16(out, 1)?;
+    put_u16(out, version.number())?;
     put_u16(out, 0)
+}
+
+#[tactic(auto, unfolding(crate::specs::Layout::extension))]
+fn put_extension(
+    out: &mut Vec<u8>,
+    version: Version,
+    arrays: u16,
+    elements: u32,
+) -> Result<(), AllocError>
+    ensures { OnOk result (out.new.items ≡ out.old.items ++ extension version arrays elements) }
+{
+    match version {
+        Version::One => Ok(()),
+        Version::Two => {
+            put_u16(out, arrays)?;
+            put_u16(out, 0)?;
+            put_u32(out, elements)
+        }
+    }
 }
 
 #[tactic(auto, unfolding(crate::specs::Layout::lengths))]
@@ -132,7 +162,13 @@ fn layout_length(parts: &Parts) -> u32
 {
     let rows = 4 * parts.variables.len() + 8 * parts.names.len() + 16 * parts.attributes.len();
     let bytes = parts.name_bytes.len() + parts.string_bytes.len();
-    (56 + rows + parts.code.len() + 8 * parts.strings.len() + bytes) as u32
+    let elements = 8 * parts.elements.len();
+    (parts.version.header_size()
+        + rows
+        + elements
+        + parts.code.len()
+        + 8 * parts.strings.len()
+        + bytes) as u32
 }
 
 #[tactic(auto, unfolding(crate::specs::Layout::header))]
@@ -140,11 +176,17 @@ fn put_header(out: &mut Vec<u8>, parts: &Parts) -> Result<(), AllocError>
     ensures bytes { OnOk result (out.new.items ≡ out.old.items ++ header (sections_of parts.now)) }
     ensures fit { OnOk result (CountsFit parts.now.counts) }
 {
-    put_magic(out)?;
+    put_magic(out, parts.version)?;
     put_u32(out, layout_length(parts))?;
     put_identification(out, parts.counts)?;
     put_counts(out, parts.counts)?;
-    put_lengths(out, parts)
+    put_lengths(out, parts)?;
+    put_extension(
+        out,
+        parts.version,
+        parts.counts.arrays,
+        parts.elements.len() as u32,
+    )
 }
 
 fn put_variables(out: &mut Vec<u8>, rows: &[VarKind]) -> Result<(), AllocError>
@@ -176,6 +218,16 @@ fn put_attributes(out: &mut Vec<u8>, rows: &[AttributeRow]) -> Result<(), AllocE
     Ok(())
 }
 
+fn put_elements(out: &mut Vec<u8>, rows: &[Element]) -> Result<(), AllocError>
+    ensures bytes { OnOk result (out.new.items ≡ out.old.items ++ flat_map element_row rows.now) }
+    ensures fit { OnOk result (AllByRecursion ElementFits rows.now) }
+{
+    for row in rows {
+        put_element(out, *row)?;
+    }
+    Ok(())
+}
+
 fn put_strings(out: &mut Vec<u8>, rows: &[StringRow]) -> Result<(), AllocError>
     ensures bytes { OnOk result (out.new.items ≡ out.old.items ++ flat_map string_row rows.now) }
     ensures fit { OnOk result (AllByRecursion StringFits rows.now) }
@@ -186,15 +238,31 @@ fn put_strings(out: &mut Vec<u8>, rows: &[StringRow]) -> Result<(), AllocError>
     Ok(())
 }
 
-#[tactic(auto, unfolding(crate::specs::Layout::layout))]
-fn put_sections(out: &mut Vec<u8>, parts: &Parts) -> Result<(), AllocError>
-    ensures bytes { OnOk result (out.new.items ≡ out.old.items ++ layout (sections_of parts.now)) }
-    ensures fit { OnOk result (AreSections (sections_of parts.now)) }
+// The header and the rows before the code.
+fn put_front(out: &mut Vec<u8>, parts: &Parts) -> Result<(), AllocError>
+    ensures bytes { let s = sections_of parts.now in
+        OnOk result (out.new.items ≡ out.old.items ++ (header s ++ (flat_map variable_row s.variables
+        ++ (flat_map name_row s.names ++ (flat_map attribute_row s.attributes
+        ++ flat_map element_row s.elements))))) }
+    ensures counts_fit { OnOk result (CountsFit parts.now.counts) }
+    ensures names_fit { OnOk result (AllByRecursion NameFits parts.now.names.items) }
+    ensures attributes_fit { OnOk result (AllByRecursion AttributeFits
+        parts.now.attributes.items) }
+    ensures elements_fit { OnOk result (AllByRecursion ElementFits parts.now.elements.items) }
 {
     put_header(out, parts)?;
     put_variables(out, &parts.variables)?;
     put_names(out, &parts.names)?;
     put_attributes(out, &parts.attributes)?;
+    put_elements(out, &parts.elements)
+}
+
+#[tactic(auto, unfolding(crate::specs::Layout::layout))]
+fn put_sections(out: &mut Vec<u8>, parts: &Parts) -> Result<(), AllocError>
+    ensures bytes { OnOk result (out.new.items ≡ out.old.items ++ layout (sections_of parts.now)) }
+    ensures fit { OnOk result (AreSections (sections_of parts.now)) }
+{
+    put_front(out, parts)?;
     out.extend_from_slice(&parts.code)?;
     put_strings(out, &parts.strings)?;
     out.extend_from_slice(&parts.name_bytes)?;
