@@ -1,11 +1,12 @@
 //! Images that are written from their parts.
 
-use crate::worked::{LABEL, LOOP};
+use crate::worked::{ARRAY, LABEL, LOOP};
 use edd_image::{
-    AttributeRow, Counts, Instruction, NameRow, Parts, StringRow, VarKind, decode, write,
+    AttributeRow, Counts, Instruction, NameRow, Parts, StringRow, VarKind, Version, decode, write,
 };
-use edd_syntax::numbers::{Attr, ItemNo, MethNo, VarNo};
+use edd_syntax::numbers::{ArrNo, Attr, Element, ItemNo, MethNo, VarNo};
 use edd_syntax::types::VarType;
+use std::alloc::{AllocError, Global};
 use std::test::Fail;
 
 const NO_COUNTS: Counts = Counts {
@@ -33,10 +34,12 @@ const IDENTIFICATION: [u8; 56] = [
 fn the_identification_is_written(rt: HostRuntime) -> Result<(), Fail> {
     let alloc = rt.alloc();
     let parts = Parts {
+        version: Version::One,
         counts: NO_COUNTS,
         variables: Vec::new(alloc),
         names: Vec::new(alloc),
         attributes: Vec::new(alloc),
+        elements: Vec::new(alloc),
         code: Vec::new(alloc),
         strings: Vec::new(alloc),
         name_bytes: Vec::new(alloc),
@@ -66,14 +69,15 @@ fn an_endless_loop_is_written(rt: HostRuntime) -> Result<(), Fail> {
         },
     ]?;
     let parts = Parts {
+        version: Version::One,
         counts: Counts {
             methods: 1,
-            arrays: 0,
             ..NO_COUNTS
         },
         variables: Vec::new(alloc),
         names,
         attributes,
+        elements: Vec::new(alloc),
         code: vec![in alloc; 0x30, 0x00, 0x00, 0x00, 0x00]?,
         strings: Vec::new(alloc),
         name_bytes: vec![in alloc; 0x6d]?,
@@ -110,6 +114,7 @@ fn a_label_in_two_languages_is_written(rt: HostRuntime) -> Result<(), Fail> {
         },
     ]?;
     let parts = Parts {
+        version: Version::One,
         counts: Counts {
             variables: 1,
             strings: 1,
@@ -118,6 +123,7 @@ fn a_label_in_two_languages_is_written(rt: HostRuntime) -> Result<(), Fail> {
         variables,
         names,
         attributes,
+        elements: Vec::new(alloc),
         code: vec![in alloc; 0x40, 0x00, 0x00, 0x00]?,
         strings: vec![in alloc;
             StringRow {
@@ -133,5 +139,88 @@ fn a_label_in_two_languages_is_written(rt: HostRuntime) -> Result<(), Fail> {
     };
     let image = write(alloc, &parts)?;
     assert_eq!(rt; image.as_slice(), LABEL.as_slice());
+    Ok(())
+}
+
+// The rows of the names `x`, `y`, `m` and `a`.
+fn array_names(alloc: Global) -> Result<Vec<NameRow>, AllocError> {
+    let mut names = Vec::new(alloc);
+    for start in 0..4 {
+        names.push(NameRow { start, length: 1 })?;
+    }
+    Ok(names)
+}
+
+// The method's body and the array's elements.
+fn array_rows(alloc: Global) -> Result<Vec<AttributeRow>, AllocError> {
+    let rows = vec![in alloc;
+        AttributeRow {
+            item: ItemNo::Method(MethNo(0)),
+            attr: Attr::Definition,
+            sub: 0,
+            start: 0,
+            length: 13,
+        },
+        AttributeRow {
+            item: ItemNo::Array(ArrNo(0)),
+            attr: Attr::Elements,
+            sub: 0,
+            start: 13,
+            length: 23,
+        },
+    ]?;
+    Ok(rows)
+}
+
+#[test]
+fn an_array_is_written(rt: HostRuntime) -> Result<(), Fail> {
+    let alloc = rt.alloc();
+    let kind = VarKind {
+        var_type: VarType::Integer,
+        size: 1,
+    };
+    let elements = vec![in alloc;
+        Element {
+            array: ArrNo(0),
+            number: 1,
+            var: VarNo(0),
+        },
+        Element {
+            array: ArrNo(0),
+            number: 5,
+            var: VarNo(1),
+        },
+    ]?;
+    let names = array_names(alloc)?;
+    if names.len() != 4 {
+        return Err(Fail::from("not four names"));
+    }
+    let parts = Parts {
+        version: Version::Two,
+        counts: Counts {
+            variables: 2,
+            methods: 1,
+            arrays: 1,
+            ..NO_COUNTS
+        },
+        variables: vec![in alloc; kind, kind]?,
+        names,
+        attributes: array_rows(alloc)?,
+        elements,
+        code: vec![in alloc;
+            0x01, 0x00, 0x00, 0x00, 0x05, 0x08, 0x00, 0x00, 0x03, 0x00, 0x00, 0x06, 0x00, 0x48,
+            0x00, 0x00, 0x00, 0x01, 0x00, 0x00, 0xff, 0xff, 0xff, 0xff, 0x48, 0x00, 0x00, 0x00,
+            0x05, 0x00, 0x01, 0xff, 0xff, 0xff, 0xff, 0x00,
+        ]?,
+        strings: Vec::new(alloc),
+        name_bytes: vec![in alloc; 0x78, 0x79, 0x6d, 0x61]?,
+        string_bytes: Vec::new(alloc),
+    };
+    let image = write(alloc, &parts)?;
+    assert_eq!(rt; image.as_slice(), ARRAY.as_slice());
+    assert_eq!(rt;
+        decode(&parts.code, 5),
+        Some((Instruction::ReadElement(ArrNo(0)), 8))
+    );
     Ok(())
 }

@@ -1,7 +1,7 @@
 //! Images that are loaded, or refused with their fault.
 
 use crate::using::is_usable;
-use crate::worked::{LABEL, LOOP};
+use crate::worked::{ARRAY, LABEL, LOOP};
 use edd_image::VarKind;
 use edd_loader::{LoadFault, Text, load};
 use edd_syntax::numbers::{ItemNo, MethNo, StrNo, VarNo};
@@ -9,11 +9,11 @@ use edd_syntax::types::VarType;
 use std::alloc::{AllocError, Global};
 use std::test::Fail;
 
-fn refusal(alloc: Global, bytes: &[u8]) -> Option<LoadFault> {
+pub fn refusal(alloc: Global, bytes: &[u8]) -> Option<LoadFault> {
     load(alloc, bytes).err()
 }
 
-fn edited(alloc: Global, image: &[u8], place: usize, byte: u8) -> Result<Vec<u8>, AllocError> {
+pub fn edited(alloc: Global, image: &[u8], place: usize, byte: u8) -> Result<Vec<u8>, AllocError> {
     let mut bytes = Vec::new(alloc);
     bytes.extend_from_slice(image)?;
     if let Some(changed) = bytes.get_mut(place) {
@@ -159,12 +159,18 @@ fn each_byte_set_to_each_value(rt: HostRuntime) -> Result<(), Fail> {
     let alloc = rt.alloc();
     assert_eq!(rt;
         count_edits(alloc, &LOOP)?,
-        [4198, 0, 1020, 510, 8160, 6562, 203, 0, 225, 1027, 23, 2, 0]
+        [4198, 0, 1020, 509, 8161, 6562, 203, 0, 225, 1027, 23, 2, 0]
     );
     assert_eq!(rt;
         count_edits(alloc, &LABEL)?,
         [
-            5904, 0, 1020, 510, 8160, 9673, 203, 5388, 463, 22, 22, 510, 0
+            5904, 0, 1020, 509, 8161, 9673, 203, 5388, 463, 22, 22, 510, 0
+        ]
+    );
+    assert_eq!(rt;
+        count_edits(alloc, &ARRAY)?,
+        [
+            8465, 0, 1020, 509, 9691, 22354, 812, 0, 1880, 54, 94, 4081, 0
         ]
     );
     Ok(())
@@ -173,7 +179,7 @@ fn each_byte_set_to_each_value(rt: HostRuntime) -> Result<(), Fail> {
 #[test]
 fn prefixes_are_short(rt: HostRuntime) -> Result<(), Fail> {
     let alloc = rt.alloc();
-    for image in [LOOP.as_slice(), LABEL.as_slice()] {
+    for image in [LOOP.as_slice(), LABEL.as_slice(), ARRAY.as_slice()] {
         for length in 0..image.len() {
             let want = if length < 56 {
                 LoadFault::Short

@@ -38,7 +38,6 @@ fn values_in_their_ranges(rt: HostRuntime) -> Result<(), Fail> {
     let small = Small {
         variables: &[[INTEGER, 1, 0, 0]],
         methods: 0,
-        arrays: 0,
         rows: &[],
     };
     let bytes = image_of(alloc, small)?;
@@ -68,7 +67,6 @@ fn sets_of_an_answer(rt: HostRuntime) -> Result<(), Fail> {
     let small = Small {
         variables: &[[INTEGER, 1, 0, 0], [UNSIGNED, 2, 0, 0]],
         methods: 0,
-        arrays: 0,
         rows: &[],
     };
     let bytes = image_of(alloc, small)?;
@@ -101,7 +99,6 @@ fn validity_by_values(rt: HostRuntime) -> Result<(), Fail> {
     let small = Small {
         variables: &[[UNSIGNED, 4, 0, 0], [INTEGER, 1, 0, 0]],
         methods: 0,
-        arrays: 0,
         rows: &[
             ([1, 6, 0, 0, 0, 0], &ABOVE_ZERO),
             ([1, 6, 0, 1, 0, 0], &BY_MODE),
@@ -223,7 +220,6 @@ fn steps_of_methods(rt: HostRuntime) -> Result<(), Fail> {
         let small = Small {
             variables: &[[UNSIGNED, 1, 0, 0]],
             methods: 1,
-            arrays: 0,
             rows: &[([5, 21, 0, 0, 0, 0], code)],
         };
         let bytes = image_of(alloc, small)?;

@@ -30,7 +30,6 @@ fn two_commands(alloc: Global) -> Result<Vec<u8>, AllocError> {
     let small = Small {
         variables: &[[INTEGER, 1, 0, 0]],
         methods: 1,
-        arrays: 0,
         rows: &[([5, 21, 0, 0, 0, 1], &TWO_COMMANDS)],
     };
     image_of(alloc, small)
@@ -218,7 +217,6 @@ fn a_device_drives(rt: HostRuntime) -> Result<(), Fail> {
     let small = Small {
         variables: &[[INTEGER, 1, 0, 0]],
         methods: 1,
-        arrays: 0,
         rows: &[([5, 21, 0, 0, 0, 1], &TWO_COMMANDS)],
     };
     let bytes = image_of(alloc, small)?;
