@@ -18,21 +18,23 @@ pub const EXPLANATIONS: [Explanation; 11] = [
     Explanation {
         number: 103,
         name: "VERSION",
-        text: r#"The version is one that this program does not know. It knows version 1.
+        text: r#"The version is one that this program does not know. It knows 1 and 2.
 "#,
     },
     Explanation {
         number: 104,
         name: "LENGTH",
         text: r#"The length that the header names is not that of the file, the sections do not end there,
-or there is too much code. A copy that was cut off looks so.
+there is too much code, or an image of version 2 has fewer than 64 bytes, so no whole
+header. A copy that was cut off looks so.
 "#,
     },
     Explanation {
         number: 105,
         name: "ROW",
-        text: r#"A row of a variable, a name, an attribute or a string is wrong: its type, size, kind or
-item does not exist, rows do not rise, or parts leave gaps.
+        text: r#"A row of a variable, a name, an attribute, an element or a string is wrong: its type,
+size, kind, item, array or variable does not exist, rows do not rise, or parts leave gaps.
+Or a zero of the header is not zero.
 "#,
     },
     Explanation {
@@ -51,7 +53,7 @@ item does not exist, rows do not rise, or parts leave gaps.
         number: 108,
         name: "INSTRUCTION",
         text: r#"The code of an attribute or a method is not a row of whole instructions that may stand in
-it.
+it. Those of arrays may stand in version 2 alone.
 "#,
     },
     Explanation {
@@ -69,7 +71,8 @@ it.
     Explanation {
         number: 111,
         name: "REFERENCE",
-        text: r#"An instruction names a variable, a string, an item or a local that does not exist.
+        text: r#"An instruction names a variable, an array, a string, an item or a local that does not
+exist.
 "#,
     },
 ];

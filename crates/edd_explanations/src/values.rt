@@ -2,7 +2,7 @@
 
 use crate::Explanation;
 
-pub const EXPLANATIONS: [Explanation; 12] = [
+pub const EXPLANATIONS: [Explanation; 13] = [
     Explanation {
         number: 201,
         name: "COUNT",
@@ -92,6 +92,17 @@ one more than the greatest number of 32 bits in a method, of 64 bits in an attri
         name: "BAD_SHIFT",
         text: r#"An expression shifted by less than 0, or by as many bits as there are or more: 32 in a
 method, 64 in an attribute.
+"#,
+    },
+    Explanation {
+        number: 213,
+        name: "NO_ELEMENT",
+        text: r#"An expression read the element of an array by a number that no element of it has, so it
+has no value. Where an attribute is shown its line says so, as MAX_VALUE fault NO_ELEMENT;
+in a method the run ends there: end trapped NO_ELEMENT.
+
+Only images of version 2 have arrays. The images that compile writes are of version 1, and
+have none.
 "#,
     },
     Explanation {
