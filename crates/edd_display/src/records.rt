@@ -4,7 +4,7 @@ use crate::fault::ShowFault;
 use crate::page::Page;
 use crate::words::{DATA_QUALIFIERS, MENU_QUALIFIERS, class_word};
 use edd_image::Record;
-use edd_syntax::numbers::{ItemNo, StrNo};
+use edd_syntax::numbers::{ItemNo, StrNo, VarNo};
 use std::fmt::Write;
 
 /// The words of the bits that are set, between parentheses; nothing where none is.
@@ -89,6 +89,27 @@ fn push_member(
     line.push('{')?;
     page.push_member(line, name)?;
     line.push(' ')?;
+    push_named(page, line, item, texts)
+}
+
+fn push_element(
+    page: &Page<'_, '_>,
+    line: &mut String,
+    number: u32,
+    variable: VarNo,
+    texts: [Option<StrNo>; 2],
+) -> Result<(), ShowFault> {
+    write!(line, "{{{number} ")?;
+    push_named(page, line, ItemNo::Variable(variable), texts)
+}
+
+// The name of an item, the label and the help where they are there, and the closing brace.
+fn push_named(
+    page: &Page<'_, '_>,
+    line: &mut String,
+    item: ItemNo,
+    texts: [Option<StrNo>; 2],
+) -> Result<(), ShowFault> {
     line.push_str(page.name(item))?;
     for text in texts {
         page.push_optional(line, text)?;
@@ -123,6 +144,12 @@ fn push_record(page: &Page<'_, '_>, line: &mut String, record: Record) -> Result
             label,
             help,
         } => push_member(page, line, name, item, [label, help]),
+        Record::Element {
+            number,
+            var,
+            label,
+            help,
+        } => push_element(page, line, number, var, [label, help]),
     }
 }
 

@@ -1,10 +1,10 @@
 //! Which row breaks the rule on rows.
 
-use crate::header::ZERO;
+use crate::header::{SECOND_ZERO, ZERO};
 use crate::sections::{RowFields, Sections, Span};
 use crate::spots::Spot;
-use edd_image::{HEADER_LENGTH, header_zero};
-use edd_syntax::numbers::Attr;
+use edd_image::{HEADER_LENGTH, extension_zero, header_zero};
+use edd_syntax::numbers::{Attr, Element};
 
 // Whether a span starts where the one before it ends, and has its zero. Moves the end there.
 fn follows(span: Span, end: &mut usize) -> bool {
@@ -76,6 +76,33 @@ fn broken_attribute_row(sections: &Sections<'_>) -> Option<Spot> {
     }
 }
 
+// Whether an element comes before another, by array and number.
+fn is_before(element: Element, next: Element) -> bool {
+    if element.array == next.array {
+        element.number < next.number
+    } else {
+        element.array.0 < next.array.0
+    }
+}
+
+fn broken_element_row(sections: &Sections<'_>) -> Option<Spot> {
+    let mut before = None;
+    for number in 0..sections.element_count() {
+        let element = sections.element(number)?;
+        let is_greater = match before {
+            Some(before) => is_before(before, element),
+            None => true,
+        };
+        let exists = sections.counts.has_array(element.array)
+            && sections.counts.has_variable(element.var);
+        if !exists || !is_greater {
+            return Some(Spot::ElementRow(number));
+        }
+        before = Some(element);
+    }
+    None
+}
+
 fn broken_string_row(sections: &Sections<'_>) -> Option<Spot> {
     let mut end = 0;
     for number in 0..sections.string_count() {
@@ -91,16 +118,27 @@ fn broken_string_row(sections: &Sections<'_>) -> Option<Spot> {
     }
 }
 
-/// The first row that breaks a rule, if one does.
+// A zero of the header that is not zero.
+fn broken_zero(bytes: &[u8]) -> Option<Spot> {
+    let number = if bytes.len() < HEADER_LENGTH || header_zero(bytes) != 0 {
+        ZERO
+    } else if extension_zero(bytes) != 0 {
+        SECOND_ZERO
+    } else {
+        return None;
+    };
+    Some(Spot::Field {
+        number,
+        readable: usize::MAX,
+    })
+}
+
+/// The first zero of the header or row that breaks a rule, if one does.
 pub fn broken_row(bytes: &[u8], sections: &Sections<'_>) -> Option<Spot> {
-    if bytes.len() < HEADER_LENGTH || header_zero(bytes) != 0 {
-        return Some(Spot::Field {
-            number: ZERO,
-            readable: usize::MAX,
-        });
-    }
-    broken_variable(sections)
+    broken_zero(bytes)
+        .or_else(|| broken_variable(sections))
         .or_else(|| broken_name_row(sections))
         .or_else(|| broken_attribute_row(sections))
+        .or_else(|| broken_element_row(sections))
         .or_else(|| broken_string_row(sections))
 }

@@ -4,7 +4,7 @@ ghost use Rattle.std.specs.Prelude.{◌≡◌, ◌≤◌, length, vec_len, IfOk}
 
 use crate::sections::{RowFields, Sections, part};
 use crate::spots::Spot;
-use edd_image::{Context, Instruction, Sort, UnitRule, Version, Way, decode};
+use edd_image::{Context, Instruction, Sort, UnitRule, Way, decode};
 use edd_syntax::numbers::Attr;
 use std::alloc::{AllocError, Global};
 
@@ -170,7 +170,7 @@ fn broken_place(
 fn context_of(sections: &Sections<'_>, row: RowFields) -> Context {
     let is_method = row.attribute == Attr::Definition.number();
     Context {
-        version: Version::One,
+        version: sections.version,
         counts: sections.counts,
         sort: if is_method {
             Sort::Method

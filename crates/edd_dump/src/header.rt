@@ -4,8 +4,9 @@ ghost use Rattle.std.specs.Prelude.{◌≡◌, ◌≤◌, length};
 
 use edd_display::{ShowFault, print};
 use edd_image::{
-    HEADER_LENGTH, attribute_rows_start, code_start, name_bytes_start, name_rows_start,
-    sections_end, string_bytes_start, string_rows_start, u16_at, u32_at,
+    HEADER_LENGTH, attribute_rows_start, code_start, element_rows_start, name_bytes_start,
+    name_rows_start, sections_end, string_bytes_start, string_rows_start, u16_at, u32_at,
+    variable_rows_start,
 };
 use std::alloc::Global;
 use std::io::Write;
@@ -25,8 +26,8 @@ pub struct Field {
     pub width: Width,
 }
 
-/// The fields by their places.
-pub const FIELDS: [Field; 18] = [
+/// The fields by their places. The last three are those of the second version alone.
+pub const FIELDS: [Field; 21] = [
     Field {
         name: "magic",
         place: 0,
@@ -117,7 +118,25 @@ pub const FIELDS: [Field; 18] = [
         place: 52,
         width: Width::Four,
     },
+    Field {
+        name: "arrays",
+        place: 56,
+        width: Width::Two,
+    },
+    Field {
+        name: "second_zero",
+        place: 58,
+        width: Width::Two,
+    },
+    Field {
+        name: "element_rows",
+        place: 60,
+        width: Width::Four,
+    },
 ];
+
+/// How many fields the first version has.
+const FIRST_FIELDS: usize = 18;
 
 /// The numbers of fields that rules are on.
 pub const MAGIC: usize = 0;
@@ -132,22 +151,26 @@ pub const ATTRIBUTE_ROWS: usize = 14;
 
 pub const CODE: usize = 16;
 
+pub const SECOND_ZERO: usize = 19;
+
 /// The sections in their order.
 #[derive(Clone, Copy, PartialEq, Eq)]
 pub enum Section {
     VariableRows,
     NameRows,
     AttributeRows,
+    ElementRows,
     Code,
     StringRows,
     NameBytes,
     StringBytes,
 }
 
-const SECTIONS: [(Section, &str); 7] = [
+const SECTIONS: [(Section, &str); 8] = [
     (Section::VariableRows, "variable_rows"),
     (Section::NameRows, "name_rows"),
     (Section::AttributeRows, "attribute_rows"),
+    (Section::ElementRows, "element_rows"),
     (Section::Code, "code"),
     (Section::StringRows, "string_rows"),
     (Section::NameBytes, "name_bytes"),
@@ -160,9 +183,10 @@ pub fn bounds(bytes: &[u8], section: Section) -> (usize, usize) {
         return (0, 0);
     }
     match section {
-        Section::VariableRows => (HEADER_LENGTH, name_rows_start(bytes)),
+        Section::VariableRows => (variable_rows_start(bytes), name_rows_start(bytes)),
         Section::NameRows => (name_rows_start(bytes), attribute_rows_start(bytes)),
-        Section::AttributeRows => (attribute_rows_start(bytes), code_start(bytes)),
+        Section::AttributeRows => (attribute_rows_start(bytes), element_rows_start(bytes)),
+        Section::ElementRows => (element_rows_start(bytes), code_start(bytes)),
         Section::Code => (code_start(bytes), string_rows_start(bytes)),
         Section::StringRows => (string_rows_start(bytes), name_bytes_start(bytes)),
         Section::NameBytes => (name_bytes_start(bytes), string_bytes_start(bytes)),
@@ -170,10 +194,25 @@ pub fn bounds(bytes: &[u8], section: Section) -> (usize, usize) {
     }
 }
 
+// Whether the header is that of the second version.
+fn is_second(bytes: &[u8]) -> bool {
+    6 <= bytes.len() && u16_at(bytes, 4) == 2
+}
+
+/// How many fields the header has.
+pub fn field_count(bytes: &[u8]) -> usize {
+    if is_second(bytes) {
+        FIELDS.len()
+    } else {
+        FIRST_FIELDS
+    }
+}
+
 /// How many fields of the header are there as a whole, from the first one on.
 pub fn whole_fields(bytes: &[u8]) -> usize {
     FIELDS
         .iter()
+        .take(field_count(bytes))
         .filter(|field| number_of(bytes, **field).is_some())
         .count()
 }
@@ -220,7 +259,7 @@ pub fn print_header<W: Write>(
     count: usize,
     out: &mut W,
 ) -> Result<(), ShowFault> {
-    for field in FIELDS.iter().take(count) {
+    for field in FIELDS.iter().take(count.min(field_count(bytes))) {
         if let Some(number) = number_of(bytes, *field) {
             print_field(alloc, *field, number, out)?;
         }
@@ -228,9 +267,17 @@ pub fn print_header<W: Write>(
     Ok(())
 }
 
+// The first version has no element rows.
+fn has_section(bytes: &[u8], section: Section) -> bool {
+    section != Section::ElementRows || is_second(bytes)
+}
+
 /// Prints where each section starts and how many bytes it has.
 pub fn print_sections<W: Write>(alloc: Global, bytes: &[u8], out: &mut W) -> Result<(), ShowFault> {
     for (section, name) in SECTIONS {
+        if !has_section(bytes, section) {
+            continue;
+        }
         let (start, end) = bounds(bytes, section);
         let length = end.saturating_sub(start);
         print(alloc, out, format_args!("section {name} {start} {length}"))?;

@@ -51,6 +51,7 @@ fn word_of(instruction: Instruction) -> &'static str {
         Instruction::SetLocal(_) => "SetLocal",
         Instruction::Pop => "Pop",
         Instruction::Duplicate => "Duplicate",
+        Instruction::ReadElement(_) => "ReadElement",
         Instruction::Operate(operator) => operator_word(operator),
         Instruction::Compare(comparison) => comparison_word(comparison),
         Instruction::Negate => "Negate",
@@ -68,6 +69,7 @@ fn word_of(instruction: Instruction) -> &'static str {
         Instruction::Enumerator { .. } => "Enumerator",
         Instruction::Response { .. } => "Response",
         Instruction::Member { .. } => "Member",
+        Instruction::Element { .. } => "Element",
         Instruction::Ask(_) => "Ask",
         Instruction::Abort => "Abort",
     }
@@ -87,23 +89,23 @@ fn function_of(ask: Ask) -> Builtin {
 }
 
 impl Page<'_, '_> {
-    // A blank, the number of a variable and its name.
-    fn push_variable(&self, line: &mut String, variable: VarNo) -> Result<(), ShowFault> {
-        let name = self.sections.name(ItemNo::Variable(variable));
-        write!(line, " {}", variable.0)?;
-        if let Some(name) = name {
+    // A blank, the number of an item and its name, where there is such an item.
+    fn push_number(&self, line: &mut String, item: ItemNo) -> Result<(), ShowFault> {
+        write!(line, " {}", item.index())?;
+        if let Some(name) = self.sections.name(item) {
             write!(line, " {name}")?;
         }
         Ok(())
     }
 
+    fn push_variable(&self, line: &mut String, variable: VarNo) -> Result<(), ShowFault> {
+        self.push_number(line, ItemNo::Variable(variable))
+    }
+
     // A blank, the kind of an item, its number and its name.
     fn push_item(&self, line: &mut String, item: ItemNo) -> Result<(), ShowFault> {
-        write!(line, " {} {}", item.kind().word(), item.index())?;
-        if let Some(name) = self.sections.name(item) {
-            write!(line, " {name}")?;
-        }
-        Ok(())
+        write!(line, " {}", item.kind().word())?;
+        self.push_number(line, item)
     }
 
     fn push_texts(
@@ -152,6 +154,33 @@ impl Page<'_, '_> {
         }
     }
 
+    // The operands of a member or an element.
+    fn push_member(&self, line: &mut String, instruction: Instruction) -> Result<(), ShowFault> {
+        match instruction {
+            Instruction::Member {
+                name,
+                item,
+                label,
+                help,
+            } => {
+                self.excerpts.push(line, name)?;
+                self.push_item(line, item)?;
+                self.push_texts(line, [(" label", label), (" help", help)])
+            }
+            Instruction::Element {
+                number,
+                var,
+                label,
+                help,
+            } => {
+                write!(line, " {number}")?;
+                self.push_item(line, ItemNo::Variable(var))?;
+                self.push_texts(line, [(" label", label), (" help", help)])
+            }
+            _ => Ok(()),
+        }
+    }
+
     fn push_record(&self, line: &mut String, instruction: Instruction) -> Result<(), ShowFault> {
         match instruction {
             Instruction::Text(text) => self.excerpts.push(line, text),
@@ -174,17 +203,7 @@ impl Page<'_, '_> {
                 write!(line, " {number} {}", class_word(class))?;
                 self.excerpts.push(line, text)
             }
-            Instruction::Member {
-                name,
-                item,
-                label,
-                help,
-            } => {
-                self.excerpts.push(line, name)?;
-                self.push_item(line, item)?;
-                self.push_texts(line, [(" label", label), (" help", help)])
-            }
-            _ => Ok(()),
+            other => self.push_member(line, other),
         }
     }
 
@@ -200,6 +219,7 @@ impl Page<'_, '_> {
             Instruction::Variable(variable) | Instruction::Store(variable) => {
                 self.push_variable(line, variable)
             }
+            Instruction::ReadElement(array) => self.push_number(line, ItemNo::Array(array)),
             Instruction::GetLocal(slot) | Instruction::SetLocal(slot) => {
                 Ok(write!(line, " {slot}")?)
             }

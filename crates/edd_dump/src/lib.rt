@@ -1,5 +1,5 @@
-//! An image laid open: its header, items, strings, attribute rows and instructions, and of bytes
-//! that are no image what stands before their fault, and where that is.
+//! An image laid open: its header, items, elements of arrays, strings, attribute rows and
+//! instructions, and of bytes that are no image what stands before their fault, and where that is.
 #![tactic(auto)]
 
 ghost use Rattle.std.specs.Prelude.{IfOk, MatchOption, IfSome};
@@ -9,6 +9,7 @@ ghost use Rattle.edd_loader.specs.Faults.{rule_of};
 mod broken_rows;
 mod broken_strings;
 mod broken_units;
+mod elements;
 mod excerpts;
 mod header;
 mod instructions;
@@ -55,6 +56,7 @@ fn print_whole<W: Write>(alloc: Global, bytes: &[u8], out: &mut W) -> Result<(),
     header::print_header(alloc, bytes, header::FIELDS.len(), out)?;
     header::print_sections(alloc, bytes, out)?;
     items::print_items(alloc, &sections, sections.item_count(), out)?;
+    elements::print_elements(alloc, &sections, sections.element_count(), out)?;
     strings::print_strings(alloc, &sections, sections.string_count(), out)?;
     rows::print_units(alloc, &sections, out)
 }
@@ -103,6 +105,20 @@ fn print_behind_items<W: Write>(
     items::print_items(alloc, sections, sections.item_count(), out)?;
     match spot {
         Spot::Row(number) => rows::print_rows(alloc, sections, number, out),
+        Spot::ElementRow(number) => elements::print_elements(alloc, sections, number, out),
+        _ => print_behind_elements(alloc, sections, spot, out),
+    }
+}
+
+// All elements, and what stands behind them before the fault.
+fn print_behind_elements<W: Write>(
+    alloc: Global,
+    sections: &Sections<'_>,
+    spot: Spot,
+    out: &mut W,
+) -> Result<(), ShowFault> {
+    elements::print_elements(alloc, sections, sections.element_count(), out)?;
+    match spot {
         Spot::StringRow(number) | Spot::String(number) => {
             strings::print_strings(alloc, sections, number, out)
         }

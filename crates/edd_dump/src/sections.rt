@@ -3,14 +3,15 @@
 ghost use Rattle.std.specs.Prelude.{◌≡◌, ◌≤◌, IfSome, length};
 
 use edd_image::{
-    ATTRIBUTE_ROW, Counts, HEADER_LENGTH, NAME_ROW, STRING_ROW, VARIABLE_ROW, VarKind,
-    attribute_item, attribute_kind, attribute_length, attribute_number, attribute_rows_start,
-    attribute_start, attribute_sub, attribute_zero, code_start, counts, name_bytes_start,
+    ATTRIBUTE_ROW, Counts, ELEMENT_ROW, HEADER_LENGTH, NAME_ROW, STRING_ROW, VARIABLE_ROW, VarKind,
+    Version, attribute_item, attribute_kind, attribute_length, attribute_number,
+    attribute_rows_start, attribute_start, attribute_sub, attribute_zero, code_start, counts,
+    element_array, element_number, element_rows_start, element_variable, name_bytes_start,
     name_length, name_rows_start, name_start, name_zero, sections_end, string_bytes_start,
-    string_length, string_rows_start, string_start, type_of, variable_size, variable_type,
-    variable_zero,
+    string_length, string_rows_start, string_start, type_of, variable_rows_start, variable_size,
+    variable_type, variable_zero, version,
 };
-use edd_syntax::numbers::{Attr, ItemNo};
+use edd_syntax::numbers::{ArrNo, Attr, Element, ItemNo, VarNo};
 
 /// How many bytes a name has at most.
 const LONGEST_NAME: usize = 255;
@@ -18,10 +19,12 @@ const LONGEST_NAME: usize = 255;
 /// The sections, each as its bytes.
 #[derive(Clone, Copy)]
 pub struct Sections<'a> {
+    pub version: Version,
     pub counts: Counts,
     pub variable_rows: &'a [u8],
     pub name_rows: &'a [u8],
     pub attribute_rows: &'a [u8],
+    pub element_rows: &'a [u8],
     pub code: &'a [u8],
     pub string_rows: &'a [u8],
     pub names: &'a [u8],
@@ -110,6 +113,16 @@ fn fields(row: &[u8]) -> RowFields
     }
 }
 
+fn element(row: &[u8]) -> Element
+    requires { ELEMENT_ROW ≤ length row.now }
+{
+    Element {
+        array: ArrNo(element_array(row, 0)),
+        number: element_number(row, 0),
+        var: VarNo(element_variable(row, 0)),
+    }
+}
+
 fn variable_fields(row: &[u8]) -> VariableFields
     requires { VARIABLE_ROW ≤ length row.now }
 {
@@ -127,22 +140,27 @@ pub fn part(section: &[u8], span: Span) -> Option<&[u8]> {
 }
 
 impl<'a> Sections<'a> {
-    /// The sections, where there is a whole header and they lie inside the bytes.
+    /// The sections, where there is a whole header of a known version and they lie inside the
+    /// bytes.
     pub fn of(bytes: &'a [u8]) -> Option<Sections<'a>> {
         if bytes.len() < HEADER_LENGTH {
             return None;
         }
+        let variables = variable_rows_start(bytes);
         let names = name_rows_start(bytes);
         let attributes = attribute_rows_start(bytes);
+        let elements = element_rows_start(bytes);
         let code = code_start(bytes);
         let strings = string_rows_start(bytes);
         let name_bytes = name_bytes_start(bytes);
         let string_bytes = string_bytes_start(bytes);
         Some(Sections {
+            version: version(bytes)?,
             counts: counts(bytes),
-            variable_rows: between(bytes, HEADER_LENGTH, names)?,
+            variable_rows: between(bytes, variables, names)?,
             name_rows: between(bytes, names, attributes)?,
-            attribute_rows: between(bytes, attributes, code)?,
+            attribute_rows: between(bytes, attributes, elements)?,
+            element_rows: between(bytes, elements, code)?,
             code: between(bytes, code, strings)?,
             string_rows: between(bytes, strings, name_bytes)?,
             names: between(bytes, name_bytes, string_bytes)?,
@@ -156,6 +174,10 @@ impl<'a> Sections<'a> {
 
     pub fn row_count(&self) -> usize {
         self.attribute_rows.len() / ATTRIBUTE_ROW
+    }
+
+    pub fn element_count(&self) -> usize {
+        self.element_rows.len() / ELEMENT_ROW
     }
 
     pub fn string_count(&self) -> usize {
@@ -222,6 +244,11 @@ impl<'a> Sections<'a> {
     /// The fields of an attribute row.
     pub fn row(&self, number: usize) -> Option<RowFields> {
         Some(fields(row_at(self.attribute_rows, ATTRIBUTE_ROW, number)?))
+    }
+
+    /// The fields of an element row, whether or not there are such an array and such a variable.
+    pub fn element(&self, number: usize) -> Option<Element> {
+        Some(element(row_at(self.element_rows, ELEMENT_ROW, number)?))
     }
 
     /// Where a string stands.

@@ -3,16 +3,18 @@
 use crate::broken_rows::broken_row;
 use crate::broken_strings::{broken_name, broken_string};
 use crate::broken_units::broken_instruction;
+use crate::elements::push_element_fields;
 use crate::excerpts::Excerpts;
 use crate::header::{
-    ATTRIBUTE_ROWS, CODE, FIELDS, LENGTH, MAGIC, Section, VERSION, bounds, whole_fields,
+    ATTRIBUTE_ROWS, CODE, FIELDS, LENGTH, MAGIC, Section, VERSION, bounds, field_count,
+    whole_fields,
 };
 use crate::instructions::Page;
 use crate::sections::{Sections, part};
 use edd_display::{ShowFault, print};
 use edd_image::{
-    ATTRIBUTE_ROW, CODE_LIMIT, HEADER_LENGTH, NAME_ROW, STRING_ROW, UnitRule, VARIABLE_ROW,
-    code_length, decode, total_length,
+    ATTRIBUTE_ROW, CODE_LIMIT, ELEMENT_ROW, HEADER_LENGTH, NAME_ROW, STRING_ROW, UnitRule,
+    VARIABLE_ROW, code_length, decode, total_length,
 };
 use edd_loader::LoadFault;
 use std::alloc::{AllocError, Global};
@@ -23,12 +25,14 @@ use std::io::Write;
 /// their section.
 #[derive(Clone, Copy)]
 pub enum Spot {
-    /// A field of the header, of which so many fields can be read.
+    /// A field of the header, of which so many fields can be read. Where this one is not among
+    /// them, the bytes end too early.
     Field { number: usize, readable: usize },
     Variable(usize),
     /// Items by kind and number.
     NameRow(usize),
     Row(usize),
+    ElementRow(usize),
     StringRow(usize),
     Name(usize),
     String(usize),
@@ -37,8 +41,12 @@ pub enum Spot {
 }
 
 // Which of the lengths in the header is wrong: that of the whole, those of the sections, or that of
-// the code.
+// the code. Of a header that is not whole it is the first field that is missing.
 fn wrong_length(bytes: &[u8]) -> usize {
+    let whole = whole_fields(bytes);
+    if whole < field_count(bytes) {
+        return whole;
+    }
     if bytes.len() < HEADER_LENGTH || total_length(bytes) as usize != bytes.len() {
         return LENGTH;
     }
@@ -91,9 +99,10 @@ fn print_field<W: Write>(
     alloc: Global,
     bytes: &[u8],
     number: usize,
+    readable: usize,
     out: &mut W,
 ) -> Result<(), ShowFault> {
-    if bytes.len() < HEADER_LENGTH {
+    if readable <= number {
         return print(alloc, out, format_args!("fault {} header", bytes.len()));
     }
     match FIELDS.get(number) {
@@ -129,6 +138,11 @@ fn push_fields(sections: &Sections<'_>, line: &mut String, spot: Spot) -> Result
                 write!(line, " start {} length {}", row.unit.start, row.unit.length)?;
             }
         }
+        Spot::ElementRow(number) => {
+            if let Some(element) = sections.element(number) {
+                push_element_fields(line, element)?;
+            }
+        }
         Spot::StringRow(number) | Spot::String(number) => {
             if let Some(span) = sections.string_span(number) {
                 write!(line, " start {} length {}", span.start, span.length)?;
@@ -149,25 +163,35 @@ fn row_place(bytes: &[u8], section: Section, width: usize, number: usize) -> usi
     start_of(bytes, section).saturating_add(width.saturating_mul(number))
 }
 
-// The place in the image, and what is there.
-fn place_of(bytes: &[u8], sections: &Sections<'_>, spot: Spot) -> (usize, &'static str, usize) {
+// The section of a row, how many bytes one has, its word and its number.
+fn row_of(spot: Spot) -> Option<(Section, usize, &'static str, usize)> {
     match spot {
         Spot::Variable(number) => {
-            let place = row_place(bytes, Section::VariableRows, VARIABLE_ROW, number);
-            (place, "variable_row", number)
+            Some((Section::VariableRows, VARIABLE_ROW, "variable_row", number))
         }
-        Spot::NameRow(number) => {
-            let place = row_place(bytes, Section::NameRows, NAME_ROW, number);
-            (place, "name_row", number)
-        }
+        Spot::NameRow(number) => Some((Section::NameRows, NAME_ROW, "name_row", number)),
         Spot::Row(number) => {
-            let place = row_place(bytes, Section::AttributeRows, ATTRIBUTE_ROW, number);
-            (place, "attribute_row", number)
+            Some((
+                Section::AttributeRows,
+                ATTRIBUTE_ROW,
+                "attribute_row",
+                number,
+            ))
         }
-        Spot::StringRow(number) => {
-            let place = row_place(bytes, Section::StringRows, STRING_ROW, number);
-            (place, "string_row", number)
+        Spot::ElementRow(number) => {
+            Some((Section::ElementRows, ELEMENT_ROW, "element_row", number))
         }
+        Spot::StringRow(number) => Some((Section::StringRows, STRING_ROW, "string_row", number)),
+        _ => None,
+    }
+}
+
+// The place in the image, and what is there.
+fn place_of(bytes: &[u8], sections: &Sections<'_>, spot: Spot) -> (usize, &'static str, usize) {
+    if let Some((section, width, word, number)) = row_of(spot) {
+        return (row_place(bytes, section, width, number), word, number);
+    }
+    match spot {
         Spot::Name(number) => {
             let start = sections.name_span(number).map_or(0, |span| span.start);
             let place = start_of(bytes, Section::NameBytes).saturating_add(start);
@@ -183,7 +207,7 @@ fn place_of(bytes: &[u8], sections: &Sections<'_>, spot: Spot) -> (usize, &'stat
             let code = start_of(bytes, Section::Code);
             (code.saturating_add(start).saturating_add(place), "row", row)
         }
-        Spot::Field { number, .. } => (0, "header", number),
+        _ => (0, "header", 0),
     }
 }
 
@@ -223,8 +247,8 @@ pub fn print_spot<W: Write>(
     spot: Spot,
     out: &mut W,
 ) -> Result<(), ShowFault> {
-    if let Spot::Field { number, .. } = spot {
-        return print_field(alloc, bytes, number, out);
+    if let Spot::Field { number, readable } = spot {
+        return print_field(alloc, bytes, number, readable, out);
     }
     let Some(sections) = Sections::of(bytes) else {
         return Ok(());
