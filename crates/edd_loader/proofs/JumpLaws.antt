@@ -16,6 +16,7 @@ jump_is_to (instructions.GetLocal slot) = refl
 jump_is_to (instructions.SetLocal slot) = refl
 jump_is_to instructions.Pop = refl
 jump_is_to instructions.Duplicate = refl
+jump_is_to (instructions.ReadElement array) = refl
 jump_is_to (instructions.Operate op) = refl
 jump_is_to (instructions.Compare op) = refl
 jump_is_to instructions.Negate = refl
@@ -33,6 +34,7 @@ jump_is_to (instructions.DataVar v mask quals) = refl
 jump_is_to (instructions.Enumerator n text help) = refl
 jump_is_to (instructions.Response n class text) = refl
 jump_is_to (instructions.Member name item label help) = refl
+jump_is_to (instructions.Element n v label help) = refl
 jump_is_to (instructions.Ask request) = refl
 jump_is_to instructions.Abort = refl
 

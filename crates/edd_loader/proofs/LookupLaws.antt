@@ -15,17 +15,18 @@ use Rattle.edd_syntax.specs.Names.{begins_name, goes_on_name, is_name, is_within
 use Rattle.edd_image.specs.declared.parts.Counts.{Counts}
 use Rattle.edd_image.specs.declared.rules.Rule.TheVariants as rule
 use Rattle.edd_image.specs.Layout.{item_count, type_code}
-use Rattle.edd_image.specs.Fields.{counts_in, names_length, name_rows_start, name_bytes_start, name_start, name_length, variable_type, variable_size, strings_length, string_rows_start, string_bytes_start, string_start, string_length}
+use Rattle.edd_image.specs.Fields.{counts_in, names_length, variable_rows_start, name_rows_start, name_bytes_start, name_start, name_length, variable_type, variable_size, strings_length, string_rows_start, string_bytes_start, string_start, string_length}
 use Rattle.edd_image.specs.Contents.{Span, part, NameFields, VariableFields, rows_from, variable_fields, name_fields, string_fields, contents_in, fields_of_variable}
 use Rattle.edd_image.specs.Agreement.{name_numbered, place_of_item}
 use Rattle.edd_image.specs.References.{item_exists}
-use Rattle.edd_image.specs.Validity.{IsValid, type_of, is_variable_row, are_variable_rows, are_name_rows, are_attribute_rows, are_string_rows}
+use Rattle.edd_image.specs.Validity.{IsValid, type_of, is_variable_row}
 use Rattle.edd_image.specs.Strings.{is_string}
 use Rattle.edd_loader.specs.Lookups.{name_in_row, string_in_row, IsFirstNamed}
 use Rattle.edd_loader.specs.Sections.{lies_within}
+use Rattle.edd_loader.proofs.RowRules.{row_rules}
 use Rattle.edd_loader.proofs.RowTurns.{span_inside}
 use Rattle.edd_loader.proofs.RuleOrder.{valid_sections}
-use Rattle.edd_loader.proofs.Spaces.{rooms, spans, part_length}
+use Rattle.edd_loader.proofs.Spaces.{rooms, spans}
 
 -- ---- rows by number
 
@@ -242,29 +243,26 @@ first_named b item name place at before other named =
 -- ---- variables by number
 
 pub variable_row_at : (b : List ℕ) (n : ℕ) → n < (counts_in b).variables
-    → slice_get (contents_in b).variables n ≡ Some (variable_fields b (56 + 4 * n))
+    → slice_get (contents_in b).variables n ≡ Some (variable_fields b (variable_rows_start b + 4 * n))
 unfolding contents_in
-variable_row_at b n h = row_get (variable_fields b) 4 (counts_in b).variables 56 n h
+variable_row_at b n h = row_get (variable_fields b) 4 (counts_in b).variables (variable_rows_start b) n h
 
 variable_row_valid : (b : List ℕ) (n : ℕ) → IsValid b → n < (counts_in b).variables
-    → is_variable_row (variable_fields b (56 + 4 * n)) ≡ true
+    → is_variable_row (variable_fields b (variable_rows_start b + 4 * n)) ≡ true
 variable_row_valid b n valid h =
     let c = contents_in b in
-    let zero_first = and_parts (nat_eq c.padding 0) (are_variable_rows c
-    && (are_name_rows c && (are_attribute_rows c && are_string_rows c))) (valid rule.Row) in
-    let variables_first = and_parts (are_variable_rows c)
-    (are_name_rows c && (are_attribute_rows c && are_string_rows c)) zero_first.1 in
-    all_at is_variable_row c.variables n _ variables_first.0 (variable_row_at b n h)
+    all_at is_variable_row c.variables n _ (row_rules c (valid rule.Row)).variables
+    (variable_row_at b n h)
 
-pub typed : (b : List ℕ) (n t : ℕ) → IsValid b → n < (counts_in b).variables
-    → t ≡ variable_type b (56 + 4 * n) → type_of t ≡ None → ⊥
-typed b n t valid h e none =
-    let row = variable_fields b (56 + 4 * n) in
+pub typed : (b : List ℕ) (n t start : ℕ) → IsValid b → n < (counts_in b).variables
+    → start ≡ variable_rows_start b → t ≡ variable_type b (start + 4 * n) → type_of t ≡ None → ⊥
+typed b n t start valid h at e none =
+    let row = variable_fields b (variable_rows_start b + 4 * n) in
     let some : is_some (type_of row.type_number) ≡ true =
     (and_parts (is_some (type_of row.type_number)) (is_within 1 4 row.size
     && nat_eq row.padding 0) (variable_row_valid b n valid h)).0 in
     let nothing : is_some (type_of row.type_number) ≡ false = ap (λ (k : ℕ). is_some (type_of k))
-    (sym e) ∙ ap is_some none in
+    (sym (e ∙ ap (λ (k : ℕ). variable_type b (k + 4 * n)) at)) ∙ ap is_some none in
     let contradiction : true ≡ false = sym some ∙ nothing in
     cc
 
@@ -293,19 +291,23 @@ same_fields : (t u s z p q : ℕ) → t ≡ u → s ≡ z → p ≡ q
     ≡ record { type_number = u; size = z; padding = q }
 same_fields t u s z p q e f g = rw (e, f, g) refl
 
-pub kind_is : (b : List ℕ) (n t size : ℕ) (v : VarType) → IsValid b → n < (counts_in b).variables
-    → t ≡ variable_type b (56 + 4 * n) → type_of t ≡ Some v → size ≡ variable_size b (56 + 4 * n)
+pub kind_is : (b : List ℕ) (n t size start : ℕ) (v : VarType) → IsValid b
+    → n < (counts_in b).variables → start ≡ variable_rows_start b
+    → t ≡ variable_type b (start + 4 * n) → type_of t ≡ Some v
+    → size ≡ variable_size b (start + 4 * n)
     → slice_get (contents_in b).variables n
     ≡ Some (fields_of_variable (record { var_type = v; size = size }))
-kind_is b n t size v valid h e f g =
-    let row = variable_fields b (56 + 4 * n) in
+kind_is b n t size start v valid h at e f g =
+    let row = variable_fields b (variable_rows_start b + 4 * n) in
     let parts = and_parts (is_some (type_of row.type_number)) (is_within 1 4 row.size
     && nat_eq row.padding 0) (variable_row_valid b n valid h) in
     let none : row.padding ≡ 0 =
     eqb-true row.padding 0 (and_parts (is_within 1 4 row.size) (nat_eq row.padding 0) parts.1).1
     in
-    let code : row.type_number ≡ type_code v = sym e ∙ type_again t v f in
-    variable_row_at b n h ∙ ap Some (same_fields _ _ _ _ _ _ code (sym g) none)
+    let code : row.type_number ≡ type_code v =
+    sym (e ∙ ap (λ (k : ℕ). variable_type b (k + 4 * n)) at) ∙ type_again t v f in
+    variable_row_at b n h ∙ ap Some (same_fields _ _ _ _ _ _ code
+    (sym (g ∙ ap (λ (k : ℕ). variable_size b (k + 4 * n)) at)) none)
 
 -- ---- strings by number
 

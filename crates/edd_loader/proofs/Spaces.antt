@@ -4,32 +4,35 @@ use Rattle.std.specs.List.{list_all}
 use Rattle.std.proofs.lemmas.Bool.{and_parts, le-leb, eqb-true}
 use Rattle.edd_image.specs.declared.parts.Counts.{Counts}
 use Rattle.edd_image.specs.Layout.{item_count}
-use Rattle.edd_image.specs.Fields.{counts_in, attribute_count, names_length, code_length, strings_length, name_rows_start, attribute_rows_start, code_start, string_rows_start, name_bytes_start, string_bytes_start, sections_end}
-use Rattle.edd_image.specs.Contents.{Span, part, NameFields, AttributeFields, rows_from, variable_fields, name_fields, attribute_fields, string_fields, contents_in}
-use Rattle.edd_image.specs.Validity.{fills, rise, is_variable_row, is_attribute_row, are_variable_rows, are_name_rows, are_attribute_rows, are_string_rows, are_rows, are_names, are_strings}
+use Rattle.edd_image.specs.Fields.{counts_in, attribute_count, element_count, names_length, code_length, strings_length, variable_rows_start, name_rows_start, attribute_rows_start, element_rows_start, code_start, string_rows_start, name_bytes_start, string_bytes_start, sections_end}
+use Rattle.edd_image.specs.Contents.{Span, part, NameFields, AttributeFields, rows_from, variable_fields, name_fields, attribute_fields, element_fields, string_fields, contents_in}
+use Rattle.edd_image.specs.Validity.{fills, rise, elements_rise, is_variable_row, is_attribute_row, is_element_row, are_variable_rows, are_name_rows, are_attribute_rows, are_element_rows, are_string_rows, are_rows, are_names, are_strings}
 use Rattle.edd_syntax.specs.Names.{is_name}
 use Rattle.edd_image.specs.Strings.{is_string}
 use Rattle.edd_loader.specs.Sections.{AreSectionsOf, lies_within}
+use Rattle.edd_loader.proofs.RowRules.{row_rules}
 
 -- each section ends inside the bytes
 pub record Rooms (b : List ℕ) : Type 0 where
-  pub variables : 56 + 4 * (counts_in b).variables ≤ length b
+  pub variables : variable_rows_start b + 4 * (counts_in b).variables ≤ length b
   pub names : name_rows_start b + 8 * item_count (counts_in b) ≤ length b
   pub attributes : attribute_rows_start b + 16 * attribute_count b ≤ length b
+  pub elements : element_rows_start b + 8 * element_count b ≤ length b
   pub code : code_start b + code_length b ≤ length b
   pub strings : string_rows_start b + 8 * (counts_in b).strings ≤ length b
   pub name_bytes : name_bytes_start b + names_length b ≤ length b
   pub string_bytes : string_bytes_start b + strings_length b ≤ length b
 
 pub rooms : (b : List ℕ) → AreSectionsOf b → Rooms b
-unfolding name_rows_start attribute_rows_start code_start string_rows_start name_bytes_start
-    string_bytes_start sections_end
+unfolding name_rows_start attribute_rows_start element_rows_start code_start string_rows_start
+    name_bytes_start string_bytes_start sections_end
 rooms b s =
     let filled = s.filled in
     record {
       variables = omega arith;
       names = omega arith;
       attributes = omega arith;
+      elements = omega arith;
       code = omega arith;
       strings = omega arith;
       name_bytes = omega arith;
@@ -42,11 +45,12 @@ part_length start size b inside = omega (arith, length-take {A = ℕ}, length-dr
 
 -- ---- the rows of the contents
 
-pub variable_rows_are : (b : List ℕ) (count : ℕ) → count ≡ (counts_in b).variables
-    → list_all is_variable_row (rows_from (variable_fields b) 4 count 56)
+pub variable_rows_are : (b : List ℕ) (start count : ℕ) → start ≡ variable_rows_start b
+    → count ≡ (counts_in b).variables
+    → list_all is_variable_row (rows_from (variable_fields b) 4 count start)
     ≡ are_variable_rows (contents_in b)
 unfolding contents_in
-variable_rows_are b count e = rw e refl
+variable_rows_are b start count e f = rw (e, f) refl
 
 pub name_rows_are : (b : List ℕ) (start count end : ℕ) → AreSectionsOf b → start ≡ name_rows_start b
     → count ≡ item_count (counts_in b) → end ≡ names_length b
@@ -69,6 +73,14 @@ unfolding contents_in
 attribute_rows_are b counts start count end s c e f g =
     let long = part_length (code_start b) (code_length b) b (rooms b s).code in
     rw (c, e, f, g, long) refl
+
+pub element_rows_are : (b : List ℕ) (counts : Counts) (start count : ℕ) → counts ≡ counts_in b
+    → start ≡ element_rows_start b → count ≡ element_count b
+    → (list_all (is_element_row counts) (rows_from (element_fields b) 8 count start)
+    && elements_rise (rows_from (element_fields b) 8 count start))
+    ≡ are_element_rows (contents_in b)
+unfolding contents_in
+element_rows_are b counts start count c e f = rw (c, e, f) refl
 
 pub string_rows_are : (b : List ℕ) (start count end : ℕ) → AreSectionsOf b
     → start ≡ string_rows_start b → count ≡ (counts_in b).strings → end ≡ strings_length b
@@ -115,13 +127,7 @@ pub spans : (b : List ℕ) → AreSectionsOf b → are_rows (contents_in b) ≡ 
 unfolding contents_in
 spans b s h =
     let c = contents_in b in
-    let zero_first = and_parts (nat_eq c.padding 0) (are_variable_rows c
-    && (are_name_rows c && (are_attribute_rows c && are_string_rows c))) h in
-    let variables_first = and_parts (are_variable_rows c)
-    (are_name_rows c && (are_attribute_rows c && are_string_rows c)) zero_first.1 in
-    let names_first = and_parts (are_name_rows c) (are_attribute_rows c && are_string_rows c)
-    variables_first.1 in
-    let attributes_first = and_parts (are_attribute_rows c) (are_string_rows c) names_first.1 in
+    let rules = row_rules c h in
     let long_names = part_length (name_bytes_start b) (names_length b) b (rooms b s).name_bytes in
     let long_code = part_length (code_start b) (code_length b) b (rooms b s).code in
     let long_strings = part_length (string_bytes_start b) (strings_length b) b
@@ -132,13 +138,13 @@ spans b s h =
     let string_rows = rows_from (string_fields b) 8 (counts_in b).strings (string_rows_start b) in
     let name_fill : fills 0 (map (λ r. r.span) name_rows) (names_length b) ≡ true =
     rw long_names at (and_parts (list_all (λ r. nat_eq r.padding 0) name_rows) _
-    names_first.0).1 in
+    rules.names).1 in
     let unit_fill : fills 0 (map (λ r. r.span) unit_rows) (code_length b) ≡ true =
     rw long_code at (and_parts (rise unit_rows) _
-    (and_parts (list_all (is_attribute_row (counts_in b)) unit_rows) _ attributes_first.0).1).1
+    (and_parts (list_all (is_attribute_row (counts_in b)) unit_rows) _ rules.attributes).1).1
     in
     let string_fill : fills 0 string_rows (strings_length b) ≡ true =
-    rw long_strings at attributes_first.1 in
+    rw long_strings at rules.strings in
     record {
       names = sym (all_mapped (λ (r : NameFields). r.span) (lies_within (names_length b)) name_rows)
           ∙ fills_within 0 (names_length b) (map (λ r. r.span) name_rows) name_fill;

@@ -1,5 +1,5 @@
 -- The types of the variables of a valid image, by number.
-use Rattle.std.proofs.Common.{◌≡◌, ℕ, zero, suc, ◌+◌, ◌≤◌, true, ◌&&◌, nat_eq, List, [], ◌∷◌, length, Option, Some, None, refl, sym, ap, ◌∙◌, arith}
+use Rattle.std.proofs.Common.{◌≡◌, ℕ, zero, suc, ◌+◌, ◌≤◌, true, List, [], ◌∷◌, length, Option, Some, None, refl, sym, ap, ◌∙◌, arith}
 use Rattle.std.specs.Prelude.{option_map, is_some}
 use Rattle.std.specs.List.{filter_map, list_all, slice_get}
 use Rattle.std.proofs.lemmas.Bool.{and_parts}
@@ -13,8 +13,9 @@ use Rattle.edd_image.specs.Fields.{counts_in}
 use Rattle.edd_image.specs.Layout.{type_code}
 use Rattle.edd_image.specs.Contents.{VariableFields, rows_from, contents_in, fields_of_variable}
 use Rattle.edd_image.specs.Reading.{variable_type_of, environment_of}
-use Rattle.edd_image.specs.Validity.{IsValid, type_of, is_variable_row, are_variable_rows, are_name_rows, are_attribute_rows, are_string_rows}
+use Rattle.edd_image.specs.Validity.{IsValid, type_of, is_variable_row}
 use Rattle.edd_loader.specs.Lookups.{type_of_kind}
+use Rattle.edd_loader.proofs.RowRules.{row_rules}
 
 -- ---- rows
 
@@ -64,12 +65,7 @@ typed_at (x ∷ rest) (suc i) r t h e f =
 
 pub variable_rows : (b : List ℕ) → IsValid b → list_all is_variable_row (contents_in b).variables
     ≡ true
-variable_rows b valid =
-    let c = contents_in b in
-    let behind = and_parts (nat_eq c.padding 0) (are_variable_rows c
-    && (are_name_rows c && (are_attribute_rows c && are_string_rows c))) (valid rule.Row) in
-    (and_parts (are_variable_rows c)
-    (are_name_rows c && (are_attribute_rows c && are_string_rows c)) behind.1).0
+variable_rows b valid = (row_rules (contents_in b) (valid rule.Row)).variables
 
 rows_counted : {A : Type 0} (read : ℕ → A) (size n place : ℕ) → length (rows_from read size n place)
     ≡ n

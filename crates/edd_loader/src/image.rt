@@ -6,6 +6,7 @@ ghost use Rattle.edd_image.specs.Contents.{contents_in, fields_of_variable};
 ghost use Rattle.edd_image.specs.References.{item_exists, string_exists, variable_exists};
 ghost use Rattle.edd_image.specs.Agreement.{name_numbered, string_numbered};
 ghost use Rattle.edd_image.specs.Reading.{environment_of};
+ghost use Rattle.edd_image.specs.Steps.{element_variable};
 ghost use Rattle.edd_loader.specs.Lookups.{IsFirstNamed, type_of_kind};
 ghost use Rattle.edd_image.specs.Fields.{counts_in};
 ghost use Rattle.edd_image.specs.Validity.{BreaksFirst, IsValid};
@@ -14,12 +15,13 @@ ghost use Rattle.edd_loader.specs.Faults.{rule_of};
 ghost use Rattle.edd_loader.specs.Starts.{starts_in};
 
 use crate::checks::first_broken;
+use crate::elements::element_at;
 use crate::fault::{LoadFault, fault_of};
 use crate::lookups::{as_text, find, name_at, place_of_item, string_at, variable_at};
 use crate::starts::{Starts, starts_in};
 use crate::texts::{Text, text_of};
 use edd_image::{Counts, VarKind, counts};
-use edd_syntax::numbers::{ItemNo, StrNo, VarNo};
+use edd_syntax::numbers::{ArrNo, ItemNo, StrNo, VarNo};
 use std::alloc::Global;
 use std::marker::Model;
 
@@ -79,8 +81,8 @@ impl<'b> Image<'b> {
         self.starts
     }
 
-    /// The identification and the numbers of variables, commands, menus, collections, methods and
-    /// strings.
+    /// The identification and the numbers of variables, commands, menus, collections, methods,
+    /// arrays and strings.
     pub fn counts(&self) -> Counts
         ensures { result ≡ counts_in self.now }
     {
@@ -96,6 +98,15 @@ impl<'b> Image<'b> {
             ≡ slice_get (environment_of (contents_in self.now)).types number.0 }
     {
         variable_at(self.bytes, number)
+    }
+
+    /// The variable of the element of this number, if the array has such an element.
+    pub fn element(&self, array: ArrNo, number: i64) -> Option<VarNo>
+        ensures exists { IfSome result (λ variable. IsTrue
+            (variable_exists (counts_in self.now) variable)) }
+        ensures sound { result ≡ element_variable (contents_in self.now).elements array number }
+    {
+        element_at(self.bytes, self.starts, array, number)
     }
 
     /// The name of an item, if there is such an item.

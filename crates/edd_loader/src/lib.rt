@@ -4,6 +4,7 @@
 mod attributes;
 mod checks;
 mod codes;
+mod elements;
 mod fault;
 mod header;
 mod image;

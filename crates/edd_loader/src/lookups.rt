@@ -18,8 +18,9 @@ use crate::sections::item_count;
 use crate::spans::part;
 use crate::starts::Starts;
 use edd_image::{
-    Counts, HEADER_LENGTH, NAME_ROW, STRING_ROW, VARIABLE_ROW, VarKind, counts, name_length,
-    name_start, string_length, string_start, type_of, variable_count, variable_size, variable_type,
+    Counts, NAME_ROW, STRING_ROW, VARIABLE_ROW, VarKind, counts, name_length, name_start,
+    string_length, string_start, type_of, variable_count, variable_rows_start, variable_size,
+    variable_type,
 };
 use edd_syntax::numbers::{ArrNo, CmdNo, CollNo, ItemNo, MenuNo, MethNo, VarNo};
 
@@ -125,7 +126,7 @@ pub fn variable_at(bytes: &[u8], number: VarNo) -> Option<VarKind>
     if number.0 >= variable_count(bytes) {
         return None;
     }
-    let row = HEADER_LENGTH + VARIABLE_ROW * number.0 as usize;
+    let row = variable_rows_start(bytes) + VARIABLE_ROW * number.0 as usize;
     let var_type = type_of(variable_type(bytes, row))?;
     let size = variable_size(bytes, row);
     Some(VarKind { var_type, size })

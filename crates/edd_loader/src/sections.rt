@@ -7,19 +7,20 @@ ghost use Rattle.edd_image.specs.Layout.{item_count};
 ghost use Rattle.edd_image.specs.Contents.{part, rows_from, name_fields, string_fields, contents_in};
 ghost use Rattle.edd_image.specs.Fields.{counts_in};
 ghost use Rattle.edd_image.specs.Strings.{is_string};
-ghost use Rattle.edd_image.specs.Validity.{are_variable_rows, are_name_rows, are_attribute_rows, are_string_rows, are_rows, are_names, are_strings};
+ghost use Rattle.edd_image.specs.Validity.{are_variable_rows, are_name_rows, are_attribute_rows, are_element_rows, are_string_rows, are_rows, are_names, are_strings};
 ghost use Rattle.edd_loader.specs.Sections.{AreSectionsOf, lies_within};
 
 use crate::attributes::are_attribute_rows;
+use crate::elements::are_element_rows;
 use crate::names::is_name;
 use crate::rows::{are_name_rows, are_string_rows, are_variable_rows};
 use crate::spans::part;
 use crate::words::is_string;
 use edd_image::{
-    Counts, HEADER_LENGTH, NAME_ROW, STRING_ROW, attribute_count, attribute_rows_start,
-    code_length, counts, header_zero, name_bytes_start, name_length, name_rows_start, name_start,
-    names_length, string_bytes_start, string_count, string_length, string_rows_start, string_start,
-    strings_length, variable_count,
+    Counts, NAME_ROW, STRING_ROW, attribute_count, attribute_rows_start, code_length, counts,
+    element_count, element_rows_start, extension_zero, header_zero, name_bytes_start, name_length,
+    name_rows_start, name_start, names_length, string_bytes_start, string_count, string_length,
+    string_rows_start, string_start, strings_length, variable_count, variable_rows_start,
 };
 
 /// How many items there are.
@@ -38,7 +39,8 @@ fn variable_rows_keep(bytes: &[u8]) -> bool
     requires { AreSectionsOf bytes.now }
     ensures { result ≡ are_variable_rows (contents_in bytes.now) }
 {
-    are_variable_rows(bytes, HEADER_LENGTH, variable_count(bytes) as usize)
+    let start = variable_rows_start(bytes);
+    are_variable_rows(bytes, start, variable_count(bytes) as usize)
 }
 
 fn name_rows_keep(bytes: &[u8]) -> bool
@@ -61,6 +63,15 @@ fn attribute_rows_keep(bytes: &[u8]) -> bool
     are_attribute_rows(bytes, counts(bytes), start, count, end)
 }
 
+fn element_rows_keep(bytes: &[u8]) -> bool
+    requires { AreSectionsOf bytes.now }
+    ensures { result ≡ are_element_rows (contents_in bytes.now) }
+{
+    let start = element_rows_start(bytes);
+    let count = element_count(bytes) as usize;
+    are_element_rows(bytes, counts(bytes), start, count)
+}
+
 fn string_rows_keep(bytes: &[u8]) -> bool
     requires { AreSectionsOf bytes.now }
     ensures { result ≡ are_string_rows (contents_in bytes.now) }
@@ -78,9 +89,11 @@ pub fn are_rows(bytes: &[u8]) -> bool
     ensures { result ≡ are_rows (contents_in bytes.now) }
 {
     header_zero(bytes) == 0
+        && extension_zero(bytes) == 0
         && variable_rows_keep(bytes)
         && name_rows_keep(bytes)
         && attribute_rows_keep(bytes)
+        && element_rows_keep(bytes)
         && string_rows_keep(bytes)
 }
 

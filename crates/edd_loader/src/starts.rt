@@ -5,8 +5,8 @@ ghost use Rattle.edd_image.specs.Fields.{header_length};
 ghost use Rattle.edd_loader.specs.Starts.{starts_in};
 
 use edd_image::{
-    attribute_rows_start, code_start, name_bytes_start, name_rows_start, string_bytes_start,
-    string_rows_start,
+    attribute_rows_start, code_start, element_rows_start, name_bytes_start, name_rows_start,
+    string_bytes_start, string_rows_start,
 };
 
 /// Where the sections of an image start behind its variable rows, as places among its bytes. Each
@@ -15,6 +15,7 @@ use edd_image::{
 pub struct Starts {
     pub name_rows: usize,
     pub attribute_rows: usize,
+    pub element_rows: usize,
     pub code: usize,
     pub string_rows: usize,
     pub names: usize,
@@ -29,6 +30,7 @@ pub fn starts_in(bytes: &[u8]) -> Starts
     Starts {
         name_rows: name_rows_start(bytes),
         attribute_rows: attribute_rows_start(bytes),
+        element_rows: element_rows_start(bytes),
         code: code_start(bytes),
         string_rows: string_rows_start(bytes),
         names: name_bytes_start(bytes),

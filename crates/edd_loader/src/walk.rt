@@ -9,7 +9,7 @@ ghost use Rattle.edd_loader.specs.Standing.{fits, jumps_inside, may_lead};
 ghost use Rattle.edd_loader.specs.Walks.{jump_agrees, jump_noted};
 
 use crate::marks::{Mark, note};
-use edd_image::{Context, Instruction, Sort};
+use edd_image::{Context, Instruction, Sort, Version};
 
 /// How far a walk has come that has seen nothing wrong.
 #[derive(Drop)]
@@ -156,6 +156,7 @@ impl Walk {
     {
         let sort = context.sort;
         let is_method = matches!(sort, Sort::Method);
+        let has_arrays = matches!(context.version, Version::Two);
         let counts = context.counts;
         match instruction {
             Instruction::End => self.stop(place, depth, true),
@@ -172,6 +173,9 @@ impl Walk {
             }
             Instruction::Pop => self.go_on(place, depth, true, 1, 0),
             Instruction::Duplicate => self.go_on(place, depth, true, 1, 2),
+            Instruction::ReadElement(array) => {
+                self.go_on(place, depth, has_arrays && counts.has_array(array), 1, 1)
+            }
             Instruction::Operate(_) | Instruction::Compare(_) => {
                 self.go_on(place, depth, true, 2, 1)
             }
@@ -208,6 +212,10 @@ impl Walk {
             | Instruction::Response { .. }
             | Instruction::Member { .. } => {
                 let fits = !is_method && context.has_names(instruction);
+                self.go_on(place, depth, fits, 0, 0)
+            }
+            Instruction::Element { .. } => {
+                let fits = has_arrays && !is_method && context.has_names(instruction);
                 self.go_on(place, depth, fits, 0, 0)
             }
             Instruction::Ask(_) => {

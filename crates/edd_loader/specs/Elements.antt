@@ -1,0 +1,10 @@
+-- The order in which the rows of elements rise, as one number for each row.
+use Rattle.std.specs.Prelude.{ℕ, ◌+◌, ◌*◌}
+use Rattle.edd_syntax.specs.declared.numbers.Element.{Element}
+
+-- the array and the number, with as many bytes as in a row
+abbrev pub element_key : (array number : ℕ) → ℕ
+element_key array number = array * 4294967296 + number
+
+abbrev pub key_of : Element → ℕ
+key_of e = element_key e.array.0 e.number

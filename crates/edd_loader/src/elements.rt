@@ -1,0 +1,152 @@
+//! The rule on element rows, and the search for an element among them.
+
+ghost use Rattle.std.specs.Prelude.{◌≡◌, ℕ, ◌+◌, ◌*◌, ◌<◌, ◌≤◌, ◌&&◌, length, pos};
+ghost use Rattle.std.specs.List.{list_all};
+ghost use Rattle.edd_image.specs.Contents.{rows_from, element_fields, contents_in};
+ghost use Rattle.edd_image.specs.Steps.{element_variable};
+ghost use Rattle.edd_image.specs.Validity.{IsValid, elements_rise, is_element_before, is_element_row};
+ghost use Rattle.edd_loader.specs.Elements.{element_key, key_of};
+ghost use Rattle.edd_loader.specs.Rows.{is_before_next};
+ghost use Rattle.edd_loader.specs.Starts.{starts_in};
+
+use crate::starts::Starts;
+use edd_image::{
+    Counts, ELEMENT_ROW, element_array, element_count, element_number, element_variable,
+};
+use edd_syntax::numbers::{ArrNo, VarNo};
+
+// Whether the array and the variable exist.
+fn is_element_row(bytes: &[u8], counts: Counts, row: usize) -> bool
+    requires { row + ELEMENT_ROW ≤ length bytes.now }
+    ensures { result ≡ is_element_row counts (element_fields bytes.now row) }
+{
+    counts.has_array(ArrNo(element_array(bytes, row)))
+        && counts.has_variable(VarNo(element_variable(bytes, row)))
+}
+
+// Whether a row rises to the next by array and number.
+fn is_element_before(bytes: &[u8], row: usize, next: usize) -> bool
+    requires row { row + ELEMENT_ROW ≤ length bytes.now }
+    requires next { next + ELEMENT_ROW ≤ length bytes.now }
+    ensures { result ≡ is_element_before (element_fields bytes.now row)
+        (element_fields bytes.now next) }
+{
+    let array = element_array(bytes, row);
+    let next_array = element_array(bytes, next);
+    if array != next_array {
+        return array < next_array;
+    }
+    element_number(bytes, row) < element_number(bytes, next)
+}
+
+// Whether a row rises to the next, where `left` rows stand behind it.
+#[tactic(auto, unfolding(edd_image::specs::Contents::rows_from))]
+fn is_before_next(bytes: &[u8], row: usize, left: usize) -> bool
+    requires { row + ELEMENT_ROW + ELEMENT_ROW * left ≤ length bytes.now }
+    ensures { result ≡ is_before_next (element_fields bytes.now row)
+        (rows_from (element_fields bytes.now) 8 left (row + 8)) }
+{
+    left == 0 || is_element_before(bytes, row, row + ELEMENT_ROW)
+}
+
+/// Whether `count` element rows, the first of which stands at `start`, name arrays and variables
+/// that exist, and rise.
+pub fn are_element_rows(bytes: &[u8], counts: Counts, start: usize, count: usize) -> bool
+    requires { start + ELEMENT_ROW * count ≤ length bytes.now }
+    ensures { result ≡ (list_all (is_element_row counts)
+        (rows_from (element_fields bytes.now) 8 count start)
+        && elements_rise (rows_from (element_fields bytes.now) 8 count start)) }
+{
+    for index in 0..count {
+        let row = start + ELEMENT_ROW * index;
+        if !is_element_row(bytes, counts, row) {
+            return false;
+        }
+        if !is_before_next(bytes, row, count - index - 1) {
+            return false;
+        }
+    }
+    true
+}
+
+// The two numbers by which rows rise, as one.
+#[inline(always)]
+fn element_key(array: u16, number: u32) -> u64
+    ensures { result ≡ element_key array number }
+{
+    u64::from(array) * 4_294_967_296 + u64::from(number)
+}
+
+#[inline(always)]
+fn key_at(bytes: &[u8], row: usize) -> u64
+    requires { row + ELEMENT_ROW ≤ length bytes.now }
+    ensures { result ≡ key_of (element_fields bytes.now row) }
+{
+    element_key(element_array(bytes, row), element_number(bytes, row))
+}
+
+// The number of the first of `count` rows, the first of which stands at `start`, whose key is not
+// below this one.
+fn first_from(bytes: &[u8], start: usize, count: usize, key: u64) -> usize
+    requires room { start + ELEMENT_ROW * count ≤ length bytes.now }
+    requires rising { (i j : ℕ) → i < j → j < count
+        → key_of (element_fields bytes.now (start + 8 * i))
+        < key_of (element_fields bytes.now (start + 8 * j)) }
+    ensures end { result ≤ count }
+    ensures below { (i : ℕ) → i < result → key_of (element_fields bytes.now (start + 8 * i)) < key }
+    ensures above { (i : ℕ) → result ≤ i → i < count
+        → key ≤ key_of (element_fields bytes.now (start + 8 * i)) }
+{
+    let mut low = 0;
+    let mut high = count;
+    while low < high {
+        let middle = low + (high - low) / 2;
+        if key_at(bytes, start + ELEMENT_ROW * middle) < key {
+            low = middle + 1;
+        } else {
+            high = middle;
+        }
+    }
+    low
+}
+
+// The variable of the element of a number that a row may have.
+fn element_numbered(bytes: &[u8], starts: Starts, array: ArrNo, number: u32) -> Option<VarNo>
+    requires valid { IsValid bytes.now }
+    requires starts { starts ≡ starts_in bytes.now }
+    ensures { result ≡ element_variable (contents_in bytes.now).elements array (pos number) }
+{
+    let count = element_count(bytes) as usize;
+    let first = first_from(
+        bytes,
+        starts.element_rows,
+        count,
+        element_key(array.0, number),
+    );
+    if first == count {
+        return None;
+    }
+    let row = starts.element_rows + ELEMENT_ROW * first;
+    if element_array(bytes, row) != array.0 {
+        return None;
+    }
+    if element_number(bytes, row) != number {
+        return None;
+    }
+    Some(VarNo(element_variable(bytes, row)))
+}
+
+/// The variable of the element of this number, if the array has such an element.
+pub fn element_at(bytes: &[u8], starts: Starts, array: ArrNo, number: i64) -> Option<VarNo>
+    requires valid { IsValid bytes.now }
+    requires starts { starts ≡ starts_in bytes.now }
+    ensures { result ≡ element_variable (contents_in bytes.now).elements array number }
+{
+    if number < 0 {
+        return None;
+    }
+    if number > 4_294_967_295 {
+        return None;
+    }
+    element_numbered(bytes, starts, array, number as u32)
+}
