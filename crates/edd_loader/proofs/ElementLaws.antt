@@ -1,10 +1,11 @@
 -- The rows of elements rise, and what is found among them.
 use Rattle.std.proofs.Common.{◌≡◌, ℕ, zero, suc, ◌+◌, ◌*◌, ◌<◌, ◌≤◌, ℤ, pos, Bool, true, false, cond, ◌&&◌, nat_eq, nat_lt, List, [], ◌∷◌, length, take, drop, get_or, Option, Some, None, refl, sym, ap, subst, ◌∙◌, arith, inl, inr}
 use Rattle.std.specs.Prelude.{find, option_map, IfSome}
-use Rattle.std.specs.Int.{w32}
+use Rattle.std.specs.Int.{w16, w32}
 use Rattle.std.specs.List.{AllByRecursion, list_all, slice_get}
 use Rattle.std.specs.Ordering.{int_eq}
 use Rattle.std.proofs.lemmas.Bool.{and_parts, and_left, or_cases, cases_eq, cases_lt, ltb-true, eqb-true, eq-eqb, ne_eqb}
+use Rattle.std.proofs.lemmas.List.{get_or-take, get_or-drop}
 use Rattle.std.proofs.lemmas.Bool.Decides.{Decides-int_eq}
 use Rattle.edd_syntax.specs.declared.numbers.ArrNo.{ArrNo}
 use Rattle.edd_syntax.specs.declared.numbers.VarNo.{VarNo}
@@ -83,6 +84,34 @@ unfolding number_at
 number_below b place are =
     let taken = taken_below 4 (drop place b) (drop_bytes place b are) in
     omega (arith, taken 0, taken 1, taken 2, taken 3)
+
+-- a number of bytes, byte by byte
+
+taken_at : (n place i at : ℕ) (b : List ℕ) → i < n → at ≡ place + i
+    → get_or (take n (drop place b)) i 0 ≡ get_or b at 0
+taken_at n place i at b lt e = get_or-take n (drop place b) i 0 lt ∙ get_or-drop place b i 0
+    ∙ ap (λ (k : ℕ). get_or b k 0) (sym e)
+
+pub two_bytes : (b : List ℕ) (place : ℕ) → number_at w16 b place
+    ≡ get_or b place 0 * 256 + get_or b (place + 1) 0
+unfolding number_at
+two_bytes b place = omega (
+  arith,
+  taken_at 2 place 0 place b (omega arith) (omega arith),
+  taken_at 2 place 1 (place + 1) b (omega arith) refl,
+)
+
+pub four_bytes : (b : List ℕ) (place : ℕ) → number_at w32 b (place + 4)
+    ≡ ((get_or b (place + 4) 0 * 256 + get_or b (place + 5) 0) * 256 + get_or b (place + 6) 0) * 256
+    + get_or b (place + 7) 0
+unfolding number_at
+four_bytes b place = omega (
+  arith,
+  taken_at 4 (place + 4) 0 (place + 4) b (omega arith) (omega arith),
+  taken_at 4 (place + 4) 1 (place + 5) b (omega arith) (omega arith),
+  taken_at 4 (place + 4) 2 (place + 6) b (omega arith) (omega arith),
+  taken_at 4 (place + 4) 3 (place + 7) b (omega arith) (omega arith),
+)
 
 rows_fit : (b : List ℕ) (n place : ℕ) → AreBytes b
     → AllByRecursion Fits32 (rows_from (element_fields b) 8 n place)

@@ -2,9 +2,9 @@
 use Rattle.std.specs.Prelude.{ℕ, ◌+◌, ◌*◌}
 use Rattle.edd_syntax.specs.declared.numbers.Element.{Element}
 
--- the array and the number, with as many bytes as in a row
+-- the array and the number, each where it stands among the bytes of a row
 abbrev pub element_key : (array number : ℕ) → ℕ
-element_key array number = array * 4294967296 + number
+element_key array number = array * 281474976710656 + number
 
 abbrev pub key_of : Element → ℕ
 key_of e = element_key e.array.0 e.number

@@ -74,15 +74,27 @@ pub fn are_element_rows(bytes: &[u8], counts: Counts, start: usize, count: usize
 fn element_key(array: u16, number: u32) -> u64
     ensures { result ≡ element_key array number }
 {
-    u64::from(array) * 4_294_967_296 + u64::from(number)
+    u64::from(array) * 281_474_976_710_656 + u64::from(number)
 }
 
+// The key of a row. All of the row is read as one number, and what stands between the two left out.
 #[inline(always)]
+#[tactic(auto, unfolding(edd_image::specs::Fields::number_at))]
 fn key_at(bytes: &[u8], row: usize) -> u64
     requires { row + ELEMENT_ROW ≤ length bytes.now }
     ensures { result ≡ key_of (element_fields bytes.now row) }
 {
-    element_key(element_array(bytes, row), element_number(bytes, row))
+    let whole = u64::from_be_bytes([
+        bytes[row],
+        bytes[row + 1],
+        bytes[row + 2],
+        bytes[row + 3],
+        bytes[row + 4],
+        bytes[row + 5],
+        bytes[row + 6],
+        bytes[row + 7],
+    ]);
+    whole / 281_474_976_710_656 * 281_474_976_710_656 + whole % 4_294_967_296
 }
 
 // The number of the first of `count` rows, the first of which stands at `start`, whose key is not
@@ -100,7 +112,7 @@ fn first_from(bytes: &[u8], start: usize, count: usize, key: u64) -> usize
     let mut low = 0;
     let mut high = count;
     while low < high {
-        let middle = low + (high - low) / 2;
+        let middle = (low + high) / 2;
         if key_at(bytes, start + ELEMENT_ROW * middle) < key {
             low = middle + 1;
         } else {
@@ -117,12 +129,8 @@ fn element_numbered(bytes: &[u8], starts: Starts, array: ArrNo, number: u32) -> 
     ensures { result ≡ element_variable (contents_in bytes.now).elements array (pos number) }
 {
     let count = element_count(bytes) as usize;
-    let first = first_from(
-        bytes,
-        starts.element_rows,
-        count,
-        element_key(array.0, number),
-    );
+    let key = element_key(array.0, number);
+    let first = first_from(bytes, starts.element_rows, count, key);
     if first == count {
         return None;
     }

@@ -59,8 +59,8 @@ returns-then-first-count c = sym (element_past c.args.bytes.now c.args.array c.a
       valid = c.requires.valid;
       are = record { below = λ i. (c.type_inv.bytes i).fits };
       start_is = ap (λ (s : Starts). s.element_rows) c.requires.starts;
-      key = c.element_key.result;
-      key_is = c.element_key.ensures;
+      key = c.element_key-key.result;
+      key_is = c.element_key-key.ensures;
       end = omega (arith, c.first_from-first.ensures.end, c.element_count-count.ensures);
       below = c.first_from-first.ensures.below;
       above = rw c.element_count-count.ensures at c.first_from-first.ensures.above;
@@ -73,8 +73,8 @@ returns-then-element_array-array c = sym (element_of_another c.args.bytes.now c.
       valid = c.requires.valid;
       are = record { below = λ i. (c.type_inv.bytes i).fits };
       start_is = ap (λ (s : Starts). s.element_rows) c.requires.starts;
-      key = c.element_key.result;
-      key_is = c.element_key.ensures;
+      key = c.element_key-key.result;
+      key_is = c.element_key-key.ensures;
       end = omega (arith, c.first_from-first.ensures.end, c.element_count-count.ensures);
       below = c.first_from-first.ensures.below;
       above = rw c.element_count-count.ensures at c.first_from-first.ensures.above;
@@ -87,8 +87,8 @@ returns-then-element_number-number c = sym (element_elsewhere c.args.bytes.now c
       valid = c.requires.valid;
       are = record { below = λ i. (c.type_inv.bytes i).fits };
       start_is = ap (λ (s : Starts). s.element_rows) c.requires.starts;
-      key = c.element_key.result;
-      key_is = c.element_key.ensures;
+      key = c.element_key-key.result;
+      key_is = c.element_key-key.ensures;
       end = omega (arith, c.first_from-first.ensures.end, c.element_count-count.ensures);
       below = c.first_from-first.ensures.below;
       above = rw c.element_count-count.ensures at c.first_from-first.ensures.above;
@@ -101,8 +101,8 @@ returns c = element_there c.args.bytes.now c.args.array c.args.number
       valid = c.requires.valid;
       are = record { below = λ i. (c.type_inv.bytes i).fits };
       start_is = ap (λ (s : Starts). s.element_rows) c.requires.starts;
-      key = c.element_key.result;
-      key_is = c.element_key.ensures;
+      key = c.element_key-key.result;
+      key_is = c.element_key-key.ensures;
       end = omega (arith, c.first_from-first.ensures.end, c.element_count-count.ensures);
       below = c.first_from-first.ensures.below;
       above = rw c.element_count-count.ensures at c.first_from-first.ensures.above;
