@@ -11,7 +11,7 @@ use Rattle.edd_syntax.specs.DeviceValues.{VariableType, type_at, AreDeviceValues
 use Rattle.edd_image.specs.declared.instruction.Instruction.{Instruction}
 use Rattle.edd_image.specs.declared.instruction.Instruction.TheVariants as instructions
 use Rattle.edd_image.specs.declared.parts.VarKind.{VarKind}
-use Rattle.edd_image.specs.declared.unit.Version.TheVariants.{One}
+use Rattle.edd_image.specs.declared.unit.Version.TheVariants.{One, Two}
 use Rattle.edd_image.specs.declared.instruction.Ask.{Ask}
 use Rattle.edd_image.specs.Contents.{contents_in, fields_of_variable}
 use Rattle.edd_image.specs.References.{names_exist}
@@ -80,6 +80,7 @@ shared (instructions.GetLocal slot) a b c d e = absurd (b slot refl)
 shared (instructions.SetLocal slot) a b c d e = absurd (c slot refl)
 shared instructions.Pop a b c d e = (One, refl)
 shared instructions.Duplicate a b c d e = (One, refl)
+shared (instructions.ReadElement array) a b c d e = (Two, refl)
 shared (instructions.Operate op) a b c d e = (One, refl)
 shared (instructions.Compare op) a b c d e = (One, refl)
 shared instructions.Negate a b c d e = (One, refl)
@@ -97,6 +98,7 @@ shared (instructions.DataVar v mask quals) a b c d e = (One, refl)
 shared (instructions.Enumerator n text help) a b c d e = (One, refl)
 shared (instructions.Response n class text) a b c d e = (One, refl)
 shared (instructions.Member name item label help) a b c d e = (One, refl)
+shared (instructions.Element n v label help) a b c d e = (Two, refl)
 shared (instructions.Ask request) a b c d e = absurd (d request refl)
 shared instructions.Abort a b c d e = absurd (e refl)
 

@@ -1,5 +1,5 @@
 -- The unit of the body of a method.
-use Rattle.std.proofs.Common.{◌≡◌, ℕ, ◌≤◌, Bool, true, false, cond, ◌&&◌, nat_eq, ℤ, List, Option, Some, None, refl, sym, ap, subst, ◌∙◌, arith}
+use Rattle.std.proofs.Common.{◌≡◌, ℕ, ◌≤◌, Bool, true, false, cond, nat_eq, ℤ, List, Option, Some, None, refl, sym, ap, subst, ◌∙◌, arith}
 use Rattle.std.specs.Prelude.{option_map}
 use Rattle.std.specs.List.{list_all, slice_get}
 use Rattle.std.specs.Option.{option_map_or}
@@ -17,8 +17,9 @@ use Rattle.edd_image.specs.Contents.{AttributeFields, contents_in}
 use Rattle.edd_image.specs.References.{item_exists}
 use Rattle.edd_image.specs.Reading.{body_of, is_row_of, opening_of}
 use Rattle.edd_image.specs.Steps.{opening}
-use Rattle.edd_image.specs.Validity.{IsValid, has_attribute, is_attribute_row, is_body, sort_of, slots_of, sub_fits, are_variable_rows, are_name_rows, are_attribute_rows, are_string_rows}
+use Rattle.edd_image.specs.Validity.{IsValid, has_attribute, is_attribute_row, is_body, sort_of, slots_of, sub_fits}
 use Rattle.edd_loader.proofs.LookupLaws.{all_at}
+use Rattle.edd_loader.proofs.RowRules.{row_rules}
 use Rattle.edd_machine.specs.declared.code_unit.CodeUnit.{CodeUnit}
 use Rattle.edd_machine.specs.Running.{unit_at, running_unit, IsUnitOf}
 use Rattle.edd_machine.proofs.ImageUnits.{unit_code}
@@ -51,14 +52,8 @@ slots_small : (b : List ℕ) (number : ℕ) (r : AttributeFields) → IsValid b
     → slice_get (contents_in b).attributes number ≡ Some r → slots_of r ≤ 64
 slots_small b number r valid at =
     let c = contents_in b in
-    let zeros = and_parts (nat_eq c.padding 0) (are_variable_rows c
-    && (are_name_rows c && (are_attribute_rows c && are_string_rows c))) (valid rule.Row) in
-    let variables = and_parts (are_variable_rows c)
-    (are_name_rows c && (are_attribute_rows c && are_string_rows c)) zeros.1 in
-    let names = and_parts (are_name_rows c) (are_attribute_rows c && are_string_rows c)
-    variables.1 in
-    let attributes = and_parts (are_attribute_rows c) (are_string_rows c) names.1 in
-    let all = (and_parts (list_all (is_attribute_row c.counts) c.attributes) _ attributes.0).0 in
+    let all = (and_parts (list_all (is_attribute_row c.counts) c.attributes) _
+    (row_rules c (valid rule.Row)).attributes).0 in
     let row = all_at (is_attribute_row c.counts) c.attributes number r all at in
     row_slots c.counts r (item_from_numbers r.kind r.item) (attr_from_number r.attribute) refl
     (and_parts _ (nat_eq r.padding 0) row).0

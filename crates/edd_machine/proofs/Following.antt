@@ -11,7 +11,7 @@ use Rattle.edd_image.specs.declared.records.Status.{Status}
 use Rattle.edd_image.specs.declared.records.Status.TheVariants.{Running, Asking, Ended, Aborted, Trapped}
 use Rattle.edd_image.specs.declared.records.Emitted.TheVariants as emitted
 use Rattle.edd_image.specs.declared.unit.Sort.{Sort}
-use Rattle.edd_image.specs.declared.unit.Sort.TheVariants.{Attribute, Method}
+use Rattle.edd_image.specs.declared.unit.Sort.TheVariants.{Attribute}
 use Rattle.edd_image.specs.declared.unit.Way.{Way}
 use Rattle.edd_image.specs.Contents.{contents_in}
 use Rattle.edd_image.specs.Decoding.{instruction_at}
@@ -28,7 +28,7 @@ use Rattle.edd_machine.specs.declared.outcome.Outcome.{Outcome}
 use Rattle.edd_machine.specs.declared.outcome.Outcome.TheVariants.{GoesOn, Gives as GivesRecord, Ends, Traps}
 use Rattle.edd_machine.specs.Faults.{trap_of}
 use Rattle.edd_machine.specs.Given.{Gives, GivesFault}
-use Rattle.edd_machine.specs.Outcomes.{IsShared, comes_to, Performs}
+use Rattle.edd_machine.specs.Outcomes.{IsShared, comes_to, PerformsWith}
 use Rattle.edd_machine.specs.Running.{running_unit, code_at, IsUnitOf, IsStateIn, CanAct}
 use Rattle.edd_machine.proofs.Stepping.{step_is, can_act, state_again, valid_there, place_inside, instruction_there}
 use Rattle.edd_machine.proofs.UnitFacts.{facts}
@@ -166,13 +166,13 @@ module _ (b : List ℕ) (u : CodeUnit) (values : List ℤ) (place : ℕ) (operan
     pub next_inside : next ≤ length (code_at b u)
     next_inside = (instruction_inside (code_at b u) place (i, next) there).1
 
-    module _ (o : Outcome) (left : List ℤ) (performed : Performs u.sort values operands left i next
+    module _ (o : Outcome) (left : List ℤ) (performed : PerformsWith (contents_in b).elements u.sort values operands left i next
         o) where
       stepped : step (environment_of (contents_in b)) (at_place b u values place operands)
           ≡ Some (comes_to o left (at_place b u values place operands))
       stepped = step_is (environment_of (contents_in b)) (at_place b u values place operands)
           (i, next) _ refl there (performed (environment_of (contents_in b))
-          (at_place b u values place operands))
+          (at_place b u values place operands) refl)
 
       pub given_on : (r : Given)
           → Gives (environment_of (contents_in b))
@@ -183,42 +183,42 @@ module _ (b : List ℕ) (u : CodeUnit) (values : List ℤ) (place : ℕ) (operan
           _ r stepped g
 
     pub state_on : (to : ℕ) (left : List ℤ)
-        → Performs u.sort values operands left i next (GoesOn to)
+        → PerformsWith (contents_in b).elements u.sort values operands left i next (GoesOn to)
         → IsStateIn b u (at_place b u values to left)
     state_on to left performed = state_again b u (at_place b u values place operands) valid is refl
         (comes_to (GoesOn to) left (at_place b u values place operands))
         (stepped (GoesOn to) left performed) refl
 
     pub state_behind : (to : ℕ) (r : Record) (left : List ℤ)
-        → Performs u.sort values operands left i next (GivesRecord to r)
+        → PerformsWith (contents_in b).elements u.sort values operands left i next (GivesRecord to r)
         → IsStateIn b u (at_place b u values to left)
     state_behind to r left performed = state_again b u (at_place b u values place operands) valid is
         refl (comes_to (GivesRecord to r) left (at_place b u values place operands))
         (stepped (GivesRecord to r) left performed) refl
 
     pub ahead_behind : (to : ℕ) (r : Record) (left : List ℤ)
-        → Performs u.sort values operands left i next (GivesRecord to r) → place < to
+        → PerformsWith (contents_in b).elements u.sort values operands left i next (GivesRecord to r) → place < to
     ahead_behind to r left performed =
         goes_forward b u (at_place b u values place operands) valid is refl
         (is_attribute b u is.unit attribute) (i, next)
         (comes_to (GivesRecord to r) left (at_place b u values place operands)) there
-        (performed (environment_of (contents_in b)) (at_place b u values place operands)) refl
+        (performed (environment_of (contents_in b)) (at_place b u values place operands) refl) refl
 
-    pub ahead : (to : ℕ) (left : List ℤ) → Performs u.sort values operands left i next (GoesOn to)
+    pub ahead : (to : ℕ) (left : List ℤ) → PerformsWith (contents_in b).elements u.sort values operands left i next (GoesOn to)
         → place < to
     ahead to left performed =
         goes_forward b u (at_place b u values place operands) valid is refl
         (is_attribute b u is.unit attribute) (i, next)
         (comes_to (GoesOn to) left (at_place b u values place operands)) there
-        (performed (environment_of (contents_in b)) (at_place b u values place operands)) refl
+        (performed (environment_of (contents_in b)) (at_place b u values place operands) refl) refl
 
-    pub ends_there : (left : List ℤ) → Performs u.sort values operands left i next Ends
+    pub ends_there : (left : List ℤ) → PerformsWith (contents_in b).elements u.sort values operands left i next Ends
         → Gives (environment_of (contents_in b)) (at_place b u values place operands) (Ok [])
     ends_there left performed = given_on Ends left performed (Ok [])
         (gives_end (environment_of (contents_in b)) _ (Ok []) refl)
 
     pub traps_there : (why : Trap) (left : List ℤ)
-        → Performs u.sort values operands left i next (Traps why)
+        → PerformsWith (contents_in b).elements u.sort values operands left i next (Traps why)
         → Gives (environment_of (contents_in b)) (at_place b u values place operands) (Err why)
     traps_there why left performed = given_on (Traps why) left performed (Err why)
         (gives_end (environment_of (contents_in b)) _ (Err why) refl)

@@ -12,9 +12,11 @@ use Rattle.edd_image.specs.Contents.{AttributeFields, rows_from, attribute_field
 use Rattle.edd_image.specs.Fields.{number_at, attribute_count, attribute_rows_start, attribute_sub}
 use Rattle.edd_image.specs.Reading.{is_row_of, row_of, body_of}
 use Rattle.edd_image.specs.Spelling.{AreBytes}
-use Rattle.edd_image.specs.Validity.{IsValid, rises, rise, is_attribute_row, are_variable_rows, are_name_rows, are_attribute_rows, are_string_rows}
+use Rattle.edd_image.specs.Validity.{IsValid, rises, rise, is_attribute_row}
 use Rattle.edd_image.proofs.Readings.{drop_bytes}
+use Rattle.edd_loader.proofs.Halving.{found_at, none_found, fails}
 use Rattle.edd_loader.proofs.LookupLaws.{row_get, row_past}
+use Rattle.edd_loader.proofs.RowRules.{row_rules}
 use Rattle.edd_loader.proofs.RuleOrder.{valid_sections}
 use Rattle.edd_loader.proofs.Spaces.{rooms}
 use Rattle.edd_machine.specs.Ranks.{rank, rank_of, row_at, is_row}
@@ -122,15 +124,8 @@ bounded_rows b are = rows_bounded b (attribute_count b) (attribute_rows_start b)
 rows_rise : (b : List ℕ) → IsValid b → rise (contents_in b).attributes ≡ true
 rows_rise b valid =
     let c = contents_in b in
-    let zeros = and_parts (nat_eq c.padding 0) (are_variable_rows c
-    && (are_name_rows c && (are_attribute_rows c && are_string_rows c))) (valid rule.Row) in
-    let variables = and_parts (are_variable_rows c)
-    (are_name_rows c && (are_attribute_rows c && are_string_rows c)) zeros.1 in
-    let names = and_parts (are_name_rows c) (are_attribute_rows c && are_string_rows c)
-    variables.1 in
-    let attributes = and_parts (are_attribute_rows c) (are_string_rows c) names.1 in
     (and_parts (rise c.attributes) _ (and_parts (list_all (is_attribute_row c.counts) c.attributes)
-    _ attributes.0).1).0
+    _ (row_rules c (valid rule.Row)).attributes).1).0
 
 pub row_stands : (b : List ℕ) (i : ℕ) → i < attribute_count b
     → slice_get (contents_in b).attributes i
@@ -155,43 +150,7 @@ image_rises b valid are i j lt inside =
     (rows_bounded b (attribute_count b) (attribute_rows_start b) are) (rows_rise b valid) i j _
     _ lt (row_stands b i (omega arith)) (row_stands b j inside)
 
--- ---- what is found
-
-found_at : (p : AttributeFields → Bool) (rows : List AttributeFields) (k : ℕ) (x : AttributeFields)
-    → slice_get rows k ≡ Some x → p x ≡ true
-    → ((i : ℕ) (y : AttributeFields) → i < k → slice_get rows i ≡ Some y → p y ≡ false)
-    → find p rows ≡ Some x
-found_at p [] k x e h before = absurd cc
-found_at p (r ∷ rest) zero x e h before =
-    let same : r ≡ x = cc in
-    let passes : p r ≡ true = ap p same ∙ h in
-    rw passes (ap Some same)
-found_at p (r ∷ rest) (suc k) x e h before =
-    let fails : p r ≡ false = before 0 r (omega arith) refl in
-    rw fails (found_at p rest k x e h (λ i y lt f. before (suc i) y (omega arith) f))
-
-none_found : (p : AttributeFields → Bool) (rows : List AttributeFields)
-    → ((i : ℕ) (y : AttributeFields) → slice_get rows i ≡ Some y → p y ≡ false) → find p rows ≡ None
-none_found p [] all = refl
-none_found p (r ∷ rest) all =
-    let fails : p r ≡ false = all 0 r refl in
-    rw fails (none_found p rest (λ i y e. all (suc i) y e))
-
 -- ---- the search
-
-pub below_middle : (f : ℕ → ℕ) (count middle key : ℕ) → ((i j : ℕ) → i < j → j < count → f i < f j)
-    → middle < count → f middle < key → (i : ℕ) → i < middle + 1 → f i < key
-below_middle f count middle key rising inside low i lt = elim (cases_eq i middle) [
-  | inl same ↦ subst (λ (k : ℕ). f k < key) (sym same) low
-  | inr other ↦ omega (arith, rising i middle (omega (arith, other, lt)) inside, low)
-]
-
-pub above_middle : (f : ℕ → ℕ) (count middle key : ℕ) → ((i j : ℕ) → i < j → j < count → f i < f j)
-    → key ≤ f middle → (i : ℕ) → middle ≤ i → i < count → key ≤ f i
-above_middle f count middle key rising high i le inside = elim (cases_eq middle i) [
-  | inl same ↦ subst (λ (k : ℕ). key ≤ f k) same high
-  | inr other ↦ omega (arith, rising middle i (omega (arith, other, le)) inside, high)
-]
 
 -- the row at which a search for a rank ended, where the rows that pass have no lower one, and a row
 -- between the rank and one that passes passes too
@@ -205,13 +164,6 @@ pub record Found (b : List ℕ) (p : AttributeFields → Bool) (key first : ℕ)
   pub least : (r : AttributeFields) → p r ≡ true → key ≤ rank_of r
   pub between : (x y : AttributeFields) → Bounded x → Bounded y → key ≤ rank_of x
       → rank_of x < rank_of y → p y ≡ true → p x ≡ true
-
-fails : (p : AttributeFields → Bool) (r : AttributeFields) → (p r ≡ true → ⊥) → p r ≡ false
-fails p r never = by_test (p r) refl
-  where
-    by_test : (test : Bool) → p r ≡ test → p r ≡ false
-    by_test true e = absurd (never e)
-    by_test false e = e
 
 -- a row is one of those that the bytes have
 row_is : (b : List ℕ) (i : ℕ) (y : AttributeFields) → slice_get (contents_in b).attributes i

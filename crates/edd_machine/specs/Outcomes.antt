@@ -1,5 +1,6 @@
 -- What the instructions come to that units of both sorts have.
 use Rattle.std.specs.Prelude.{◌≡◌, ℕ, ℤ, true, List, [], Some}
+use Rattle.edd_syntax.specs.declared.numbers.Element.{Element}
 use Rattle.edd_image.specs.declared.instruction.Instruction.{Instruction}
 use Rattle.edd_image.specs.declared.records.Status.TheVariants as status
 use Rattle.edd_image.specs.declared.records.Emitted.TheVariants as emitted
@@ -55,4 +56,12 @@ abbrev pub Performs : Sort → (values before after : List ℤ) → Instruction 
     → Type 0
 Performs sort values before after i next outcome =
     (env : Environment) (s : State) → act env i next (over sort before values s)
+    ≡ Some (comes_to outcome after (over sort before values s))
+
+-- the same where these are the elements of the arrays
+abbrev pub PerformsWith : List Element → Sort → (values before after : List ℤ) → Instruction
+    → (next : ℕ) → Outcome → Type 0
+PerformsWith elements sort values before after i next outcome =
+    (env : Environment) (s : State) → env.elements ≡ elements
+    → act env i next (over sort before values s)
     ≡ Some (comes_to outcome after (over sort before values s))

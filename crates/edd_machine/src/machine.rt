@@ -244,7 +244,7 @@ impl Machine {
             _ => {
                 let sort = self.unit.sort;
                 let values = self.values.numbers.as_slice();
-                let outcome = perform(&mut self.operands, sort, values, instruction, next);
+                let outcome = perform(&mut self.operands, image, sort, values, instruction, next);
                 self.take_on(outcome);
             }
         }

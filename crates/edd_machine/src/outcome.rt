@@ -5,17 +5,21 @@ ghost use Rattle.std.specs.List.{AllByRecursion};
 ghost use Rattle.edd_syntax.specs.declared.numbers.VarNo.{VarNo};
 ghost use Rattle.edd_image.specs.declared.instruction.Instruction.TheVariants as instructions;
 ghost use Rattle.edd_image.specs.declared.unit.Sort.{Sort};
-ghost use Rattle.edd_image.specs.Steps.{Fits};
+ghost use Rattle.edd_image.specs.Contents.{contents_in};
+ghost use Rattle.edd_image.specs.Fields.{counts_in};
+ghost use Rattle.edd_image.specs.Reading.{environment_of};
+ghost use Rattle.edd_image.specs.Steps.{Fits, element_value, width_of};
 ghost use Rattle.edd_image.specs.Units.{takes, leaves};
-ghost use Rattle.edd_machine.specs.Outcomes.{IsShared, Performs};
+ghost use Rattle.edd_machine.specs.Outcomes.{IsShared, Performs, PerformsWith};
 
 use crate::arithmetic::{
     compare, complement, logical_not, negate, operate, wrapped, wrapped_constant,
 };
 use crate::operands::Operands;
 use edd_image::{Instruction, Record, Sort};
+use edd_loader::Image;
 use edd_syntax::answer::Trap;
-use edd_syntax::numbers::VarNo;
+use edd_syntax::numbers::{ArrNo, VarNo};
 use edd_syntax::operators::{Comparison, Operator};
 
 /// What an instruction comes to.
@@ -27,7 +31,7 @@ pub enum Outcome {
     Gives(usize, Record),
     /// The unit ends.
     Ends,
-    /// An operator has no value.
+    /// An operator has no value, or an array no such element.
     Traps(Trap),
 }
 
@@ -208,11 +212,59 @@ fn give_number(operands: &mut Operands, next: usize) -> Outcome
     Outcome::Gives(next, Record::Number(operands.pop()))
 }
 
+// The value of an element of an array, wrapped to the width, or the trap. It stands apart, so that
+// fewer values live in the step.
+#[inline(never)]
+fn element_value(
+    image: &Image<'_>,
+    sort: Sort,
+    values: &[i64],
+    array: ArrNo,
+    number: i64,
+) -> Result<i64, Trap>
+    requires { length values.now ≡ (counts_in image.now).variables }
+    ensures { result ≡ element_value (environment_of (contents_in image.now)) (width_of sort)
+        values.now array number }
+{
+    match image.element(array, number) {
+        Some(variable) => Ok(wrapped(sort, values[variable.0 as usize])),
+        None => Err(Trap::NoElement),
+    }
+}
+
+#[inline(always)]
+#[tactic(auto, unfolding(edd_image::specs::Steps::act))]
+fn read_element(
+    operands: &mut Operands,
+    image: &Image<'_>,
+    sort: Sort,
+    values: &[i64],
+    array: ArrNo,
+    next: usize,
+) -> Outcome
+    requires enough { 1 ≤ length operands.old }
+    requires counted { length values.now ≡ (counts_in image.now).variables }
+    ensures { PerformsWith (contents_in image.now).elements sort values.now operands.old operands.new
+        (instructions.ReadElement array) next result }
+{
+    match element_value(image, sort, values, array, operands.top()) {
+        Ok(value) => {
+            operands.set_top(value);
+            Outcome::GoesOn(next)
+        }
+        Err(why) => {
+            let _operand = operands.pop();
+            Outcome::Traps(why)
+        }
+    }
+}
+
 /// What an instruction that attributes may have comes to.
 #[inline(always)]
 #[tactic(auto, unfolding(edd_image::specs::Steps::act))]
 pub fn perform(
     operands: &mut Operands,
+    image: &Image<'_>,
     sort: Sort,
     values: &[i64],
     instruction: Instruction,
@@ -225,8 +277,10 @@ pub fn perform(
     requires shared { IsShared instruction }
     requires exists { (v : VarNo) → instruction ≡ instructions.Variable v
         → v.0 < length values.now }
+    requires counted { length values.now ≡ (counts_in image.now).variables }
     requires fit { AllByRecursion (Fits sort) operands.old }
-    ensures { Performs sort values.now operands.old operands.new instruction next result }
+    ensures { PerformsWith (contents_in image.now).elements sort values.now operands.old operands.new
+        instruction next result }
 {
     match instruction {
         Instruction::End => Outcome::Ends,
@@ -234,6 +288,9 @@ pub fn perform(
         Instruction::Variable(variable) => push_variable(operands, sort, values, variable, next),
         Instruction::Pop => pop(operands, next),
         Instruction::Duplicate => duplicate(operands, next),
+        Instruction::ReadElement(array) => {
+            read_element(operands, image, sort, values, array, next)
+        }
         Instruction::Operate(operator) => operate_two(operands, sort, operator, next),
         Instruction::Compare(comparison) => compare_two(operands, comparison, next),
         Instruction::Negate => negate_top(operands, sort, next),
@@ -275,6 +332,20 @@ pub fn perform(
             Record::Member {
                 name,
                 item,
+                label,
+                help,
+            },
+        ),
+        Instruction::Element {
+            number,
+            var,
+            label,
+            help,
+        } => Outcome::Gives(
+            next,
+            Record::Element {
+                number,
+                var,
                 label,
                 help,
             },

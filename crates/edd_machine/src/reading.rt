@@ -87,7 +87,7 @@ fn run(
     let mut records = Vec::new(alloc);
     let mut place = 0;
     while let Some((instruction, next)) = decode(code, place) {
-        match perform(&mut operands, unit.sort, values, instruction, next) {
+        match perform(&mut operands, image, unit.sort, values, instruction, next) {
             Outcome::GoesOn(to) => place = to,
             Outcome::Gives(to, record) => {
                 records.push(record)?;

@@ -9,7 +9,7 @@ use Rattle.edd_image.specs.Steps.{opening}
 use Rattle.edd_machine.specs.declared.outcome.Outcome.TheVariants.{GoesOn, Gives as GivesRecord}
 use Rattle.edd_machine.specs.Given.{Gives}
 use Rattle.edd_machine.specs.Running.{running_unit, code_at}
-use Rattle.edd_machine.proofs.Acting.{variable_there}
+use Rattle.edd_machine.proofs.Acting.{variable_there, values_counted}
 use Rattle.edd_machine.proofs.Following.{Given, after, after_none, after_more, place_there, never_past, acts_there, is_shared, next_ahead, next_inside, given_on, state_on, state_behind, ahead, ahead_behind, ends_there, traps_there, fault_given}
 use Rattle.edd_machine.proofs.Stepping.{code_inside, opened}
 use Rattle.edd_machine.proofs.reading.run.Goals as goal
@@ -97,6 +97,9 @@ perform-requires-clause-exists c =
     c.loop-instruction.place c.loop-instruction.operands c.bytes.ensures.valid
     c.loop-instruction.invariant.state c.requires.sort c.in-Some.instruction c.in-Some.next at)
     e
+
+pub perform-requires-clause-counted : goal.perform-requires-clause-counted
+perform-requires-clause-counted c = values_counted _ _ c.bytes.ensures.valid c.requires.values
 
 pub loop-instruction-smaller-in-GoesOn : goal.loop-instruction-smaller-in-GoesOn
 loop-instruction-smaller-in-GoesOn c =

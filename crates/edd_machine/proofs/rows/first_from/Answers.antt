@@ -1,7 +1,7 @@
 use Rattle.std.proofs.Common.{ℕ, ◌+◌, ◌-◌, ◌*◌, ◌/◌, arith}
 use Rattle.edd_image.specs.Contents.{attribute_fields}
 use Rattle.edd_machine.specs.Ranks.{rank_of}
-use Rattle.edd_machine.proofs.RisingRows.{below_middle, above_middle}
+use Rattle.edd_loader.proofs.Halving.{below_middle, above_middle}
 use Rattle.edd_machine.proofs.rows.first_from.Goals as goal
 
 pub loop-low-preserved-then-rank_at-key : goal.loop-low-preserved-then-rank_at-key

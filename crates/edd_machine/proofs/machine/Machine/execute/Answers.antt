@@ -1,10 +1,10 @@
-use Rattle.std.proofs.Common.{◌≡◌, Some, ap, ◌∙◌}
+use Rattle.std.proofs.Common.{◌≡◌, Some, refl, ap, ◌∙◌}
 use Rattle.edd_image.specs.Contents.{contents_in}
 use Rattle.edd_image.specs.Reading.{environment_of}
 use Rattle.edd_image.specs.Steps.{Effect, act}
 use Rattle.edd_machine.specs.Outcomes.{comes_to}
 use Rattle.edd_machine.specs.Running.{state_of}
-use Rattle.edd_machine.proofs.Acting.{ask_acts, effect_same, shared, variable_there, comes_over}
+use Rattle.edd_machine.proofs.Acting.{ask_acts, effect_same, shared, variable_there, values_counted, comes_over}
 use Rattle.edd_machine.proofs.machine.Machine.execute.Goals as goal
 
 pub perform-outcome-requires-clause-shared : goal.perform-outcome-requires-clause-shared
@@ -14,6 +14,10 @@ perform-outcome-requires-clause-shared c = shared c.args.instruction c.in_defaul
 pub perform-outcome-requires-clause-exists : goal.perform-outcome-requires-clause-exists
 perform-outcome-requires-clause-exists c = λ v e. rw c.as_slice-values.ensures.value
     (variable_there _ _ _ v c.requires.ready e)
+
+pub perform-outcome-requires-clause-counted : goal.perform-outcome-requires-clause-counted
+perform-outcome-requires-clause-counted c = rw c.as_slice-values.ensures.value
+    (values_counted _ _ c.requires.valid c.requires.ready.is.values)
 
 pub returns-in-Ask-clause-acts : goal.returns-in-Ask-clause-acts
 returns-in-Ask-clause-acts c = effect_same _ _ _ _ (ask_acts _ _ _ _ _ c.in-Ask.is)
@@ -25,7 +29,7 @@ returns-in_default-clause-acts c =
     let s = state_of c.args.image.now c.args.self.now in
     let acted : act env c.args.instruction c.args.next s
     ≡ Some (comes_to c.perform-outcome.result c.perform-outcome.new.operands s) =
-    rw c.as_slice-values.ensures.value at (c.perform-outcome.ensures env s) in
+    rw c.as_slice-values.ensures.value at (c.perform-outcome.ensures env s refl) in
     let taken = comes_over c.perform-outcome.result c.perform-outcome.new.operands s
     ∙ c.take_on.ensures.value c.args.image.now in
     record {
