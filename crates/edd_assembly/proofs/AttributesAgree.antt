@@ -31,7 +31,7 @@ use Rattle.edd_image.specs.Strings.{string_bytes, is_words}
 use Rattle.edd_image.specs.Steps.{opening}
 use Rattle.edd_image.specs.Reading as image
 use Rattle.edd_image.specs.Reading.{environment_of, row_of, opening_of, given_within, reading_of, default_records, is_no_item, reading_within}
-use Rattle.edd_image.specs.Agreement.{SameReading, SameRun, IsAttributeCode, string_of_table, string_numbered, item_meaning, tree_meaning}
+use Rattle.edd_image.specs.Agreement.{machine_of, SameReading, SameRun, IsAttributeCode, string_of_table, string_numbered, item_meaning, tree_meaning}
 use Rattle.edd_assembly.specs.Assembly.{Lowered, assembled}
 use Rattle.edd_assembly.specs.LoweredUnits.{IsBodyCode, IsUnitOf, AreUnitsOf}
 use Rattle.edd_assembly.proofs.Cutting.{code_of, code_cut}
@@ -87,9 +87,9 @@ module _ (unit : Description Target) (lowered : List Lowered) (strings : List Wo
   unfolding assembled
   kept = string_read strings valid short
 
-  pub same_types : environment_of contents ≡ record { types = (environment unit).variables }
+  pub same_types : environment_of contents ≡ machine_of (environment unit).variables
   unfolding assembled
-  same_types = ap (λ ts. record { types = ts }) (types_read unit.items)
+  same_types = ap machine_of (types_read unit.items)
 
   pub existing : (i : ItemNo) → item_exists contents.counts i
       ≡ nat_lt (index_of i) (count_of (kind_of i) unit.items)

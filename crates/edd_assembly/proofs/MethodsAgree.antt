@@ -23,7 +23,7 @@ use Rattle.edd_syntax.specs.Device.{environment}
 use Rattle.edd_syntax.specs.Execution as run
 use Rattle.edd_syntax.specs.Rows.{of_kind}
 use Rattle.edd_image.specs.declared.unit.Sort.TheVariants.{Attribute, Method}
-use Rattle.edd_image.specs.Agreement.{string_of_table, string_numbered}
+use Rattle.edd_image.specs.Agreement.{machine_of, string_of_table, string_numbered}
 use Rattle.edd_image.specs.Contents.{part, Contents, contents_of}
 use Rattle.edd_image.specs.Execution.{Outcome, execute}
 use Rattle.edd_image.specs.Layout.{AreSections}
@@ -136,11 +136,11 @@ module _ (unit : Description Target) (lowered : List Lowered) (strings : List Wo
               (runs env f.row.attribute f.row.sub (part f.row.span c.code)))
               (sym (same_types unit lowered strings units valid short))
               (subst (λ (bytes : List ℕ). same
-              (runs (record { types = (environment unit).variables })
+              (runs (machine_of (environment unit).variables)
               f.row.attribute f.row.sub bytes)) (sym f.code)
-              (subst (λ (n : ℕ). same (runs (record { types = (environment unit).variables })
+              (subst (λ (n : ℕ). same (runs (machine_of (environment unit).variables)
               f.row.attribute n f.unit.code)) (sym f.sub)
-              (subst (λ (n : ℕ). same (runs (record { types = (environment unit).variables }) n
+              (subst (λ (n : ℕ). same (runs (machine_of (environment unit).variables) n
               f.unit.row.sub f.unit.code)) (sym attribute) code.agrees))));
         }
 

@@ -19,7 +19,7 @@ use Rattle.edd_image.specs.Contents.{part, Contents, fields_of_name, fields_of_a
 use Rattle.edd_image.specs.Layout.{AreSections}
 use Rattle.edd_image.specs.Strings.{string_bytes}
 use Rattle.edd_image.specs.Units.{IsValidUnit}
-use Rattle.edd_image.specs.Validity.{placed_unit, fills, rise, is_attribute_row, are_variable_rows, are_name_rows, are_attribute_rows, are_string_rows, IsSound}
+use Rattle.edd_image.specs.Validity.{placed_unit, fills, rise, is_attribute_row, are_variable_rows, are_name_rows, are_attribute_rows, are_element_rows, are_string_rows, IsSound}
 use Rattle.edd_image.specs.Agreement.{counts_of, IsAttributeCode}
 use Rattle.edd_assembly.specs.Assembly.{Lowered, names_of, name_rows, attribute_rows, assembled}
 use Rattle.edd_assembly.specs.LoweredUnits.{plain_row, IsBodyCode, IsUnitOf, AreUnitsOf}
@@ -169,6 +169,10 @@ module _ (unit : Description Target) (lowered : List Lowered) (words : List code
       (and_from (rise fields) (fills 0 (map (λ r. r.span) fields) end)
       (attributes_rise unit.items lowered units.in_order) (code_fills lowered))
 
+  elements : IsTrue (are_element_rows contents)
+  unfolding assembled
+  elements = refl
+
   strings : IsTrue (are_string_rows contents)
   unfolding assembled
   strings = strings_fill (map string_of words)
@@ -184,10 +188,14 @@ module _ (unit : Description Target) (lowered : List Lowered) (words : List code
   sections_sound = record {
     rows =
         and_from (are_variable_rows contents) (are_name_rows contents
-        && (are_attribute_rows contents && are_string_rows contents)) variables
-        (and_from (are_name_rows contents) (are_attribute_rows contents && are_string_rows contents)
+        && (are_attribute_rows contents && (are_element_rows contents && are_string_rows contents)))
+        variables
+        (and_from (are_name_rows contents)
+        (are_attribute_rows contents && (are_element_rows contents && are_string_rows contents))
         names
-        (and_from (are_attribute_rows contents) (are_string_rows contents) attributes strings));
+        (and_from (are_attribute_rows contents)
+        (are_element_rows contents && are_string_rows contents) attributes
+        (and_from (are_element_rows contents) (are_string_rows contents) elements strings)));
     names = names_sound unit.items formed;
     strings = strings_sound (map string_of words) (strings_valid words) strings_short;
     valid_units = units_sound;

@@ -21,6 +21,7 @@ use Rattle.edd_image.specs.declared.parts.NameRow.{NameRow}
 use Rattle.edd_image.specs.declared.parts.AttributeRow.{AttributeRow}
 use Rattle.edd_image.specs.declared.parts.StringRow.{StringRow}
 use Rattle.edd_image.specs.declared.parts.Counts.{Counts}
+use Rattle.edd_image.specs.declared.unit.Version.TheVariants.{One}
 use Rattle.edd_image.specs.Layout.{Sections}
 use Rattle.edd_image.specs.Strings.{string_bytes}
 use Rattle.edd_image.specs.Agreement.{counts_of}
@@ -101,15 +102,17 @@ abbrev pub variable_kinds : List (Item Target) → List VarKind
 variable_kinds items = map (λ i. kind_of_type (written_type i.attributes))
     (of_kind kind.Variable items)
 
--- ---- all sections
+-- ---- all sections, in the first version of the layout: no description has arrays
 
 abbrev pub sections : Counts → List VarKind → List NameRow → List AttributeRow → (code : List ℕ)
     → List StringRow → (name_bytes string_bytes : List ℕ) → Sections
 sections counts variables names attributes code strings name_bytes string_bytes = record {
+  version = One;
   counts = counts;
   variables = variables;
   names = names;
   attributes = attributes;
+  elements = [];
   code = code;
   strings = strings;
   name_bytes = name_bytes;
@@ -118,10 +121,12 @@ sections counts variables names attributes code strings name_bytes string_bytes 
 
 unfoldable pub assembled : Description Target → List Lowered → List Words → Sections
 assembled unit lowered strings = record {
+  version = One;
   counts = counts_of unit.identification unit.items (length strings);
   variables = variable_kinds unit.items;
   names = name_rows 0 (names_of unit.items);
   attributes = attribute_rows 0 lowered;
+  elements = [];
   code = flat_map (λ l. l.code) lowered;
   strings = string_rows 0 strings;
   name_bytes = flat_map (λ n. n) (names_of unit.items);

@@ -18,7 +18,7 @@ use crate::lengths::number_of;
 use crate::names::{NameSection, name_section};
 use crate::strings::{StringSection, string_section};
 use crate::units::{CodeSection, Lowered, code_section};
-use edd_image::{Counts, Parts, VarKind};
+use edd_image::{Counts, Parts, VarKind, Version};
 use edd_syntax::checked::Checked;
 use edd_syntax::item::{Identification, Item};
 use edd_syntax::numbers::Kind;
@@ -73,8 +73,9 @@ fn check_length(
     Ok(())
 }
 
-// The parts of these sections.
+// The parts of these sections, in the first version of the layout.
 fn parts_of(
+    alloc: Global,
     counts: Counts,
     variables: Vec<VarKind>,
     names: NameSection,
@@ -102,10 +103,12 @@ fn parts_of(
         name_bytes as usize + string_bytes as usize,
     )?;
     Ok(Parts {
+        version: Version::One,
         counts,
         variables,
         names: names.rows,
         attributes: code.rows,
+        elements: Vec::new(alloc),
         code: code.bytes,
         strings: strings.rows,
         name_bytes: names.bytes,
@@ -133,7 +136,7 @@ fn assemble_items(
     let names = name_section(alloc, items)?;
     let code = code_section(alloc, units)?;
     let strings = string_section(alloc, strings)?;
-    parts_of(counts, variables, names, code, strings)
+    parts_of(alloc, counts, variables, names, code, strings)
 }
 
 /// The parts of an image: the description's counts, types and names, the code of its attributes in
