@@ -139,6 +139,7 @@ module _ (env : Environment) (code : List ℕ) (values : List ℤ) where
   straight_comes p next instruction.Duplicate [] stands h = tt
   straight_comes p next instruction.Duplicate (a ∷ below) stands h =
       quiet_comes p next (a ∷ below) _ instruction.Duplicate stands refl
+  straight_comes p next (instruction.ReadElement array) operands stands h = absurd (cc h)
   straight_comes p next (instruction.Operate op) [] stands h = tt
   straight_comes p next (instruction.Operate op) (b ∷ []) stands h = tt
   straight_comes p next (instruction.Operate op) (b ∷ (a ∷ below)) stands h =
@@ -178,6 +179,7 @@ module _ (env : Environment) (code : List ℕ) (values : List ℤ) where
       record_comes p next operands operands (instruction.Response n class text) _ stands refl
   straight_comes p next (instruction.Member name item label help) operands stands h =
       record_comes p next operands operands (instruction.Member name item label help) _ stands refl
+  straight_comes p next (instruction.Element n v label help) operands stands h = absurd (cc h)
   straight_comes p next (instruction.Ask request) operands stands h = absurd (cc h)
   straight_comes p next instruction.Abort operands stands h = absurd (cc h)
 

@@ -10,7 +10,6 @@ use Rattle.edd_image.specs.declared.unit.Context.{Context}
 use Rattle.edd_image.specs.declared.unit.Sort.{Sort}
 use Rattle.edd_image.specs.declared.unit.Sort.TheVariants.{Attribute, Method}
 use Rattle.edd_image.specs.declared.unit.Version.{Version}
-use Rattle.edd_image.specs.declared.unit.Version.TheVariants.{One}
 use Rattle.edd_image.specs.References.{names_exist}
 use Rattle.edd_image.specs.Spelling.{spelling}
 use Rattle.edd_image.specs.Units.{Placed, instructions, end_of, leaves, jump, ways, is_allowed, is_chain, is_start, is_forward, lands, all_land, AreDepths, HasDepths, all_exist, IsValidUnit}
@@ -71,13 +70,13 @@ module _ (version : Version) (sort : Sort) where
 
 -- jumps and the end may stand in each unit
 pub jumps_allowed : (version : Version) (sort : Sort) → HoldsOfJumps (is_allowed version sort)
-jumps_allowed One Attribute = record {
+jumps_allowed version Attribute = record {
   jump = λ to. refl;
   zero = λ to. refl;
   not_zero = λ to. refl;
   label = λ z to. refl;
 }
-jumps_allowed One Method = record {
+jumps_allowed version Method = record {
   jump = λ to. refl;
   zero = λ to. refl;
   not_zero = λ to. refl;
@@ -85,8 +84,8 @@ jumps_allowed One Method = record {
 }
 
 end_allowed : (version : Version) (sort : Sort) → is_allowed version sort instruction.End ≡ true
-end_allowed One Attribute = refl
-end_allowed One Method = refl
+end_allowed version Attribute = refl
+end_allowed version Method = refl
 
 -- ---- lists
 

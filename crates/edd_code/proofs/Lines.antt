@@ -35,6 +35,7 @@ spelling_not_empty (instruction.GetLocal slot) = omega arith
 spelling_not_empty (instruction.SetLocal slot) = omega arith
 spelling_not_empty instruction.Pop = omega arith
 spelling_not_empty instruction.Duplicate = omega arith
+spelling_not_empty (instruction.ReadElement a) = omega arith
 spelling_not_empty (instruction.Operate op) = omega arith
 spelling_not_empty (instruction.Compare op) = omega arith
 spelling_not_empty instruction.Negate = omega arith
@@ -52,6 +53,7 @@ spelling_not_empty (instruction.DataVar v mask quals) = omega arith
 spelling_not_empty (instruction.Enumerator n text help) = omega arith
 spelling_not_empty (instruction.Response n class text) = omega arith
 spelling_not_empty (instruction.Member name item label help) = omega arith
+spelling_not_empty (instruction.Element n v label help) = omega arith
 spelling_not_empty (instruction.Ask request) = omega arith
 spelling_not_empty instruction.Abort = omega arith
 

@@ -14,7 +14,7 @@ use Rattle.edd_image.specs.declared.instruction.Ask.TheVariants as ask
 use Rattle.edd_image.specs.declared.instruction.Instruction.{Instruction}
 use Rattle.edd_image.specs.declared.instruction.Instruction.TheVariants as instruction
 use Rattle.edd_image.specs.Decoding.{instruction_at}
-use Rattle.edd_image.specs.Steps.{Environment, act, go, give, ask_for, push_or_trap}
+use Rattle.edd_image.specs.Steps.{Environment, act, go, give, ask_for, push_or_trap, element_value}
 use Rattle.edd_code.specs.BlockEffects.{Goes}
 use Rattle.edd_code.specs.Reports.{at, worded}
 use Rattle.edd_code.specs.MethodEffects.{when_known, outcome_of, does_one, CanBeTaken, Comes}
@@ -104,6 +104,10 @@ module _ (text : StrNo → Option Words) (env : Environment) (code : List ℕ) (
   straight_comes instruction.Duplicate [] h = tt
   straight_comes instruction.Duplicate (a ∷ below) h = goes instruction.Duplicate h (a ∷ below) _
       s.slots refl
+  straight_comes (instruction.ReadElement array) [] h = tt
+  straight_comes (instruction.ReadElement array) (a ∷ below) h =
+      pushes (instruction.ReadElement array) h (a ∷ below) below
+      (element_value env 32 s.values array a) refl
   straight_comes (instruction.Operate op) [] h = tt
   straight_comes (instruction.Operate op) (b ∷ []) h = tt
   straight_comes (instruction.Operate op) (b ∷ (a ∷ below)) h = pushes (instruction.Operate op) h
@@ -141,6 +145,8 @@ module _ (text : StrNo → Option Words) (env : Environment) (code : List ℕ) (
       gives (instruction.Response n class t) h operands operands _ refl
   straight_comes (instruction.Member name item label help) operands h =
       gives (instruction.Member name item label help) h operands operands _ refl
+  straight_comes (instruction.Element n v label help) operands h =
+      gives (instruction.Element n v label help) h operands operands _ refl
   straight_comes (instruction.Ask (ask.PutMessage t)) operands h =
       asks (instruction.Ask (ask.PutMessage t)) h operands operands _ refl
   straight_comes (instruction.Ask (ask.Acknowledge t)) operands h =

@@ -1,6 +1,6 @@
 -- What stands round an expression of a method: the numbers of its texts, and the types of the
 -- variables.
-use Rattle.std.specs.Prelude.{◌≡◌, Option, Some}
+use Rattle.std.specs.Prelude.{◌≡◌, [], Option, Some}
 use Rattle.std.specs.List.{AllByRecursion}
 use Rattle.edd_syntax.specs.declared.numbers.StrNo.{StrNo}
 use Rattle.edd_syntax.specs.declared.reference.Target.{Target}
@@ -11,9 +11,9 @@ use Rattle.edd_syntax.specs.Strings.{expr_texts}
 use Rattle.edd_syntax.specs.Words.{Words, words_of}
 use Rattle.edd_image.specs.Steps.{Environment}
 
--- the machine with the types that the source knows
+-- the machine with the types that the source knows, and no arrays
 abbrev pub machine_of : device.Environment → Environment
-machine_of env = record { types = env.variables }
+machine_of env = record { types = env.variables; elements = [] }
 
 module _ (text : StrNo → Option Words) (number : Words → StrNo) where
   -- the number of a text's words is theirs
