@@ -12,7 +12,7 @@ use Rattle.edd_image.specs.declared.instruction.Ask.{Ask}
 use Rattle.edd_image.specs.declared.instruction.Ask.TheVariants as ask
 use Rattle.edd_image.specs.declared.instruction.Instruction.{Instruction}
 use Rattle.edd_image.specs.declared.instruction.Instruction.TheVariants as instruction
-use Rattle.edd_image.specs.References.{optional_string_exists, item_exists, request_exists, names_exist}
+use Rattle.edd_image.specs.References.{optional_string_exists, variable_exists, item_exists, request_exists, names_exist}
 use Rattle.edd_image.specs.Agreement.{attribute_context}
 use Rattle.edd_code.specs.Blocks as block
 use Rattle.edd_code.specs.Blocks.{Block}
@@ -85,6 +85,7 @@ module _ (unit : Description Target) (strings later : List Words) where
   names_still (instruction.SetLocal slot) h = h
   names_still instruction.Pop h = refl
   names_still instruction.Duplicate h = refl
+  names_still (instruction.ReadElement array) h = h
   names_still (instruction.Operate op) h = refl
   names_still (instruction.Compare op) h = refl
   names_still instruction.Negate h = refl
@@ -111,6 +112,11 @@ module _ (unit : Description Target) (strings later : List Words) where
       both_true (string_still name named.0)
       (both_true (item_still item found.0)
       (both_true (optional_still label told.0) (optional_still help told.1)))
+  names_still (instruction.Element n v label help) h =
+      let found = both_of (variable_exists (attribute_context unit strings).counts v) _ h in
+      let told = both_of (optional_string_exists (attribute_context unit strings).counts label) _
+      found.1 in
+      both_true found.0 (both_true (optional_still label told.0) (optional_still help told.1))
   names_still (instruction.Ask request) h = request_still request h
   names_still instruction.Abort h = refl
 

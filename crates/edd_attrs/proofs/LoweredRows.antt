@@ -27,7 +27,7 @@ use Rattle.edd_image.specs.Spelling.{spelling}
 use Rattle.edd_image.specs.Units.{IsValidUnit}
 use Rattle.edd_image.specs.Reading.{given_within}
 use Rattle.edd_image.specs.Steps.{opening}
-use Rattle.edd_image.specs.Agreement.{SameRun, UnitMeans, IsAttributeCode, string_of_table, attribute_context, tree_meaning}
+use Rattle.edd_image.specs.Agreement.{machine_of, SameRun, UnitMeans, IsAttributeCode, string_of_table, attribute_context, tree_meaning}
 use Rattle.edd_code.specs.Blocks.{Block, size, bytes_at, unit_code}
 use Rattle.edd_code.specs.Outcomes.{does}
 use Rattle.edd_code.proofs.BlockBytes.{lengths}
@@ -190,36 +190,36 @@ module _ (unit : Description Target) (checked : ∥ IsChecked unit ∥₁) (row 
 
       means_in : (later : List Words) (values : List ℤ) → (t : Trapping (List source.Record))
           → SameOutcome (string_of_table (new ++ later)) t
-          (does (record { types = (environment unit).variables }) values b [])
+          (does (machine_of (environment unit).variables) values b [])
           → (n : ℕ) × (given : Result (List Record) Trap)
-          × (given_within n (record { types = (environment unit).variables })
+          × (given_within n (machine_of (environment unit).variables)
           (opening (record { sort = Attribute; code = code }) 0 values) ≡ Some given)
           × SameRun (string_of_table (new ++ later)) t given
       means_in later values (Ok xs) same =
-          let run = unit_goes (record { types = (environment unit).variables }) values b
+          let run = unit_goes (machine_of (environment unit).variables) values b
           sound.spelled sound.flows small same.0 same.1 in
           (run.0, Ok same.0, here run.0 (Ok same.0) run.1, (same.0, refl, same.2))
         where
           here : (n : ℕ) (given : Result (List Record) Trap)
-              → given_within n (record { types = (environment unit).variables })
+              → given_within n (machine_of (environment unit).variables)
               (opening (record { sort = Attribute; code = unit_code b }) 0 values) ≡ Some given
-              → given_within n (record { types = (environment unit).variables })
+              → given_within n (machine_of (environment unit).variables)
               (opening (record { sort = Attribute; code = code }) 0 values) ≡ Some given
           here n given h = ap (λ (bs : List ℕ). given_within n
-              (record { types = (environment unit).variables })
+              (machine_of (environment unit).variables)
               (opening (record { sort = Attribute; code = bs }) 0 values)) lowered.is_unit ∙ h
       means_in later values (Err why) same =
-          let run = unit_traps (record { types = (environment unit).variables }) values b
+          let run = unit_traps (machine_of (environment unit).variables) values b
           sound.spelled sound.flows small why same in
           (run.0, Err why, here run.0 (Err why) run.1, refl)
         where
           here : (n : ℕ) (given : Result (List Record) Trap)
-              → given_within n (record { types = (environment unit).variables })
+              → given_within n (machine_of (environment unit).variables)
               (opening (record { sort = Attribute; code = unit_code b }) 0 values) ≡ Some given
-              → given_within n (record { types = (environment unit).variables })
+              → given_within n (machine_of (environment unit).variables)
               (opening (record { sort = Attribute; code = code }) 0 values) ≡ Some given
           here n given h = ap (λ (bs : List ℕ). given_within n
-              (record { types = (environment unit).variables })
+              (machine_of (environment unit).variables)
               (opening (record { sort = Attribute; code = bs }) 0 values)) lowered.is_unit ∙ h
 
       means : (later : List Words)
@@ -228,9 +228,9 @@ module _ (unit : Description Target) (checked : ∥ IsChecked unit ∥₁) (row 
       means later values are =
           means_in later values (tree_meaning unit row values)
           (subst (λ (m : source.Meaning). SameOutcome (string_of_table (new ++ later)) (m values)
-          (does (record { types = (environment unit).variables }) values b []))
+          (does (machine_of (environment unit).variables) values b []))
           (sym (unit_means unit row))
-          (block_means unit (new ++ later) (record { types = (environment unit).variables })
+          (block_means unit (new ++ later) (machine_of (environment unit).variables)
           (environment unit) values (tree_at unit row) b whole (lowered.is later)))
 
       pub lowered_means : (later : List Words) → IsAttributeCode unit (new ++ later) row code

@@ -37,16 +37,17 @@ line_passes f [] h = refl
 line_passes f (i ∷ is) h = let parts = both_of (f i) (list_all f is) h in rw
     (parts.0, line_passes f is parts.1) refl
 
-record_flows : (r : Record) → Flows (straight_line (giving r)) 0
-record_flows (records.Words s) = ((refl, omega arith, omega arith), tt)
-record_flows (records.Number z) =
+record_flows : (r : Record) → IsSayable r → Flows (straight_line (giving r)) 0
+record_flows (records.Words s) h = ((refl, omega arith, omega arith), tt)
+record_flows (records.Number z) h =
     ((refl, omega arith, omega arith), ((refl, omega arith, omega arith), tt))
-record_flows (records.Entry item quals) = ((refl, omega arith, omega arith), tt)
-record_flows (records.DataConst n) = ((refl, omega arith, omega arith), tt)
-record_flows (records.DataVar v mask quals) = ((refl, omega arith, omega arith), tt)
-record_flows (records.Enumerator n text help) = ((refl, omega arith, omega arith), tt)
-record_flows (records.Response n class text) = ((refl, omega arith, omega arith), tt)
-record_flows (records.Member name item label help) = ((refl, omega arith, omega arith), tt)
+record_flows (records.Entry item quals) h = ((refl, omega arith, omega arith), tt)
+record_flows (records.DataConst n) h = ((refl, omega arith, omega arith), tt)
+record_flows (records.DataVar v mask quals) h = ((refl, omega arith, omega arith), tt)
+record_flows (records.Enumerator n text help) h = ((refl, omega arith, omega arith), tt)
+record_flows (records.Response n class text) h = ((refl, omega arith, omega arith), tt)
+record_flows (records.Member name item label help) h = ((refl, omega arith, omega arith), tt)
+record_flows (records.Element n v label help) h = absurd h
 
 record_even : (r : Record) → depth_after (straight_line (giving r)) 0 ≡ 0
 record_even (records.Words s) = refl
@@ -57,6 +58,7 @@ record_even (records.DataVar v mask quals) = refl
 record_even (records.Enumerator n text help) = refl
 record_even (records.Response n class text) = refl
 record_even (records.Member name item label help) = refl
+record_even (records.Element n v label help) = refl
 
 pub line_short : (r : Record) → size (straight_line (giving r)) ≤ 13
 line_short (records.Words s) = omega arith
@@ -67,6 +69,7 @@ line_short (records.DataVar v mask quals) = omega arith
 line_short (records.Enumerator n text help) = omega arith
 line_short (records.Response n class text) = omega arith
 line_short (records.Member name item label help) = omega arith
+line_short (records.Element n v label help) = omega arith
 
 module _ (env : Environment) (d : List ℤ) where
   record_does : (r : Record) → IsSayable r → does env d (straight_line (giving r)) []
@@ -83,6 +86,7 @@ module _ (env : Environment) (d : List ℤ) where
   record_does (records.Enumerator n text help) h = refl
   record_does (records.Response n class text) h = refl
   record_does (records.Member name item label help) h = refl
+  record_does (records.Element n v label help) h = absurd h
 
 -- a number is one of 32 bits
 module _ (unit : Description Target) (strings : List Words) where
@@ -117,7 +121,7 @@ module _ (unit : Description Target) (few : (k : Kind) → count_of k unit.items
       let spelled = record_spelled unit few strings few_strings x is.0 fine is.1 in
       let exist = record_exists unit few strings x is.0 fine is.1 in
       subst (λ c. IsSound (attribute_context unit strings) c 1) (sym is.2) (record {
-        flows = record_flows is.0;
+        flows = record_flows is.0 spelled.1;
         even = record_even is.0;
         spelled = line_spelled (giving is.0) spelled.0;
         exist = line_passes (names_exist (attribute_context unit strings)) (giving is.0) exist;

@@ -34,7 +34,8 @@ use Rattle.edd_attrs.specs.Records.{is_number, is_label, counts_in, is_fine}
 use Rattle.edd_code.proofs.BothTests.{both_of}
 use Rattle.edd_syntax.proofs.NoArrays.{no_arrays}
 
--- what a record needs so that its code gives it: a number is one of 32 bits
+-- what a record needs so that its code gives it: a number is one of 32 bits, and no description has
+-- arrays
 abbrev pub IsSayable : Record → Type 0
 IsSayable (records.Number z) = (n : ℕ) × (z ≡ pos n) × (n < 2 ^ 32)
 IsSayable (records.Words s) = Unit {0}
@@ -44,6 +45,7 @@ IsSayable (records.DataVar v mask quals) = Unit {0}
 IsSayable (records.Enumerator n text help) = Unit {0}
 IsSayable (records.Response n class text) = Unit {0}
 IsSayable (records.Member name item label help) = Unit {0}
+IsSayable (records.Element n v label help) = ⊥
 
 -- a number of 32 bits stays itself in 64
 pub wrap_small : (n : ℕ) → n < 2 ^ 32 → wrap 64 (pos n) ≡ pos n
