@@ -67,6 +67,8 @@ module _ (s : State) (runs : s.status ≡ status.Running) where
   acts env (instruction.SetLocal slot) next = top s.operands _ (λ a below. none)
   acts env instruction.Pop next = top s.operands _ (λ a below. none)
   acts env instruction.Duplicate next = top s.operands _ (λ a below. none)
+  acts env (instruction.ReadElement array) next =
+      top s.operands _ (λ number below. pushes next below _)
   acts env (instruction.Operate op) next = two s.operands _ (λ a b below. pushes next below _)
   acts env (instruction.Compare op) next = two s.operands _ (λ a b below. none)
   acts env instruction.Negate next = top s.operands _ (λ a below. none)
@@ -86,6 +88,7 @@ module _ (s : State) (runs : s.status ≡ status.Running) where
   acts env (instruction.Enumerator n text help) next = none
   acts env (instruction.Response n class text) next = none
   acts env (instruction.Member name item label help) next = none
+  acts env (instruction.Element n v label help) next = none
   acts env (instruction.Ask request) next = asks request next
   acts env instruction.Abort next = refl
 
