@@ -1,5 +1,7 @@
 //! Images that are written from their parts.
 
+ghost use Rattle.std.specs.Prelude.{◌≡◌, IfOk, vec_len};
+
 use crate::worked::{ARRAY, LABEL, LOOP};
 use edd_image::{
     AttributeRow, Counts, Instruction, NameRow, Parts, StringRow, VarKind, Version, decode, write,
@@ -142,17 +144,15 @@ fn a_label_in_two_languages_is_written(rt: HostRuntime) -> Result<(), Fail> {
     Ok(())
 }
 
-// The rows of the names `x`, `y`, `m` and `a`.
-fn array_names(alloc: Global) -> Result<Vec<NameRow>, AllocError> {
-    let mut names = Vec::new(alloc);
-    for start in 0..4 {
-        names.push(NameRow { start, length: 1 })?;
-    }
-    Ok(names)
+// The row of a name of one byte.
+fn letter(start: u32) -> NameRow {
+    NameRow { start, length: 1 }
 }
 
 // The method's body and the array's elements.
-fn array_rows(alloc: Global) -> Result<Vec<AttributeRow>, AllocError> {
+fn array_rows(alloc: Global) -> Result<Vec<AttributeRow>, AllocError>
+    ensures { IfOk result (λ rows. vec_len rows ≡ 2) }
+{
     let rows = vec![in alloc;
         AttributeRow {
             item: ItemNo::Method(MethNo(0)),
@@ -191,10 +191,6 @@ fn an_array_is_written(rt: HostRuntime) -> Result<(), Fail> {
             var: VarNo(1),
         },
     ]?;
-    let names = array_names(alloc)?;
-    if names.len() != 4 {
-        return Err(Fail::from("not four names"));
-    }
     let parts = Parts {
         version: Version::Two,
         counts: Counts {
@@ -204,7 +200,7 @@ fn an_array_is_written(rt: HostRuntime) -> Result<(), Fail> {
             ..NO_COUNTS
         },
         variables: vec![in alloc; kind, kind]?,
-        names,
+        names: vec![in alloc; letter(0), letter(1), letter(2), letter(3)]?,
         attributes: array_rows(alloc)?,
         elements,
         code: vec![in alloc;
