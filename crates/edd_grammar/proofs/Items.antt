@@ -67,9 +67,11 @@ sort_sound kind.Method here behind sort rest e x = as_read (λ s r. ItemWordHere
 sort_sound kind.Collection here behind sort rest e x =
     let a = bind_some (expect_word word.Of behind) _ (sort, rest) x in
     let b = bind_some (kind_at a.0) _ (sort, rest) a.2 in
-    as_read (λ s r. ItemWordHere s here r) (CollectionItem b.0.0) sort b.0.1 rest b.2
-    (a.0, e ∙ ap (λ u. Reserved word.Collection ∷ u) (expect_word_is word.Of behind a.0 a.1),
-    kind_sound a.0 b.0.0 b.0.1 b.1)
+    as_read (λ s r. ItemWordHere s here r) (CollectionItem b.0.0) sort b.0.1 rest b.2 (
+      a.0,
+      e ∙ ap (λ u. Reserved word.Collection ∷ u) (expect_word_is word.Of behind a.0 a.1),
+      kind_sound a.0 b.0.0 b.0.1 b.1,
+    )
 sort_sound kind.Array here behind sort rest e x = absurd e
 
 -- the kind is read, and what stands behind it

@@ -58,11 +58,7 @@ fn is_of_source(attr: Attr) -> bool {
 // The attribute with this word.
 fn attribute_of(word: &str) -> Option<Attr> {
     let attr = ATTRIBUTES.iter().copied().find(|attr| attr.word() == word)?;
-    if is_of_source(attr) {
-        Some(attr)
-    } else {
-        None
-    }
+    if is_of_source(attr) { Some(attr) } else { None }
 }
 
 // Whether the word is that of an attribute that stands in the braces of TYPE.
