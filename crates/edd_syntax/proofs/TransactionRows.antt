@@ -34,6 +34,7 @@ module _ (number : ItemNo) (a : Attr) where
   positions_split next (item.ResponseCodes responses) xs = refl
   positions_split next (item.Items entries) xs = refl
   positions_split next (item.Members members) xs = refl
+  positions_split next (item.Elements elements) xs = refl
   positions_split next (item.Definition body) xs = refl
 
   pub no_positions : (next : ℕ) → positions_from next [] ≡ []

@@ -12,19 +12,15 @@ use Rattle.edd_syntax.specs.Item as item
 use Rattle.edd_syntax.specs.Item.{ItemKind, kind_of_item, Attribute, Item, Description}
 use Rattle.edd_syntax.specs.Numbers.{same_kind}
 use Rattle.edd_syntax.specs.Resolution.{count_of, member_kinds}
-use Rattle.edd_syntax.specs.ResolvedTrees.{◌>>=◌, each, unchanged, resolved_cond, resolved_conds, resolved_body, at_attribute, resolved_entry, resolved_member, resolved_type_part, resolved_transaction_part, resolved_attribute, resolved_item, resolved_unit}
+use Rattle.edd_syntax.specs.ResolvedTrees.{◌>>=◌, each, unchanged, resolved_cond, resolved_conds, resolved_body, at_attribute, resolved_entry, resolved_member, resolved_element, resolved_type_part, resolved_transaction_part, resolved_attribute, resolved_item, resolved_unit}
 use Rattle.edd_syntax.specs.NameRules.{is_transaction, transaction_count, kinds}
 use Rattle.edd_syntax.specs.NameRules.{too_many}
-use Rattle.edd_syntax.specs.Resolved.{IsChecked}
+use Rattle.edd_syntax.specs.Resolved.{IsResolved, IsChecked}
+use Rattle.edd_syntax.proofs.Made.{bind_some}
 use Rattle.std.proofs.Math.Logic.{∥∥₁_elim}
 use Rattle.std.proofs.Math.Bridge.{le_prop}
 use Rattle.std.proofs.Math.Bool.{Bool-set}
 use Rattle.edd_syntax.specs.Refusal.{Refusal, refused_if}
-
-bind_some : {A B : Type 0} (o : Option A) (f : A → Option B) (z : B) → (o >>= f) ≡ Some z
-    → (x : A) × (o ≡ Some x) × (f x ≡ Some z)
-bind_some None f z h = absurd (none-some z h)
-bind_some (Some x) f z h = (x, refl, h)
 
 -- what a function gives of the value that is there
 at_some : {A C : Type 0} (f : A → C) (d : C) (x y : A) → Some x ≡ Some y → f x ≡ f y
@@ -89,6 +85,8 @@ keeps_transaction unit sort (item.Items entries) b h =
 keeps_transaction unit sort (item.Members members) b h =
     made (each (resolved_member unit (member_kinds sort)) members) item.Members b false (λ x. refl)
     h
+keeps_transaction unit sort (item.Elements elements) b h =
+    made (each (resolved_element unit) elements) item.Elements b false (λ x. refl) h
 keeps_transaction unit sort (item.Definition body) b h = made (resolved_body unit body [] 0)
     item.Definition b false (λ x. refl) h
 
@@ -115,7 +113,7 @@ keeps_count unit i y h =
 
 module _ (unit : Description Path) (items : List (Item Target))
     (meant : each (resolved_item unit) unit.items ≡ Some items) where
-  same_count : (k : Kind) → count_of k items ≡ count_of k unit.items
+  pub same_count : (k : Kind) → count_of k items ≡ count_of k unit.items
   same_count k =
       filtered (λ i. i.sort) (λ s. same_kind (kind_of_item s) k) items
       ∙ ap (λ ss. length (filter (λ s. same_kind (kind_of_item s) k) ss))
@@ -133,18 +131,18 @@ module _ (unit : Description Path) (items : List (Item Target))
 
 -- ---- what no breach says
 
-not_empty : {A : Type 0} {x : A} {xs : List A} → ¬ (x ∷ xs ≡ [])
+pub not_empty : {A : Type 0} {x : A} {xs : List A} → ¬ (x ∷ xs ≡ [])
 not_empty h = omega (arith, ap length h)
 
-no_refusal : (b : Bool) (why : Refusal) → refused_if b why ≡ [] → b ≡ false
+pub no_refusal : (b : Bool) (why : Refusal) → refused_if b why ≡ [] → b ≡ false
 no_refusal true why h = absurd (not_empty h)
 no_refusal false why h = refl
 
-no_front : {A : Type 0} (xs ys : List A) → xs ++ ys ≡ [] → xs ≡ []
+pub no_front : {A : Type 0} (xs ys : List A) → xs ++ ys ≡ [] → xs ≡ []
 no_front [] ys h = refl
 no_front (x ∷ xs) ys h = absurd (not_empty h)
 
-no_rest : {A : Type 0} (xs ys : List A) → xs ++ ys ≡ [] → ys ≡ []
+pub no_rest : {A : Type 0} (xs ys : List A) → xs ++ ys ≡ [] → ys ≡ []
 no_rest [] ys h = h
 no_rest (x ∷ xs) ys h = absurd (not_empty h)
 
@@ -164,18 +162,17 @@ few_of_kind items kind.Array h = grind (arith, common_steps)
 
 -- ---- a checked description
 
-module _ (d : Description Target) (checked : IsChecked d) where
-  items_meant : each (resolved_item checked.is_resolved.unit) checked.is_resolved.unit.items
-      ≡ Some d.items
-  unfolding resolved_unit
-  items_meant =
-      let u = checked.is_resolved.unit in
-      let x = bind_some (each (resolved_item u) u.items)
-      (λ items. Some (record { identification = u.identification; items = items })) d
-      checked.is_resolved.meanings in
-      x.1 ∙ ap Some (at_some (λ e. e.items) []
-      (record { identification = u.identification; items = x.0 }) d x.2)
+pub items_meant : (d : Description Target) (r : IsResolved d)
+    → each (resolved_item r.unit) r.unit.items ≡ Some d.items
+unfolding resolved_unit
+items_meant d r =
+    let x = bind_some (each (resolved_item r.unit) r.unit.items)
+    (λ items. Some (record { identification = r.unit.identification; items = items })) d
+    r.meanings in
+    x.1 ∙ ap Some (at_some (λ e. e.items) []
+    (record { identification = r.unit.identification; items = x.0 }) d x.2)
 
+module _ (d : Description Target) (checked : IsChecked d) where
   none_too_many : too_many checked.is_resolved.unit ≡ []
   none_too_many = no_front (too_many checked.is_resolved.unit) _ checked.is_resolved.no_breach
 
@@ -184,14 +181,14 @@ module _ (d : Description Target) (checked : IsChecked d) where
       let u = checked.is_resolved.unit in
       omega (
         arith,
-        same_count u d.items items_meant k,
+        same_count u d.items (items_meant d checked.is_resolved) k,
         few_of_kind u.items k (no_refusal _ _ (no_front _ _ none_too_many)),
       )
 
   pub few_transactions : IsTrue (list_all (λ i. nat_le (transaction_count i) 4096) d.items)
   few_transactions =
       let u = checked.is_resolved.unit in
-      same_transactions u d.items items_meant ∙ none_over transaction_count u.items
+      same_transactions u d.items (items_meant d checked.is_resolved) ∙ none_over transaction_count u.items
       (no_refusal _ _ (no_front _ _ (no_rest _ _ none_too_many)))
 
 -- the facts as they stand in a checked description

@@ -87,10 +87,10 @@ abbrev local : E
 local = Reference (Local 0)
 
 abbrev of_one : VariableType → Environment
-of_one t = record { variables = t ∷ [] }
+of_one t = record { variables = t ∷ []; elements = [] }
 
 abbrev no_variables : Environment
-no_variables = record { variables = [] }
+no_variables = record { variables = []; elements = [] }
 
 abbrev int4 : Environment
 int4 = of_one (record { type = var_type.Integer; size = 4 })
@@ -404,6 +404,7 @@ abbrev byte_and_number : Environment
 byte_and_number = record {
   variables = record { type = var_type.UnsignedInteger; size = 1 }
       ∷ record { type = var_type.Integer; size = 4 } ∷ [];
+  elements = [];
 }
 
 -- `y = x++;` gives what x was

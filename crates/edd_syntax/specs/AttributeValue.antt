@@ -5,10 +5,11 @@ use Rattle.edd_syntax.specs.declared.numbers.ItemNo.{ItemNo}
 use Rattle.edd_syntax.specs.declared.numbers.ItemNo.TheVariants as item_no
 use Rattle.edd_syntax.specs.declared.answer.Trap.{Trap}
 use Rattle.edd_syntax.specs.Reference.{Target, Local, Item, Function}
-use Rattle.edd_syntax.specs.Expression.{Expr, Literal, Decimal, Reference, Parentheses, Unary, Binary, Compare, LogicalAnd, LogicalOr, Conditional, Assign, CompoundAssign, Increment, Call}
+use Rattle.edd_syntax.specs.Expression.{Expr, Literal, Decimal, Reference, Indexed, Parentheses, Unary, Binary, Compare, LogicalAnd, LogicalOr, Conditional, Assign, CompoundAssign, Increment, Call}
 use Rattle.edd_syntax.specs.Conditional.{Cond, Value, If, Select, Conds, Nil, Cons, Arms, NoArms, ConsArm, Case, Default}
 use Rattle.edd_syntax.specs.TwosComplement.{wrap, truth, is_zero, operate, compare, apply}
 use Rattle.edd_syntax.specs.DeviceValues.{value_at}
+use Rattle.edd_syntax.specs.Elements.{indexed_value}
 use Rattle.edd_syntax.specs.Device.{Environment}
 
 -- a result, or the first trap
@@ -42,6 +43,9 @@ module _ (env : Environment) (d : List ℤ) where
   unfoldable pub value : Expr Target → Trapping ℤ
   value (Literal n) = Ok (wrap 64 (pos n))
   value (Reference from) = Ok (read d from)
+  value (Indexed array index) = do
+    number ← value index
+    indexed_value env.elements 64 d array number
   value (Parentheses inner) = value inner
   value (Unary op operand) = do
     a ← value operand

@@ -3,7 +3,6 @@ use Rattle.std.specs.Prelude.{ℕ, ◌+◌, ◌*◌, Bool, true, false, not, ◌
 use Rattle.edd_syntax.specs.declared.numbers.Kind.{Kind}
 use Rattle.edd_syntax.specs.declared.numbers.VarNo.{VarNo}
 use Rattle.edd_syntax.specs.declared.numbers.ItemNo.{ItemNo}
-use Rattle.edd_syntax.specs.declared.numbers.ItemNo.TheVariants as item_no
 use Rattle.edd_syntax.specs.declared.numbers.Attr.{Attr}
 use Rattle.edd_syntax.specs.declared.numbers.Attr.TheVariants as attr
 use Rattle.edd_syntax.specs.declared.numbers.AttrRef.{AttrRef}
@@ -15,7 +14,7 @@ use Rattle.edd_syntax.specs.declared.types.Operation.TheVariants as operation
 use Rattle.edd_syntax.specs.declared.item.MenuQualifiers.{MenuQualifiers}
 use Rattle.edd_syntax.specs.declared.item.DataQualifiers.{DataQualifiers}
 use Rattle.edd_syntax.specs.Text.{Text}
-use Rattle.edd_syntax.specs.Reference.{Target, Local, Item, Function}
+use Rattle.edd_syntax.specs.Reference.{Target}
 use Rattle.edd_syntax.specs.Expression.{Expr}
 use Rattle.edd_syntax.specs.Conditional.{Cond, Conds, Nil, Cons}
 use Rattle.edd_syntax.specs.Item as item
@@ -23,6 +22,7 @@ use Rattle.edd_syntax.specs.Item.{kind_of_item, MenuEntry, DataItem, TypePart, T
 use Rattle.edd_syntax.specs.Words as words
 use Rattle.edd_syntax.specs.Words.{words_of, name_words}
 use Rattle.edd_syntax.specs.Numbers.{has_attr, same_attr, text_attr}
+use Rattle.edd_syntax.specs.Targets.{item_of, variable_of}
 use Rattle.edd_syntax.specs.Device.{Environment, environment, item_at}
 use Rattle.edd_syntax.specs.AttributeValue.{Trapping, ◌>>=◌, value, chosen, all_chosen}
 
@@ -36,6 +36,7 @@ pub data Record : Type 0 where
   Enumerator : (value : ℤ) → (text : words.Words) → (help : Option words.Words) → Record
   Response : (number : ℕ) → ResponseClass → (text : words.Words) → Record
   Member : (name : words.Words) → ItemNo → (label help : Option words.Words) → Record
+  Element : (number : ℕ) → VarNo → (label help : Option words.Words) → Record
 
 abbrev pub handling_number : Handling → ℕ
 handling_number handling.Read = 1
@@ -57,24 +58,6 @@ menu_bits q = bit q.display_value + 2 * bit q.read_only + 4 * bit q.hidden + 8 *
 
 abbrev pub data_bits : DataQualifiers → ℕ
 data_bits q = bit q.info + 2 * bit q.index
-
--- the item that a reference of a checked unit names, and the variable; there no other target stands
--- in an attribute
-abbrev pub item_of : Target → ItemNo
-item_of (Item i) = i
-item_of (Local slot) = item_no.Variable (record { 0 = 0 })
-item_of (Function f) = item_no.Variable (record { 0 = 0 })
-
-abbrev pub variable_of_item : ItemNo → VarNo
-variable_of_item (item_no.Variable v) = v
-variable_of_item (item_no.Command n) = record { 0 = 0 }
-variable_of_item (item_no.Menu n) = record { 0 = 0 }
-variable_of_item (item_no.Collection n) = record { 0 = 0 }
-variable_of_item (item_no.Method n) = record { 0 = 0 }
-variable_of_item (item_no.Array n) = record { 0 = 0 }
-
-abbrev pub variable_of : Target → VarNo
-variable_of target = variable_of_item (item_of target)
 
 -- ---- what a written attribute gives
 
@@ -106,6 +89,10 @@ response r = Response r.number r.class (words_of r.text)
 abbrev pub member : item.Member Target → Record
 member m = Member (name_words m.name) (item_of m.item) (option_map words_of m.label)
     (option_map words_of m.help)
+
+abbrev pub element : item.ArrayElement Target → Record
+element e = Element e.number (variable_of e.variable) (option_map words_of e.label)
+    (option_map words_of e.help)
 
 abbrev pub written_number : Option ℕ → List Record
 written_number (Some n) = Number (pos n) ∷ []
@@ -175,6 +162,7 @@ module _ (env : Environment) where
       (attr.ResponseCodes, constant (map response responses)) ∷ []
   of_attribute (item.Items entries) = (attr.Items, list entry entries) ∷ []
   of_attribute (item.Members members) = (attr.Members, constant (map member members)) ∷ []
+  of_attribute (item.Elements elements) = (attr.Elements, constant (map element elements)) ∷ []
   of_attribute (item.Definition body) = []
 
   abbrev pub of_attributes : List (Attribute Target) → List Named

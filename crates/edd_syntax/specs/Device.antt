@@ -1,10 +1,13 @@
--- The items of a description by number, and the types of its variables.
+-- The items of a description by number, the types of its variables and the elements of its arrays.
 use Rattle.std.specs.Prelude.{List, [], ◌∷◌, map, filter, slice_get, Option, unwrap_or}
 use Rattle.edd_syntax.specs.declared.numbers.Kind.{Kind}
 use Rattle.edd_syntax.specs.declared.numbers.Kind.TheVariants as kind
 use Rattle.edd_syntax.specs.declared.numbers.VarNo.{VarNo}
 use Rattle.edd_syntax.specs.declared.numbers.ItemNo.{ItemNo}
 use Rattle.edd_syntax.specs.declared.types.VarType.TheVariants as var_type
+use Rattle.edd_syntax.specs.declared.numbers.Element.{Element}
+use Rattle.edd_syntax.specs.Reference.{Target}
+use Rattle.edd_syntax.specs.Elements.{elements_from}
 use Rattle.edd_syntax.specs.DeviceValues.{VariableType, type_at}
 use Rattle.edd_syntax.specs.Numbers.{same_kind, kind_of, index_of}
 use Rattle.edd_syntax.specs.Item.{Item, kind_of_item, Attribute, TypeOf, Known, Description}
@@ -35,11 +38,13 @@ written_type (_ ∷ rest) = written_type rest
 pub record Environment : Type 0 where
   -- the types of the variables by number
   pub variables : List VariableType
+  -- the elements of the arrays, by array and number
+  pub elements : List Element
 
-abbrev pub environment : {R : Type 0} → Description R → Environment
+abbrev pub environment : Description Target → Environment
 environment unit = record {
-  variables = map (λ i. written_type i.attributes)
-      (items_of kind.Variable unit);
+  variables = map (λ i. written_type i.attributes) (items_of kind.Variable unit);
+  elements = elements_from 0 (items_of kind.Array unit);
 }
 
 abbrev pub type_of_variable : Environment → VarNo → VariableType

@@ -8,12 +8,12 @@ use Rattle.edd_syntax.specs.declared.operators.Builtin.{Builtin}
 use Rattle.edd_syntax.specs.declared.operators.Builtin.TheVariants as builtin
 use Rattle.edd_syntax.specs.Reference.{Target, Local, Item, Function}
 use Rattle.edd_syntax.specs.Expression as expr
-use Rattle.edd_syntax.specs.Expression.{Expr, Literal, Decimal, Reference, Parentheses, Unary, Binary, Compare, LogicalAnd, LogicalOr, Conditional, Assign, CompoundAssign, Increment, Call, Arguments, Nil, Cons}
+use Rattle.edd_syntax.specs.Expression.{Expr, Literal, Decimal, Reference, Indexed, Parentheses, Unary, Binary, Compare, LogicalAnd, LogicalOr, Conditional, Assign, CompoundAssign, Increment, Call, Arguments, Nil, Cons}
 use Rattle.edd_syntax.specs.TwosComplement.{wrap, truth, is_zero, operate, compare, apply}
 use Rattle.edd_syntax.specs.Words.{Words, words_of}
 use Rattle.edd_syntax.specs.Device.{Environment}
 use Rattle.edd_syntax.specs.MethodState as asks
-use Rattle.edd_syntax.specs.MethodState.{Aborted, Action, pure, stop, ◌>>=◌, ◌>>◌, number, read, assign, ask}
+use Rattle.edd_syntax.specs.MethodState.{Aborted, Action, pure, stop, ◌>>=◌, ◌>>◌, number, read, read_element, assign, ask}
 
 -- an argument of a function: a text, or a number with the target that a plain reference names
 pub data Given : Type 0 where
@@ -100,6 +100,9 @@ module _ (env : Environment) where
     evaluate (Literal value) = pure (wrap 32 (pos value))
     evaluate Decimal = pure (pos 0)
     evaluate (Reference from) = read from
+    evaluate (Indexed array index) = do
+      at ← evaluate index
+      read_element env array at
     evaluate (Parentheses inner) = evaluate inner
     evaluate (Unary op operand) = do
       a ← evaluate operand

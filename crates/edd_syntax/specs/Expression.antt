@@ -14,6 +14,8 @@ mutual
     -- a decimal, which no checked unit has
     Decimal : Expr R
     Reference : (from : R) → Expr R
+    -- `array [ index ]`
+    Indexed : (array : R) → (index : Expr R) → Expr R
     Parentheses : (inner : Expr R) → Expr R
     Unary : UnaryOperator → (operand : Expr R) → Expr R
     Binary : Operator → (left right : Expr R) → Expr R

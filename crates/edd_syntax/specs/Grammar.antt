@@ -17,7 +17,7 @@ use Rattle.edd_syntax.specs.Text.{Name, Quoted, Key}
 use Rattle.edd_syntax.specs.Token.{Token, Reserved, Identifier, Integer, String, Sign}
 use Rattle.edd_syntax.specs.Token as token
 use Rattle.edd_syntax.specs.Reference.{Path}
-use Rattle.edd_syntax.specs.Expression.{Expr, Literal, Decimal, Reference, Parentheses, Unary, Binary, Compare, LogicalAnd, LogicalOr, Conditional, Assign, CompoundAssign, Increment, Call, Text, Value, Arguments, Nil, Cons}
+use Rattle.edd_syntax.specs.Expression.{Expr, Literal, Decimal, Reference, Indexed, Parentheses, Unary, Binary, Compare, LogicalAnd, LogicalOr, Conditional, Assign, CompoundAssign, Increment, Call, Text, Value, Arguments, Nil, Cons}
 
 -- ---- single tokens
 
@@ -131,6 +131,10 @@ abbrev mutual
   ExprHere p row (Literal n) here rest = Next (Integer n) here rest
   ExprHere p row Decimal here rest = Next token.Decimal here rest
   ExprHere p row (Reference from) here rest = PathHere from here rest
+  ExprHere p row (Indexed array index) here rest =
+      (bracket inside : List Token) × PlainHere array here bracket
+      × NextSign sign.OpenBracket bracket inside
+      × ExprHere p (loosest p) index inside (Sign sign.CloseBracket ∷ rest)
   ExprHere p row (Parentheses inner) here rest =
       (inside : List Token) × NextSign sign.OpenParenthesis here inside
       × ExprHere p (loosest p) inner inside (Sign sign.CloseParenthesis ∷ rest)

@@ -44,6 +44,13 @@ pub record Member (R : Type 0) : Type 0 where
   pub label : Option texts.Text
   pub help : Option texts.Text
 
+-- `number, variable, label, help;`
+pub record ArrayElement (R : Type 0) : Type 0 where
+  pub number : ℕ
+  pub variable : R
+  pub label : Option texts.Text
+  pub help : Option texts.Text
+
 -- the type as written, with its size in octets; a type of another word is kept by its word alone
 pub data TypeWord : Type 0 where
   Known : VarType → (size : Option ℕ) → TypeWord
@@ -78,6 +85,8 @@ pub data Attribute (R : Type 0) : Type 0 where
   Items : Conds R (MenuEntry R) → Attribute R
   Members : List (Member R) → Attribute R
   Definition : Body R → Attribute R
+  -- of an array
+  Elements : List (ArrayElement R) → Attribute R
 
 -- what an item is; a collection has the kind of its members
 pub data ItemKind : Type 0 where
@@ -86,6 +95,8 @@ pub data ItemKind : Type 0 where
   MenuItem : ItemKind
   CollectionItem : (of : Kind) → ItemKind
   MethodItem : ItemKind
+  -- an array of variables
+  ArrayItem : ItemKind
 
 abbrev pub kind_of_item : ItemKind → Kind
 kind_of_item VariableItem = kind.Variable
@@ -93,6 +104,7 @@ kind_of_item CommandItem = kind.Command
 kind_of_item MenuItem = kind.Menu
 kind_of_item (CollectionItem of) = kind.Collection
 kind_of_item MethodItem = kind.Method
+kind_of_item ArrayItem = kind.Array
 
 pub record Item (R : Type 0) : Type 0 where
   pub sort : ItemKind

@@ -27,7 +27,7 @@ use Rattle.edd_syntax.specs.Token.{Token, Reserved, Identifier, Integer, Sign}
 use Rattle.edd_syntax.specs.Reference.{Path}
 use Rattle.edd_syntax.specs.Expression.{Expr}
 use Rattle.edd_syntax.specs.Item as item
-use Rattle.edd_syntax.specs.Item.{ItemKind, VariableItem, CommandItem, MenuItem, CollectionItem, MethodItem, kind_of_item, TypePart, TransactionPart, Attribute, Item, Identification, Description}
+use Rattle.edd_syntax.specs.Item.{ItemKind, VariableItem, CommandItem, MenuItem, CollectionItem, MethodItem, ArrayItem, kind_of_item, TypePart, TransactionPart, Attribute, Item, Identification, Description}
 use Rattle.edd_syntax.specs.Size.{item_height, height_limit}
 use Rattle.edd_syntax.specs.WellFormed.{belongs_to}
 use Rattle.edd_syntax.specs.Numbers.{text_of_word}
@@ -207,6 +207,13 @@ MemberHere m here rest =
     × PlainHere m.item from behind
     × MemberTextsHere m.label m.help behind (Sign sign.Semicolon ∷ rest)
 
+-- `number, variable, label, help;`
+abbrev pub ArrayElementHere : item.ArrayElement Path → List Token → List Token → Type 0
+ArrayElementHere e here rest =
+    (from behind : List Token) × (here ≡ Integer e.number ∷ Sign sign.Comma ∷ from)
+    × PlainHere e.variable from behind
+    × MemberTextsHere e.label e.help behind (Sign sign.Semicolon ∷ rest)
+
 -- ---- types
 
 abbrev pub type_name : VarType → Name
@@ -338,6 +345,9 @@ AttributeHere (item.Items entries) here rest =
 AttributeHere (item.Members members) here rest =
     (inside : List Token) × (here ≡ Reserved word.Members ∷ Sign sign.OpenBrace ∷ inside)
     × RowHere MemberHere members inside (Sign sign.CloseBrace ∷ rest)
+AttributeHere (item.Elements elements) here rest =
+    (inside : List Token) × (here ≡ Reserved word.Elements ∷ Sign sign.OpenBrace ∷ inside)
+    × RowHere ArrayElementHere elements inside (Sign sign.CloseBrace ∷ rest)
 AttributeHere (item.Definition body) here rest =
     (inside : List Token) × (here ≡ Reserved word.Definition ∷ Sign sign.OpenBrace ∷ inside)
     × BodyHere false body inside (Sign sign.CloseBrace ∷ rest)
@@ -362,6 +372,8 @@ ItemWordHere (CollectionItem of) here rest =
     (behind : List Token) × (here ≡ Reserved word.Collection ∷ Reserved word.Of ∷ behind)
     × KindHere of behind rest
 ItemWordHere MethodItem here rest = NextWord word.Method here rest
+ItemWordHere ArrayItem here rest = here ≡ Reserved word.Array ∷ Reserved word.Of
+    ∷ Reserved word.Variable ∷ rest
 
 -- an attribute that this kind of item may have
 abbrev pub OwnAttributeHere : Kind → Attribute Path → List Token → List Token → Type 0

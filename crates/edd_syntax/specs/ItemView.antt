@@ -21,6 +21,7 @@ use Rattle.edd_syntax.specs.declared.item.DataItem.TheVariants as data_item
 use Rattle.edd_syntax.specs.declared.item.Enumerator.{Enumerator}
 use Rattle.edd_syntax.specs.declared.item.ResponseCode.{ResponseCode}
 use Rattle.edd_syntax.specs.declared.item.Member.{Member}
+use Rattle.edd_syntax.specs.declared.item.ArrayElement.{ArrayElement}
 use Rattle.edd_syntax.specs.declared.item.Identification.{Identification}
 use Rattle.edd_syntax.specs.declared.reference.Path.{Path}
 use Rattle.edd_syntax.specs.declared.reference.Target.{Target}
@@ -91,6 +92,14 @@ member_of f m = record {
   help = option_map text_of m.help;
 }
 
+abbrev pub array_element_of : {R S : Type 0} → (R → S) → ArrayElement R → items.ArrayElement S
+array_element_of f e = record {
+  number = e.number;
+  variable = f e.variable;
+  label = option_map text_of e.label;
+  help = option_map text_of e.help;
+}
+
 abbrev pub type_word_of : TypeWord → items.TypeWord
 type_word_of (word.Known type size) = items.Known type size
 type_word_of (word.Other text) = items.Other (string_bytes text)
@@ -124,6 +133,8 @@ attribute_of f (attribute.ResponseCodes codes) =
     items.ResponseCodes (map response_code_of codes.items)
 attribute_of f (attribute.Items entries) = items.Items (conds_of f (entry_of f) entries.items)
 attribute_of f (attribute.Members members) = items.Members (map (member_of f) members.items)
+attribute_of f (attribute.Elements elements) =
+    items.Elements (map (array_element_of f) elements.items)
 attribute_of f (attribute.Definition parts) =
     items.Definition (statement.body_from (map (part_of f) parts.items))
 
@@ -136,6 +147,7 @@ sort_of (item.Command d) = items.CommandItem
 sort_of (item.Menu d) = items.MenuItem
 sort_of (item.Collection d) = items.CollectionItem d.of
 sort_of (item.Method d) = items.MethodItem
+sort_of (item.Array d) = items.ArrayItem
 
 abbrev pub name_of : {R : Type 0} → Item R → Name
 name_of (item.Variable d) = string_bytes d.name
@@ -143,6 +155,7 @@ name_of (item.Command d) = string_bytes d.name
 name_of (item.Menu d) = string_bytes d.name
 name_of (item.Collection d) = string_bytes d.name
 name_of (item.Method d) = string_bytes d.name
+name_of (item.Array d) = string_bytes d.name
 
 abbrev pub attributes_of : {R : Type 0} → Item R → List (Attribute R)
 attributes_of (item.Variable d) = d.attributes.items
@@ -150,6 +163,7 @@ attributes_of (item.Command d) = d.attributes.items
 attributes_of (item.Menu d) = d.attributes.items
 attributes_of (item.Collection d) = d.attributes.items
 attributes_of (item.Method d) = d.attributes.items
+attributes_of (item.Array d) = d.attributes.items
 
 abbrev pub item_of : {R S : Type 0} → (R → S) → Item R → items.Item S
 item_of f i = record {
@@ -190,6 +204,9 @@ numbered_data_item = data_item_of (λ r. r)
 
 abbrev pub numbered_member : Member Target → items.Member Target
 numbered_member = member_of (λ r. r)
+
+abbrev pub numbered_array_element : ArrayElement Target → items.ArrayElement Target
+numbered_array_element = array_element_of (λ r. r)
 
 abbrev pub numbered_type_part : TypePart Target → items.TypePart Target
 numbered_type_part = type_part_of (λ r. r)

@@ -5,6 +5,7 @@ pub mod Attributes
 pub mod Conditional
 pub mod Device
 pub mod DeviceValues
+pub mod Elements
 pub mod Evaluation
 pub mod Execution
 pub mod Expression
@@ -29,6 +30,7 @@ pub mod Statement
 pub mod StatementGrammar
 pub mod Strings
 pub mod SubsetRules
+pub mod Targets
 pub mod Text
 pub mod Token
 pub mod TreeView

@@ -9,6 +9,7 @@ use Rattle.edd_syntax.specs.TwosComplement.{wrap, store}
 use Rattle.edd_syntax.specs.Words.{Words}
 use Rattle.edd_syntax.specs.Answers.{Change, Answer, Go, Abort}
 use Rattle.edd_syntax.specs.DeviceValues.{value_at}
+use Rattle.edd_syntax.specs.Elements.{indexed_value}
 use Rattle.edd_syntax.specs.Device.{Environment, type_of_variable}
 
 -- what a method asks of its host
@@ -116,6 +117,10 @@ abbrev pub assign : Environment → Target → ℤ → Action ℤ
 assign env (Local slot) z = λ s. Done z (record s { slots = slice_set s.slots slot z })
 assign env (Item i) z = assign_item env i z
 assign env (Function f) z = pure z
+
+-- the value of an element, or its trap
+abbrev pub read_element : Environment → Target → ℤ → Action ℤ
+read_element env array index = λ s. number (indexed_value env.elements 32 s.values array index) s
 
 -- ---- requests
 

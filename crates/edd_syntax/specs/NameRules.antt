@@ -17,8 +17,8 @@ use Rattle.edd_syntax.specs.Statement.{Declarator, Stmt, Body, Nil, Cons, Declar
 use Rattle.edd_syntax.specs.Item as item
 use Rattle.edd_syntax.specs.Item.{kind_of_item, TypePart, TransactionPart, Attribute, Item, Description}
 use Rattle.edd_syntax.specs.Size.{unit_nodes}
-use Rattle.edd_syntax.specs.Resolution.{look_up, count_of, item_named, member_at, item_of_member, builtins}
-use Rattle.edd_syntax.specs.NameUses.{Use, OfItem, OfFunction, unit_uses}
+use Rattle.edd_syntax.specs.Resolution.{look_up, count_of, item_named, member_at, item_of_member, array_kinds, builtins}
+use Rattle.edd_syntax.specs.NameUses.{Use, OfItem, OfArray, OfFunction, unit_uses}
 use Rattle.edd_syntax.specs.Refusal.{Refusal, TooMany, DuplicateName, DuplicateAttribute, MissingAttribute, UnknownName, WrongKind, is_name_in, refused_if, repeated}
 
 -- ---- too many items, transactions, locals or nodes
@@ -131,6 +131,7 @@ attribute_word (item.Transaction number parts) = attr_word attr.Transaction
 attribute_word (item.ResponseCodes responses) = attr_word attr.ResponseCodes
 attribute_word (item.Items entries) = attr_word attr.Items
 attribute_word (item.Members members) = attr_word attr.Members
+attribute_word (item.Elements elements) = attr_word attr.Elements
 attribute_word (item.Definition body) = attr_word attr.Definition
 
 -- the options of a type; the elements of its list may be many
@@ -219,6 +220,11 @@ faults_of_use unit (OfItem scope allowed path) =
     elim (look_up path.base scope) [
       | Some slot ↦ faults_of_local path path.members
       | None ↦ faults_of_item unit allowed path
+    ]
+faults_of_use unit (OfArray scope path) =
+    elim (look_up path.base scope) [
+      | Some slot ↦ WrongKind path.base ∷ []
+      | None ↦ faults_of_item unit array_kinds path
     ]
 faults_of_use unit (OfFunction path) =
     elim (look_up path.base builtins) [ Some f ↦ [] | None ↦ UnknownName path.base ∷ [] ]

@@ -4,7 +4,7 @@ use Rattle.std.specs.List.{flat_map}
 use Rattle.edd_syntax.specs.declared.numbers.Kind.{Kind}
 use Rattle.edd_syntax.specs.Reference.{Path}
 use Rattle.edd_syntax.specs.Expression as expr
-use Rattle.edd_syntax.specs.Expression.{Expr, Literal, Decimal, Reference, Parentheses, Unary, Binary, Compare, LogicalAnd, LogicalOr, Conditional, Assign, CompoundAssign, Increment, Call, Text, Arguments}
+use Rattle.edd_syntax.specs.Expression.{Expr, Literal, Decimal, Reference, Indexed, Parentheses, Unary, Binary, Compare, LogicalAnd, LogicalOr, Conditional, Assign, CompoundAssign, Increment, Call, Text, Arguments}
 use Rattle.edd_syntax.specs.Conditional as cond
 use Rattle.edd_syntax.specs.Conditional.{Cond, Value, If, Select, Conds, Arms, NoArms, ConsArm, Case, Default}
 use Rattle.edd_syntax.specs.Statement as s
@@ -14,9 +14,10 @@ use Rattle.edd_syntax.specs.Item.{ItemKind, TypePart, TransactionPart, Attribute
 use Rattle.edd_syntax.specs.Resolution.{Scope, variable_kinds, entry_kinds, member_kinds, declared, all_declared}
 
 -- a use of a name: a reference, with the locals that can be used there and the kinds of items that
--- may stand there, or a call
+-- may stand there, an array before an index, or a call
 pub data Use : Type 0 where
   OfItem : Scope → (kinds : List Kind) → Path → Use
+  OfArray : Scope → Path → Use
   OfFunction : Path → Use
 
 -- ---- expressions, from left to right
@@ -26,6 +27,7 @@ abbrev mutual
   expr_uses scope (Literal value) = []
   expr_uses scope Decimal = []
   expr_uses scope (Reference from) = OfItem scope variable_kinds from ∷ []
+  expr_uses scope (Indexed array index) = OfArray scope array ∷ expr_uses scope index
   expr_uses scope (Parentheses inner) = expr_uses scope inner
   expr_uses scope (Unary op operand) = expr_uses scope operand
   expr_uses scope (Binary op left right) = expr_uses scope left ++ expr_uses scope right
@@ -147,6 +149,8 @@ attribute_uses sort (item.ResponseCodes responses) = []
 attribute_uses sort (item.Items entries) = conds_uses entry_uses entries
 attribute_uses sort (item.Members members) =
     flat_map (λ m. OfItem [] (member_kinds sort) m.item ∷ []) members
+attribute_uses sort (item.Elements elements) =
+    flat_map (λ e. OfItem [] variable_kinds e.variable ∷ []) elements
 attribute_uses sort (item.Definition body) = body_uses body [] 0
 
 abbrev pub item_uses : item.Item Path → List Use

@@ -152,7 +152,7 @@ attr_word attr.ResponseCodes = spelling keyword.ResponseCodes
 attr_word attr.Items = spelling keyword.Items
 attr_word attr.Members = spelling keyword.Members
 attr_word attr.Definition = spelling keyword.Definition
-attr_word attr.Elements = codes "ELEMENTS"
+attr_word attr.Elements = spelling keyword.Elements
 
 -- the kinds whose items may have an attribute
 abbrev pub kinds_with : Attr → List Kind

@@ -21,6 +21,7 @@ pub data Refusal : Type 0 where
   BreakOutside : Refusal
   ConstRange : Refusal
   DuplicateCase : Refusal
+  DuplicateElement : Refusal
 
 abbrev pub first_of : {A : Type 0} → List A → Option A
 first_of [] = None

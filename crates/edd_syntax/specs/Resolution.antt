@@ -14,7 +14,7 @@ use Rattle.edd_syntax.specs.Text.{Name}
 use Rattle.edd_syntax.specs.Reference.{Path, Target, Local, Item, Function}
 use Rattle.edd_syntax.specs.Numbers.{same_kind, item_number, kind_of}
 use Rattle.edd_syntax.specs.Item as item
-use Rattle.edd_syntax.specs.Item.{kind_of_item, ItemKind, VariableItem, CommandItem, MenuItem, CollectionItem, MethodItem, Attribute, Members, Member, Description}
+use Rattle.edd_syntax.specs.Item.{kind_of_item, ItemKind, VariableItem, CommandItem, MenuItem, CollectionItem, MethodItem, ArrayItem, Attribute, Members, Member, Description}
 use Rattle.edd_syntax.specs.Statement.{Declarator}
 use Rattle.edd_syntax.specs.Device.{item_at}
 
@@ -55,6 +55,7 @@ member_kind VariableItem = None
 member_kind CommandItem = None
 member_kind MenuItem = None
 member_kind MethodItem = None
+member_kind ArrayItem = None
 
 -- a member, and the kind after OF
 abbrev pub FoundMember : Type 0
@@ -96,6 +97,10 @@ Scope = List (Name × ℕ)
 abbrev pub is_among : List Kind → ItemNo → Bool
 is_among kinds i = list_any (same_kind (kind_of i)) kinds
 
+-- what stands before an index
+abbrev pub array_kinds : List Kind
+array_kinds = kind.Array ∷ []
+
 -- an item of one of these kinds
 abbrev pub item_meant : Description Path → (kinds : List Kind) → Path → Option Target
 item_meant unit kinds path =
@@ -115,6 +120,14 @@ meaning unit scope kinds path =
     elim (look_up path.base scope) [
       | Some slot ↦ local_meant slot path.members
       | None ↦ item_meant unit kinds path
+    ]
+
+-- the array that is meant before an index; a local of the name is no array
+abbrev pub array_meant : Description Path → Scope → Path → Option Target
+array_meant unit scope path =
+    elim (look_up path.base scope) [
+      | Some slot ↦ None
+      | None ↦ item_meant unit array_kinds path
     ]
 
 -- the name of a function that a method may call
@@ -166,6 +179,7 @@ member_kinds VariableItem = []
 member_kinds CommandItem = []
 member_kinds MenuItem = []
 member_kinds MethodItem = []
+member_kinds ArrayItem = []
 
 -- ---- locals
 

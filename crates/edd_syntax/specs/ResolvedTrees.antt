@@ -4,14 +4,14 @@ use Rattle.std.specs.Prelude.{ℕ, ◌+◌, List, [], ◌∷◌, length, Option,
 use Rattle.edd_syntax.specs.declared.numbers.Kind.{Kind}
 use Rattle.edd_syntax.specs.Reference.{Path, Target, Local}
 use Rattle.edd_syntax.specs.Expression as expr
-use Rattle.edd_syntax.specs.Expression.{Expr, Literal, Decimal, Reference, Parentheses, Unary, Binary, Compare, LogicalAnd, LogicalOr, Conditional, Assign, CompoundAssign, Increment, Call, Text, Arguments}
+use Rattle.edd_syntax.specs.Expression.{Expr, Literal, Decimal, Reference, Indexed, Parentheses, Unary, Binary, Compare, LogicalAnd, LogicalOr, Conditional, Assign, CompoundAssign, Increment, Call, Text, Arguments}
 use Rattle.edd_syntax.specs.Conditional as cond
 use Rattle.edd_syntax.specs.Conditional.{Cond, Value, If, Select, Conds, Arms, NoArms, ConsArm, Case, Default}
 use Rattle.edd_syntax.specs.Statement as s
 use Rattle.edd_syntax.specs.Statement.{Declarator, Stmt, Body, Nil, Cons, Declare, Statement, CaseLabel, DefaultLabel, slots_of}
 use Rattle.edd_syntax.specs.Item as item
 use Rattle.edd_syntax.specs.Item.{ItemKind, TypePart, TransactionPart, Attribute, Description}
-use Rattle.edd_syntax.specs.Resolution.{Scope, meaning, function_meant, variable_kinds, entry_kinds, member_kinds, declared, all_declared}
+use Rattle.edd_syntax.specs.Resolution.{Scope, meaning, array_meant, function_meant, variable_kinds, entry_kinds, member_kinds, declared, all_declared}
 
 -- one after another, as long as each has a value
 infixl 10 ◌>>=◌
@@ -23,14 +23,23 @@ abbrev pub each : {A B : Type 0} → (A → Option B) → List A → Option (Lis
 each of [] = Some []
 each of (x ∷ rest) = do y ← of x; others ← each of rest; Some (y ∷ others)
 
--- ---- expressions, at a place where `at` says what a reference means
+-- what names mean at a place: a reference, and the name of an array before an index
+pub record Meanings : Type 0 where
+  pub reference : Path → Option Target
+  pub array : Path → Option Target
 
-module _ (at : Path → Option Target) where
+-- ---- expressions, at a place where `at` says what names mean
+
+module _ (at : Meanings) where
   unfoldable mutual
     pub resolved_expr : Expr Path → Option (Expr Target)
     resolved_expr (Literal value) = Some (Literal value)
     resolved_expr Decimal = Some Decimal
-    resolved_expr (Reference from) = do from' ← at from; Some (Reference from')
+    resolved_expr (Reference from) = do from' ← at.reference from; Some (Reference from')
+    resolved_expr (Indexed array index) = do
+      array' ← at.array array
+      index' ← resolved_expr index
+      Some (Indexed array' index')
     resolved_expr (Parentheses inner) = do inner' ← resolved_expr inner; Some (Parentheses inner')
     resolved_expr (Unary op operand) = do operand' ← resolved_expr operand; Some (Unary op operand')
     resolved_expr (Binary op left right) = do
@@ -55,14 +64,14 @@ module _ (at : Path → Option Target) where
       second' ← resolved_expr second
       Some (Conditional test' first' second')
     resolved_expr (Assign to value) = do
-      to' ← at to
+      to' ← at.reference to
       value' ← resolved_expr value
       Some (Assign to' value')
     resolved_expr (CompoundAssign op to value) = do
-      to' ← at to
+      to' ← at.reference to
       value' ← resolved_expr value
       Some (CompoundAssign op to' value')
-    resolved_expr (Increment op to) = do to' ← at to; Some (Increment op to')
+    resolved_expr (Increment op to) = do to' ← at.reference to; Some (Increment op to')
     resolved_expr (Call name arguments) = do
       function ← function_meant name
       arguments' ← resolved_arguments arguments
@@ -123,8 +132,11 @@ unchanged v = Some v
 module _ (unit : Description Path) where
   -- ---- statements: `next` is the slot of the next declarator of the method
 
-  abbrev pub at_scope : Scope → Path → Option Target
-  at_scope scope = meaning unit scope variable_kinds
+  abbrev pub at_scope : Scope → Meanings
+  at_scope scope = record {
+    reference = meaning unit scope variable_kinds;
+    array = array_meant unit scope;
+  }
 
   -- a local can be used behind its own declarator
   abbrev pub resolved_declarators : Scope → (next : ℕ) → List (Declarator Path)
@@ -198,8 +210,8 @@ module _ (unit : Description Path) where
   abbrev pub item_among : List Kind → Path → Option Target
   item_among kinds = meaning unit [] kinds
 
-  abbrev pub at_attribute : Path → Option Target
-  at_attribute = item_among variable_kinds
+  abbrev pub at_attribute : Meanings
+  at_attribute = at_scope []
 
   abbrev pub resolved_entry : item.MenuEntry Path → Option (item.MenuEntry Target)
   resolved_entry (item.Text text) = Some (item.Text text)
@@ -210,13 +222,18 @@ module _ (unit : Description Path) where
   abbrev pub resolved_data : item.DataItem Path → Option (item.DataItem Target)
   resolved_data (item.Constant n) = Some (item.Constant n)
   resolved_data (item.Variable variable mask qualifiers) = do
-    variable' ← at_attribute variable
+    variable' ← item_among variable_kinds variable
     Some (item.Variable variable' mask qualifiers)
 
   abbrev pub resolved_member : (kinds : List Kind) → item.Member Path → Option (item.Member Target)
   resolved_member kinds m = do
     item' ← item_among kinds m.item
     Some (record { name = m.name; item = item'; label = m.label; help = m.help })
+
+  abbrev pub resolved_element : item.ArrayElement Path → Option (item.ArrayElement Target)
+  resolved_element e = do
+    variable' ← item_among variable_kinds e.variable
+    Some (record { number = e.number; variable = variable'; label = e.label; help = e.help })
 
   abbrev resolved_one : {V : Type 0} → Cond Path V → Option (Cond Target V)
   resolved_one = resolved_cond at_attribute unchanged
@@ -265,6 +282,9 @@ module _ (unit : Description Path) where
   resolved_attribute sort (item.Members members) = do
     members' ← each (resolved_member (member_kinds sort)) members
     Some (item.Members members')
+  resolved_attribute sort (item.Elements elements) = do
+    elements' ← each resolved_element elements
+    Some (item.Elements elements')
   resolved_attribute sort (item.Definition body) = do
     body' ← resolved_body body [] 0
     Some (item.Definition body')

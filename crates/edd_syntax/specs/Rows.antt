@@ -39,6 +39,7 @@ written_attrs (item.Transaction number parts) = []
 written_attrs (item.ResponseCodes responses) = attr.ResponseCodes ∷ []
 written_attrs (item.Items entries) = attr.Items ∷ []
 written_attrs (item.Members members) = attr.Members ∷ []
+written_attrs (item.Elements elements) = attr.Elements ∷ []
 written_attrs (item.Definition body) = attr.Definition ∷ []
 
 -- whether this attribute is among those that a written one stands for

@@ -3,7 +3,7 @@
 use Rattle.std.specs.Prelude.{ℕ, ◌+◌, max, Bool, true, false, if◌then◌else◌, List, [], ◌∷◌, length, map, sum, Option, Some, None}
 use Rattle.std.specs.List.{list_any}
 use Rattle.edd_syntax.specs.Expression as expr
-use Rattle.edd_syntax.specs.Expression.{Expr, Literal, Decimal, Reference, Parentheses, Unary, Binary, Compare, LogicalAnd, LogicalOr, Conditional, Assign, CompoundAssign, Increment, Call, Argument, Text, Arguments}
+use Rattle.edd_syntax.specs.Expression.{Expr, Literal, Decimal, Reference, Indexed, Parentheses, Unary, Binary, Compare, LogicalAnd, LogicalOr, Conditional, Assign, CompoundAssign, Increment, Call, Argument, Text, Arguments}
 use Rattle.edd_syntax.specs.Conditional as cond
 use Rattle.edd_syntax.specs.Conditional.{Cond, Value, If, Select, Conds, Arm, Arms, NoArms, ConsArm, Case, Default}
 use Rattle.edd_syntax.specs.Statement as s
@@ -18,6 +18,7 @@ abbrev mutual
   nodes (Literal value) = 1
   nodes Decimal = 1
   nodes (Reference from) = 1
+  nodes (Indexed array index) = 1 + nodes index
   nodes (Parentheses inner) = 1 + nodes inner
   nodes (Unary op operand) = 1 + nodes operand
   nodes (Binary op left right) = 1 + (nodes left + nodes right)
@@ -114,8 +115,8 @@ abbrev pub transaction_part_nodes : {R : Type 0} → TransactionPart R → ℕ
 transaction_part_nodes (item.Request all) = 1 + conds_nodes leaf all
 transaction_part_nodes (item.Reply all) = 1 + conds_nodes leaf all
 
--- Each written attribute is a node, and so is each class word, response code and member. The
--- elements of a type's list are together one more.
+-- Each written attribute is a node, and so is each class word, response code, member and element of
+-- an array. The elements of a type's list are together one more.
 abbrev pub attribute_nodes : {R : Type 0} → Attribute R → ℕ
 attribute_nodes (item.OneText which c) = 1 + cond_nodes leaf c
 attribute_nodes (item.Class words) = 1 + length words
@@ -129,6 +130,7 @@ attribute_nodes (item.Transaction number parts) = 1 + sum (map transaction_part_
 attribute_nodes (item.ResponseCodes responses) = 1 + length responses
 attribute_nodes (item.Items entries) = 1 + conds_nodes leaf entries
 attribute_nodes (item.Members members) = 1 + length members
+attribute_nodes (item.Elements elements) = 1 + length elements
 attribute_nodes (item.Definition body) = 1 + body_nodes body
 
 abbrev pub item_nodes : {R : Type 0} → Item R → ℕ
@@ -144,6 +146,7 @@ abbrev mutual
   height (Literal value) = 1
   height Decimal = 1
   height (Reference from) = 1
+  height (Indexed array index) = 1 + height index
   height (Parentheses inner) = 1 + height inner
   height (Unary op operand) = 1 + height operand
   height (Binary op left right) = 1 + max (height left) (height right)
@@ -244,6 +247,7 @@ attribute_height (item.Transaction number parts) = greatest_of (map transaction_
 attribute_height (item.ResponseCodes responses) = 0
 attribute_height (item.Items entries) = conds_height leaf entries
 attribute_height (item.Members members) = 0
+attribute_height (item.Elements elements) = 0
 attribute_height (item.Definition body) = body_height body
 
 abbrev pub item_height : {R : Type 0} → Item R → ℕ

@@ -6,7 +6,7 @@ use Rattle.edd_syntax.specs.declared.limits.Limit.TheVariants as limit
 use Rattle.edd_syntax.specs.Text as texts
 use Rattle.edd_syntax.specs.Words.{Words, Variant, Variants, Key, words_of, name_words}
 use Rattle.edd_syntax.specs.Expression as expr
-use Rattle.edd_syntax.specs.Expression.{Expr, Literal, Decimal, Reference, Parentheses, Unary, Binary, Compare, LogicalAnd, LogicalOr, Conditional, Assign, CompoundAssign, Increment, Call, Arguments}
+use Rattle.edd_syntax.specs.Expression.{Expr, Literal, Decimal, Reference, Indexed, Parentheses, Unary, Binary, Compare, LogicalAnd, LogicalOr, Conditional, Assign, CompoundAssign, Increment, Call, Arguments}
 use Rattle.edd_syntax.specs.Item as item
 use Rattle.edd_syntax.specs.Item.{TypePart, TransactionPart, Attribute, Description}
 use Rattle.edd_syntax.specs.SubsetRules.{body_expressions, values_in, values_of, attributes_of}
@@ -22,6 +22,7 @@ abbrev mutual
   expr_texts (Literal value) = []
   expr_texts Decimal = []
   expr_texts (Reference from) = []
+  expr_texts (Indexed array index) = expr_texts index
   expr_texts (Parentheses inner) = expr_texts inner
   expr_texts (Unary op operand) = expr_texts operand
   expr_texts (Binary op left right) = expr_texts left ++ expr_texts right
@@ -62,6 +63,9 @@ abbrev pub member_strings : {R : Type 0} → item.Member R → List Words
 member_strings m = name_words m.name
     ∷ strings_of_texts (optional_text m.label ++ optional_text m.help)
 
+abbrev pub array_element_texts : {R : Type 0} → item.ArrayElement R → List texts.Text
+array_element_texts e = optional_text e.label ++ optional_text e.help
+
 abbrev pub attribute_strings : {R : Type 0} → Attribute R → List Words
 attribute_strings (item.OneText which c) = strings_of_texts (values_in c)
 attribute_strings (item.Class words) = map name_words words
@@ -74,6 +78,8 @@ attribute_strings (item.Transaction number parts) = []
 attribute_strings (item.ResponseCodes responses) = strings_of_texts (map (λ r. r.text) responses)
 attribute_strings (item.Items entries) = strings_of_texts (flat_map entry_texts (values_of entries))
 attribute_strings (item.Members members) = flat_map member_strings members
+attribute_strings (item.Elements elements) =
+    strings_of_texts (flat_map array_element_texts elements)
 attribute_strings (item.Definition body) =
     strings_of_texts (flat_map (λ p. expr_texts p.expression) (body_expressions body))
 

@@ -1,6 +1,6 @@
 -- The rules of the profile on a description whose names have their meanings, each as the list of
 -- its breaches in the order of the source.
-use Rattle.std.specs.Prelude.{Bool, true, false, not, ◌||◌, ◌&&◌, nat_lt, ◌==◌, if◌then◌else◌, ℤ, List, [], ◌∷◌, ◌++◌, map, Option, Some, None, codes}
+use Rattle.std.specs.Prelude.{ℕ, Bool, true, false, not, ◌||◌, ◌&&◌, nat_lt, ◌==◌, if◌then◌else◌, ℤ, List, [], ◌∷◌, ◌++◌, map, Option, Some, None, codes}
 use Rattle.std.specs.Str.{bytes_eq}
 use Rattle.std.specs.List.{list_any, flat_map}
 use Rattle.std.specs.Ordering.{int_eq}
@@ -15,14 +15,14 @@ use Rattle.edd_syntax.specs.Text.{Name}
 use Rattle.edd_syntax.specs.Reference.{Target, Local, Item, Function}
 use Rattle.edd_syntax.specs.TwosComplement.{wrap}
 use Rattle.edd_syntax.specs.Expression as expr
-use Rattle.edd_syntax.specs.Expression.{Expr, Literal, Decimal, Reference, Parentheses, Unary, Binary, Compare, LogicalAnd, LogicalOr, Conditional, Assign, CompoundAssign, Increment, Call, Argument, Arguments}
+use Rattle.edd_syntax.specs.Expression.{Expr, Literal, Decimal, Reference, Indexed, Parentheses, Unary, Binary, Compare, LogicalAnd, LogicalOr, Conditional, Assign, CompoundAssign, Increment, Call, Argument, Arguments}
 use Rattle.edd_syntax.specs.Conditional as cond
 use Rattle.edd_syntax.specs.Conditional.{Cond, Value, If, Select, Conds, Arms, NoArms, ConsArm, Case, Default}
 use Rattle.edd_syntax.specs.Statement as s
 use Rattle.edd_syntax.specs.Statement.{Declarator, Stmt, Body, Nil, Cons, Declare, Statement, CaseLabel, DefaultLabel}
 use Rattle.edd_syntax.specs.Item as item
 use Rattle.edd_syntax.specs.Item.{TypePart, TransactionPart, Attribute, Description}
-use Rattle.edd_syntax.specs.Refusal.{Refusal, FloatVariable, OtherType, BadSize, Mismatch, FloatValue, BreakOutside, ConstRange, DuplicateCase, refused_if}
+use Rattle.edd_syntax.specs.Refusal.{Refusal, FloatVariable, OtherType, BadSize, Mismatch, FloatValue, BreakOutside, ConstRange, DuplicateCase, DuplicateElement, refused_if}
 
 -- ---- the types of variables: FLOAT and DOUBLE, other words, sizes other than 1 to 4 octets
 
@@ -129,6 +129,7 @@ attribute_expressions (item.Transaction number parts) = flat_map transaction_par
 attribute_expressions (item.ResponseCodes responses) = []
 attribute_expressions (item.Items entries) = conds_expressions no_expressions entries
 attribute_expressions (item.Members members) = []
+attribute_expressions (item.Elements elements) = []
 attribute_expressions (item.Definition body) = body_expressions body
 
 abbrev pub attributes_of : {R : Type 0} → Description R → List (Attribute R)
@@ -189,6 +190,7 @@ abbrev mutual
   call_mismatches is_statement (Literal value) = []
   call_mismatches is_statement Decimal = []
   call_mismatches is_statement (Reference from) = []
+  call_mismatches is_statement (Indexed array index) = call_mismatches false index
   call_mismatches is_statement (Parentheses inner) = call_mismatches false inner
   call_mismatches is_statement (Unary op operand) = call_mismatches false operand
   call_mismatches is_statement (Binary op left right) = call_mismatches false left
@@ -265,6 +267,7 @@ abbrev mutual
   decimals (Literal value) = []
   decimals Decimal = FloatValue ∷ []
   decimals (Reference from) = []
+  decimals (Indexed array index) = decimals index
   decimals (Parentheses inner) = decimals inner
   decimals (Unary op operand) = decimals operand
   decimals (Binary op left right) = decimals left ++ decimals right
@@ -427,10 +430,31 @@ repeated_cases (item.Transaction number parts) = flat_map transaction_part_defau
 repeated_cases (item.ResponseCodes responses) = []
 repeated_cases (item.Items entries) = conds_defaults entries
 repeated_cases (item.Members members) = []
+repeated_cases (item.Elements elements) = []
 repeated_cases (item.Definition body) = repeated_labels no_labels body
 
 abbrev pub duplicate_cases : Description Target → List Refusal
 duplicate_cases unit = flat_map repeated_cases (attributes_of unit)
+
+-- ---- two elements of an array with one number
+
+abbrev pub is_number_in : List ℕ → ℕ → Bool
+is_number_in numbers n = list_any (λ m. n == m) numbers
+
+-- `before` are the numbers of the elements so far
+abbrev pub repeated_numbers : {R : Type 0} → (before : List ℕ) → List (item.ArrayElement R)
+    → List Refusal
+repeated_numbers before [] = []
+repeated_numbers before (e ∷ rest) =
+    refused_if (is_number_in before e.number) DuplicateElement
+    ++ repeated_numbers (e.number ∷ before) rest
+
+abbrev pub repeated_elements : {R : Type 0} → Attribute R → List Refusal
+repeated_elements (item.Elements elements) = repeated_numbers [] elements
+repeated_elements _ = []
+
+abbrev pub duplicate_elements : {R : Type 0} → Description R → List Refusal
+duplicate_elements unit = flat_map repeated_elements (attributes_of unit)
 
 -- ---- all rules of this part, in their order
 
@@ -438,4 +462,4 @@ abbrev pub subset_breaches : Description Target → List Refusal
 subset_breaches unit =
     wrong_types unit ++ (mismatches unit
     ++ (float_values unit ++ (wrong_breaks unit
-    ++ (wrong_constants unit ++ duplicate_cases unit))))
+    ++ (wrong_constants unit ++ (duplicate_cases unit ++ duplicate_elements unit)))))

@@ -28,6 +28,7 @@ spelling keyword.Command = codes "COMMAND"
 spelling keyword.Menu = codes "MENU"
 spelling keyword.Collection = codes "COLLECTION"
 spelling keyword.Method = codes "METHOD"
+spelling keyword.Array = codes "ARRAY"
 spelling keyword.Of = codes "OF"
 spelling keyword.Label = codes "LABEL"
 spelling keyword.Help = codes "HELP"
@@ -45,6 +46,7 @@ spelling keyword.Reply = codes "REPLY"
 spelling keyword.Items = codes "ITEMS"
 spelling keyword.Members = codes "MEMBERS"
 spelling keyword.Definition = codes "DEFINITION"
+spelling keyword.Elements = codes "ELEMENTS"
 spelling keyword.If = codes "IF"
 spelling keyword.Else = codes "ELSE"
 spelling keyword.Select = codes "SELECT"
@@ -81,13 +83,13 @@ abbrev pub all_keywords : List Keyword
 all_keywords =
     keyword.Manufacturer ∷ keyword.DeviceType ∷ keyword.DeviceRevision ∷ keyword.DdRevision
     ∷ keyword.Variable ∷
-    keyword.Command ∷ keyword.Menu ∷ keyword.Collection ∷ keyword.Method ∷ keyword.Of
+    keyword.Command ∷ keyword.Menu ∷ keyword.Collection ∷ keyword.Method ∷ keyword.Array ∷ keyword.Of
     ∷ keyword.Label ∷ keyword.Help ∷
     keyword.Class ∷ keyword.Handling ∷ keyword.ConstantUnit ∷ keyword.Validity ∷ keyword.Type
     ∷ keyword.Number ∷
     keyword.Operation ∷ keyword.Transaction ∷ keyword.ResponseCodes ∷ keyword.Request
     ∷ keyword.Reply ∷ keyword.Items ∷
-    keyword.Members ∷ keyword.Definition ∷ keyword.If ∷ keyword.Else ∷ keyword.Select ∷ keyword.Case
+    keyword.Members ∷ keyword.Definition ∷ keyword.Elements ∷ keyword.If ∷ keyword.Else ∷ keyword.Select ∷ keyword.Case
     ∷ keyword.Default ∷
     keyword.DefaultValue ∷ keyword.MinValue ∷ keyword.MaxValue ∷ keyword.DisplayFormat
     ∷ keyword.EditFormat ∷ keyword.Int ∷

@@ -4,7 +4,7 @@ use Rattle.std.specs.Prelude.{List, [], ◌∷◌, map, option_map, string_bytes
 use Rattle.edd_syntax.specs.declared.reference.Path.{Path}
 use Rattle.edd_syntax.specs.declared.reference.Target.{Target}
 use Rattle.edd_syntax.specs.declared.expr.Expr.{Expr, Row_of-Argument, end_of-Argument, more_of-Argument}
-use Rattle.edd_syntax.specs.declared.expr.Expr.TheVariants.{Literal, Decimal, Reference, Parentheses', Unary', Binary', Compare', LogicalAnd', LogicalOr', Conditional', Assign', CompoundAssign', Increment, Call'}
+use Rattle.edd_syntax.specs.declared.expr.Expr.TheVariants.{Literal, Decimal, Reference, Indexed', Parentheses', Unary', Binary', Compare', LogicalAnd', LogicalOr', Conditional', Assign', CompoundAssign', Increment, Call'}
 use Rattle.edd_syntax.specs.declared.expr.Argument.{Argument}
 use Rattle.edd_syntax.specs.declared.expr.Argument.TheVariants as argument
 use Rattle.edd_syntax.specs.declared.stmt.Stmt.{Stmt, Row_of-Part, end_of-Part, more_of-Part}
@@ -25,6 +25,7 @@ abbrev mutual
   expr_of f (Literal value) = pure.Literal value
   expr_of f (Decimal line) = pure.Decimal
   expr_of f (Reference from) = pure.Reference (f from)
+  expr_of f (Indexed' array p index) = pure.Indexed (f array) (expr_of f index)
   expr_of f (Parentheses' p inner) = pure.Parentheses (expr_of f inner)
   expr_of f (Unary' op p operand) = pure.Unary op (expr_of f operand)
   expr_of f (Binary' op p left q right) = pure.Binary op (expr_of f left) (expr_of f right)

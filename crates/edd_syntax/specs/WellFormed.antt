@@ -1,5 +1,5 @@
 -- What the trees of a unit keep. `good` tests a reference, and `plain` a reference that has to be a
--- plain name: that of a called function, of a declared local and of a member's item.
+-- plain name: that of a called function, of a declared local, of an array, and of the item of a member or an element.
 use Rattle.std.specs.Prelude.{ℕ, ◌^◌, Bool, true, false, not, ◌&&◌, nat_le, nat_lt, ℤ, unsigned_abs, List, [], ◌∷◌, Option, Some, None}
 use Rattle.std.specs.List.{list_all}
 use Rattle.edd_syntax.specs.declared.numbers.Kind.{Kind}
@@ -10,13 +10,13 @@ use Rattle.edd_syntax.specs.Text.{Quoted, Key}
 use Rattle.edd_syntax.specs.Names.{is_name}
 use Rattle.edd_syntax.specs.Reference.{Path}
 use Rattle.edd_syntax.specs.Expression as expr
-use Rattle.edd_syntax.specs.Expression.{Expr, Literal, Decimal, Reference, Parentheses, Unary, Binary, Compare, LogicalAnd, LogicalOr, Conditional, Assign, CompoundAssign, Increment, Call, Text, Arguments}
+use Rattle.edd_syntax.specs.Expression.{Expr, Literal, Decimal, Reference, Indexed, Parentheses, Unary, Binary, Compare, LogicalAnd, LogicalOr, Conditional, Assign, CompoundAssign, Increment, Call, Text, Arguments}
 use Rattle.edd_syntax.specs.Conditional as cond
 use Rattle.edd_syntax.specs.Conditional.{Cond, Value, If, Select, Conds, Arms, NoArms, ConsArm, Case, Default}
 use Rattle.edd_syntax.specs.Statement as s
 use Rattle.edd_syntax.specs.Statement.{Declarator, Stmt, Part, Body, Nil, Cons, Declare, Statement, CaseLabel, DefaultLabel}
 use Rattle.edd_syntax.specs.Item as item
-use Rattle.edd_syntax.specs.Item.{kind_of_item, TypePart, TransactionPart, Attribute, Item}
+use Rattle.edd_syntax.specs.Item.{ItemKind, CollectionItem, kind_of_item, TypePart, TransactionPart, Attribute, Item}
 use Rattle.edd_syntax.specs.Numbers.{has_attr, same_kind, text_attr}
 use Rattle.edd_syntax.specs.Words.{has_escapes}
 use Rattle.edd_syntax.specs.Size.{attribute_height, height_limit}
@@ -63,7 +63,13 @@ belongs_to k (item.Transaction number parts) = has_attr k attr.Transaction
 belongs_to k (item.ResponseCodes responses) = has_attr k attr.ResponseCodes
 belongs_to k (item.Items entries) = has_attr k attr.Items
 belongs_to k (item.Members members) = has_attr k attr.Members
+belongs_to k (item.Elements elements) = has_attr k attr.Elements
 belongs_to k (item.Definition body) = has_attr k attr.Definition
+
+-- no member of a collection is an array
+abbrev pub may_list : ItemKind → Bool
+may_list (CollectionItem of) = not (same_kind of kind.Array)
+may_list _ = true
 
 -- ---- trees
 
@@ -73,6 +79,7 @@ module _ {R : Type 0} (good plain : R → Bool) where
     is_expr (Literal value) = is_number value
     is_expr Decimal = true
     is_expr (Reference from) = good from
+    is_expr (Indexed array index) = good array && plain array && is_expr index
     is_expr (Parentheses inner) = is_expr inner
     is_expr (Unary op operand) = is_expr operand
     is_expr (Binary op left right) = is_expr left && is_expr right
@@ -95,6 +102,7 @@ module _ {R : Type 0} (good plain : R → Bool) where
   is_pure_expr (Literal value) = is_number value
   is_pure_expr Decimal = true
   is_pure_expr (Reference from) = good from
+  is_pure_expr (Indexed array index) = good array && plain array && is_pure_expr index
   is_pure_expr (Parentheses inner) = is_pure_expr inner
   is_pure_expr (Unary op operand) = is_pure_expr operand
   is_pure_expr (Binary op left right) = is_pure_expr left && is_pure_expr right
@@ -203,6 +211,10 @@ module _ {R : Type 0} (good plain : R → Bool) where
   abbrev pub is_member : item.Member R → Bool
   is_member m = is_name m.name && plain m.item && if_some is_text m.label && if_some is_text m.help
 
+  abbrev pub is_array_element : item.ArrayElement R → Bool
+  is_array_element e = is_number e.number && plain e.variable && if_some is_text e.label
+      && if_some is_text e.help
+
   abbrev pub is_type_part : TypePart R → Bool
   is_type_part (item.DefaultValue c) = one is_pure_expr c
   is_type_part (item.MinValue c) = one is_pure_expr c
@@ -233,6 +245,7 @@ module _ {R : Type 0} (good plain : R → Bool) where
   is_attribute (item.ResponseCodes responses) = list_all is_response_code responses
   is_attribute (item.Items entries) = are_conds is_entry entries
   is_attribute (item.Members members) = list_all is_member members
+  is_attribute (item.Elements elements) = list_all is_array_element elements
   is_attribute (item.Definition body) = is_body false body
 
   -- an attribute that may stand in this kind of item, of a height within the limit
@@ -240,7 +253,8 @@ module _ {R : Type 0} (good plain : R → Bool) where
   stands_in k a = belongs_to k a && is_attribute a && nat_le (attribute_height a) height_limit
 
   abbrev pub is_item : Item R → Bool
-  is_item i = is_name i.name && list_all (stands_in (kind_of_item i.sort)) i.attributes
+  is_item i = is_name i.name && may_list i.sort
+      && list_all (stands_in (kind_of_item i.sort)) i.attributes
 
 -- the items of a unit as the parser makes it
 unfoldable pub are_items : List (Item Path) → Bool

@@ -14,6 +14,8 @@ pub enum Expr<R> {
         line: u32,
     },
     Reference(R),
+    /// `array [ index ]`
+    Indexed(R, Box<Expr<R>>),
     Parentheses(Box<Expr<R>>),
     Unary(UnaryOperator, Box<Expr<R>>),
     Binary(Operator, Box<Expr<R>>, Box<Expr<R>>),

@@ -76,6 +76,16 @@ pub struct Member<R> {
     pub help: Option<Text>,
 }
 
+/// `number, variable, label, help;`
+#[derive(Drop)]
+pub struct ArrayElement<R> {
+    pub line: u32,
+    pub number: u32,
+    pub variable: R,
+    pub label: Option<Text>,
+    pub help: Option<Text>,
+}
+
 /// The word of a type, with the size in octets that is written.
 #[derive(Drop)]
 pub enum TypeWord {
@@ -123,6 +133,7 @@ pub enum Attribute<R> {
     Items(Vec<Cond<R, MenuEntry<R>>>),
     Members(Vec<Member<R>>),
     Definition(Vec<Part<R>>),
+    Elements(Vec<ArrayElement<R>>),
 }
 
 #[derive(Drop)]
@@ -157,6 +168,13 @@ pub struct MethodDef<R> {
     pub attributes: Vec<Attribute<R>>,
 }
 
+/// An array of variables.
+#[derive(Drop)]
+pub struct ArrayDef<R> {
+    pub name: String,
+    pub attributes: Vec<Attribute<R>>,
+}
+
 #[derive(Drop)]
 pub enum Item<R> {
     Variable(VariableDef<R>),
@@ -164,6 +182,7 @@ pub enum Item<R> {
     Menu(MenuDef<R>),
     Collection(CollectionDef<R>),
     Method(MethodDef<R>),
+    Array(ArrayDef<R>),
 }
 
 impl<R> Item<R> {
@@ -177,6 +196,7 @@ impl<R> Item<R> {
             Item::Menu(_) => Kind::Menu,
             Item::Collection(_) => Kind::Collection,
             Item::Method(_) => Kind::Method,
+            Item::Array(_) => Kind::Array,
         }
     }
 
@@ -190,6 +210,7 @@ impl<R> Item<R> {
             Item::Menu(d) => &d.name,
             Item::Collection(d) => &d.name,
             Item::Method(d) => &d.name,
+            Item::Array(d) => &d.name,
         }
     }
 
@@ -203,6 +224,7 @@ impl<R> Item<R> {
             Item::Menu(d) => &d.attributes,
             Item::Collection(d) => &d.attributes,
             Item::Method(d) => &d.attributes,
+            Item::Array(d) => &d.attributes,
         }
     }
 }

@@ -4,6 +4,7 @@
 pub mod answer;
 pub mod checked;
 pub mod cond;
+mod elements;
 pub mod expr;
 pub mod item;
 pub mod laws;

@@ -64,6 +64,7 @@ fn stands_for(attribute: &Attribute<Target>, attr: Attr) -> bool
         Attribute::Items(_) => Attr::Items,
         Attribute::Members(_) => Attr::Members,
         Attribute::Definition(_) => Attr::Definition,
+        Attribute::Elements(_) => Attr::Elements,
     };
     attr == written
 }

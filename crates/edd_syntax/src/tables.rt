@@ -163,7 +163,7 @@ impl Attr {
             Attr::Items => Keyword::Items.spelling(),
             Attr::Members => Keyword::Members.spelling(),
             Attr::Definition => Keyword::Definition.spelling(),
-            Attr::Elements => "ELEMENTS",
+            Attr::Elements => Keyword::Elements.spelling(),
         }
     }
 
