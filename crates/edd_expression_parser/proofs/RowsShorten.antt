@@ -1,5 +1,5 @@
--- What stands in rows takes a token at least: response codes, members, and the parts of types and
--- of transactions.
+-- What stands in rows takes a token at least: response codes, members, elements, and the parts of
+-- types and of transactions.
 use Rattle.std.proofs.Common.{◌≡◌, ℕ, ◌≤◌, ◌<◌, Bool, true, false, List, ◌∷◌, drop, length, Some, None, ◌∙◌, arith, length-drop}
 use Rattle.std.specs.Prelude.{if◌then◌else◌}
 use Rattle.edd_syntax.specs.declared.symbols.Keyword.TheVariants as word
@@ -11,9 +11,9 @@ use Rattle.edd_grammar.specs.WordReading.{skip_semicolons, closed, braced}
 use Rattle.edd_grammar.specs.ConditionalReading.{one_at, element_at, list_at, text_value, expr_value, skip_comma}
 use Rattle.edd_grammar.specs.ValueReading.{enumerator_value, data_item_value}
 use Rattle.edd_grammar.specs.TypeReading.{type_part_at}
-use Rattle.edd_grammar.specs.AttributeReading.{response_code_at, member_at, transaction_part_at}
+use Rattle.edd_grammar.specs.AttributeReading.{response_code_at, member_at, array_element_at, transaction_part_at}
 use Rattle.edd_grammar.proofs.Steps.{bind_some, as_read}
-use Rattle.edd_grammar.proofs.Members.{response_codes, response_code_sound, members, member_sound}
+use Rattle.edd_grammar.proofs.Members.{response_codes, response_code_sound, members, member_sound, array_elements, array_element_sound}
 use Rattle.edd_expression_parser.specs.declared.cond.Form.TheVariants.{One, Many}
 use Rattle.edd_expression_parser.specs.Conditionals.{cond_at}
 use Rattle.edd_expression_parser.specs.Shortening.{Shortens, NoLonger}
@@ -29,6 +29,11 @@ response_code_shortens height_left here r rest e =
 pub member_shortens : (height_left : ℕ) → Shortens member_at
 member_shortens height_left here m rest e =
     (members height_left).shorter m here rest (member_sound height_left here m rest e).0
+
+pub array_element_shortens : (height_left : ℕ) → Shortens array_element_at
+array_element_shortens height_left here e rest found =
+    (array_elements height_left).shorter e here rest
+    (array_element_sound height_left here e rest found).0
 
 -- ---- conditionals
 

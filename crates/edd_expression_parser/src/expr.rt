@@ -13,7 +13,8 @@ ghost use Rattle.edd_expression_parser.specs.Expressions.{expr_view, argument_vi
 
 use crate::trees::{
     Child, Measured, MeasuredArgument, MeasuredArguments, assigned, binary, boxed, call,
-    choice_between, into_path, leaf, no_arguments, parentheses, unary_over, with_argument,
+    choice_between, indexed_by, into_path, leaf, no_arguments, parentheses, unary_over,
+    with_argument,
 };
 use edd_lexer::token::TokenKind;
 use edd_syntax::expr::{Argument, Expr};
@@ -197,7 +198,7 @@ fn operand(cursor: &mut Cursor, place: Place, height_left: u32) -> Result<Measur
     }
 }
 
-// Behind a name: a call's arguments, or the rest of a reference.
+// Behind a name: a call's arguments, the number of an element, or the rest of a reference.
 #[cycle(expr)]
 #[tactic(auto, unfolding(edd_grammar::specs::ExpressionReading::named_at))]
 fn named(
@@ -213,16 +214,38 @@ fn named(
         cursor.old) }
     ensures low { IfOk result (λ t. t.levels ≤ height_left + 1) }
 {
-    if !cursor.at(Symbol::OpenParenthesis) {
-        let to = path_from(cursor, name)?;
-        return stepped(cursor, place, to);
+    if cursor.at(Symbol::OpenParenthesis) {
+        if !in_method(place) {
+            return Err(cursor.syntax());
+        }
+        cursor.bump();
+        let arguments = arguments(cursor, place, height_left)?;
+        return Ok(call(cursor.alloc(), line, name, arguments)?);
     }
-    if !in_method(place) {
-        return Err(cursor.syntax());
+    if cursor.eat(Symbol::OpenBracket) {
+        return indexed(cursor, place, height_left, name);
     }
-    cursor.bump();
-    let arguments = arguments(cursor, place, height_left)?;
-    Ok(call(cursor.alloc(), line, name, arguments)?)
+    let to = path_from(cursor, name)?;
+    stepped(cursor, place, to)
+}
+
+// Behind the name of an array and its bracket.
+#[cycle(expr)]
+#[tactic(auto, unfolding(edd_grammar::specs::ExpressionReading::index_behind, crate::specs::Expressions::up_to_at))]
+fn indexed(
+    cursor: &mut Cursor,
+    place: Place,
+    height_left: u32,
+    name: &str,
+) -> Result<Measured, ParseFault>
+    requires { height_left < 100 }
+    ensures read { Gives (λ t. expr_view t.expr) result cursor.new
+        (reading.index_behind (place_view place) (expr_at (place_view place) height_left) name.now
+        cursor.old) }
+    ensures low { IfOk result (λ t. t.levels ≤ height_left + 1) }
+{
+    let index = up_to(cursor, place, height_left, Symbol::CloseBracket)?;
+    Ok(indexed_by(cursor.alloc(), name, index)?)
 }
 
 // Behind an operator before its operand.

@@ -166,6 +166,19 @@ pub fn call(
     })
 }
 
+/// `name [ index ]`
+pub fn indexed_by(alloc: Global, name: &str, index: Child) -> Result<Measured, AllocError>
+    requires { index.levels ≤ 100 }
+    ensures { IfOk result (λ t. expr_view t.expr
+        ≡ tree.Indexed (record { base = name.now; members = [] }) (expr_view index.expr.value)) }
+{
+    let array = plain(alloc, name)?;
+    Ok(Measured {
+        expr: Expr::Indexed(array, index.expr),
+        levels: index.levels + 1,
+    })
+}
+
 /// No arguments.
 pub fn no_arguments(alloc: Global) -> MeasuredArguments
     ensures items { result.arguments.items ≡ [] }
@@ -201,6 +214,7 @@ pub fn into_path(expr: Expr<Path>) -> Result<Path, Expr<Path>>
         Expr::Reference(to) => Ok(to),
         Expr::Literal(value) => Err(Expr::Literal(value)),
         Expr::Decimal { line } => Err(Expr::Decimal { line }),
+        Expr::Indexed(array, index) => Err(Expr::Indexed(array, index)),
         Expr::Parentheses(inner) => Err(Expr::Parentheses(inner)),
         Expr::Unary(op, operand) => Err(Expr::Unary(op, operand)),
         Expr::Binary(op, left, right) => Err(Expr::Binary(op, left, right)),

@@ -10,13 +10,13 @@ use Rattle.edd_syntax.specs.Item as item
 use Rattle.edd_syntax.specs.Item.{Attribute}
 use Rattle.edd_syntax.specs.WellFormed.{belongs_to}
 use Rattle.edd_syntax.specs.Grammar.{TextHere}
-use Rattle.edd_syntax.specs.ItemGrammar.{MoreNamesHere, NamesHere, HandlingHere, TruthHere, MenuEntryHere, ResponseCodeHere, MemberHere, AttributeHere, OwnAttributeHere}
+use Rattle.edd_syntax.specs.ItemGrammar.{MoreNamesHere, NamesHere, HandlingHere, TruthHere, MenuEntryHere, ResponseCodeHere, MemberHere, ArrayElementHere, AttributeHere, OwnAttributeHere}
 use Rattle.edd_syntax.specs.Size.{leaf, greatest_of, attribute_height}
 use Rattle.edd_grammar.specs.Reading.{at}
 use Rattle.edd_grammar.specs.ConditionalReading.{list_at, text_value}
 use Rattle.edd_grammar.specs.WordReading.{integer_at, at_close, more_names_at, names_at, closed, row_inside}
 use Rattle.edd_grammar.specs.ValueReading.{handling_value, truth_value, menu_entry_value}
-use Rattle.edd_grammar.specs.AttributeReading.{response_code_at, member_at, transaction_at, class_words_at, command_number_at, command_operation_at, other_attribute_at, attribute_at, begins_own, own_attribute_at}
+use Rattle.edd_grammar.specs.AttributeReading.{response_code_at, member_at, array_element_at, transaction_at, class_words_at, command_number_at, command_operation_at, other_attribute_at, attribute_at, begins_own, own_attribute_at}
 use Rattle.edd_grammar.proofs.Steps.{guard_some, at_is, expect_again}
 use Rattle.edd_grammar.proofs.Branches.{SoundOf}
 use Rattle.edd_grammar.proofs.SingleValues.{one_again, one_shorter}
@@ -27,7 +27,7 @@ use Rattle.edd_grammar.proofs.Words.{number_again, number_shorter, handling_valu
 use Rattle.edd_grammar.proofs.Entries.{EndsEntry, listed_menu_entries}
 use Rattle.edd_grammar.proofs.Rows.{RowOf, ThenSemicolons, braced_again, row_inside_again, row_shorter, closed_things}
 use Rattle.edd_grammar.proofs.Types.{type_again, type_shorter}
-use Rattle.edd_grammar.proofs.Members.{AfterResponse, response_codes, members}
+use Rattle.edd_grammar.proofs.Members.{AfterResponse, response_codes, members, array_elements}
 use Rattle.edd_grammar.proofs.Transactions.{transaction_parts_again, transaction_parts_shorter}
 use Rattle.edd_grammar.proofs.SoundAttributes.{attribute_sound}
 
@@ -116,6 +116,15 @@ attribute_again height_left (item.Members all) here rest h low =
       braced_again (row_inside member_at) all (Sign sign.OpenBrace ∷ h.0) h.0 rest refl
           inside,
     ) refl
+attribute_again height_left (item.Elements all) here rest h low =
+    let inside = row_inside_again ArrayElementHere leaf (greatest_of (map leaf all))
+    (λ rest. Unit {0}) array_element_at (array_elements (greatest_of (map leaf all))) all h.0 rest
+    h.2 (omega arith) in
+    rw (
+      h.1,
+      braced_again (row_inside array_element_at) all (Sign sign.OpenBrace ∷ h.0) h.0 rest refl
+          inside,
+    ) refl
 attribute_again height_left (item.Definition body) here rest h low =
     rw (h.1, expect_again sign.OpenBrace h.0, definition_again height_left body h.0 rest h.2 low)
     refl
@@ -164,6 +173,12 @@ attribute_shorter (item.Items entries) here rest h =
     )
 attribute_shorter (item.Members all) here rest h =
     omega (arith, ap length h.1, row_shorter MemberHere (members 0).shorter all h.0 _ h.2)
+attribute_shorter (item.Elements all) here rest h =
+    omega (
+      arith,
+      ap length h.1,
+      row_shorter ArrayElementHere (array_elements 0).shorter all h.0 _ h.2,
+    )
 attribute_shorter (item.Definition body) here rest h =
     omega (arith, ap length h.1, body_shorter false body h.0 _ h.2)
 
@@ -198,6 +213,8 @@ starts_attribute (item.ResponseCodes responses) here rest h =
 starts_attribute (item.Items entries) here rest h =
     rw h.1 (record { no_close = refl; no_semicolon = refl; belongs = λ k. refl })
 starts_attribute (item.Members all) here rest h =
+    rw h.1 (record { no_close = refl; no_semicolon = refl; belongs = λ k. refl })
+starts_attribute (item.Elements all) here rest h =
     rw h.1 (record { no_close = refl; no_semicolon = refl; belongs = λ k. refl })
 starts_attribute (item.Definition body) here rest h =
     rw h.1 (record { no_close = refl; no_semicolon = refl; belongs = λ k. refl })

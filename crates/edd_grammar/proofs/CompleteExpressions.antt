@@ -16,14 +16,14 @@ use Rattle.edd_syntax.specs.Grammar.{Place, loosest, IsMethod, row_of, compariso
 use Rattle.edd_syntax.specs.Size.{height, argument_height}
 use Rattle.edd_grammar.specs.Signs.{Infix, Plain, Comparing, Both, Either, infix_row, infix_sign, infix_tree, Assignment, Simple, Compound, assignment_sign, assignment_tree}
 use Rattle.edd_grammar.specs.Reading.{◌>>=◌, on_option, Read, at, path_behind}
-use Rattle.edd_grammar.specs.ExpressionReading.{step_before, operator_at, assignment_at, Inner, argument_at, some_arguments, arguments_at, postfix, named_at, unary_behind, parentheses_behind, signed_at, operand_at, joined_at, chain, choice_at, assigned, assign_at, layer, expr_at}
+use Rattle.edd_grammar.specs.ExpressionReading.{step_before, operator_at, assignment_at, Inner, argument_at, some_arguments, arguments_at, postfix, index_behind, named_at, unary_behind, parentheses_behind, signed_at, operand_at, joined_at, chain, choice_at, assigned, assign_at, layer, expr_at}
 use Rattle.edd_grammar.specs.Following.{Stops}
 use Rattle.edd_grammar.proofs.Steps.{expect_again}
 use Rattle.edd_grammar.proofs.Operators.{method_again, infix_again, infix_height, InfixHere, AssignmentHere, row_from, row_to}
 use Rattle.edd_grammar.proofs.Texts.{path_again, path_behind_again, text_again}
 use Rattle.edd_grammar.proofs.SoundExpressions.{loosest_le}
 use Rattle.edd_grammar.proofs.Shorter.{expr_shorter, text_shorter, begins, begins_no_text, begins_no_close, text_no_close}
-use Rattle.edd_grammar.proofs.Stops.{stops_mono, stops_tight, stops_operator, stops_question, stops_assignment, stops_parenthesis, stops_postfix, stops_dot}
+use Rattle.edd_grammar.proofs.Stops.{stops_mono, stops_tight, stops_operator, stops_question, stops_assignment, stops_parenthesis, stops_bracket, stops_postfix, stops_dot}
 
 bind_assoc : {A B C : Type 0} (o : Option A) (f : A → Option B) (g : B → Option C)
     → ((o >>= f) >>= g) ≡ (o >>= λ x. f x >>= g)
@@ -123,6 +123,11 @@ assignment_no_question : (op : Assignment) (behind : List Token)
     → at sign.Question (Sign (assignment_sign op) ∷ behind) ≡ false
 assignment_no_question Simple behind = refl
 assignment_no_question (Compound op) behind = grind arith
+
+no_bracket_behind : (ms : List (List ℕ)) (behind rest : List Token) → at sign.OpenBracket rest
+    ≡ false → MembersHere ms behind rest → at sign.OpenBracket behind ≡ false
+no_bracket_behind [] behind rest f h = rw h f
+no_bracket_behind (m ∷ ms) behind rest f h = ap (at sign.OpenBracket) h.1
 
 no_paren_behind : (ms : List (List ℕ)) (behind rest : List Token) → at sign.OpenParenthesis rest
     ≡ false → MembersHere ms behind rest → at sign.OpenParenthesis behind ≡ false
@@ -233,10 +238,10 @@ module _ (p : Place) (inner : Inner) (height_left : ℕ) (complete : Complete p 
     unary_again unary_operator.Complement e here behind rest f h = rw f h
 
     named_again : (r : Path) (here rest behind : List Token) → (here ≡ Identifier r.base ∷ behind)
-        → at sign.OpenParenthesis behind ≡ false → operand_at p inner here
-        ≡ postfix p (path_behind r.base behind).0 (path_behind r.base behind).1
+        → at sign.OpenParenthesis behind ≡ false → at sign.OpenBracket behind ≡ false
+        → operand_at p inner here ≡ postfix p (path_behind r.base behind).0 (path_behind r.base behind).1
     unfolding operand_at named_at
-    named_again r here rest behind f closed = rw (f, closed) refl
+    named_again r here rest behind f closed plain = rw (f, closed, plain) refl
 
     -- rows 13 to 15
     abbrev IsOperand : Expr Path → Type 0
@@ -252,14 +257,24 @@ module _ (p : Place) (inner : Inner) (height_left : ℕ) (complete : Complete p 
     operand_again : (row level : ℕ) (e : Expr Path) (here rest : List Token) → IsOperand e
         → ExprHere p row e here rest → height e ≤ suc height_left → Stops level rest
         → operand_at p inner here ≡ Some (e, rest)
-    unfolding operand_at step_before signed_at named_at unary_behind parentheses_behind postfix
+    unfolding operand_at step_before signed_at named_at index_behind unary_behind parentheses_behind postfix
     operand_again row level (tree.Literal n) here rest i h low s = rw h refl
     operand_again row level tree.Decimal here rest i h low s = rw h refl
     operand_again row level (tree.Reference r) here rest i h low s =
         named_again r here rest h.0 h.1
         (no_paren_behind r.members h.0 rest (stops_parenthesis level rest s) h.2)
+        (no_bracket_behind r.members h.0 rest (stops_bracket level rest s) h.2)
         ∙ rw (path_behind_again r h.0 rest (stops_dot level rest s) h.2)
         (stops_postfix p level r rest s)
+    operand_again row level (tree.Indexed a e) here rest i h low s =
+        let read = complete (loosest p) e h.1 (Sign sign.CloseBracket ∷ rest)
+        (omega (arith, loosest_le p)) h.4 (omega arith) tt in
+        rw (h.2.1, h.3, read, expect_again sign.CloseBracket rest)
+        (ap (λ (ms : List Name). Some (
+          tree.Indexed (record { base = a.base; members = ms }) e,
+          rest,
+        ))
+        (sym h.2.0))
     operand_again row level (tree.Parentheses e) here rest i h low s =
         let read = complete (loosest p) e h.0 (Sign sign.CloseParenthesis ∷ rest)
         (omega (arith, loosest_le p)) h.2 (omega arith) tt in
@@ -278,10 +293,12 @@ module _ (p : Place) (inner : Inner) (height_left : ℕ) (complete : Complete p 
     operand_again row level (tree.Increment PostIncrement r) here rest i h low s =
         let read = path_behind_again r h.2.0 (Sign sign.Increment ∷ rest) refl h.2.2 in
         named_again r here rest h.2.0 h.2.1 (no_paren_behind r.members h.2.0 _ refl h.2.2)
+        (no_bracket_behind r.members h.2.0 _ refl h.2.2)
         ∙ ap (λ (x : Path × List Token). postfix p x.0 x.1) read ∙ rw (method_again p h.0) refl
     operand_again row level (tree.Increment PostDecrement r) here rest i h low s =
         let read = path_behind_again r h.2.0 (Sign sign.Decrement ∷ rest) refl h.2.2 in
         named_again r here rest h.2.0 h.2.1 (no_paren_behind r.members h.2.0 _ refl h.2.2)
+        (no_bracket_behind r.members h.2.0 _ refl h.2.2)
         ∙ ap (λ (x : Path × List Token). postfix p x.0 x.1) read ∙ rw (method_again p h.0) refl
     operand_again row level (tree.Unary op e) here rest i h low s =
         let read = complete 13 e h.1 rest (omega arith) h.3 (omega arith)

@@ -7,13 +7,14 @@ use Rattle.edd_syntax.specs.declared.symbols.Symbol.TheVariants as sign
 use Rattle.edd_syntax.specs.Text.{Name}
 use Rattle.edd_syntax.specs.Token.{Token, Reserved, Identifier, Sign}
 use Rattle.edd_syntax.specs.Reference.{Path}
-use Rattle.edd_syntax.specs.Item.{ItemKind, VariableItem, CommandItem, MenuItem, CollectionItem, MethodItem, kind_of_item, Attribute, Item}
+use Rattle.edd_syntax.specs.Item.{ItemKind, VariableItem, CommandItem, MenuItem, CollectionItem, MethodItem, ArrayItem, kind_of_item, Attribute, Item}
+use Rattle.edd_syntax.specs.Grammar.{NextWord}
 use Rattle.edd_syntax.specs.ItemGrammar.{RowHere, ClosedHere, KindHere, ItemWordHere, OwnAttributeHere, ItemHere}
 use Rattle.edd_syntax.specs.Size.{attribute_height, item_height}
 use Rattle.edd_grammar.specs.Reading.{at, at_word, expect_word, name_at}
 use Rattle.edd_grammar.specs.WordReading.{at_end, closed, row_inside}
 use Rattle.edd_grammar.specs.AttributeReading.{own_attribute_at}
-use Rattle.edd_grammar.specs.UnitReading.{kind_at, sort_behind, attributes_at, item_at}
+use Rattle.edd_grammar.specs.UnitReading.{kind_at, item_kind_at, sort_behind, attributes_at, item_at}
 use Rattle.edd_grammar.proofs.Steps.{bind_some, as_read, at_word_is, expect_word_is, expect_word_again, name_is}
 use Rattle.edd_grammar.proofs.Alternatives.{branch}
 use Rattle.edd_grammar.proofs.Branches.{SoundOf}
@@ -52,8 +53,33 @@ kind_again kind.Collection here rest h = rw h refl
 kind_again kind.Method here rest h = rw h refl
 kind_again kind.Array here rest h = absurd h
 
+-- the word of a kind of item
+abbrev ItemKindHere : Kind → List Token → List Token → Type 0
+ItemKindHere kind.Variable here rest = NextWord word.Variable here rest
+ItemKindHere kind.Command here rest = NextWord word.Command here rest
+ItemKindHere kind.Menu here rest = NextWord word.Menu here rest
+ItemKindHere kind.Collection here rest = NextWord word.Collection here rest
+ItemKindHere kind.Method here rest = NextWord word.Method here rest
+ItemKindHere kind.Array here rest = NextWord word.Array here rest
+
+of_item : (k : Kind) (here rest : List Token) → KindHere k here rest → ItemKindHere k here rest
+of_item kind.Variable here rest h = h
+of_item kind.Command here rest h = h
+of_item kind.Menu here rest h = h
+of_item kind.Collection here rest h = h
+of_item kind.Method here rest h = h
+of_item kind.Array here rest h = absurd h
+
+item_kind_sound : (here : List Token) (k : Kind) (rest : List Token)
+    → item_kind_at here ≡ Some (k, rest) → ItemKindHere k here rest
+unfolding item_kind_at
+item_kind_sound here k rest x =
+    branch (at_word word.Array here) _ _ _ x
+    (λ t y. as_read (λ k r. ItemKindHere k here r) kind.Array k (drop 1 here) rest y
+    (at_word_is word.Array here t)) (λ _ y. of_item k here rest (kind_sound here k rest y))
+
 sort_sound : (k : Kind) (here behind : List Token) (sort : ItemKind) (rest : List Token)
-    → KindHere k here behind → sort_behind k behind ≡ Some (sort, rest)
+    → ItemKindHere k here behind → sort_behind k behind ≡ Some (sort, rest)
     → ItemWordHere sort here rest
 unfolding sort_behind
 sort_sound kind.Variable here behind sort rest e x = as_read (λ s r. ItemWordHere s here r)
@@ -72,17 +98,22 @@ sort_sound kind.Collection here behind sort rest e x =
       e ∙ ap (λ u. Reserved word.Collection ∷ u) (expect_word_is word.Of behind a.0 a.1),
       kind_sound a.0 b.0.0 b.0.1 b.1,
     )
-sort_sound kind.Array here behind sort rest e x = absurd e
+sort_sound kind.Array here behind sort rest e x =
+    let a = bind_some (expect_word word.Of behind) _ (sort, rest) x in
+    let b = bind_some (expect_word word.Variable a.0) _ (sort, rest) a.2 in
+    as_read (λ s r. ItemWordHere s here r) ArrayItem sort b.0 rest b.2
+    (e ∙ ap (λ u. Reserved word.Array ∷ u) (expect_word_is word.Of behind a.0 a.1
+    ∙ ap (λ u. Reserved word.Of ∷ u) (expect_word_is word.Variable a.0 b.0 b.1)))
 
 -- the kind is read, and what stands behind it
 record ReadsSort (sort : ItemKind) (here rest : List Token) : Type 0 where
   pub behind : List Token
-  pub kind_read : kind_at here ≡ Some (kind_of_item sort, behind)
+  pub kind_read : item_kind_at here ≡ Some (kind_of_item sort, behind)
   pub sort_read : sort_behind (kind_of_item sort) behind ≡ Some (sort, rest)
 
 sort_again : (sort : ItemKind) (here rest : List Token) → ItemWordHere sort here rest
     → ReadsSort sort here rest
-unfolding kind_at sort_behind
+unfolding item_kind_at kind_at sort_behind
 sort_again VariableItem here rest h =
     record { behind = rest; kind_read = rw h refl; sort_read = refl }
 sort_again CommandItem here rest h =
@@ -90,6 +121,15 @@ sort_again CommandItem here rest h =
 sort_again MenuItem here rest h = record { behind = rest; kind_read = rw h refl; sort_read = refl }
 sort_again MethodItem here rest h =
     record { behind = rest; kind_read = rw h refl; sort_read = refl }
+sort_again ArrayItem here rest h =
+    record {
+      behind = Reserved word.Of ∷ Reserved word.Variable ∷ rest;
+      kind_read = rw h refl;
+      sort_read = rw (
+        expect_word_again word.Of (Reserved word.Variable ∷ rest),
+        expect_word_again word.Variable rest,
+      ) refl;
+    }
 sort_again (CollectionItem of) here rest h =
     record {
       behind = Reserved word.Of ∷ h.0;
@@ -151,7 +191,7 @@ before_brace here name brace inside n b = name_is here name brace n ∙ ap (λ u
 pub item_sound : (height_left : ℕ) → SoundOf ItemHere item_height height_left (item_at height_left)
 unfolding item_at
 item_sound height_left here i rest x =
-    let a = bind_some (kind_at here) _ (i, rest) x in
+    let a = bind_some (item_kind_at here) _ (i, rest) x in
     let b = bind_some (sort_behind a.0.0 a.0.1) _ (i, rest) a.2 in
     let c = bind_some (name_at b.0.1) _ (i, rest) b.2 in
     let d = bind_some (attributes_at (kind_of_item b.0.0) height_left c.0.1) _ (i, rest) c.2 in
@@ -161,7 +201,7 @@ item_sound height_left here i rest x =
       (
         b.0.1,
         all.0.0,
-        sort_sound a.0.0 here a.0.1 b.0.0 b.0.1 (kind_sound here a.0.0 a.0.1 a.1) b.1,
+        sort_sound a.0.0 here a.0.1 b.0.0 b.0.1 (item_kind_sound here a.0.0 a.0.1 a.1) b.1,
         before_brace b.0.1 c.0.0 c.0.1 all.0.0 c.1 all.0.1,
         all.0.2,
       ),
@@ -196,6 +236,7 @@ word_shorter VariableItem here rest h = omega (arith, ap length h)
 word_shorter CommandItem here rest h = omega (arith, ap length h)
 word_shorter MenuItem here rest h = omega (arith, ap length h)
 word_shorter MethodItem here rest h = omega (arith, ap length h)
+word_shorter ArrayItem here rest h = omega (arith, ap length h)
 word_shorter (CollectionItem of) here rest h =
     omega (arith, ap length h.1, kind_shorter of h.0 rest h.2)
 
@@ -225,6 +266,8 @@ starts_item CommandItem here rest h =
 starts_item MenuItem here rest h =
     rw h (record { no_end = refl; no_semicolon = refl; no_comma = refl })
 starts_item MethodItem here rest h =
+    rw h (record { no_end = refl; no_semicolon = refl; no_comma = refl })
+starts_item ArrayItem here rest h =
     rw h (record { no_end = refl; no_semicolon = refl; no_comma = refl })
 starts_item (CollectionItem of) here rest h =
     rw h.1 (record { no_end = refl; no_semicolon = refl; no_comma = refl })

@@ -10,16 +10,16 @@ use Rattle.edd_syntax.specs.Reference.{Path}
 use Rattle.edd_syntax.specs.Conditional.{Cond}
 use Rattle.edd_syntax.specs.Item as item
 use Rattle.edd_syntax.specs.Item.{TypeWord, TypePart, TransactionPart, Attribute}
-use Rattle.edd_syntax.specs.WellFormed.{is_text, is_path, is_plain, is_pure_expr, is_cond, is_single, is_enumerator, is_entry, is_data_item, is_response_code, is_member, is_type_part, is_type, is_transaction_part, is_attribute}
+use Rattle.edd_syntax.specs.WellFormed.{is_text, is_path, is_plain, is_pure_expr, is_cond, is_single, is_enumerator, is_entry, is_data_item, is_response_code, is_member, is_array_element, is_type_part, is_type, is_transaction_part, is_attribute}
 use Rattle.edd_syntax.specs.Grammar.{TextHere}
 use Rattle.edd_syntax.specs.StatementGrammar.{OneHere}
-use Rattle.edd_syntax.specs.ItemGrammar.{RowHere, TimesHere, ClosedHere, ValueExprHere, HandlingHere, TruthHere, EnumeratorHere, DataItemHere, MenuEntryHere, ResponseCodeHere, MemberHere, type_name, TypePartHere, TypePartsHere, behind_braces, OtherEndHere, SkippedHere, TypeHere, TransactionPartHere, AttributeHere}
+use Rattle.edd_syntax.specs.ItemGrammar.{RowHere, TimesHere, ClosedHere, ValueExprHere, HandlingHere, TruthHere, EnumeratorHere, DataItemHere, MenuEntryHere, ResponseCodeHere, MemberHere, ArrayElementHere, type_name, TypePartHere, TypePartsHere, behind_braces, OtherEndHere, SkippedHere, TypeHere, TransactionPartHere, AttributeHere}
 use Rattle.edd_grammar.specs.KeptTokens.{Kept}
 use Rattle.edd_grammar.proofs.Branches.{Spelling}
 use Rattle.edd_grammar.proofs.KeptExpressions.{Both, kept_next, kept_tail, kept_same, text_kept, pure_kept}
 use Rattle.edd_grammar.proofs.KeptConditionals.{KeepsValues, comma_kept, one_single, one_kept, list_kept, element_kept}
 use Rattle.edd_grammar.proofs.KeptStatements.{body_kept}
-use Rattle.edd_grammar.proofs.KeptValues.{any_value, handling_kept, truth_kept, operation_kept, number_kept, size_kept, names_kept, enumerator_kept, data_item_kept, menu_entry_kept, response_code_kept, member_kept}
+use Rattle.edd_grammar.proofs.KeptValues.{any_value, handling_kept, truth_kept, operation_kept, number_kept, size_kept, names_kept, enumerator_kept, data_item_kept, menu_entry_kept, array_element_kept, response_code_kept, member_kept}
 
 -- ---- repetitions
 
@@ -187,6 +187,10 @@ attribute_kept (item.Items entries) here rest h k =
 attribute_kept (item.Members members) here rest h k =
     let all = row_kept MemberHere (is_member is_path is_plain) member_kept members h.0 _ h.2
     (braced_kept word.Members here h.0 h.1 k) in
+    (all.0, kept_tail (Sign sign.CloseBrace) rest all.1)
+attribute_kept (item.Elements elements) here rest h k =
+    let all = row_kept ArrayElementHere (is_array_element is_path is_plain) array_element_kept
+    elements h.0 _ h.2 (braced_kept word.Elements here h.0 h.1 k) in
     (all.0, kept_tail (Sign sign.CloseBrace) rest all.1)
 attribute_kept (item.Definition body) here rest h k =
     let all = body_kept false body h.0 _ h.2 (braced_kept word.Definition here h.0 h.1 k) in

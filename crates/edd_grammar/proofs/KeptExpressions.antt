@@ -1,5 +1,5 @@
 -- Texts and expressions that are spelled by tokens keep what trees keep.
-use Rattle.std.proofs.Common.{◌≡◌, ℕ, eqb, suc, Bool, true, false, ◌&&◌, List, [], ◌∷◌, ◌++◌, refl, sym, ap, ◌∙◌}
+use Rattle.std.proofs.Common.{◌≡◌, ℕ, eqb, suc, Bool, true, false, not, ◌&&◌, List, [], ◌∷◌, ◌++◌, refl, sym, ap, ◌∙◌}
 use Rattle.std.specs.List.{list_all}
 use Rattle.edd_syntax.specs.declared.operators.IncrementOperator.TheVariants.{PreIncrement, PostIncrement, PreDecrement, PostDecrement}
 use Rattle.edd_syntax.specs.declared.symbols.Symbol.TheVariants as sign
@@ -12,7 +12,7 @@ use Rattle.edd_syntax.specs.Token as token
 use Rattle.edd_syntax.specs.Reference.{Path}
 use Rattle.edd_syntax.specs.Expression as tree
 use Rattle.edd_syntax.specs.Expression.{Expr, Text, Value, Arguments}
-use Rattle.edd_syntax.specs.WellFormed.{is_text, is_path, is_plain, is_expr, are_arguments, is_pure_expr}
+use Rattle.edd_syntax.specs.WellFormed.{is_text, is_not_empty, is_path, is_plain, is_expr, are_arguments, is_pure_expr}
 use Rattle.edd_syntax.specs.Grammar.{Place, InAttribute, loosest, row_of, comparison_row, unary_sign, joined, MembersHere, PathHere, PlainHere, StringsHere, TextHere, ExprHere, ArgumentsHere, MoreArgumentsHere, ConditionHere}
 use Rattle.edd_grammar.specs.KeptTokens.{is_kept_token, Kept}
 use Rattle.edd_grammar.proofs.Steps.{both_true}
@@ -108,12 +108,28 @@ text_kept (Key name) here rest h k =
 
 -- ---- expressions
 
+-- a plain name is a path
+plain_path : (p : Path) → is_plain p ≡ true → is_path p ≡ true
+plain_path p h = here p.members h
+  where
+    here : (ms : List Name) → (is_name p.base && not (is_not_empty ms)) ≡ true
+        → (is_name p.base && list_all is_name ms) ≡ true
+    here [] h = h
+    here (m ∷ ms) h = absurd (cc ((both_true (is_name p.base) false h).1))
+
 mutual
   pub expr_kept : (p : Place) (row : ℕ) (e : Expr Path) (here rest : List Token)
       → ExprHere p row e here rest → Kept here → Both (is_expr is_path is_plain e) rest
   expr_kept p row (tree.Literal n) here rest h k = kept_next (Integer n) here rest h k
   expr_kept p row tree.Decimal here rest h k = kept_next token.Decimal here rest h k
   expr_kept p row (tree.Reference from) here rest h k = path_kept from here rest h k
+  expr_kept p row (tree.Indexed array index) here rest h k =
+      let name = plain_kept array here h.0 h.2 k in
+      let inside = expr_kept p (loosest p) index h.1 _ h.4
+      (kept_next (Sign sign.OpenBracket) h.0 h.1 h.3 name.1).1 in (
+        rw (plain_path array name.0, name.0, inside.0) refl,
+        kept_tail (Sign sign.CloseBracket) rest inside.1,
+      )
   expr_kept p row (tree.Parentheses inner) here rest h k =
       let inside = expr_kept p (loosest p) inner h.0 _ h.2
       (kept_next (Sign sign.OpenParenthesis) here h.0 h.1 k).1 in
@@ -201,6 +217,9 @@ pure_expr : (row : ℕ) (e : Expr Path) (here rest : List Token)
 pure_expr row (tree.Literal n) here rest h e = e
 pure_expr row tree.Decimal here rest h e = e
 pure_expr row (tree.Reference from) here rest h e = e
+pure_expr row (tree.Indexed array index) here rest h e =
+    let parts = both_true (is_path array && is_plain array) (is_expr is_path is_plain index) e in
+    rw (parts.0, pure_expr (loosest InAttribute) index h.1 _ h.4 parts.1) refl
 pure_expr row (tree.Parentheses inner) here rest h e = pure_expr (loosest InAttribute) inner h.0 _
     h.2 e
 pure_expr row (tree.Call function arguments) here rest h e = absurd h.0

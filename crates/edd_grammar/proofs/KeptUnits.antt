@@ -8,8 +8,8 @@ use Rattle.edd_syntax.specs.declared.symbols.Keyword.TheVariants as word
 use Rattle.edd_syntax.specs.declared.symbols.Symbol.TheVariants as sign
 use Rattle.edd_syntax.specs.Token.{Token, Reserved, Identifier, Integer, Sign}
 use Rattle.edd_syntax.specs.Reference.{Path}
-use Rattle.edd_syntax.specs.Item.{ItemKind, VariableItem, CommandItem, MenuItem, CollectionItem, MethodItem, kind_of_item, Attribute, Item, Identification, Description}
-use Rattle.edd_syntax.specs.WellFormed.{is_path, is_plain, stands_in, is_item, are_items}
+use Rattle.edd_syntax.specs.Item.{ItemKind, VariableItem, CommandItem, MenuItem, CollectionItem, MethodItem, ArrayItem, kind_of_item, Attribute, Item, Identification, Description}
+use Rattle.edd_syntax.specs.WellFormed.{may_list, is_path, is_plain, stands_in, is_item, are_items}
 use Rattle.edd_syntax.specs.ItemGrammar.{ClosedHere, KindHere, ItemWordHere, OwnAttributeHere, ItemHere, NumberedWordHere, IdentificationHere, Spells}
 use Rattle.edd_syntax.specs.Size.{attribute_height, item_height, height_limit}
 use Rattle.edd_grammar.specs.KeptTokens.{Kept}
@@ -56,6 +56,29 @@ word_kept MethodItem here rest h k = (kept_next (Reserved word.Method) here rest
 word_kept (CollectionItem of) here rest h k =
     let behind = (kept_next (Reserved word.Collection) here (Reserved word.Of ∷ h.0) h.1 k).1 in
     kind_kept of h.0 rest h.2 (kept_tail (Reserved word.Of) h.0 behind)
+word_kept ArrayItem here rest h k =
+    let of = (kept_next (Reserved word.Array) here (Reserved word.Of ∷ Reserved word.Variable
+    ∷ rest) h k).1 in
+    kept_tail (Reserved word.Variable) rest (kept_tail (Reserved word.Of) (Reserved word.Variable
+    ∷ rest) of)
+
+kind_listed : (of : Kind) (here rest : List Token) → KindHere of here rest
+    → may_list (CollectionItem of) ≡ true
+kind_listed kinds.Variable here rest h = refl
+kind_listed kinds.Command here rest h = refl
+kind_listed kinds.Menu here rest h = refl
+kind_listed kinds.Collection here rest h = refl
+kind_listed kinds.Method here rest h = refl
+kind_listed kinds.Array here rest h = absurd h
+
+sort_listed : (sort : ItemKind) (here rest : List Token) → ItemWordHere sort here rest
+    → may_list sort ≡ true
+sort_listed VariableItem here rest h = refl
+sort_listed CommandItem here rest h = refl
+sort_listed MenuItem here rest h = refl
+sort_listed MethodItem here rest h = refl
+sort_listed ArrayItem here rest h = refl
+sort_listed (CollectionItem of) here rest h = kind_listed of h.0 rest h.2
 
 item_kept : (i : Item Path) (here rest : List Token) → ItemHere i here rest
     → item_height i ≤ height_limit → Kept here → Both (is_item is_path is_plain i) rest
@@ -63,8 +86,10 @@ item_kept i here rest h low k =
     let name = kept_next (Identifier i.name) h.0 (Sign sign.OpenBrace ∷ h.1) h.3
     (word_kept i.sort here h.0 h.2 k) in
     let all = attributes_kept (kind_of_item i.sort) i.attributes h.1 _ h.4 low
-    (kept_tail (Sign sign.OpenBrace) h.1 name.1) in
-    (rw (name.0, all.0) refl, kept_tail (Sign sign.CloseBrace) rest all.1)
+    (kept_tail (Sign sign.OpenBrace) h.1 name.1) in (
+      rw (name.0, sort_listed i.sort here h.0 h.2, all.0) refl,
+      kept_tail (Sign sign.CloseBrace) rest all.1,
+    )
 
 pub read_item_kept : (here : List Token) (i : Item Path) (rest : List Token)
     → item_at height_limit here ≡ Some (i, rest) → Kept here

@@ -14,8 +14,8 @@ use Rattle.edd_syntax.specs.Text.{Name}
 use Rattle.edd_syntax.specs.Names.{is_name}
 use Rattle.edd_syntax.specs.Token.{Token, Reserved, Identifier, Integer, Sign}
 use Rattle.edd_syntax.specs.Item as item
-use Rattle.edd_syntax.specs.WellFormed.{is_number, is_text, if_some, is_not_empty, is_path, is_plain, is_enumerator, is_entry, is_data_item, is_response_code, is_member}
-use Rattle.edd_syntax.specs.ItemGrammar.{MoreNamesHere, NamesHere, MoreQualifiersHere, QualifiersHere, data_qualifier_names, menu_qualifier_names, HandlingHere, TruthHere, OperationHere, OptionalTextHere, EnumeratorHere, MaskHere, DataItemHere, MenuEntryHere, class_name, ResponseEndHere, ResponseCodeHere, MemberTextsHere, MemberHere, SizeHere, NumberHere}
+use Rattle.edd_syntax.specs.WellFormed.{is_number, is_text, if_some, is_not_empty, is_path, is_plain, is_enumerator, is_entry, is_data_item, is_response_code, is_member, is_array_element}
+use Rattle.edd_syntax.specs.ItemGrammar.{MoreNamesHere, NamesHere, MoreQualifiersHere, QualifiersHere, data_qualifier_names, menu_qualifier_names, HandlingHere, TruthHere, OperationHere, OptionalTextHere, EnumeratorHere, MaskHere, DataItemHere, MenuEntryHere, class_name, ResponseEndHere, ResponseCodeHere, MemberTextsHere, MemberHere, ArrayElementHere, SizeHere, NumberHere}
 use Rattle.edd_grammar.specs.KeptTokens.{Kept}
 use Rattle.edd_grammar.proofs.KeptExpressions.{Both, kept_next, kept_tail, kept_same, path_kept, plain_kept, text_kept}
 use Rattle.edd_grammar.proofs.KeptConditionals.{KeepsValues, label_kept, comma_kept}
@@ -180,3 +180,12 @@ member_kept m here rest h k =
     let to = plain_kept m.item h.0 h.1 h.3 (kept_tail (Sign sign.Comma) h.0 name.1) in
     let texts = member_texts_kept m.label m.help h.1 _ h.4 to.1 in
     (rw (name.0, to.0, texts.0, texts.1) refl, kept_tail (Sign sign.Semicolon) rest texts.2)
+
+pub array_element_kept : KeepsValues ArrayElementHere (is_array_element is_path is_plain)
+array_element_kept e here rest h k =
+    let number = kept_next (Integer e.number) here (Sign sign.Comma ∷ h.0) h.2 k in
+    let to = plain_kept e.variable h.0 h.1 h.3 (kept_tail (Sign sign.Comma) h.0 number.1) in
+    let texts = member_texts_kept e.label e.help h.1 _ h.4 to.1 in (
+      rw (number.0, to.0, texts.0, texts.1) refl,
+      kept_tail (Sign sign.Semicolon) rest texts.2,
+    )

@@ -1,4 +1,4 @@
--- Response codes and members are read as they are spelled.
+-- Response codes, members and elements of arrays are read as they are spelled.
 use Rattle.std.proofs.Common.{◌≡◌, ℕ, ◌≤◌, true, false, bytes_eq, codes, List, [], ◌∷◌, drop, length, Option, Some, None, refl, sym, ap, ◌∙◌, inl, inr, arith}
 use Rattle.std.proofs.lemmas.Slice.Eq.{bytes_eq-Decides}
 use Rattle.std.proofs.lemmas.Option.{some_pair_parts}
@@ -10,12 +10,12 @@ use Rattle.edd_syntax.specs.Text.{Name}
 use Rattle.edd_syntax.specs.Token.{Token, Identifier, Integer, Sign}
 use Rattle.edd_syntax.specs.Reference.{Path}
 use Rattle.edd_syntax.specs.Item as item
-use Rattle.edd_syntax.specs.ItemGrammar.{NextName, OptionalTextHere, class_name, ResponseEndHere, ResponseCodeHere, MemberTextsHere, MemberHere}
+use Rattle.edd_syntax.specs.ItemGrammar.{NextName, OptionalTextHere, class_name, ResponseEndHere, ResponseCodeHere, MemberTextsHere, MemberHere, ArrayElementHere}
 use Rattle.edd_syntax.specs.Size.{leaf}
 use Rattle.edd_grammar.specs.Reading.{at, expect, name_at}
 use Rattle.edd_grammar.specs.WordReading.{integer_at, at_close}
 use Rattle.edd_grammar.specs.ValueReading.{some_text_at, optional_text_at}
-use Rattle.edd_grammar.specs.AttributeReading.{class_of, class_at, behind_response, response_code_at, member_at}
+use Rattle.edd_grammar.specs.AttributeReading.{class_of, class_at, behind_response, response_code_at, member_at, array_element_at}
 use Rattle.edd_grammar.proofs.Steps.{bind_some, as_read, at_is, expect_is, expect_again, name_is}
 use Rattle.edd_grammar.proofs.Alternatives.{branch, expected}
 use Rattle.edd_grammar.proofs.Shorter.{text_shorter}
@@ -270,4 +270,67 @@ members height_left = record {
   );
   at_end = λ rest e. tt;
   at_next = λ m here rest h. tt;
+}
+
+-- ---- elements of arrays
+
+pub array_element_sound : (height_left : ℕ)
+    → SoundOf ArrayElementHere leaf height_left array_element_at
+unfolding array_element_at
+array_element_sound height_left here x rest found =
+    let a = bind_some (integer_at here) _ (x, rest) found in
+    let b = bind_some (expect sign.Comma a.0.1) _ (x, rest) a.2 in
+    let c = bind_some (name_at b.0) _ (x, rest) b.2 in
+    let d = bind_some (optional_text_at c.0.1) _ (x, rest) c.2 in
+    let e = bind_some (optional_text_at d.0.1) _ (x, rest) d.2 in
+    let f = bind_some (expect sign.Semicolon e.0.1) _ (x, rest) e.2 in
+    let read : item.ArrayElement Path =
+    record {
+      number = a.0.0;
+      variable = record { base = c.0.0; members = [] };
+      label = d.0.0;
+      help = e.0.0;
+    } in
+    as_read (λ m r. ArrayElementHere m here r × (leaf m ≤ height_left)) read x f.0 rest f.2 (
+      (
+        b.0,
+        c.0.1,
+        integer_is here a.0.0 a.0.1 a.1 ∙ ap (λ u. Integer a.0.0 ∷ u)
+            (expect_is sign.Comma a.0.1 b.0 b.1),
+        (refl, name_is b.0 c.0.0 c.0.1 c.1),
+        expected (MemberTextsHere d.0.0 e.0.0 c.0.1) sign.Semicolon e.0.1 f.0 f.1
+            (member_texts_sound d.0.0 e.0.0 c.0.1 d.0.1 e.0.1 d.1 e.1),
+      ),
+      omega arith,
+    )
+
+array_element_again : (x : item.ArrayElement Path) (here rest : List Token)
+    → ArrayElementHere x here rest → array_element_at here ≡ Some (x, rest)
+unfolding array_element_at
+array_element_again x here rest h =
+    let texts = member_texts_again x.label x.help h.1 rest h.4 in
+    rw (h.2, expect_again sign.Comma h.0, h.3.1, texts.1, texts.2, expect_again sign.Semicolon rest)
+    (ap (λ (ms : List Name). Some (
+      record {
+        number = x.number;
+        variable = record { base = x.variable.base; members = ms };
+        label = x.label;
+        help = x.help;
+      },
+      rest,
+    )) (sym h.3.0))
+
+pub array_elements : (height_left : ℕ) → RowOf ArrayElementHere leaf height_left
+    (λ rest. Unit {0}) at_close array_element_at
+array_elements height_left = record {
+  again = λ x here rest h low f. array_element_again x here rest h;
+  no_end = λ x here rest h. ap at_close h.2;
+  shorter = λ x here rest h. omega (
+    arith,
+    ap length h.2,
+    ap length h.3.1,
+    member_texts_shorter x.label x.help h.1 _ h.4,
+  );
+  at_end = λ rest e. tt;
+  at_next = λ x here rest h. tt;
 }

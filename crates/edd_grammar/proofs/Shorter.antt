@@ -41,6 +41,13 @@ mutual
   expr_shorter p row (tree.Literal n) here rest h = omega (arith, ap length h)
   expr_shorter p row tree.Decimal here rest h = omega (arith, ap length h)
   expr_shorter p row (tree.Reference r) here rest h = path_shorter r here rest h
+  expr_shorter p row (tree.Indexed a e) here rest h =
+      omega (
+        arith,
+        ap length h.2.1,
+        ap length h.3,
+        expr_shorter p (loosest p) e h.1 _ h.4,
+      )
   expr_shorter p row (tree.Parentheses e) here rest h =
       omega (arith, ap length h.1, expr_shorter p (loosest p) e h.0 _ h.2)
   expr_shorter p row (tree.Call f args) here rest h =
@@ -127,6 +134,7 @@ pub begins : (p : Place) (row : ℕ) (e : Expr Path) (here rest : List Token)
 begins p row (tree.Literal n) here rest h = rw h (WithNumber n rest)
 begins p row tree.Decimal here rest h = rw h (WithDecimal rest)
 begins p row (tree.Reference r) here rest h = path_begins r here rest h
+begins p row (tree.Indexed a e) here rest h = rw h.2.1 (WithName a.base h.0)
 begins p row (tree.Parentheses e) here rest h =
     rw h.1 (WithSign sign.OpenParenthesis Parenthesis h.0)
 begins p row (tree.Call f args) here rest h = rw h.3.1 (WithName f.base h.1)

@@ -12,7 +12,7 @@ use Rattle.edd_syntax.specs.Item as item
 use Rattle.edd_syntax.specs.Item.{Attribute}
 use Rattle.edd_syntax.specs.Grammar.{TextHere}
 use Rattle.edd_syntax.specs.StatementGrammar.{OneHere, ListHere}
-use Rattle.edd_syntax.specs.ItemGrammar.{RowHere, MoreNamesHere, NamesHere, HandlingHere, TruthHere, OperationHere, MenuEntryHere, ResponseCodeHere, MemberHere, TextWordHere, AttributeHere}
+use Rattle.edd_syntax.specs.ItemGrammar.{RowHere, MoreNamesHere, NamesHere, HandlingHere, TruthHere, OperationHere, MenuEntryHere, ResponseCodeHere, MemberHere, ArrayElementHere, TextWordHere, AttributeHere}
 use Rattle.edd_syntax.specs.Size.{leaf, cond_height, conds_height, attribute_height}
 use Rattle.edd_grammar.specs.Reading.{◌>>=◌, on_option, Read, expect, at_word, name_at}
 use Rattle.edd_grammar.specs.ConditionalReading.{one_at, list_at, text_value}
@@ -20,7 +20,7 @@ use Rattle.edd_grammar.specs.StatementReading.{definition_at}
 use Rattle.edd_grammar.specs.WordReading.{integer_at, number_at, more_names_at, names_at, closed, braced, row_inside}
 use Rattle.edd_grammar.specs.ValueReading.{operation_at, handling_value, truth_value, menu_entry_value}
 use Rattle.edd_grammar.specs.TypeReading.{type_at}
-use Rattle.edd_grammar.specs.AttributeReading.{response_code_at, member_at, transaction_part_at, transaction_at, class_words_at, command_number_at, command_operation_at, text_here, other_attribute_at, attribute_at}
+use Rattle.edd_grammar.specs.AttributeReading.{response_code_at, member_at, array_element_at, transaction_part_at, transaction_at, class_words_at, command_number_at, command_operation_at, text_here, other_attribute_at, attribute_at}
 use Rattle.edd_grammar.proofs.Steps.{bind_some, as_read, at_word_is, expect_is, name_is}
 use Rattle.edd_grammar.proofs.SameSigns.{same_word_self}
 use Rattle.edd_grammar.proofs.Alternatives.{branch, expected, worded}
@@ -33,7 +33,7 @@ use Rattle.edd_grammar.proofs.Words.{integer_is, number_sound, handling_value_so
 use Rattle.edd_grammar.proofs.Entries.{menu_entry_value_sound}
 use Rattle.edd_grammar.proofs.Rows.{BracedHere, tallest, braced_sound, row_inside_sound}
 use Rattle.edd_grammar.proofs.Types.{WrittenHere, written_height, type_sound}
-use Rattle.edd_grammar.proofs.Members.{response_code_sound, member_sound}
+use Rattle.edd_grammar.proofs.Members.{response_code_sound, member_sound, array_element_sound}
 use Rattle.edd_grammar.proofs.Transactions.{transaction_parts_sound}
 
 -- ---- CLASS
@@ -224,7 +224,18 @@ module _ (height_left : ℕ) where
         h.2,
       )) (λ v l. omega arith) here a rest t y) (λ _ x10.
       branch (at_word word.Definition here) _ _ _ x10
-      (λ t y. definition_attribute_sound here a rest t y) (λ _ y. absurd cc)))))))))))
+      (λ t y. definition_attribute_sound here a rest t y) (λ _ x11.
+      branch (at_word word.Elements here) _ _ _ x11
+      (λ t y. worded AttributeHere attribute_height height_left word.Elements
+      (BracedHere (RowHere ArrayElementHere)) (tallest leaf) (braced (row_inside array_element_at))
+      (braced_sound (RowHere ArrayElementHere) (tallest leaf) height_left
+      (row_inside array_element_at) (row_inside_sound ArrayElementHere leaf height_left
+      array_element_at (array_element_sound height_left)))
+      item.Elements (λ v here behind rest e h. (
+        h.0,
+        e ∙ ap (λ u. Reserved word.Elements ∷ u) h.1,
+        h.2,
+      )) (λ v l. omega arith) here a rest t y) (λ _ y. absurd cc))))))))))))
 
   pub attribute_sound : SoundOf AttributeHere attribute_height height_left
       (attribute_at height_left)

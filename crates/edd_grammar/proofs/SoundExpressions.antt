@@ -17,7 +17,7 @@ use Rattle.edd_syntax.specs.Grammar.{Place, InAttribute, InMethod, loosest, IsMe
 use Rattle.edd_syntax.specs.Size.{height, argument_height}
 use Rattle.edd_grammar.specs.Signs.{infix_row, infix_tree, unary_of, before_of, behind_of, same_sign}
 use Rattle.edd_grammar.specs.Reading.{at, expect, path_at, is_text, text_at}
-use Rattle.edd_grammar.specs.ExpressionReading.{closing, step_before, is_method, operator_at, assignment_at, increment_at, Inner, argument_at, some_arguments, arguments_at, postfix, named_at, unary_behind, parentheses_behind, signed_at, operand_at, joined_at, chain, choice_at, assigned, as_path, assign_at, layer, expr_at}
+use Rattle.edd_grammar.specs.ExpressionReading.{closing, step_before, is_method, operator_at, assignment_at, increment_at, Inner, argument_at, some_arguments, arguments_at, postfix, index_behind, named_at, unary_behind, parentheses_behind, signed_at, operand_at, joined_at, chain, choice_at, assigned, as_path, assign_at, layer, expr_at}
 use Rattle.edd_grammar.proofs.SameSigns.{same_sign_is}
 use Rattle.edd_grammar.proofs.Steps.{option_cases, bind_some, guard_some, chosen, both_true, as_read, at_is, expect_is, le_is}
 use Rattle.edd_grammar.proofs.Operators.{method_is, infix_spelled, infix_height, operator_is, row_from, row_to, unary_is, before_spelled, behind_spelled, assignment_is, assignment_spelled, assignment_height, Ends, ends_before, ends_all, ends_tight}
@@ -29,6 +29,7 @@ pub looser : (p : Place) (row row' : ℕ) (e : Expr Path) (here rest : List Toke
 looser p row row' (tree.Literal n) here rest le h = h
 looser p row row' tree.Decimal here rest le h = h
 looser p row row' (tree.Reference n) here rest le h = h
+looser p row row' (tree.Indexed a e) here rest le h = h
 looser p row row' (tree.Parentheses e) here rest le h = h
 looser p row row' (tree.Call f args) here rest le h = h
 looser p row row' (tree.Increment PreIncrement r) here rest le h = (h.0, omega arith, h.2, h.3, h.4)
@@ -188,6 +189,22 @@ module _ (p : Place) (inner : Inner) (height_left : ℕ) (sound : Sound p height
   postfix_sound r from (String n ∷ here) e rest h x = as_read (Operand from) _ e _ rest x
       (record { spelled = h; low = omega arith })
 
+  index_sound : (name : Name) (bracket here : List Token) (e : Expr Path) (rest : List Token)
+      → bracket ≡ Sign sign.OpenBracket ∷ here
+      → index_behind p inner name here ≡ Some (e, rest) → Operand (Identifier name ∷ bracket) e rest
+  unfolding index_behind
+  index_sound name bracket here e rest f y =
+      let a = bind_some (inner (loosest p) here) _ (e, rest) y in
+      let s = sound (loosest p) here a.0.0 a.0.1 (omega (arith, loosest_le p)) a.1 in
+      let c = bind_some (expect sign.CloseBracket a.0.1) _ (e, rest) a.2 in
+      let inside = subst (λ u. ExprHere p (loosest p) a.0.0 here u)
+      (expect_is sign.CloseBracket a.0.1 c.0 c.1) s.0.spelled in
+      as_read (Operand (Identifier name ∷ bracket)) _ e _ rest c.2
+      (record {
+        spelled = (bracket, here, (refl, refl), f, inside);
+        low = omega (arith, s.0.low);
+      })
+
   named_sound : (name : Name) (here : List Token) (e : Expr Path) (rest : List Token)
       → named_at p inner name here ≡ Some (e, rest) → Operand (Identifier name ∷ here) e rest
   unfolding named_at
@@ -209,8 +226,12 @@ module _ (p : Place) (inner : Inner) (height_left : ℕ) (sound : Sound p height
               );
               low = omega (arith, s.1);
             })
-        | inr (t, y) ↦ postfix_sound _ (Identifier name ∷ here) _ e rest
-            (path_behind_sound name here) y
+        | inr (_, y) ↦ elim (chosen (at sign.OpenBracket here) _ _ _ y) [
+          | inl (t, z) ↦ index_sound name here (drop 1 here) e rest
+              (at_is sign.OpenBracket here t) z
+          | inr (_, z) ↦ postfix_sound _ (Identifier name ∷ here) _ e rest
+              (path_behind_sound name here) z
+        ]
       ]
 
   unary_sound : (op : UnaryOperator) (from here : List Token) (e : Expr Path) (rest : List Token)

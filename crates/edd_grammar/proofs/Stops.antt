@@ -25,6 +25,7 @@ sign_mono row row' (sign.CompoundAssign op) le s = omega arith
 sign_mono row row' sign.Equals le s = omega arith
 sign_mono row row' sign.Dot le s = s
 sign_mono row row' sign.OpenParenthesis le s = s
+sign_mono row row' sign.OpenBracket le s = s
 sign_mono row row' sign.Question le s = omega arith
 sign_mono row row' _ le s = tt
 
@@ -44,6 +45,7 @@ sign_tight row row' (sign.CompoundAssign op) le s = omega arith
 sign_tight row row' sign.Equals le s = omega arith
 sign_tight row row' sign.Dot le s = s
 sign_tight row row' sign.OpenParenthesis le s = s
+sign_tight row row' sign.OpenBracket le s = s
 sign_tight row row' sign.Question le s = omega arith
 sign_tight row row' _ le s = tt
 
@@ -79,6 +81,14 @@ stops_parenthesis row (Sign (sign.Operator op) ∷ rest) s = grind arith
 stops_parenthesis row (Sign (sign.Comparison op) ∷ rest) s = grind arith
 stops_parenthesis row (Sign (sign.CompoundAssign op) ∷ rest) s = grind arith
 stops_parenthesis row _ s = refl
+
+pub stops_bracket : (row : ℕ) (rest : List Token) → Stops row rest
+    → at sign.OpenBracket rest ≡ false
+stops_bracket row (Sign sign.OpenBracket ∷ rest) s = absurd s
+stops_bracket row (Sign (sign.Operator op) ∷ rest) s = grind arith
+stops_bracket row (Sign (sign.Comparison op) ∷ rest) s = grind arith
+stops_bracket row (Sign (sign.CompoundAssign op) ∷ rest) s = grind arith
+stops_bracket row _ s = refl
 
 pub stops_postfix : (p : Place) (row : ℕ) (r : Path) (rest : List Token) → Stops row rest
     → postfix p r rest ≡ Some (tree.Reference r, rest)

@@ -23,7 +23,7 @@ use Rattle.edd_grammar.specs.WordReading.{integer_at, number_at, names_at, close
 use Rattle.edd_grammar.specs.ValueReading.{operation_at, some_text_at, optional_text_at, handling_value, truth_value, data_item_value, menu_entry_value}
 use Rattle.edd_grammar.specs.TypeReading.{type_at}
 
--- ---- response codes and members
+-- ---- response codes, members and elements
 
 -- the class with this name
 abbrev pub class_of : Name → Option ResponseClass
@@ -68,6 +68,25 @@ member_at here = do
     record {
       name = name;
       item = record { base = base; members = [] };
+      label = label;
+      help = help;
+    },
+    rest,
+  )
+
+-- `number, variable, label, help;`
+unfoldable pub array_element_at : List Token → Read (item.ArrayElement Path)
+array_element_at here = do
+  (number, comma) ← integer_at here
+  from ← expect sign.Comma comma
+  (base, first) ← name_at from
+  (label, second) ← optional_text_at first
+  (help, behind) ← optional_text_at second
+  rest ← expect sign.Semicolon behind
+  Some (
+    record {
+      number = number;
+      variable = record { base = base; members = [] };
       label = label;
       help = help;
     },
@@ -144,6 +163,8 @@ other_attribute_at height_left here =
     else if at_word word.Definition here
     then (expect sign.OpenBrace (drop 1 here) >>= λ inside. definition_at height_left inside
     >>= λ b. Some (item.Definition b.0, b.1))
+    else if at_word word.Elements here then (braced (row_inside array_element_at) (drop 1 here)
+    >>= λ all. Some (item.Elements all.0, all.1))
     else None
 
 -- an attribute of at most this height
@@ -166,6 +187,7 @@ other_word_belongs k word.ResponseCodes = has_attr k attr.ResponseCodes
 other_word_belongs k word.Items = has_attr k attr.Items
 other_word_belongs k word.Members = has_attr k attr.Members
 other_word_belongs k word.Definition = has_attr k attr.Definition
+other_word_belongs k word.Elements = has_attr k attr.Elements
 other_word_belongs k _ = false
 
 -- whether an item of this kind may have the attribute with this word

@@ -83,6 +83,13 @@ module _ (p : Place) (inner : Inner) where
   arguments_at here = if at sign.CloseParenthesis here then Some (tree.Nil, drop 1 here) else
       some_arguments (length here) here
 
+  -- behind a name and `[`
+  unfoldable pub index_behind : Name → List Token → Read (Expr Path)
+  index_behind name here = do
+    (e, behind) ← inner (loosest p) here
+    rest ← expect sign.CloseBracket behind
+    Some (tree.Indexed (record { base = name; members = [] }) e, rest)
+
   -- behind a name
   unfoldable pub named_at : Name → List Token → Read (Expr Path)
   named_at name here =
@@ -90,6 +97,7 @@ module _ (p : Place) (inner : Inner) where
       then (if is_method p then (arguments_at (drop 1 here)
       >>= λ args. Some (tree.Call (record { base = name; members = [] }) args.0, args.1)) else
       None)
+      else if at sign.OpenBracket here then index_behind name (drop 1 here)
       else postfix p (path_behind name here).0 (path_behind name here).1
 
   unfoldable pub unary_behind : UnaryOperator → List Token → Read (Expr Path)

@@ -20,6 +20,7 @@ SignStops row (sign.CompoundAssign op) = 2 ≤ row
 SignStops row sign.Equals = 2 ≤ row
 SignStops row sign.Dot = ⊥
 SignStops row sign.OpenParenthesis = ⊥
+SignStops row sign.OpenBracket = ⊥
 SignStops row sign.Question = 3 ≤ row
 SignStops row _ = Unit {0}
 

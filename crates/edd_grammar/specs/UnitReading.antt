@@ -6,7 +6,7 @@ use Rattle.edd_syntax.specs.declared.symbols.Keyword.{Keyword}
 use Rattle.edd_syntax.specs.declared.symbols.Keyword.TheVariants as word
 use Rattle.edd_syntax.specs.Token.{Token}
 use Rattle.edd_syntax.specs.Reference.{Path}
-use Rattle.edd_syntax.specs.Item.{ItemKind, VariableItem, CommandItem, MenuItem, CollectionItem, MethodItem, kind_of_item, Attribute, Item, Identification, Description}
+use Rattle.edd_syntax.specs.Item.{ItemKind, VariableItem, CommandItem, MenuItem, CollectionItem, MethodItem, ArrayItem, kind_of_item, Attribute, Item, Identification, Description}
 use Rattle.edd_syntax.specs.Size.{height_limit}
 use Rattle.edd_grammar.specs.Reading.{◌>>=◌, Read, at_word, expect_word, name_at}
 use Rattle.edd_grammar.specs.ConditionalReading.{skip_comma}
@@ -15,7 +15,7 @@ use Rattle.edd_grammar.specs.AttributeReading.{own_attribute_at}
 
 -- ---- items
 
--- the kind whose word is next
+-- the kind whose word is next, of those that members may have
 unfoldable pub kind_at : List Token → Read Kind
 kind_at here =
     if at_word word.Variable here then Some (kind.Variable, drop 1 here)
@@ -25,7 +25,12 @@ kind_at here =
     else if at_word word.Method here then Some (kind.Method, drop 1 here)
     else None
 
--- behind the word of an item: for a collection OF and the kind of its members
+-- the kind of item whose word is next
+unfoldable pub item_kind_at : List Token → Read Kind
+item_kind_at here = if at_word word.Array here then Some (kind.Array, drop 1 here) else kind_at here
+
+-- behind the word of an item: for a collection OF and the kind of its members, for an array OF
+-- VARIABLE
 unfoldable pub sort_behind : Kind → List Token → Read ItemKind
 sort_behind kind.Variable here = Some (VariableItem, here)
 sort_behind kind.Command here = Some (CommandItem, here)
@@ -35,7 +40,10 @@ sort_behind kind.Collection here = do
   (of, rest) ← kind_at behind
   Some (CollectionItem of, rest)
 sort_behind kind.Method here = Some (MethodItem, here)
-sort_behind kind.Array here = None
+sort_behind kind.Array here = do
+  behind ← expect_word word.Of here
+  rest ← expect_word word.Variable behind
+  Some (ArrayItem, rest)
 
 -- the attributes of at most this height of a kind of item, in braces
 unfoldable pub attributes_at : Kind → ℕ → List Token → Read (List (Attribute Path))
@@ -45,7 +53,7 @@ attributes_at k height_left here = braced (row_inside (closed (own_attribute_at 
 -- an item whose attributes have at most this height
 unfoldable pub item_at : ℕ → List Token → Read (Item Path)
 item_at height_left here = do
-  (k, behind) ← kind_at here
+  (k, behind) ← item_kind_at here
   (sort, from) ← sort_behind k behind
   (name, brace) ← name_at from
   (attributes, rest) ← attributes_at (kind_of_item sort) height_left brace

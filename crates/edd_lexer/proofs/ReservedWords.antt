@@ -36,6 +36,8 @@ spelling_read keyword.Reply = refl
 spelling_read keyword.Items = refl
 spelling_read keyword.Members = refl
 spelling_read keyword.Definition = refl
+spelling_read keyword.Elements = refl
+spelling_read keyword.Array = refl
 spelling_read keyword.If = refl
 spelling_read keyword.Else = refl
 spelling_read keyword.Select = refl
@@ -94,6 +96,8 @@ spelling_token keyword.Reply = refl
 spelling_token keyword.Items = refl
 spelling_token keyword.Members = refl
 spelling_token keyword.Definition = refl
+spelling_token keyword.Elements = refl
+spelling_token keyword.Array = refl
 spelling_token keyword.If = refl
 spelling_token keyword.Else = refl
 spelling_token keyword.Select = refl
@@ -182,7 +186,8 @@ of_five_spelled first word =
     (spelled_if word (first == 119) _ _ (only_spelled word keyword.While)
     (spelled_if word (first == 98) _ _ (only_spelled word keyword.Break)
     (spelled_if word (first == 115) _ _ (only_spelled word keyword.Short)
-    (spelled_if word (first == 102) _ _ (only_spelled word keyword.Float) tt)))))))
+    (spelled_if word (first == 102) _ _ (only_spelled word keyword.Float)
+    (spelled_if word (first == 65) _ _ (only_spelled word keyword.Array) tt))))))))
 
 of_six_spelled : (first : ℕ) (word : List ℕ) → Spelled word (of_six first word)
 unfolding Spelled of_six
@@ -209,7 +214,8 @@ of_eight_spelled first word =
     spelled_if word (first == 86) _ _ (spelled_if word (slice_index word 2 == 82) _ _ (only_spelled word keyword.Variable) (only_spelled word keyword.Validity))
     (spelled_if word (first == 72) _ _ (only_spelled word keyword.Handling)
     (spelled_if word (first == 99) _ _ (only_spelled word keyword.Continue)
-    (spelled_if word (first == 117) _ _ (only_spelled word keyword.Unsigned) tt)))
+    (spelled_if word (first == 117) _ _ (only_spelled word keyword.Unsigned)
+    (spelled_if word (first == 69) _ _ (only_spelled word keyword.Elements) tt))))
 
 of_nine_spelled : (first : ℕ) (word : List ℕ) → Spelled word (of_nine first word)
 unfolding Spelled of_nine
@@ -277,7 +283,7 @@ AllSpelled (e ∷ table) = (e.0 ≡ spelling e.1) × AllSpelled table
 
 table_spelled : AllSpelled keywords
 unfolding AllSpelled
-table_spelled = (refl, (refl, (refl, (refl, (refl, (refl, (refl, (refl, (refl, (refl, (refl, (refl, (refl, (refl, (refl, (refl, (refl, (refl, (refl, (refl, (refl, (refl, (refl, (refl, (refl, (refl, (refl, (refl, (refl, (refl, (refl, (refl, (refl, (refl, (refl, (refl, (refl, (refl, (refl, (refl, (refl, (refl, (refl, (refl, (refl, (refl, (refl, (refl, (refl, (refl, (refl, (refl, (refl, (refl, (refl, (refl, tt))))))))))))))))))))))))))))))))))))))))))))))))))))))))
+table_spelled = (refl, (refl, (refl, (refl, (refl, (refl, (refl, (refl, (refl, (refl, (refl, (refl, (refl, (refl, (refl, (refl, (refl, (refl, (refl, (refl, (refl, (refl, (refl, (refl, (refl, (refl, (refl, (refl, (refl, (refl, (refl, (refl, (refl, (refl, (refl, (refl, (refl, (refl, (refl, (refl, (refl, (refl, (refl, (refl, (refl, (refl, (refl, (refl, (refl, (refl, (refl, (refl, (refl, (refl, (refl, (refl, (refl, (refl, tt))))))))))))))))))))))))))))))))))))))))))))))))))))))))))
 
 abbrev of_found : List ℕ → Option (Name × Keyword) → Token
 of_found word None = Identifier word

@@ -46,6 +46,7 @@ of_five first word =
     else if first == 98 then only word keyword.Break
     else if first == 115 then only word keyword.Short
     else if first == 102 then only word keyword.Float
+    else if first == 65 then only word keyword.Array
     else None
 
 unfoldable pub of_six : (first : ℕ) → List ℕ → Option Keyword
@@ -75,6 +76,7 @@ of_eight first word =
     else if first == 72 then only word keyword.Handling
     else if first == 99 then only word keyword.Continue
     else if first == 117 then only word keyword.Unsigned
+    else if first == 69 then only word keyword.Elements
     else None
 
 unfoldable pub of_nine : (first : ℕ) → List ℕ → Option Keyword

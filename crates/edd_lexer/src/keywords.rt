@@ -74,6 +74,7 @@ fn of_five(first: u8, word: &[u8]) -> Option<Keyword>
         b'b' => only(word, Keyword::Break),
         b's' => only(word, Keyword::Short),
         b'f' => only(word, Keyword::Float),
+        b'A' => only(word, Keyword::Array),
         _ => None,
     }
 }
@@ -120,6 +121,7 @@ fn of_eight(first: u8, word: &[u8]) -> Option<Keyword>
         b'H' => only(word, Keyword::Handling),
         b'c' => only(word, Keyword::Continue),
         b'u' => only(word, Keyword::Unsigned),
+        b'E' => only(word, Keyword::Elements),
         _ => None,
     }
 }

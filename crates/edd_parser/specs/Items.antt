@@ -17,7 +17,7 @@ use Rattle.edd_grammar.specs.ConditionalReading.{list_at}
 use Rattle.edd_grammar.specs.StatementReading.{definition_at}
 use Rattle.edd_grammar.specs.WordReading.{more_names_at, braced, row_inside}
 use Rattle.edd_grammar.specs.ValueReading.{menu_entry_value}
-use Rattle.edd_grammar.specs.AttributeReading.{member_at, response_code_at, transaction_at, command_number_at, command_operation_at}
+use Rattle.edd_grammar.specs.AttributeReading.{member_at, array_element_at, response_code_at, transaction_at, command_number_at, command_operation_at}
 use Rattle.edd_parser.specs.declared.types.WrittenType as code
 
 -- a type as it is written
@@ -41,6 +41,8 @@ list_attribute_at height_left here =
     else if at_word word.Definition here
     then (expect sign.OpenBrace (drop 1 here) >>= λ inside. definition_at height_left inside
     >>= λ b. Some (item.Definition b.0, b.1))
+    else if at_word word.Elements here then (braced (row_inside array_element_at) (drop 1 here)
+    >>= λ all. Some (item.Elements all.0, all.1))
     else None
 
 -- the attributes of commands, and those above

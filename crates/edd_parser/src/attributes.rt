@@ -5,7 +5,7 @@ ghost use Rattle.std.specs.Prelude.{string_bytes};
 ghost use Rattle.edd_syntax.specs.Reference as references;
 ghost use Rattle.edd_syntax.specs.Item as item;
 ghost use Rattle.edd_syntax.specs.TreeView.{path_of};
-ghost use Rattle.edd_syntax.specs.ItemView.{response_code_of, member_of, transaction_part_of};
+ghost use Rattle.edd_syntax.specs.ItemView.{response_code_of, member_of, array_element_of, transaction_part_of};
 ghost use Rattle.edd_grammar.specs.WordReading as words;
 ghost use Rattle.edd_grammar.specs.AttributeReading as reading;
 ghost use Rattle.edd_expression_parser.proofs.RowsShorten as lengths;
@@ -18,7 +18,7 @@ use crate::types::written_type;
 use edd_expression_parser::cond::{braced_list, one};
 use edd_expression_parser::trees::plain;
 use edd_statement_parser::statements::definition;
-use edd_syntax::item::{Attribute, Member, ResponseCode, TransactionPart};
+use edd_syntax::item::{ArrayElement, Attribute, Member, ResponseCode, TransactionPart};
 use edd_syntax::numbers::Kind;
 use edd_syntax::reference::Path;
 use edd_syntax::symbols::{Keyword, Symbol};
@@ -148,6 +148,45 @@ impl RowElement for Member<Path> {
 
     fn read_thing(cursor: &mut Cursor, _high: u32) -> Result<Member<Path>, ParseFault> {
         member(cursor)
+    }
+}
+
+// `number, variable, label, help;`
+#[tactic(auto, unfolding(edd_grammar::specs::AttributeReading::array_element_at))]
+fn array_element(cursor: &mut Cursor) -> Result<ArrayElement<Path>, ParseFault>
+    ensures { Gives (λ e. array_element_of path_of e) result cursor.new
+        (reading.array_element_at cursor.old) }
+{
+    let line = cursor.line();
+    let number = integer(cursor)?;
+    cursor.expect(Symbol::Comma)?;
+    let Some(base) = cursor.name() else {
+        return Err(cursor.syntax());
+    };
+    let label = optional_text(cursor)?;
+    let help = optional_text(cursor)?;
+    cursor.expect(Symbol::Semicolon)?;
+    let variable = plain(cursor.alloc(), base)?;
+    Ok(ArrayElement {
+        line,
+        number,
+        variable,
+        label,
+        help,
+    })
+}
+
+impl RowElement for ArrayElement<Path> {
+    ghost Pure = { item.ArrayElement references.Path };
+
+    ghost view = { λ e. array_element_of path_of e };
+
+    ghost read = { λ height_left here. reading.array_element_at here };
+
+    ghost shortens = { lengths.array_element_shortens };
+
+    fn read_thing(cursor: &mut Cursor, _high: u32) -> Result<ArrayElement<Path>, ParseFault> {
+        array_element(cursor)
     }
 }
 
@@ -327,6 +366,9 @@ fn list_attribute(cursor: &mut Cursor, height_left: u32) -> Result<Attribute<Pat
     if cursor.eat_word(Keyword::Definition) {
         cursor.expect(Symbol::OpenBrace)?;
         return Ok(Attribute::Definition(definition(cursor, height_left)?));
+    }
+    if cursor.eat_word(Keyword::Elements) {
+        return Ok(Attribute::Elements(braced_row(cursor, 0)?));
     }
     Err(cursor.syntax())
 }

@@ -5,21 +5,24 @@ ghost use Rattle.edd_syntax.specs.Item.{kind_of_item};
 ghost use Rattle.edd_syntax.specs.ItemView.{identification_of};
 ghost use Rattle.edd_grammar.specs.WordReading.{closed, row_inside};
 ghost use Rattle.edd_grammar.specs.AttributeReading.{own_attribute_at};
+ghost use Rattle.edd_syntax.specs.declared.symbols.Keyword.TheVariants as word;
+ghost use Rattle.edd_grammar.specs.Reading.{expect_word};
 ghost use Rattle.edd_grammar.specs.UnitReading as reading;
-ghost use Rattle.edd_token_reader.specs.Views.{Gives, Takes};
+ghost use Rattle.edd_token_reader.specs.Views.{Gives, Leaves, Takes};
 ghost use Rattle.edd_parser.specs.Items.{attribute_view};
 ghost use Rattle.edd_parser.specs.Units.{sort_view, sort_at, item_view};
 
 use crate::attributes::own_attribute;
 use edd_syntax::item::{
-    Attribute, CollectionDef, CommandDef, Identification, Item, MenuDef, MethodDef, VariableDef,
+    ArrayDef, Attribute, CollectionDef, CommandDef, Identification, Item, MenuDef, MethodDef,
+    VariableDef,
 };
 use edd_syntax::numbers::Kind;
 use edd_syntax::reference::Path;
 use edd_syntax::symbols::{Keyword, Symbol};
 use edd_token_reader::cursor::Cursor;
 use edd_token_reader::fault::ParseFault;
-use edd_token_reader::left_out::misfit_item;
+use edd_token_reader::left_out::{misfit_array, misfit_item};
 use edd_token_reader::words::{integer, skip_comma, skip_semicolons};
 
 /// What an item is; a collection has the kind of its members.
@@ -30,6 +33,7 @@ pub enum Sort {
     Menu,
     Collection(Kind),
     Method,
+    Array,
 }
 
 fn kind_of(sort: Sort) -> Kind
@@ -41,10 +45,11 @@ fn kind_of(sort: Sort) -> Kind
         Sort::Menu => Kind::Menu,
         Sort::Collection(_) => Kind::Collection,
         Sort::Method => Kind::Method,
+        Sort::Array => Kind::Array,
     }
 }
 
-// The kind whose word is next.
+// The kind whose word is next, of those that members may have.
 #[tactic(auto, unfolding(edd_grammar::specs::UnitReading::kind_at))]
 fn kind_word(cursor: &mut Cursor) -> Option<Kind>
     ensures { Takes (λ k. k) result cursor.old cursor.new (reading.kind_at cursor.old) }
@@ -68,9 +73,13 @@ fn kind_word(cursor: &mut Cursor) -> Option<Kind>
 }
 
 // The kind of an item, at its beginning.
+#[tactic(auto, unfolding(edd_grammar::specs::UnitReading::item_kind_at))]
 fn item_kind(cursor: &mut Cursor) -> Result<Kind, ParseFault>
-    ensures { Gives (λ k. k) result cursor.new (reading.kind_at cursor.old) }
+    ensures { Gives (λ k. k) result cursor.new (reading.item_kind_at cursor.old) }
 {
+    if cursor.eat_word(Keyword::Array) {
+        return Ok(Kind::Array);
+    }
     match kind_word(cursor) {
         Some(kind_read) => Ok(kind_read),
         None => Err(misfit_item(cursor)),
@@ -87,7 +96,18 @@ fn member_kind(cursor: &mut Cursor) -> Result<Kind, ParseFault>
     }
 }
 
-// Behind COLLECTION: OF and the kind of its members.
+// VARIABLE behind ARRAY OF: there are arrays of no other kind.
+#[tactic(auto, unfolding(edd_grammar::specs::Reading::expect_word))]
+fn expect_variable(cursor: &mut Cursor) -> Result<(), ParseFault>
+    ensures { Leaves result cursor.new (expect_word word.Variable cursor.old) }
+{
+    if !cursor.eat_word(Keyword::Variable) {
+        return Err(misfit_array(cursor));
+    }
+    Ok(())
+}
+
+// Behind COLLECTION: OF and the kind of its members; behind ARRAY: OF VARIABLE.
 #[tactic(auto, unfolding(edd_grammar::specs::UnitReading::sort_behind))]
 fn sort_behind(cursor: &mut Cursor, kind_read: Kind) -> Result<Sort, ParseFault>
     ensures { Gives sort_view result cursor.new (reading.sort_behind kind_read cursor.old) }
@@ -101,7 +121,11 @@ fn sort_behind(cursor: &mut Cursor, kind_read: Kind) -> Result<Sort, ParseFault>
             Ok(Sort::Collection(member_kind(cursor)?))
         }
         Kind::Method => Ok(Sort::Method),
-        Kind::Array => Err(cursor.syntax()),
+        Kind::Array => {
+            cursor.expect_word(Keyword::Of)?;
+            expect_variable(cursor)?;
+            Ok(Sort::Array)
+        }
     }
 }
 
@@ -166,6 +190,7 @@ fn item_of(sort: Sort, name: String, attributes: Vec<Attribute<Path>>) -> Item<P
             attributes,
         }),
         Sort::Method => Item::Method(MethodDef { name, attributes }),
+        Sort::Array => Item::Array(ArrayDef { name, attributes }),
     }
 }
 

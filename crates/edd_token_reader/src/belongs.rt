@@ -25,6 +25,7 @@ pub fn word_belongs(kind: Kind, word: Keyword) -> bool
         Keyword::Items => Attr::Items.may_belong_to(kind),
         Keyword::Members => Attr::Members.may_belong_to(kind),
         Keyword::Definition => Attr::Definition.may_belong_to(kind),
+        Keyword::Elements => Attr::Elements.may_belong_to(kind),
         _ => false,
     }
 }

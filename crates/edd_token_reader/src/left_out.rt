@@ -10,8 +10,7 @@ use edd_lexer::token::TokenKind;
 use edd_syntax::symbols::{Keyword, Symbol};
 
 // Words of items, attributes, qualifiers and types.
-const WORDS: [&str; 26] = [
-    "ARRAY",
+const WORDS: [&str; 25] = [
     "AXIS",
     "BLOCK",
     "CHART",
@@ -111,7 +110,25 @@ pub fn expect_brace(cursor: &mut Cursor) -> Result<(), ParseFault>
     Ok(())
 }
 
-/// The same where response codes may not stand either: among items and in a transaction.
+fn is_of_items(word: Keyword) -> bool {
+    matches!(
+        word,
+        Keyword::Command | Keyword::Menu | Keyword::Collection | Keyword::Method | Keyword::Array
+    )
+}
+
+/// The fault behind ARRAY OF, where there are arrays of variables alone.
+pub fn misfit_array(cursor: &Cursor) -> ParseFault {
+    match cursor.peek() {
+        Some(TokenKind::Keyword(word)) if is_of_items(word) => {
+            ParseFault::unsupported(cursor.alloc(), word.spelling())
+        }
+        _ => cursor.syntax(),
+    }
+}
+
+/// The fault where an item may begin, or a part of a transaction: response codes may not stand
+/// there either.
 pub fn misfit_without_codes(cursor: &Cursor) -> ParseFault {
     if cursor.at_word(Keyword::ResponseCodes) {
         return ParseFault::unsupported(cursor.alloc(), "RESPONSE_CODES");
@@ -119,7 +136,7 @@ pub fn misfit_without_codes(cursor: &Cursor) -> ParseFault {
     misfit(cursor)
 }
 
-/// The same among items, where LIKE may stand behind a name.
+/// The fault where an item may begin, where LIKE may stand behind a name.
 pub fn misfit_item(cursor: &Cursor) -> ParseFault {
     if let (Some(_), Some("LIKE")) = (cursor.peek_name(), cursor.peek_second_name()) {
         return ParseFault::unsupported(cursor.alloc(), "LIKE");

@@ -35,6 +35,9 @@ decreases-assignment l = 8 * l.height_left + 2
 abbrev pub decreases-named : goal.decreases-named
 decreases-named l = 8 * l.height_left + 5
 
+abbrev pub decreases-indexed : goal.decreases-indexed
+decreases-indexed l = 8 * l.height_left + 4
+
 abbrev pub decreases-signed : goal.decreases-signed
 decreases-signed l = 8 * l.height_left + 5
 
