@@ -114,7 +114,8 @@ fn add_collection<'a>(
             all.push(one)?;
             Ok(())
         }
-        Item::Variable(_) | Item::Command(_) | Item::Menu(_) | Item::Method(_) => Ok(()),
+        Item::Variable(_) | Item::Command(_) | Item::Menu(_) | Item::Method(_) | Item::Array(_) =>
+            Ok(()),
     }
 }
 

@@ -3,8 +3,8 @@
 ghost use Rattle.std.specs.Prelude.{◌≡◌, [], ◌∷◌, None, Some, IfErr, IfOk, map, if◌then◌else◌};
 ghost use Rattle.std.specs.Str.{bytes_eq};
 ghost use Rattle.edd_syntax.specs.NameRules.{faults_of_local, faults_of_item};
-ghost use Rattle.edd_syntax.specs.NameUses.{OfItem, OfFunction};
-ghost use Rattle.edd_syntax.specs.Resolution.{look_up, builtin_name, builtins, meaning, local_meant, item_meant, function_meant};
+ghost use Rattle.edd_syntax.specs.NameUses.{OfItem, OfArray, OfFunction};
+ghost use Rattle.edd_syntax.specs.Resolution.{look_up, builtin_name, builtins, meaning, array_meant, local_meant, item_meant, function_meant};
 ghost use Rattle.edd_syntax.specs.Refusal.{first_of};
 ghost use Rattle.edd_syntax.specs.TreeView.{path_of};
 ghost use Rattle.edd_name_meanings.specs.Directory.{description_of};
@@ -92,6 +92,25 @@ pub fn refer(
     match find_local(scope, &path.base) {
         Some(slot) => refer_local(names, slot, path),
         None => refer_item(names, kinds, path),
+    }
+}
+
+/// The array that is meant before an index; a local of the name is no array.
+#[tactic(auto, unfolding(crate::specs::Meanings::Means, crate::specs::Meanings::NoFault, crate::specs::Meanings::FirstFault, crate::specs::Meanings::faults_in))]
+pub fn refer_array(names: &Names, scope: &[Local], path: &Path) -> Result<Target, NameFault>
+    ensures accepted { IfOk result
+        (λ t. NoFault (description_of names.now)
+        (OfArray (scope_of scope.now) (path_of path.now) ∷ [])) }
+    ensures sound { IfOk result
+        (λ t. Means (description_of names.now)
+        (array_meant (description_of names.now) (scope_of scope.now) (path_of path.now)) t) }
+    ensures refused { IfErr result
+        (λ f. FirstFault f (description_of names.now)
+        (OfArray (scope_of scope.now) (path_of path.now) ∷ [])) }
+{
+    match find_local(scope, &path.base) {
+        Some(_) => Err(wrong_kind(names.alloc, &path.base)),
+        None => refer_item(names, &[Kind::Array], path),
     }
 }
 

@@ -41,3 +41,4 @@ transactions_split (item.ResponseCodes responses) rest = omega arith
 transactions_split (item.Items entries) rest = omega arith
 transactions_split (item.Members members) rest = omega arith
 transactions_split (item.Definition body) rest = omega arith
+transactions_split (item.Elements elements) rest = omega arith

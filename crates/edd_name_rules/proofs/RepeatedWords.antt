@@ -69,6 +69,9 @@ words_step {R} b (item.Members members) rest =
 words_step {R} b (item.Definition body) rest =
     regroup (repeated b (attribute_word {R = R} (item.Definition body) ∷ [])) b
     (item.Definition body) rest
+words_step {R} b (item.Elements elements) rest =
+    regroup (repeated b (attribute_word {R = R} (item.Elements elements) ∷ [])) b
+    (item.Elements elements) rest
 
 pub here_same : {R : Type 0} (b d : List Name) (a : Attribute R) → SameNames b d
     → repeated_here b a ≡ repeated_here d a

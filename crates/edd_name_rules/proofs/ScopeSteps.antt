@@ -32,6 +32,7 @@ attribute_step b (item.ResponseCodes responses) rest = refl
 attribute_step b (item.Items entries) rest = refl
 attribute_step b (item.Members members) rest = refl
 attribute_step b (item.Definition body) rest = refl
+attribute_step b (item.Elements elements) rest = refl
 
 pub item_step : (b : List Name) (i : Item Path) (rest : List (Item Path))
     → repeated_in_items b (i ∷ rest) ≡ item_repeats b i ++ repeated_in_items ((i.name ∷ []) ++ b)

@@ -23,6 +23,7 @@ pub nodes_pos : {R : Type 0} (x : pure.Expr R) → 1 ≤ nodes x
 nodes_pos (pure.Literal value) = omega arith
 nodes_pos pure.Decimal = omega arith
 nodes_pos (pure.Reference from) = omega arith
+nodes_pos (pure.Indexed array index) = omega arith
 nodes_pos (pure.Parentheses inner) = omega arith
 nodes_pos (pure.Unary op operand) = omega arith
 nodes_pos (pure.Binary op left right) = omega arith

@@ -37,6 +37,7 @@ pub fn word_of(attribute: &Attribute<Path>) -> &'static str
         Attribute::Items(_) => Attr::Items.word(),
         Attribute::Members(_) => Attr::Members.word(),
         Attribute::Definition(_) => Attr::Definition.word(),
+        Attribute::Elements(_) => Attr::Elements.word(),
     }
 }
 
@@ -64,6 +65,7 @@ fn missing_in_item(item: &Item<Path>) -> Option<Missing>
         Item::Menu(d) => missing_word(&d.name, &d.attributes, Attr::Items.word()),
         Item::Collection(d) => missing_word(&d.name, &d.attributes, Attr::Members.word()),
         Item::Method(d) => missing_word(&d.name, &d.attributes, Attr::Definition.word()),
+        Item::Array(d) => missing_word(&d.name, &d.attributes, Attr::Elements.word()),
     }
 }
 

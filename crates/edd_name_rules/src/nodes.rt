@@ -28,6 +28,7 @@ pub fn spend(e: &Expr<Path>, budget: u32) -> Option<u32>
     match e {
         Expr::Literal(_) | Expr::Decimal { .. } | Expr::Reference(_) | Expr::Increment(_, _) =>
             Some(left),
+        Expr::Indexed(_, index) => spend(index, left),
         Expr::Parentheses(inner) => spend(inner, left),
         Expr::Unary(_, inner) => spend(inner, left),
         Expr::Binary(_, a, b) => spend(b, spend(a, left)?),

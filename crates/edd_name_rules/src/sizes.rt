@@ -108,6 +108,7 @@ fn spend_attribute(attribute: &Attribute<Path>, budget: u32) -> Option<u32>
         Attribute::Items(entries) => spend_entries(entries, left),
         Attribute::Members(members) => spend_count(members.len(), left),
         Attribute::Definition(parts) => spend_parts(parts, left),
+        Attribute::Elements(elements) => spend_count(elements.len(), left),
     }
 }
 

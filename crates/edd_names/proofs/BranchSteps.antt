@@ -20,7 +20,7 @@ use Rattle.edd_syntax.specs.Item.{Description}
 use Rattle.edd_syntax.specs.Conditional.{Cond, Value, If, Select, Conds, Cons, Arm, Case, Default, Arms, ConsArm, conds_from, arms_from}
 use Rattle.edd_syntax.specs.ItemView.{cond_of, arm_of, numbered_arm, numbered_cond}
 use Rattle.edd_syntax.specs.NameUses.{Use, attribute_expr_uses, cond_uses, conds_uses, arms_uses}
-use Rattle.edd_syntax.specs.ResolvedTrees.{◌>>=◌, at_attribute, resolved_expr, resolved_cond, resolved_conds, resolved_arms}
+use Rattle.edd_syntax.specs.ResolvedTrees.{◌>>=◌, Meanings, at_attribute, resolved_expr, resolved_cond, resolved_conds, resolved_arms}
 use Rattle.edd_syntax.specs.TreeView.{path_of, expr_of, numbered_expr}
 use Rattle.edd_syntax.proofs.CondRows.{of_value, of_if, of_select, of_case, of_default}
 
@@ -43,7 +43,7 @@ module _ {V : Type 0} (of : V → List Use) where
   pub one_cond : (x : Cond Path V) → cond_uses of x ≡ conds_uses of (conds_from (x ∷ []))
   one_cond x = sym (append-nil (cond_uses of x))
 
-module _ {V W : Type 0} (at : Path → Option Target) (of : V → Option W) where
+module _ {V W : Type 0} (at : Meanings) (of : V → Option W) where
   pub conds_joined : (y : Cond Path V) (ys : List (Cond Path V)) (w : Cond Target W)
       (ws : List (Cond Target W)) → resolved_cond at of y ≡ Some w
       → resolved_conds at of (conds_from ys) ≡ Some (conds_from ws)

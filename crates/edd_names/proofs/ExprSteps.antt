@@ -16,7 +16,7 @@ use Rattle.edd_syntax.specs.Item.{Description}
 use Rattle.edd_syntax.specs.Expression.{Argument, Text, Value, Arguments, Cons, Call, arguments_from}
 use Rattle.edd_syntax.specs.NameUses.{OfFunction, expr_uses, argument_uses}
 use Rattle.edd_syntax.specs.Resolution.{Scope, function_meant}
-use Rattle.edd_syntax.specs.ResolvedTrees.{◌>>=◌, each, resolved_expr, resolved_arguments}
+use Rattle.edd_syntax.specs.ResolvedTrees.{◌>>=◌, Meanings, each, resolved_expr, resolved_arguments}
 use Rattle.edd_syntax.specs.Size.{nodes, argument_nodes}
 use Rattle.edd_syntax.specs.TreeView.{path_of, expr_of, argument_of, numbered_argument, numbered_expr}
 use Rattle.edd_name_rules.proofs.Spends.{argument_nodes_split}
@@ -43,7 +43,7 @@ argument_uses_split scope (Text text) xs = refl
 argument_uses_split scope (Value e) xs = ap (λ us. us ++ argument_uses scope (arguments_from xs))
     (sym (append-nil (expr_uses scope e)))
 
-module _ (at : Path → Option Target) where
+module _ (at : Meanings) where
   first_then : (y : Argument Path) (rest : Arguments Path) → resolved_arguments at (Cons y rest)
       ≡ (resolved_argument at y >>= (λ w. resolved_arguments at rest >>= (λ r. Some (Cons w r))))
   unfolding resolved_expr
@@ -82,7 +82,7 @@ module _ (unit : Description Path) (x : code.Expr code_path.Path) (line : ℕ) (
       → FirstFault f unit (expr_uses scope (expr_of path_of x))
   call_fault scope f h = subst (λ t. FirstFault f unit (expr_uses scope t)) (sym call) h
 
-  pub call_means : (at : Path → Option Target) (t : Target)
+  pub call_means : (at : Meanings) (t : Target)
       (w : Vec (code_argument.Argument Target) alloc.Global)
       → Means unit (function_meant (path_of p)) t
       → Means unit (resolved_arguments at (arguments_from (map (argument_of path_of) items)))

@@ -9,7 +9,7 @@ use Rattle.edd_syntax.specs.declared.numbers.Kind.{Kind}
 use Rattle.edd_syntax.specs.declared.numbers.ItemNo.{ItemNo}
 use Rattle.edd_syntax.specs.Device.{items_of, item_at}
 use Rattle.edd_syntax.specs.Item as item
-use Rattle.edd_syntax.specs.Item.{ItemKind, VariableItem, CommandItem, MenuItem, CollectionItem, MethodItem, Attribute, Item, Member, Description, kind_of_item}
+use Rattle.edd_syntax.specs.Item.{ItemKind, VariableItem, CommandItem, MenuItem, CollectionItem, MethodItem, ArrayItem, Attribute, Item, Member, Description, kind_of_item}
 use Rattle.edd_syntax.specs.NameRules.{faults_along, faults_of_use}
 use Rattle.edd_syntax.specs.NameUses.{Use, OfItem, attribute_uses, item_uses, unit_uses}
 use Rattle.edd_syntax.specs.Numbers.{same_kind, kind_of, index_of}
@@ -164,6 +164,7 @@ module _ (unit : Description Path) where
       (every_true (is_member is_path is_plain) members good)
       (every_flat Fine (λ m. OfItem [] (of ∷ []) m.item ∷ []) members fine)
   attribute_names of (item.Definition body) good fine = tt
+  attribute_names of (item.Elements elements) good fine = tt
 
   stands_well : (of : Kind) (a : Attribute Path)
       → IsTrue (stands_in is_path is_plain (kind_of_item (CollectionItem of)) a)
@@ -202,6 +203,7 @@ module _ (unit : Description Path) where
   item_names CommandItem attributes m found good fine e = absurd (none_some found e)
   item_names MenuItem attributes m found good fine e = absurd (none_some found e)
   item_names MethodItem attributes m found good fine e = absurd (none_some found e)
+  item_names ArrayItem attributes m found good fine e = absurd (none_some found e)
 
   abbrev Good : Item Path → Type 0
   Good i = (m : Name) (found : FoundMember) → member_in i m ≡ Some found → Named found

@@ -1,23 +1,25 @@
-//! What stands in the braces of types, transactions and collections, with the meaning of its names.
+//! What stands in the braces of types, transactions, collections and arrays, with the meaning of
+//! its names.
 
 ghost use Rattle.std.specs.Prelude.{◌≡◌, [], ◌∷◌, map};
 ghost use Rattle.std.specs.List.{flat_map};
-ghost use Rattle.edd_syntax.specs.ItemView.{type_part_of, transaction_part_of, member_of, numbered_member, numbered_transaction_part, numbered_type_part};
+ghost use Rattle.edd_syntax.specs.ItemView.{type_part_of, transaction_part_of, array_element_of, member_of, numbered_array_element, numbered_member, numbered_transaction_part, numbered_type_part};
 ghost use Rattle.edd_syntax.specs.NameUses.{type_part_uses, transaction_part_uses};
-ghost use Rattle.edd_syntax.specs.ResolvedTrees.{each, resolved_type_part, resolved_transaction_part, resolved_member};
+ghost use Rattle.edd_syntax.specs.ResolvedTrees.{each, resolved_type_part, resolved_transaction_part, resolved_member, resolved_element};
 ghost use Rattle.edd_syntax.specs.TreeView.{path_of};
 ghost use Rattle.edd_name_meanings.specs.Directory.{description_of};
-ghost use Rattle.edd_names.specs.ResolvedParts.{member_uses};
+ghost use Rattle.edd_names.specs.ResolvedParts.{element_uses, member_uses};
 ghost use Rattle.edd_name_meanings.specs.Meanings.{Means};
 ghost use Rattle.edd_names.specs.Copies.{Accepts, Copies, Refuses};
 
 use crate::conditionals::{copy_cond, copy_conds};
+use crate::exprs::refer_variable;
 use crate::made::made_of;
 use crate::texts::copy_optional_text;
 use edd_name_meanings::directory::Names;
 use edd_name_meanings::fault::NameFault;
 use edd_name_meanings::references::refer;
-use edd_syntax::item::{Member, TransactionPart, TypePart};
+use edd_syntax::item::{ArrayElement, Member, TransactionPart, TypePart};
 use edd_syntax::numbers::Kind;
 use edd_syntax::reference::{Path, Target};
 
@@ -227,5 +229,71 @@ pub fn copy_members(
 {
     let mut copies = Vec::new(names.alloc);
     add_members(members, names, kinds, &mut copies)?;
+    Ok(copies)
+}
+
+#[tactic(auto, using(crate::proofs::UseLaws::faults), unfolding(edd_name_meanings::specs::Meanings::Means))]
+fn copy_element(
+    element: &ArrayElement<Path>,
+    names: &Names,
+) -> Result<ArrayElement<Target>, NameFault>
+    ensures accepted { Accepts (description_of names.now)
+        (element_uses (array_element_of path_of element.now)) result }
+    ensures sound { Copies (description_of names.now)
+        (resolved_element (description_of names.now) (array_element_of path_of element.now))
+        numbered_array_element result }
+    ensures refused { Refuses (description_of names.now)
+        (element_uses (array_element_of path_of element.now)) result }
+{
+    let variable = refer_variable(names, &[], &element.variable)?;
+    let label = copy_optional_text(&element.label, names.alloc)?;
+    made_of!(copy_optional_text(&element.help, names.alloc), help => ArrayElement {
+        line: element.line,
+        number: element.number,
+        variable,
+        label,
+        help,
+    })
+}
+
+#[tactic(auto, using(crate::proofs::UseLaws::faults))]
+fn add_elements(
+    elements: &[ArrayElement<Path>],
+    names: &Names,
+    copies: &mut Vec<ArrayElement<Target>>,
+) -> Result<(), NameFault>
+    requires { copies.old.items ≡ [] }
+    ensures accepted { Accepts (description_of names.now)
+        (flat_map element_uses (map (array_element_of path_of) elements.now)) result }
+    ensures sound { Copies (description_of names.now)
+        (each (resolved_element (description_of names.now))
+        (map (array_element_of path_of) elements.now))
+        (λ _. map numbered_array_element copies.new.items) result }
+    ensures refused { Refuses (description_of names.now)
+        (flat_map element_uses (map (array_element_of path_of) elements.now)) result }
+{
+    for element in elements {
+        copies.push(copy_element(element, names)?)?;
+    }
+    Ok(())
+}
+
+/// The elements of an array with the meaning of the names of their variables.
+#[tactic(auto, using(crate::proofs::UseLaws::faults))]
+pub fn copy_elements(
+    elements: &[ArrayElement<Path>],
+    names: &Names,
+) -> Result<Vec<ArrayElement<Target>>, NameFault>
+    ensures accepted { Accepts (description_of names.now)
+        (flat_map element_uses (map (array_element_of path_of) elements.now)) result }
+    ensures sound { Copies (description_of names.now)
+        (each (resolved_element (description_of names.now))
+        (map (array_element_of path_of) elements.now))
+        (λ t. map numbered_array_element t.items) result }
+    ensures refused { Refuses (description_of names.now)
+        (flat_map element_uses (map (array_element_of path_of) elements.now)) result }
+{
+    let mut copies = Vec::new(names.alloc);
+    add_elements(elements, names, &mut copies)?;
     Ok(copies)
 }

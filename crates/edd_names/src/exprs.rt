@@ -4,9 +4,9 @@ ghost use Rattle.std.specs.Prelude.{◌≡◌, [], ◌∷◌, ◌++◌, OnOk, ma
 ghost use Rattle.edd_syntax.specs.declared.expr.Argument.{Argument};
 ghost use Rattle.edd_syntax.specs.declared.reference.Target.{Target};
 ghost use Rattle.edd_syntax.specs.Expression.{arguments_from};
-ghost use Rattle.edd_syntax.specs.NameUses.{OfFunction, OfItem, expr_uses, argument_uses};
-ghost use Rattle.edd_syntax.specs.Resolution.{function_meant, meaning, variable_kinds};
-ghost use Rattle.edd_syntax.specs.ResolvedTrees.{resolved_expr, resolved_arguments};
+ghost use Rattle.edd_syntax.specs.NameUses.{OfArray, OfFunction, OfItem, expr_uses, argument_uses};
+ghost use Rattle.edd_syntax.specs.Resolution.{array_meant, function_meant, meaning, variable_kinds};
+ghost use Rattle.edd_syntax.specs.ResolvedTrees.{at_scope, resolved_expr, resolved_arguments};
 ghost use Rattle.edd_syntax.specs.TreeView.{path_of, expr_of, argument_of, numbered_argument, numbered_expr};
 ghost use Rattle.edd_name_meanings.specs.Directory.{description_of};
 ghost use Rattle.edd_names.specs.ResolvedParts.{resolved_argument};
@@ -17,7 +17,7 @@ use crate::made::made_of;
 use crate::texts::copy_text;
 use edd_name_meanings::directory::Names;
 use edd_name_meanings::fault::NameFault;
-use edd_name_meanings::references::{Local, refer, refer_function};
+use edd_name_meanings::references::{Local, refer, refer_array, refer_function};
 use edd_syntax::expr::{Argument, Expr};
 use edd_syntax::numbers::Kind;
 use edd_syntax::reference::{Path, Target};
@@ -42,7 +42,7 @@ pub fn copy_expr(e: &Expr<Path>, names: &Names, scope: &[Local]) -> Result<Expr<
     ensures accepted { Accepts (description_of names.now)
         (expr_uses (scope_of scope.now) (expr_of path_of e.now)) result }
     ensures sound { Copies (description_of names.now)
-        (resolved_expr (meaning (description_of names.now) (scope_of scope.now) variable_kinds)
+        (resolved_expr (at_scope (description_of names.now) (scope_of scope.now))
         (expr_of path_of e.now)) numbered_expr result }
     ensures refused { Refuses (description_of names.now)
         (expr_uses (scope_of scope.now) (expr_of path_of e.now)) result }
@@ -52,6 +52,12 @@ pub fn copy_expr(e: &Expr<Path>, names: &Names, scope: &[Local]) -> Result<Expr<
         Expr::Decimal { line } => Ok(Expr::Decimal { line: *line }),
         Expr::Reference(from) => {
             made_of!(refer_variable(names, scope, from), from => Expr::Reference(from))
+        }
+        Expr::Indexed(array, index) => {
+            made_of!(
+                copy_indexed(index, array, names, scope),
+                (array, index) => Expr::Indexed(array, index)
+            )
         }
         Expr::Parentheses(inner) => {
             made_of!(copy_boxed(inner, names, scope), inner => Expr::Parentheses(inner))
@@ -128,7 +134,7 @@ fn copy_boxed(
     ensures accepted { Accepts (description_of names.now)
         (expr_uses (scope_of scope.now) (expr_of path_of e.now)) result }
     ensures sound { Copies (description_of names.now)
-        (resolved_expr (meaning (description_of names.now) (scope_of scope.now) variable_kinds)
+        (resolved_expr (at_scope (description_of names.now) (scope_of scope.now))
         (expr_of path_of e.now)) (λ t. numbered_expr t.value) result }
     ensures refused { Refuses (description_of names.now)
         (expr_uses (scope_of scope.now) (expr_of path_of e.now)) result }
@@ -149,10 +155,10 @@ fn copy_pair(
         (expr_uses (scope_of scope.now) (expr_of path_of left.now) ++ expr_uses (scope_of scope.now)
         (expr_of path_of right.now)) result }
     ensures left { Copies (description_of names.now)
-        (resolved_expr (meaning (description_of names.now) (scope_of scope.now) variable_kinds)
+        (resolved_expr (at_scope (description_of names.now) (scope_of scope.now))
         (expr_of path_of left.now)) (λ t. numbered_expr t.0.value) result }
     ensures right { Copies (description_of names.now)
-        (resolved_expr (meaning (description_of names.now) (scope_of scope.now) variable_kinds)
+        (resolved_expr (at_scope (description_of names.now) (scope_of scope.now))
         (expr_of path_of right.now)) (λ t. numbered_expr t.1.value) result }
     ensures refused { Refuses (description_of names.now)
         (expr_uses (scope_of scope.now) (expr_of path_of left.now) ++ expr_uses (scope_of scope.now)
@@ -178,7 +184,7 @@ fn copy_assigned(
         (meaning (description_of names.now) (scope_of scope.now) variable_kinds (path_of to.now))
         (λ t. t.0) result }
     ensures value { Copies (description_of names.now)
-        (resolved_expr (meaning (description_of names.now) (scope_of scope.now) variable_kinds)
+        (resolved_expr (at_scope (description_of names.now) (scope_of scope.now))
         (expr_of path_of value.now)) (λ t. numbered_expr t.1.value) result }
     ensures refused { Refuses (description_of names.now)
         (OfItem (scope_of scope.now) variable_kinds (path_of to.now)
@@ -186,6 +192,32 @@ fn copy_assigned(
 {
     let to = refer_variable(names, scope, to)?;
     made_of!(copy_boxed(value, names, scope), value => (to, value))
+}
+
+// An array, and the number of its element.
+#[cycle(exprs)]
+#[tactic(auto, using(crate::proofs::UseLaws::faults))]
+fn copy_indexed(
+    index: &Expr<Path>,
+    array: &Path,
+    names: &Names,
+    scope: &[Local],
+) -> Result<(Target, Box<Expr<Target>>), NameFault>
+    ensures accepted { Accepts (description_of names.now)
+        (OfArray (scope_of scope.now) (path_of array.now)
+        ∷ expr_uses (scope_of scope.now) (expr_of path_of index.now)) result }
+    ensures array { Copies (description_of names.now)
+        (array_meant (description_of names.now) (scope_of scope.now) (path_of array.now))
+        (λ t. t.0) result }
+    ensures index { Copies (description_of names.now)
+        (resolved_expr (at_scope (description_of names.now) (scope_of scope.now))
+        (expr_of path_of index.now)) (λ t. numbered_expr t.1.value) result }
+    ensures refused { Refuses (description_of names.now)
+        (OfArray (scope_of scope.now) (path_of array.now)
+        ∷ expr_uses (scope_of scope.now) (expr_of path_of index.now)) result }
+{
+    let array = refer_array(names, scope, array)?;
+    made_of!(copy_boxed(index, names, scope), index => (array, index))
 }
 
 // The function that is called, and its arguments.
@@ -203,7 +235,7 @@ fn copy_call(
     ensures function { Copies (description_of names.now) (function_meant (path_of function.now))
         (λ t. t.0) result }
     ensures arguments { Copies (description_of names.now)
-        (resolved_arguments (meaning (description_of names.now) (scope_of scope.now) variable_kinds)
+        (resolved_arguments (at_scope (description_of names.now) (scope_of scope.now))
         (arguments_from (map (argument_of path_of) arguments.now)))
         (λ t. arguments_from (map numbered_argument t.1.items)) result }
     ensures refused { Refuses (description_of names.now) (OfFunction (path_of function.now)
@@ -224,7 +256,7 @@ fn copy_arguments(
         (argument_uses (scope_of scope.now)
         (arguments_from (map (argument_of path_of) arguments.now))) result }
     ensures sound { Copies (description_of names.now)
-        (resolved_arguments (meaning (description_of names.now) (scope_of scope.now) variable_kinds)
+        (resolved_arguments (at_scope (description_of names.now) (scope_of scope.now))
         (arguments_from (map (argument_of path_of) arguments.now)))
         (λ all. arguments_from (map numbered_argument all.items)) result }
     ensures refused { Refuses (description_of names.now)
@@ -248,7 +280,7 @@ fn add_arguments(
         (argument_uses (scope_of scope.now)
         (arguments_from (map (argument_of path_of) arguments.now))) result }
     ensures sound { Copies (description_of names.now)
-        (resolved_arguments (meaning (description_of names.now) (scope_of scope.now) variable_kinds)
+        (resolved_arguments (at_scope (description_of names.now) (scope_of scope.now))
         (arguments_from (map (argument_of path_of) arguments.now)))
         (λ _. arguments_from (map numbered_argument all.new.items)) result }
     ensures refused { Refuses (description_of names.now)
@@ -274,7 +306,7 @@ fn add_argument(
         (arguments_from (argument_of path_of argument.now ∷ []))) result }
     ensures sound { OnOk result ((z : Argument Target) × (all.new.items ≡ all.old.items ++ z ∷ [])
         × Means (description_of names.now)
-        (resolved_argument (meaning (description_of names.now) (scope_of scope.now) variable_kinds)
+        (resolved_argument (at_scope (description_of names.now) (scope_of scope.now))
         (argument_of path_of argument.now)) (numbered_argument z)) }
     ensures refused { Refuses (description_of names.now)
         (argument_uses (scope_of scope.now)
@@ -296,7 +328,7 @@ fn copy_argument(
         (argument_uses (scope_of scope.now)
         (arguments_from (argument_of path_of argument.now ∷ []))) result }
     ensures sound { Copies (description_of names.now)
-        (resolved_argument (meaning (description_of names.now) (scope_of scope.now) variable_kinds)
+        (resolved_argument (at_scope (description_of names.now) (scope_of scope.now))
         (argument_of path_of argument.now)) numbered_argument result }
     ensures refused { Refuses (description_of names.now)
         (argument_uses (scope_of scope.now)

@@ -15,7 +15,7 @@ ghost use Rattle.edd_names.specs.ResolvedParts.{member_uses};
 ghost use Rattle.edd_name_rules.specs.Spending.{locals_in};
 ghost use Rattle.edd_names.specs.Copies.{Accepts, Copies, Refuses};
 
-use crate::braces::{copy_members, copy_transaction_parts, copy_type_parts};
+use crate::braces::{copy_elements, copy_members, copy_transaction_parts, copy_type_parts};
 use crate::conditionals::{copy_cond, copy_conds};
 use crate::made::made_of;
 use crate::statements::copy_body;
@@ -76,9 +76,8 @@ fn copy_members_of(
 {
     match item {
         Item::Collection(d) => copy_members(members, names, &[d.of]),
-        Item::Variable(_) | Item::Command(_) | Item::Menu(_) | Item::Method(_) => {
-            copy_members(members, names, &[])
-        }
+        Item::Variable(_) | Item::Command(_) | Item::Menu(_) | Item::Method(_) | Item::Array(_) =>
+            copy_members(members, names, &[]),
     }
 }
 
@@ -129,6 +128,8 @@ fn copy_attribute(
         }
         Attribute::Definition(parts) =>
             made_of!(copy_definition(parts, names), parts => Attribute::Definition(parts)),
+        Attribute::Elements(all) =>
+            made_of!(copy_elements(all, names), all => Attribute::Elements(all)),
     }
 }
 

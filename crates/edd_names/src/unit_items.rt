@@ -14,7 +14,7 @@ use crate::fields::copy_attributes;
 use edd_name_meanings::directory::Names;
 use edd_name_meanings::fault::NameFault;
 use edd_syntax::item::{
-    Attribute, CollectionDef, CommandDef, Item, MenuDef, MethodDef, VariableDef,
+    ArrayDef, Attribute, CollectionDef, CommandDef, Item, MenuDef, MethodDef, VariableDef,
 };
 use edd_syntax::reference::{Path, Target};
 
@@ -35,6 +35,7 @@ fn like(item: &Item<Path>, name: String, attributes: Vec<Attribute<Target>>) -> 
             attributes,
         }),
         Item::Method(_) => Item::Method(MethodDef { name, attributes }),
+        Item::Array(_) => Item::Array(ArrayDef { name, attributes }),
     }
 }
 

@@ -1,5 +1,6 @@
 pub mod Arguments
 pub mod BareViews
+pub mod ElementLaws
 pub mod FoundLaws
 pub mod InStatements
 pub mod RuleLaws

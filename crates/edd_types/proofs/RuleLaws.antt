@@ -15,7 +15,7 @@ use Rattle.edd_syntax.specs.Refusal.{Refusal, Mismatch, DuplicateCase, refused_i
 use Rattle.edd_types.specs.declared.breach.Breach.{Breach}
 use Rattle.edd_types.specs.declared.breach.Breach.TheVariants as breach
 use Rattle.edd_types.specs.Breaches.{in_placed, in_part, in_nothing, in_enumerator, in_data_item, in_default, in_cond, in_conds, in_arms, in_type_part, in_transaction_part, in_attribute, in_body, in_expressions}
-use Rattle.edd_syntax.specs.SubsetRules.{bodies_in, breaks_outside_in, mismatches, float_values, wrong_breaks, wrong_constants, subset_breaches}
+use Rattle.edd_syntax.specs.SubsetRules.{bodies_in, breaks_outside_in, mismatches, float_values, wrong_breaks, wrong_constants, duplicate_cases, subset_breaches}
 use Rattle.edd_syntax.specs.Resolved.{description}
 use Rattle.edd_types.specs.declared.rules.Rule.{Rule}
 use Rattle.edd_types.specs.declared.rules.Rule.TheVariants as rule
@@ -133,6 +133,7 @@ module _ (b : Breach) (none : (had : Bool) → in_default b had ≡ [])
       no_expressions (λ v. refl) entries
   in_attribute_expressions (item.Members members) = refl
   in_attribute_expressions (item.Definition body) = refl
+  in_attribute_expressions (item.Elements elements) = refl
 
 pub calls_in_attribute : (a : item.Attribute Target) → in_attribute breach.Call a
     ≡ flat_map (in_placed breach.Call) (attribute_expressions a)
@@ -288,6 +289,7 @@ defaults_in_attribute (item.Transaction number parts) other =
 defaults_in_attribute (item.ResponseCodes responses) other = refl
 defaults_in_attribute (item.Items entries) other = defaults_in_conds entries
 defaults_in_attribute (item.Members members) other = refl
+defaults_in_attribute (item.Elements elements) other = refl
 defaults_in_attribute (item.Definition body) other = absurd (false≢true (sym other))
 
 -- ---- all rules
@@ -309,28 +311,39 @@ all_rules i items =
     ap (λ xs. in_items items
     ++ (xs ++ (broken rule.FloatValue items
     ++ (broken rule.BreakOutside items
-    ++ (broken rule.ConstRange items ++ broken rule.DuplicateCase items)))))
+    ++ (broken rule.ConstRange items ++ (broken rule.DuplicateCase items
+    ++ broken rule.DuplicateElement items))))))
     (broken_is rule.Mismatch items)
     ∙ ap (λ xs. in_items items
     ++ (mismatches (description i items)
     ++ (xs ++ (broken rule.BreakOutside items
-    ++ (broken rule.ConstRange items ++ broken rule.DuplicateCase items)))))
+    ++ (broken rule.ConstRange items ++ (broken rule.DuplicateCase items
+    ++ broken rule.DuplicateElement items))))))
     (broken_is rule.FloatValue items)
     ∙ ap (λ xs. in_items items
     ++ (mismatches (description i items)
     ++ (float_values (description i items)
-    ++ (xs ++ (broken rule.ConstRange items ++ broken rule.DuplicateCase items)))))
+    ++ (xs ++ (broken rule.ConstRange items ++ (broken rule.DuplicateCase items
+    ++ broken rule.DuplicateElement items))))))
     (breaks_are items)
     ∙ ap (λ xs. in_items items
     ++ (mismatches (description i items)
     ++ (float_values (description i items)
-    ++ (wrong_breaks (description i items) ++ (xs ++ broken rule.DuplicateCase items)))))
+    ++ (wrong_breaks (description i items) ++ (xs ++ (broken rule.DuplicateCase items
+    ++ broken rule.DuplicateElement items))))))
     (broken_is rule.ConstRange items)
     ∙ ap (λ xs. in_items items
     ++ (mismatches (description i items)
     ++ (float_values (description i items)
-    ++ (wrong_breaks (description i items) ++ (wrong_constants (description i items) ++ xs)))))
+    ++ (wrong_breaks (description i items) ++ (wrong_constants (description i items)
+    ++ (xs ++ broken rule.DuplicateElement items))))))
     (broken_is rule.DuplicateCase items)
+    ∙ ap (λ xs. in_items items
+    ++ (mismatches (description i items)
+    ++ (float_values (description i items)
+    ++ (wrong_breaks (description i items) ++ (wrong_constants (description i items)
+    ++ (duplicate_cases (description i items) ++ xs))))))
+    (broken_is rule.DuplicateElement items)
 
 pub nothing_is_first : {A : Type 0} (xs : List A) → None ≡ first_of xs → xs ≡ []
 nothing_is_first [] h = refl

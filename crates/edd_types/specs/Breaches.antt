@@ -143,3 +143,4 @@ in_attribute b (item.ResponseCodes responses) = []
 in_attribute b (item.Items entries) = in_conds b (in_nothing b) entries
 in_attribute b (item.Members members) = []
 in_attribute b (item.Definition body) = in_body b body
+in_attribute b (item.Elements elements) = []

@@ -17,6 +17,7 @@ refusal_of_fault (fault.FloatValue line) = Some refusal.FloatValue
 refusal_of_fault (fault.BreakOutside line) = Some refusal.BreakOutside
 refusal_of_fault (fault.ConstRange line) = Some refusal.ConstRange
 refusal_of_fault (fault.DuplicateCase line) = Some refusal.DuplicateCase
+refusal_of_fault (fault.DuplicateElement line) = Some refusal.DuplicateElement
 refusal_of_fault fault.Memory = None
 
 -- the fault is the first of the breaches, unless it is want of memory

@@ -1,4 +1,5 @@
 pub mod Breaches
+pub mod ElementNumbers
 pub mod Faults
 pub mod Found
 pub mod Rules

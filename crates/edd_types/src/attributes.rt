@@ -80,6 +80,7 @@ pub fn check_inside(attribute: &Attribute<Target>, breach: Breach) -> Result<(),
         | Attribute::Number(_)
         | Attribute::Operation(_)
         | Attribute::ResponseCodes(_)
-        | Attribute::Members(_) => Ok(()),
+        | Attribute::Members(_)
+        | Attribute::Elements(_) => Ok(()),
     }
 }

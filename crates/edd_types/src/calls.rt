@@ -114,6 +114,7 @@ pub fn check_calls(e: &Expr<Target>, is_statement: bool) -> Result<(), u32>
         Expr::Literal(_) | Expr::Decimal { .. } | Expr::Reference(_) | Expr::Increment(_, _) => {
             Ok(())
         }
+        Expr::Indexed(_, index) => check_calls(index, false),
         Expr::Parentheses(inner) => check_calls(inner, false),
         Expr::Unary(_, inner) => check_calls(inner, false),
         Expr::Binary(_, a, b) => {

@@ -40,6 +40,7 @@ fn fault_of_rule(rule: Rule, line: u32) -> TypeFault
         Rule::BreakOutside => TypeFault::BreakOutside { line },
         Rule::ConstRange => TypeFault::ConstRange { line },
         Rule::DuplicateCase => TypeFault::DuplicateCase { line },
+        Rule::DuplicateElement => TypeFault::DuplicateElement { line },
     }
 }
 
@@ -73,12 +74,13 @@ fn check_all(alloc: Global, items: &[Item<Target>]) -> Result<(), TypeFault>
     check_rule(alloc, items, Rule::FloatValue)?;
     check_rule(alloc, items, Rule::BreakOutside)?;
     check_rule(alloc, items, Rule::ConstRange)?;
-    check_rule(alloc, items, Rule::DuplicateCase)
+    check_rule(alloc, items, Rule::DuplicateCase)?;
+    check_rule(alloc, items, Rule::DuplicateElement)
 }
 
 /// Checks a description against the profile, rule by rule: the types and sizes of variables, then
 /// what functions and types take, decimals, `break` and `continue`, data constants and masks,
-/// labels. The answer shares the trees of the given one.
+/// labels, elements. The answer shares the trees of the given one.
 pub fn check(alloc: Global, resolved: &Resolved) -> Result<Checked, TypeFault>
     ensures identification { IfOk result (λ c. c.identification ≡ resolved.now.identification) }
     ensures items { IfOk result (λ c. c.items.value ≡ resolved.now.items.value) }

@@ -19,6 +19,7 @@ pub fn check_decimals(e: &Expr<Target>) -> Result<(), u32>
     match e {
         Expr::Literal(_) | Expr::Reference(_) | Expr::Increment(_, _) => Ok(()),
         Expr::Decimal { line } => Err(*line),
+        Expr::Indexed(_, index) => check_decimals(index),
         Expr::Parentheses(inner) => check_decimals(inner),
         Expr::Unary(_, inner) => check_decimals(inner),
         Expr::Binary(_, a, b) => {

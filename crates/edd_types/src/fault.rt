@@ -11,7 +11,8 @@ use thiserror::Error;
 /// inside an expression, or an option or an enumerator that a type does not have; a decimal in an
 /// expression; `break` outside a loop and `switch`, or `continue` outside a loop; a data constant
 /// over 255, or a mask of 0; two equal labels of one `switch`, a second `default`, or a second
-/// DEFAULT of one SELECT. It prints its number, its kind and its names or its line, counted from 1.
+/// DEFAULT of one SELECT; two elements of one array with one number. It prints its number, its kind
+/// and its names or its line, counted from 1.
 #[derive(Debug, Drop, Error)]
 pub enum TypeFault {
     #[error("30 FLOAT_VARIABLE {0}")]
@@ -30,6 +31,8 @@ pub enum TypeFault {
     ConstRange { line: u32 },
     #[error("37 DUPLICATE_CASE line {line}")]
     DuplicateCase { line: u32 },
+    #[error("38 DUPLICATE_ELEMENT line {line}")]
+    DuplicateElement { line: u32 },
     #[error("no memory")]
     Memory,
 }

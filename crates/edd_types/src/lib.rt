@@ -9,6 +9,7 @@ mod checking;
 mod conditionals;
 mod constants;
 mod decimals;
+mod elements;
 pub mod fault;
 mod labels;
 mod options;

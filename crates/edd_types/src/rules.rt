@@ -11,6 +11,7 @@ ghost use Rattle.edd_types.specs.Rules.{why, broken_in, is_definition, broken};
 use crate::attributes::{check_inside, check_transaction};
 use crate::breach::Breach;
 use crate::breaks::check_parts;
+use crate::elements::check_elements;
 use crate::labels::check_labels;
 use crate::options::check_type;
 use edd_syntax::item::{Attribute, Item};
@@ -18,7 +19,7 @@ use edd_syntax::reference::Target;
 use std::alloc::{AllocError, Global};
 
 /// A rule of the profile: arguments and options that fit, no decimals, `break` and `continue`
-/// inside something, constants and masks in their range, no label twice.
+/// inside something, constants and masks in their range, no label and no element of an array twice.
 #[derive(Clone, Copy)]
 pub enum Rule {
     Mismatch,
@@ -26,6 +27,7 @@ pub enum Rule {
     BreakOutside,
     ConstRange,
     DuplicateCase,
+    DuplicateElement,
 }
 
 #[tactic(auto, using(edd_syntax::proofs::FirstLaws::firsts, crate::proofs::RuleLaws::calls_in_attribute))]
@@ -78,6 +80,16 @@ fn check_repeats(attribute: &Attribute<Target>, alloc: Global) -> Result<Option<
     }
 }
 
+fn check_numbers(attribute: &Attribute<Target>, alloc: Global) -> Result<Option<u32>, AllocError>
+    ensures { IfOk result (λ line. found_at (why rule.DuplicateElement) line
+        ≡ first_of (broken_in rule.DuplicateElement (numbered_attribute attribute.now))) }
+{
+    match attribute {
+        Attribute::Elements(elements) => check_elements(elements, alloc),
+        _ => Ok(None),
+    }
+}
+
 /// The line of the first breach of a rule in an attribute.
 #[tactic(auto, using(crate::proofs::RuleLaws::decimals_in_attribute))]
 fn check_attribute(
@@ -94,6 +106,7 @@ fn check_attribute(
         Rule::BreakOutside => Ok(check_breaks_in(attribute).err()),
         Rule::ConstRange => Ok(check_constants(attribute).err()),
         Rule::DuplicateCase => check_repeats(attribute, alloc),
+        Rule::DuplicateElement => check_numbers(attribute, alloc),
     }
 }
 

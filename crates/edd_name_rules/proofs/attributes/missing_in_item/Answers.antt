@@ -1,6 +1,6 @@
 use Rattle.std.proofs.Common.{◌∙◌, ap, sym, [], ◌∷◌, map}
 use Rattle.std.specs.Prelude.{string_bytes}
-use Rattle.edd_syntax.specs.declared.item.Item.TheVariants.{Method}
+use Rattle.edd_syntax.specs.declared.item.Item.TheVariants.{Method, Array}
 use Rattle.edd_syntax.specs.declared.numbers.Attr.TheVariants as attr
 use Rattle.edd_syntax.specs.ItemView.{item_of, attribute_of}
 use Rattle.edd_syntax.specs.Numbers.{attr_word}
@@ -23,3 +23,17 @@ returns-in-Method c =
     c.deref-in-Method-2.ensures.value
     ∙ sym (ap first_of (one_item (item_of path_of (Method c.in-Method.d))))
     ∙ ap (λ i. first_of (missing_in (item_of path_of i ∷ []))) (sym c.in-Method.is)
+
+pub returns-in-Array : goal.returns-in-Array
+returns-in-Array c =
+    c.missing_word-in-Array.ensures
+    ∙ ap (λ w. first_of (missing_among c.deref-in-Array.result.now
+    (map (attribute_of path_of) c.deref-in-Array-2.result.now) (w ∷ [])))
+    c.word-in-Array.ensures
+    ∙ ap (λ n. first_of (missing_among n (map (attribute_of path_of) c.deref-in-Array-2.result.now)
+    (attr_word attr.Elements ∷ []))) c.deref-in-Array.ensures
+    ∙ ap (λ xs. first_of (missing_among (string_bytes c.in-Array.d.name)
+    (map (attribute_of path_of) xs) (attr_word attr.Elements ∷ [])))
+    c.deref-in-Array-2.ensures.value
+    ∙ sym (ap first_of (one_item (item_of path_of (Array c.in-Array.d))))
+    ∙ ap (λ i. first_of (missing_in (item_of path_of i ∷ []))) (sym c.in-Array.is)

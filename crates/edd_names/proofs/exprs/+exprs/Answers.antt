@@ -2,8 +2,7 @@ use Rattle.std.proofs.Common.{sym, arith}
 use Rattle.std.proofs.Math.ListN.{drop_of_length-le}
 use Rattle.edd_syntax.specs.Expression.{arguments_from}
 use Rattle.edd_syntax.specs.NameUses.{argument_uses}
-use Rattle.edd_syntax.specs.Resolution.{meaning, variable_kinds}
-use Rattle.edd_syntax.specs.ResolvedTrees.{resolved_arguments}
+use Rattle.edd_syntax.specs.ResolvedTrees.{at_scope, resolved_arguments}
 use Rattle.edd_syntax.specs.TreeView.{path_of, argument_of, numbered_argument}
 use Rattle.edd_name_meanings.specs.Directory.{description_of}
 use Rattle.edd_name_meanings.specs.Meanings.{scope_of}
@@ -19,24 +18,20 @@ add_arguments-loop-argument-init t c = at_start (description_of c.args.names.now
     (argument_of path_of)
     numbered_argument (λ xs. argument_uses (scope_of c.args.scope.now) (arguments_from xs))
     (argument_uses_split (scope_of c.args.scope.now))
-    (resolved_argument (meaning (description_of c.args.names.now) (scope_of c.args.scope.now)
-    variable_kinds)) (λ xs. resolved_arguments
-    (meaning (description_of c.args.names.now) (scope_of c.args.scope.now) variable_kinds)
+    (resolved_argument (at_scope (description_of c.args.names.now) (scope_of c.args.scope.now))) (λ xs. resolved_arguments
+    (at_scope (description_of c.args.names.now) (scope_of c.args.scope.now))
     (arguments_from xs)) arguments_from
-    (arguments_joined (meaning (description_of c.args.names.now) (scope_of c.args.scope.now)
-    variable_kinds)) c.args.arguments.now c.args.all.now.items c.requires
+    (arguments_joined (at_scope (description_of c.args.names.now) (scope_of c.args.scope.now))) c.args.arguments.now c.args.all.now.items c.requires
 
 pub add_arguments-loop-argument-preserved : goal.add_arguments-loop-argument-preserved
 add_arguments-loop-argument-preserved t c =
     one_more (description_of c.args.names.now) (argument_of path_of) numbered_argument
     (λ xs. argument_uses (scope_of c.args.scope.now) (arguments_from xs))
     (argument_uses_split (scope_of c.args.scope.now))
-    (resolved_argument (meaning (description_of c.args.names.now) (scope_of c.args.scope.now)
-    variable_kinds)) (λ xs. resolved_arguments
-    (meaning (description_of c.args.names.now) (scope_of c.args.scope.now) variable_kinds)
+    (resolved_argument (at_scope (description_of c.args.names.now) (scope_of c.args.scope.now))) (λ xs. resolved_arguments
+    (at_scope (description_of c.args.names.now) (scope_of c.args.scope.now))
     (arguments_from xs)) arguments_from
-    (arguments_joined (meaning (description_of c.args.names.now) (scope_of c.args.scope.now)
-    variable_kinds)) c.loop-argument.argument-index c.args.arguments.now c.argument-item.result
+    (arguments_joined (at_scope (description_of c.args.names.now) (scope_of c.args.scope.now))) c.loop-argument.argument-index c.args.arguments.now c.argument-item.result
     c.loop-argument.all.items c.add_argument.new.all.items c.in_ok-add_argument.ensures.sound.0
     (omega arith) c.argument-item.is
     c.in_ok-add_argument.ensures.accepted c.in_ok-add_argument.ensures.sound.2
@@ -49,12 +44,10 @@ add_arguments-returns-in_err-add_argument-clause-refused t c =
     (stops (description_of c.args.names.now) (argument_of path_of) numbered_argument
     (λ xs. argument_uses (scope_of c.args.scope.now) (arguments_from xs))
     (argument_uses_split (scope_of c.args.scope.now))
-    (resolved_argument (meaning (description_of c.args.names.now) (scope_of c.args.scope.now)
-    variable_kinds)) (λ xs. resolved_arguments
-    (meaning (description_of c.args.names.now) (scope_of c.args.scope.now) variable_kinds)
+    (resolved_argument (at_scope (description_of c.args.names.now) (scope_of c.args.scope.now))) (λ xs. resolved_arguments
+    (at_scope (description_of c.args.names.now) (scope_of c.args.scope.now))
     (arguments_from xs)) arguments_from
-    (arguments_joined (meaning (description_of c.args.names.now) (scope_of c.args.scope.now)
-    variable_kinds)) c.loop-argument.argument-index c.args.arguments.now c.argument-item.result
+    (arguments_joined (at_scope (description_of c.args.names.now) (scope_of c.args.scope.now))) c.loop-argument.argument-index c.args.arguments.now c.argument-item.result
     c.loop-argument.all.items c.in_err-add_argument.field-0.0 (omega arith) c.argument-item.is
     c.in_err-add_argument.ensures.refused c.loop-argument.invariant)
 
@@ -63,12 +56,10 @@ add_arguments-returns-clause-accepted t c =
     none_at_end (description_of c.args.names.now) (argument_of path_of) numbered_argument
     (λ xs. argument_uses (scope_of c.args.scope.now) (arguments_from xs))
     (argument_uses_split (scope_of c.args.scope.now))
-    (resolved_argument (meaning (description_of c.args.names.now) (scope_of c.args.scope.now)
-    variable_kinds)) (λ xs. resolved_arguments
-    (meaning (description_of c.args.names.now) (scope_of c.args.scope.now) variable_kinds)
+    (resolved_argument (at_scope (description_of c.args.names.now) (scope_of c.args.scope.now))) (λ xs. resolved_arguments
+    (at_scope (description_of c.args.names.now) (scope_of c.args.scope.now))
     (arguments_from xs)) arguments_from
-    (arguments_joined (meaning (description_of c.args.names.now) (scope_of c.args.scope.now)
-    variable_kinds)) (no_use (description_of c.args.names.now)) c.loop-argument.argument-index
+    (arguments_joined (at_scope (description_of c.args.names.now) (scope_of c.args.scope.now))) (no_use (description_of c.args.names.now)) c.loop-argument.argument-index
     c.args.arguments.now c.loop-argument.all.items
     (drop_of_length-le c.args.arguments.now (omega arith)) c.loop-argument.invariant
 
@@ -77,13 +68,11 @@ add_arguments-returns-clause-sound t c =
     meant_at_end (description_of c.args.names.now) (argument_of path_of) numbered_argument
     (λ xs. argument_uses (scope_of c.args.scope.now) (arguments_from xs))
     (argument_uses_split (scope_of c.args.scope.now))
-    (resolved_argument (meaning (description_of c.args.names.now) (scope_of c.args.scope.now)
-    variable_kinds)) (λ xs. resolved_arguments
-    (meaning (description_of c.args.names.now) (scope_of c.args.scope.now) variable_kinds)
+    (resolved_argument (at_scope (description_of c.args.names.now) (scope_of c.args.scope.now))) (λ xs. resolved_arguments
+    (at_scope (description_of c.args.names.now) (scope_of c.args.scope.now))
     (arguments_from xs)) arguments_from
-    (arguments_joined (meaning (description_of c.args.names.now) (scope_of c.args.scope.now)
-    variable_kinds)) (no_arguments
-    (meaning (description_of c.args.names.now) (scope_of c.args.scope.now) variable_kinds))
+    (arguments_joined (at_scope (description_of c.args.names.now) (scope_of c.args.scope.now))) (no_arguments
+    (at_scope (description_of c.args.names.now) (scope_of c.args.scope.now)))
     c.loop-argument.argument-index c.args.arguments.now c.loop-argument.all.items
     (drop_of_length-le c.args.arguments.now (omega arith)) c.loop-argument.invariant
 
@@ -110,7 +99,7 @@ copy_expr-returns-in_ok-function-in-Call-clause-sound t c =
     call_means (description_of c.args.names.now) c.args.e.now _ _ _ c.deref-in-Call.result.now
     c.in-Call.is
     c.deref-in-Call.ensures.value
-    (meaning (description_of c.args.names.now) (scope_of c.args.scope.now) variable_kinds)
+    (at_scope (description_of c.args.names.now) (scope_of c.args.scope.now))
     c.in_ok-function-in-Call.function c.in_ok-function-in-Call.arguments
     c.in_ok-function-in-Call.ensures.function c.in_ok-function-in-Call.ensures.arguments
 

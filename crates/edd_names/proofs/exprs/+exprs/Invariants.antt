@@ -1,8 +1,7 @@
 use Rattle.std.proofs.Common.{◌+◌}
 use Rattle.edd_syntax.specs.Expression.{arguments_from}
 use Rattle.edd_syntax.specs.NameUses.{argument_uses}
-use Rattle.edd_syntax.specs.Resolution.{meaning, variable_kinds}
-use Rattle.edd_syntax.specs.ResolvedTrees.{resolved_arguments}
+use Rattle.edd_syntax.specs.ResolvedTrees.{at_scope, resolved_arguments}
 use Rattle.edd_syntax.specs.TreeView.{path_of, argument_of, numbered_argument}
 use Rattle.edd_name_meanings.specs.Directory.{description_of}
 use Rattle.edd_name_meanings.specs.Meanings.{scope_of}
@@ -22,6 +21,9 @@ decreases-copy_pair l = expr_depth l.left.now + expr_depth l.right.now + 2
 
 abbrev pub decreases-copy_assigned : goal.decreases-copy_assigned
 decreases-copy_assigned l = expr_depth l.value.now + 2
+
+abbrev pub decreases-copy_indexed : goal.decreases-copy_indexed
+decreases-copy_indexed l = expr_depth l.index.now + 2
 
 abbrev pub decreases-copy_call : goal.decreases-copy_call
 decreases-copy_call l = arguments_depth l.arguments.now + 5
@@ -43,9 +45,8 @@ abbrev pub invariant-add_arguments-loop-argument : goal.invariant-add_arguments-
 invariant-add_arguments-loop-argument l = Copied (description_of l.fn.names) (argument_of path_of)
     numbered_argument (λ xs. argument_uses (scope_of l.fn.scope) (arguments_from xs))
     (argument_uses_split (scope_of l.fn.scope))
-    (resolved_argument (meaning (description_of l.fn.names) (scope_of l.fn.scope) variable_kinds))
-    (λ xs. resolved_arguments (meaning (description_of l.fn.names) (scope_of l.fn.scope)
-    variable_kinds)
+    (resolved_argument (at_scope (description_of l.fn.names) (scope_of l.fn.scope)))
+    (λ xs. resolved_arguments (at_scope (description_of l.fn.names) (scope_of l.fn.scope))
     (arguments_from xs)) arguments_from
-    (arguments_joined (meaning (description_of l.fn.names) (scope_of l.fn.scope) variable_kinds))
+    (arguments_joined (at_scope (description_of l.fn.names) (scope_of l.fn.scope)))
     l.argument-index l.arguments l.all.items
