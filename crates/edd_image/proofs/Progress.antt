@@ -19,7 +19,8 @@ use Rattle.edd_image.specs.declared.unit.Sort.{Sort}
 use Rattle.edd_image.specs.declared.unit.Sort.TheVariants.{Attribute, Method}
 use Rattle.edd_image.specs.declared.unit.Way.{Way}
 use Rattle.edd_image.specs.Units.{takes, leaves, onward, jump}
-use Rattle.edd_image.specs.Steps.{State, Environment, Effect, Fits, width_of, go, give, ask_for, on_top, on_two, push_or_trap, act_ask, act, element_variable, element_value}
+use Rattle.edd_image.specs.Steps.{State, Environment, Effect, Fits, width_of, go, give, ask_for, on_top, on_two, push_or_trap, act_ask, act}
+use Rattle.edd_syntax.specs.Elements.{element_variable, element_value}
 use Rattle.edd_image.proofs.Widths.{value_fits, wrap_fits, compare_fits, minus_fits, not_fits, complement_fits, operate_fits, store_in_range}
 
 -- ---- operands, slots and values
@@ -260,7 +261,7 @@ module _ (env : Environment) (s : State) (running : s.status ≡ Running)
       (λ a below e fa fb. go_acts _ next 2 _ refl (omega (arith, e)) (fa, (fa, fb)))
   instruction_acts (instruction.ReadElement array) next fit le = top_acts _ next s.operands _ fit le
       (λ number below e fa fb. push_acts _ next below
-      (element_value env (width_of s.unit.sort) s.values array number) refl (omega (arith, e)) fb
+      (element_value env.elements (width_of s.unit.sort) s.values array number) refl (omega (arith, e)) fb
       (λ z r. value_fits s.unit.sort s.values (element_variable env.elements array number) z r))
   instruction_acts (instruction.Operate op) next fit le = two_act _ next s.operands _ fit le
       (λ a b below e fa fb fc. push_acts _ next below (operate (width_of s.unit.sort) op a b) refl

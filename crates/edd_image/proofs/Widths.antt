@@ -24,7 +24,8 @@ use Rattle.edd_syntax.specs.TwosComplement.{residue, as_signed, wrap, store, tru
 use Rattle.edd_syntax.specs.DeviceValues.{VariableType, value_at, least, greatest, is_in_range}
 use Rattle.edd_image.specs.declared.unit.Sort.{Sort}
 use Rattle.edd_image.specs.declared.unit.Sort.TheVariants.{Attribute, Method}
-use Rattle.edd_image.specs.Steps.{Fits, width_of, value_or_trap}
+use Rattle.edd_image.specs.Steps.{Fits, width_of}
+use Rattle.edd_syntax.specs.Elements.{value_or_trap}
 
 -- ---- residues
 

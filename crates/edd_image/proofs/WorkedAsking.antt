@@ -113,7 +113,7 @@ module _ (n m : ℕ) (values : List ℤ) (asked : List source.Request) (changed 
 -- ---- the machine
 
 abbrev env : Environment
-env = machine_of (environment asking_unit).variables
+env = machine_of (environment asking_unit)
 
 -- at a place of the code
 abbrev at : ℕ → List ℤ → List ℤ → steps.State

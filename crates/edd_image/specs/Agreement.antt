@@ -1,6 +1,6 @@
 -- When the code of an attribute, and a whole image, say what the tree of a description means,
 -- methods aside.
-use Rattle.std.specs.Prelude.{◌≡◌, ℕ, ◌+◌, ℤ, List, [], ◌∷◌, length, slice_get, Option, Some, None, option_map, Result, Ok, Err, if◌then◌else◌, ⊤}
+use Rattle.std.specs.Prelude.{◌≡◌, ℕ, ◌+◌, nat_lt, ℤ, List, [], ◌∷◌, length, slice_get, Option, Some, None, option_map, Result, Ok, Err, if◌then◌else◌, ⊤}
 use Rattle.edd_syntax.specs.declared.answer.Trap.{Trap}
 use Rattle.edd_syntax.specs.declared.numbers.Kind.{Kind}
 use Rattle.edd_syntax.specs.declared.numbers.Kind.TheVariants as kind
@@ -19,14 +19,14 @@ use Rattle.edd_syntax.specs.Resolution.{count_of}
 use Rattle.edd_syntax.specs.AttributeValue.{Trapping}
 use Rattle.edd_syntax.specs.Device as device
 use Rattle.edd_syntax.specs.Device.{item_at, environment}
-use Rattle.edd_syntax.specs.DeviceValues.{VariableType, AreDeviceValues}
+use Rattle.edd_syntax.specs.DeviceValues.{AreDeviceValues}
 use Rattle.edd_syntax.specs.Attributes as source
 use Rattle.edd_syntax.specs.Attributes.{menu_bits, data_bits, meaning_of, read_attribute}
 use Rattle.edd_image.specs.declared.parts.Counts.{Counts}
 use Rattle.edd_image.specs.declared.records.Record.{Record}
 use Rattle.edd_image.specs.declared.records.Record.TheVariants as records
 use Rattle.edd_image.specs.declared.unit.Version.{Version}
-use Rattle.edd_image.specs.declared.unit.Version.TheVariants.{One}
+use Rattle.edd_image.specs.declared.unit.Version.TheVariants.{One, Two}
 use Rattle.edd_image.specs.declared.unit.Sort.{Sort}
 use Rattle.edd_image.specs.declared.unit.Sort.TheVariants.{Attribute}
 use Rattle.edd_image.specs.declared.unit.Context.{Context}
@@ -82,6 +82,9 @@ module _ (string_numbered : StrNo → Option Words) where
   SameRecord (source.Member name item label help) r =
       (n : StrNo) × (l h : Option StrNo) × (r ≡ records.Member n item l h) × IsString name n
       × IsOptionalString label l × IsOptionalString help h
+  SameRecord (source.Element number var label help) r =
+      (l h : Option StrNo) × (r ≡ records.Element number var l h) × IsOptionalString label l
+      × IsOptionalString help h
 
   abbrev pub SameRecords : List source.Record → List Record → Type 0
   SameRecords [] [] = ⊤
@@ -103,9 +106,9 @@ module _ (string_numbered : StrNo → Option Words) where
 
 -- ---- the code of one attribute
 
--- what is round the runs of a description's image; no description has arrays
-abbrev pub machine_of : List VariableType → Environment
-machine_of types = record { types = types; elements = [] }
+-- what is round the runs of a description's image
+abbrev pub machine_of : device.Environment → Environment
+machine_of env = record { types = env.variables; elements = env.elements }
 
 -- what the tree of an item gives of an attribute before defaults; a transaction that isn't there
 -- gives nothing
@@ -123,11 +126,12 @@ tree_meaning unit ref = elim (item_at unit ref.item)
 
 -- The unit, followed from its first byte to its end under any values of the device, gives what the
 -- tree means.
-abbrev pub UnitMeans : List VariableType → (StrNo → Option Words) → source.Meaning → (code : List ℕ)
-    → Type 0
-UnitMeans types string_numbered meaning code = (values : List ℤ) → AreDeviceValues types values
+abbrev pub UnitMeans : device.Environment → (StrNo → Option Words) → source.Meaning
+    → (code : List ℕ) → Type 0
+UnitMeans env string_numbered meaning code = (values : List ℤ)
+    → AreDeviceValues env.variables values
     → (n : ℕ) × (given : Result (List Record) Trap)
-    × (given_within n (machine_of types) (opening (record { sort = Attribute; code = code })
+    × (given_within n (machine_of env) (opening (record { sort = Attribute; code = code })
     0 values) ≡ Some given)
     × SameRun string_numbered (meaning values) given
 
@@ -151,11 +155,14 @@ counts_of i items strings = record {
   dd_revision = i.dd_revision;
 }
 
--- where a unit stands in an image of a version
-abbrev pub unit_context : Version → Description Target → (strings : List Words) → Sort → (slots : ℕ)
-    → Context
-unit_context version unit strings sort slots = record {
-  version = version;
+-- the version of an image with so much of everything: the second has arrays
+abbrev pub version_with : Counts → Version
+version_with counts = if nat_lt 0 counts.arrays then Two else One
+
+-- where a unit stands in the image
+abbrev pub unit_context : Description Target → (strings : List Words) → Sort → (slots : ℕ) → Context
+unit_context unit strings sort slots = record {
+  version = version_with (counts_of unit.identification unit.items (length strings));
   counts = counts_of unit.identification unit.items (length strings);
   sort = sort;
   slots = slots;
@@ -163,14 +170,14 @@ unit_context version unit strings sort slots = record {
 
 -- where the unit of an attribute stands
 abbrev pub attribute_context : Description Target → (strings : List Words) → Context
-attribute_context unit strings = unit_context One unit strings Attribute 0
+attribute_context unit strings = unit_context unit strings Attribute 0
 
 -- The code is a valid unit, and means what the tree of the attribute means, with strings by their
 -- numbers in this table.
 pub record IsAttributeCode (unit : Description Target) (strings : List Words) (ref : AttrRef)
     (code : List ℕ) : Type 0 where
   pub valid : IsValidUnit (attribute_context unit strings) code
-  pub means : UnitMeans (environment unit).variables (string_of_table strings)
+  pub means : UnitMeans (environment unit) (string_of_table strings)
       (tree_meaning unit ref) code
 
 -- ---- names and strings of an image
@@ -218,7 +225,7 @@ pub record AgreesOnData (unit : Description Target) (c : Contents) : Type 0 wher
   pub counts : (k : Kind) → count_in c.counts k ≡ count_of k unit.items
   pub names : (i : ItemNo) → name_numbered c i ≡ option_map (λ x. x.name) (item_at unit i)
   pub types : (environment_of c).types ≡ (environment unit).variables
-  pub elements : c.elements ≡ []
+  pub elements : c.elements ≡ (environment unit).elements
   pub attributes : (ref : AttrRef) (values : List ℤ)
       → AreDeviceValues (environment unit).variables values
       → (n : ℕ) × (r : image.Reading) × (reading_within n c ref values ≡ Some r)

@@ -114,7 +114,8 @@ pub record CountsFit (c : Counts) : Type 0 where
 -- header and sections together
 abbrev pub layout_length : Sections → ℕ
 layout_length s = header_size s.version + 4 * length s.variables + 8 * length s.names
-    + 16 * length s.attributes + 8 * length s.elements + length s.code + 8 * length s.strings + length s.name_bytes + length s.string_bytes
+    + 16 * length s.attributes + 8 * length s.elements + length s.code + 8 * length s.strings
+    + length s.name_bytes + length s.string_bytes
 
 abbrev pub item_count : Counts → ℕ
 item_count c = c.variables + c.commands + c.menus + c.collections + c.methods + c.arrays

@@ -18,7 +18,6 @@ use Rattle.edd_image.specs.declared.records.Request.{Request}
 use Rattle.edd_image.specs.declared.records.Request.TheVariants as requests
 use Rattle.edd_image.specs.declared.unit.Context.{Context}
 use Rattle.edd_image.specs.declared.unit.Sort.TheVariants as sort
-use Rattle.edd_image.specs.declared.unit.Version.TheVariants.{One}
 use Rattle.edd_image.specs.Agreement.{AgreesOnData, IsString, machine_of, string_of_table, string_numbered, unit_context}
 use Rattle.edd_image.specs.Contents.{AttributeFields, Contents}
 use Rattle.edd_image.specs.References.{item_exists}
@@ -95,7 +94,7 @@ module _ (string_numbered : StrNo → Option Words) where
 
 -- where the unit of a method stands
 abbrev pub method_context : Description Target → (strings : List Words) → (slots : ℕ) → Context
-method_context unit strings slots = unit_context One unit strings sort.Method slots
+method_context unit strings slots = unit_context unit strings sort.Method slots
 
 -- The code is a valid unit with a slot for each declared local, and its runs are those of the
 -- method's body, with strings by their numbers in this table.
@@ -105,7 +104,7 @@ pub record IsMethodCode (unit : Description Target) (strings : List Words) (meth
   pub valid : IsValidUnit (method_context unit strings slots) code
   pub agrees : AgreesOnRuns (string_of_table strings) (environment unit).variables
       (λ n values answers. run.run n unit method values answers)
-      (λ k values answers. execute (machine_of (environment unit).variables) k
+      (λ k values answers. execute (machine_of (environment unit)) k
       (opening (record { sort = sort.Method; code = code }) slots values) answers)
 
 -- ---- the whole image

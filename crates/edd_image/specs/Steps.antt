@@ -1,14 +1,12 @@
 -- One step of the machine: the effect of the instruction at its place.
-use Rattle.std.specs.Prelude.{◌≡◌, ℕ, suc, ℤ, pos, List, [], ◌∷◌, length, ◌==◌, ◌&&◌, find, Option, Some, None, option_map, Result, Ok, Err, if◌then◌else◌, ⊤, IsTrue, FitsSigned, replicate, slice_index_or, slice_set}
+use Rattle.std.specs.Prelude.{◌≡◌, ℕ, suc, ℤ, pos, List, [], ◌∷◌, length, Option, Some, None, Result, Ok, Err, if◌then◌else◌, ⊤, IsTrue, FitsSigned, replicate, slice_index_or, slice_set}
 use Rattle.std.specs.Int.{w32, w64}
 use Rattle.std.specs.List.{AllByRecursion}
 use Rattle.std.specs.Ordering.{int_eq}
 use Rattle.edd_syntax.specs.declared.answer.Trap.{Trap}
-use Rattle.edd_syntax.specs.declared.answer.Trap.TheVariants as trap
-use Rattle.edd_syntax.specs.declared.numbers.ArrNo.{ArrNo}
-use Rattle.edd_syntax.specs.declared.numbers.VarNo.{VarNo}
 use Rattle.edd_syntax.specs.declared.numbers.Element.{Element}
 use Rattle.edd_syntax.specs.declared.operators.UnaryOperator.TheVariants as unary_operator
+use Rattle.edd_syntax.specs.Elements.{element_value}
 use Rattle.edd_syntax.specs.TwosComplement.{wrap, store, operate, compare, apply, is_zero}
 use Rattle.edd_syntax.specs.DeviceValues.{VariableType, type_at, value_at, AreDeviceValues}
 use Rattle.edd_syntax.specs.Answers.{Change}
@@ -73,22 +71,6 @@ opening unit slots values = record {
 abbrev pub width_of : Sort → ℕ
 width_of Attribute = 64
 width_of Method = 32
-
--- ---- elements of arrays
-
--- the variable of the element of this number
-abbrev pub element_variable : List Element → ArrNo → ℤ → Option VarNo
-element_variable elements array number = option_map (λ e. e.var)
-    (find (λ e. e.array.0 == array.0 && int_eq (pos e.number) number) elements)
-
--- the value of a variable in the width; where there is none, the array has no such element
-abbrev pub value_or_trap : (width : ℕ) → List ℤ → Option VarNo → Result ℤ Trap
-value_or_trap width values None = Err trap.NoElement
-value_or_trap width values (Some v) = Ok (wrap width (value_at values v))
-
-abbrev pub element_value : Environment → (width : ℕ) → List ℤ → ArrNo → ℤ → Result ℤ Trap
-element_value env width values array number = value_or_trap width values
-    (element_variable env.elements array number)
 
 -- ---- effects
 
@@ -181,7 +163,7 @@ act env instruction.Pop next s = on_top s.operands (λ a below. go s next below)
 act env instruction.Duplicate next s = on_top s.operands (λ a below. go s next (a ∷ a ∷ below))
 act env (instruction.ReadElement array) next s =
     on_top s.operands (λ number below. push_or_trap s next below
-    (element_value env (width_of s.unit.sort) s.values array number))
+    (element_value env.elements (width_of s.unit.sort) s.values array number))
 act env (instruction.Operate op) next s =
     on_two s.operands (λ a b below. push_or_trap s next below
     (operate (width_of s.unit.sort) op a b))

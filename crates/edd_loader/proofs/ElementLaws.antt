@@ -17,7 +17,7 @@ use Rattle.edd_image.specs.Fields as fields
 use Rattle.edd_image.specs.Fields.{number_at, counts_in, element_count, element_rows_start}
 use Rattle.edd_image.specs.References.{array_exists, variable_exists}
 use Rattle.edd_image.specs.Spelling.{AreBytes}
-use Rattle.edd_image.specs.Steps.{element_variable}
+use Rattle.edd_syntax.specs.Elements.{element_variable}
 use Rattle.edd_image.specs.Validity.{IsValid, is_element_before, is_element_row, elements_rise}
 use Rattle.edd_image.proofs.Readings.{drop_bytes}
 use Rattle.edd_loader.specs.Elements.{element_key, key_of}

@@ -6,7 +6,7 @@ ghost use Rattle.edd_image.specs.Contents.{contents_in, fields_of_variable};
 ghost use Rattle.edd_image.specs.References.{item_exists, string_exists, variable_exists};
 ghost use Rattle.edd_image.specs.Agreement.{name_numbered, string_numbered};
 ghost use Rattle.edd_image.specs.Reading.{environment_of};
-ghost use Rattle.edd_image.specs.Steps.{element_variable};
+ghost use Rattle.edd_syntax.specs.Elements.{element_variable};
 ghost use Rattle.edd_loader.specs.Lookups.{IsFirstNamed, type_of_kind};
 ghost use Rattle.edd_image.specs.Fields.{counts_in};
 ghost use Rattle.edd_image.specs.Validity.{BreaksFirst, IsValid};

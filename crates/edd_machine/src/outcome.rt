@@ -7,8 +7,8 @@ ghost use Rattle.edd_image.specs.declared.instruction.Instruction.TheVariants as
 ghost use Rattle.edd_image.specs.declared.unit.Sort.{Sort};
 ghost use Rattle.edd_image.specs.Contents.{contents_in};
 ghost use Rattle.edd_image.specs.Fields.{counts_in};
-ghost use Rattle.edd_image.specs.Reading.{environment_of};
-ghost use Rattle.edd_image.specs.Steps.{Fits, element_value, width_of};
+ghost use Rattle.edd_image.specs.Steps.{Fits, width_of};
+ghost use Rattle.edd_syntax.specs.Elements.{element_value};
 ghost use Rattle.edd_image.specs.Units.{takes, leaves};
 ghost use Rattle.edd_machine.specs.Outcomes.{IsShared, Performs, PerformsWith};
 
@@ -223,7 +223,7 @@ fn element_value(
     number: i64,
 ) -> Result<i64, Trap>
     requires { length values.now ≡ (counts_in image.now).variables }
-    ensures { result ≡ element_value (environment_of (contents_in image.now)) (width_of sort)
+    ensures { result ≡ element_value (contents_in image.now).elements (width_of sort)
         values.now array number }
 {
     match image.element(array, number) {
