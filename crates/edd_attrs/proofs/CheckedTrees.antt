@@ -1,6 +1,6 @@
 -- What the tree of a row of a checked description keeps.
-use Rattle.std.proofs.Common.{◌≡◌, refl, sym, ap, subst, ◌∙◌, ℕ, Bool, true, false, List, [], ◌∷◌, ◌++◌, length, map, filter, Option, Some, None, cond, arith}
-use Rattle.std.specs.Prelude.{◌&&◌, nat_lt}
+use Rattle.std.proofs.Common.{◌≡◌, refl, sym, ap, subst, ◌∙◌, ℕ, suc, ◌≤◌, Bool, true, false, List, [], ◌∷◌, ◌++◌, length, map, filter, Option, Some, None, cond, arith}
+use Rattle.std.specs.Prelude.{◌&&◌, nat_lt, if◌then◌else◌}
 use Rattle.std.specs.List.{list_all, flat_map}
 use Rattle.std.proofs.Math.Logic.{∥∥₁_elim}
 use Rattle.std.proofs.Math.Bool.{Bool-set}
@@ -18,9 +18,9 @@ use Rattle.edd_syntax.specs.declared.reference.Target.TheVariants as target
 use Rattle.edd_syntax.specs.Item as item
 use Rattle.edd_syntax.specs.Item.{kind_of_item, DataItem, TypePart, TransactionPart, Attribute, Item, Description}
 use Rattle.edd_syntax.specs.Numbers.{same_kind}
-use Rattle.edd_syntax.specs.Resolution.{count_of, variable_kinds, is_among}
+use Rattle.edd_syntax.specs.Resolution.{count_of}
 use Rattle.edd_syntax.specs.Refusal.{Refusal, ConstRange, refused_if}
-use Rattle.edd_syntax.specs.SubsetRules.{values_of, cond_defaults, conds_defaults, type_part_defaults, transaction_part_defaults, repeated_cases, duplicate_cases, data_breaches, transaction_part_breaches, attribute_data_breaches, wrong_types, mismatches, float_values, wrong_breaks, wrong_constants}
+use Rattle.edd_syntax.specs.SubsetRules.{values_of, cond_defaults, conds_defaults, type_part_defaults, transaction_part_defaults, repeated_cases, duplicate_cases, duplicate_elements, data_breaches, transaction_part_breaches, attribute_data_breaches, wrong_types, mismatches, float_values, wrong_breaks, wrong_constants}
 use Rattle.edd_syntax.specs.WellFormed.{is_path, is_plain, is_item, are_items}
 use Rattle.edd_syntax.specs.ResolvedTrees.{each, resolved_attribute, resolved_item, resolved_unit}
 use Rattle.edd_syntax.specs.Resolved.{IsChecked}
@@ -31,9 +31,11 @@ use Rattle.edd_attrs.specs.Records.{kept_data}
 use Rattle.edd_attrs.proofs.InTrees.{if_there, all_append, named, throughout, throughout_item, tree_has}
 use Rattle.edd_image.specs.declared.parts.Counts.{Counts}
 use Rattle.edd_code.specs.Reads.{reads_existing}
-use Rattle.edd_attrs.proofs.GoodTrees.{bind_some, each_all, is_good, item_good}
-use Rattle.edd_code.proofs.Existing.{is_item_of}
-use Rattle.edd_code.proofs.BothTests.{both_of}
+use Rattle.edd_attrs.proofs.GoodParts.{each_all, all_both, is_good}
+use Rattle.edd_attrs.proofs.GoodTrees.{has_arrays, item_good}
+use Rattle.edd_syntax.proofs.Made.{bind_some}
+use Rattle.edd_syntax.proofs.Existing.{is_item_of}
+use Rattle.edd_code.proofs.BothTests.{both_of, both_true}
 
 pub front_none : {A : Type 0} (xs ys : List A) → xs ++ ys ≡ [] → (xs ≡ []) × (ys ≡ [])
 front_none [] ys h = (refl, h)
@@ -96,6 +98,7 @@ is_ruled (trees.Data all) = list_all kept_data (values_of all) && no_breach (con
 is_ruled (trees.ResponseCodes responses) = true
 is_ruled (trees.Items entries) = no_breach (conds_defaults entries)
 is_ruled (trees.Members members) = true
+is_ruled (trees.Elements all) = true
 
 part_ruled : (p : TransactionPart Target) → transaction_part_breaches p ≡ []
     → transaction_part_defaults p ≡ [] → named is_ruled (tree_of_transaction_part p) ≡ true
@@ -155,6 +158,7 @@ attribute_ruled (item.Transaction number parts) h k = parts_ruled parts h k
 attribute_ruled (item.ResponseCodes responses) h k = refl
 attribute_ruled (item.Items entries) h k = alone (none_is (conds_defaults entries) k)
 attribute_ruled (item.Members members) h k = refl
+attribute_ruled (item.Elements elements) h k = refl
 attribute_ruled (item.Definition body) h k = refl
 
 attributes_ruled : (attributes : List (Attribute Target))
@@ -232,17 +236,38 @@ abbrev pub reads_of : (Kind → ℕ) → Target → Bool
 reads_of count t = reads_existing (counts_with count) t
 
 item_readable : (count : Kind → ℕ) (i : ItemNo) → is_item_of count i ≡ true
-    → is_among variable_kinds i ≡ true → reads_of count (target.Item i) ≡ true
-item_readable count (item_no.Variable v) h k = h
-item_readable count (item_no.Command n) h k = refl
-item_readable count (item_no.Menu n) h k = refl
-item_readable count (item_no.Collection n) h k = refl
-item_readable count (item_no.Method n) h k = refl
-item_readable count (item_no.Array n) h k = refl
+    → reads_of count (target.Item i) ≡ true
+item_readable count (item_no.Variable v) h = h
+item_readable count (item_no.Command n) h = refl
+item_readable count (item_no.Menu n) h = refl
+item_readable count (item_no.Collection n) h = refl
+item_readable count (item_no.Method n) h = refl
+item_readable count (item_no.Array n) h = h
 
 abbrev pub is_whole : Description Target → Tree → Bool
 is_whole d t = is_good (λ k. count_of k d.items) (reads_of (λ k. count_of k d.items)) t
     && is_ruled t
+
+-- an array is among so many
+abbrev are_counted : ℕ → List (Item Path) → Bool
+are_counted n xs = list_all
+    (λ i. if same_kind (kind_of_item i.sort) kind.Array then nat_lt 0 n else true) xs
+
+-- where there is an array, there are some
+all_counted : (xs : List (Item Path)) (n : ℕ) → count_of kind.Array xs ≤ n → are_counted n xs
+    ≡ true
+all_counted [] n h = refl
+all_counted (x ∷ xs) n h =
+    here (same_kind (kind_of_item x.sort) kind.Array) refl (λ k. all_counted xs n k)
+  where
+    here : (b : Bool) → same_kind (kind_of_item x.sort) kind.Array ≡ b
+        → (count_of kind.Array xs ≤ n → are_counted n xs ≡ true) → are_counted n (x ∷ xs) ≡ true
+    here true is rest =
+        let more : count_of kind.Array (x ∷ xs) ≡ suc (count_of kind.Array xs) = rw is refl in
+        rw is (both_true (lt-ltb 0 n (omega (arith, h, more))) (rest (omega (arith, h, more))))
+    here false is rest =
+        let same : count_of kind.Array (x ∷ xs) ≡ count_of kind.Array xs = rw is refl in
+        rw is (rest (omega (arith, h, same)))
 
 both_there : {A : Type 0} (p q : A → Bool) (o : Option A) → if_there p o ≡ true
     → if_there q o ≡ true → if_there (λ x. p x && q x) o ≡ true
@@ -263,10 +288,13 @@ module _ (d : Description Target) (row : AttrRef) where
       let same_items : x.0 ≡ d.items = ap (λ (e : Description Target). e.items)
       (same_Some (record { identification = u.identification; items = x.0 }) d x.2) in
       let good : list_all (throughout_item (good_with (λ k. count_of k u.items))) x.0 ≡ true =
-      each_all (resolved_item u) (is_item is_path is_plain)
+      each_all (resolved_item u) (λ i. is_item is_path is_plain i
+      && has_arrays (λ k. count_of k u.items) i.sort)
       (throughout_item (good_with (λ k. count_of k u.items)))
       (item_good u (reads_of (λ k. count_of k u.items)) (item_readable (λ k. count_of k u.items)))
-      u.items x.0 checked.is_resolved.well_formed x.1 in
+      u.items x.0 (all_both (is_item is_path is_plain)
+      (λ i. has_arrays (λ k. count_of k u.items) i.sort) u.items checked.is_resolved.well_formed
+      (all_counted u.items (count_of kind.Array u.items) (omega arith))) x.1 in
       let counts : (λ k. count_of k u.items) ≡ (λ k. count_of k d.items) =
       fun_ext (λ k. sym (count_kept u d.items (x.1 ∙ ap Some same_items) k)) in
       let good_here : list_all (throughout_item (good_with (λ k. count_of k d.items))) d.items
@@ -279,10 +307,11 @@ module _ (d : Description Target) (row : AttrRef) where
       (front_none (float_values d) _
       (front_none (mismatches d) _ (front_none (wrong_types d) _ checked.no_breach).1).1).1).1
       in
-      let none = front_none (wrong_constants d) (duplicate_cases d) last in
+      let none = front_none (wrong_constants d) (duplicate_cases d ++ duplicate_elements d) last in
+      let cases = front_none (duplicate_cases d) (duplicate_elements d) none.1 in
       both_there (good_with (λ k. count_of k d.items)) is_ruled (tree_at d row)
       (tree_has (good_with (λ k. count_of k d.items)) d row good_here)
-      (tree_has is_ruled d row (items_ruled d.items none.0 none.1))
+      (tree_has is_ruled d row (items_ruled d.items none.0 cases.0))
 
   pub whole_when_checked : ∥ IsChecked d ∥₁ → if_there (is_whole d) (tree_at d row) ≡ true
   whole_when_checked checked = ∥∥₁_elim checked (Bool-set _ _) whole_in

@@ -1,6 +1,6 @@
 -- The values of conditionals, and the elements of a type's list.
 use Rattle.std.proofs.Common.{◌≡◌, refl, sym, ap, ◌∙◌, ℕ, ◌≤◌, Bool, true, List, [], ◌∷◌, ◌++◌, map, sum, Option, Some, None, arith}
-use Rattle.std.specs.Prelude.{◌&&◌, max, option_map}
+use Rattle.std.specs.Prelude.{◌&&◌, max, nat_lt, option_map}
 use Rattle.std.specs.List.{list_all, flat_map}
 use Rattle.std.specs.Option.{option_to_list}
 use Rattle.std.proofs.lemmas.Bool.{leb-true}
@@ -10,6 +10,7 @@ use Rattle.std.proofs.lemmas.List.Sums.{sum_by-cons}
 use Rattle.edd_syntax.specs.declared.numbers.ItemNo.{ItemNo}
 use Rattle.edd_syntax.specs.declared.numbers.ItemNo.TheVariants as item_no
 use Rattle.edd_syntax.specs.declared.numbers.Kind.{Kind}
+use Rattle.edd_syntax.specs.declared.numbers.Kind.TheVariants as kind
 use Rattle.edd_syntax.specs.declared.reference.Target.{Target}
 use Rattle.edd_syntax.specs.Item as item
 use Rattle.edd_syntax.specs.Item.{DataItem, MenuEntry, TypePart, Description}
@@ -18,19 +19,20 @@ use Rattle.edd_syntax.specs.Text.{Text, Name}
 use Rattle.edd_syntax.specs.Words.{words_of, name_words}
 use Rattle.edd_syntax.specs.Device.{Environment}
 use Rattle.edd_syntax.specs.Attributes as source
-use Rattle.edd_syntax.specs.Attributes.{enumerator, data_item, response, entry, member, item_of, variable_of}
+use Rattle.edd_syntax.specs.Targets.{item_of, variable_of}
+use Rattle.edd_syntax.specs.Attributes.{enumerator, data_item, response, entry, member, element}
 use Rattle.edd_syntax.specs.Resolution.{count_of}
 use Rattle.edd_syntax.specs.Refusal.{Refusal}
 use Rattle.edd_syntax.specs.SubsetRules.{values_in, values_of, values_under, cond_defaults, conds_defaults}
-use Rattle.edd_syntax.specs.Strings.{strings_of_texts, optional_text, enumerator_texts, entry_texts, member_strings}
+use Rattle.edd_syntax.specs.Strings.{strings_of_texts, optional_text, enumerator_texts, entry_texts, array_element_texts, member_strings}
 use Rattle.edd_syntax.specs.Size.{leaf, cond_height, conds_height, conds_nodes}
 use Rattle.edd_syntax.specs.WellFormed.{is_label, is_pure_expr, is_cond, are_conds, are_arms}
 use Rattle.edd_image.specs.References.{item_exists}
-use Rattle.edd_attrs.specs.Records.{text_record, class_record, is_fine, counts_in, strings_of_record, strings_of, kept_enumerator, kept_data, kept_entry, kept_response, kept_member}
+use Rattle.edd_attrs.specs.Records.{text_record, class_record, is_listed, is_fine, counts_in, strings_of_record, strings_of, kept_enumerator, kept_data, kept_entry, kept_response, kept_member, kept_array_element}
 use Rattle.edd_attrs.specs.Sizes.{element_texts, element_nodes}
 use Rattle.edd_attrs.specs.TreeBlocks.{elements}
-use Rattle.edd_code.proofs.Existing.{is_item_of}
-use Rattle.edd_attrs.proofs.GoodTrees.{is_low, good_cond, good_enumerator, good_element, good_response, good_data, good_entry, good_member, is_small}
+use Rattle.edd_syntax.proofs.Existing.{is_item_of}
+use Rattle.edd_attrs.proofs.GoodParts.{is_low, good_cond, good_enumerator, good_element, good_response, good_data, good_entry, good_member, good_array_element, is_small}
 use Rattle.edd_attrs.proofs.CheckedTrees.{no_breach, none_broken, ruled_element}
 use Rattle.edd_code.proofs.BothTests.{both_of, both_true}
 
@@ -261,6 +263,11 @@ module _ (unit : Description Target) (reads : Target → Bool) where
   item_there (item_no.Method n) h = h
   item_there (item_no.Array n) h = h
 
+  listed_there : (i : ItemNo) → (is_listed i && is_item_of count i) ≡ true
+      → (is_listed i && item_exists (counts_in unit) i) ≡ true
+  listed_there i h = let parts = both_of (is_listed i) (is_item_of count i) h in
+      both_true parts.0 (item_there i parts.1)
+
   pub enumerator_fine : (e : item.Enumerator) → good_enumerator e ≡ true
       → is_fine unit (enumerator e) ≡ true
   enumerator_fine e h = (both_of _ (kept_enumerator e) h).0
@@ -271,13 +278,20 @@ module _ (unit : Description Target) (reads : Target → Bool) where
 
   pub member_fine : (m : item.Member Target) → good_member count reads m ≡ true
       → is_fine unit (member m) ≡ true
-  member_fine m h = item_there (item_of m.item)
-      (both_of (is_item_of count (item_of m.item)) (kept_member m) h).0
+  member_fine m h = listed_there (item_of m.item)
+      (both_of (is_listed (item_of m.item) && is_item_of count (item_of m.item)) (kept_member m) h).0
+
+  pub array_element_fine : (e : item.ArrayElement Target) → good_array_element count reads e ≡ true
+      → is_fine unit (element e) ≡ true
+  array_element_fine e h =
+      (both_of ((is_small e.number
+      && is_item_of count (item_no.Variable (variable_of e.variable)))
+      && nat_lt 0 (count kind.Array)) (kept_array_element e) h).0
 
   pub entry_fine : (e : MenuEntry Target) → good_entry count reads e ≡ true → is_fine unit (entry e)
       ≡ true
   entry_fine (item.Text text) h = refl
-  entry_fine (item.Reference to qualifiers) h = item_there (item_of to) h
+  entry_fine (item.Reference to qualifiers) h = listed_there (item_of to) h
 
   pub data_fine : (d : DataItem Target) → (good_data count reads d && kept_data d) ≡ true
       → is_fine unit (data_item d) ≡ true
@@ -325,6 +339,16 @@ members_strings (m ∷ ms) =
     ∙ ap (λ ws. strings_of_texts (optional_text m.label) ++ ws) (optional_same m.help)
     ∙ sym (map-append words_of (optional_text m.label) (optional_text m.help))))
     ∙ ap (λ ws. member_strings m ++ ws) (members_strings ms)
+
+pub array_elements_strings : (es : List (item.ArrayElement Target))
+    → strings_of (map element es) ≡ strings_of_texts (flat_map array_element_texts es)
+array_elements_strings es = strings_by element array_element_texts told es
+  where
+    told : (e : item.ArrayElement Target) → strings_of_record (element e)
+        ≡ strings_of_texts (array_element_texts e)
+    told e = ap (λ ws. ws ++ option_to_list (option_map words_of e.help)) (optional_same e.label)
+        ∙ ap (λ ws. strings_of_texts (optional_text e.label) ++ ws) (optional_same e.help)
+        ∙ sym (map-append words_of (optional_text e.label) (optional_text e.help))
 
 pub classes_strings : (names : List Name) → strings_of (map class_record names)
     ≡ map name_words names

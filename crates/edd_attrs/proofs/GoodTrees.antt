@@ -1,152 +1,36 @@
 -- What the trees of a resolved description keep of those of its unit: texts and numbers of tokens,
 -- items that exist, variables that are read, and the limit on heights.
-use Rattle.std.proofs.Common.{◌≡◌, refl, ap, subst, ◌∙◌, ℕ, arith, ◌^◌, Bool, true, false, List, [], ◌∷◌, map, Option, Some, None}
-use Rattle.std.specs.Prelude.{◌&&◌, max, nat_lt, nat_le}
+use Rattle.std.proofs.Common.{◌≡◌, refl, ap, ◌∙◌, ℕ, Bool, true, false, List, [], ◌∷◌, map, Option, Some, None}
+use Rattle.std.specs.Prelude.{◌&&◌, nat_lt, if◌then◌else◌}
 use Rattle.std.specs.List.{list_all}
-use Rattle.std.proofs.lemmas.Option.{none-some, same_Some}
-use Rattle.std.proofs.lemmas.Bool.{le-leb, leb-true}
-use Rattle.std.proofs.Math.Nat.{le-max_left, le-max_right}
 use Rattle.edd_syntax.specs.declared.numbers.Kind.{Kind}
+use Rattle.edd_syntax.specs.declared.numbers.Kind.TheVariants as kind
 use Rattle.edd_syntax.specs.declared.numbers.ItemNo.{ItemNo}
 use Rattle.edd_syntax.specs.declared.numbers.ItemNo.TheVariants as item_no
+use Rattle.edd_syntax.specs.Names.{is_name}
+use Rattle.edd_syntax.specs.Numbers.{same_kind, has_attr}
+use Rattle.edd_syntax.specs.declared.numbers.Attr.TheVariants as attr
 use Rattle.edd_syntax.specs.Reference.{Path}
 use Rattle.edd_syntax.specs.declared.reference.Target.{Target}
 use Rattle.edd_syntax.specs.declared.reference.Target.TheVariants as target
 use Rattle.edd_syntax.specs.Expression.{Expr}
 use Rattle.edd_syntax.specs.Conditional.{Cond, Conds}
-use Rattle.edd_syntax.specs.Size.{leaf, height, cond_height, conds_height, greatest_of, type_part_height, transaction_part_height, attribute_height}
+use Rattle.edd_syntax.specs.Size.{leaf, height, cond_height, conds_height, type_part_height, transaction_part_height, attribute_height}
 use Rattle.edd_syntax.specs.Item as item
-use Rattle.edd_syntax.specs.Item.{ItemKind, kind_of_item, DataItem, MenuEntry, TypePart, TransactionPart, Attribute, Item, Description}
-use Rattle.edd_syntax.specs.Attributes.{item_of, variable_of}
-use Rattle.edd_syntax.specs.Resolution.{count_of, variable_kinds, entry_kinds, member_kinds, is_among}
-use Rattle.edd_syntax.specs.WellFormed.{is_pure_expr, is_text, if_some, is_path, is_plain, is_cond, are_conds, is_single, is_type_part, is_type, is_attribute, is_enumerator, is_entry, is_data_item, is_response_code, is_member, is_transaction_part, belongs_to, stands_in, is_item}
-use Rattle.edd_syntax.specs.ResolvedTrees.{◌>>=◌, each, unchanged, resolved_expr, resolved_cond, resolved_conds, resolved_body, item_among, at_attribute, resolved_entry, resolved_data, resolved_member, resolved_type_part, resolved_transaction_part, resolved_attribute, resolved_item}
+use Rattle.edd_syntax.specs.Item.{ItemKind, VariableItem, CommandItem, MenuItem, CollectionItem, MethodItem, ArrayItem, kind_of_item, DataItem, MenuEntry, TypePart, TransactionPart, Attribute, Item, Description}
+use Rattle.edd_syntax.specs.Targets.{item_of, variable_of}
+use Rattle.edd_syntax.specs.Resolution.{count_of, variable_kinds, entry_kinds, array_kinds, member_kinds, is_among}
+use Rattle.edd_syntax.specs.WellFormed.{is_pure_expr, is_text, if_some, is_path, is_plain, is_cond, are_conds, is_single, is_type_part, is_type, is_attribute, is_enumerator, is_entry, is_data_item, is_response_code, is_member, is_array_element, may_list, is_transaction_part, belongs_to, stands_in, is_item}
+use Rattle.edd_syntax.specs.ResolvedTrees.{Meanings, each, unchanged, resolved_expr, resolved_cond, resolved_conds, resolved_body, item_among, at_attribute, resolved_entry, resolved_data, resolved_member, resolved_element, resolved_type_part, resolved_transaction_part, resolved_attribute, resolved_item}
 use Rattle.edd_image.specs.Agreement.{mask_number}
-use Rattle.edd_attrs.specs.Trees as trees
-use Rattle.edd_attrs.specs.Trees.{Tree, Named, trees_of_part, trees_of_parts, trees_of_attribute, tree_of_transaction_part}
-use Rattle.edd_attrs.specs.Records.{is_label, kept_enumerator, kept_response, kept_member}
-use Rattle.edd_code.proofs.Existing.{is_item_of, meant_exists}
+use Rattle.edd_attrs.specs.Trees.{trees_of_part, trees_of_parts, tree_of_transaction_part}
+use Rattle.edd_attrs.specs.Records.{is_label, is_listed}
+use Rattle.edd_syntax.proofs.Made.{bind_some}
+use Rattle.edd_syntax.proofs.Existing.{is_item_of, item_meant_exists, meant_exists}
 use Rattle.edd_attrs.proofs.KeptConditions.{expr_pure, expr_height, cond_tested, conds_tested, same_height, same_heights, stays_single}
 use Rattle.edd_attrs.proofs.InTrees.{all_append, named, throughout, throughout_item}
 use Rattle.edd_code.proofs.BothTests.{both_of, both_true}
-
--- ---- steps that may fail
-
-pub bind_some : {A B : Type 0} (o : Option A) (f : A → Option B) (z : B) → (o >>= f) ≡ Some z
-    → (x : A) × (o ≡ Some x) × (f x ≡ Some z)
-bind_some None f z h = absurd (none-some z h)
-bind_some (Some x) f z h = (x, refl, h)
-
--- what holds of a value holds of the one that it is
-pub along_some : {A : Type 0} (P : A → Bool) (x y : A) → Some x ≡ Some y → P x ≡ true → P y ≡ true
-along_some P x y e h = subst (λ z. P z ≡ true) (same_Some x y e) h
-
-pub each_all : {A B : Type 0} (of : A → Option B) (p : A → Bool) (q : B → Bool)
-    → ((x : A) (y : B) → p x ≡ true → of x ≡ Some y → q y ≡ true)
-    → (xs : List A) (ys : List B) → list_all p xs ≡ true → each of xs ≡ Some ys
-    → list_all q ys ≡ true
-each_all of p q keeps [] ys all h = along_some (list_all q) [] ys h refl
-each_all of p q keeps (x ∷ xs) ys all h =
-    let parts = both_of (p x) (list_all p xs) all in
-    let first = bind_some (of x) (λ y. each of xs >>= λ others. Some (y ∷ others)) ys h in
-    let rest = bind_some (each of xs) (λ others. Some (first.0 ∷ others)) ys first.2 in
-    along_some (list_all q) (first.0 ∷ rest.0) ys rest.2
-    (rw (keeps x first.0 parts.0 first.1, each_all of p q keeps xs rest.0 parts.1 rest.1) refl)
-
--- ---- lists of tests
-
-pub all_good : {A : Type 0} (p q : A → Bool) → ((x : A) → p x ≡ true → q x ≡ true) → (xs : List A)
-    → list_all p xs ≡ true → list_all q xs ≡ true
-all_good p q keeps [] h = refl
-all_good p q keeps (x ∷ xs) h = let parts = both_of (p x) (list_all p xs) h in both_true
-    (keeps x parts.0) (all_good p q keeps xs parts.1)
-
-pub all_both : {A : Type 0} (p q : A → Bool) (xs : List A) → list_all p xs ≡ true
-    → list_all q xs ≡ true → list_all (λ x. p x && q x) xs ≡ true
-all_both p q [] h k = refl
-all_both p q (x ∷ xs) h k =
-    let ps = both_of (p x) (list_all p xs) h in
-    let qs = both_of (q x) (list_all q xs) k in
-    both_true (both_true ps.0 qs.0) (all_both p q xs ps.1 qs.1)
-
-abbrev pub is_low : ℕ → Bool
-is_low n = nat_le n 100
-
-low_left : (m n : ℕ) → is_low (max m n) ≡ true → is_low m ≡ true
-low_left m n h = le-leb m 100 (omega (arith, le-max_left m n, leb-true (max m n) 100 h))
-
-low_right : (m n : ℕ) → is_low (max m n) ≡ true → is_low n ≡ true
-low_right m n h = le-leb n 100 (omega (arith, le-max_right m n, leb-true (max m n) 100 h))
-
-all_low : {A : Type 0} (f : A → ℕ) (xs : List A) → is_low (greatest_of (map f xs)) ≡ true
-    → list_all (λ x. is_low (f x)) xs ≡ true
-all_low f [] h = refl
-all_low f (x ∷ xs) h = both_true (low_left (f x) (greatest_of (map f xs)) h)
-    (all_low f xs (low_right (f x) (greatest_of (map f xs)) h))
-
--- ---- what is kept
-
-abbrev pub is_small : ℕ → Bool
-is_small n = nat_lt n (2 ^ 32)
-
-abbrev pub good_enumerator : item.Enumerator → Bool
-good_enumerator e = is_label e.value && kept_enumerator e
-
-abbrev pub good_response : item.ResponseCode → Bool
-good_response r = is_small r.number && kept_response r
-
-abbrev pub any_value : {V : Type 0} → V → Bool
-any_value v = true
-
--- a conditional, and a list of them, whose values pass a test, in which expressions are pure and
--- what they read passes one
-module _ (reads : Target → Bool) {V : Type 0} (p : V → Bool) (f : V → ℕ) where
-  abbrev pub good_cond : Cond Target V → Bool
-  good_cond c = is_cond reads reads p c && is_low (cond_height f c)
-
-  abbrev pub good_conds : Conds Target V → Bool
-  good_conds all = are_conds reads reads p all && is_low (conds_height f all)
-
--- `count` says how many items of a kind there are, and `reads` what may be read
-module _ (count : Kind → ℕ) (reads : Target → Bool) where
-  abbrev pub good_data : DataItem Target → Bool
-  good_data (item.Constant n) = true
-  good_data (item.Variable variable mask qualifiers) =
-      is_item_of count (item_no.Variable (variable_of variable)) && is_small (mask_number mask)
-
-  abbrev pub good_entry : MenuEntry Target → Bool
-  good_entry (item.Text text) = is_text text
-  good_entry (item.Reference to qualifiers) = is_item_of count (item_of to)
-
-  abbrev pub good_member : item.Member Target → Bool
-  good_member m = is_item_of count (item_of m.item) && kept_member m
-
-  abbrev pub good_expression : Expr Target → Bool
-  good_expression e = is_pure_expr reads reads e
-
-  abbrev pub good_element : TypePart Target → Bool
-  good_element (item.DefaultValue c) = true
-  good_element (item.MinValue c) = true
-  good_element (item.MaxValue c) = true
-  good_element (item.DisplayFormat c) = true
-  good_element (item.EditFormat c) = true
-  good_element (item.Element c) = good_cond reads good_enumerator leaf c
-
-  abbrev pub is_good : Tree → Bool
-  is_good (trees.Texts c) = good_cond reads is_text leaf c
-  is_good (trees.Class names) = true
-  is_good (trees.Handling c) = good_cond reads any_value leaf c
-  is_good (trees.Validity c) = good_cond reads any_value leaf c
-  is_good (trees.Expressions c) = good_cond reads good_expression height c
-      && is_single reads reads c
-  is_good (trees.Enumerators parts) = list_all good_element parts
-  is_good (trees.Number n) = is_small n
-  is_good (trees.Operation o) = true
-  is_good (trees.Transaction number) = if_some is_small number
-  is_good (trees.Data all) = good_conds reads good_data leaf all
-  is_good (trees.ResponseCodes responses) = list_all good_response responses
-  is_good (trees.Items entries) = good_conds reads good_entry leaf entries
-  is_good (trees.Members members) = list_all good_member members
+use Rattle.edd_attrs.proofs.GoodParts.{along_some, each_all, all_good, all_both, is_low, all_low, is_small, good_enumerator, good_response, any_value, good_cond, good_conds, good_data, good_entry, good_member, good_array_element, good_expression, good_element, is_good}
 
 -- ---- of a unit
 
@@ -162,6 +46,53 @@ kind_variable (item_no.Collection n) h = absurd cc
 kind_variable (item_no.Method n) h = absurd cc
 kind_variable (item_no.Array n) h = absurd cc
 
+entry_listed : (i : ItemNo) → is_among entry_kinds i ≡ true → is_listed i ≡ true
+entry_listed (item_no.Variable v) h = refl
+entry_listed (item_no.Command n) h = refl
+entry_listed (item_no.Menu n) h = refl
+entry_listed (item_no.Collection n) h = refl
+entry_listed (item_no.Method n) h = refl
+entry_listed (item_no.Array n) h = absurd cc
+
+-- no member is an array
+collected_listed : (of : Kind) → may_list (CollectionItem of) ≡ true → (i : ItemNo)
+    → is_among (of ∷ []) i ≡ true → is_listed i ≡ true
+collected_listed of may (item_no.Variable v) h = refl
+collected_listed of may (item_no.Command n) h = refl
+collected_listed of may (item_no.Menu n) h = refl
+collected_listed of may (item_no.Collection n) h = refl
+collected_listed of may (item_no.Method n) h = refl
+collected_listed kind.Variable may (item_no.Array n) h = absurd cc
+collected_listed kind.Command may (item_no.Array n) h = absurd cc
+collected_listed kind.Menu may (item_no.Array n) h = absurd cc
+collected_listed kind.Collection may (item_no.Array n) h = absurd cc
+collected_listed kind.Method may (item_no.Array n) h = absurd cc
+collected_listed kind.Array may (item_no.Array n) h = absurd cc
+
+-- an array is one of the arrays that there are
+abbrev pub has_arrays : (Kind → ℕ) → ItemKind → Bool
+has_arrays count sort = if same_kind (kind_of_item sort) kind.Array then nat_lt 0 (count kind.Array)
+    else true
+
+counted : (count : Kind → ℕ) (sort : ItemKind)
+    → has_attr (kind_of_item sort) attr.Elements ≡ true → has_arrays count sort ≡ true
+    → nat_lt 0 (count kind.Array) ≡ true
+counted count VariableItem belongs some = absurd cc
+counted count CommandItem belongs some = absurd cc
+counted count MenuItem belongs some = absurd cc
+counted count (CollectionItem of) belongs some = absurd cc
+counted count MethodItem belongs some = absurd cc
+counted count ArrayItem belongs some = some
+
+members_listed : (sort : ItemKind) → may_list sort ≡ true → (i : ItemNo)
+    → is_among (member_kinds sort) i ≡ true → is_listed i ≡ true
+members_listed VariableItem may i h = absurd cc
+members_listed CommandItem may i h = absurd cc
+members_listed MenuItem may i h = absurd cc
+members_listed (CollectionItem of) may i h = collected_listed of may i h
+members_listed MethodItem may i h = absurd cc
+members_listed ArrayItem may i h = absurd cc
+
 mask_small : (mask : Option ℕ) → if_some is_small mask ≡ true → is_small (mask_number mask) ≡ true
 mask_small None h = refl
 mask_small (Some m) h = h
@@ -173,18 +104,22 @@ enumerator_good e h =
     let told = both_of (is_label e.value) (is_text e.text) helped.0 in
     both_true told.0 (both_true told.1 helped.1)
 
--- what may be read is an item of the unit that is a variable
+-- what may be read is an item of the unit
 module _ (unit : Description Path) (reads : Target → Bool)
     (readable : (i : ItemNo) → is_item_of (λ k. count_of k unit.items) i ≡ true
-    → is_among variable_kinds i ≡ true → reads (target.Item i) ≡ true) where
+    → reads (target.Item i) ≡ true) where
   abbrev count : Kind → ℕ
   count k = count_of k unit.items
 
-  abbrev at : Path → Option Target
+  abbrev at : Meanings
   at = at_attribute unit
 
-  kept : (p : Path) (t : Target) → at p ≡ Some t → reads t ≡ true
-  kept p t e = let i = meant_exists unit variable_kinds p t e in ap reads i.1 ∙ readable i.0 i.2 i.3
+  kept : (p : Path) (t : Target) → at.reference p ≡ Some t → reads t ≡ true
+  kept p t e = let i = meant_exists unit variable_kinds p t e in ap reads i.1 ∙ readable i.0 i.2
+
+  kept_array : (p : Path) (t : Target) → at.array p ≡ Some t → reads t ≡ true
+  kept_array p t e = let i = item_meant_exists unit array_kinds p t e in ap reads i.1
+      ∙ readable i.0 i.2
 
   -- conditionals whose values keep a test and their height
   module _ {V W : Type 0} (of : V → Option W) (p : V → Bool) (q : W → Bool) (f : V → ℕ) (g : W → ℕ)
@@ -193,14 +128,14 @@ module _ (unit : Description Path) (reads : Target → Bool)
     cond_good : (c : Cond Path V) (d : Cond Target W) → is_cond is_path is_plain p c ≡ true
         → is_low (cond_height f c) ≡ true → resolved_cond at of c ≡ Some d → good_cond reads q g d
         ≡ true
-    cond_good c d h l e = both_true (cond_tested at reads kept of p q keeps c d h e)
-        (ap is_low (same_height at reads kept of p q keeps f g same c d h e) ∙ l)
+    cond_good c d h l e = both_true (cond_tested at reads kept kept_array of p q keeps c d h e)
+        (ap is_low (same_height at reads kept kept_array of p q keeps f g same c d h e) ∙ l)
 
     conds_good : (c : Conds Path V) (d : Conds Target W) → are_conds is_path is_plain p c ≡ true
         → is_low (conds_height f c) ≡ true → resolved_conds at of c ≡ Some d
         → good_conds reads q g d ≡ true
-    conds_good c d h l e = both_true (conds_tested at reads kept of p q keeps c d h e)
-        (ap is_low (same_heights at reads kept of p q keeps f g same c d h e) ∙ l)
+    conds_good c d h l e = both_true (conds_tested at reads kept kept_array of p q keeps c d h e)
+        (ap is_low (same_heights at reads kept kept_array of p q keeps f g same c d h e) ∙ l)
 
   one_good : {V : Type 0} (p : V → Bool) (c : Cond Path V) (d : Cond Target V)
       → (is_cond is_path is_plain p c && is_single is_path is_plain c) ≡ true
@@ -219,8 +154,8 @@ module _ (unit : Description Path) (reads : Target → Bool)
       let parts = both_of (is_cond is_path is_plain (is_pure_expr is_path is_plain) c)
       (is_single is_path is_plain c) h in
       both_true (cond_good (resolved_expr at) (is_pure_expr is_path is_plain)
-      (good_expression count reads) height height (expr_pure at reads kept)
-      (expr_height at reads kept) c d parts.0 l e)
+      (good_expression count reads) height height (expr_pure at reads kept kept_array)
+      (expr_height at reads kept kept_array) c d parts.0 l e)
       (stays_single at reads (resolved_expr at) c d parts.1 e)
 
   entry_good : (e : MenuEntry Path) (f : MenuEntry Target) → is_entry is_path is_plain e ≡ true
@@ -231,13 +166,14 @@ module _ (unit : Description Path) (reads : Target → Bool)
       (λ to'. Some (item.Reference to' qualifiers)) f e in
       let i = meant_exists unit entry_kinds to x.0 x.1 in
       along_some (good_entry count reads) (item.Reference x.0 qualifiers) f x.2
-      (ap (λ t. is_item_of count (item_of t)) i.1 ∙ i.2)
+      (both_true (ap (λ t. is_listed (item_of t)) i.1 ∙ entry_listed i.0 i.3)
+      (ap (λ t. is_item_of count (item_of t)) i.1 ∙ i.2))
 
   data_good : (d : DataItem Path) (f : DataItem Target) → is_data_item is_path is_plain d ≡ true
       → resolved_data unit d ≡ Some f → good_data count reads f ≡ true
   data_good (item.Constant n) f h e = along_some (good_data count reads) (item.Constant n) f e refl
   data_good (item.Variable variable mask qualifiers) f h e =
-      let x = bind_some (at variable) (λ variable'. Some (item.Variable variable' mask qualifiers))
+      let x = bind_some (item_among unit variable_kinds variable) (λ variable'. Some (item.Variable variable' mask qualifiers))
       f e in
       let i = meant_exists unit variable_kinds variable x.0 x.1 in
       along_some (good_data count reads) (item.Variable x.0 mask qualifiers) f x.2
@@ -245,10 +181,11 @@ module _ (unit : Description Path) (reads : Target → Bool)
       ∙ ap (is_item_of count) (kind_variable i.0 i.3) ∙ i.2)
       (mask_small mask (both_of (is_path variable) (if_some is_small mask) h).1))
 
-  member_good : (kinds : List Kind) (m : item.Member Path) (f : item.Member Target)
+  member_good : (kinds : List Kind) → ((i : ItemNo) → is_among kinds i ≡ true → is_listed i ≡ true)
+      → (m : item.Member Path) (f : item.Member Target)
       → is_member is_path is_plain m ≡ true → resolved_member unit kinds m ≡ Some f
       → good_member count reads f ≡ true
-  member_good kinds m f h e =
+  member_good kinds listed m f h e =
       let x = bind_some (item_among unit kinds m.item)
       (λ item'. Some (record { name = m.name; item = item'; label = m.label; help = m.help })) f
       e in
@@ -257,7 +194,33 @@ module _ (unit : Description Path) (reads : Target → Bool)
       let labelled = both_of _ (if_some is_text m.label) helped.0 in
       along_some (good_member count reads)
       (record { name = m.name; item = x.0; label = m.label; help = m.help }) f x.2
-      (both_true (ap (λ t. is_item_of count (item_of t)) i.1 ∙ i.2) (both_true labelled.1 helped.1))
+      (both_true (both_true (ap (λ t. is_listed (item_of t)) i.1 ∙ listed i.0 i.3)
+      (ap (λ t. is_item_of count (item_of t)) i.1 ∙ i.2)) (both_true labelled.1 helped.1))
+
+  array_element_good : nat_lt 0 (count kind.Array) ≡ true → (e : item.ArrayElement Path) (f : item.ArrayElement Target) → is_array_element is_path is_plain e ≡ true → resolved_element unit e ≡ Some f
+      → good_array_element count reads f ≡ true
+  array_element_good some e f h r =
+      let x = bind_some (item_among unit variable_kinds e.variable)
+      (λ variable'. Some (record {
+        number = e.number;
+        variable = variable';
+        label = e.label;
+        help = e.help;
+      })) f r in
+      let i = meant_exists unit variable_kinds e.variable x.0 x.1 in
+      let helped = both_of _ (if_some is_text e.help) h in
+      let labelled = both_of _ (if_some is_text e.label) helped.0 in
+      let numbered = both_of (is_small e.number) (is_plain e.variable) labelled.0 in
+      along_some (good_array_element count reads) (record {
+        number = e.number;
+        variable = x.0;
+        label = e.label;
+        help = e.help;
+      }) f x.2
+      (both_true (both_true (both_true numbered.0
+      (ap (λ t. is_item_of count (item_no.Variable (variable_of t))) i.1
+      ∙ ap (is_item_of count) (kind_variable i.0 i.3) ∙ i.2)) some)
+      (both_true labelled.1 helped.1))
 
   abbrev good_part : TypePart Target → Bool
   good_part q = list_all (named (is_good count reads)) (trees_of_part q)
@@ -368,22 +331,23 @@ module _ (unit : Description Path) (reads : Target → Bool)
   alone : {b : Bool} → b ≡ true → ((b && true) && true) ≡ true
   alone h = rw h refl
 
-  attribute_good : (sort : ItemKind) (a : Attribute Path) (b : Attribute Target)
+  attribute_good : (sort : ItemKind) → may_list sort ≡ true → has_arrays count sort ≡ true
+      → (a : Attribute Path) (b : Attribute Target) → belongs_to (kind_of_item sort) a ≡ true
       → is_attribute is_path is_plain a ≡ true → is_low (attribute_height a) ≡ true
       → resolved_attribute unit sort a ≡ Some b → good_attribute b ≡ true
-  attribute_good sort (item.OneText which c) b h l e = let x =
+  attribute_good sort may some (item.OneText which c) b belongs h l e = let x =
       bind_some (resolved_cond at unchanged c) (λ c'. Some (item.OneText which c')) b
       e in along_some good_attribute (item.OneText which x.0) b x.2
       (alone (one_good is_text c x.0 h l x.1))
-  attribute_good sort (item.Class words) b h l e = along_some good_attribute (item.Class words) b e
+  attribute_good sort may some (item.Class words) b belongs h l e = along_some good_attribute (item.Class words) b e
       refl
-  attribute_good sort (item.Handling c) b h l e = let x = bind_some (resolved_cond at unchanged c)
+  attribute_good sort may some (item.Handling c) b belongs h l e = let x = bind_some (resolved_cond at unchanged c)
       (λ c'. Some (item.Handling c')) b e in along_some good_attribute (item.Handling x.0) b x.2
       (alone (one_good any_value c x.0 h l x.1))
-  attribute_good sort (item.Validity c) b h l e = let x = bind_some (resolved_cond at unchanged c)
+  attribute_good sort may some (item.Validity c) b belongs h l e = let x = bind_some (resolved_cond at unchanged c)
       (λ c'. Some (item.Validity c')) b e in along_some good_attribute (item.Validity x.0) b x.2
       (alone (one_good any_value c x.0 h l x.1))
-  attribute_good sort (item.TypeOf word parts) b h l e =
+  attribute_good sort may some (item.TypeOf word parts) b belongs h l e =
       let x = bind_some (each (resolved_type_part unit) parts)
       (λ parts'. Some (item.TypeOf word parts')) b e in
       let both = parts_good x.0
@@ -392,11 +356,11 @@ module _ (unit : Description Path) (reads : Target → Bool)
       (all_both (is_type_part is_path is_plain) (λ p. is_low (type_part_height p)) parts
       (type_parts word parts h) (all_low type_part_height parts l)) x.1) in
       along_some good_attribute (item.TypeOf word x.0) b x.2 (both_true both refl)
-  attribute_good sort (item.Number n) b h l e = along_some good_attribute (item.Number n) b e
+  attribute_good sort may some (item.Number n) b belongs h l e = along_some good_attribute (item.Number n) b e
       (alone h)
-  attribute_good sort (item.Operation o) b h l e = along_some good_attribute (item.Operation o) b e
+  attribute_good sort may some (item.Operation o) b belongs h l e = along_some good_attribute (item.Operation o) b e
       refl
-  attribute_good sort (item.Transaction number parts) b h l e =
+  attribute_good sort may some (item.Transaction number parts) b belongs h l e =
       let x = bind_some (each (resolved_transaction_part unit) parts)
       (λ parts'. Some (item.Transaction number parts')) b e in
       let told = both_of (if_some is_small number)
@@ -408,42 +372,54 @@ module _ (unit : Description Path) (reads : Target → Bool)
       good_transaction_part transaction_part_good parts x.0
       (all_both (is_transaction_part is_path is_plain) (λ p. is_low (transaction_part_height p))
       parts told.1 (all_low transaction_part_height parts l)) x.1))))
-  attribute_good sort (item.ResponseCodes responses) b h l e =
+  attribute_good sort may some (item.ResponseCodes responses) b belongs h l e =
       along_some good_attribute (item.ResponseCodes responses) b e
       (alone (all_good (is_response_code is_path is_plain) good_response response_good responses
       h))
-  attribute_good sort (item.Items entries) b h l e =
+  attribute_good sort may some (item.Items entries) b belongs h l e =
       let x = bind_some (resolved_conds at (resolved_entry unit) entries)
       (λ entries'. Some (item.Items entries')) b e in
       along_some good_attribute (item.Items x.0) b x.2
       (alone (conds_good (resolved_entry unit) (is_entry is_path is_plain)
       (good_entry count reads) leaf leaf entry_good (λ v w k f. refl) entries x.0 h l x.1))
-  attribute_good sort (item.Members members) b h l e =
+  attribute_good sort may some (item.Members members) b belongs h l e =
       let x = bind_some (each (resolved_member unit (member_kinds sort)) members)
       (λ members'. Some (item.Members members')) b e in
       along_some good_attribute (item.Members x.0) b x.2
       (alone (each_all (resolved_member unit (member_kinds sort)) (is_member is_path is_plain)
-      (good_member count reads) (member_good (member_kinds sort)) members x.0 h x.1))
-  attribute_good sort (item.Definition body) b h l e = let x =
+      (good_member count reads) (member_good (member_kinds sort) (members_listed sort may))
+      members x.0 h x.1))
+  attribute_good sort may some (item.Elements elements) b belongs h l e =
+      let x = bind_some (each (resolved_element unit) elements)
+      (λ elements'. Some (item.Elements elements')) b e in
+      along_some good_attribute (item.Elements x.0) b x.2
+      (alone (each_all (resolved_element unit) (is_array_element is_path is_plain)
+      (good_array_element count reads) (array_element_good (counted count sort belongs some)) elements x.0
+      h x.1))
+  attribute_good sort may some (item.Definition body) b belongs h l e = let x =
       bind_some (resolved_body unit body [] 0) (λ body'. Some (item.Definition body')) b
       e in along_some good_attribute (item.Definition x.0) b x.2 refl
 
   abbrev good_item : Item Target → Bool
   good_item i = throughout_item (is_good count reads) i
 
-  pub item_good : (i : Item Path) (j : Item Target) → is_item is_path is_plain i ≡ true
+  pub item_good : (i : Item Path) (j : Item Target)
+      → (is_item is_path is_plain i && has_arrays count i.sort) ≡ true
       → resolved_item unit i ≡ Some j → good_item j ≡ true
   item_good i j h e =
       let x = bind_some (each (resolved_attribute unit i.sort) i.attributes)
       (λ attributes. Some (record { sort = i.sort; name = i.name; attributes = attributes })) j
       e in
+      let whole = both_of (is_item is_path is_plain i) (has_arrays count i.sort) h in
+      let front = both_of (is_name i.name && may_list i.sort) _ whole.0 in
+      let may = (both_of (is_name i.name) (may_list i.sort) front.0).1 in
       along_some good_item (record { sort = i.sort; name = i.name; attributes = x.0 }) j x.2
       (each_all (resolved_attribute unit i.sort) (stands_in is_path is_plain (kind_of_item i.sort))
       good_attribute
       (λ a b k.
       let parts = both_of (belongs_to (kind_of_item i.sort) a && is_attribute is_path is_plain a) _
       k in
-      attribute_good i.sort a b
-      (both_of (belongs_to (kind_of_item i.sort) a) (is_attribute is_path is_plain a) parts.0).1
-      parts.1)
-      i.attributes x.0 (both_of _ _ h).1 x.1)
+      let fits = both_of (belongs_to (kind_of_item i.sort) a) (is_attribute is_path is_plain a)
+      parts.0 in
+      attribute_good i.sort may whole.1 a b fits.0 fits.1 parts.1)
+      i.attributes x.0 front.1 x.1)

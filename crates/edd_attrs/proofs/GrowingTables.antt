@@ -1,4 +1,4 @@
--- What exists still does when the table of strings grows.
+-- What may stand in an attribute still may when the table of strings grows.
 use Rattle.std.proofs.Common.{◌≡◌, refl, Bool, true, List, ◌++◌, length, Option, Some, None, arith, length-append}
 use Rattle.std.specs.Prelude.{nat_lt}
 use Rattle.std.proofs.lemmas.Bool.{lt-ltb, ltb-true}
@@ -13,10 +13,12 @@ use Rattle.edd_image.specs.declared.instruction.Ask.TheVariants as ask
 use Rattle.edd_image.specs.declared.instruction.Instruction.{Instruction}
 use Rattle.edd_image.specs.declared.instruction.Instruction.TheVariants as instruction
 use Rattle.edd_image.specs.References.{optional_string_exists, variable_exists, item_exists, request_exists, names_exist}
+use Rattle.edd_image.specs.declared.unit.Sort.TheVariants.{Attribute}
 use Rattle.edd_image.specs.Agreement.{attribute_context}
+use Rattle.edd_image.specs.Units.{is_allowed}
 use Rattle.edd_code.specs.Blocks as block
 use Rattle.edd_code.specs.Blocks.{Block}
-use Rattle.edd_code.specs.Flow.{all_straight}
+use Rattle.edd_code.specs.Flow.{all_straight, may_stand}
 use Rattle.edd_code.proofs.BothTests.{both_of, both_true}
 
 pub all_weaker : (f g : Instruction → Bool) → ((i : Instruction) → f i ≡ true → g i ≡ true)
@@ -120,6 +122,14 @@ module _ (unit : Description Target) (strings later : List Words) where
   names_still (instruction.Ask request) h = request_still request h
   names_still instruction.Abort h = refl
 
-  pub still_exist : (b : Block) → all_straight (names_exist (attribute_context unit strings)) b
-      ≡ true → all_straight (names_exist (attribute_context unit (strings ++ later))) b ≡ true
-  still_exist b h = all_weaker now then names_still b h
+  stands_still : (i : Instruction) → may_stand (attribute_context unit strings) i ≡ true
+      → may_stand (attribute_context unit (strings ++ later)) i ≡ true
+  stands_still i h =
+      let parts = both_of (is_allowed (attribute_context unit strings).version Attribute i)
+      (names_exist (attribute_context unit strings) i) h in
+      both_true parts.0 (names_still i parts.1)
+
+  pub still_exist : (b : Block) → all_straight (may_stand (attribute_context unit strings)) b ≡ true
+      → all_straight (may_stand (attribute_context unit (strings ++ later))) b ≡ true
+  still_exist b h = all_weaker (may_stand (attribute_context unit strings))
+      (may_stand (attribute_context unit (strings ++ later))) stands_still b h

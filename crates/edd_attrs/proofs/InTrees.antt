@@ -56,6 +56,7 @@ inside (item.Operation o) = []
 inside (item.ResponseCodes responses) = []
 inside (item.Items entries) = []
 inside (item.Members members) = []
+inside (item.Elements elements) = []
 inside (item.Definition body) = []
 
 module _ (p : Tree → Bool) where
@@ -129,6 +130,8 @@ module _ (p : Tree → Bool) where
       (more (item.Items entries) rest (transactions_have rest) h).1
   transactions_have (item.Members members ∷ rest) h =
       (more (item.Members members) rest (transactions_have rest) h).1
+  transactions_have (item.Elements elements ∷ rest) h =
+      (more (item.Elements elements) rest (transactions_have rest) h).1
   transactions_have (item.Definition body ∷ rest) h =
       (more (item.Definition body) rest (transactions_have rest) h).1
 

@@ -4,20 +4,21 @@ use Rattle.std.proofs.Common.{◌≡◌, refl, ap, ◌∙◌, ℕ, ◌+◌, Bool
 use Rattle.std.specs.Prelude.{◌&&◌}
 use Rattle.edd_syntax.specs.Reference.{Path}
 use Rattle.edd_syntax.specs.declared.reference.Target.{Target}
-use Rattle.edd_syntax.specs.Expression.{Expr, Literal, Decimal, Reference, Parentheses, Unary, Binary, Compare, LogicalAnd, LogicalOr, Conditional, Assign, CompoundAssign, Increment, Call}
+use Rattle.edd_syntax.specs.Expression.{Expr, Literal, Decimal, Reference, Indexed, Parentheses, Unary, Binary, Compare, LogicalAnd, LogicalOr, Conditional, Assign, CompoundAssign, Increment, Call}
 use Rattle.edd_syntax.specs.Conditional as cond
 use Rattle.edd_syntax.specs.Conditional.{Cond, Value, If, Select, Conds, Arms, NoArms, ConsArm, Case, Default}
-use Rattle.edd_syntax.specs.ResolvedTrees.{resolved_expr, resolved_cond, resolved_conds, resolved_arms}
+use Rattle.edd_syntax.specs.ResolvedTrees.{Meanings, resolved_expr, resolved_cond, resolved_conds, resolved_arms}
 use Rattle.edd_syntax.specs.Size.{height, cond_height, conds_height, arms_height}
 use Rattle.edd_syntax.specs.WellFormed.{is_path, is_plain, is_label, is_pure_expr, is_cond, are_conds, are_arms, is_single, is_one, is_at_most_one, are_single_arms}
-use Rattle.edd_code.proofs.Made.{stays, made, made_of_two, made_of_three}
+use Rattle.edd_syntax.proofs.Made.{stays, made, made_of_two, made_of_three}
 use Rattle.edd_code.proofs.BothTests.{both_of, both_true}
 
 not_true : {A : Type 0} → false ≡ true → A
 not_true h = absurd cc
 
-module _ (at : Path → Option Target) (reads : Target → Bool) (kept : (p : Path) (t : Target)
-    → at p ≡ Some t → reads t ≡ true) where
+module _ (at : Meanings) (reads : Target → Bool)
+    (kept : (p : Path) (t : Target) → at.reference p ≡ Some t → reads t ≡ true)
+    (kept_array : (p : Path) (t : Target) → at.array p ≡ Some t → reads t ≡ true) where
   abbrev pure_before : Expr Path → Bool
   pure_before e = is_pure_expr is_path is_plain e
 
@@ -33,8 +34,13 @@ module _ (at : Path → Option Target) (reads : Target → Bool) (kept : (p : Pa
   unfolding resolved_expr
   expr_pure (Literal value) e' p h = stays pure_after (Literal value) e' h ∙ p
   expr_pure Decimal e' p h = stays pure_after Decimal e' h
-  expr_pure (Reference from) e' p h = made pure_after (at from) Reference e' _
+  expr_pure (Reference from) e' p h = made pure_after (at.reference from) Reference e' _
       (λ x q. kept from x q) h
+  expr_pure (Indexed array index) e' p h =
+      let parts = both_of (is_path array && is_plain array) (pure_before index) p in
+      made_of_two pure_after (at.array array) (resolved_expr at index) Indexed e' _
+      (λ x y q r. both_true (both_true (kept_array array x q) (kept_array array x q))
+      (expr_pure index y parts.1 r)) h
   expr_pure (Parentheses inner) e' p h = made pure_after (resolved_expr at inner) Parentheses e' _
       (λ x q. expr_pure inner x p q) h
   expr_pure (Unary op operand) e' p h = made pure_after (resolved_expr at operand) (Unary op) e' _
@@ -73,7 +79,11 @@ module _ (at : Path → Option Target) (reads : Target → Bool) (kept : (p : Pa
   unfolding resolved_expr
   expr_height (Literal value) e' p h = stays height (Literal value) e' h
   expr_height Decimal e' p h = stays height Decimal e' h
-  expr_height (Reference from) e' p h = made height (at from) Reference e' _ (λ x q. refl) h
+  expr_height (Reference from) e' p h = made height (at.reference from) Reference e' _ (λ x q. refl) h
+  expr_height (Indexed array index) e' p h =
+      let parts = both_of (is_path array && is_plain array) (pure_before index) p in
+      made_of_two height (at.array array) (resolved_expr at index) Indexed e' _
+      (λ x y q r. ap (λ n. 1 + n) (expr_height index y parts.1 r)) h
   expr_height (Parentheses inner) e' p h = made height (resolved_expr at inner) Parentheses e' _
       (λ x q. ap (λ n. 1 + n) (expr_height inner x p q)) h
   expr_height (Unary op operand) e' p h = made height (resolved_expr at operand) (Unary op) e' _
@@ -221,7 +231,7 @@ module _ (at : Path → Option Target) (reads : Target → Bool) (kept : (p : Pa
 
 -- ---- a single value stays one
 
-module _ (at : Path → Option Target) (reads : Target → Bool) {V W : Type 0} (of : V → Option W)
+module _ (at : Meanings) (reads : Target → Bool) {V W : Type 0} (of : V → Option W)
   where
     abbrev one_before : Conds Path V → Bool
     one_before c = is_one is_path is_plain c

@@ -10,6 +10,7 @@ pub mod Conditionals
 pub mod Parts
 pub mod TreeStrings
 pub mod KeptConditions
+pub mod GoodParts
 pub mod GoodTrees
 pub mod CheckedTrees
 pub mod SoundBlocks

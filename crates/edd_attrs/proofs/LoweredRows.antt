@@ -31,11 +31,13 @@ use Rattle.edd_image.specs.Agreement.{machine_of, SameRun, UnitMeans, IsAttribut
 use Rattle.edd_code.specs.Blocks.{Block, size, bytes_at, unit_code}
 use Rattle.edd_code.specs.Outcomes.{does}
 use Rattle.edd_code.proofs.BlockBytes.{lengths}
+use Rattle.edd_code.specs.Flow.{all_straight, may_stand}
 use Rattle.edd_code.proofs.BlockUnits.{unit_is_valid}
+use Rattle.edd_code.proofs.Versions.{in_its_version, names_in}
 use Rattle.edd_code.proofs.UnitRuns.{unit_goes, unit_traps}
 use Rattle.edd_attrs.specs.Trees as trees
 use Rattle.edd_attrs.specs.Trees.{Tree, tree_at}
-use Rattle.edd_attrs.specs.Records.{kept_enumerator, kept_data, kept_entry, kept_response, kept_member}
+use Rattle.edd_attrs.specs.Records.{kept_enumerator, kept_data, kept_entry, kept_response, kept_member, kept_array_element}
 use Rattle.edd_attrs.specs.Sizes.{strings_at, tree_nodes, length_limit}
 use Rattle.edd_code.specs.Tables.{AreDifferent, Grows}
 use Rattle.edd_attrs.specs.Lowered.{LowersTree, OverflowsTree}
@@ -46,7 +48,7 @@ use Rattle.edd_attrs.proofs.InTrees.{if_there}
 use Rattle.edd_attrs.proofs.Meanings.{unit_means}
 use Rattle.edd_code.proofs.FewNodes.{few_nodes}
 use Rattle.edd_attrs.proofs.NodeBounds.{few_at}
-use Rattle.edd_attrs.proofs.GoodTrees.{is_low, is_small, all_good, good_cond, good_enumerator, good_element, good_response, good_entry, good_member}
+use Rattle.edd_attrs.proofs.GoodParts.{is_low, is_small, all_good, good_cond, good_enumerator, good_element, good_response, good_entry, good_member, good_array_element}
 use Rattle.edd_attrs.proofs.CheckedTrees.{reads_of, is_ruled, is_whole, no_breach, whole_when_checked}
 use Rattle.edd_attrs.proofs.ElementFacts.{values_pass, all_values_pass, elements_tested, entry_kept}
 use Rattle.edd_attrs.proofs.GrowingTables.{still_exist}
@@ -97,6 +99,10 @@ module _ (unit : Description Target) where
   tree_kept (trees.Members members) h =
       all_good (good_member count reads) kept_member (λ m k. (both_of _ (kept_member m) k).1)
       members (both_of (list_all (good_member count reads) members) true h).0
+  tree_kept (trees.Elements all) h =
+      all_good (good_array_element count reads) kept_array_element
+      (λ e k. (both_of _ (kept_array_element e) k).1) all
+      (both_of (list_all (good_array_element count reads) all) true h).0
 
   row_kept : (t : Option Tree) → if_there (is_whole unit) t ≡ true → is_kept_row t ≡ true
   row_kept None h = refl
@@ -124,6 +130,7 @@ limit_small (trees.Data all) n h = omega (arith, h)
 limit_small (trees.ResponseCodes responses) n h = omega (arith, h)
 limit_small (trees.Items entries) n h = omega (arith, h)
 limit_small (trees.Members members) n h = omega (arith, h)
+limit_small (trees.Elements all) n h = omega (arith, h)
 
 limit_at : (o : Option Tree) (n : ℕ) → ((t : Tree) → o ≡ Some t → tree_nodes t ≤ n)
     → length_limit o ≤ 32 * n + 30
@@ -181,57 +188,62 @@ module _ (unit : Description Target) (checked : ∥ IsChecked unit ∥₁) (row 
         few_nodes unit checked,
       )
 
+      stands : (later : List Words)
+          → all_straight (may_stand (attribute_context unit (new ++ later))) b ≡ true
+      stands later = still_exist unit new later b sound.exist
+
       valid : (later : List Words) → IsValidUnit (attribute_context unit (new ++ later)) code
       valid later =
           subst (λ (bs : List ℕ). IsValidUnit (attribute_context unit (new ++ later)) bs)
           (sym lowered.is_unit)
-          (unit_is_valid (attribute_context unit (new ++ later)) b sound.spelled sound.flows
-          sound.even small (still_exist unit new later b sound.exist))
+          (unit_is_valid (attribute_context unit (new ++ later)) b sound.spelled
+          (in_its_version (attribute_context unit (new ++ later)) b 0 sound.flows (stands later))
+          sound.even small (names_in (attribute_context unit (new ++ later)) b (stands later)))
 
       means_in : (later : List Words) (values : List ℤ) → (t : Trapping (List source.Record))
           → SameOutcome (string_of_table (new ++ later)) t
-          (does (machine_of (environment unit).variables) values b [])
+          (does (machine_of (environment unit)) values b [])
           → (n : ℕ) × (given : Result (List Record) Trap)
-          × (given_within n (machine_of (environment unit).variables)
+          × (given_within n (machine_of (environment unit))
           (opening (record { sort = Attribute; code = code }) 0 values) ≡ Some given)
           × SameRun (string_of_table (new ++ later)) t given
       means_in later values (Ok xs) same =
-          let run = unit_goes (machine_of (environment unit).variables) values b
+          let run = unit_goes (machine_of (environment unit)) values b
           sound.spelled sound.flows small same.0 same.1 in
           (run.0, Ok same.0, here run.0 (Ok same.0) run.1, (same.0, refl, same.2))
         where
           here : (n : ℕ) (given : Result (List Record) Trap)
-              → given_within n (machine_of (environment unit).variables)
+              → given_within n (machine_of (environment unit))
               (opening (record { sort = Attribute; code = unit_code b }) 0 values) ≡ Some given
-              → given_within n (machine_of (environment unit).variables)
+              → given_within n (machine_of (environment unit))
               (opening (record { sort = Attribute; code = code }) 0 values) ≡ Some given
           here n given h = ap (λ (bs : List ℕ). given_within n
-              (machine_of (environment unit).variables)
+              (machine_of (environment unit))
               (opening (record { sort = Attribute; code = bs }) 0 values)) lowered.is_unit ∙ h
       means_in later values (Err why) same =
-          let run = unit_traps (machine_of (environment unit).variables) values b
+          let run = unit_traps (machine_of (environment unit)) values b
           sound.spelled sound.flows small why same in
           (run.0, Err why, here run.0 (Err why) run.1, refl)
         where
           here : (n : ℕ) (given : Result (List Record) Trap)
-              → given_within n (machine_of (environment unit).variables)
+              → given_within n (machine_of (environment unit))
               (opening (record { sort = Attribute; code = unit_code b }) 0 values) ≡ Some given
-              → given_within n (machine_of (environment unit).variables)
+              → given_within n (machine_of (environment unit))
               (opening (record { sort = Attribute; code = code }) 0 values) ≡ Some given
           here n given h = ap (λ (bs : List ℕ). given_within n
-              (machine_of (environment unit).variables)
+              (machine_of (environment unit))
               (opening (record { sort = Attribute; code = bs }) 0 values)) lowered.is_unit ∙ h
 
       means : (later : List Words)
-          → UnitMeans (environment unit).variables (string_of_table (new ++ later))
+          → UnitMeans (environment unit) (string_of_table (new ++ later))
           (tree_meaning unit row) code
       means later values are =
           means_in later values (tree_meaning unit row values)
           (subst (λ (m : source.Meaning). SameOutcome (string_of_table (new ++ later)) (m values)
-          (does (machine_of (environment unit).variables) values b []))
+          (does (machine_of (environment unit)) values b []))
           (sym (unit_means unit row))
-          (block_means unit (new ++ later) (machine_of (environment unit).variables)
-          (environment unit) values (tree_at unit row) b whole (lowered.is later)))
+          (block_means unit (new ++ later) (machine_of (environment unit))
+          (environment unit) refl values (tree_at unit row) b whole (lowered.is later)))
 
       pub lowered_means : (later : List Words) → IsAttributeCode unit (new ++ later) row code
       lowered_means later = record { valid = valid later; means = means later }

@@ -14,7 +14,7 @@ use Rattle.edd_syntax.specs.Words.{Words}
 use Rattle.edd_syntax.specs.Device as device
 use Rattle.edd_syntax.specs.AttributeValue.{Trapping, ◌>>=◌, value, chosen, all_chosen}
 use Rattle.edd_syntax.specs.Attributes as source
-use Rattle.edd_syntax.specs.Attributes.{each, all_values, operation_number, enumerator, data_item, response, entry, member}
+use Rattle.edd_syntax.specs.Attributes.{each, all_values, operation_number, enumerator, data_item, response, entry, member, element}
 use Rattle.edd_syntax.specs.Size.{leaf, height, cond_height, conds_height}
 use Rattle.edd_syntax.specs.SubsetRules.{values_in, values_of, cond_defaults, conds_defaults}
 use Rattle.edd_syntax.specs.Strings.{strings_of_texts, enumerator_texts, entry_texts}
@@ -35,9 +35,9 @@ use Rattle.edd_attrs.specs.Sizes.{tree_strings, strings_of_tree}
 use Rattle.edd_attrs.specs.TreeBlocks.{elements, IsCondBlock, IsCondsBlock, IsLineBlock, IsValueBlock, Giving, IsTreeBlock, IsBlockOf}
 use Rattle.edd_attrs.proofs.Meanings.{meaning, meaning_at}
 use Rattle.edd_attrs.proofs.InTrees.{if_there}
-use Rattle.edd_attrs.proofs.GoodTrees.{is_low, any_value, good_cond, good_enumerator, good_expression, good_response, good_data, good_entry, good_member, is_good}
+use Rattle.edd_attrs.proofs.GoodParts.{is_low, any_value, good_cond, good_enumerator, good_expression, good_response, good_data, good_entry, good_member, good_array_element, is_good}
 use Rattle.edd_attrs.proofs.CheckedTrees.{reads_of, is_ruled, is_whole, none_broken, no_breach}
-use Rattle.edd_attrs.proofs.ElementFacts.{conds_both, elements_tested, elements_ruled, elements_same, elements_texts, enumerator_fine, response_fine, member_fine, entry_fine, data_fine, strings_by, enumerator_strings, entry_strings, texts_strings, members_strings, classes_strings, responses_strings}
+use Rattle.edd_attrs.proofs.ElementFacts.{conds_both, elements_tested, elements_ruled, elements_same, elements_texts, enumerator_fine, response_fine, member_fine, array_element_fine, entry_fine, data_fine, strings_by, enumerator_strings, entry_strings, texts_strings, members_strings, array_elements_strings, classes_strings, responses_strings}
 use Rattle.edd_attrs.proofs.MeaningBlocks.{SameOutcome, nothing_means, cond_means, conds_mean, line_means}
 use Rattle.edd_attrs.proofs.GivenRecords.{given_are_chosen, all_are_chosen, expression_given, expression_is_chosen}
 use Rattle.edd_attrs.proofs.RecordBlocks.{record_means}
@@ -63,7 +63,8 @@ module _ (unit : Description Target) (strings : List Words) where
 
   -- ---- meaning
 
-  module _ (machine : Environment) (env : device.Environment) (d : List ℤ) where
+  module _ (machine : Environment) (env : device.Environment)
+      (same_elements : machine.elements ≡ env.elements) (d : List ℤ) where
     abbrev Same : Trapping (List source.Record) → Block → Type 0
     Same t b = SameOutcome (string_of_table strings) t (does machine d b [])
 
@@ -82,7 +83,7 @@ module _ (unit : Description Target) (strings : List Words) where
           ≡ true → Same (each f (chosen env d c)) b
       one_means c b is h =
           subst (λ t. Same t b) (given_are_chosen env d f c)
-          (cond_means (string_of_table strings) machine env d (means machine env d) reads Gives p
+          (cond_means (string_of_table strings) machine env d (means machine env same_elements d) reads Gives p
           one_record value_means c b is
           (both_of (is_cond reads reads p c) (is_low (cond_height leaf c)) h).0)
 
@@ -90,12 +91,12 @@ module _ (unit : Description Target) (strings : List Words) where
           → are_conds reads reads p c ≡ true → Same (each f (all_chosen env d c)) b
       list_means c b is h =
           subst (λ t. Same t b) (all_are_chosen env d f c)
-          (conds_mean (string_of_table strings) machine env d (means machine env d) reads Gives p
+          (conds_mean (string_of_table strings) machine env d (means machine env same_elements d) reads Gives p
           one_record value_means c b is h)
 
       in_line : (vs : List V) (b : Block) → IsLineBlock Gives vs b → list_all p vs ≡ true
           → Same (Ok (map f vs)) b
-      in_line vs b is h = line_means (string_of_table strings) machine env d (means machine env d)
+      in_line vs b is h = line_means (string_of_table strings) machine env d (means machine env same_elements d)
           Gives p f value_means vs b is h
 
     expression_means : (e : Expr Target) (b : Block) → IsValueBlock e b
@@ -103,7 +104,7 @@ module _ (unit : Description Target) (strings : List Words) where
     unfolding does act
     expression_means e b is h =
         subst (Same (expression_given env d e)) (sym is)
-        (here (value env d e) (means machine env d e []))
+        (here (value env d e) (means machine env same_elements d e []))
       where
         here : (v : Trapping ℤ) → does machine d (expression_block e) [] ≡ of_value v []
             → SameOutcome (string_of_table strings) (v >>= λ z. Ok (source.Number z ∷ []))
@@ -124,7 +125,7 @@ module _ (unit : Description Target) (strings : List Words) where
     unfolding IsTreeBlock
     transaction_means None b h is =
         subst (Same (Ok [])) (sym is) (nothing_means (string_of_table strings) machine env d
-        (means machine env d))
+        (means machine env same_elements d))
     transaction_means (Some n) b h is = record_means unit strings machine d (source.Number (pos n))
         b (good (trees.Transaction (Some n)) h) is
 
@@ -145,7 +146,7 @@ module _ (unit : Description Target) (strings : List Words) where
         let parts = both_of (is_cond reads reads (good_expression count reads) c)
         (is_low (cond_height height c)) tests.0 in
         subst (λ t. Same t b) (expression_is_chosen env d reads c tests.1)
-        (cond_means (string_of_table strings) machine env d (means machine env d) reads IsValueBlock
+        (cond_means (string_of_table strings) machine env d (means machine env same_elements d) reads IsValueBlock
         (good_expression count reads) (expression_given env d) expression_means c b is parts.0)
     tree_means (trees.Enumerators parts) b h is =
         subst (λ (all : Conds Target item.Enumerator). Same (each enumerator (all_chosen env d all))
@@ -173,13 +174,15 @@ module _ (unit : Description Target) (strings : List Words) where
         (is_low (conds_height leaf entries)) (good (trees.Items entries) h)).0
     tree_means (trees.Members members) b h is = in_line member (good_member count reads)
         (member_fine unit reads) members b is (good (trees.Members members) h)
+    tree_means (trees.Elements all) b h is = in_line element (good_array_element count reads)
+        (array_element_fine unit reads) all b is (good (trees.Elements all) h)
 
     -- a tree that isn't there gives nothing
     pub block_means : (t : Option Tree) (b : Block) → if_there (is_whole unit) t ≡ true
         → IsBlockOf (string_of_table strings) t b → Same (meaning_at env t d) b
     block_means None b h is =
         subst (Same (Ok [])) (sym is) (nothing_means (string_of_table strings) machine env d
-        (means machine env d))
+        (means machine env same_elements d))
     block_means (Some t) b h is = tree_means t b h is
 
   -- ---- strings
@@ -224,6 +227,8 @@ module _ (unit : Description Target) (strings : List Words) where
       (none_broken (conds_defaults entries) (ruled (trees.Items entries) h)))
   tree_held (trees.Members members) b h is = subst (Held strings) (members_strings members)
       (line_held strings member members b is)
+  tree_held (trees.Elements all) b h is =
+      subst (Held strings) (array_elements_strings all) (line_held strings element all b is)
 
   pub block_held : (t : Option Tree) (b : Block) → if_there (is_whole unit) t ≡ true
       → IsBlockOf (string_of_table strings) t b → Held strings (strings_of_tree t)

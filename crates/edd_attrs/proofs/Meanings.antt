@@ -13,9 +13,9 @@ use Rattle.edd_syntax.specs.Words.{name_words}
 use Rattle.edd_syntax.specs.Numbers.{same_attr}
 use Rattle.edd_syntax.specs.Device.{Environment, environment, item_at}
 use Rattle.edd_syntax.specs.Attributes as source
-use Rattle.edd_syntax.specs.Attributes.{Meaning, constant, one, list, texts, expressions, handling_number, operation_number, bit, enumerator, entry, data_item, response, member, written_number, elements, of_part, of_parts, of_attribute, of_attributes, of_transaction_part, transactions, meaning_of, is_of_transaction}
+use Rattle.edd_syntax.specs.Attributes.{Meaning, constant, one, list, texts, expressions, handling_number, operation_number, bit, enumerator, entry, data_item, response, member, element, written_number, elements, of_part, of_parts, of_attribute, of_attributes, of_transaction_part, transactions, meaning_of, is_of_transaction}
 use Rattle.edd_image.specs.Agreement.{item_meaning, tree_meaning}
-use Rattle.edd_attrs.specs.Trees.{Tree, Texts, Class, Handling, Validity, Expressions, Enumerators, Number, Operation, Transaction, Data, ResponseCodes, Items, Members, Named, trees_of_part, trees_of_parts, trees_of_attribute, trees_of, tree_of_transaction_part, transaction_trees, first_tree, tree_in, tree_at}
+use Rattle.edd_attrs.specs.Trees.{Tree, Texts, Class, Handling, Validity, Expressions, Enumerators, Number, Operation, Transaction, Data, ResponseCodes, Items, Members, Elements, Named, trees_of_part, trees_of_parts, trees_of_attribute, trees_of, tree_of_transaction_part, transaction_trees, first_tree, tree_in, tree_at}
 
 module _ (env : Environment) where
   abbrev pub meaning : Tree → Meaning
@@ -32,6 +32,7 @@ module _ (env : Environment) where
   meaning (ResponseCodes responses) = constant (map response responses)
   meaning (Items entries) = list env entry entries
   meaning (Members members) = constant (map member members)
+  meaning (Elements all) = constant (map element all)
 
   abbrev pub named : Named → source.Named
   named x = (x.0, meaning x.1)
@@ -66,6 +67,7 @@ module _ (env : Environment) where
   attribute_means (item.ResponseCodes responses) = refl
   attribute_means (item.Items entries) = refl
   attribute_means (item.Members members) = refl
+  attribute_means (item.Elements all) = refl
   attribute_means (item.Definition body) = refl
 
   attributes_mean : (attributes : List (Attribute Target)) → of_attributes env attributes
@@ -109,6 +111,7 @@ module _ (env : Environment) where
   transactions_mean (item.ResponseCodes responses ∷ rest) = transactions_mean rest
   transactions_mean (item.Items entries ∷ rest) = transactions_mean rest
   transactions_mean (item.Members members ∷ rest) = transactions_mean rest
+  transactions_mean (item.Elements all ∷ rest) = transactions_mean rest
   transactions_mean (item.Definition body ∷ rest) = transactions_mean rest
 
   -- a tree that isn't there gives nothing

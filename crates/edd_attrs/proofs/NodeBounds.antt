@@ -102,6 +102,7 @@ attribute_within n (item.Transaction number parts) h =
 attribute_within n (item.ResponseCodes responses) h = single n (trees.ResponseCodes responses) h
 attribute_within n (item.Items entries) h = single n (trees.Items entries) h
 attribute_within n (item.Members members) h = single n (trees.Members members) h
+attribute_within n (item.Elements all) h = single n (trees.Elements all) h
 attribute_within n (item.Definition body) h = refl
 
 attributes_within : (n : ℕ) (attributes : List (Attribute Target))

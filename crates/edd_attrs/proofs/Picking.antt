@@ -20,4 +20,5 @@ transactions_split (item.Transaction n parts) ys = refl
 transactions_split (item.ResponseCodes responses) ys = refl
 transactions_split (item.Items entries) ys = refl
 transactions_split (item.Members members) ys = refl
+transactions_split (item.Elements elements) ys = refl
 transactions_split (item.Definition body) ys = refl

@@ -11,12 +11,11 @@ use Rattle.edd_syntax.specs.Attributes as source
 use Rattle.edd_image.specs.declared.records.Record.{Record}
 use Rattle.edd_image.specs.declared.records.Record.TheVariants as records
 use Rattle.edd_image.specs.declared.instruction.Instruction.{Instruction}
-use Rattle.edd_image.specs.References.{names_exist}
 use Rattle.edd_image.specs.Spelling.{IsSpelled}
 use Rattle.edd_image.specs.Steps.{Environment, act}
 use Rattle.edd_image.specs.Agreement.{SameRecord, string_of_table, attribute_context}
 use Rattle.edd_code.specs.Blocks.{Block, size}
-use Rattle.edd_code.specs.Flow.{AreSpelled, Flows, all_straight, depth_after}
+use Rattle.edd_code.specs.Flow.{AreSpelled, Flows, all_straight, depth_after, may_stand}
 use Rattle.edd_code.specs.Outcomes.{Goes, does}
 use Rattle.edd_attrs.specs.Code.{giving}
 use Rattle.edd_attrs.specs.Records.{is_fine}
@@ -47,7 +46,7 @@ record_flows (records.DataVar v mask quals) h = ((refl, omega arith, omega arith
 record_flows (records.Enumerator n text help) h = ((refl, omega arith, omega arith), tt)
 record_flows (records.Response n class text) h = ((refl, omega arith, omega arith), tt)
 record_flows (records.Member name item label help) h = ((refl, omega arith, omega arith), tt)
-record_flows (records.Element n v label help) h = absurd h
+record_flows (records.Element n v label help) h = ((refl, omega arith, omega arith), tt)
 
 record_even : (r : Record) → depth_after (straight_line (giving r)) 0 ≡ 0
 record_even (records.Words s) = refl
@@ -86,7 +85,7 @@ module _ (env : Environment) (d : List ℤ) where
   record_does (records.Enumerator n text help) h = refl
   record_does (records.Response n class text) h = refl
   record_does (records.Member name item label help) h = refl
-  record_does (records.Element n v label help) h = absurd h
+  record_does (records.Element n v label help) h = refl
 
 -- a number is one of 32 bits
 module _ (unit : Description Target) (strings : List Words) where
@@ -101,6 +100,7 @@ module _ (unit : Description Target) (strings : List Words) where
   sayable (source.Enumerator value text help) r fine same = subst IsSayable (sym same.2) tt
   sayable (source.Response number class text) r fine same = subst IsSayable (sym same.1) tt
   sayable (source.Member name item label help) r fine same = subst IsSayable (sym same.3) tt
+  sayable (source.Element number var label help) r fine same = subst IsSayable (sym same.2) tt
 
   pub record_means : (env : Environment) (d : List ℤ) (x : source.Record) (b : Block)
       → is_fine unit x ≡ true → IsRecordBlock (string_of_table strings) x b
@@ -124,6 +124,6 @@ module _ (unit : Description Target) (few : (k : Kind) → count_of k unit.items
         flows = record_flows is.0 spelled.1;
         even = record_even is.0;
         spelled = line_spelled (giving is.0) spelled.0;
-        exist = line_passes (names_exist (attribute_context unit strings)) (giving is.0) exist;
+        exist = line_passes (may_stand (attribute_context unit strings)) (giving is.0) exist;
         short = omega (arith, line_short is.0);
       })

@@ -1,6 +1,6 @@
 -- The operands of the instructions that give a record fit, and its names exist.
 use Rattle.std.proofs.Common.{◌-◌, ◌%◌, cond, ltb, ◌≡◌, refl, sym, ap, subst, ◌∙◌, ℕ, suc, ◌<◌, ◌≤◌, ◌^◌, Bool, true, false, ℤ, pos, negsuc, List, length, Option, Some, None, arith}
-use Rattle.std.specs.Prelude.{nat_lt, FitsSigned}
+use Rattle.std.specs.Prelude.{nat_lt, ◌&&◌, FitsSigned}
 use Rattle.std.specs.Int.{w64}
 use Rattle.std.specs.List.{AllByRecursion, list_all}
 use Rattle.std.proofs.lemmas.Int.{ints}
@@ -27,15 +27,14 @@ use Rattle.edd_image.specs.declared.records.Record.{Record}
 use Rattle.edd_image.specs.declared.records.Record.TheVariants as records
 use Rattle.edd_image.specs.declared.unit.Context.{Context}
 use Rattle.edd_image.specs.Spelling.{IsListed, IsSpelled, IsOptional}
-use Rattle.edd_image.specs.References.{names_exist, item_exists, variable_exists, optional_string_exists}
+use Rattle.edd_image.specs.References.{item_exists, variable_exists, optional_string_exists}
 use Rattle.edd_image.specs.Agreement.{class_number, mask_number, IsString, IsOptionalString, SameRecord, string_of_table, attribute_context}
+use Rattle.edd_code.specs.Flow.{may_stand}
 use Rattle.edd_attrs.specs.Code.{giving}
-use Rattle.edd_attrs.specs.Records.{is_number, is_label, counts_in, is_fine}
+use Rattle.edd_attrs.specs.Records.{is_number, is_label, is_listed, counts_in, is_fine}
 use Rattle.edd_code.proofs.BothTests.{both_of}
-use Rattle.edd_syntax.proofs.NoArrays.{no_arrays}
 
--- what a record needs so that its code gives it: a number is one of 32 bits, and no description has
--- arrays
+-- what a record needs so that its code gives it: a number is one of 32 bits
 abbrev pub IsSayable : Record → Type 0
 IsSayable (records.Number z) = (n : ℕ) × (z ≡ pos n) × (n < 2 ^ 32)
 IsSayable (records.Words s) = Unit {0}
@@ -45,7 +44,7 @@ IsSayable (records.DataVar v mask quals) = Unit {0}
 IsSayable (records.Enumerator n text help) = Unit {0}
 IsSayable (records.Response n class text) = Unit {0}
 IsSayable (records.Member name item label help) = Unit {0}
-IsSayable (records.Element n v label help) = ⊥
+IsSayable (records.Element n v label help) = Unit {0}
 
 -- a number of 32 bits stays itself in 64
 pub wrap_small : (n : ℕ) → n < 2 ^ 32 → wrap 64 (pos n) ≡ pos n
@@ -93,28 +92,28 @@ number_is (negsuc n) h = absurd cc
 -- ---- what the records of a tree say of the records that the code gives
 
 module _ (unit : Description Target) (few : (k : Kind) → count_of k unit.items ≤ 4096) where
-  entry_listed : (item : ItemNo) → item_exists (counts_in unit) item ≡ true → IsListed item
-  entry_listed (items.Variable n) h =
+  entry_listed : (item : ItemNo) → is_listed item ≡ true → item_exists (counts_in unit) item ≡ true
+      → IsListed item
+  entry_listed (items.Variable n) listed h =
       omega (arith, ltb-true n.0 (count_of kind.Variable unit.items) h, few kind.Variable)
-  entry_listed (items.Command n) h = omega (
+  entry_listed (items.Command n) listed h = omega (
     arith,
     ltb-true n.0 (count_of kind.Command unit.items) h,
     few kind.Command,
   )
-  entry_listed (items.Menu n) h = omega (
+  entry_listed (items.Menu n) listed h = omega (
     arith,
     ltb-true n.0 (count_of kind.Menu unit.items) h,
     few kind.Menu,
   )
-  entry_listed (items.Collection n) h =
+  entry_listed (items.Collection n) listed h =
       omega (arith, ltb-true n.0 (count_of kind.Collection unit.items) h, few kind.Collection)
-  entry_listed (items.Method n) h = omega (
+  entry_listed (items.Method n) listed h = omega (
     arith,
     ltb-true n.0 (count_of kind.Method unit.items) h,
     few kind.Method,
   )
-  entry_listed (items.Array n) h =
-      omega (arith, ltb-true n.0 (count_of kind.Array unit.items) h, no_arrays unit.items)
+  entry_listed (items.Array n) listed h = absurd cc
 
   module _ (strings : List Words) (few_strings : length strings ≤ 65535) where
     string_small : (w : Words) (s : StrNo) → IsString (string_of_table strings) w s → s.0 < 65535
@@ -139,7 +138,9 @@ module _ (unit : Description Target) (few : (k : Kind) → count_of k unit.items
         subst IsSpelledRecord (sym (same ∙ ap records.Number n.1))
         ((n.2, (tt, tt)), (n.0, refl, n.2))
     record_spelled (source.Entry item quals) r fine same =
-        subst IsSpelledRecord (sym same) (((entry_listed item fine, menu_small quals), tt), tt)
+        let parts = both_of (is_listed item) (item_exists (counts_in unit) item) fine in
+        subst IsSpelledRecord (sym same)
+        (((entry_listed item parts.0 parts.1, menu_small quals), tt), tt)
     record_spelled (source.DataConst n) r fine same =
         subst IsSpelledRecord (sym same) ((ltb-true n 256 fine, tt), tt)
     record_spelled (source.DataVar v mask quals) r fine same =
@@ -148,7 +149,7 @@ module _ (unit : Description Target) (few : (k : Kind) → count_of k unit.items
         subst IsSpelledRecord (sym same) (
           (
             (
-              entry_listed (items.Variable v) parts.0,
+              entry_listed (items.Variable v) refl parts.0,
               ltb-true (mask_number mask) (2 ^ 32) parts.1,
               data_small quals,
             ),
@@ -181,13 +182,31 @@ module _ (unit : Description Target) (few : (k : Kind) → count_of k unit.items
           tt,
         )
     record_spelled (source.Member name item label help) r fine same =
+        let parts = both_of (is_listed item) (item_exists (counts_in unit) item) fine in
         subst IsSpelledRecord (sym same.3) (
           (
             (
               omega (arith, string_small name same.0 same.4),
-              entry_listed item fine,
+              entry_listed item parts.0 parts.1,
               optional_small label same.1 same.5,
               optional_small help same.2 same.6,
+            ),
+            tt,
+          ),
+          tt,
+        )
+    record_spelled (source.Element number var label help) r fine same =
+        let parts = both_of (nat_lt number (2 ^ 32) && variable_exists (counts_in unit) var)
+        (nat_lt 0 (counts_in unit).arrays) fine in
+        let front = both_of (nat_lt number (2 ^ 32)) (variable_exists (counts_in unit) var) parts.0
+        in
+        subst IsSpelledRecord (sym same.2) (
+          (
+            (
+              ltb-true number (2 ^ 32) front.0,
+              entry_listed (items.Variable var) refl front.1,
+              optional_small label same.0 same.3,
+              optional_small help same.1 same.4,
             ),
             tt,
           ),
@@ -221,7 +240,7 @@ module _ (unit : Description Target) (few : (k : Kind) → count_of k unit.items
     item_there (items.Array n) h = h
 
     abbrev Exists : Record → Type 0
-    Exists r = list_all (names_exist context) (giving r) ≡ true
+    Exists r = list_all (may_stand context) (giving r) ≡ true
 
     pub record_exists : (x : source.Record) (r : Record) → is_fine unit x ≡ true
         → SameRecord (string_of_table strings) x r → Exists r
@@ -229,7 +248,9 @@ module _ (unit : Description Target) (few : (k : Kind) → count_of k unit.items
         subst Exists (sym same.1) (rw (string_there w same.0 same.2) refl)
     record_exists (source.Number z) r fine same = subst Exists (sym same) refl
     record_exists (source.Entry item quals) r fine same =
-        subst Exists (sym same) (rw (item_there item fine) refl)
+        subst Exists (sym same)
+        (rw (item_there item (both_of (is_listed item) (item_exists (counts_in unit) item) fine).1)
+        refl)
     record_exists (source.DataConst n) r fine same = subst Exists (sym same) refl
     record_exists (source.DataVar v mask quals) r fine same =
         subst Exists (sym same) (rw
@@ -244,8 +265,20 @@ module _ (unit : Description Target) (few : (k : Kind) → count_of k unit.items
         subst Exists (sym same.3)
         (rw (
           string_there name same.0 same.4,
-          item_there item fine,
+          item_there item (both_of (is_listed item) (item_exists (counts_in unit) item) fine).1,
           optional_there label same.1
               same.5,
           optional_there help same.2 same.6,
+        ) refl)
+    record_exists (source.Element number var label help) r fine same =
+        let parts = both_of (nat_lt number (2 ^ 32) && variable_exists (counts_in unit) var)
+        (nat_lt 0 (counts_in unit).arrays) fine in
+        let front = both_of (nat_lt number (2 ^ 32)) (variable_exists (counts_in unit) var) parts.0
+        in
+        subst Exists (sym same.2)
+        (rw (
+          parts.1,
+          front.1,
+          optional_there label same.0 same.3,
+          optional_there help same.1 same.4,
         ) refl)

@@ -70,3 +70,6 @@ module _ (strings : List Words) where
       first_held name (option_to_list label ++ option_to_list help) same.0 same.4
       (both_held (option_to_list label) (option_to_list help)
       (optional_held label same.1 same.5) (optional_held help same.2 same.6)) v held
+  record_held (source.Element number var label help) r same v held =
+      both_held (option_to_list label) (option_to_list help) (optional_held label same.0 same.3)
+      (optional_held help same.1 same.4) v held

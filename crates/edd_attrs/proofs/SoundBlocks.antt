@@ -1,6 +1,6 @@
 -- The block of a conditional finds its operands, leaves none, names what exists, and is short.
 use Rattle.std.proofs.Common.{◌≡◌, refl, sym, ap, subst, ◌∙◌, ℕ, suc, ◌+◌, ◌*◌, ◌≤◌, Bool, true, arith}
-use Rattle.std.specs.Prelude.{max}
+use Rattle.std.specs.Prelude.{◌&&◌, max}
 use Rattle.std.proofs.Math.Nat.{le-max_left, le-max_right}
 use Rattle.edd_syntax.specs.declared.reference.Target.{Target}
 use Rattle.edd_syntax.specs.Expression.{Expr}
@@ -9,10 +9,12 @@ use Rattle.edd_syntax.specs.Size.{nodes, height, cond_nodes, conds_nodes, arms_n
 use Rattle.edd_syntax.specs.WellFormed.{is_label, is_pure_expr, is_cond, are_conds, are_arms}
 use Rattle.edd_image.specs.declared.instruction.Instruction.TheVariants as instruction
 use Rattle.edd_image.specs.declared.unit.Context.{Context}
-use Rattle.edd_image.specs.References.{names_exist}
+use Rattle.edd_image.specs.declared.unit.Sort.{Sort}
+use Rattle.edd_image.specs.declared.unit.Sort.TheVariants.{Attribute, Method}
+use Rattle.edd_image.specs.Units.{is_allowed}
 use Rattle.edd_code.specs.Blocks as block
 use Rattle.edd_code.specs.Blocks.{Block, size}
-use Rattle.edd_code.specs.Flow.{AreSpelled, Flows, all_straight, depth_after}
+use Rattle.edd_code.specs.Flow.{AreSpelled, Flows, all_straight, depth_after, may_stand}
 use Rattle.edd_code.specs.Expressions.{expression_block}
 use Rattle.edd_attrs.specs.TreeBlocks.{IsCondBlock, IsCondsBlock, IsArmsBlock, IsDefaultBlock}
 use Rattle.edd_attrs.proofs.RecordOperands.{label_fits}
@@ -26,7 +28,7 @@ pub record ExpressionFacts (context : Context) (reads : Target → Bool) : Type 
   pub spelled : (e : Expr Target) → is_pure_expr reads reads e ≡ true
       → AreSpelled (expression_block e)
   pub exist : (e : Expr Target) → is_pure_expr reads reads e ≡ true
-      → all_straight (names_exist context) (expression_block e) ≡ true
+      → all_straight (may_stand context) (expression_block e) ≡ true
 
 module _ (context : Context) where
   -- a block that stands alone, of so many nodes
@@ -34,7 +36,7 @@ module _ (context : Context) where
     pub flows : Flows b 0
     pub even : depth_after b 0 ≡ 0
     pub spelled : AreSpelled b
-    pub exist : all_straight (names_exist context) b ≡ true
+    pub exist : all_straight (may_stand context) b ≡ true
     pub short : size b ≤ 32 * n
 
   -- a block that takes one operand, of so many bytes
@@ -42,7 +44,7 @@ module _ (context : Context) where
     flows : Flows b 1
     even : depth_after b 1 ≡ 0
     spelled : AreSpelled b
-    exist : all_straight (names_exist context) b ≡ true
+    exist : all_straight (may_stand context) b ≡ true
     short : size b ≤ n
 
   may_be_longer : (b : Block) (m n : ℕ) → m ≤ n → TakesOne b m → TakesOne b n
@@ -114,13 +116,20 @@ module _ (context : Context) where
       short = omega (arith, s.short, t.short);
     }
 
+    pop_stands : may_stand context instruction.Pop ≡ true
+    pop_stands = in_sort context.sort
+      where
+        in_sort : (s : Sort) → (is_allowed context.version s instruction.Pop && true) ≡ true
+        in_sort Attribute = refl
+        in_sort Method = refl
+
     drop_takes : (y : Block) (n : ℕ) → IsSound y n
         → TakesOne (block.Then (block.Straight instruction.Pop) y) (1 + 32 * n)
     drop_takes y n t = record {
       flows = ((refl, omega arith, omega arith), t.flows);
       even = t.even;
       spelled = (tt, t.spelled);
-      exist = t.exist;
+      exist = both_true pop_stands t.exist;
       short = omega (arith, t.short);
     }
 

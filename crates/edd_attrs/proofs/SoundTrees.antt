@@ -21,17 +21,16 @@ use Rattle.edd_syntax.specs.Item.{Description}
 use Rattle.edd_syntax.specs.Resolution.{count_of}
 use Rattle.edd_syntax.specs.Words.{Words}
 use Rattle.edd_syntax.specs.Attributes as source
-use Rattle.edd_syntax.specs.Attributes.{bit, handling_number, operation_number, enumerator, data_item, response, entry, member}
+use Rattle.edd_syntax.specs.Attributes.{bit, handling_number, operation_number, enumerator, data_item, response, entry, member, element}
 use Rattle.edd_syntax.specs.Size.{leaf, height, nodes, cond_nodes, conds_nodes, cond_height, conds_height}
 use Rattle.edd_syntax.specs.SubsetRules.{values_of, conds_defaults}
 use Rattle.edd_syntax.specs.WellFormed.{is_text, if_some, is_pure_expr, is_cond, are_conds, is_single}
 use Rattle.edd_image.specs.declared.instruction.Instruction.TheVariants as instruction
 use Rattle.edd_image.specs.declared.unit.Context.{Context}
-use Rattle.edd_image.specs.References.{names_exist}
 use Rattle.edd_image.specs.Agreement.{string_of_table, attribute_context}
 use Rattle.edd_code.specs.Blocks as block
 use Rattle.edd_code.specs.Blocks.{Block, size}
-use Rattle.edd_code.specs.Flow.{AreSpelled, Flows, all_straight, depth_after}
+use Rattle.edd_code.specs.Flow.{AreSpelled, Flows, all_straight, depth_after, may_stand}
 use Rattle.edd_code.specs.Reads.{reads_existing}
 use Rattle.edd_code.proofs.ExpressionFlow.{expression_runs}
 use Rattle.edd_code.proofs.ExpressionSizes.{is_short}
@@ -41,9 +40,9 @@ use Rattle.edd_attrs.specs.Trees.{Tree}
 use Rattle.edd_attrs.specs.Records.{text_record, class_record, handling_record, validity_record, is_fine, kept_data}
 use Rattle.edd_attrs.specs.Sizes.{tree_nodes, length_limit}
 use Rattle.edd_attrs.specs.TreeBlocks.{elements, IsCondBlock, IsCondsBlock, IsLineBlock, IsRecordBlock, IsValueBlock, Giving, IsTreeBlock}
-use Rattle.edd_attrs.proofs.GoodTrees.{is_low, is_small, any_value, good_cond, good_enumerator, good_expression, good_response, good_data, good_entry, good_member, is_good}
+use Rattle.edd_attrs.proofs.GoodParts.{is_low, is_small, any_value, good_cond, good_enumerator, good_expression, good_response, good_data, good_entry, good_member, good_array_element, is_good}
 use Rattle.edd_attrs.proofs.CheckedTrees.{reads_of, is_ruled, is_whole, no_breach}
-use Rattle.edd_attrs.proofs.ElementFacts.{conds_both, elements_tested, elements_low, elements_nodes, enumerator_fine, response_fine, member_fine, entry_fine, data_fine}
+use Rattle.edd_attrs.proofs.ElementFacts.{conds_both, elements_tested, elements_low, elements_nodes, enumerator_fine, response_fine, member_fine, array_element_fine, entry_fine, data_fine}
 use Rattle.edd_attrs.proofs.SoundBlocks.{ExpressionFacts, IsSound, nothing_sound, then_sound, cond_sound, conds_sound}
 use Rattle.edd_attrs.proofs.RecordBlocks.{record_is_sound, line_short}
 use Rattle.edd_code.proofs.BothTests.{both_of}
@@ -100,8 +99,10 @@ module _ (unit : Description Target) (few : (k : Kind) → count_of k unit.items
     flows = λ e d h. let runs = expression_runs e d h in (runs.flows, runs.after);
     short = is_short;
     spelled = λ e h. is_spelled (attribute_context unit strings).counts reads
-        (omega (arith, few kind.Variable)) e (pure_there strings e h);
-    exist = λ e h. is_named (attribute_context unit strings) reads e (pure_there strings e h);
+        (omega (arith, few kind.Variable)) (omega (arith, few kind.Array)) e
+        (pure_there strings e h);
+    exist = λ e h. is_named (attribute_context unit strings).version
+        (attribute_context unit strings).counts reads refl e (pure_there strings e h);
   }
 
   number_fine : (n : ℕ) → is_small n ≡ true → is_fine unit (source.Number (pos n)) ≡ true
@@ -118,7 +119,7 @@ module _ (unit : Description Target) (few : (k : Kind) → count_of k unit.items
       pub flows : Flows b 0
       pub even : depth_after b 0 ≡ 0
       pub spelled : AreSpelled b
-      pub exist : all_straight (names_exist context) b ≡ true
+      pub exist : all_straight (may_stand context) b ≡ true
       pub short : size b + 1 ≤ length_limit t
 
     sound_unit : (b : Block) (t : Tree) (n : ℕ) → 32 * n + 1 ≤ length_limit (Some t)
@@ -289,3 +290,7 @@ module _ (unit : Description Target) (few : (k : Kind) → count_of k unit.items
         sound_unit b _ _ (omega arith)
         (line_sound member (good_member count reads) (member_fine unit reads) members b is
         (good (trees.Members members) h))
+    tree_sound (trees.Elements all) b h is =
+        sound_unit b _ _ (omega arith)
+        (line_sound element (good_array_element count reads) (array_element_fine unit reads) all b is
+        (good (trees.Elements all) h))

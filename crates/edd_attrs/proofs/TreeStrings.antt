@@ -4,19 +4,19 @@ use Rattle.std.specs.List.{flat_map, list_all}
 use Rattle.std.proofs.lemmas.List.{map-append}
 use Rattle.edd_syntax.specs.declared.reference.Target.{Target}
 use Rattle.edd_syntax.specs.declared.types.Handling as handling
-use Rattle.edd_syntax.specs.Attributes.{enumerator, data_item, response, entry, member}
+use Rattle.edd_syntax.specs.Attributes.{enumerator, data_item, response, entry, member, element}
 use Rattle.edd_syntax.specs.Conditional.{Cond, Conds}
 use Rattle.edd_syntax.specs.Expression.{Expr}
 use Rattle.edd_syntax.specs.Item as item
 use Rattle.edd_syntax.specs.Item.{DataItem, MenuEntry, TypePart}
-use Rattle.edd_syntax.specs.Strings.{enumerator_texts, entry_texts, optional_text, strings_of_texts, member_strings}
+use Rattle.edd_syntax.specs.Strings.{enumerator_texts, entry_texts, array_element_texts, optional_text, strings_of_texts, member_strings}
 use Rattle.edd_syntax.specs.SubsetRules.{values_in, values_of}
 use Rattle.edd_syntax.specs.Text as texts
 use Rattle.edd_syntax.specs.Words.{Words, words_of, name_words}
 use Rattle.edd_attrs.specs.Records.{text_record, class_record, handling_record, validity_record, strings_of_record}
 use Rattle.edd_attrs.specs.Sizes.{element_texts, tree_strings}
 use Rattle.edd_attrs.specs.TreeBlocks.{elements}
-use Rattle.edd_attrs.specs.Trees.{Texts, Class, Handling, Validity, Expressions, Enumerators, Data, ResponseCodes, Items, Members}
+use Rattle.edd_attrs.specs.Trees.{Texts, Class, Handling, Validity, Expressions, Enumerators, Data, ResponseCodes, Items, Members, Elements}
 use Rattle.edd_attrs.specs.Writing.{cond_strings, conds_strings, element_strings, enumerator_strings}
 use Rattle.edd_attrs.proofs.Flat.{element_strings_are}
 
@@ -72,6 +72,18 @@ of_member m = here m.label m.help
   where
     here : (l h : Option texts.Text) → strings_of_record (member (record m { label = l; help = h }))
         ≡ name_words m.name ∷ strings_of_texts (optional_text l ++ optional_text h)
+    here None None = refl
+    here None (Some h) = refl
+    here (Some l) None = refl
+    here (Some l) (Some h) = refl
+
+of_array_element : (e : item.ArrayElement Target) → strings_of_record (element e)
+    ≡ strings_of_texts (array_element_texts e)
+of_array_element e = here e.label e.help
+  where
+    here : (l h : Option texts.Text)
+        → strings_of_record (element (record e { label = l; help = h }))
+        ≡ strings_of_texts (optional_text l ++ optional_text h)
     here None None = refl
     here None (Some h) = refl
     here (Some l) None = refl
@@ -145,3 +157,10 @@ pub of_members : (members : List (item.Member Target))
     → flat_map (λ m. strings_of_record (member m)) members ≡ tree_strings (Members members)
 unfolding tree_strings
 of_members members = same_each (λ m. strings_of_record (member m)) member_strings members of_member
+
+pub of_array_elements : (all : List (item.ArrayElement Target))
+    → flat_map (λ e. strings_of_record (element e)) all ≡ tree_strings (Elements all)
+unfolding tree_strings
+of_array_elements all = same_each (λ e. strings_of_record (element e))
+    (λ e. strings_of_texts (array_element_texts e)) all of_array_element
+    ∙ map_flat words_of array_element_texts all

@@ -142,6 +142,7 @@ module _ (test : Words → Bool) where
   attribute_passes (item.ResponseCodes responses) h = alone h
   attribute_passes (item.Items entries) h = alone h
   attribute_passes (item.Members members) h = alone h
+  attribute_passes (item.Elements all) h = alone h
   attribute_passes (item.Definition body) h = refl
 
   attributes_pass : (attributes : List (Attribute Target))

@@ -188,6 +188,23 @@ member_written old named labelled new before after i w o p s l h first keeps sec
       helps later,
     ))
 
+pub array_element_written : (old labelled new : List Words) (before after : List ℕ) (n : ℕ)
+    (v : VarNo) (o p : Option Words) (l h : Option StrNo) → GrowsBy old (option_to_list o) labelled
+    → KeepsOptional labelled o l → GrowsBy labelled (option_to_list p) new
+    → KeepsOptional new p h
+    → after ≡ before ++ spelling (instruction.Element n v l h)
+    → WritesRecord old before (source.Element n v o p) new after
+array_element_written old labelled new before after n v o p l h first labels second helps is =
+    record_written old new before after (source.Element n v o p) (records.Element n v l h)
+    (instruction.Element n v l h) refl (both_added first second) is
+    (λ later. (
+      l,
+      h,
+      refl,
+      keeps_optional_on labelled new o l labels (growth second) later,
+      helps later,
+    ))
+
 -- ---- whole units
 
 pub unit_lowered : (tree : Option Tree) (old new table : List Words)

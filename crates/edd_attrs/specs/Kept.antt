@@ -4,8 +4,8 @@ use Rattle.std.specs.Prelude.{Bool, true, Option, Some, None}
 use Rattle.std.specs.List.{list_all}
 use Rattle.edd_syntax.specs.WellFormed.{is_text}
 use Rattle.edd_syntax.specs.SubsetRules.{values_in, values_of}
-use Rattle.edd_attrs.specs.Records.{kept_enumerator, kept_entry, kept_data, kept_response, kept_member}
-use Rattle.edd_attrs.specs.Trees.{Tree, Texts, Class, Handling, Validity, Expressions, Enumerators, Number, Operation, Transaction, Data, ResponseCodes, Items, Members}
+use Rattle.edd_attrs.specs.Records.{kept_enumerator, kept_entry, kept_data, kept_response, kept_member, kept_array_element}
+use Rattle.edd_attrs.specs.Trees.{Tree, Texts, Class, Handling, Validity, Expressions, Enumerators, Number, Operation, Transaction, Data, ResponseCodes, Items, Members, Elements}
 use Rattle.edd_attrs.specs.TreeBlocks.{elements}
 
 unfoldable pub is_kept_tree : Tree → Bool
@@ -22,6 +22,7 @@ is_kept_tree (Data all) = list_all kept_data (values_of all)
 is_kept_tree (ResponseCodes responses) = list_all kept_response responses
 is_kept_tree (Items entries) = list_all kept_entry (values_of entries)
 is_kept_tree (Members members) = list_all kept_member members
+is_kept_tree (Elements all) = list_all kept_array_element all
 
 abbrev pub is_kept_row : Option Tree → Bool
 is_kept_row None = true

@@ -1,7 +1,9 @@
 -- The records of elements, their strings, and what those of a checked description keep.
-use Rattle.std.specs.Prelude.{◌^◌, ℤ, pos, negsuc, unsigned_abs, nat_lt, ◌&&◌, Bool, true, false, List, [], ◌∷◌, ◌++◌}
+use Rattle.std.specs.Prelude.{◌^◌, ℤ, pos, negsuc, unsigned_abs, nat_lt, ◌&&◌, Bool, true, false, not, List, [], ◌∷◌, ◌++◌}
 use Rattle.std.specs.List.{flat_map}
 use Rattle.std.specs.Option.{option_to_list}
+use Rattle.edd_syntax.specs.declared.numbers.ItemNo.{ItemNo}
+use Rattle.edd_syntax.specs.declared.numbers.Kind.TheVariants as kind
 use Rattle.edd_syntax.specs.declared.reference.Target.{Target}
 use Rattle.edd_syntax.specs.declared.types.Handling as handling
 use Rattle.edd_syntax.specs.Item as item
@@ -12,8 +14,9 @@ use Rattle.edd_image.specs.Agreement.{mask_number, counts_of}
 use Rattle.edd_syntax.specs.Text.{Text, Name}
 use Rattle.edd_syntax.specs.Words as words
 use Rattle.edd_syntax.specs.Words.{words_of, name_words}
+use Rattle.edd_syntax.specs.Numbers.{kind_of, same_kind}
 use Rattle.edd_syntax.specs.WellFormed.{is_text, if_some}
-use Rattle.edd_syntax.specs.Attributes.{Record, Words, Number, Entry, DataConst, DataVar, Enumerator, Response, Member, bit, handling_number}
+use Rattle.edd_syntax.specs.Attributes.{Record, Words, Number, Entry, DataConst, DataVar, Enumerator, Response, Member, Element, bit, handling_number}
 
 -- ---- records
 
@@ -41,6 +44,7 @@ strings_of_record (Enumerator value text help) = text ∷ option_to_list help
 strings_of_record (Response number class text) = text ∷ []
 strings_of_record (Member name item label help) = name
     ∷ (option_to_list label ++ option_to_list help)
+strings_of_record (Element number variable label help) = option_to_list label ++ option_to_list help
 
 abbrev pub strings_of : List Record → List words.Words
 strings_of rs = flat_map strings_of_record rs
@@ -58,17 +62,23 @@ is_label z = nat_lt (unsigned_abs z) (2 ^ 32)
 abbrev pub counts_in : Description Target → Counts
 counts_in unit = counts_of unit.identification unit.items 0
 
--- items exist, and numbers fit the operands of instructions
+-- no entry and no member is an array
+abbrev pub is_listed : ItemNo → Bool
+is_listed i = not (same_kind (kind_of i) kind.Array)
+
+-- items exist, and numbers fit the operands of instructions; an element is that of an array
 abbrev pub is_fine : Description Target → Record → Bool
 is_fine unit (Words w) = true
 is_fine unit (Number z) = is_number z
-is_fine unit (Entry item quals) = item_exists (counts_in unit) item
+is_fine unit (Entry item quals) = is_listed item && item_exists (counts_in unit) item
 is_fine unit (DataConst n) = nat_lt n 256
 is_fine unit (DataVar v mask quals) = variable_exists (counts_in unit) v
     && nat_lt (mask_number mask) (2 ^ 32)
 is_fine unit (Enumerator value text help) = is_label value
 is_fine unit (Response number class text) = nat_lt number (2 ^ 32)
-is_fine unit (Member name item label help) = item_exists (counts_in unit) item
+is_fine unit (Member name item label help) = is_listed item && item_exists (counts_in unit) item
+is_fine unit (Element number variable label help) = (nat_lt number (2 ^ 32)
+    && variable_exists (counts_in unit) variable) && nat_lt 0 (counts_in unit).arrays
 
 -- ---- what the elements of a checked description keep
 
@@ -88,3 +98,6 @@ kept_response r = is_text r.text
 
 abbrev pub kept_member : item.Member Target → Bool
 kept_member m = if_some is_text m.label && if_some is_text m.help
+
+abbrev pub kept_array_element : item.ArrayElement Target → Bool
+kept_array_element e = if_some is_text e.label && if_some is_text e.help

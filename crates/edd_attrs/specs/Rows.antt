@@ -22,6 +22,7 @@ transaction_in (item.Operation o) = None
 transaction_in (item.ResponseCodes responses) = None
 transaction_in (item.Items entries) = None
 transaction_in (item.Members members) = None
+transaction_in (item.Elements elements) = None
 transaction_in (item.Definition body) = None
 
 abbrev pub one_part : TransactionPart Target → List Named

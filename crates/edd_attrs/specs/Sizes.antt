@@ -8,9 +8,9 @@ use Rattle.edd_syntax.specs.Item.{TypePart, Description}
 use Rattle.edd_syntax.specs.Text as texts
 use Rattle.edd_syntax.specs.Words.{Words, name_words}
 use Rattle.edd_syntax.specs.SubsetRules.{values_in, values_of}
-use Rattle.edd_syntax.specs.Strings.{enumerator_texts, entry_texts, strings_of_texts, member_strings}
+use Rattle.edd_syntax.specs.Strings.{enumerator_texts, entry_texts, array_element_texts, strings_of_texts, member_strings}
 use Rattle.edd_syntax.specs.Size.{nodes, leaf, cond_nodes, conds_nodes}
-use Rattle.edd_attrs.specs.Trees.{Tree, Texts, Class, Handling, Validity, Expressions, Enumerators, Number, Operation, Transaction, Data, ResponseCodes, Items, Members, tree_at}
+use Rattle.edd_attrs.specs.Trees.{Tree, Texts, Class, Handling, Validity, Expressions, Enumerators, Number, Operation, Transaction, Data, ResponseCodes, Items, Members, Elements, tree_at}
 
 -- ---- strings
 
@@ -37,6 +37,7 @@ tree_strings (Data all) = []
 tree_strings (ResponseCodes responses) = strings_of_texts (map (λ r. r.text) responses)
 tree_strings (Items entries) = strings_of_texts (flat_map entry_texts (values_of entries))
 tree_strings (Members members) = flat_map member_strings members
+tree_strings (Elements all) = strings_of_texts (flat_map array_element_texts all)
 
 abbrev pub strings_of_tree : Option Tree → List Words
 strings_of_tree None = []
@@ -71,6 +72,7 @@ tree_nodes (Data all) = 1 + conds_nodes leaf all
 tree_nodes (ResponseCodes responses) = 1 + length responses
 tree_nodes (Items entries) = 1 + conds_nodes leaf entries
 tree_nodes (Members members) = 1 + length members
+tree_nodes (Elements all) = 1 + length all
 
 -- ---- the length of code: 32 bytes a node, a transaction's number 30, and 1 for an attribute that
 -- isn't written

@@ -8,7 +8,7 @@ use Rattle.edd_syntax.specs.Item as item
 use Rattle.edd_syntax.specs.Item.{TypePart}
 use Rattle.edd_syntax.specs.Words.{Words}
 use Rattle.edd_syntax.specs.Attributes as source
-use Rattle.edd_syntax.specs.Attributes.{operation_number, enumerator, data_item, response, entry, member}
+use Rattle.edd_syntax.specs.Attributes.{operation_number, enumerator, data_item, response, entry, member, element}
 use Rattle.edd_image.specs.declared.records.Record.{Record}
 use Rattle.edd_image.specs.declared.instruction.Instruction.{Instruction}
 use Rattle.edd_image.specs.declared.instruction.Instruction.TheVariants as instruction
@@ -18,7 +18,7 @@ use Rattle.edd_code.specs.Blocks.{Block}
 use Rattle.edd_code.specs.Expressions.{expression_block}
 use Rattle.edd_attrs.specs.Code.{giving}
 use Rattle.edd_attrs.specs.Records.{text_record, class_record, handling_record, validity_record}
-use Rattle.edd_attrs.specs.Trees.{Tree, Texts, Class, Handling, Validity, Expressions, Enumerators, Number, Operation, Transaction, Data, ResponseCodes, Items, Members}
+use Rattle.edd_attrs.specs.Trees.{Tree, Texts, Class, Handling, Validity, Expressions, Enumerators, Number, Operation, Transaction, Data, ResponseCodes, Items, Members, Elements}
 
 -- instructions one behind the other
 abbrev pub straight_line : List Instruction → Block
@@ -101,6 +101,7 @@ module _ (string_numbered : StrNo → Option Words) where
   IsTreeBlock (ResponseCodes responses) b = IsLineBlock (Giving response) responses b
   IsTreeBlock (Items entries) b = IsCondsBlock (Giving entry) entries b
   IsTreeBlock (Members members) b = IsLineBlock (Giving member) members b
+  IsTreeBlock (Elements all) b = IsLineBlock (Giving element) all b
 
   -- an attribute that isn't written gives nothing
   abbrev pub IsBlockOf : Option Tree → Block → Type 0

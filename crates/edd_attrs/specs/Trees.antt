@@ -30,6 +30,7 @@ pub data Tree : Type 0 where
   ResponseCodes : List item.ResponseCode → Tree
   Items : Conds Target (MenuEntry Target) → Tree
   Members : List (item.Member Target) → Tree
+  Elements : List (item.ArrayElement Target) → Tree
 
 -- a tree under its attribute
 abbrev pub Named : Type 0
@@ -63,6 +64,7 @@ trees_of_attribute (item.ResponseCodes responses) = (attr.ResponseCodes, Respons
     ∷ []
 trees_of_attribute (item.Items entries) = (attr.Items, Items entries) ∷ []
 trees_of_attribute (item.Members members) = (attr.Members, Members members) ∷ []
+trees_of_attribute (item.Elements elements) = (attr.Elements, Elements elements) ∷ []
 trees_of_attribute (item.Definition body) = []
 
 abbrev pub trees_of : List (Attribute Target) → List Named

@@ -3,7 +3,7 @@ use Rattle.std.specs.Prelude.{ℕ, List, Option, map, string_bytes}
 use Rattle.std.specs.Borrow.{Bor}
 use Rattle.edd_syntax.specs.TreeView.{numbered_expr}
 use Rattle.edd_syntax.specs.WordsView.{text_of}
-use Rattle.edd_syntax.specs.ItemView.{response_code_of, numbered_cond, numbered_conds, numbered_data_item, numbered_entry, numbered_member, numbered_transaction_part, numbered_type_part}
+use Rattle.edd_syntax.specs.ItemView.{response_code_of, numbered_cond, numbered_conds, numbered_data_item, numbered_entry, numbered_member, numbered_array_element, numbered_transaction_part, numbered_type_part}
 use Rattle.edd_attrs.specs.declared.trees.Tree.{Tree}
 use Rattle.edd_attrs.specs.declared.trees.Tree.TheVariants as tree
 use Rattle.edd_syntax.specs.declared.item.TransactionPart.{TransactionPart}
@@ -25,6 +25,7 @@ tree_of (tree.Data all) = trees.Data (numbered_conds numbered_data_item all.now)
 tree_of (tree.ResponseCodes responses) = trees.ResponseCodes (map response_code_of responses.now)
 tree_of (tree.Items entries) = trees.Items (numbered_conds numbered_entry entries.now)
 tree_of (tree.Members members) = trees.Members (map numbered_member members.now)
+tree_of (tree.Elements all) = trees.Elements (map numbered_array_element all.now)
 
 -- a transaction's number and parts
 abbrev pub transaction_of : Option ℕ × Bor (List (TransactionPart Target)) → List trees.Named

@@ -7,7 +7,8 @@ ghost use Rattle.edd_syntax.specs.declared.types.Handling.{Handling};
 ghost use Rattle.edd_syntax.specs.Attributes as source;
 ghost use Rattle.edd_syntax.specs.Expression as expression;
 ghost use Rattle.edd_syntax.specs.Item as item;
-ghost use Rattle.edd_syntax.specs.ItemView.{enumerator_of, response_code_of, numbered_data_item, numbered_entry, numbered_member};
+ghost use Rattle.edd_syntax.specs.ItemView.{enumerator_of, response_code_of, numbered_array_element, numbered_data_item, numbered_entry, numbered_member};
+ghost use Rattle.edd_syntax.specs.Targets as targets;
 ghost use Rattle.edd_syntax.specs.Text as texts;
 ghost use Rattle.edd_syntax.specs.TreeView.{numbered_expr};
 ghost use Rattle.edd_syntax.specs.WellFormed.{is_text};
@@ -17,7 +18,7 @@ ghost use Rattle.edd_image.specs.Agreement as agreement;
 ghost use Rattle.edd_code.specs.Blocks.{Block};
 ghost use Rattle.edd_code.specs.Tables.{Grows, Overflows};
 ghost use Rattle.edd_code.specs.Written.{WritesBlock};
-ghost use Rattle.edd_attrs.specs.Records.{class_record, handling_record, kept_data, kept_entry, kept_enumerator, kept_member, kept_response, strings_of_record, text_record, validity_record};
+ghost use Rattle.edd_attrs.specs.Records.{class_record, handling_record, kept_array_element, kept_data, kept_entry, kept_enumerator, kept_member, kept_response, strings_of_record, text_record, validity_record};
 ghost use Rattle.edd_attrs.specs.TreeBlocks.{Giving, IsValueBlock};
 ghost use Rattle.edd_attrs.specs.Writing.{WritesRecord};
 
@@ -26,7 +27,8 @@ use edd_image::{Emitter, Instruction};
 use edd_strings::Table;
 use edd_syntax::expr::Expr;
 use edd_syntax::item::{
-    DataItem, DataQualifiers, Enumerator, Member, MenuEntry, MenuQualifiers, ResponseCode,
+    ArrayElement, DataItem, DataQualifiers, Enumerator, Member, MenuEntry, MenuQualifiers,
+    ResponseCode,
 };
 use edd_syntax::numbers::{ItemNo, StrNo, VarNo};
 use edd_syntax::reference::Target;
@@ -219,7 +221,7 @@ fn menu_bits(q: MenuQualifiers) -> u16
 
 // The item that a reference names; in a checked description it is one.
 fn item_of(target: Target) -> ItemNo
-    ensures { result ≡ source.item_of target }
+    ensures { result ≡ targets.item_of target }
 {
     match target {
         Target::Item(item) => item,
@@ -231,7 +233,7 @@ fn item_of(target: Target) -> ItemNo
 fn write_item(code: &mut Emitter, to: Target, qualifiers: MenuQualifiers) -> Result<(), AllocError>
     ensures { OnOk result
         ((table : List Words) → WritesRecord table code.old
-        (source.Entry (source.item_of to) qualifiers) table code.new) }
+        (source.Entry (targets.item_of to) qualifiers) table code.new) }
 {
     let (item, quals) = (item_of(to), menu_bits(qualifiers));
     put(code, Instruction::Item { item, quals })
@@ -272,7 +274,7 @@ fn data_bits(q: DataQualifiers) -> u8
 
 // The variable that a reference names; in a checked description it is one.
 fn variable_of(target: Target) -> VarNo
-    ensures { result ≡ source.variable_of target }
+    ensures { result ≡ targets.variable_of target }
 {
     match target {
         Target::Item(ItemNo::Variable(variable)) => variable,
@@ -299,7 +301,7 @@ fn write_variable(
 ) -> Result<(), AllocError>
     ensures { OnOk result
         ((table : List Words) → WritesRecord table code.old
-        (source.DataVar (source.variable_of variable) mask qualifiers) table code.new) }
+        (source.DataVar (targets.variable_of variable) mask qualifiers) table code.new) }
 {
     put(
         code,
@@ -351,7 +353,7 @@ impl Element for DataItem<Target> {
     }
 }
 
-// ---- enumerators, response codes and members
+// ---- enumerators, response codes, members and elements of arrays
 
 fn enumerated(e: &Enumerator, text: StrNo, help: Option<StrNo>) -> Instruction
     ensures { result ≡ Instruction.Enumerator (enumerator_of e.now).value text help }
@@ -457,6 +459,38 @@ impl Element for Member<Target> {
             Instruction::Member {
                 name,
                 item: item_of(self.item),
+                label,
+                help,
+            },
+        )?;
+        Ok(())
+    }
+}
+
+impl Element for ArrayElement<Target> {
+    ghost Meant = { item.ArrayElement Target };
+
+    ghost view = { numbered_array_element };
+
+    ghost strings = { λ v. strings_of_record (source.element v) };
+
+    ghost is_block = { λ numbered. Giving numbered source.element };
+
+    ghost is_kept = { kept_array_element };
+
+    fn write(
+        &self,
+        alloc: Global,
+        code: &mut Emitter,
+        table: &mut Table,
+    ) -> Result<(), LowerFault> {
+        let label = add_optional(alloc, table, &self.label)?;
+        let help = add_optional(alloc, table, &self.help)?;
+        put(
+            code,
+            Instruction::Element {
+                number: self.number,
+                var: variable_of(self.variable),
                 label,
                 help,
             },

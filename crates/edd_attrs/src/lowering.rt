@@ -128,6 +128,7 @@ fn write_tree(
         Tree::ResponseCodes(codes) => write_all(alloc, code, table, codes),
         Tree::Items(entries) => write_conds(alloc, code, table, entries),
         Tree::Members(members) => write_all(alloc, code, table, members),
+        Tree::Elements(elements) => write_all(alloc, code, table, elements),
     }
 }
 

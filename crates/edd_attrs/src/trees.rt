@@ -7,7 +7,9 @@ ghost use Rattle.edd_attrs.specs.Views as views;
 
 use edd_syntax::cond::Cond;
 use edd_syntax::expr::Expr;
-use edd_syntax::item::{Attribute, DataItem, Member, MenuEntry, ResponseCode, TypePart};
+use edd_syntax::item::{
+    ArrayElement, Attribute, DataItem, Member, MenuEntry, ResponseCode, TypePart,
+};
 use edd_syntax::numbers::Attr;
 use edd_syntax::reference::Target;
 use edd_syntax::text::Text;
@@ -30,6 +32,7 @@ pub enum Tree<'a> {
     ResponseCodes(&'a [ResponseCode]),
     Items(&'a [Cond<Target, MenuEntry<Target>>]),
     Members(&'a [Member<Target>]),
+    Elements(&'a [ArrayElement<Target>]),
 }
 
 // The tree of a part of a type.
@@ -81,6 +84,7 @@ fn tree_of<'a>(attribute: &'a Attribute<Target>, attr: Attr) -> Option<Tree<'a>>
         Attribute::ResponseCodes(codes) => (Attr::ResponseCodes, Tree::ResponseCodes(codes)),
         Attribute::Items(entries) => (Attr::Items, Tree::Items(entries)),
         Attribute::Members(members) => (Attr::Members, Tree::Members(members)),
+        Attribute::Elements(elements) => (Attr::Elements, Tree::Elements(elements)),
         Attribute::Transaction { .. } | Attribute::Definition(_) => return None,
     };
     if of == attr { Some(tree) } else { None }

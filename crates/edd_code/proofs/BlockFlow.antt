@@ -13,11 +13,11 @@ use Rattle.edd_syntax.specs.declared.reference.Target.{Target}
 use Rattle.edd_syntax.specs.declared.reference.Target.TheVariants.{Local, Item, Function}
 use Rattle.edd_image.specs.declared.instruction.Instruction.{Instruction}
 use Rattle.edd_image.specs.declared.instruction.Instruction.TheVariants as instruction
-use Rattle.edd_image.specs.declared.unit.Version.TheVariants.{One}
+use Rattle.edd_image.specs.declared.unit.Version.TheVariants.{Two}
 use Rattle.edd_image.specs.declared.unit.Sort.TheVariants.{Method}
 use Rattle.edd_image.specs.Units.{takes, leaves}
 use Rattle.edd_code.specs.Blocks.{Block, Nothing, Straight, Then, WhenNotZero, WhenZero, Either}
-use Rattle.edd_code.specs.Expressions.{no_value, item_block, unary_block, truth_block, then_test, instead}
+use Rattle.edd_code.specs.Expressions.{no_value, item_block, item_element_block, element_block, no_element, unary_block, truth_block, then_test, instead}
 use Rattle.edd_code.specs.Flow.{depth_after, left_of, is_straight_in, FlowsIn}
 use Rattle.edd_code.specs.MethodExpressions.{load_block, store_item_block, store_block, store_next_block, store_behind_block, increment_block}
 
@@ -25,19 +25,19 @@ use Rattle.edd_code.specs.MethodExpressions.{load_block, store_item_block, store
 
 -- finds its operands among d, and leaves n of them
 pub record Runs (b : Block) (d n : ℕ) : Type 0 where
-  pub flows : FlowsIn One Method b d
+  pub flows : FlowsIn Two Method b d
   pub after : depth_after b d ≡ n
 
 nothing_runs : (d : ℕ) → Runs Nothing d d
 nothing_runs d = record { flows = tt; after = refl }
 
-pub straight_runs : (i : Instruction) (d n : ℕ) → IsTrue (is_straight_in One Method i) → takes i ≤ d
+pub straight_runs : (i : Instruction) (d n : ℕ) → IsTrue (is_straight_in Two Method i) → takes i ≤ d
     → d ≤ 128 → d - takes i + left_of (leaves i) ≡ n → Runs (Straight i) d n
 straight_runs i d n is enough few at = record { flows = (is, enough, few); after = at }
 
 pub then_runs : (a b : Block) (d n m : ℕ) → Runs a d n → Runs b n m → Runs (Then a b) d m
 then_runs a b d n m p q = record {
-  flows = (p.flows, subst (λ (x : ℕ). FlowsIn One Method b x) (sym p.after) q.flows);
+  flows = (p.flows, subst (λ (x : ℕ). FlowsIn Two Method b x) (sym p.after) q.flows);
   after = ap (depth_after b) p.after ∙ q.after;
 }
 
@@ -49,7 +49,7 @@ when_not_zero_runs body d n at few p =
       flows = (
         omega arith,
         few,
-        subst (λ (x : ℕ). FlowsIn One Method body x) less p.flows,
+        subst (λ (x : ℕ). FlowsIn Two Method body x) less p.flows,
         ap (depth_after body) (sym less) ∙ p.after ∙ less,
       );
       after = sym less;
@@ -63,7 +63,7 @@ when_zero_runs body d n at few p =
       flows = (
         omega arith,
         few,
-        subst (λ (x : ℕ). FlowsIn One Method body x) less p.flows,
+        subst (λ (x : ℕ). FlowsIn Two Method body x) less p.flows,
         ap (depth_after body) (sym less) ∙ p.after ∙ less,
       );
       after = sym less;
@@ -80,8 +80,8 @@ either_runs first otherwise d n m at few short p q =
       flows = (
         omega arith,
         few,
-        subst (λ (x : ℕ). FlowsIn One Method first x) less p.flows,
-        subst (λ (x : ℕ). FlowsIn One Method otherwise x) less q.flows,
+        subst (λ (x : ℕ). FlowsIn Two Method first x) less p.flows,
+        subst (λ (x : ℕ). FlowsIn Two Method otherwise x) less q.flows,
         other ∙ sym one,
         omega (arith, one),
       );
@@ -90,17 +90,17 @@ either_runs first otherwise d n m at few short p q =
 
 -- an instruction that puts one operand on top, in place of the topmost, or in place of the two
 -- topmost
-pub push_runs : (i : Instruction) (d : ℕ) → IsTrue (is_straight_in One Method i) → takes i ≡ 0
+pub push_runs : (i : Instruction) (d : ℕ) → IsTrue (is_straight_in Two Method i) → takes i ≡ 0
     → left_of (leaves i) ≡ 1 → d ≤ 128 → Runs (Straight i) d (suc d)
 push_runs i d is none one few = straight_runs i d (suc d) is (omega (arith, none)) few
     (omega (arith, none, one))
 
-pub change_runs : (i : Instruction) (d : ℕ) → IsTrue (is_straight_in One Method i) → takes i ≡ 1
+pub change_runs : (i : Instruction) (d : ℕ) → IsTrue (is_straight_in Two Method i) → takes i ≡ 1
     → left_of (leaves i) ≡ 1 → suc d ≤ 128 → Runs (Straight i) (suc d) (suc d)
 change_runs i d is taken one few = straight_runs i (suc d) (suc d) is (omega (arith, taken)) few
     (omega (arith, taken, one))
 
-pub join_runs : (i : Instruction) (d : ℕ) → IsTrue (is_straight_in One Method i) → takes i ≡ 2
+pub join_runs : (i : Instruction) (d : ℕ) → IsTrue (is_straight_in Two Method i) → takes i ≡ 2
     → left_of (leaves i) ≡ 1 → suc (suc d) ≤ 128 → Runs (Straight i) (suc (suc d)) (suc d)
 join_runs i d is taken one few = straight_runs i (suc (suc d)) (suc d) is (omega (arith, taken)) few
     (omega (arith, taken, one))
@@ -124,6 +124,25 @@ item_runs (item_no.Menu n) d few = no_value_runs d few
 item_runs (item_no.Collection n) d few = no_value_runs d few
 item_runs (item_no.Method n) d few = no_value_runs d few
 item_runs (item_no.Array n) d few = no_value_runs d few
+
+no_element_runs : (d : ℕ) → suc d ≤ 128 → Runs no_element (suc d) (suc d)
+no_element_runs d few = then_runs (Straight instruction.Pop) no_value (suc d) d (suc d)
+    (pop_runs d few) (no_value_runs d (omega arith))
+
+item_element_runs : (i : ItemNo) (d : ℕ) → suc d ≤ 128
+    → Runs (item_element_block i) (suc d) (suc d)
+item_element_runs (item_no.Array n) d few = change_runs (instruction.ReadElement n) d refl refl refl
+    few
+item_element_runs (item_no.Variable v) d few = no_element_runs d few
+item_element_runs (item_no.Command n) d few = no_element_runs d few
+item_element_runs (item_no.Menu n) d few = no_element_runs d few
+item_element_runs (item_no.Collection n) d few = no_element_runs d few
+item_element_runs (item_no.Method n) d few = no_element_runs d few
+
+pub element_runs : (t : Target) (d : ℕ) → suc d ≤ 128 → Runs (element_block t) (suc d) (suc d)
+element_runs (Item i) d few = item_element_runs i d few
+element_runs (Local slot) d few = no_element_runs d few
+element_runs (Function f) d few = no_element_runs d few
 
 pub read_runs : (t : Target) (d : ℕ) → d ≤ 128 → Runs (load_block t) d (suc d)
 read_runs (Local slot) d few = push_runs (instruction.GetLocal slot) d refl refl refl few

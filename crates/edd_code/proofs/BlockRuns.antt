@@ -3,6 +3,7 @@ use Rattle.std.proofs.Common.{◌≡◌, refl, ap, subst, ◌∙◌, ℕ, suc, �
 use Rattle.std.specs.Prelude.{option_map, if◌then◌else◌}
 use Rattle.std.specs.Ordering.{int_eq}
 use Rattle.edd_syntax.specs.declared.answer.Trap.{Trap}
+use Rattle.edd_syntax.specs.Elements.{element_value}
 use Rattle.edd_syntax.specs.TwosComplement.{operate, is_zero}
 use Rattle.edd_image.specs.declared.records.Record.{Record}
 use Rattle.edd_image.specs.declared.records.Emitted.TheVariants as emitted
@@ -139,7 +140,10 @@ module _ (env : Environment) (code : List ℕ) (values : List ℤ) where
   straight_comes p next instruction.Duplicate [] stands h = tt
   straight_comes p next instruction.Duplicate (a ∷ below) stands h =
       quiet_comes p next (a ∷ below) _ instruction.Duplicate stands refl
-  straight_comes p next (instruction.ReadElement array) operands stands h = absurd (cc h)
+  straight_comes p next (instruction.ReadElement array) [] stands h = tt
+  straight_comes p next (instruction.ReadElement array) (a ∷ below) stands h =
+      push_comes p next (a ∷ below) below (instruction.ReadElement array)
+      (element_value env.elements 64 values array a) stands refl
   straight_comes p next (instruction.Operate op) [] stands h = tt
   straight_comes p next (instruction.Operate op) (b ∷ []) stands h = tt
   straight_comes p next (instruction.Operate op) (b ∷ (a ∷ below)) stands h =
@@ -179,7 +183,8 @@ module _ (env : Environment) (code : List ℕ) (values : List ℤ) where
       record_comes p next operands operands (instruction.Response n class text) _ stands refl
   straight_comes p next (instruction.Member name item label help) operands stands h =
       record_comes p next operands operands (instruction.Member name item label help) _ stands refl
-  straight_comes p next (instruction.Element n v label help) operands stands h = absurd (cc h)
+  straight_comes p next (instruction.Element n v label help) operands stands h =
+      record_comes p next operands operands (instruction.Element n v label help) _ stands refl
   straight_comes p next (instruction.Ask request) operands stands h = absurd (cc h)
   straight_comes p next instruction.Abort operands stands h = absurd (cc h)
 

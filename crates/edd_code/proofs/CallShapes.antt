@@ -7,7 +7,7 @@ use Rattle.edd_syntax.specs.declared.numbers.VarNo.{VarNo}
 use Rattle.edd_syntax.specs.declared.operators.Builtin.TheVariants as builtin
 use Rattle.edd_syntax.specs.declared.reference.Target.{Target}
 use Rattle.edd_syntax.specs.declared.reference.Target.TheVariants.{Local, Item, Function}
-use Rattle.edd_syntax.specs.Expression.{Expr, Literal, Decimal, Reference, Parentheses, Unary, Binary, Compare, LogicalAnd, LogicalOr, Conditional, Assign, CompoundAssign, Increment, Call, Argument, Text, Value, Arguments, Nil, Cons}
+use Rattle.edd_syntax.specs.Expression.{Expr, Literal, Decimal, Reference, Indexed, Parentheses, Unary, Binary, Compare, LogicalAnd, LogicalOr, Conditional, Assign, CompoundAssign, Increment, Call, Argument, Text, Value, Arguments, Nil, Cons}
 use Rattle.edd_syntax.specs.Text as texts
 use Rattle.edd_syntax.specs.Words.{Words}
 use Rattle.edd_image.specs.declared.instruction.Ask.TheVariants as ask
@@ -32,6 +32,7 @@ target_is (Value (Reference from)) to h = cc
 target_is (Value (Literal value)) to h = absurd cc
 target_is (Value (Decimal)) to h = absurd cc
 target_is (Value (Parentheses inner)) to h = absurd cc
+target_is (Value (Indexed array index)) to h = absurd cc
 target_is (Value (Unary op operand)) to h = absurd cc
 target_is (Value (Binary op left right)) to h = absurd cc
 target_is (Value (Compare by left right)) to h = absurd cc
@@ -57,6 +58,7 @@ variable_is (Value (Reference (Function f))) v h = absurd cc
 variable_is (Value (Literal value)) v h = absurd cc
 variable_is (Value (Decimal)) v h = absurd cc
 variable_is (Value (Parentheses inner)) v h = absurd cc
+variable_is (Value (Indexed array index)) v h = absurd cc
 variable_is (Value (Unary op operand)) v h = absurd cc
 variable_is (Value (Binary op left right)) v h = absurd cc
 variable_is (Value (Compare by left right)) v h = absurd cc
@@ -228,6 +230,7 @@ module _ (number : Words → StrNo) where
   no_get (Cons (Text t) (Cons (Value (Literal value)) rest)) h = refl
   no_get (Cons (Text t) (Cons (Value (Decimal)) rest)) h = refl
   no_get (Cons (Text t) (Cons (Value (Parentheses inner)) rest)) h = refl
+  no_get (Cons (Text t) (Cons (Value (Indexed array index)) rest)) h = refl
   no_get (Cons (Text t) (Cons (Value (Unary op operand)) rest)) h = refl
   no_get (Cons (Text t) (Cons (Value (Binary op left right)) rest)) h = refl
   no_get (Cons (Text t) (Cons (Value (Compare by left right)) rest)) h = refl
@@ -251,6 +254,7 @@ module _ (number : Words → StrNo) where
   no_assignment (Cons (Value (Literal value)) rest) h = refl
   no_assignment (Cons (Value (Decimal)) rest) h = refl
   no_assignment (Cons (Value (Parentheses inner)) rest) h = refl
+  no_assignment (Cons (Value (Indexed array index)) rest) h = refl
   no_assignment (Cons (Value (Unary op operand)) rest) h = refl
   no_assignment (Cons (Value (Binary op left right)) rest) h = refl
   no_assignment (Cons (Value (Compare by left right)) rest) h = refl
@@ -284,6 +288,7 @@ module _ (number : Words → StrNo) where
   same_assignment (Cons (Value (Literal value)) rest) = refl
   same_assignment (Cons (Value (Decimal)) rest) = refl
   same_assignment (Cons (Value (Parentheses inner)) rest) = refl
+  same_assignment (Cons (Value (Indexed array index)) rest) = refl
   same_assignment (Cons (Value (Unary op operand)) rest) = refl
   same_assignment (Cons (Value (Binary op left right)) rest) = refl
   same_assignment (Cons (Value (Compare by left right)) rest) = refl

@@ -15,18 +15,21 @@ use Rattle.edd_syntax.specs.declared.reference.Target.{Target}
 use Rattle.edd_syntax.specs.declared.reference.Target.TheVariants.{Local, Item, Function}
 use Rattle.edd_syntax.specs.Device as device
 use Rattle.edd_syntax.specs.MethodState as source
-use Rattle.edd_syntax.specs.MethodState.{State, Done, Stopped, Action, pure, ◌>>=◌, ◌>>◌, read, assign, ask}
+use Rattle.edd_syntax.specs.MethodState.{State, Done, Stopped, Action, pure, ◌>>=◌, ◌>>◌, read, read_element, assign, ask}
+use Rattle.edd_syntax.specs.declared.answer.Trap.{Trap}
+use Rattle.edd_syntax.specs.declared.numbers.ArrNo.{ArrNo}
+use Rattle.edd_syntax.specs.Elements.{element_value, item_element}
 use Rattle.edd_syntax.specs.Evaluation.{increment}
 use Rattle.edd_syntax.specs.TwosComplement.{wrap, truth, is_zero, apply, operate, compare}
 use Rattle.edd_syntax.specs.Words.{Words}
 use Rattle.edd_image.specs.declared.instruction.Instruction.TheVariants as instruction
 use Rattle.edd_image.specs.Steps.{act}
 use Rattle.edd_code.specs.Blocks.{Block, Straight, Then, WhenNotZero, WhenZero, Either}
-use Rattle.edd_code.specs.Expressions.{no_value, item_block, unary_block, truth_block, then_test, instead}
+use Rattle.edd_code.specs.Expressions.{no_value, item_block, item_element_block, element_block, no_element, unary_block, truth_block, then_test, instead}
 use Rattle.edd_code.specs.BlockEffects as blocks
 use Rattle.edd_code.specs.BlockEffects.{Outcome, Goes, Stops, Stuck, and_then}
 use Rattle.edd_code.specs.MethodEffects.{Halted, pushed, does}
-use Rattle.edd_code.specs.Numbered.{machine_of}
+use Rattle.edd_image.specs.Agreement.{machine_of}
 use Rattle.edd_code.specs.MethodExpressions.{load_block, store_block, store_next_block, store_behind_block, increment_block}
 
 -- a number that is 0
@@ -111,6 +114,38 @@ module _ (text : StrNo → Option Words) (around : device.Environment) where
       → runs (Straight instruction.Pop) (a ∷ operands) s ≡ Goes operands s
   unfolding blocks.does act
   pop_does a operands s = refl
+
+  -- ---- elements
+
+  read_element_means : (array : ArrNo) (a : ℤ) (operands : List ℤ) (s : State) (r : Result ℤ Trap)
+      → element_value around.elements 32 s.values array a ≡ r
+      → runs (Straight (instruction.ReadElement array)) (a ∷ operands) s
+      ≡ pushed operands (source.number r s)
+  unfolding blocks.does act
+  read_element_means array a operands s (Ok z) is = rw is refl
+  read_element_means array a operands s (Err why) is = rw is refl
+
+  no_element_means : (a : ℤ) (operands : List ℤ) (s : State)
+      → runs no_element (a ∷ operands) s ≡ pushed operands (source.number (Ok (pos 0)) s)
+  no_element_means a operands s =
+      then_does (Straight instruction.Pop) no_value (a ∷ operands) operands s s
+      (pop_does a operands s) ∙ no_value_means operands s
+
+  item_element_means : (i : ItemNo) (a : ℤ) (operands : List ℤ) (s : State)
+      → runs (item_element_block i) (a ∷ operands) s
+      ≡ pushed operands (source.number (item_element around.elements 32 s.values i a) s)
+  item_element_means (item_no.Array n) a operands s = read_element_means n a operands s
+      (element_value around.elements 32 s.values n a) refl
+  item_element_means (item_no.Variable v) a operands s = no_element_means a operands s
+  item_element_means (item_no.Command n) a operands s = no_element_means a operands s
+  item_element_means (item_no.Menu n) a operands s = no_element_means a operands s
+  item_element_means (item_no.Collection n) a operands s = no_element_means a operands s
+  item_element_means (item_no.Method n) a operands s = no_element_means a operands s
+
+  pub element_means : (t : Target) → MeansOfOne (element_block t) (read_element around t)
+  element_means (Item i) a operands s = item_element_means i a operands s
+  element_means (Local slot) a operands s = no_element_means a operands s
+  element_means (Function f) a operands s = no_element_means a operands s
 
   pub store_means : (to : Target) → MeansOfOne (store_block to) (assign around to)
   unfolding blocks.does act

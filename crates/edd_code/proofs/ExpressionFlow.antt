@@ -7,14 +7,14 @@ use Rattle.edd_syntax.specs.declared.operators.UnaryOperator.{UnaryOperator}
 use Rattle.edd_syntax.specs.declared.operators.UnaryOperator.TheVariants as unary_operator
 use Rattle.edd_syntax.specs.declared.reference.Target.{Target}
 use Rattle.edd_syntax.specs.declared.reference.Target.TheVariants.{Local, Item, Function}
-use Rattle.edd_syntax.specs.Expression.{Expr, Literal, Decimal, Reference, Parentheses, Unary, Binary, Compare, LogicalAnd, LogicalOr, Conditional, Assign, CompoundAssign, Increment, Call}
+use Rattle.edd_syntax.specs.Expression.{Expr, Literal, Decimal, Reference, Indexed, Parentheses, Unary, Binary, Compare, LogicalAnd, LogicalOr, Conditional, Assign, CompoundAssign, Increment, Call}
 use Rattle.edd_syntax.specs.Size.{height}
 use Rattle.edd_image.specs.declared.instruction.Instruction.{Instruction}
 use Rattle.edd_image.specs.declared.instruction.Instruction.TheVariants as instruction
 use Rattle.edd_image.specs.Units.{takes, leaves}
 use Rattle.edd_code.specs.Blocks.{Block, Nothing, Straight, Then, WhenNotZero, WhenZero, Either}
 use Rattle.edd_code.specs.Flow.{Flows, depth_after, is_straight, left_of}
-use Rattle.edd_code.specs.Expressions.{expression_block, item_block, read_block, unary_block, truth_block, then_test, instead, no_value}
+use Rattle.edd_code.specs.Expressions.{expression_block, item_block, read_block, item_element_block, element_block, no_element, unary_block, truth_block, then_test, instead, no_value}
 
 -- ---- blocks
 
@@ -103,6 +103,26 @@ read_runs (Item i) d few = item_runs i d few
 read_runs (Local slot) d few = no_value_runs d few
 read_runs (Function f) d few = no_value_runs d few
 
+no_element_runs : (d : ℕ) → suc d ≤ 128 → Runs no_element (suc d) (suc d)
+no_element_runs d few = then_runs (Straight instruction.Pop) no_value (suc d) d (suc d)
+    (straight_runs instruction.Pop (suc d) d refl (omega arith) few (omega arith))
+    (no_value_runs d (omega arith))
+
+item_element_runs : (i : ItemNo) (d : ℕ) → suc d ≤ 128
+    → Runs (item_element_block i) (suc d) (suc d)
+item_element_runs (item_no.Array n) d few = straight_runs (instruction.ReadElement n) (suc d)
+    (suc d) refl (omega arith) few (omega arith)
+item_element_runs (item_no.Variable v) d few = no_element_runs d few
+item_element_runs (item_no.Command n) d few = no_element_runs d few
+item_element_runs (item_no.Menu n) d few = no_element_runs d few
+item_element_runs (item_no.Collection n) d few = no_element_runs d few
+item_element_runs (item_no.Method n) d few = no_element_runs d few
+
+element_runs : (array : Target) (d : ℕ) → suc d ≤ 128 → Runs (element_block array) (suc d) (suc d)
+element_runs (Item i) d few = item_element_runs i d few
+element_runs (Local slot) d few = no_element_runs d few
+element_runs (Function f) d few = no_element_runs d few
+
 unary_runs : (op : UnaryOperator) (d : ℕ) → suc d ≤ 128 → Runs (unary_block op) (suc d) (suc d)
 unary_runs unary_operator.Plus d few = nothing_runs (suc d)
 unary_runs unary_operator.Minus d few = straight_runs instruction.Negate (suc d) (suc d) refl
@@ -141,6 +161,7 @@ two_run left right i d p q r = then_runs left (Then right (Straight i)) d (suc d
 high : (e : Expr Target) → 1 ≤ height e
 high (Literal value) = omega arith
 high (Reference from) = omega arith
+high (Indexed array index) = omega arith
 high (Parentheses inner) = omega arith
 high (Unary op operand) = omega arith
 high (Binary op left right) = omega arith
@@ -160,6 +181,8 @@ unfolding expression_block
 expression_runs (Literal value) d h = straight_runs (instruction.Push value) d (suc d) refl
     (omega arith) (omega arith) (omega arith)
 expression_runs (Reference from) d h = read_runs from d (omega arith)
+expression_runs (Indexed array index) d h = then_runs (expression_block index) (element_block array)
+    d (suc d) (suc d) (expression_runs index d (omega arith)) (element_runs array d (omega arith))
 expression_runs (Parentheses inner) d h = expression_runs inner d (omega arith)
 expression_runs (Unary op operand) d h = then_runs (expression_block operand) (unary_block op) d
     (suc d) (suc d) (expression_runs operand d (omega arith)) (unary_runs op d (omega arith))

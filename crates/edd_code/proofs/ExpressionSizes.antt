@@ -6,10 +6,10 @@ use Rattle.edd_syntax.specs.declared.operators.UnaryOperator.{UnaryOperator}
 use Rattle.edd_syntax.specs.declared.operators.UnaryOperator.TheVariants as unary_operator
 use Rattle.edd_syntax.specs.declared.reference.Target.{Target}
 use Rattle.edd_syntax.specs.declared.reference.Target.TheVariants.{Local, Item, Function}
-use Rattle.edd_syntax.specs.Expression.{Expr, Literal, Decimal, Reference, Parentheses, Unary, Binary, Compare, LogicalAnd, LogicalOr, Conditional, Assign, CompoundAssign, Increment, Call}
+use Rattle.edd_syntax.specs.Expression.{Expr, Literal, Decimal, Reference, Indexed, Parentheses, Unary, Binary, Compare, LogicalAnd, LogicalOr, Conditional, Assign, CompoundAssign, Increment, Call}
 use Rattle.edd_syntax.specs.Size.{nodes}
 use Rattle.edd_code.specs.Blocks.{size}
-use Rattle.edd_code.specs.Expressions.{expression_block, item_block, read_block, unary_block}
+use Rattle.edd_code.specs.Expressions.{expression_block, item_block, read_block, item_element_block, element_block, unary_block}
 
 item_size : (i : ItemNo) → size (item_block i) ≤ 5
 item_size (item_no.Variable v) = omega arith
@@ -24,6 +24,19 @@ read_size (Item i) = item_size i
 read_size (Local slot) = omega arith
 read_size (Function f) = omega arith
 
+item_element_size : (i : ItemNo) → size (item_element_block i) ≤ 6
+item_element_size (item_no.Variable v) = omega arith
+item_element_size (item_no.Command n) = omega arith
+item_element_size (item_no.Menu n) = omega arith
+item_element_size (item_no.Collection n) = omega arith
+item_element_size (item_no.Method n) = omega arith
+item_element_size (item_no.Array n) = omega arith
+
+pub element_size : (t : Target) → size (element_block t) ≤ 6
+element_size (Item i) = item_element_size i
+element_size (Local slot) = omega arith
+element_size (Function f) = omega arith
+
 unary_size : (op : UnaryOperator) → size (unary_block op) ≤ 1
 unary_size unary_operator.Plus = omega arith
 unary_size unary_operator.Minus = omega arith
@@ -34,6 +47,7 @@ pub is_short : (e : Expr Target) → size (expression_block e) ≤ 32 * nodes e
 unfolding expression_block
 is_short (Literal value) = omega arith
 is_short (Reference from) = omega (arith, read_size from)
+is_short (Indexed array index) = omega (arith, is_short index, element_size array)
 is_short (Parentheses inner) = omega (arith, is_short inner)
 is_short (Unary op operand) = omega (arith, is_short operand, unary_size op)
 is_short (Binary op left right) = omega (arith, is_short left, is_short right)

@@ -9,14 +9,17 @@ use Rattle.edd_syntax.specs.declared.operators.UnaryOperator.TheVariants as unar
 use Rattle.edd_syntax.specs.declared.operators.Operator.{Operator}
 use Rattle.edd_syntax.specs.declared.reference.Target.{Target}
 use Rattle.edd_syntax.specs.declared.reference.Target.TheVariants.{Local, Item, Function}
+use Rattle.edd_syntax.specs.declared.numbers.ArrNo.{ArrNo}
+use Rattle.edd_syntax.specs.declared.numbers.Element.{Element}
+use Rattle.edd_syntax.specs.Elements.{element_value, item_element, indexed_value}
 use Rattle.edd_syntax.specs.Device as device
 use Rattle.edd_syntax.specs.TwosComplement.{wrap, truth, is_zero, apply, operate, compare}
 use Rattle.edd_syntax.specs.AttributeValue.{◌>>=◌, value, read, item_value}
-use Rattle.edd_syntax.specs.Expression.{Expr, Literal, Decimal, Reference, Parentheses, Unary, Binary, Compare, LogicalAnd, LogicalOr, Conditional, Assign, CompoundAssign, Increment, Call}
+use Rattle.edd_syntax.specs.Expression.{Expr, Literal, Decimal, Reference, Indexed, Parentheses, Unary, Binary, Compare, LogicalAnd, LogicalOr, Conditional, Assign, CompoundAssign, Increment, Call}
 use Rattle.edd_image.specs.declared.instruction.Instruction.TheVariants as instruction
 use Rattle.edd_image.specs.Steps.{Environment, act}
 use Rattle.edd_code.specs.Blocks.{Block, Straight, Then, WhenNotZero, WhenZero, Either}
-use Rattle.edd_code.specs.Expressions.{expression_block, item_block, read_block, unary_block, truth_block, then_test, instead, no_value}
+use Rattle.edd_code.specs.Expressions.{expression_block, item_block, read_block, item_element_block, element_block, no_element, unary_block, truth_block, then_test, instead, no_value}
 use Rattle.edd_code.specs.ExpressionMeaning.{of_value}
 use Rattle.edd_code.specs.Outcomes.{Outcome, Goes, Traps, Stuck, behind, and_then, does}
 
@@ -75,6 +78,41 @@ module _ (machine : Environment) (d : List ℤ) where
   read_does (Item i) operands = item_does i operands
   read_does (Local slot) operands = no_value_does operands
   read_does (Function f) operands = no_value_does operands
+
+  -- ---- elements
+
+  read_does_element : (array : ArrNo) (n : ℤ) (r : Result ℤ Trap) (operands : List ℤ)
+      → element_value machine.elements 64 d array n ≡ r
+      → does machine d (Straight (instruction.ReadElement array)) (n ∷ operands)
+      ≡ of_value r operands
+  unfolding does act
+  read_does_element array n (Ok z) operands is = rw is refl
+  read_does_element array n (Err why) operands is = rw is refl
+
+  no_element_does : (n : ℤ) (operands : List ℤ) → does machine d no_element (n ∷ operands)
+      ≡ Goes [] (pos 0 ∷ operands)
+  unfolding does act wrap
+  no_element_does n operands = refl
+
+  module _ (elements : List Element) (same : machine.elements ≡ elements) where
+    item_element_does : (i : ItemNo) (n : ℤ) (operands : List ℤ)
+        → does machine d (item_element_block i) (n ∷ operands)
+        ≡ of_value (item_element elements 64 d i n) operands
+    item_element_does (item_no.Array a) n operands = read_does_element a n
+        (element_value elements 64 d a n) operands
+        (ap (λ (es : List Element). element_value es 64 d a n) same)
+    item_element_does (item_no.Variable v) n operands = no_element_does n operands
+    item_element_does (item_no.Command c) n operands = no_element_does n operands
+    item_element_does (item_no.Menu c) n operands = no_element_does n operands
+    item_element_does (item_no.Collection c) n operands = no_element_does n operands
+    item_element_does (item_no.Method c) n operands = no_element_does n operands
+
+    element_does : (array : Target) (n : ℤ) (operands : List ℤ)
+        → does machine d (element_block array) (n ∷ operands)
+        ≡ of_value (indexed_value elements 64 d array n) operands
+    element_does (Item i) n operands = item_element_does i n operands
+    element_does (Local slot) n operands = no_element_does n operands
+    element_does (Function f) n operands = no_element_does n operands
 
   unary_does : (op : UnaryOperator) (a : ℤ) (operands : List ℤ)
       → does machine d (unary_block op) (a ∷ operands) ≡ Goes [] (apply 64 op a ∷ operands)
@@ -208,12 +246,17 @@ module _ (machine : Environment) (d : List ℤ) where
   unfolding does
   either_does first second r s a operands p q = either_choice (is_zero a) _ _ r s operands p q
 
-module _ (machine : Environment) (around : device.Environment) (d : List ℤ) where
+module _ (machine : Environment) (around : device.Environment)
+    (same : machine.elements ≡ around.elements) (d : List ℤ) where
   pub means : (e : Expr Target) (operands : List ℤ) → does machine d (expression_block e) operands
       ≡ of_value (value around d e) operands
   unfolding expression_block value
   means (Literal n) operands = push_does machine d n operands
   means (Reference from) operands = read_does machine d from operands
+  means (Indexed array index) operands =
+      with_value machine d (expression_block index) (element_block array) operands operands
+      (value around d index) (λ n. indexed_value around.elements 64 d array n) (means index operands)
+      (λ n. element_does machine d around.elements same array n operands)
   means (Parentheses inner) operands = means inner operands
   means (Unary op operand) operands =
       with_value machine d (expression_block operand) (unary_block op) operands operands

@@ -4,6 +4,7 @@ pub mod BlockPlaces
 pub mod BlockDepths
 pub mod BlockJumps
 pub mod BlockUnits
+pub mod Versions
 pub mod BlockRuns
 pub mod UnitRuns
 pub mod PieceBytes
@@ -28,13 +29,11 @@ pub mod MethodSpelling
 pub mod SameBlocks
 pub mod AbortBlocks
 pub mod CheckedCalls
-pub mod Existing
 pub mod Growing
 pub mod Places
 pub mod Different
 pub mod BothTests
 pub mod Picking
-pub mod Made
 pub mod TreeNodes
 pub mod UnitNodes
 pub mod FewNodes

@@ -7,21 +7,22 @@ use Rattle.edd_syntax.specs.declared.operators.Builtin.{Builtin}
 use Rattle.edd_syntax.specs.declared.operators.Builtin.TheVariants as builtin
 use Rattle.edd_syntax.specs.declared.reference.Target.{Target}
 use Rattle.edd_syntax.specs.declared.reference.Target.TheVariants.{Local, Item, Function}
-use Rattle.edd_syntax.specs.Expression.{Expr, Literal, Decimal, Reference, Parentheses, Unary, Binary, Compare, LogicalAnd, LogicalOr, Conditional, Assign, CompoundAssign, Increment, Call, Text, Value, Arguments, Nil, Cons}
+use Rattle.edd_syntax.specs.Expression.{Expr, Literal, Decimal, Reference, Indexed, Parentheses, Unary, Binary, Compare, LogicalAnd, LogicalOr, Conditional, Assign, CompoundAssign, Increment, Call, Text, Value, Arguments, Nil, Cons}
 use Rattle.edd_syntax.specs.Size.{height, argument_height}
 use Rattle.edd_syntax.specs.SubsetRules.{parameters, all_fit, is_abort, call_breaches, call_mismatches, argument_mismatches}
 use Rattle.edd_syntax.specs.Words.{Words, words_of}
 use Rattle.edd_image.specs.declared.instruction.Ask.TheVariants as ask
 use Rattle.edd_image.specs.declared.instruction.Instruction.TheVariants as instruction
 use Rattle.edd_code.specs.Blocks.{Straight, Then, WhenNotZero, WhenZero, Either}
-use Rattle.edd_code.specs.Expressions.{no_value, unary_block, truth_block, then_test, instead}
+use Rattle.edd_code.specs.Expressions.{no_value, element_block, unary_block, truth_block, then_test, instead}
 use Rattle.edd_code.specs.MethodExpressions.{load_block, store_block, ask_block, method_block, call_block}
-use Rattle.edd_code.proofs.BlockFlow.{Runs, then_runs, either_runs, push_runs, change_runs, join_runs, pop_runs, no_value_runs, read_runs, store_runs, unary_runs, operate_runs, two_run, increment_runs, and_runs, or_runs}
+use Rattle.edd_code.proofs.BlockFlow.{Runs, then_runs, either_runs, push_runs, change_runs, join_runs, pop_runs, no_value_runs, element_runs, read_runs, store_runs, unary_runs, operate_runs, two_run, increment_runs, and_runs, or_runs}
 use Rattle.edd_code.proofs.Fitting.{front_none, fits, of_none, of_text, of_number, of_number_text, of_texts, of_numbers, of_variable, of_variable_number, of_text_variable}
 
 high : (e : Expr Target) → 1 ≤ height e
 high (Literal value) = omega arith
 high (Reference from) = omega arith
+high (Indexed array index) = omega arith
 high (Parentheses inner) = omega arith
 high (Unary op operand) = omega arith
 high (Binary op left right) = omega arith
@@ -130,6 +131,10 @@ module _ (number : Words → StrNo) where
         (omega arith)
     method_runs Decimal fit d h = no_value_runs d (omega arith)
     method_runs (Reference from) fit d h = read_runs from d (omega arith)
+    method_runs (Indexed array index) fit d h =
+        then_runs (method_block number index) (element_block array) d (suc d) (suc d)
+        (method_runs index fit d (omega arith))
+        (element_runs array d (omega arith))
     method_runs (Parentheses inner) fit d h = method_runs inner fit d (omega arith)
     method_runs (Unary op operand) fit d h = then_runs (method_block number operand)
         (unary_block op) d (suc d) (suc d) (method_runs operand fit d (omega arith))

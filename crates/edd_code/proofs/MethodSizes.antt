@@ -11,12 +11,13 @@ use Rattle.edd_syntax.specs.declared.operators.IncrementOperator.{IncrementOpera
 use Rattle.edd_syntax.specs.declared.operators.IncrementOperator.TheVariants.{PreIncrement, PostIncrement, PreDecrement, PostDecrement}
 use Rattle.edd_syntax.specs.declared.reference.Target.{Target}
 use Rattle.edd_syntax.specs.declared.reference.Target.TheVariants.{Local, Item, Function}
-use Rattle.edd_syntax.specs.Expression.{Expr, Literal, Decimal, Reference, Parentheses, Unary, Binary, Compare, LogicalAnd, LogicalOr, Conditional, Assign, CompoundAssign, Increment, Call, Text, Value, Arguments, Nil, Cons}
+use Rattle.edd_syntax.specs.Expression.{Expr, Literal, Decimal, Reference, Indexed, Parentheses, Unary, Binary, Compare, LogicalAnd, LogicalOr, Conditional, Assign, CompoundAssign, Increment, Call, Text, Value, Arguments, Nil, Cons}
 use Rattle.edd_syntax.specs.Size.{nodes, argument_nodes}
 use Rattle.edd_syntax.specs.SubsetRules.{parameters, all_fit, call_breaches, call_mismatches, argument_mismatches}
 use Rattle.edd_syntax.specs.Words.{Words}
 use Rattle.edd_code.specs.Blocks.{size}
 use Rattle.edd_code.specs.Expressions.{item_block, unary_block}
+use Rattle.edd_code.proofs.ExpressionSizes.{element_size}
 use Rattle.edd_code.specs.MethodExpressions.{load_block, store_item_block, store_block, increment_block, method_block, call_block}
 use Rattle.edd_code.proofs.Fitting.{front_none, fits, of_none, of_text, of_number, of_number_text, of_texts, of_numbers, of_variable, of_variable_number, of_text_variable}
 
@@ -106,6 +107,8 @@ module _ (number : Words → StrNo) where
     is_short b (Literal value) fit = omega arith
     is_short b Decimal fit = omega arith
     is_short b (Reference from) fit = omega (arith, read_size from)
+    is_short b (Indexed array index) fit =
+        omega (arith, is_short false index fit, element_size array)
     is_short b (Parentheses inner) fit = omega (arith, is_short false inner fit)
     is_short b (Unary op operand) fit = omega (arith, is_short false operand fit, unary_size op)
     is_short b (Binary op left right) fit =

@@ -8,6 +8,7 @@ use Rattle.edd_syntax.specs.declared.numbers.ItemNo.{ItemNo}
 use Rattle.edd_syntax.specs.declared.numbers.ItemNo.TheVariants as item_no
 use Rattle.edd_syntax.specs.declared.numbers.StrNo.{StrNo}
 use Rattle.edd_syntax.specs.declared.numbers.VarNo.{VarNo}
+use Rattle.edd_syntax.specs.declared.numbers.ArrNo.{ArrNo}
 use Rattle.edd_syntax.specs.declared.operators.Builtin.{Builtin}
 use Rattle.edd_syntax.specs.declared.operators.Builtin.TheVariants as builtin
 use Rattle.edd_syntax.specs.declared.operators.Operator.{Operator}
@@ -19,32 +20,42 @@ use Rattle.edd_syntax.specs.declared.operators.IncrementOperator.TheVariants.{Pr
 use Rattle.edd_syntax.specs.declared.reference.Target.{Target}
 use Rattle.edd_syntax.specs.declared.reference.Target.TheVariants.{Local, Item, Function}
 use Rattle.edd_syntax.specs.Text as texts
-use Rattle.edd_syntax.specs.Expression.{Expr, Literal, Decimal, Reference, Parentheses, Unary, Binary, Compare, LogicalAnd, LogicalOr, Conditional, Assign, CompoundAssign, Increment, Call, Text, Value, Arguments, Nil, Cons}
+use Rattle.edd_syntax.specs.Expression.{Expr, Literal, Decimal, Reference, Indexed, Parentheses, Unary, Binary, Compare, LogicalAnd, LogicalOr, Conditional, Assign, CompoundAssign, Increment, Call, Text, Value, Arguments, Nil, Cons}
 use Rattle.edd_syntax.specs.Strings.{expr_texts, argument_texts}
 use Rattle.edd_syntax.specs.SubsetRules.{parameters, all_fit, call_breaches, call_mismatches, argument_mismatches}
 use Rattle.edd_syntax.specs.WellFormed.{is_text, is_expr, are_arguments}
 use Rattle.edd_syntax.specs.Words.{Words, words_of}
 use Rattle.edd_image.specs.declared.instruction.Instruction.{Instruction}
 use Rattle.edd_image.specs.declared.instruction.Instruction.TheVariants as instruction
+use Rattle.edd_image.specs.declared.parts.Counts.{Counts}
 use Rattle.edd_image.specs.declared.unit.Context.{Context}
-use Rattle.edd_image.specs.References.{string_exists, variable_exists, names_exist}
+use Rattle.edd_image.specs.declared.unit.Sort.TheVariants.{Method}
+use Rattle.edd_image.specs.declared.unit.Version.{Version}
+use Rattle.edd_image.specs.Agreement.{version_with}
+use Rattle.edd_image.specs.References.{string_exists, variable_exists, array_exists}
 use Rattle.edd_image.specs.Spelling.{IsSpelled}
 use Rattle.edd_code.specs.Blocks.{Block, Nothing, Straight, Then, WhenNotZero, WhenZero, Either}
-use Rattle.edd_code.specs.Expressions.{no_value, item_block, unary_block, truth_block, then_test, instead}
-use Rattle.edd_code.specs.Flow.{AreSpelled, all_straight}
+use Rattle.edd_code.specs.Expressions.{no_value, item_block, item_element_block, element_block, no_element, unary_block, truth_block, then_test, instead}
+use Rattle.edd_code.specs.Flow.{AreSpelled, all_straight, may_stand}
 use Rattle.edd_code.specs.Reads.{item_is_there}
 use Rattle.edd_code.specs.MethodExpressions.{load_block, store_item_block, store_block, store_next_block, store_behind_block, increment_block, method_block, call_block}
 use Rattle.edd_code.specs.MethodReads.{uses_existing}
+use Rattle.edd_code.proofs.Versions.{in_methods}
 use Rattle.edd_code.proofs.Fitting.{front_none, all_parts, fits, of_none, of_text, of_number, of_number_text, of_texts, of_numbers, of_variable, of_variable_number, of_text_variable}
 
-module _ (context : Context) (variables : context.counts.variables ≤ 65536)
-    (strings : context.counts.strings ≤ 65536) (slots : context.slots ≤ 65536) where
+module _ (version : Version) (counts : Counts) (slots : ℕ) (fits_version : version ≡ version_with counts)
+    (variables : counts.variables ≤ 65536) (arrays : counts.arrays ≤ 65536)
+    (strings : counts.strings ≤ 65536) (few_slots : slots ≤ 65536) where
+  -- where the unit of a method stands
+  abbrev context : Context
+  context = record { version = version; counts = counts; sort = Method; slots = slots }
+
   -- each operand is in its range, and what is named exists
   pub record Stands (b : Block) : Type 0 where
     pub spelled : AreSpelled b
-    pub named : all_straight (names_exist context) b ≡ true
+    pub named : all_straight (may_stand context) b ≡ true
 
-  one_stands : (i : Instruction) → IsSpelled i → names_exist context i ≡ true → Stands (Straight i)
+  one_stands : (i : Instruction) → IsSpelled i → may_stand context i ≡ true → Stands (Straight i)
   one_stands i is there = record { spelled = is; named = there }
 
   nothing_stands : Stands Nothing
@@ -58,18 +69,22 @@ module _ (context : Context) (variables : context.counts.variables ≤ 65536)
   no_value_stands : Stands no_value
   no_value_stands = one_stands (instruction.Push 0) (omega arith) refl
 
-  short_variable : (v : VarNo) → variable_exists context.counts v ≡ true → v.0 < 2 ^ 16
-  short_variable v is = let below = ltb-true v.0 context.counts.variables is in omega
+  short_variable : (v : VarNo) → variable_exists counts v ≡ true → v.0 < 2 ^ 16
+  short_variable v is = let below = ltb-true v.0 counts.variables is in omega
       (arith, variables, below)
 
-  short_string : (n : StrNo) → string_exists context.counts n ≡ true → n.0 < 2 ^ 16
-  short_string n is = let below = ltb-true n.0 context.counts.strings is in omega
+  short_array : (n : ArrNo) → array_exists counts n ≡ true → n.0 < 2 ^ 16
+  short_array n is = let below = ltb-true n.0 counts.arrays is in omega
+      (arith, arrays, below)
+
+  short_string : (n : StrNo) → string_exists counts n ≡ true → n.0 < 2 ^ 16
+  short_string n is = let below = ltb-true n.0 counts.strings is in omega
       (arith, strings, below)
 
   short_slot : (slot : ℕ) → uses_existing context (Local slot) ≡ true → slot < 2 ^ 16
-  short_slot slot is = let below = ltb-true slot context.slots is in omega (arith, slots, below)
+  short_slot slot is = let below = ltb-true slot slots is in omega (arith, few_slots, below)
 
-  item_stands : (i : ItemNo) → item_is_there context.counts i ≡ true → Stands (item_block i)
+  item_stands : (i : ItemNo) → item_is_there counts i ≡ true → Stands (item_block i)
   item_stands (item_no.Variable v) is = one_stands (instruction.Variable v) (short_variable v is) is
   item_stands (item_no.Command n) is = no_value_stands
   item_stands (item_no.Menu n) is = no_value_stands
@@ -82,7 +97,25 @@ module _ (context : Context) (variables : context.counts.variables ≤ 65536)
   read_stands (Item i) is = item_stands i is
   read_stands (Function f) is = no_value_stands
 
-  store_item_stands : (i : ItemNo) → item_is_there context.counts i ≡ true
+  no_element_stands : Stands no_element
+  no_element_stands = then_stand (one_stands instruction.Pop tt refl) no_value_stands
+
+  item_element_stands : (i : ItemNo) → item_is_there counts i ≡ true
+      → Stands (item_element_block i)
+  item_element_stands (item_no.Array n) is = one_stands (instruction.ReadElement n)
+      (short_array n is) (and_from _ _ (in_methods version counts n fits_version is) is)
+  item_element_stands (item_no.Variable v) is = no_element_stands
+  item_element_stands (item_no.Command n) is = no_element_stands
+  item_element_stands (item_no.Menu n) is = no_element_stands
+  item_element_stands (item_no.Collection n) is = no_element_stands
+  item_element_stands (item_no.Method n) is = no_element_stands
+
+  element_stands : (t : Target) → uses_existing context t ≡ true → Stands (element_block t)
+  element_stands (Item i) is = item_element_stands i is
+  element_stands (Local slot) is = no_element_stands
+  element_stands (Function f) is = no_element_stands
+
+  store_item_stands : (i : ItemNo) → item_is_there counts i ≡ true
       → Stands (store_item_block i)
   store_item_stands (item_no.Variable v) is = one_stands (instruction.Store v) (short_variable v is)
       is
@@ -155,7 +188,7 @@ module _ (context : Context) (variables : context.counts.variables ≤ 65536)
       then_stand (read_stands to is) (store_behind_stands operator.Subtract to is)
 
   -- a variable gets the value, and in its place is 0
-  zero_stands : (v : VarNo) {b : Block} → variable_exists context.counts v ≡ true → Stands b
+  zero_stands : (v : VarNo) {b : Block} → variable_exists counts v ≡ true → Stands b
       → Stands (Then b (Then (store_block (Item (item_no.Variable v)))
       (Then (Straight instruction.Pop) no_value)))
   zero_stands v there is =
@@ -164,7 +197,7 @@ module _ (context : Context) (variables : context.counts.variables ≤ 65536)
 
   module _ (number : Words → StrNo) (plain : Target → Bool) where
     abbrev TextStands : texts.Text → Type 0
-    TextStands t = string_exists context.counts (number (words_of t)) ≡ true
+    TextStands t = string_exists counts (number (words_of t)) ≡ true
 
     abbrev AllStand : Arguments Target → Type 0
     AllStand Nil = Unit {0}
@@ -181,7 +214,7 @@ module _ (context : Context) (variables : context.counts.variables ≤ 65536)
 
     variable_there : (v : VarNo)
         → Stands (method_block number (Reference (Item (item_no.Variable v))))
-        → variable_exists context.counts v ≡ true
+        → variable_exists counts v ≡ true
     unfolding method_block
     variable_there v is = is.named
 
@@ -251,6 +284,10 @@ module _ (context : Context) (variables : context.counts.variables ≤ 65536)
           (ltb-true value (2 ^ 32) is) refl
       method_stands b Decimal fit is known = no_value_stands
       method_stands b (Reference from) fit is known = read_stands from is
+      method_stands b (Indexed array index) fit is known =
+          let are = and_parts _ _ is in
+          let front = and_parts _ _ are.0 in
+          then_stand (method_stands false index fit are.1 known) (element_stands array front.0)
       method_stands b (Parentheses inner) fit is known = method_stands false inner fit is known
       method_stands b (Unary op operand) fit is known =
           then_stand (method_stands false operand fit is known) (unary_stands op)

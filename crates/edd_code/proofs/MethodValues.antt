@@ -11,9 +11,9 @@ use Rattle.edd_syntax.specs.declared.reference.Target.{Target}
 use Rattle.edd_syntax.specs.declared.reference.Target.TheVariants.{Local, Item, Function}
 use Rattle.edd_syntax.specs.Device as device
 use Rattle.edd_syntax.specs.Text as texts
-use Rattle.edd_syntax.specs.Expression.{Expr, Literal, Decimal, Reference, Parentheses, Unary, Binary, Compare, LogicalAnd, LogicalOr, Conditional, Assign, CompoundAssign, Increment, Call, Text, Value, Arguments, Nil, Cons}
+use Rattle.edd_syntax.specs.Expression.{Expr, Literal, Decimal, Reference, Indexed, Parentheses, Unary, Binary, Compare, LogicalAnd, LogicalOr, Conditional, Assign, CompoundAssign, Increment, Call, Text, Value, Arguments, Nil, Cons}
 use Rattle.edd_syntax.specs.MethodState as source
-use Rattle.edd_syntax.specs.MethodState.{State, Done, Stopped, Action, pure, stop, Aborted, ◌>>=◌, ◌>>◌, read, assign, ask}
+use Rattle.edd_syntax.specs.MethodState.{State, Done, Stopped, Action, pure, stop, Aborted, ◌>>=◌, ◌>>◌, read, read_element, assign, ask}
 use Rattle.edd_syntax.specs.Evaluation.{Given, Number, referred, call, evaluate, evaluate_all}
 use Rattle.edd_syntax.specs.Strings.{expr_texts, argument_texts}
 use Rattle.edd_syntax.specs.SubsetRules.{parameters, all_fit, call_breaches, call_mismatches, argument_mismatches}
@@ -23,12 +23,12 @@ use Rattle.edd_image.specs.declared.instruction.Ask.TheVariants as ask
 use Rattle.edd_image.specs.declared.instruction.Instruction.TheVariants as instruction
 use Rattle.edd_image.specs.Steps.{act}
 use Rattle.edd_code.specs.Blocks.{Block, Straight, Then, WhenNotZero, WhenZero, Either}
-use Rattle.edd_code.specs.Expressions.{no_value, unary_block, truth_block, then_test, instead}
+use Rattle.edd_code.specs.Expressions.{no_value, element_block, unary_block, truth_block, then_test, instead}
 use Rattle.edd_code.specs.BlockEffects as blocks
 use Rattle.edd_code.specs.MethodEffects.{pushed, when_known}
 use Rattle.edd_code.specs.MethodExpressions.{load_block, store_block, ask_block, method_block, call_block}
 use Rattle.edd_code.specs.Numbered.{IsNumbered}
-use Rattle.edd_code.proofs.ExpressionActions.{Means, one_means, two_mean, push_means, no_value_means, read_means, store_means, store_means_zero, unary_means, operate_means, compare_means, operate_then, increment_means, and_means, or_means, either_means}
+use Rattle.edd_code.proofs.ExpressionActions.{Means, one_means, two_mean, push_means, no_value_means, element_means, read_means, store_means, store_means_zero, unary_means, operate_means, compare_means, operate_then, increment_means, and_means, or_means, either_means}
 use Rattle.edd_code.proofs.Fitting.{front_none, all_parts, fits, of_none, of_text, of_number, of_number_text, of_texts, of_numbers, of_variable, of_variable_number, of_text_variable}
 
 -- ---- actions, one after another
@@ -224,6 +224,10 @@ module _ (text : StrNo → Option Words) (number : Words → StrNo) (around : de
     means b (Literal value) fit known = push_means text around value
     means b Decimal fit known = no_value_means text around
     means b (Reference from) fit known = read_means text around from
+    means b (Indexed array index) fit known =
+        one_means text around (method_block number index) (element_block array)
+        (evaluate around index) (read_element around array)
+        (means false index fit known) (element_means text around array)
     means b (Parentheses inner) fit known = means false inner fit known
     means b (Unary op operand) fit known =
         one_means text around (method_block number operand) (unary_block op)

@@ -4,13 +4,13 @@ use Rattle.std.proofs.lemmas.Bool.{and_parts}
 use Rattle.edd_syntax.specs.declared.numbers.StrNo.{StrNo}
 use Rattle.edd_syntax.specs.declared.reference.Target.{Target}
 use Rattle.edd_syntax.specs.declared.reference.Target.TheVariants.{Local, Item, Function}
-use Rattle.edd_syntax.specs.Expression.{Expr, Literal, Decimal, Reference, Parentheses, Unary, Binary, Compare, LogicalAnd, LogicalOr, Conditional, Assign, CompoundAssign, Increment, Call}
+use Rattle.edd_syntax.specs.Expression.{Expr, Literal, Decimal, Reference, Indexed, Parentheses, Unary, Binary, Compare, LogicalAnd, LogicalOr, Conditional, Assign, CompoundAssign, Increment, Call}
 use Rattle.edd_syntax.specs.WellFormed.{is_pure_expr}
 use Rattle.edd_syntax.specs.Words.{Words}
 use Rattle.edd_image.specs.declared.instruction.Instruction.TheVariants as instruction
 use Rattle.edd_code.specs.Blocks.{Block, Straight, Then, WhenNotZero, WhenZero, Either}
 use Rattle.edd_code.specs.Expressions as attribute
-use Rattle.edd_code.specs.Expressions.{expression_block, unary_block, truth_block, then_test, instead}
+use Rattle.edd_code.specs.Expressions.{expression_block, element_block, unary_block, truth_block, then_test, instead}
 use Rattle.edd_code.specs.MethodExpressions.{load_block, method_block}
 use Rattle.edd_code.specs.MethodReads.{is_no_local}
 
@@ -29,6 +29,8 @@ module _ (number : Words → StrNo) (plain : Target → Bool) where
   same_block (Literal value) is = refl
   same_block Decimal is = refl
   same_block (Reference from) is = read_same from is
+  same_block (Indexed array index) is = ap (λ (b : Block). Then b (element_block array))
+      (same_block index (and_parts _ _ is).1)
   same_block (Parentheses inner) is = same_block inner is
   same_block (Unary op operand) is = ap (λ (b : Block). Then b (unary_block op))
       (same_block operand is)

@@ -14,7 +14,8 @@ use Rattle.edd_image.specs.declared.instruction.Ask.TheVariants as ask
 use Rattle.edd_image.specs.declared.instruction.Instruction.{Instruction}
 use Rattle.edd_image.specs.declared.instruction.Instruction.TheVariants as instruction
 use Rattle.edd_image.specs.Decoding.{instruction_at}
-use Rattle.edd_image.specs.Steps.{Environment, act, go, give, ask_for, push_or_trap, element_value}
+use Rattle.edd_image.specs.Steps.{Environment, act, go, give, ask_for, push_or_trap}
+use Rattle.edd_syntax.specs.Elements.{element_value}
 use Rattle.edd_code.specs.BlockEffects.{Goes}
 use Rattle.edd_code.specs.Reports.{at, worded}
 use Rattle.edd_code.specs.MethodEffects.{when_known, outcome_of, does_one, CanBeTaken, Comes}
@@ -107,7 +108,7 @@ module _ (text : StrNo → Option Words) (env : Environment) (code : List ℕ) (
   straight_comes (instruction.ReadElement array) [] h = tt
   straight_comes (instruction.ReadElement array) (a ∷ below) h =
       pushes (instruction.ReadElement array) h (a ∷ below) below
-      (element_value env 32 s.values array a) refl
+      (element_value env.elements 32 s.values array a) refl
   straight_comes (instruction.Operate op) [] h = tt
   straight_comes (instruction.Operate op) (b ∷ []) h = tt
   straight_comes (instruction.Operate op) (b ∷ (a ∷ below)) h = pushes (instruction.Operate op) h

@@ -5,18 +5,18 @@ use Rattle.edd_syntax.specs.Reference.{Path}
 use Rattle.edd_syntax.specs.declared.reference.Target.{Target}
 use Rattle.edd_syntax.specs.declared.reference.Target.TheVariants.{Local}
 use Rattle.edd_syntax.specs.Expression as expr
-use Rattle.edd_syntax.specs.Expression.{Expr, Literal, Decimal, Reference, Parentheses, Unary, Binary, Compare, LogicalAnd, LogicalOr, Conditional, Assign, CompoundAssign, Increment, Call, Text, Arguments}
+use Rattle.edd_syntax.specs.Expression.{Expr, Literal, Decimal, Reference, Indexed, Parentheses, Unary, Binary, Compare, LogicalAnd, LogicalOr, Conditional, Assign, CompoundAssign, Increment, Call, Text, Arguments}
 use Rattle.edd_syntax.specs.Conditional as cond
 use Rattle.edd_syntax.specs.Conditional.{Cond, Value, If, Select, Conds, Arms, NoArms, ConsArm, Case, Default}
 use Rattle.edd_syntax.specs.Statement as s
 use Rattle.edd_syntax.specs.Statement.{Declarator, Stmt, Body, Nil, Cons, Declare, Statement, CaseLabel, DefaultLabel, slots_of}
 use Rattle.edd_syntax.specs.Item.{Description}
 use Rattle.edd_syntax.specs.Resolution.{Scope, function_meant, declared, all_declared}
-use Rattle.edd_syntax.specs.ResolvedTrees.{resolved_expr, resolved_arguments, resolved_optional, resolved_cond, resolved_conds, resolved_arms, at_scope, resolved_declarators, resolved_stmt, resolved_body}
+use Rattle.edd_syntax.specs.ResolvedTrees.{Meanings, resolved_expr, resolved_arguments, resolved_optional, resolved_cond, resolved_conds, resolved_arms, at_scope, resolved_declarators, resolved_stmt, resolved_body}
 use Rattle.edd_syntax.specs.Size.{nodes, argument_nodes, cond_nodes, conds_nodes, arms_nodes, optional_nodes, declarator_nodes, statement_nodes, body_nodes}
-use Rattle.edd_code.proofs.Made.{stays, made, made_of_two, made_of_three, made_of_four}
+use Rattle.edd_syntax.proofs.Made.{stays, made, made_of_two, made_of_three, made_of_four}
 
-module _ (at : Path → Option Target) where
+module _ (at : Meanings) where
   mutual
     unfolding resolved_expr resolved_arguments
 
@@ -24,7 +24,9 @@ module _ (at : Path → Option Target) where
         → nodes e' ≡ nodes e
     expr_keeps (Literal value) e' h = stays nodes (Literal value) e' h
     expr_keeps Decimal e' h = stays nodes Decimal e' h
-    expr_keeps (Reference from) e' h = made nodes (at from) Reference e' _ (λ x p. refl) h
+    expr_keeps (Reference from) e' h = made nodes (at.reference from) Reference e' _ (λ x p. refl) h
+    expr_keeps (Indexed array index) e' h = made_of_two nodes (at.array array)
+        (resolved_expr at index) Indexed e' _ (λ x y p q. ap (λ n. 1 + n) (expr_keeps index y q)) h
     expr_keeps (Parentheses inner) e' h = made nodes (resolved_expr at inner) Parentheses e' _
         (λ x p. ap (λ n. 1 + n) (expr_keeps inner x p)) h
     expr_keeps (Unary op operand) e' h = made nodes (resolved_expr at operand) (Unary op) e' _
@@ -50,12 +52,12 @@ module _ (at : Path → Option Target) where
           expr_keeps first y q,
           expr_keeps second z r,
         )) h
-    expr_keeps (Assign to value) e' h = made_of_two nodes (at to) (resolved_expr at value) Assign e'
+    expr_keeps (Assign to value) e' h = made_of_two nodes (at.reference to) (resolved_expr at value) Assign e'
         _ (λ x y p q. ap (λ n. 1 + n) (expr_keeps value y q)) h
     expr_keeps (CompoundAssign op to value) e' h =
-        made_of_two nodes (at to) (resolved_expr at value) (CompoundAssign op) e' _
+        made_of_two nodes (at.reference to) (resolved_expr at value) (CompoundAssign op) e' _
         (λ x y p q. ap (λ n. 1 + n) (expr_keeps value y q)) h
-    expr_keeps (Increment op to) e' h = made nodes (at to) (Increment op) e' _ (λ x p. refl) h
+    expr_keeps (Increment op to) e' h = made nodes (at.reference to) (Increment op) e' _ (λ x p. refl) h
     expr_keeps (Call name arguments) e' h =
         made_of_two nodes (function_meant name) (resolved_arguments at arguments) Call e' _
         (λ x y p q. ap (λ n. 1 + n) (arguments_keep arguments y q)) h

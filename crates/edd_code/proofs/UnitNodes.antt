@@ -9,10 +9,10 @@ use Rattle.edd_syntax.specs.Conditional.{Cond}
 use Rattle.edd_syntax.specs.Item as item
 use Rattle.edd_syntax.specs.Item.{ItemKind, TypePart, TransactionPart, Attribute, Item, Description}
 use Rattle.edd_syntax.specs.Resolution.{member_kinds}
-use Rattle.edd_syntax.specs.ResolvedTrees.{each, unchanged, resolved_expr, resolved_cond, resolved_conds, resolved_body, at_attribute, resolved_data, resolved_entry, resolved_member, resolved_type_part, resolved_transaction_part, resolved_attribute, resolved_item, resolved_unit}
+use Rattle.edd_syntax.specs.ResolvedTrees.{Meanings, each, unchanged, resolved_expr, resolved_cond, resolved_conds, resolved_body, at_attribute, resolved_data, resolved_entry, resolved_member, resolved_element, resolved_type_part, resolved_transaction_part, resolved_attribute, resolved_item, resolved_unit}
 use Rattle.edd_syntax.specs.Size.{nodes, leaf, cond_nodes, type_part_nodes, is_element, transaction_part_nodes, attribute_nodes, item_nodes, unit_nodes}
 use Rattle.edd_syntax.proofs.WithinLimits.{each_keeps}
-use Rattle.edd_code.proofs.Made.{stays, made}
+use Rattle.edd_syntax.proofs.Made.{stays, made}
 use Rattle.edd_code.proofs.TreeNodes.{expr_keeps, cond_keeps, conds_keep, body_keeps}
 
 any_of_mapped : {X : Type 0} (p : X → Bool) (xs : List X)
@@ -30,7 +30,7 @@ module _ (unit : Description Path) where
   leaf_keeps : {V W : Type 0} (of : V → Option W) (v : V) (w : W) → of v ≡ Some w → leaf w ≡ leaf v
   leaf_keeps of v w h = refl
 
-  abbrev at : Path → Option Target
+  abbrev at : Meanings
   at = at_attribute unit
 
   part_keeps : (p : TypePart Path) (q : TypePart Target) → resolved_type_part unit p ≡ Some q
@@ -125,6 +125,9 @@ module _ (unit : Description Path) where
       made attribute_nodes (each (resolved_member unit (member_kinds sort)) members) item.Members b
       _
       (λ x is. ap (λ n. 1 + n) (as_many (resolved_member unit (member_kinds sort)) members x is)) h
+  attribute_keeps sort (item.Elements elements) b h =
+      made attribute_nodes (each (resolved_element unit) elements) item.Elements b _
+      (λ x is. ap (λ n. 1 + n) (as_many (resolved_element unit) elements x is)) h
   attribute_keeps sort (item.Definition body) b h =
       made attribute_nodes (resolved_body unit body [] 0) item.Definition b _
       (λ x is. ap (λ n. 1 + n) (body_keeps unit body [] 0 x is)) h

@@ -6,7 +6,7 @@ use Rattle.edd_syntax.specs.declared.operators.UnaryOperator.{UnaryOperator}
 use Rattle.edd_syntax.specs.declared.operators.UnaryOperator.TheVariants as unary_operator
 use Rattle.edd_syntax.specs.declared.reference.Target.{Target}
 use Rattle.edd_syntax.specs.declared.reference.Target.TheVariants.{Local, Item, Function}
-use Rattle.edd_syntax.specs.Expression.{Expr, Literal, Decimal, Reference, Parentheses, Unary, Binary, Compare, LogicalAnd, LogicalOr, Conditional, Assign, CompoundAssign, Increment, Call}
+use Rattle.edd_syntax.specs.Expression.{Expr, Literal, Decimal, Reference, Indexed, Parentheses, Unary, Binary, Compare, LogicalAnd, LogicalOr, Conditional, Assign, CompoundAssign, Increment, Call}
 use Rattle.edd_image.specs.declared.instruction.Instruction.TheVariants as instruction
 use Rattle.edd_code.specs.Blocks.{Block, Nothing, Straight, Then, WhenNotZero, WhenZero, Either}
 
@@ -28,6 +28,24 @@ abbrev pub read_block : Target → Block
 read_block (Item i) = item_block i
 read_block (Local slot) = no_value
 read_block (Function f) = no_value
+
+-- the value of an element, in place of its number on top; in a checked description nothing but an
+-- array stands before an index
+abbrev pub no_element : Block
+no_element = Then (Straight instruction.Pop) no_value
+
+abbrev pub item_element_block : ItemNo → Block
+item_element_block (item_no.Variable v) = no_element
+item_element_block (item_no.Command n) = no_element
+item_element_block (item_no.Menu n) = no_element
+item_element_block (item_no.Collection n) = no_element
+item_element_block (item_no.Method n) = no_element
+item_element_block (item_no.Array n) = Straight (instruction.ReadElement n)
+
+abbrev pub element_block : Target → Block
+element_block (Item i) = item_element_block i
+element_block (Local slot) = no_element
+element_block (Function f) = no_element
 
 -- unary plus changes nothing
 abbrev pub unary_block : UnaryOperator → Block
@@ -53,6 +71,7 @@ instead right = Then (Straight instruction.Pop) (Then right truth_block)
 unfoldable pub expression_block : Expr Target → Block
 expression_block (Literal value) = Straight (instruction.Push value)
 expression_block (Reference from) = read_block from
+expression_block (Indexed array index) = Then (expression_block index) (element_block array)
 expression_block (Parentheses inner) = expression_block inner
 expression_block (Unary op operand) = Then (expression_block operand) (unary_block op)
 expression_block (Binary op left right) =

@@ -3,11 +3,13 @@
 use Rattle.std.specs.Prelude.{◌≡◌, ℕ, ◌+◌, ◌-◌, ◌≤◌, Bool, true, ◌&&◌, ⊤, FitsSigned, IsTrue, Option, Some, None, is_some, is_none}
 use Rattle.std.specs.Int.{w64}
 use Rattle.edd_image.specs.declared.instruction.Instruction.{Instruction}
+use Rattle.edd_image.specs.declared.unit.Context.{Context}
 use Rattle.edd_image.specs.declared.unit.Version.{Version}
-use Rattle.edd_image.specs.declared.unit.Version.TheVariants.{One}
+use Rattle.edd_image.specs.declared.unit.Version.TheVariants.{Two}
 use Rattle.edd_image.specs.declared.unit.Sort.{Sort}
 use Rattle.edd_image.specs.declared.unit.Sort.TheVariants.{Attribute}
 use Rattle.edd_image.specs.Spelling.{IsSpelled}
+use Rattle.edd_image.specs.References.{names_exist}
 use Rattle.edd_image.specs.Units.{takes, leaves, jump, is_allowed}
 use Rattle.edd_code.specs.Blocks.{Block, Nothing, Straight, Then, WhenNotZero, WhenZero, Either, Match}
 
@@ -50,13 +52,17 @@ module _ (version : Version) (sort : Sort) where
       (1 ≤ d) × (d ≤ 128) × FlowsIn body (d - 1) × FlowsIn rest d
       × (depth_after rest d ≡ depth_after body (d - 1)) × (depth_after rest d ≤ 128)
 
--- the same in an attribute
+-- the same in an attribute of the newest version
 abbrev pub is_straight : Instruction → Bool
-is_straight i = is_straight_in One Attribute i
+is_straight i = is_straight_in Two Attribute i
 
 -- so the block may stand in an attribute
 abbrev pub Flows : Block → ℕ → Type 0
-Flows b d = FlowsIn One Attribute b d
+Flows b d = FlowsIn Two Attribute b d
+
+-- what may stand in a unit of the version and sort, and names only what exists
+abbrev pub may_stand : Context → Instruction → Bool
+may_stand context i = is_allowed context.version context.sort i && names_exist context i
 
 -- each operand is in its range
 abbrev pub AreSpelled : Block → Type 0

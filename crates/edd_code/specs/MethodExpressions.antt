@@ -11,13 +11,13 @@ use Rattle.edd_syntax.specs.declared.operators.Builtin.{Builtin}
 use Rattle.edd_syntax.specs.declared.operators.Builtin.TheVariants as builtin
 use Rattle.edd_syntax.specs.declared.reference.Target.{Target}
 use Rattle.edd_syntax.specs.declared.reference.Target.TheVariants.{Local, Item, Function}
-use Rattle.edd_syntax.specs.Expression.{Expr, Literal, Decimal, Reference, Parentheses, Unary, Binary, Compare, LogicalAnd, LogicalOr, Conditional, Assign, CompoundAssign, Increment, Call, Text, Value, Arguments, Nil, Cons}
+use Rattle.edd_syntax.specs.Expression.{Expr, Literal, Decimal, Reference, Indexed, Parentheses, Unary, Binary, Compare, LogicalAnd, LogicalOr, Conditional, Assign, CompoundAssign, Increment, Call, Text, Value, Arguments, Nil, Cons}
 use Rattle.edd_syntax.specs.Words.{Words, words_of}
 use Rattle.edd_image.specs.declared.instruction.Ask.{Ask}
 use Rattle.edd_image.specs.declared.instruction.Ask.TheVariants as ask
 use Rattle.edd_image.specs.declared.instruction.Instruction.TheVariants as instruction
 use Rattle.edd_code.specs.Blocks.{Block, Nothing, Straight, Then, WhenNotZero, WhenZero, Either}
-use Rattle.edd_code.specs.Expressions.{no_value, item_block, unary_block, truth_block, then_test, instead}
+use Rattle.edd_code.specs.Expressions.{no_value, item_block, element_block, unary_block, truth_block, then_test, instead}
 
 -- ---- locals and variables
 
@@ -76,6 +76,7 @@ module _ (number : Words → StrNo) where
     method_block (Literal value) = Straight (instruction.Push value)
     method_block Decimal = no_value
     method_block (Reference from) = load_block from
+    method_block (Indexed array index) = Then (method_block index) (element_block array)
     method_block (Parentheses inner) = method_block inner
     method_block (Unary op operand) = Then (method_block operand) (unary_block op)
     method_block (Binary op left right) =

@@ -3,7 +3,7 @@
 ghost use Rattle.std.specs.Prelude.{◌≡◌, ◌++◌, length, OnOk};
 ghost use Rattle.edd_syntax.specs.TreeView.{numbered_expr};
 ghost use Rattle.edd_code.specs.Blocks.{WhenNotZero, WhenZero, Either, Straight, Then, bytes_at};
-ghost use Rattle.edd_code.specs.Expressions.{item_block, read_block, unary_block, truth_block, then_test, instead, no_value, expression_block};
+ghost use Rattle.edd_code.specs.Expressions.{item_block, read_block, no_element, item_element_block, element_block, unary_block, truth_block, then_test, instead, no_value, expression_block};
 
 use crate::emit::{close, open, put};
 use edd_image::{Emitter, Instruction, Jump};
@@ -38,6 +38,41 @@ fn write_read(code: &mut Emitter, from: Target) -> Result<(), AllocError>
 }
 
 #[tactic(auto, unfolding(crate::specs::Blocks::emitted, crate::specs::Blocks::bytes_of))]
+fn write_no_element(code: &mut Emitter) -> Result<(), AllocError>
+    ensures { OnOk result (code.new ≡ code.old ++ bytes_at (length code.old) no_element) }
+{
+    put(code, Instruction::Pop)?;
+    put(code, Instruction::Push(0))
+}
+
+#[tactic(auto, unfolding(crate::specs::Blocks::emitted, crate::specs::Blocks::bytes_of))]
+fn write_item_element(code: &mut Emitter, item: ItemNo) -> Result<(), AllocError>
+    ensures { OnOk result (code.new ≡ code.old
+        ++ bytes_at (length code.old) (item_element_block item)) }
+{
+    match item {
+        ItemNo::Array(array) => put(code, Instruction::ReadElement(array)),
+        ItemNo::Variable(_)
+        | ItemNo::Command(_)
+        | ItemNo::Menu(_)
+        | ItemNo::Collection(_)
+        | ItemNo::Method(_) => write_no_element(code),
+    }
+}
+
+// The value of an element, in place of its number on top.
+#[tactic(auto, unfolding(crate::specs::Blocks::emitted, crate::specs::Blocks::bytes_of))]
+pub(crate) fn write_element(code: &mut Emitter, array: Target) -> Result<(), AllocError>
+    ensures { OnOk result (code.new ≡ code.old
+        ++ bytes_at (length code.old) (element_block array)) }
+{
+    match array {
+        Target::Item(item) => write_item_element(code, item),
+        Target::Local(_) | Target::Function(_) => write_no_element(code),
+    }
+}
+
+#[tactic(auto, unfolding(crate::specs::Blocks::emitted, crate::specs::Blocks::bytes_of))]
 pub(crate) fn write_unary(code: &mut Emitter, op: UnaryOperator) -> Result<(), AllocError>
     ensures { OnOk result (code.new ≡ code.old ++ bytes_at (length code.old) (unary_block op)) }
 {
@@ -67,6 +102,10 @@ pub fn write_expression(code: &mut Emitter, e: &Expr<Target>) -> Result<(), Allo
     match e {
         Expr::Literal(value) => put(code, Instruction::Push(*value)),
         Expr::Reference(from) => write_read(code, *from),
+        Expr::Indexed(array, index) => {
+            write_expression(code, index)?;
+            write_element(code, *array)
+        }
         Expr::Parentheses(inner) => write_expression(code, inner),
         Expr::Unary(op, operand) => {
             write_expression(code, operand)?;

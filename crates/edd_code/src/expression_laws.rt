@@ -8,13 +8,14 @@ ghost use Rattle.edd_syntax.specs.AttributeValue.{value};
 ghost use Rattle.edd_syntax.specs.Size.{nodes, height};
 ghost use Rattle.edd_syntax.specs.WellFormed.{is_pure_expr};
 ghost use Rattle.edd_image.specs.declared.parts.Counts.{Counts};
-ghost use Rattle.edd_image.specs.declared.unit.Context.{Context};
-ghost use Rattle.edd_image.specs.References.{names_exist};
+ghost use Rattle.edd_image.specs.declared.unit.Sort.TheVariants.{Attribute};
+ghost use Rattle.edd_image.specs.declared.unit.Version.{Version};
+ghost use Rattle.edd_image.specs.Agreement.{version_with};
 ghost use Rattle.edd_image.specs.Steps.{Environment};
 ghost use Rattle.edd_code.specs.Blocks.{size};
 ghost use Rattle.edd_code.specs.Expressions.{expression_block};
 ghost use Rattle.edd_code.specs.ExpressionMeaning.{of_value};
-ghost use Rattle.edd_code.specs.Flow.{AreSpelled, Flows, all_straight, depth_after};
+ghost use Rattle.edd_code.specs.Flow.{AreSpelled, Flows, all_straight, depth_after, may_stand};
 ghost use Rattle.edd_code.specs.Outcomes.{does};
 ghost use Rattle.edd_code.specs.Reads.{reads_existing};
 
@@ -22,7 +23,7 @@ ghost use Rattle.edd_code.specs.Reads.{reads_existing};
 /// trap.
 pub fn expressions_mean_their_values()
     ensures { (image_env : Environment) (env : device.Environment) (d : List ℤ) (e : Expr Target)
-        (operands : List ℤ)
+        (operands : List ℤ) → image_env.elements ≡ env.elements
         → does image_env d (expression_block e) operands ≡ of_value (value env d e) operands }
 {}
 
@@ -39,13 +40,19 @@ pub fn expressions_are_short()
     ensures { (e : Expr Target) → size (expression_block e) ≤ 32 * nodes e }
 {}
 
-/// The block of an expression of an attribute has its operands in their ranges, and the variables
-/// that it names exist.
+/// The block of an expression of an attribute has its operands in their ranges, and its
+/// instructions may stand there: the variables and arrays that they name exist.
 pub fn expressions_are_spelled()
     ensures spelled { (counts : Counts) (plain : Target → Bool) (e : Expr Target)
-        → counts.variables ≤ 65536
+        → counts.variables ≤ 65536 → counts.arrays ≤ 65536
         → is_pure_expr (reads_existing counts) plain e ≡ true → AreSpelled (expression_block e) }
-    ensures named { (context : Context) (plain : Target → Bool) (e : Expr Target)
-        → is_pure_expr (reads_existing context.counts) plain e ≡ true
-        → all_straight (names_exist context) (expression_block e) ≡ true }
+    ensures stands { (version : Version) (counts : Counts) (plain : Target → Bool) (e : Expr Target)
+        → version ≡ version_with counts
+        → is_pure_expr (reads_existing counts) plain e ≡ true
+        → all_straight (may_stand (record {
+          version = version;
+          counts = counts;
+          sort = Attribute;
+          slots = 0;
+        })) (expression_block e) ≡ true }
 {}

@@ -8,12 +8,13 @@ ghost use Rattle.edd_syntax.specs.Words.{Words};
 ghost use Rattle.edd_image.specs.declared.records.Record.{Record};
 ghost use Rattle.edd_image.specs.declared.unit.Sort.TheVariants.{Attribute};
 ghost use Rattle.edd_image.specs.declared.unit.Context.{Context};
+ghost use Rattle.edd_image.specs.declared.unit.Version.TheVariants.{Two};
 ghost use Rattle.edd_image.specs.References.{names_exist};
 ghost use Rattle.edd_image.specs.Reading.{given_within};
 ghost use Rattle.edd_image.specs.Steps.{Environment, opening};
 ghost use Rattle.edd_image.specs.Units.{IsValidUnit};
 ghost use Rattle.edd_code.specs.Blocks.{Block, bytes_at, size, unit_code};
-ghost use Rattle.edd_code.specs.Flow.{AreSpelled, Flows, FlowsIn, all_straight, depth_after};
+ghost use Rattle.edd_code.specs.Flow.{AreSpelled, Flows, FlowsIn, all_straight, depth_after, may_stand};
 ghost use Rattle.edd_code.specs.Outcomes.{Goes, Traps, does};
 ghost use Rattle.edd_code.specs.AttributeEffects as attributes;
 ghost use Rattle.edd_code.specs.MethodEffects as methods;
@@ -31,6 +32,17 @@ pub fn blocks_are_valid()
         → AreSpelled b → FlowsIn context.version context.sort b 0 → depth_after b 0 ≡ 0
         → size b < 2 ^ 31 → all_straight (names_exist context) b ≡ true
         → IsValidUnit context (unit_code b) }
+{}
+
+/// A block that finds its operands in a unit of the newest version finds them in the version of the
+/// context, where its instructions may stand there, and then the names in them exist.
+pub fn blocks_flow_in_their_version()
+    ensures flows { (context : Context) (b : Block) (d : ℕ) → FlowsIn Two context.sort b d
+        → all_straight (may_stand context) b ≡ true
+        → FlowsIn context.version context.sort b d }
+    ensures named { (context : Context) (b : Block)
+        → all_straight (may_stand context) b ≡ true
+        → all_straight (names_exist context) b ≡ true }
 {}
 
 /// The unit of a block, followed from its first byte, gives what the block comes to.

@@ -18,15 +18,18 @@ ghost use Rattle.edd_syntax.specs.WellFormed.{is_expr, is_pure_expr};
 ghost use Rattle.edd_syntax.specs.Words.{Words};
 ghost use Rattle.edd_image.specs.declared.unit.Context.{Context};
 ghost use Rattle.edd_image.specs.declared.unit.Sort.TheVariants.{Method};
-ghost use Rattle.edd_image.specs.declared.unit.Version.TheVariants.{One};
-ghost use Rattle.edd_image.specs.References.{names_exist};
+ghost use Rattle.edd_image.specs.declared.unit.Version.{Version};
+ghost use Rattle.edd_image.specs.declared.unit.Version.TheVariants.{Two};
+ghost use Rattle.edd_image.specs.declared.parts.Counts.{Counts};
+ghost use Rattle.edd_image.specs.Agreement.{version_with};
 ghost use Rattle.edd_code.specs.Blocks.{Straight, size};
 ghost use Rattle.edd_code.specs.Expressions.{expression_block};
-ghost use Rattle.edd_code.specs.Flow.{AreSpelled, FlowsIn, all_straight, depth_after};
+ghost use Rattle.edd_code.specs.Flow.{AreSpelled, FlowsIn, all_straight, depth_after, may_stand};
 ghost use Rattle.edd_code.specs.MethodEffects.{pushed, does};
 ghost use Rattle.edd_code.specs.MethodExpressions.{method_block};
 ghost use Rattle.edd_code.specs.MethodReads.{uses_existing, is_no_local, CallsFit, HasStrings};
-ghost use Rattle.edd_code.specs.Numbered.{HasNumbers, machine_of};
+ghost use Rattle.edd_image.specs.Agreement.{machine_of};
+ghost use Rattle.edd_code.specs.Numbered.{HasNumbers};
 
 /// The block of an expression of a method leaves the expression's value on top of the operands and
 /// the state that the expression leaves, or comes to its stop.
@@ -44,7 +47,7 @@ pub fn method_expressions_mean_their_values()
 pub fn method_expressions_flow()
     ensures flows { (number : Words → StrNo) (e : Expr Target) → call_mismatches false e ≡ []
         → (d : ℕ) → d + height e + 2 ≤ 128
-        → FlowsIn One Method (method_block number e) d }
+        → FlowsIn Two Method (method_block number e) d }
     ensures leaves { (number : Words → StrNo) (e : Expr Target) → call_mismatches false e ≡ []
         → (d : ℕ) → d + height e + 2 ≤ 128
         → depth_after (method_block number e) d ≡ suc d }
@@ -57,21 +60,23 @@ pub fn method_expressions_are_short()
         → size (method_block number e) ≤ 32 * nodes e }
 {}
 
-/// The block of an expression of a method has its operands in their ranges, and the variables,
-/// slots and strings that it names exist.
+/// The block of an expression of a method has its operands in their ranges, and its instructions
+/// may stand there: the variables, arrays, slots and strings that they name exist.
 pub fn method_expressions_are_spelled()
-    ensures spelled { (context : Context) (number : Words → StrNo) (plain : Target → Bool)
-        (is_statement : Bool) (e : Expr Target)
-        → context.counts.variables ≤ 65536 → context.counts.strings ≤ 65536 → context.slots ≤ 65536
-        → call_mismatches is_statement e ≡ [] → is_expr (uses_existing context) plain e ≡ true
+    ensures { (version : Version) (counts : Counts) (slots : ℕ) (number : Words → StrNo)
+        (plain : Target → Bool) (is_statement : Bool) (e : Expr Target)
+        → version ≡ version_with counts
+        → counts.variables ≤ 65536 → counts.arrays ≤ 65536 → counts.strings ≤ 65536 → slots ≤ 65536
+        → (let context : Context = record {
+          version = version;
+          counts = counts;
+          sort = Method;
+          slots = slots;
+        } in
+        call_mismatches is_statement e ≡ [] → is_expr (uses_existing context) plain e ≡ true
         → HasStrings context number e
-        → AreSpelled (method_block number e) }
-    ensures named { (context : Context) (number : Words → StrNo) (plain : Target → Bool)
-        (is_statement : Bool) (e : Expr Target)
-        → context.counts.variables ≤ 65536 → context.counts.strings ≤ 65536 → context.slots ≤ 65536
-        → call_mismatches is_statement e ≡ [] → is_expr (uses_existing context) plain e ≡ true
-        → HasStrings context number e
-        → all_straight (names_exist context) (method_block number e) ≡ true }
+        → AreSpelled (method_block number e)
+        × (all_straight (may_stand context) (method_block number e) ≡ true)) }
 {}
 
 /// An expression that an attribute may have has the same block in attributes and in methods.

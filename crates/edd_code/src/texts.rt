@@ -32,6 +32,7 @@ fn add_texts(alloc: Global, table: &mut Table, e: &Expr<Target>) -> Result<(), L
         Expr::Literal(_) | Expr::Decimal { .. } | Expr::Reference(_) | Expr::Increment(_, _) => {
             Ok(())
         }
+        Expr::Indexed(_, index) => add_texts(alloc, table, index),
         Expr::Parentheses(inner) => add_texts(alloc, table, inner),
         Expr::Unary(_, operand) => add_texts(alloc, table, operand),
         Expr::Binary(_, left, right) => add_both(alloc, table, left, right),

@@ -14,7 +14,7 @@ ghost use Rattle.edd_code.specs.Written.{WritesNumbered, WritesPart};
 
 use crate::arguments::{only_value, target_and_value, two_values, value_and_text};
 use crate::emit::{close, open, put};
-use crate::expression::{write_truth, write_unary};
+use crate::expression::{write_element, write_truth, write_unary};
 use crate::fault::LowerFault;
 use crate::requests::{
     write_acknowledge, write_alone, write_get, write_message, write_misfit, write_select,
@@ -51,6 +51,10 @@ pub fn write_value(
         Expr::Literal(value) => Ok(put(code, Instruction::Push(*value))?),
         Expr::Decimal { .. } => Ok(put(code, Instruction::Push(0))?),
         Expr::Reference(from) => Ok(write_load(code, *from)?),
+        Expr::Indexed(array, index) => {
+            write_value(alloc, code, table, index)?;
+            Ok(write_element(code, *array)?)
+        }
         Expr::Parentheses(inner) => write_value(alloc, code, table, inner),
         Expr::Unary(op, operand) => {
             write_value(alloc, code, table, operand)?;

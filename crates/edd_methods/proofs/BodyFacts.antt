@@ -6,6 +6,7 @@ use Rattle.std.proofs.Math.Bool.{Bool-set}
 use mathlib.Core.HLevel.{×_prop, Unit-prop}
 use Rattle.std.proofs.Math.Bridge.{le_prop}
 use Rattle.std.proofs.Math.Logic.{∥∥₁_elim}
+use Rattle.edd_syntax.specs.declared.numbers.Kind.{Kind}
 use Rattle.edd_syntax.specs.declared.numbers.Kind.TheVariants as kind
 use Rattle.edd_syntax.specs.declared.numbers.MethNo.{MethNo}
 use Rattle.edd_syntax.specs.declared.reference.Target.{Target}
@@ -25,7 +26,8 @@ use Rattle.edd_methods.proofs.CheckedBodies.{body_fits}
 use Rattle.edd_methods.proofs.InsideLoops.{Inside, breaks_inside}
 use Rattle.edd_methods.proofs.ResolvedBodies.{body_keeps}
 use Rattle.edd_methods.proofs.ResolvedHeights.{NoneHigher, body_is_low}
-use Rattle.edd_methods.proofs.ResolvedReferences.{Refers, body_refers, few_variables}
+use Rattle.edd_syntax.proofs.WithinLimits.{few_when_checked}
+use Rattle.edd_methods.proofs.ResolvedReferences.{Refers, body_refers}
 
 -- ---- each fact is one in which no choice is hidden
 
@@ -82,8 +84,9 @@ pub record BodyFacts (d : Description Target) (m : MethNo) : Type 0 where
   pub fit : AllByRecursion (λ p. call_mismatches p.is_statement p.expression ≡ [])
       (body_expressions (body_of d m))
   pub low : NoneHigher height_limit (body_expressions (body_of d m))
-  pub few_variables : count_of kind.Variable d.items ≤ item_limit
+  pub few_items : (k : Kind) → count_of k d.items ≤ 4096
   pub refer : (counts : Counts) → count_of kind.Variable d.items ≡ counts.variables
+      → count_of kind.Array d.items ≡ counts.arrays
       → Refers counts (body_of d m)
   pub inside : Inside (body_of d m)
 
@@ -106,8 +109,8 @@ module _ (d : Description Target) (is : ∥ IsChecked d ∥₁) (m : MethNo) whe
         (λ c. (body_keeps d c.is_resolved m).1);
     fit = body_fits d typed.0 m;
     low = ∥∥₁_elim is (AllByRecursion-prop _ (λ p. le_prop) _) (λ c. body_is_low d c.is_resolved m);
-    few_variables = ∥∥₁_elim is le_prop (λ c. few_variables d c.is_resolved);
-    refer = λ counts variables. ∥∥₁_elim is (AllByRecursion-prop _ (λ p. Bool-set _ _) _)
-        (λ c. body_refers d c.is_resolved counts variables m);
+    few_items = few_when_checked d is;
+    refer = λ counts variables arrays. ∥∥₁_elim is (AllByRecursion-prop _ (λ p. Bool-set _ _) _)
+        (λ c. body_refers d c.is_resolved counts variables arrays m);
     inside = breaks_inside d typed.1 m;
   }

@@ -62,6 +62,7 @@ module _ (P : Body Target → Type 0) (none : P Nil) where
   in_attributes (item.ResponseCodes responses ∷ rest) h = in_attributes rest h.1
   in_attributes (item.Items entries ∷ rest) h = in_attributes rest h.1
   in_attributes (item.Members members ∷ rest) h = in_attributes rest h.1
+  in_attributes (item.Elements elements ∷ rest) h = in_attributes rest h.1
   in_attributes (item.Definition body ∷ rest) h = h.0
 
   -- what holds of each written body holds of that of each method
@@ -102,6 +103,7 @@ fit_in (a ∷ rest) h = (one a h.0, fit_in rest h.1)
     one (item.ResponseCodes responses) h = tt
     one (item.Items entries) h = tt
     one (item.Members members) h = tt
+    one (item.Elements elements) h = tt
 
 pub body_fits : (unit : Description Target) → mismatches unit ≡ [] → (m : MethNo)
     → Fit (body_of unit m)

@@ -1,9 +1,10 @@
 -- The code of a method of a checked description.
-use Rattle.std.proofs.Common.{◌≡◌, refl, true, false, ◌*◌, ◌<◌, ◌≤◌, ◌^◌, List, [], ◌∷◌, length, arith}
+use Rattle.std.proofs.Common.{◌≡◌, refl, ℕ, true, false, ◌*◌, ◌<◌, ◌≤◌, ◌^◌, List, [], ◌∷◌, length, arith}
 use Rattle.std.specs.Prelude.{◌&&◌}
 use Rattle.std.specs.List.{AllByRecursion}
 use Rattle.std.proofs.lemmas.Bool.{lt-ltb}
 use Rattle.std.proofs.lemmas.Option.{slice_get_within}
+use Rattle.edd_syntax.specs.declared.numbers.Kind.TheVariants as kind
 use Rattle.edd_syntax.specs.declared.numbers.MethNo.{MethNo}
 use Rattle.edd_syntax.specs.declared.numbers.StrNo.{StrNo}
 use Rattle.edd_syntax.specs.declared.reference.Target.{Target}
@@ -17,11 +18,14 @@ use Rattle.edd_syntax.specs.SubsetRules.{Placed, body_expressions, call_mismatch
 use Rattle.edd_syntax.specs.Text as texts
 use Rattle.edd_syntax.specs.Words.{Words, words_of}
 use Rattle.edd_image.specs.declared.unit.Context.{Context}
-use Rattle.edd_image.specs.Agreement.{counts_of, string_of_table}
+use Rattle.edd_image.specs.Agreement.{counts_of, string_of_table, version_with}
 use Rattle.edd_image.specs.MethodAgreement.{IsMethodCode, method_context}
-use Rattle.edd_image.specs.References.{names_exist, string_exists}
+use Rattle.edd_image.specs.declared.parts.Counts.{Counts}
+use Rattle.edd_image.specs.declared.unit.Sort.TheVariants.{Method}
+use Rattle.edd_image.specs.declared.unit.Version.{Version}
+use Rattle.edd_image.specs.References.{string_exists}
 use Rattle.edd_image.specs.Units.{IsValidUnit}
-use Rattle.edd_code.specs.Flow.{AreSpelled, all_straight}
+use Rattle.edd_code.specs.Flow.{AreSpelled, all_straight, may_stand}
 use Rattle.edd_code.specs.MethodExpressions.{method_block}
 use Rattle.edd_code.specs.Numbered.{HasNumbers, IsNumbered}
 use Rattle.edd_code.proofs.MethodSizes.{is_short}
@@ -52,29 +56,30 @@ strings_there context strings number long (t ∷ rest) h =
           number long rest h.1,
     )
 
--- the operands of a block are in their ranges, and what it names exists
+-- the operands of a block are in their ranges, and its instructions may stand there
 abbrev pub Stands : Context → (number : Words → StrNo) → Expr Target → Type 0
 Stands context number e = AreSpelled (method_block number e)
-    × (all_straight (names_exist context) (method_block number e) ≡ true)
+    × (all_straight (may_stand context) (method_block number e) ≡ true)
 
-all_stand : (context : Context) (strings : List Words) (number : Words → StrNo)
-    → context.counts.strings ≡ length strings → length strings ≤ 65536 → context.counts.variables
-    ≤ 65536 → context.slots ≤ 65536
-    → (ps : List (Placed Target))
-    → AllByRecursion (λ p. call_mismatches p.is_statement p.expression ≡ []) ps
-    → ReferToExisting context ps
-    → AllByRecursion (λ p. HasNumbers (string_of_table strings) number p.expression) ps
-    → AllByRecursion (λ p. Stands context number p.expression) ps
-all_stand context strings number long few variables slots [] fit refer known = tt
-all_stand context strings number long few variables slots (p ∷ ps) fit refer known =
-    let e = p.expression in
-    let there = strings_there context strings number long (expr_texts e) known.0 in
-    let x = method_stands context variables (omega (arith, long, few)) slots number any
-    p.is_statement e fit.0 refer.0 there in (
-      (x.spelled, x.named),
-      all_stand context strings number long few variables slots ps fit.1
-          refer.1 known.1,
-    )
+module _ (version : Version) (counts : Counts) (slots : ℕ) (fits : version ≡ version_with counts)
+    (strings : List Words) (number : Words → StrNo) (long : counts.strings ≡ length strings)
+    (few : length strings ≤ 65536) (variables : counts.variables ≤ 65536)
+    (arrays : counts.arrays ≤ 65536) (few_slots : slots ≤ 65536) where
+  abbrev context : Context
+  context = record { version = version; counts = counts; sort = Method; slots = slots }
+
+  all_stand : (ps : List (Placed Target))
+      → AllByRecursion (λ p. call_mismatches p.is_statement p.expression ≡ []) ps
+      → ReferToExisting context ps
+      → AllByRecursion (λ p. HasNumbers (string_of_table strings) number p.expression) ps
+      → AllByRecursion (λ p. Stands context number p.expression) ps
+  all_stand [] fit refer known = tt
+  all_stand (p ∷ ps) fit refer known =
+      let e = p.expression in
+      let there = strings_there context strings number long (expr_texts e) known.0 in
+      let x = method_stands version counts slots fits variables arrays (omega (arith, long, few))
+      few_slots number any p.is_statement e fit.0 refer.0 there in
+      ((x.spelled, x.named), all_stand ps fit.1 refer.1 known.1)
 
 module _ (d : Description Target) (m : MethNo) (is : BodyFacts d m) (strings : List Words)
     (few : length strings ≤ 65536) (number : Words → StrNo)
@@ -84,12 +89,13 @@ module _ (d : Description Target) (m : MethNo) (is : BodyFacts d m) (strings : L
       (λ p. Stands (method_context d strings (slots_in (body_of d m))) number p.expression)
       (body_expressions (body_of d m))
   expressions_stand =
-      let variables = is.few_variables in
+      let counts = counts_of d.identification d.items (length strings) in
+      let variables = is.few_items kind.Variable in
+      let arrays = is.few_items kind.Array in
       let slots = is.few_slots in
-      let refer = is.refer (counts_of d.identification d.items (length strings)) refl in
-      all_stand (method_context d strings (slots_in (body_of d m))) strings number refl few
-      (omega (arith, variables)) (omega (arith, slots)) (body_expressions (body_of d m)) is.fit
-      refer known
+      all_stand (version_with counts) counts (slots_in (body_of d m)) refl strings number refl few
+      (omega (arith, variables)) (omega (arith, arrays)) (omega (arith, slots))
+      (body_expressions (body_of d m)) is.fit (is.refer counts refl refl) known
 
   pub has_blocks : HasBlocks number (string_of_table strings) (body_of d m)
   has_blocks = record {

@@ -2,7 +2,7 @@
 use Rattle.std.proofs.Common.{◌≡◌, refl, sym, ap, subst, ◌∙◌, ℕ, ◌+◌, ◌<◌, ◌≤◌, arith}
 use Rattle.std.proofs.Math.Logic.{inl, inr}
 use Rattle.edd_image.specs.declared.unit.Sort.TheVariants.{Method}
-use Rattle.edd_image.specs.declared.unit.Version.TheVariants.{One}
+use Rattle.edd_image.specs.declared.unit.Version.TheVariants.{Two}
 use Rattle.edd_code.specs.Blocks as blocks
 use Rattle.edd_code.specs.Blocks.{Block, Straight}
 use Rattle.edd_code.proofs.BlockDepths.{until, until_front, until_behind, depth_in, HasDepthsOf, at_front, has_depths}
@@ -148,13 +148,13 @@ module _ (depth : ℕ → ℕ) where
       ∙ ap (λ (b : Block). depth_in b p 0 p) is in
       subst (λ (b : Block). HasDepthsOf depth p 0 b) (sym is) here
   rests_has p q b end (inr runs) agree exit =
-      has_depths One Method depth p 0 b runs.0
+      has_depths Two Method depth p 0 b runs.0
       (λ x low high. agree x low (omega (arith, high, end))) (ap depth end ∙ exit ∙ sym runs.1)
 
   gives_has : (p q : ℕ) (b : Block) → p + blocks.size b ≡ q → Gives b → Agree (depth_in b p 0) p q
       → depth q ≡ 1 → HasDepthsOf depth p 0 b
   gives_has p q b end runs agree exit =
-      has_depths One Method depth p 0 b runs.0
+      has_depths Two Method depth p 0 b runs.0
       (λ x low high. agree x low (omega (arith, high, end))) (ap depth end ∙ exit ∙ sym runs.1)
 
   part_has : (p q : ℕ) (part : Part) → p + part_size part ≡ q → FitsPart Rests Gives part

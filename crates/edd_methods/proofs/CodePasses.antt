@@ -2,28 +2,15 @@
 use Rattle.std.proofs.Common.{◌≡◌, refl, ap, ℕ, ◌+◌, ◌-◌, true, List, [], ◌∷◌, ◌++◌}
 use Rattle.std.specs.Prelude.{Bool, ◌&&◌}
 use Rattle.std.specs.List.{AllByRecursion, list_all}
-use Rattle.std.proofs.Math.Logic.{inl, inr}
 use Rattle.std.proofs.lemmas.Bool.{and_parts, and_from}
 use Rattle.edd_image.specs.declared.instruction.Instruction.{Instruction}
 use Rattle.edd_image.specs.declared.instruction.Instruction.TheVariants as instruction
-use Rattle.edd_image.specs.declared.unit.Sort.TheVariants.{Method}
-use Rattle.edd_image.specs.declared.unit.Version.TheVariants.{One}
-use Rattle.edd_image.specs.Units.{is_allowed}
 use Rattle.edd_code.specs.Blocks as blocks
 use Rattle.edd_code.specs.Blocks.{Block, target}
 use Rattle.edd_code.specs.Flow.{all_straight}
-use Rattle.edd_code.proofs.BlockUnits.{HoldsOfJumps, flows_allowed}
+use Rattle.edd_code.proofs.BlockUnits.{HoldsOfJumps}
 use Rattle.edd_methods.specs.Statements.{Part, Missing, Step, Test, Code, Plain, Then, Branch, Loop, Switch, Break, Continue, Finish, Arms, Nil, Statement, Case, Default, part_size, size, part_emitted, tests_emitted, emitted, arms_emitted}
-use Rattle.edd_methods.specs.CodeFlow.{Rests, Gives, FitsPart, Fits, FitArms}
-
--- ---- the blocks of methods have instructions that methods may have
-
-pub gives_allowed : (b : Block) → Gives b → all_straight (is_allowed One Method) b ≡ true
-gives_allowed b runs = flows_allowed One Method 0 b runs.0
-
-pub rests_allowed : (b : Block) → Rests b → all_straight (is_allowed One Method) b ≡ true
-rests_allowed b (inl is) = ap (all_straight (is_allowed One Method)) is
-rests_allowed b (inr runs) = flows_allowed One Method 0 b runs.0
+use Rattle.edd_methods.specs.CodeFlow.{FitsPart, Fits, FitArms}
 
 -- ---- what is emitted
 

@@ -7,18 +7,20 @@ use Rattle.std.proofs.lemmas.Bool.{lt-ltb, and_from}
 use Rattle.edd_image.specs.declared.instruction.Instruction.{Instruction}
 use Rattle.edd_image.specs.declared.instruction.Instruction.TheVariants as instruction
 use Rattle.edd_image.specs.declared.unit.Context.{Context}
-use Rattle.edd_image.specs.declared.unit.Sort.TheVariants.{Method}
-use Rattle.edd_image.specs.declared.unit.Version.TheVariants.{One}
+use Rattle.edd_image.specs.declared.unit.Sort.{Sort}
+use Rattle.edd_image.specs.declared.unit.Sort.TheVariants.{Attribute, Method}
+use Rattle.edd_image.specs.declared.unit.Version.{Version}
 use Rattle.edd_image.specs.References.{names_exist}
 use Rattle.edd_image.specs.Spelling.{spelling}
 use Rattle.edd_image.specs.Units.{Placed, instructions, end_of, is_allowed, is_chain, lands, all_land, AreDepths, HasDepths, all_exist, IsValidUnit}
 use Rattle.edd_code.specs.Blocks.{bytes_of}
-use Rattle.edd_code.specs.Flow.{all_straight}
+use Rattle.edd_code.specs.Flow.{all_straight, may_stand}
 use Rattle.edd_code.proofs.BlockBytes.{all_both}
 use Rattle.edd_code.proofs.BlockDepths.{until, until_front, until_behind}
 use Rattle.edd_code.proofs.BlockJumps.{IsSound, starts}
 use Rattle.edd_code.proofs.BlockPlaces.{stand}
 use Rattle.edd_code.proofs.BlockUnits.{HoldsOfJumps, jumps_allowed, all_weaker}
+use Rattle.edd_code.proofs.Versions.{each_passes}
 use Rattle.edd_code.proofs.Lines.{placed, bytes_of-append, instructions_are, end_is, all_placed}
 use Rattle.edd_methods.specs.Statements.{Code, size, emitted, bytes_at, unit_code, IsSpelledCode}
 use Rattle.edd_methods.proofs.CodeBytes.{code_spelled}
@@ -26,7 +28,7 @@ use Rattle.edd_methods.proofs.CodeDepths.{code_depth, HasCode, code_has}
 use Rattle.edd_methods.specs.CodeFlow.{Rests, Gives, Fits}
 use Rattle.edd_methods.proofs.CodeFlow.{fits_weaker}
 use Rattle.edd_methods.proofs.CodeListed.{code_holds}
-use Rattle.edd_methods.proofs.CodePasses.{gives_allowed, rests_allowed, both, list_passes, code_passes}
+use Rattle.edd_methods.proofs.CodePasses.{both, list_passes, code_passes}
 use Rattle.edd_methods.proofs.CodeReading.{code_in}
 use Rattle.edd_methods.proofs.CodeStarts.{InsideCode}
 use Rattle.edd_methods.proofs.CodeWays.{IsBorder, end_sound, code_sound}
@@ -57,6 +59,14 @@ all_listed_true f (x ∷ xs) h = and_from (f x) (list_all f xs) h.0 (all_listed_
 
 all_true : {a b c : Bool} → a ≡ true → b ≡ true → c ≡ true → (a && (b && c)) ≡ true
 all_true p q r = rw (p, q, r) refl
+
+pop_allowed : (version : Version) (sort : Sort) → is_allowed version sort instruction.Pop ≡ true
+pop_allowed version Attribute = refl
+pop_allowed version Method = refl
+
+end_allowed : (version : Version) (sort : Sort) → is_allowed version sort instruction.End ≡ true
+end_allowed version Attribute = refl
+end_allowed version Method = refl
 
 module _ (c : Code) (small : size c < 2 ^ 31) where
   -- ---- tests of the instructions
@@ -98,8 +108,26 @@ module _ (c : Code) (small : size c < 2 ^ 31) where
       (code_sound xs unit_depth 0 e e c fits has border far far inside)
       (end_sound xs unit_depth q (q + 1) border.0, tt)
 
-  module _ (context : Context) (version : context.version ≡ One) (sort : context.sort ≡ Method)
-      (spelled : IsSpelledCode c) (fits : Fits Rests Gives c) where
+  module _ (context : Context) (sort : context.sort ≡ Method) (spelled : IsSpelledCode c)
+      (fits : Fits Rests Gives c) (stands : Passes (may_stand context) c) where
+    abbrev allowed : Instruction → Bool
+    allowed = is_allowed context.version context.sort
+
+    abbrev named : Instruction → Bool
+    named = names_exist context
+
+    are_allowed : Passes allowed c
+    are_allowed = fits_weaker (λ b. all_straight (may_stand context) b ≡ true)
+        (λ b. all_straight (may_stand context) b ≡ true) (λ b. all_straight allowed b ≡ true)
+        (λ b. all_straight allowed b ≡ true) (λ b h. (each_passes allowed named b h).0)
+        (λ b h. (each_passes allowed named b h).0) c stands
+
+    are_named : Passes named c
+    are_named = fits_weaker (λ b. all_straight (may_stand context) b ≡ true)
+        (λ b. all_straight (may_stand context) b ≡ true) (λ b. all_straight named b ≡ true)
+        (λ b. all_straight named b ≡ true) (λ b h. (each_passes allowed named b h).1)
+        (λ b h. (each_passes allowed named b h).1) c stands
+
     listed_are : instructions (unit_code c) ≡ listed_in c
     listed_are = ap instructions (unit_is c) ∙ instructions_are (in_unit c)
         (all_both (emitted 0 (size c) (size c) c) (instruction.End ∷ [])
@@ -112,15 +140,12 @@ module _ (c : Code) (small : size c < 2 ^ 31) where
         let ends : end_of 0 (instructions (unit_code c)) ≡ length (unit_code c) =
         ap (end_of 0) listed_are ∙ end_is 0 (in_unit c) ∙ omega arith
         ∙ ap length (sym (unit_is c)) in
-        let passes = fits_weaker Rests Gives (λ b. all_straight (is_allowed One Method) b ≡ true)
-        (λ b. all_straight (is_allowed One Method) b ≡ true) rests_allowed gives_allowed c
-        fits in
-        let allowed = in_unit_passes (is_allowed One Method) (jumps_allowed One Method) refl refl
-        passes in
         all_true (lt-ltb 0 (length (unit_code c)) (omega (arith, long)))
         (grind (arith, nat_tests, ends))
-        (ap (list_all (λ x. is_allowed context.version context.sort x.instruction)) listed_are
-        ∙ rw (version, sort) allowed)
+        (ap (list_all (λ x. allowed x.instruction)) listed_are
+        ∙ in_unit_passes allowed (jumps_allowed context.version context.sort)
+        (pop_allowed context.version context.sort) (end_allowed context.version context.sort)
+        are_allowed)
 
     land : all_land context (listed_in c) ≡ true
     land =
@@ -137,8 +162,8 @@ module _ (c : Code) (small : size c < 2 ^ 31) where
           fresh = all_weaker (λ x h. h.fresh) (listed_in c) sound;
         }
 
-    pub unit_is_valid : Passes (names_exist context) c → IsValidUnit context (unit_code c)
-    unit_is_valid exist = record {
+    pub unit_is_valid : IsValidUnit context (unit_code c)
+    unit_is_valid = record {
       chain = chained;
       jumps = ap (all_land context) listed_are ∙ land;
       depths = subst HasDepths (sym listed_are) (unit_depth, depths);
@@ -149,5 +174,5 @@ module _ (c : Code) (small : size c < 2 ^ 31) where
             zero = λ to. refl;
             not_zero = λ to. refl;
             label = λ z to. refl;
-          }) refl refl exist;
+          }) refl refl are_named;
     }

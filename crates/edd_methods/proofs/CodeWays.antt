@@ -3,7 +3,7 @@ use Rattle.std.proofs.Common.{◌≡◌, refl, sym, subst, ◌∙◌, ℕ, ◌+�
 use Rattle.std.proofs.Math.Logic.{inl, inr}
 use Rattle.edd_image.specs.declared.instruction.Instruction.TheVariants as instruction
 use Rattle.edd_image.specs.declared.unit.Sort.TheVariants.{Method}
-use Rattle.edd_image.specs.declared.unit.Version.TheVariants.{One}
+use Rattle.edd_image.specs.declared.unit.Version.TheVariants.{Two}
 use Rattle.edd_image.specs.Units.{Placed, IsFresh}
 use Rattle.edd_code.specs.Blocks as blocks
 use Rattle.edd_code.specs.Blocks.{Block}
@@ -28,13 +28,13 @@ module _ (xs : List Placed) (depth : ℕ → ℕ) where
 
   value_sound : (p : ℕ) (b : Block) → Gives b → HasDepthsOf depth p 0 b → depth (p + blocks.size b)
       ≡ 1 → Starts xs (p + blocks.size b) → Inside xs p b → AllIn (IsSound xs depth) p b
-  value_sound p b runs has exit start inside = block_is_sound One Method xs depth p 0 b runs.0 has
+  value_sound p b runs has exit start inside = block_is_sound Two Method xs depth p 0 b runs.0 has
       (exit ∙ sym runs.1) start inside (λ f. refl)
 
   -- something leads to the place behind a value
   value_leads : (p : ℕ) (b : Block) → Gives b → Inside xs p b → IsFresh xs (p + blocks.size b) → ⊥
   value_leads p b runs inside fresh =
-      absurd (omega (arith, runs.1, exit_fresh One Method xs p 0 b runs.0 inside (λ f. refl) fresh))
+      absurd (omega (arith, runs.1, exit_fresh Two Method xs p 0 b runs.0 inside (λ f. refl) fresh))
 
   rests_sound : (p : ℕ) (b : Block) → Rests b → HasDepthsOf depth p 0 b
       → IsBorder (p + blocks.size b) → Inside xs p b → AllIn (IsSound xs depth) p b
@@ -49,14 +49,14 @@ module _ (xs : List Placed) (depth : ℕ → ℕ) where
         fresh = λ f. here;
       } in
       subst (λ (b : Block). AllIn (IsSound xs depth) p b) (sym is) abort
-  rests_sound p b (inr runs) has exit inside = block_is_sound One Method xs depth p 0 b runs.0 has
+  rests_sound p b (inr runs) has exit inside = block_is_sound Two Method xs depth p 0 b runs.0 has
       (exit.0 ∙ sym runs.1) exit.1 inside (λ f. refl)
 
   -- ---- instructions of statements
 
   jump_sound : (p next to : ℕ) → depth p ≡ 0 → IsBorder to
       → IsSound xs depth (stand p (instruction.Jump to) next)
-  jump_sound p next to here there = sound_jump One Method xs depth p next to 0 here there.0
+  jump_sound p next to here there = sound_jump Two Method xs depth p next to 0 here there.0
       (omega arith) there.1 (λ f. refl)
 
   pub end_sound : (p next : ℕ) → depth p ≡ 0 → IsSound xs depth (stand p instruction.End next)
@@ -70,7 +70,7 @@ module _ (xs : List Placed) (depth : ℕ → ℕ) where
 
   leave_sound : (p next to : ℕ) → depth p ≡ 1 → IsBorder next → IsBorder to → (IsFresh xs p → ⊥)
       → IsSound xs depth (stand p (instruction.JumpIfZero to) next)
-  leave_sound p next to here on there led = sound_zero One Method xs depth p next to 1
+  leave_sound p next to here on there led = sound_zero Two Method xs depth p next to 1
       (here, there.0, omega arith, omega arith, on.1, there.1, λ f. absurd (led f)) on.0
 
   -- ---- parts of loops
@@ -128,7 +128,7 @@ module _ (xs : List Placed) (depth : ℕ → ℕ) where
       let behind : Starts xs (p + 13 + tests_size rest) = subst (Starts xs) (omega arith) start in
       let next : Starts xs (p + 13) = tests_starts xs (p + 13) at rest (λ P h. (inside P h).1)
       behind in (
-        sound_case One Method xs depth p (p + 13) at 1 label (
+        sound_case Two Method xs depth p (p + 13) at 1 label (
           one p (omega arith) (omega arith),
           here.0,
           omega arith,
@@ -267,7 +267,7 @@ module _ (xs : List Placed) (depth : ℕ → ℕ) where
         let popped : IsFresh xs v
         → ⊥ = λ f. tests_lead s k arms in_tests led (subst (IsFresh xs) (omega arith) f) in (
           value_sound p on fits.0 has.0 has.1 (starts xs enter (λ P h. (inside P h).1)) in_on,
-          sound_jump One Method xs depth m n s 1 has.1 (has.5 s (omega arith) (omega arith))
+          sound_jump Two Method xs depth m n s 1 has.1 (has.5 s (omega arith) (omega arith))
               (omega arith) (tests_starts xs s k arms in_tests tested)
               (λ f. absurd (value_leads p on fits.0 in_on f)),
           jump_sound n k q has.2 exit,
@@ -275,7 +275,7 @@ module _ (xs : List Placed) (depth : ℕ → ℕ) where
           jump_sound r s n has.4 leave,
           tests_sound s k n back arms (λ x low high. has.5 x low (omega (arith, high))) has.3
               in_arms behind led tested in_tests,
-          sound_straight One Method xs depth v 1 u instruction.Pop refl (omega arith) (omega arith)
+          sound_straight Two Method xs depth v 1 u instruction.Pop refl (omega arith) (omega arith)
               (has.5 v (omega arith) (omega arith)) has.6 last (λ f. absurd (popped f)),
           jump_sound u q default has.6 (default_border k n back arms n has.3 in_arms behind leave),
         )

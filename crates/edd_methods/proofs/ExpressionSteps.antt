@@ -7,7 +7,7 @@ use Rattle.edd_syntax.specs.declared.operators.Builtin.TheVariants as builtin
 use Rattle.edd_syntax.specs.declared.reference.Target.{Target}
 use Rattle.edd_syntax.specs.declared.reference.Target.TheVariants.{Local, Item, Function}
 use Rattle.edd_syntax.specs.Expression as expr
-use Rattle.edd_syntax.specs.Expression.{Expr, Literal, Decimal, Reference, Parentheses, Unary, Binary, Compare, LogicalAnd, LogicalOr, Conditional, Assign, CompoundAssign, Increment, Call}
+use Rattle.edd_syntax.specs.Expression.{Expr, Literal, Decimal, Reference, Indexed, Parentheses, Unary, Binary, Compare, LogicalAnd, LogicalOr, Conditional, Assign, CompoundAssign, Increment, Call}
 use Rattle.edd_syntax.specs.TwosComplement.{wrap}
 use Rattle.edd_syntax.specs.Words.{Words}
 use Rattle.edd_syntax.specs.Device as device
@@ -62,6 +62,7 @@ abort_stops (Call (Item i) arguments) is env s = not_true is
 abort_stops (Literal value) is env s = not_true is
 abort_stops Decimal is env s = not_true is
 abort_stops (Reference from) is env s = not_true is
+abort_stops (Indexed array index) is env s = not_true is
 abort_stops (Parentheses inner) is env s = not_true is
 abort_stops (Unary op operand) is env s = not_true is
 abort_stops (Binary op left right) is env s = not_true is

@@ -32,6 +32,7 @@ one_few n (item.Transaction number parts) h = tt
 one_few n (item.ResponseCodes responses) h = tt
 one_few n (item.Items entries) h = tt
 one_few n (item.Members members) h = tt
+one_few n (item.Elements elements) h = tt
 
 attributes_few : (n : ℕ) (xs : List (Attribute Target)) → sum (map attribute_nodes xs) ≤ n
     → AllByRecursion (OfBody (Few n)) xs

@@ -25,6 +25,7 @@ here (item.Transaction number parts) rest b h = absurd (cc h)
 here (item.ResponseCodes responses) rest b h = absurd (cc h)
 here (item.Items entries) rest b h = absurd (cc h)
 here (item.Members members) rest b h = absurd (cc h)
+here (item.Elements elements) rest b h = absurd (cc h)
 
 passed : (a : Attribute Target) (rest : List (Attribute Target)) → [] ≡ bodies_in a
     → body_in (a ∷ rest) ≡ body_in rest
@@ -40,6 +41,7 @@ passed (item.Transaction number parts) rest h = refl
 passed (item.ResponseCodes responses) rest h = refl
 passed (item.Items entries) rest h = refl
 passed (item.Members members) rest h = refl
+passed (item.Elements elements) rest h = refl
 
 module _ {X Y : Type 0} (view : X → Attribute Target) (body : Y → Body Target) where
   -- what is found from the i-th attribute on

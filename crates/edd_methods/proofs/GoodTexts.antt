@@ -3,7 +3,7 @@ use Rattle.std.proofs.Common.{◌≡◌, refl, Bool, true, false, List, [], ◌�
 use Rattle.std.specs.Prelude.{◌&&◌}
 use Rattle.std.specs.List.{AllByRecursion, flat_map, list_all}
 use Rattle.edd_syntax.specs.Expression as expr
-use Rattle.edd_syntax.specs.Expression.{Expr, Literal, Decimal, Reference, Parentheses, Unary, Binary, Compare, LogicalAnd, LogicalOr, Conditional, Assign, CompoundAssign, Increment, Call, Arguments}
+use Rattle.edd_syntax.specs.Expression.{Expr, Literal, Decimal, Reference, Indexed, Parentheses, Unary, Binary, Compare, LogicalAnd, LogicalOr, Conditional, Assign, CompoundAssign, Increment, Call, Arguments}
 use Rattle.edd_syntax.specs.Strings.{argument_texts, expr_texts}
 use Rattle.edd_syntax.specs.SubsetRules.{Placed}
 use Rattle.edd_syntax.specs.Text as texts
@@ -23,6 +23,8 @@ module _ {R : Type 0} (good plain : R → Bool) where
     texts_good (Literal value) h = refl
     texts_good Decimal h = refl
     texts_good (Reference from) h = refl
+    texts_good (Indexed array index) h = texts_good index (both_of (good array && plain array)
+        (is_expr good plain index) h).1
     texts_good (Parentheses inner) h = texts_good inner h
     texts_good (Unary op operand) h = texts_good operand h
     texts_good (Binary op left right) h =

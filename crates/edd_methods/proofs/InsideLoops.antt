@@ -53,6 +53,7 @@ inside_in (a ∷ rest) h =
     one (item.ResponseCodes responses) h = tt
     one (item.Items entries) h = tt
     one (item.Members members) h = tt
+    one (item.Elements elements) h = tt
 
 pub breaks_inside : (unit : Description Target) → wrong_breaks unit ≡ [] → (m : MethNo)
     → Inside (body_of unit m)

@@ -20,7 +20,8 @@ use Rattle.edd_image.specs.MethodAgreement.{AgreesOnRuns, IsMethodCode, method_c
 use Rattle.edd_image.specs.Units.{IsValidUnit}
 use Rattle.edd_code.specs.Blocks.{Block}
 use Rattle.edd_code.specs.MethodExpressions.{method_block}
-use Rattle.edd_code.specs.Numbered.{HasNumbers, machine_of}
+use Rattle.edd_image.specs.Agreement.{machine_of}
+use Rattle.edd_code.specs.Numbered.{HasNumbers}
 use Rattle.edd_code.proofs.MethodValues.{means}
 use Rattle.edd_methods.specs.Statements.{size, unit_code}
 use Rattle.edd_methods.specs.Following.{Follows}

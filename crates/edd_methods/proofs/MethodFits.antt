@@ -1,4 +1,4 @@
--- The blocks of a checked method's expressions find their operands, and name what exists.
+-- The blocks of a checked method's expressions find their operands, and may stand in it.
 use Rattle.std.proofs.Common.{◌≡◌, refl, ℕ, Bool, true, false, List, [], ◌∷◌, Option, Some, None, arith}
 use Rattle.std.specs.Prelude.{◌&&◌}
 use Rattle.std.specs.List.{AllByRecursion}
@@ -10,15 +10,17 @@ use Rattle.edd_syntax.specs.declared.numbers.StrNo.{StrNo}
 use Rattle.edd_syntax.specs.declared.reference.Target.{Target}
 use Rattle.edd_syntax.specs.declared.reference.Target.TheVariants.{Local, Item, Function}
 use Rattle.edd_syntax.specs.Expression as expr
-use Rattle.edd_syntax.specs.Expression.{Expr, Literal, Decimal, Reference, Parentheses, Unary, Binary, Compare, LogicalAnd, LogicalOr, Conditional, Assign, CompoundAssign, Increment, Call, Arguments}
+use Rattle.edd_syntax.specs.Expression.{Expr, Literal, Decimal, Reference, Indexed, Parentheses, Unary, Binary, Compare, LogicalAnd, LogicalOr, Conditional, Assign, CompoundAssign, Increment, Call, Arguments}
 use Rattle.edd_syntax.specs.Statement.{Declarator}
 use Rattle.edd_syntax.specs.SubsetRules.{Placed, parameters, all_fit, is_abort, call_breaches, call_mismatches, argument_mismatches}
 use Rattle.edd_syntax.specs.Words.{Words}
 use Rattle.edd_image.specs.declared.instruction.Instruction.TheVariants as instruction
 use Rattle.edd_image.specs.declared.unit.Context.{Context}
-use Rattle.edd_image.specs.References.{names_exist}
+use Rattle.edd_image.specs.declared.parts.Counts.{Counts}
+use Rattle.edd_image.specs.declared.unit.Sort.TheVariants.{Method}
+use Rattle.edd_image.specs.declared.unit.Version.{Version}
 use Rattle.edd_code.specs.Blocks.{Block, Straight, Then}
-use Rattle.edd_code.specs.Flow.{all_straight}
+use Rattle.edd_code.specs.Flow.{all_straight, may_stand}
 use Rattle.edd_code.specs.MethodExpressions.{method_block, store_block}
 use Rattle.edd_code.proofs.BlockFlow.{Runs, then_runs, push_runs, pop_runs, store_runs}
 use Rattle.edd_code.proofs.Fitting.{front_none, fits}
@@ -71,6 +73,7 @@ value_fits : (s : Bool) (e : Expr Target) → call_mismatches s e ≡ [] → (s 
 value_fits s (Literal value) fit is = fit
 value_fits s Decimal fit is = fit
 value_fits s (Reference from) fit is = fit
+value_fits s (Indexed array index) fit is = fit
 value_fits s (Parentheses inner) fit is = fit
 value_fits s (Unary op operand) fit is = fit
 value_fits s (Binary op left right) fit is = fit
@@ -93,9 +96,12 @@ leaves n b runs = (runs.flows, runs.after)
 runs_so : (n : ℕ) (b : Block) → Leaves n b → Runs b 0 n
 runs_so n b has = record { flows = has.0; after = has.1 }
 
-module _ (context : Context) (number : Words → StrNo) where
+module _ (version : Version) (counts : Counts) (slots : ℕ) (number : Words → StrNo) where
+  abbrev context : Context
+  context = record { version = version; counts = counts; sort = Method; slots = slots }
+
   abbrev Named : Block → Type 0
-  Named b = all_straight (names_exist context) b ≡ true
+  Named b = all_straight (may_stand context) b ≡ true
 
   -- it finds its operands and names what exists, where it leaves nothing, and where it leaves one
   -- operand
@@ -136,35 +142,35 @@ module _ (context : Context) (number : Words → StrNo) where
   )
   initial_there (Some e) ok = ok
 
-  store_named : (place : Target) → IsSlotBelow context.slots place → Named (store_block place)
-  store_named (Local slot) is = lt-ltb slot context.slots is
+  store_named : (place : Target) → IsSlotBelow slots place → Named (store_block place)
+  store_named (Local slot) is = lt-ltb slot slots is
   store_named (Item i) is = absurd is
   store_named (Function f) is = absurd is
 
-  declared_there : (ds : List (Declarator Target)) → EachSlotOf context.slots ds
+  declared_there : (ds : List (Declarator Target)) → EachSlotOf slots ds
       → EachDeclared IsThere ds
       → Runs (declare_block (blocks_by (method_block number)) ds) 0 0
       × Named (declare_block (blocks_by (method_block number)) ds)
-  declared_there [] slots ok = (record { flows = tt; after = refl }, refl)
-  declared_there (d ∷ rest) slots ok =
+  declared_there [] stored ok = (record { flows = tt; after = refl }, refl)
+  declared_there (d ∷ rest) stored ok =
       let given = blocks_by (method_block number) in
       let first = initial_block given d.value in
       let store = store_block d.place in
       let behind = declare_block given rest in
       let pop = Straight instruction.Pop in
       let one = initial_there d.value ok.1 in
-      let more = declared_there rest slots.1 ok.2 in (
+      let more = declared_there rest stored.1 ok.2 in (
         then_runs first (Then store (Then pop behind)) 0 1 0 (runs_so 1 first one.0)
             (then_runs store (Then pop behind) 1 1 0 (store_runs d.place 0 (omega arith))
             (then_runs pop behind 1 0 0 (pop_runs 0 (omega arith)) more.0)),
-        and_from _ _ one.1 (and_from _ _ (store_named d.place slots.0)
+        and_from _ _ one.1 (and_from _ _ (store_named d.place stored.0)
             (and_from true _ refl more.1)),
       )
 
-  pub declares_there : (ds : List (Declarator Target)) → EachSlotOf context.slots ds
+  pub declares_there : (ds : List (Declarator Target)) → EachSlotOf slots ds
       → EachDeclared IsThere ds → RestsThere (declare_block (blocks_by (method_block number)) ds)
-  declares_there ds slots ok = let there =
-      declared_there ds slots ok
+  declares_there ds stored ok = let there =
+      declared_there ds stored ok
       in (inr (leaves 0 (declare_block (blocks_by (method_block number)) ds) there.0), there.1)
 
   -- ---- the expressions of a body

@@ -57,6 +57,7 @@ few_in sort name (item.Transaction number parts ∷ rest) few = (tt, few_in sort
 few_in sort name (item.ResponseCodes responses ∷ rest) few = (tt, few_in sort name rest few)
 few_in sort name (item.Items entries ∷ rest) few = (tt, few_in sort name rest few)
 few_in sort name (item.Members members ∷ rest) few = (tt, few_in sort name rest few)
+few_in sort name (item.Elements elements ∷ rest) few = (tt, few_in sort name rest few)
 few_in sort name (item.Definition body ∷ rest) few =
     let split : locals_of (record {
       sort = sort;

@@ -10,23 +10,24 @@ use Rattle.edd_syntax.specs.declared.numbers.ItemNo.TheVariants as item_no
 use Rattle.edd_syntax.specs.declared.numbers.Kind.TheVariants as kind
 use Rattle.edd_syntax.specs.declared.reference.Target.{Target}
 use Rattle.edd_syntax.specs.declared.reference.Target.TheVariants.{Local, Item}
-use Rattle.edd_syntax.specs.Expression.{Expr, Literal, Decimal, Reference, Parentheses, Unary, Binary, Compare, LogicalAnd, LogicalOr, Conditional, Assign, CompoundAssign, Increment, Call, Text, Value, Arguments, Nil, Cons}
+use Rattle.edd_syntax.specs.Expression.{Expr, Literal, Decimal, Reference, Indexed, Parentheses, Unary, Binary, Compare, LogicalAnd, LogicalOr, Conditional, Assign, CompoundAssign, Increment, Call, Text, Value, Arguments, Nil, Cons}
 use Rattle.edd_syntax.specs.Item.{Description}
 use Rattle.edd_syntax.specs.Reference.{Path}
-use Rattle.edd_syntax.specs.Resolution.{Scope, count_of, function_meant, item_meant, local_meant, look_up, meaning, variable_kinds}
-use Rattle.edd_syntax.specs.ResolvedTrees.{resolved_expr, resolved_arguments}
+use Rattle.edd_syntax.specs.Resolution.{Scope, array_kinds, array_meant, count_of, function_meant, item_meant, local_meant, look_up, meaning, variable_kinds}
+use Rattle.edd_syntax.specs.ResolvedTrees.{Meanings, resolved_expr, resolved_arguments}
 use Rattle.edd_syntax.specs.WellFormed.{is_path, is_plain, is_expr, are_arguments}
 use Rattle.edd_image.specs.declared.unit.Context.{Context}
 use Rattle.edd_code.specs.MethodReads.{uses_existing}
-use Rattle.edd_code.proofs.Existing.{IfSomeTrue, exists_in, found_has, item_meant_exists, mapped}
+use Rattle.edd_syntax.proofs.Existing.{IfSomeTrue, exists_in, found_has, item_meant_exists, mapped}
 use Rattle.edd_methods.proofs.ResolvedSlots.{bound}
 
 -- nothing is asked of the name of a function
 abbrev pub any : Target → Bool
 any t = true
 
-module _ (at : Path → Option Target) (good : Target → Bool) (meant : (p : Path) (t : Target)
-    → at p ≡ Some t → good t ≡ true) where
+module _ (at : Meanings) (good : Target → Bool) (meant : (p : Path) (t : Target)
+    → at.reference p ≡ Some t → good t ≡ true)
+    (meant_array : (p : Path) (t : Target) → at.array p ≡ Some t → good t ≡ true) where
   abbrev pub Good : Expr Target → Type 0
   Good e = is_expr good any e ≡ true
 
@@ -40,8 +41,15 @@ module _ (at : Path → Option Target) (good : Target → Bool) (meant : (p : Pa
         → resolved_expr at e ≡ Some e' → Good e'
     expr_good (Literal value) e' is h = subst Good (same_Some (Literal value) e' h) is
     expr_good Decimal e' is h = subst Good (same_Some Decimal e' h) refl
-    expr_good (Reference from) e' is h = let a = bound (at from) _ e' h in subst Good
+    expr_good (Reference from) e' is h = let a = bound (at.reference from) _ e' h in subst Good
         (same_Some _ e' a.2) (meant from a.0 a.1)
+    expr_good (Indexed array index) e' is h =
+        let are = and_parts _ _ is in
+        let a = bound (at.array array) _ e' h in
+        let b = bound (resolved_expr at index) _ e' a.2 in
+        subst Good (same_Some _ e' b.2)
+        (and_from _ _ (and_from _ _ (meant_array array a.0 a.1) refl)
+        (expr_good index b.0 are.1 b.1))
     expr_good (Parentheses inner) e' is h = let a = bound (resolved_expr at inner) _ e' h in subst
         Good (same_Some _ e' a.2) (expr_good inner a.0 is a.1)
     expr_good (Unary op operand) e' is h = let a = bound (resolved_expr at operand) _ e' h in subst
@@ -81,17 +89,17 @@ module _ (at : Path → Option Target) (good : Target → Bool) (meant : (p : Pa
         (expr_good first b.0 front.1 b.1)) (expr_good second c.0 are.1 c.1))
     expr_good (Assign to value) e' is h =
         let are = and_parts _ _ is in
-        let a = bound (at to) _ e' h in
+        let a = bound (at.reference to) _ e' h in
         let b = bound (resolved_expr at value) _ e' a.2 in
         subst Good (same_Some _ e' b.2)
         (and_from _ _ (meant to a.0 a.1) (expr_good value b.0 are.1 b.1))
     expr_good (CompoundAssign op to value) e' is h =
         let are = and_parts _ _ is in
-        let a = bound (at to) _ e' h in
+        let a = bound (at.reference to) _ e' h in
         let b = bound (resolved_expr at value) _ e' a.2 in
         subst Good (same_Some _ e' b.2)
         (and_from _ _ (meant to a.0 a.1) (expr_good value b.0 are.1 b.1))
-    expr_good (Increment op to) e' is h = let a = bound (at to) _ e' h in subst Good
+    expr_good (Increment op to) e' is h = let a = bound (at.reference to) _ e' h in subst Good
         (same_Some _ e' a.2) (meant to a.0 a.1)
     expr_good (Call name arguments) e' is h =
         let are = and_parts _ _ is in
@@ -122,14 +130,15 @@ abbrev pub IsBelow : (limit : ℕ) → Scope → Type 0
 IsBelow limit scope = list_all (λ entry. nat_lt entry.1 limit) scope ≡ true
 
 module _ (unit : Description Path) (context : Context)
-    (variables : count_of kind.Variable unit.items ≡ context.counts.variables) where
+    (variables : count_of kind.Variable unit.items ≡ context.counts.variables)
+    (arrays : count_of kind.Array unit.items ≡ context.counts.arrays) where
   item_there : (i : ItemNo) → exists_in unit i ≡ true → uses_existing context (Item i) ≡ true
   item_there (item_no.Variable v) is = ap (λ (n : ℕ). nat_lt v.0 n) (sym variables) ∙ is
   item_there (item_no.Command n) is = refl
   item_there (item_no.Menu n) is = refl
   item_there (item_no.Collection n) is = refl
   item_there (item_no.Method n) is = refl
-  item_there (item_no.Array n) is = refl
+  item_there (item_no.Array n) is = ap (λ (m : ℕ). nat_lt n.0 m) (sym arrays) ∙ is
 
   pub meant_there : (scope : Scope) → IsBelow context.slots scope → (p : Path) (t : Target)
       → meaning unit scope variable_kinds p ≡ Some t → uses_existing context t ≡ true
@@ -157,3 +166,16 @@ module _ (unit : Description Path) (context : Context)
           let i = item_meant_exists unit variable_kinds p t e in
           subst (λ (t : Target). uses_existing context t ≡ true) (sym i.1) (item_there i.0 i.2)
       by_slot (Some slot) is e = local_there slot p.members (is slot refl) e
+
+  pub array_there : (scope : Scope) (p : Path) (t : Target) → array_meant unit scope p ≡ Some t
+      → uses_existing context t ≡ true
+  array_there scope p t h = by_slot (look_up p.base scope) h
+    where
+      by_slot : (o : Option ℕ) → (elim o as (λ _. Option Target) [
+        | Some slot ↦ None
+        | None ↦ item_meant unit array_kinds p
+      ]) ≡ Some t → uses_existing context t ≡ true
+      by_slot None e =
+          let i = item_meant_exists unit array_kinds p t e in
+          subst (λ (t : Target). uses_existing context t ≡ true) (sym i.1) (item_there i.0 i.2)
+      by_slot (Some slot) e = absurd (cc e)

@@ -10,13 +10,13 @@ use Rattle.edd_syntax.specs.declared.numbers.MethNo.{MethNo}
 use Rattle.edd_syntax.specs.declared.reference.Target.{Target}
 use Rattle.edd_syntax.specs.Execution.{body_of}
 use Rattle.edd_syntax.specs.Expression as expr
-use Rattle.edd_syntax.specs.Expression.{Expr, Literal, Decimal, Reference, Parentheses, Unary, Binary, Compare, LogicalAnd, LogicalOr, Conditional, Assign, CompoundAssign, Increment, Call, Arguments}
+use Rattle.edd_syntax.specs.Expression.{Expr, Literal, Decimal, Reference, Indexed, Parentheses, Unary, Binary, Compare, LogicalAnd, LogicalOr, Conditional, Assign, CompoundAssign, Increment, Call, Arguments}
 use Rattle.edd_syntax.specs.Item as item
 use Rattle.edd_syntax.specs.Item.{kind_of_item, Attribute, Item, Description}
 use Rattle.edd_syntax.specs.Reference.{Path}
 use Rattle.edd_syntax.specs.Resolution.{Scope, function_meant, declared, all_declared}
 use Rattle.edd_syntax.specs.Resolved.{IsResolved}
-use Rattle.edd_syntax.specs.ResolvedTrees.{at_scope, resolved_expr, resolved_arguments, resolved_optional, resolved_declarators, resolved_stmt, resolved_body}
+use Rattle.edd_syntax.specs.ResolvedTrees.{Meanings, at_scope, resolved_expr, resolved_arguments, resolved_optional, resolved_declarators, resolved_stmt, resolved_body}
 use Rattle.edd_syntax.specs.Size.{height, argument_height, optional_height, declarator_height, statement_height, body_height, attribute_height, height_limit}
 use Rattle.edd_syntax.specs.Statement.{Declarator, Stmt, Empty, Evaluate, Block, If, IfElse, While, Do, For, Switch, Break, Continue, Return, Body, Nil, Cons, Declare, Statement, CaseLabel, DefaultLabel, slots_of}
 use Rattle.edd_syntax.specs.SubsetRules.{Placed, part_of, optional_part, stmt_expressions, body_expressions}
@@ -27,7 +27,7 @@ use Rattle.edd_methods.proofs.ResolvedUnits.{unit_made}
 
 -- ---- a tree that is resolved is not higher than the written one
 
-module _ (at : Path → Option Target) where
+module _ (at : Meanings) where
   -- not higher than so much
   abbrev Low : ℕ → Expr Target → Type 0
   Low n e = height e ≤ n
@@ -41,8 +41,12 @@ module _ (at : Path → Option Target) where
     expr_low : (e : Expr Path) (e' : Expr Target) → resolved_expr at e ≡ Some e' → Low (height e) e'
     expr_low (Literal value) e' h = subst (Low 1) (same_Some (Literal value) e' h) (omega arith)
     expr_low Decimal e' h = subst (Low 1) (same_Some Decimal e' h) (omega arith)
-    expr_low (Reference from) e' h = let a = bound (at from) _ e' h in subst (Low 1)
+    expr_low (Reference from) e' h = let a = bound (at.reference from) _ e' h in subst (Low 1)
         (same_Some _ e' a.2) (omega arith)
+    expr_low (Indexed array index) e' h =
+        let a = bound (at.array array) _ e' h in
+        let b = bound (resolved_expr at index) _ e' a.2 in
+        subst (Low (1 + height index)) (same_Some _ e' b.2) (omega (arith, expr_low index b.0 b.1))
     expr_low (Parentheses inner) e' h = let a = bound (resolved_expr at inner) _ e' h in subst
         (Low (1 + height inner)) (same_Some _ e' a.2) (omega (arith, expr_low inner a.0 a.1))
     expr_low (Unary op operand) e' h = let a = bound (resolved_expr at operand) _ e' h in subst
@@ -75,14 +79,14 @@ module _ (at : Path → Option Target) where
         (same_Some _ e' c.2)
         (omega (arith, expr_low test a.0 a.1, expr_low first b.0 b.1, expr_low second c.0 c.1))
     expr_low (Assign to value) e' h =
-        let a = bound (at to) _ e' h in
+        let a = bound (at.reference to) _ e' h in
         let b = bound (resolved_expr at value) _ e' a.2 in
         subst (Low (1 + height value)) (same_Some _ e' b.2) (omega (arith, expr_low value b.0 b.1))
     expr_low (CompoundAssign op to value) e' h =
-        let a = bound (at to) _ e' h in
+        let a = bound (at.reference to) _ e' h in
         let b = bound (resolved_expr at value) _ e' a.2 in
         subst (Low (1 + height value)) (same_Some _ e' b.2) (omega (arith, expr_low value b.0 b.1))
-    expr_low (Increment op to) e' h = let a = bound (at to) _ e' h in subst (Low 1)
+    expr_low (Increment op to) e' h = let a = bound (at.reference to) _ e' h in subst (Low 1)
         (same_Some _ e' a.2) (omega arith)
     expr_low (Call name arguments) e' h =
         let a = bound (function_meant name) _ e' h in
@@ -329,6 +333,7 @@ low_attribute (item.Transaction number parts) h = tt
 low_attribute (item.ResponseCodes responses) h = tt
 low_attribute (item.Items entries) h = tt
 low_attribute (item.Members members) h = tt
+low_attribute (item.Elements elements) h = tt
 
 within : (n m : ℕ) → nat_le n m ≡ true → n ≤ m
 within n m h = grind (arith, nat_tests, h)

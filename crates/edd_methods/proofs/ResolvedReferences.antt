@@ -1,11 +1,8 @@
 -- What the bodies of a resolved description refer to exists.
-use Rattle.std.proofs.Common.{◌≡◌, refl, ap, subst, ◌∙◌, ℕ, ◌≤◌, Bool, true, false, List, [], ◌∷◌, length, Some, cond, arith}
-use Rattle.std.specs.Prelude.{◌||◌, nat_lt}
-use Rattle.std.specs.List.{AllByRecursion, list_all, list_any}
+use Rattle.std.proofs.Common.{◌≡◌, refl, ap, subst, ◌∙◌, ℕ, Bool, true, false, List, [], ◌∷◌, length, Some, cond, arith}
+use Rattle.std.specs.List.{AllByRecursion, list_all}
 use Rattle.std.proofs.lemmas.Option.{same_Some}
 use Rattle.std.proofs.lemmas.Bool.{and_parts}
-use Rattle.std.proofs.lemmas.Bool.Decides.{nat_tests}
-use Rattle.edd_syntax.specs.declared.limits.Limit.TheVariants as limit
 use Rattle.edd_syntax.specs.declared.numbers.Kind.{Kind}
 use Rattle.edd_syntax.specs.declared.numbers.Kind.TheVariants as kind
 use Rattle.edd_syntax.specs.declared.numbers.MethNo.{MethNo}
@@ -13,10 +10,8 @@ use Rattle.edd_syntax.specs.declared.reference.Target.{Target}
 use Rattle.edd_syntax.specs.Execution.{body_of}
 use Rattle.edd_syntax.specs.Item as item
 use Rattle.edd_syntax.specs.Item.{kind_of_item, Attribute, Item, Description}
-use Rattle.edd_syntax.specs.NameRules.{item_limit, kinds, too_many}
 use Rattle.edd_syntax.specs.Numbers.{same_kind}
 use Rattle.edd_syntax.specs.Reference.{Path}
-use Rattle.edd_syntax.specs.Refusal.{TooMany, refused_if}
 use Rattle.edd_syntax.specs.Resolution.{count_of}
 use Rattle.edd_syntax.specs.Resolved.{IsResolved}
 use Rattle.edd_syntax.specs.ResolvedTrees.{each, resolved_attribute, resolved_body, resolved_item, resolved_unit}
@@ -26,10 +21,8 @@ use Rattle.edd_syntax.specs.WellFormed.{is_path, is_plain, is_attribute, is_body
 use Rattle.edd_image.specs.declared.parts.Counts.{Counts}
 use Rattle.edd_image.specs.declared.unit.Context.{Context}
 use Rattle.edd_image.specs.declared.unit.Sort.TheVariants.{Method}
-use Rattle.edd_image.specs.declared.unit.Version.TheVariants.{One}
-use Rattle.edd_code.proofs.Fitting.{front_none}
+use Rattle.edd_image.specs.Agreement.{version_with}
 use Rattle.edd_methods.proofs.CheckedBodies.{OfBody, of_method}
-use Rattle.edd_methods.proofs.ResolvedBodies.{not_refused}
 use Rattle.edd_methods.proofs.ResolvedSlots.{bound, body_in}
 use Rattle.edd_methods.proofs.ResolvedStatements.{ReferToExisting, body_at}
 use Rattle.edd_methods.proofs.ResolvedUnits.{unit_made}
@@ -86,6 +79,7 @@ in_attribute (item.Transaction number parts) is = tt
 in_attribute (item.ResponseCodes responses) is = tt
 in_attribute (item.Items entries) is = tt
 in_attribute (item.Members members) is = tt
+in_attribute (item.Elements elements) is = tt
 
 in_attributes : (k : Kind) (xs : List (Attribute Path)) → list_all (stands_in is_path is_plain k) xs
     ≡ true → AllByRecursion (OfBody WellFormed) xs
@@ -109,46 +103,31 @@ in_items (i ∷ rest) is =
 
 -- where the unit of a method stands that has so many slots
 abbrev pub around : Counts → (slots : ℕ) → Context
-around counts slots = record { version = One; counts = counts; sort = Method; slots = slots }
+around counts slots = record {
+  version = version_with counts;
+  counts = counts;
+  sort = Method;
+  slots = slots;
+}
 
 -- each expression of the body refers to what there is
 abbrev pub Refers : Counts → Body Target → Type 0
 Refers counts b = ReferToExisting (around counts (slots_in b)) (body_expressions b)
 
 refers : (unit : Description Path) (counts : Counts) → count_of kind.Variable unit.items
-    ≡ counts.variables → (b : Body Path) (b' : Body Target) → WellFormed b
+    ≡ counts.variables → count_of kind.Array unit.items ≡ counts.arrays → (b : Body Path) (b' : Body Target) → WellFormed b
     → resolved_body unit b [] 0 ≡ Some b' → Refers counts b'
-refers unit counts variables b b' is h =
+refers unit counts variables arrays b b' is h =
     let i = body_in unit b [] 0 b' h in
-    body_at unit (around counts (slots_in b')) variables false b [] 0 b' (refl, omega (arith, i.0))
+    body_at unit (around counts (slots_in b')) variables arrays false b [] 0 b' (refl, omega (arith, i.0))
     is h
 
 pub body_refers : (d : Description Target) → IsResolved d → (counts : Counts)
-    → count_of kind.Variable d.items ≡ counts.variables → (m : MethNo) → Refers counts (body_of d m)
-body_refers d is counts variables m =
+    → count_of kind.Variable d.items ≡ counts.variables → count_of kind.Array d.items ≡ counts.arrays
+    → (m : MethNo) → Refers counts (body_of d m)
+body_refers d is counts variables arrays m =
     of_method (Refers counts) tt d m
     (unit_made is.unit WellFormed (Refers counts)
-    (refers is.unit counts (counts_stay is.unit kind.Variable d is.meanings ∙ variables)) d
+    (refers is.unit counts (counts_stay is.unit kind.Variable d is.meanings ∙ variables)
+    (counts_stay is.unit kind.Array d is.meanings ∙ arrays)) d
     (in_items is.unit.items is.well_formed) is.meanings)
-
--- ---- few variables
-
-pub few_variables : (d : Description Target) → IsResolved d → count_of kind.Variable d.items
-    ≤ item_limit
-few_variables d is =
-    let items = is.unit.items in
-    let counts = front_none (too_many is.unit) _ is.no_breach in
-    let first = front_none (refused_if (list_any (λ k. nat_lt item_limit (count_of k items)) kinds)
-    (TooMany limit.Items)) _ counts.0 in
-    let none = not_refused (list_any (λ k. nat_lt item_limit (count_of k items)) kinds)
-    (TooMany limit.Items) first.0 in
-    let few = within (count_of kind.Variable items)
-    (neither (nat_lt item_limit (count_of kind.Variable items)) _ none) in
-    subst (λ (n : ℕ). n ≤ item_limit) (counts_stay is.unit kind.Variable d is.meanings) few
-  where
-    neither : (a b : Bool) → (a || b) ≡ false → a ≡ false
-    neither false b h = refl
-    neither true b h = absurd (cc h)
-
-    within : (n : ℕ) → nat_lt item_limit n ≡ false → n ≤ item_limit
-    within n h = grind (arith, nat_tests, h)

@@ -15,7 +15,7 @@ use Rattle.edd_syntax.specs.SubsetRules.{Placed, part_of, optional_part, stmt_ex
 use Rattle.edd_syntax.specs.WellFormed.{if_some, is_path, is_plain, is_expr, is_declarator, is_stmt, is_body}
 use Rattle.edd_image.specs.declared.unit.Context.{Context}
 use Rattle.edd_code.specs.MethodReads.{uses_existing}
-use Rattle.edd_methods.proofs.ResolvedExpressions.{any, IsBelow, expr_good, meant_there}
+use Rattle.edd_methods.proofs.ResolvedExpressions.{array_there, any, IsBelow, expr_good, meant_there}
 use Rattle.edd_methods.proofs.ResolvedSlots.{bound}
 
 -- each expression refers to what there is
@@ -24,7 +24,8 @@ ReferToExisting context ps = AllByRecursion (λ p. is_expr (uses_existing contex
     ≡ true) ps
 
 module _ (unit : Description Path) (context : Context)
-    (variables : count_of kind.Variable unit.items ≡ context.counts.variables) where
+    (variables : count_of kind.Variable unit.items ≡ context.counts.variables)
+    (arrays : count_of kind.Array unit.items ≡ context.counts.arrays) where
   abbrev All : List (Placed Target) → Type 0
   All ps = ReferToExisting context ps
 
@@ -41,7 +42,8 @@ module _ (unit : Description Path) (context : Context)
       → All (part_of e')
   part_at e scope e' below is h = (
     expr_good (at_scope unit scope) (uses_existing context)
-        (meant_there unit context variables scope below) e e' is h,
+        (meant_there unit context variables arrays scope below)
+        (array_there unit context variables arrays scope) e e' is h,
     tt,
   )
 

@@ -7,7 +7,7 @@ use Rattle.edd_syntax.specs.Reference.{Path}
 use Rattle.edd_syntax.specs.Item as item
 use Rattle.edd_syntax.specs.Item.{ItemKind, Attribute, Item, Description}
 use Rattle.edd_syntax.specs.Resolution.{member_kinds}
-use Rattle.edd_syntax.specs.ResolvedTrees.{◌>>=◌, each, resolved_cond, resolved_conds, unchanged, at_attribute, resolved_type_part, resolved_transaction_part, resolved_entry, resolved_member, resolved_body, resolved_attribute, resolved_item, resolved_unit}
+use Rattle.edd_syntax.specs.ResolvedTrees.{◌>>=◌, each, resolved_cond, resolved_conds, unchanged, at_attribute, resolved_type_part, resolved_transaction_part, resolved_entry, resolved_member, resolved_element, resolved_body, resolved_attribute, resolved_item, resolved_unit}
 use Rattle.edd_syntax.specs.Statement.{Body}
 use Rattle.edd_syntax.specs.SubsetRules.{attributes_of}
 use Rattle.edd_methods.proofs.CheckedBodies.{OfBody}
@@ -62,6 +62,9 @@ module _ (unit : Description Path) (P : Body Path → Type 0) (Q : Body Target �
         (λ _. tt) a h
     attribute_made sort (item.Members members) a holds h =
         no_body Q (each (resolved_member unit (member_kinds sort)) members) item.Members (λ _. tt) a
+        h
+    attribute_made sort (item.Elements elements) a holds h =
+        no_body Q (each (resolved_element unit) elements) item.Elements (λ _. tt) a
         h
     attribute_made sort (item.Definition body) a holds h =
         let b = bound (resolved_body unit body [] 0) _ a h in

@@ -10,11 +10,10 @@ use Rattle.edd_syntax.specs.Item.{Description}
 use Rattle.edd_syntax.specs.Statement.{slots_in}
 use Rattle.edd_syntax.specs.SubsetRules.{body_expressions}
 use Rattle.edd_syntax.specs.Words.{Words}
-use Rattle.edd_image.specs.Agreement.{string_of_table}
+use Rattle.edd_image.specs.Agreement.{counts_of, string_of_table, version_with}
 use Rattle.edd_image.specs.MethodAgreement.{IsMethodCode, method_context}
-use Rattle.edd_image.specs.References.{names_exist}
 use Rattle.edd_image.specs.Units.{IsValidUnit}
-use Rattle.edd_code.specs.Flow.{all_straight}
+use Rattle.edd_code.specs.Flow.{all_straight, may_stand}
 use Rattle.edd_code.specs.MethodExpressions.{method_block}
 use Rattle.edd_code.specs.Numbered.{HasNumbers}
 use Rattle.edd_methods.specs.MethodCode.{method_code}
@@ -48,24 +47,27 @@ module _ (d : Description Target) (m : MethNo) (is : BodyFacts d m) (strings : L
         (unit_code (method_code number (body_of d m)))
     code_is_valid =
         let body = body_of d m in
-        let context = method_context d strings (slots_in body) in
+        let counts = counts_of d.identification d.items (length strings) in
+        let version = version_with counts in
+        let slots = slots_in body in
+        let context = method_context d strings slots in
         let code = method_code number body in
-        let R = RestsThere context number in
-        let V = GivesThere context number in
-        let there = all_there context number (body_expressions body) is.fit is.low
+        let R = RestsThere version counts slots number in
+        let V = GivesThere version counts slots number in
+        let there = all_there version counts slots number (body_expressions body) is.fit is.low
         (expressions_stand d m is strings few number known) in
         let fit : Fits R V code =
-        body_fits (blocks_by (method_block number)) (slots_in body) (IsThere context number) R V
-        (λ e h. h) (effect_there context number) (declares_there context number [] tt tt)
-        (declares_there context number) body is.slots (listed (IsThere context number) there) in
+        body_fits (blocks_by (method_block number)) (slots_in body) (IsThere version counts slots number) R V
+        (λ e h. h) (effect_there version counts slots number) (declares_there version counts slots number [] tt tt)
+        (declares_there version counts slots number) body is.slots (listed (IsThere version counts slots number) there) in
         let fits = fits_weaker R V Rests Gives (λ b h. h.0) (λ b h. h.0) code fit in
-        let named : Passes (names_exist context) code =
-        fits_weaker R V (λ b. all_straight (names_exist context) b ≡ true)
-        (λ b. all_straight (names_exist context) b ≡ true) (λ b h. h.1) (λ b h. h.1) code fit in
+        let stands : Passes (may_stand context) code =
+        fits_weaker R V (λ b. all_straight (may_stand context) b ≡ true)
+        (λ b. all_straight (may_stand context) b ≡ true) (λ b h. h.1) (λ b h. h.1) code fit in
         let spelled = values_spelled (method_block number) body
         (listed (IsSpelled (method_block number))
         (has_blocks d m is strings few number known).spelled) in
-        unit_is_valid code small context refl refl spelled fits named
+        unit_is_valid code small context refl spelled fits stands
 
     pub is_the_methods_code : IsMethodCode d strings m (slots_in (body_of d m))
         (unit_code (method_code number (body_of d m)))

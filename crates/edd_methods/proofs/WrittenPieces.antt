@@ -10,7 +10,7 @@ use Rattle.edd_syntax.specs.declared.numbers.StrNo.{StrNo}
 use Rattle.edd_syntax.specs.declared.reference.Target.{Target}
 use Rattle.edd_syntax.specs.declared.reference.Target.TheVariants.{Local, Item, Function}
 use Rattle.edd_syntax.specs.Expression as expr
-use Rattle.edd_syntax.specs.Expression.{Expr, Literal, Decimal, Reference, Parentheses, Unary, Binary, Compare, LogicalAnd, LogicalOr, Conditional, Assign, CompoundAssign, Increment, Call, Argument, arguments_from}
+use Rattle.edd_syntax.specs.Expression.{Expr, Literal, Decimal, Reference, Indexed, Parentheses, Unary, Binary, Compare, LogicalAnd, LogicalOr, Conditional, Assign, CompoundAssign, Increment, Call, Argument, arguments_from}
 use Rattle.edd_syntax.specs.Statement.{Declarator}
 use Rattle.edd_syntax.specs.Strings.{expr_texts}
 use Rattle.edd_syntax.specs.SubsetRules.{optional_part}
@@ -42,6 +42,7 @@ pub abort_texts : (e : Expr Target) → is_abort_call e ≡ true → expr_texts 
 abort_texts (Literal value) h = absurd cc
 abort_texts Decimal h = absurd cc
 abort_texts (Reference from) h = absurd cc
+abort_texts (Indexed array index) h = absurd cc
 abort_texts (Parentheses inner) h = absurd cc
 abort_texts (Unary op operand) h = absurd cc
 abort_texts (Binary op left right) h = absurd cc

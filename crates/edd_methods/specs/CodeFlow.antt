@@ -2,14 +2,14 @@
 use Rattle.std.specs.Prelude.{◌≡◌, ◌⊎◌, ℕ}
 use Rattle.edd_image.specs.declared.instruction.Instruction.TheVariants as instruction
 use Rattle.edd_image.specs.declared.unit.Sort.TheVariants.{Method}
-use Rattle.edd_image.specs.declared.unit.Version.TheVariants.{One}
+use Rattle.edd_image.specs.declared.unit.Version.TheVariants.{Two}
 use Rattle.edd_code.specs.Blocks.{Block, Straight}
 use Rattle.edd_code.specs.Flow.{FlowsIn, depth_after}
 use Rattle.edd_methods.specs.Statements.{Part, Missing, Step, Test, Code, Plain, Then, Branch, Loop, Switch, Break, Continue, Finish, Arms, Nil, Statement, Case, Default}
 
 -- it finds no operands, and leaves so many
 abbrev pub Leaves : (n : ℕ) → Block → Type 0
-Leaves n b = FlowsIn One Method b 0 × (depth_after b 0 ≡ n)
+Leaves n b = FlowsIn Two Method b 0 × (depth_after b 0 ≡ n)
 
 -- it leaves none, or it is an abort
 abbrev pub Rests : Block → Type 0

@@ -22,7 +22,6 @@ ghost use Rattle.edd_syntax.specs.SubsetRules.{body_expressions, call_mismatches
 ghost use Rattle.edd_syntax.specs.Words.{Words};
 ghost use Rattle.edd_image.specs.declared.unit.Context.{Context};
 ghost use Rattle.edd_image.specs.declared.unit.Sort.TheVariants.{Method};
-ghost use Rattle.edd_image.specs.declared.unit.Version.TheVariants.{One};
 ghost use Rattle.edd_image.specs.Agreement.{string_of_table};
 ghost use Rattle.edd_image.specs.Execution as image;
 ghost use Rattle.edd_image.specs.MethodAgreement.{AgreesOnRuns, IsMethodCode, method_context};
@@ -30,10 +29,10 @@ ghost use Rattle.edd_image.specs.Steps.{Environment, opening};
 ghost use Rattle.edd_image.specs.Units.{IsValidUnit};
 ghost use Rattle.edd_code.specs.Blocks.{Block};
 ghost use Rattle.edd_code.specs.MethodEffects.{CanBeTaken};
-ghost use Rattle.edd_code.specs.Flow.{AreSpelled, all_straight};
+ghost use Rattle.edd_code.specs.Flow.{AreSpelled, all_straight, may_stand};
 ghost use Rattle.edd_code.specs.MethodExpressions.{method_block};
-ghost use Rattle.edd_code.specs.Numbered.{HasNumbers, machine_of};
-ghost use Rattle.edd_image.specs.References.{names_exist};
+ghost use Rattle.edd_image.specs.Agreement.{machine_of};
+ghost use Rattle.edd_code.specs.Numbered.{HasNumbers};
 ghost use Rattle.edd_methods.specs.CodeFlow.{Fits, Gives, Rests};
 ghost use Rattle.edd_methods.specs.Following.{Does, Follows};
 ghost use Rattle.edd_methods.specs.MethodCode.{HasBlocks, method_code};
@@ -217,15 +216,15 @@ pub fn valid_code_is_the_methods()
 {}
 
 /// In a checked description, in whose table of strings the texts of a method have their numbers,
-/// the operands in the blocks of the method's expressions are in their ranges, and the variables,
-/// slots and strings that they name exist.
+/// the operands in the blocks of the method's expressions are in their ranges, and their
+/// instructions may stand there: the variables, arrays, slots and strings that they name exist.
 pub fn checked_expressions_are_spelled()
     ensures { (d : Description Target) → ∥ IsChecked d ∥₁ → (m : MethNo) → (strings : List Words)
         → length strings ≤ 65536 → (number : Words → StrNo)
         → AllByRecursion (λ p. HasNumbers (string_of_table strings) number p.expression)
         (body_expressions (body_of d m))
         → AllByRecursion (λ p. AreSpelled (method_block number p.expression)
-        × (all_straight (names_exist (method_context d strings (slots_in (body_of d m))))
+        × (all_straight (may_stand (method_context d strings (slots_in (body_of d m))))
         (method_block number p.expression) ≡ true))
         (body_expressions (body_of d m)) }
 {}
@@ -245,13 +244,13 @@ pub fn checked_methods_have_their_code()
 {}
 
 /// The unit of code is valid in a method where its blocks find their operands and leave none, or
-/// one for a test, the operands of their instructions are in their ranges, and the variables, slots
-/// and strings that they name exist.
+/// one for a test, the operands of their instructions are in their ranges, and these may stand
+/// there: the variables, arrays, slots and strings that they name exist.
 pub fn flowing_code_is_valid()
-    ensures { (context : Context) (c : Code) → context.version ≡ One → context.sort ≡ Method
+    ensures { (context : Context) (c : Code) → context.sort ≡ Method
         → IsSpelledCode c → size c < 2 ^ 31
-        → Fits Rests Gives c → Fits (λ b. all_straight (names_exist context) b ≡ true)
-        (λ b. all_straight (names_exist context) b ≡ true) c
+        → Fits Rests Gives c → Fits (λ b. all_straight (may_stand context) b ≡ true)
+        (λ b. all_straight (may_stand context) b ≡ true) c
         → IsValidUnit context (unit_code c) }
 {}
 

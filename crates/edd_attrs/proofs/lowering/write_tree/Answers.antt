@@ -1,7 +1,7 @@
 use Rattle.std.proofs.Common.{sym, subst, List, map, string_bytes}
 use Rattle.std.specs.Prelude.{OnOk, IsErrOf, pos}
 use Rattle.edd_syntax.specs.Attributes as source
-use Rattle.edd_syntax.specs.ItemView.{response_code_of, numbered_cond, numbered_conds, numbered_data_item, numbered_entry, numbered_member, numbered_type_part}
+use Rattle.edd_syntax.specs.ItemView.{response_code_of, numbered_cond, numbered_conds, numbered_data_item, numbered_entry, numbered_array_element, numbered_member, numbered_type_part}
 use Rattle.edd_syntax.specs.SubsetRules.{values_in}
 use Rattle.edd_syntax.specs.TreeView.{numbered_expr}
 use Rattle.edd_syntax.specs.Words.{Words}
@@ -15,7 +15,7 @@ use Rattle.edd_attrs.specs.TreeBlocks.{IsTreeBlock}
 use Rattle.edd_attrs.specs.Trees as trees
 use Rattle.edd_attrs.specs.Views.{tree_of}
 use Rattle.edd_attrs.specs.Writing.{WritesRecord}
-use Rattle.edd_attrs.proofs.TreeStrings.{always, of_texts, of_class, of_handling, of_validity, of_expressions, of_enumerators, of_data_items, of_responses, of_items, of_members}
+use Rattle.edd_attrs.proofs.TreeStrings.{always, of_texts, of_class, of_handling, of_validity, of_expressions, of_enumerators, of_data_items, of_responses, of_items, of_array_elements, of_members}
 use Rattle.edd_attrs.proofs.lowering.write_tree.Goals as goal
 
 pub write_all-requires : goal.write_all-requires
@@ -263,6 +263,30 @@ returns-in-Members-clause-refused c =
     → Overflows c.args.table.now ws)
     (of_members (map numbered_member c.in-Members.members.now))
     c.write_all-in-Members.ensures.refused)
+
+pub returns-in-Elements-clause-sound : goal.returns-in-Elements-clause-sound
+unfolding IsTreeBlock
+returns-in-Elements-clause-sound c =
+    subst (λ (t : Tree). OnOk c.write_all-in-Elements.result
+    (WritesBlock c.args.table.now c.args.code.now (tree_strings (tree_of t))
+    (λ numbered b. IsTreeBlock numbered (tree_of t) b) c.write_all-in-Elements.new.table
+    c.write_all-in-Elements.new.code)) (sym c.in-Elements.is)
+    (subst (λ (ws : List Words). OnOk c.write_all-in-Elements.result
+    (WritesBlock c.args.table.now c.args.code.now ws
+    (λ numbered b. IsTreeBlock numbered
+    (trees.Elements (map numbered_array_element c.in-Elements.elements.now)) b)
+    c.write_all-in-Elements.new.table c.write_all-in-Elements.new.code))
+    (of_array_elements (map numbered_array_element c.in-Elements.elements.now))
+    c.write_all-in-Elements.ensures.sound)
+
+pub returns-in-Elements-clause-refused : goal.returns-in-Elements-clause-refused
+returns-in-Elements-clause-refused c =
+    subst (λ (t : Tree). IsErrOf c.write_all-in-Elements.result TooMany
+    → Overflows c.args.table.now (tree_strings (tree_of t))) (sym c.in-Elements.is)
+    (subst (λ (ws : List Words). IsErrOf c.write_all-in-Elements.result TooMany
+    → Overflows c.args.table.now ws)
+    (of_array_elements (map numbered_array_element c.in-Elements.elements.now))
+    c.write_all-in-Elements.ensures.refused)
 
 pub returns-in_ok-write_number-in-Number-clause-sound :
     goal.returns-in_ok-write_number-in-Number-clause-sound

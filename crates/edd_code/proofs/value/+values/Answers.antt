@@ -23,7 +23,7 @@ use Rattle.edd_image.specs.declared.instruction.Ask.TheVariants as ask
 use Rattle.edd_image.specs.declared.instruction.Instruction.TheVariants as instruction
 use Rattle.edd_code.specs.Arguments.{alone_block}
 use Rattle.edd_code.specs.Blocks.{Either, Straight, Then, WhenNotZero, WhenZero}
-use Rattle.edd_code.specs.Expressions.{unary_block, instead, no_value, then_test, truth_block}
+use Rattle.edd_code.specs.Expressions.{element_block, unary_block, instead, no_value, then_test, truth_block}
 use Rattle.edd_code.specs.MethodExpressions.{call_block, load_block, method_block, store_block}
 use Rattle.edd_code.specs.Tables.{Overflows}
 use Rattle.edd_code.specs.Written.{WritesPart}
@@ -810,11 +810,11 @@ pub write_value-returns-in-Parentheses-clause-sound :
     goal.write_value-returns-in-Parentheses-clause-sound
 unfolding method_block
 write_value-returns-in-Parentheses-clause-sound t c =
-    let is : (numbered_expr c.args.e.now) ≡ pure.Parentheses (numbered_expr c.deref.result.now) =
+    let is : (numbered_expr c.args.e.now) ≡ pure.Parentheses (numbered_expr c.deref-in-Parentheses.result.now) =
     grind (arith, common_steps) in
-    carried c.write_value.result
+    carried c.write_value-in-Parentheses.result
     (expression_part (numbered_expr c.args.e.now)
-    (pure.Parentheses (numbered_expr c.deref.result.now)) is) c.write_value.ensures.sound
+    (pure.Parentheses (numbered_expr c.deref-in-Parentheses.result.now)) is) c.write_value-in-Parentheses.ensures.sound
 
 pub write_value-returns-in-Binary-clause-sound : goal.write_value-returns-in-Binary-clause-sound
 unfolding method_block
@@ -874,6 +874,21 @@ write_value-returns-in-CompoundAssign-clause-sound t c =
     (expression_part (numbered_expr c.args.e.now)
     (pure.CompoundAssign c.in-CompoundAssign.op c.in-CompoundAssign.to
     (numbered_expr c.deref-in-CompoundAssign.result.now)) is) c.write_compound.ensures.sound
+
+pub write_value-returns-in_ok-write_element-in-Indexed-clause-sound :
+    goal.write_value-returns-in_ok-write_element-in-Indexed-clause-sound
+unfolding method_block
+write_value-returns-in_ok-write_element-in-Indexed-clause-sound t c =
+    let is : (numbered_expr c.args.e.now)
+    ≡ pure.Indexed c.in-Indexed.array (numbered_expr c.deref.result.now) =
+    grind (arith, common_steps) in
+    expression_part (numbered_expr c.args.e.now)
+    (pure.Indexed c.in-Indexed.array (numbered_expr c.deref.result.now)) is
+    (then_plain c.args.code.now c.write_value.new.code c.write_element.new.code
+    (expr_texts (numbered_expr c.deref.result.now))
+    (λ number. method_block number (numbered_expr c.deref.result.now))
+    (element_block c.in-Indexed.array) c.in_ok-write_value-in-Indexed.ensures.sound
+    c.in_ok-write_element-in-Indexed.ensures)
 
 pub write_value-returns-in_ok-write_unary-in-Unary-clause-sound :
     goal.write_value-returns-in_ok-write_unary-in-Unary-clause-sound

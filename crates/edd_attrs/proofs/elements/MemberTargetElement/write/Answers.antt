@@ -5,7 +5,7 @@ use Rattle.std.proofs.lemmas.Grind.{common_steps}
 use Rattle.edd_syntax.specs.declared.text.Text.{Text}
 use Rattle.edd_syntax.specs.Words.{Words, words_of, name_words}
 use Rattle.edd_syntax.specs.WordsView.{text_of}
-use Rattle.edd_syntax.specs.Attributes.{item_of}
+use Rattle.edd_syntax.specs.Targets.{item_of}
 use Rattle.edd_syntax.specs.declared.numbers.ItemNo.{ItemNo}
 use Rattle.edd_image.specs.declared.instruction.Instruction.TheVariants as instruction
 use Rattle.edd_image.specs.Spelling.{spelling}
