@@ -87,9 +87,10 @@ module _ (unit : Description Target) (lowered : List Lowered) (strings : List Wo
   unfolding assembled
   kept = string_read strings valid short
 
-  pub same_types : environment_of contents ≡ machine_of (environment unit).variables
+  pub same_types : environment_of contents ≡ machine_of (environment unit)
   unfolding assembled
-  same_types = ap machine_of (types_read unit.items)
+  same_types = ap (λ types. record { types = types; elements = (environment unit).elements })
+      (types_read unit.items)
 
   pub existing : (i : ItemNo) → item_exists contents.counts i
       ≡ nat_lt (index_of i) (count_of (kind_of i) unit.items)

@@ -24,15 +24,15 @@ use Rattle.edd_syntax.specs.NameRules.{locals_of, transaction_count, kinds, too_
 use Rattle.edd_syntax.specs.Numbers.{same_kind}
 use Rattle.edd_syntax.specs.Refusal.{TooMany, refused_if}
 use Rattle.edd_syntax.specs.Resolution.{Scope, member_kinds, declared, all_declared, count_of}
-use Rattle.edd_syntax.specs.ResolvedTrees.{◌>>=◌, each, unchanged, resolved_expr, resolved_optional, resolved_cond, resolved_conds, at_scope, resolved_declarators, resolved_stmt, resolved_body, at_attribute, resolved_entry, resolved_member, resolved_type_part, resolved_transaction_part, resolved_attribute, resolved_item, resolved_unit}
+use Rattle.edd_syntax.specs.ResolvedTrees.{◌>>=◌, each, unchanged, resolved_expr, resolved_optional, resolved_cond, resolved_conds, at_scope, resolved_declarators, resolved_stmt, resolved_body, at_attribute, resolved_entry, resolved_member, resolved_element, resolved_type_part, resolved_transaction_part, resolved_attribute, resolved_item, resolved_unit}
 use Rattle.edd_syntax.specs.Resolved.{IsChecked}
-use Rattle.edd_syntax.proofs.WithinLimits.{each_keeps}
+use Rattle.edd_syntax.proofs.WithinLimits.{each_keeps, no_front, no_rest, no_refusal}
 use Rattle.edd_image.specs.MethodAgreement.{IsMethodCode}
 use Rattle.edd_syntax.specs.Words.{Words}
 use Rattle.edd_syntax.specs.Text.{Name}
 use Rattle.edd_assembly.specs.LoweredUnits.{IsBodyCode}
-use Rattle.edd_assembly.proofs.ItemForms.{bind_some, at_some, all_mapped}
-use Rattle.edd_assembly.proofs.SmallVariables.{no_front, no_rest, no_refusal}
+use Rattle.edd_syntax.proofs.Made.{bind_some}
+use Rattle.edd_assembly.proofs.ItemForms.{at_some, all_mapped}
 use Rattle.edd_assembly.proofs.WrittenBodies.{of_picked}
 
 -- ---- the meaning of names leaves the number of locals
@@ -185,6 +185,9 @@ keeps_locals unit sort (item.Items entries) b h =
 keeps_locals unit sort (item.Members members) b h =
     through locals_in 0 (each (resolved_member unit (member_kinds sort)) members) _ b h
     (λ x is k. it_is locals_in 0 (item.Members x) b k refl)
+keeps_locals unit sort (item.Elements elements) b h =
+    through locals_in 0 (each (resolved_element unit) elements) _ b h
+    (λ x is k. it_is locals_in 0 (item.Elements x) b k refl)
 keeps_locals unit sort (item.Definition body) b h =
     through locals_in (slots_in body) (resolved_body unit body [] 0) _ b h
     (λ x is k. it_is locals_in (slots_in body) (item.Definition x) b k
@@ -215,6 +218,7 @@ module _ {R : Type 0} (sort : ItemKind) (name : Name) where
   of_one (item.ResponseCodes responses) = refl
   of_one (item.Items entries) = refl
   of_one (item.Members members) = refl
+  of_one (item.Elements elements) = refl
   of_one (item.Definition body) = refl
 
   -- they are those of the rule on counts
@@ -239,6 +243,7 @@ first_body (item.Transaction number parts ∷ rest) = first_body rest
 first_body (item.ResponseCodes responses ∷ rest) = first_body rest
 first_body (item.Items entries ∷ rest) = first_body rest
 first_body (item.Members members ∷ rest) = first_body rest
+first_body (item.Elements elements ∷ rest) = first_body rest
 first_body (item.Definition body ∷ rest) =
     omega (arith, sum_from (0 + slots_in body) (map locals_in rest))
 

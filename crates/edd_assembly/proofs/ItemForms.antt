@@ -17,19 +17,15 @@ use Rattle.edd_syntax.specs.Item.{ItemKind, kind_of_item, Attribute, Item, Descr
 use Rattle.edd_syntax.specs.Names.{is_name}
 use Rattle.edd_syntax.specs.Numbers.{has_attr, same_kind, text_attr}
 use Rattle.edd_syntax.specs.Resolution.{member_kinds}
-use Rattle.edd_syntax.specs.ResolvedTrees.{◌>>=◌, each, unchanged, resolved_cond, resolved_conds, resolved_body, at_attribute, resolved_entry, resolved_member, resolved_type_part, resolved_transaction_part, resolved_attribute, resolved_item, resolved_unit}
-use Rattle.edd_syntax.specs.WellFormed.{are_items, is_item, is_path, is_plain, belongs_to, stands_in, is_attribute}
+use Rattle.edd_syntax.specs.ResolvedTrees.{◌>>=◌, each, unchanged, resolved_cond, resolved_conds, resolved_body, at_attribute, resolved_entry, resolved_member, resolved_element, resolved_type_part, resolved_transaction_part, resolved_attribute, resolved_item, resolved_unit}
+use Rattle.edd_syntax.specs.WellFormed.{are_items, is_item, is_path, is_plain, may_list, belongs_to, stands_in, is_attribute}
 use Rattle.edd_syntax.specs.Resolved.{IsChecked}
+use Rattle.edd_syntax.proofs.Made.{bind_some}
 use Rattle.edd_syntax.proofs.WithinLimits.{each_keeps}
 
 -- its name is one, and its attributes belong to its kind
 abbrev pub is_formed : {R : Type 0} → Item R → Bool
 is_formed i = is_name i.name && list_all (belongs_to (kind_of_item i.sort)) i.attributes
-
-pub bind_some : {A B : Type 0} (o : Option A) (f : A → Option B) (z : B) → (o >>= f) ≡ Some z
-    → (x : A) × (o ≡ Some x) × (f x ≡ Some z)
-bind_some None f z h = absurd (none-some z h)
-bind_some (Some x) f z h = (x, refl, h)
 
 -- what a function gives of the value that is there
 pub at_some : {A C : Type 0} (f : A → C) (d : C) (x y : A) → Some x ≡ Some y → f x ≡ f y
@@ -88,6 +84,9 @@ module _ (k : Kind) where
   keeps_belonging unit sort (item.Members members) b h =
       made (belongs_to k) (each (resolved_member unit (member_kinds sort)) members) item.Members b
       (has_attr k attr.Members) (λ x. refl) h
+  keeps_belonging unit sort (item.Elements elements) b h =
+      made (belongs_to k) (each (resolved_element unit) elements) item.Elements b
+      (has_attr k attr.Elements) (λ x. refl) h
   keeps_belonging unit sort (item.Definition body) b h =
       made (belongs_to k) (resolved_body unit body [] 0) item.Definition b
       (has_attr k attr.Definition) (λ x. refl) h
@@ -116,9 +115,10 @@ stands_is_belonging k a h =
 item_is_formed : (i : Item Path) → is_item is_path is_plain i ≡ true → is_formed i ≡ true
 item_is_formed i h =
     let k = kind_of_item i.sort in
-    let parts = and_parts (is_name i.name) (list_all (stands_in is_path is_plain k) i.attributes)
-    h in
-    and_from (is_name i.name) (list_all (belongs_to k) i.attributes) parts.0
+    let parts = and_parts (is_name i.name && may_list i.sort)
+    (list_all (stands_in is_path is_plain k) i.attributes) h in
+    let named = and_parts (is_name i.name) (may_list i.sort) parts.0 in
+    and_from (is_name i.name) (list_all (belongs_to k) i.attributes) named.0
     (all_weaker (stands_in is_path is_plain k) (belongs_to k) (stands_is_belonging k) i.attributes
     parts.1)
 

@@ -1,4 +1,5 @@
 pub mod Appending
+pub mod ElementRows
 pub mod SectionSplits
 pub mod NameLoops
 pub mod Types
@@ -22,6 +23,9 @@ pub mod NamesAgree
 pub mod RecordsAgree
 pub mod RowsAmong
 pub mod WrittenBodies
+pub mod ElementsOnce
+pub mod ElementVariables
+pub mod SoundElements
 pub mod FewSlots
 pub mod RowsFound
 pub mod Unwritten

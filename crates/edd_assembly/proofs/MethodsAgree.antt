@@ -136,11 +136,11 @@ module _ (unit : Description Target) (lowered : List Lowered) (strings : List Wo
               (runs env f.row.attribute f.row.sub (part f.row.span c.code)))
               (sym (same_types unit lowered strings units valid short))
               (subst (λ (bytes : List ℕ). same
-              (runs (machine_of (environment unit).variables)
+              (runs (machine_of (environment unit))
               f.row.attribute f.row.sub bytes)) (sym f.code)
-              (subst (λ (n : ℕ). same (runs (machine_of (environment unit).variables)
+              (subst (λ (n : ℕ). same (runs (machine_of (environment unit))
               f.row.attribute n f.unit.code)) (sym f.sub)
-              (subst (λ (n : ℕ). same (runs (machine_of (environment unit).variables) n
+              (subst (λ (n : ℕ). same (runs (machine_of (environment unit)) n
               f.unit.row.sub f.unit.code)) (sym attribute) code.agrees))));
         }
 

@@ -46,10 +46,12 @@ module _ (items : List (Item Target)) where
   -- the names of the kinds behind a kind
   abbrev behind_variables : List Name
   behind_variables = names kind.Command
-      ++ (names kind.Menu ++ (names kind.Collection ++ (names kind.Method ++ (names kind.Array ++ []))))
+      ++ (names kind.Menu
+      ++ (names kind.Collection ++ (names kind.Method ++ (names kind.Array ++ []))))
 
   abbrev behind_commands : List Name
-  behind_commands = names kind.Menu ++ (names kind.Collection ++ (names kind.Method ++ (names kind.Array ++ [])))
+  behind_commands = names kind.Menu
+      ++ (names kind.Collection ++ (names kind.Method ++ (names kind.Array ++ [])))
 
   abbrev behind_menus : List Name
   behind_menus = names kind.Collection ++ (names kind.Method ++ (names kind.Array ++ []))

@@ -80,6 +80,8 @@ module _ (f g : StrNo → Option Words) (kept : (n : StrNo) (w : Words) → f n 
       optional_kept label h.1 h.5,
       optional_kept help h.2 h.6,
     )
+    record_kept (source.Element number var label help) r h =
+        (h.0, h.1, h.2, optional_kept label h.0 h.3, optional_kept help h.1 h.4)
 
     records_kept : (xs : List source.Record) (rs : List Record) → SameRecords f xs rs
         → SameRecords g xs rs

@@ -1,5 +1,5 @@
--- How many rows the sections have.
-use Rattle.std.proofs.Common.{◌≡◌, refl, ℕ, ◌+◌, List, [], ◌∷◌, ◌++◌, length, arith}
+-- How many rows the sections have, and how long a header is.
+use Rattle.std.proofs.Common.{◌≡◌, refl, ℕ, ◌+◌, ◌≤◌, List, [], ◌∷◌, ◌++◌, length, arith}
 use Rattle.std.proofs.lemmas.List.{length-append, length-map}
 use Rattle.edd_syntax.specs.declared.reference.Target.{Target}
 use Rattle.edd_syntax.specs.declared.numbers.Kind.{Kind}
@@ -8,7 +8,10 @@ use Rattle.edd_syntax.specs.Text.{Name}
 use Rattle.edd_syntax.specs.Words.{Words}
 use Rattle.edd_syntax.specs.Item.{Item}
 use Rattle.edd_syntax.specs.Resolution.{count_of}
+use Rattle.edd_image.specs.declared.unit.Version.{Version}
+use Rattle.edd_image.specs.declared.unit.Version.TheVariants.{One, Two}
 use Rattle.edd_image.specs.Strings.{string_bytes}
+use Rattle.edd_image.specs.Versions.{header_size}
 use Rattle.edd_assembly.specs.Assembly.{name_rows, names_of_kind, names_of, string_rows, variable_kinds}
 
 pub as_many_name_rows : (s : ℕ) (ns : List Name) → length (name_rows s ns) ≡ length ns
@@ -63,3 +66,7 @@ pub ruleset row_counts = (
   as_many_names,
   length-map,
 )
+
+pub header_small : (v : Version) → header_size v ≤ 64
+header_small One = omega arith
+header_small Two = omega arith

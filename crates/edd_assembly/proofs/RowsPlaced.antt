@@ -72,6 +72,7 @@ module _ (k : Kind) (a : Attr) where
   written_has (item.ResponseCodes responses) h is = same attr.ResponseCodes h is
   written_has (item.Items entries) h is = same attr.Items h is
   written_has (item.Members members) h is = same attr.Members h is
+  written_has (item.Elements elements) h is = same attr.Elements h is
   written_has (item.Definition body) h is = same attr.Definition h is
 
   any_written_has : (ws : List (Attribute Target)) → list_all (belongs_to k) ws ≡ true

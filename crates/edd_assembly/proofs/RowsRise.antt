@@ -142,6 +142,7 @@ module _ (slots : AttrRef → ℕ) where
   position_step next (item.ResponseCodes responses) rest = inr refl
   position_step next (item.Items entries) rest = inr refl
   position_step next (item.Members members) rest = inr refl
+  position_step next (item.Elements elements) rest = inr refl
   position_step next (item.Definition body) rest = inr refl
 
   abbrev FromOn : ℕ → List ℕ → Type 0

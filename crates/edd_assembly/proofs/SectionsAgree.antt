@@ -1,5 +1,5 @@
 -- The sections say of data what the description says.
-use Rattle.std.proofs.Common.{◌≡◌, refl, ◌<◌, ◌^◌, List, [], length, map, arith}
+use Rattle.std.proofs.Common.{◌≡◌, refl, ◌<◌, ◌^◌, List, length, map, arith}
 use Rattle.std.specs.List.{flat_map}
 use Rattle.edd_syntax.specs.declared.numbers.Kind.{Kind}
 use Rattle.edd_syntax.specs.declared.numbers.Kind.TheVariants as kind
@@ -43,9 +43,10 @@ module _ (unit : Description Target) (lowered : List Lowered) (strings : List Wo
   unfolding assembled
   types_agree = types_read unit.items
 
-  no_elements : (contents_of (assembled unit lowered strings)).elements ≡ []
+  elements_agree : (contents_of (assembled unit lowered strings)).elements
+      ≡ (environment unit).elements
   unfolding assembled
-  no_elements = refl
+  elements_agree = refl
 
   pub short : AreSections (assembled unit lowered strings) → length (flat_map string_bytes strings)
       < 2 ^ 32
@@ -61,7 +62,7 @@ sections_agree_on_data unit lowered words units sections = record {
   counts = counts_agree unit lowered (map string_of words);
   names = names_agree unit lowered (map string_of words);
   types = types_agree unit lowered (map string_of words);
-  elements = no_elements unit lowered (map string_of words);
+  elements = elements_agree unit lowered (map string_of words);
   attributes = attribute_agrees unit lowered (map string_of words) units (strings_valid words)
       (short unit lowered (map string_of words) sections);
 }

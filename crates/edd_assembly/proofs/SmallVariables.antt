@@ -1,5 +1,5 @@
 -- The variables of a checked description have 1 to 4 octets.
-use Rattle.std.proofs.Common.{◌≡◌, refl, ap, ◌∙◌, ℕ, Bool, true, false, List, [], ◌∷◌, ◌++◌, length, Some, None, IsTrue, nat_lt, arith}
+use Rattle.std.proofs.Common.{◌≡◌, refl, ap, ◌∙◌, ℕ, Bool, true, false, List, [], ◌∷◌, Some, None, IsTrue, nat_lt, arith}
 use Rattle.std.specs.Prelude.{◌||◌, ◌&&◌, ◌==◌, if◌then◌else◌, codes}
 use Rattle.std.specs.Str.{bytes_eq}
 use Rattle.std.specs.List.{flat_map, list_all}
@@ -15,25 +15,11 @@ use Rattle.edd_syntax.specs.Item.{kind_of_item, Attribute, Item, Description}
 use Rattle.edd_syntax.specs.Numbers.{same_kind}
 use Rattle.edd_syntax.specs.Names.{is_within}
 use Rattle.edd_syntax.specs.Device.{written_type}
-use Rattle.edd_syntax.specs.Refusal.{Refusal, BadSize, FloatVariable, OtherType, refused_if}
+use Rattle.edd_syntax.specs.Refusal.{Refusal, BadSize, FloatVariable, OtherType}
 use Rattle.edd_syntax.specs.SubsetRules.{type_breaches, types_in, wrong_types}
 use Rattle.edd_syntax.specs.Resolved.{IsChecked}
+use Rattle.edd_syntax.proofs.WithinLimits.{not_empty, no_front, no_rest, no_refusal}
 use Rattle.edd_assembly.specs.Assembly.{is_small_variable}
-
-pub not_empty : {A : Type 0} {x : A} {xs : List A} → ¬ (x ∷ xs ≡ [])
-not_empty h = omega (arith, ap length h)
-
-pub no_front : {A : Type 0} (xs ys : List A) → xs ++ ys ≡ [] → xs ≡ []
-no_front [] ys h = refl
-no_front (x ∷ xs) ys h = absurd (not_empty h)
-
-pub no_rest : {A : Type 0} (xs ys : List A) → xs ++ ys ≡ [] → ys ≡ []
-no_rest [] ys h = h
-no_rest (x ∷ xs) ys h = absurd (not_empty h)
-
-pub no_refusal : (b : Bool) (why : Refusal) → refused_if b why ≡ [] → b ≡ false
-no_refusal true why h = absurd (not_empty h)
-no_refusal false why h = refl
 
 no_choice : (b : Bool) (x y : Refusal) → ¬ ((if b then x ∷ [] else y ∷ []) ≡ [])
 no_choice true x y h = not_empty h
@@ -62,6 +48,7 @@ small name (item.Transaction number parts ∷ rest) h = small name rest h
 small name (item.ResponseCodes responses ∷ rest) h = small name rest h
 small name (item.Items entries ∷ rest) h = small name rest h
 small name (item.Members members ∷ rest) h = small name rest h
+small name (item.Elements elements ∷ rest) h = small name rest h
 small name (item.Definition body ∷ rest) h = small name rest h
 
 small_item : (i : Item Target) → IsTrue (is_within 1 4 (written_type i.attributes).size)

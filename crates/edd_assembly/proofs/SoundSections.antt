@@ -12,7 +12,6 @@ use Rattle.edd_syntax.specs.Item.{Description}
 use Rattle.edd_syntax.specs.Resolved.{IsChecked}
 use Rattle.edd_syntax.specs.Words.{Words}
 use Rattle.edd_syntax.specs.WordsView.{string_of}
-use Rattle.edd_image.specs.declared.unit.Version.TheVariants.{One}
 use Rattle.edd_image.specs.declared.unit.Sort.TheVariants.{Attribute, Method}
 use Rattle.edd_image.specs.declared.parts.Counts.{Counts}
 use Rattle.edd_image.specs.Contents.{part, Contents, fields_of_name, fields_of_attribute, contents_of}
@@ -20,7 +19,7 @@ use Rattle.edd_image.specs.Layout.{AreSections}
 use Rattle.edd_image.specs.Strings.{string_bytes}
 use Rattle.edd_image.specs.Units.{IsValidUnit}
 use Rattle.edd_image.specs.Validity.{placed_unit, fills, rise, is_attribute_row, are_variable_rows, are_name_rows, are_attribute_rows, are_element_rows, are_string_rows, IsSound}
-use Rattle.edd_image.specs.Agreement.{counts_of, IsAttributeCode}
+use Rattle.edd_image.specs.Agreement.{counts_of, version_with, IsAttributeCode}
 use Rattle.edd_assembly.specs.Assembly.{Lowered, names_of, name_rows, attribute_rows, assembled}
 use Rattle.edd_assembly.specs.LoweredUnits.{plain_row, IsBodyCode, IsUnitOf, AreUnitsOf}
 use Rattle.edd_assembly.proofs.Cutting.{first_or, behind_first, code_of, code_cut}
@@ -29,6 +28,7 @@ use Rattle.edd_assembly.proofs.ItemForms.{is_formed, formed_when_checked}
 use Rattle.edd_assembly.proofs.RowsPlaced.{is_placed, rows_placed}
 use Rattle.edd_assembly.proofs.SmallVariables.{small_when_checked}
 use Rattle.edd_assembly.proofs.SoundAttributes.{HasFewSlots, rows_sound, attributes_rise}
+use Rattle.edd_assembly.proofs.SoundElements.{elements_sound}
 use Rattle.edd_assembly.proofs.SoundNames.{names_sound}
 use Rattle.edd_assembly.proofs.SoundRows.{variables_sound}
 use Rattle.edd_assembly.proofs.SoundStrings.{strings_valid, strings_sound}
@@ -56,7 +56,7 @@ module _ (unit : Description Target) (strings : List Words) where
 
   valid : (l : Lowered) → IsUnitOf unit strings l
       → IsValidUnit (record {
-        version = One;
+        version = version_with counts;
         counts = counts;
         sort = if same_attr l.row.attr
             attr.Definition then Method else Attribute;
@@ -70,7 +70,7 @@ module _ (unit : Description Target) (strings : List Words) where
         | false ↦ IsAttributeCode unit strings l.row l.code
       ])
           → IsValidUnit (record {
-            version = One;
+            version = version_with counts;
             counts = counts;
             sort = if b then Method else
                 Attribute;
@@ -80,7 +80,8 @@ module _ (unit : Description Target) (strings : List Words) where
       pick false u = u.valid
 
   -- the rows cut the code of their units from the whole
-  units_valid : (c : Contents) → c.version ≡ One → c.counts ≡ counts → (s : ℕ) (ls : List Lowered)
+  units_valid : (c : Contents) → c.version ≡ version_with counts → c.counts ≡ counts → (s : ℕ)
+      (ls : List Lowered)
       → map (λ r. part r.span c.code) (map fields_of_attribute (attribute_rows s ls))
       ≡ map code_of ls
       → AllByRecursion (IsUnitOf unit strings) ls
@@ -109,7 +110,7 @@ module _ (unit : Description Target) (strings : List Words) where
         }) l.code) (sym one)
         (subst (λ n. IsValidUnit
         (record {
-          version = One;
+          version = version_with counts;
           counts = n;
           sort = if same_attr l.row.attr attr.Definition then
               Method else Attribute;
@@ -171,7 +172,7 @@ module _ (unit : Description Target) (lowered : List Lowered) (words : List code
 
   elements : IsTrue (are_element_rows contents)
   unfolding assembled
-  elements = refl
+  elements = elements_sound unit (length (map string_of words)) checked
 
   strings : IsTrue (are_string_rows contents)
   unfolding assembled

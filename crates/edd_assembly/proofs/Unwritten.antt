@@ -14,7 +14,7 @@ use Rattle.edd_syntax.specs.Words.{name_words}
 use Rattle.edd_syntax.specs.Numbers.{attr_number, same_attr, text_attr}
 use Rattle.edd_syntax.specs.Device.{Environment}
 use Rattle.edd_syntax.specs.AttributeValue.{all_chosen}
-use Rattle.edd_syntax.specs.Attributes.{Meaning, Named, Words, Number, constant, each, entry, enumerator, response, member, one, list, texts, expressions, elements, of_parts, of_attribute, of_attributes, transactions, meaning_of, handling_number, operation_number, bit}
+use Rattle.edd_syntax.specs.Attributes.{Meaning, Named, Words, Number, constant, each, entry, enumerator, response, member, element, one, list, texts, expressions, elements, of_parts, of_attribute, of_attributes, transactions, meaning_of, handling_number, operation_number, bit}
 use Rattle.edd_syntax.specs.Rows.{part_attr, stands_for, is_written, transaction_positions}
 
 -- ---- what is not written
@@ -132,6 +132,9 @@ module _ (env : Environment) (a : Attr) (d : List ℤ) where
   gives_nothing (item.Members members) rest h others =
       passed attr.Members (constant (map member members)) rest
       (or_parts (same_attr a attr.Members) false h).0 ∙ others
+  gives_nothing (item.Elements all) rest h others =
+      passed attr.Elements (constant (map element all)) rest
+      (or_parts (same_attr a attr.Elements) false h).0 ∙ others
   gives_nothing (item.Definition body) rest h others = others
 
   pub unwritten : (ws : List (Attribute Target)) → is_written a ws ≡ false

@@ -20,14 +20,15 @@ use Rattle.edd_syntax.specs.NameRules.{attribute_word, required_words, missing_w
 use Rattle.edd_syntax.specs.Numbers.{same_kind, same_attr, attr_word, text_attr}
 use Rattle.edd_syntax.specs.Refusal.{MissingAttribute, is_name_in}
 use Rattle.edd_syntax.specs.Resolution.{member_kinds}
-use Rattle.edd_syntax.specs.ResolvedTrees.{each, unchanged, resolved_cond, resolved_conds, resolved_body, at_attribute, resolved_entry, resolved_member, resolved_type_part, resolved_transaction_part, resolved_attribute, resolved_item, resolved_unit}
+use Rattle.edd_syntax.specs.ResolvedTrees.{each, unchanged, resolved_cond, resolved_conds, resolved_body, at_attribute, resolved_entry, resolved_member, resolved_element, resolved_type_part, resolved_transaction_part, resolved_attribute, resolved_item, resolved_unit}
 use Rattle.edd_syntax.specs.Resolved.{IsChecked}
 use Rattle.edd_syntax.specs.Rows.{part_attr, stands_for, is_written, of_kind}
 use Rattle.edd_syntax.proofs.EveryAttribute.{every_text}
-use Rattle.edd_syntax.proofs.WithinLimits.{each_keeps}
-use Rattle.edd_assembly.proofs.ItemForms.{bind_some, at_some, all_mapped, made}
+use Rattle.edd_syntax.proofs.WithinLimits.{each_keeps, not_empty, no_front, no_rest}
+use Rattle.edd_syntax.proofs.Repeats.{none_mapped}
+use Rattle.edd_syntax.proofs.Made.{bind_some}
+use Rattle.edd_assembly.proofs.ItemForms.{at_some, all_mapped, made}
 use Rattle.edd_assembly.proofs.RowsAmong.{any_mapped}
-use Rattle.edd_assembly.proofs.SmallVariables.{not_empty, no_front, no_rest}
 
 -- a body is written, if it is a method
 abbrev pub has_body : {R : Type 0} → Item R → Bool
@@ -72,13 +73,10 @@ written (item.Transaction number parts ∷ rest) h = written rest h
 written (item.ResponseCodes responses ∷ rest) h = written rest h
 written (item.Items entries ∷ rest) h = written rest h
 written (item.Members members ∷ rest) h = written rest h
+written (item.Elements elements ∷ rest) h = written rest h
 written (item.Definition body ∷ rest) h = refl
 
 -- ---- no word is missing
-
-none_mapped : {A B : Type 0} (f : A → B) (xs : List A) → map f xs ≡ [] → xs ≡ []
-none_mapped f [] h = refl
-none_mapped f (x ∷ xs) h = absurd (not_empty h)
 
 not_missing : (b : Bool) (word : Name) → (if not b then word ∷ [] else []) ≡ [] → b ≡ true
 not_missing true word h = refl
@@ -94,6 +92,7 @@ module _ {R : Type 0} where
   with_word item.CommandItem attributes h = refl
   with_word item.MenuItem attributes h = refl
   with_word (item.CollectionItem of) attributes h = refl
+  with_word item.ArrayItem attributes h = refl
   with_word item.MethodItem attributes h =
       written attributes (not_missing
       (is_name_in (map attribute_word attributes) (codes "DEFINITION")) (codes "DEFINITION") h)
@@ -140,6 +139,8 @@ keeps_body unit sort (item.Items entries) b h =
 keeps_body unit sort (item.Members members) b h =
     made is_body (each (resolved_member unit (member_kinds sort)) members) item.Members b false
     (λ x. refl) h
+keeps_body unit sort (item.Elements elements) b h =
+    made is_body (each (resolved_element unit) elements) item.Elements b false (λ x. refl) h
 keeps_body unit sort (item.Definition body) b h = made is_body (resolved_body unit body [] 0)
     item.Definition b true (λ x. refl) h
 

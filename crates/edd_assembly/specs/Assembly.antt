@@ -8,12 +8,13 @@ use Rattle.std.specs.List.{flat_map}
 use Rattle.edd_syntax.specs.declared.numbers.Kind.{Kind}
 use Rattle.edd_syntax.specs.declared.numbers.Kind.TheVariants as kind
 use Rattle.edd_syntax.specs.declared.numbers.AttrRef.{AttrRef}
+use Rattle.edd_syntax.specs.declared.numbers.Element.{Element}
 use Rattle.edd_syntax.specs.declared.reference.Target.{Target}
 use Rattle.edd_syntax.specs.Text.{Name}
 use Rattle.edd_syntax.specs.Words.{Words}
 use Rattle.edd_syntax.specs.Item.{Attribute, TypeOf, Known, kind_of_item, Item, Description}
 use Rattle.edd_syntax.specs.NameRules.{kinds}
-use Rattle.edd_syntax.specs.Device.{written_type}
+use Rattle.edd_syntax.specs.Device.{written_type, environment}
 use Rattle.edd_syntax.specs.DeviceValues.{VariableType}
 use Rattle.edd_syntax.specs.Rows.{of_kind}
 use Rattle.edd_image.specs.declared.parts.VarKind.{VarKind}
@@ -21,10 +22,9 @@ use Rattle.edd_image.specs.declared.parts.NameRow.{NameRow}
 use Rattle.edd_image.specs.declared.parts.AttributeRow.{AttributeRow}
 use Rattle.edd_image.specs.declared.parts.StringRow.{StringRow}
 use Rattle.edd_image.specs.declared.parts.Counts.{Counts}
-use Rattle.edd_image.specs.declared.unit.Version.TheVariants.{One}
 use Rattle.edd_image.specs.Layout.{Sections}
 use Rattle.edd_image.specs.Strings.{string_bytes}
-use Rattle.edd_image.specs.Agreement.{counts_of}
+use Rattle.edd_image.specs.Agreement.{counts_of, version_with}
 
 -- an attribute and its code; for the body of a method `sub` is its number of slots
 pub record Lowered : Type 0 where
@@ -102,17 +102,18 @@ abbrev pub variable_kinds : List (Item Target) → List VarKind
 variable_kinds items = map (λ i. kind_of_type (written_type i.attributes))
     (of_kind kind.Variable items)
 
--- ---- all sections, in the first version of the layout: no description has arrays
+-- ---- all sections, in the first version of the layout where there are no arrays, else in the
+-- second
 
-abbrev pub sections : Counts → List VarKind → List NameRow → List AttributeRow → (code : List ℕ)
-    → List StringRow → (name_bytes string_bytes : List ℕ) → Sections
-sections counts variables names attributes code strings name_bytes string_bytes = record {
-  version = One;
+abbrev pub sections : Counts → List VarKind → List NameRow → List AttributeRow → List Element
+    → (code : List ℕ) → List StringRow → (name_bytes string_bytes : List ℕ) → Sections
+sections counts variables names attributes elements code strings name_bytes string_bytes = record {
+  version = version_with counts;
   counts = counts;
   variables = variables;
   names = names;
   attributes = attributes;
-  elements = [];
+  elements = elements;
   code = code;
   strings = strings;
   name_bytes = name_bytes;
@@ -121,12 +122,12 @@ sections counts variables names attributes code strings name_bytes string_bytes 
 
 unfoldable pub assembled : Description Target → List Lowered → List Words → Sections
 assembled unit lowered strings = record {
-  version = One;
+  version = version_with (counts_of unit.identification unit.items (length strings));
   counts = counts_of unit.identification unit.items (length strings);
   variables = variable_kinds unit.items;
   names = name_rows 0 (names_of unit.items);
   attributes = attribute_rows 0 lowered;
-  elements = [];
+  elements = (environment unit).elements;
   code = flat_map (λ l. l.code) lowered;
   strings = string_rows 0 strings;
   name_bytes = flat_map (λ n. n) (names_of unit.items);

@@ -61,7 +61,8 @@ fn variable_attributes(item: &Item<Target>) -> Option<&[Attribute<Target>]>
 {
     match item {
         Item::Variable(d) => Some(&d.attributes),
-        Item::Command(_) | Item::Menu(_) | Item::Collection(_) | Item::Method(_) => None,
+        Item::Command(_) | Item::Menu(_) | Item::Collection(_) | Item::Method(_) | Item::Array(_) =>
+            None,
     }
 }
 

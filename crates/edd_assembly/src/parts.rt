@@ -1,14 +1,16 @@
 //! The parts of an image.
 
-ghost use Rattle.std.specs.Prelude.{◌≡◌, ◌≤◌, ◌+◌, ◌*◌, ◌<◌, ◌^◌, map, length, IsTrue, IfOk, OnOk};
+ghost use Rattle.std.specs.Prelude.{◌≡◌, [], ◌≤◌, ◌+◌, ◌*◌, ◌<◌, ◌^◌, map, length, IsTrue, IfOk, OnOk};
 ghost use Rattle.std.specs.List.{list_all};
 ghost use Rattle.edd_syntax.specs.declared.numbers.Kind.{Kind};
+ghost use Rattle.edd_syntax.specs.Device.{environment};
 ghost use Rattle.edd_syntax.specs.ItemView.{identification_of, numbered_items, numbered_item};
 ghost use Rattle.edd_syntax.specs.Resolution.{count_of};
 ghost use Rattle.edd_syntax.specs.Resolved.{description};
 ghost use Rattle.edd_syntax.specs.WordsView.{string_of};
 ghost use Rattle.edd_image.specs.Agreement as agreement;
 ghost use Rattle.edd_image.specs.Layout.{sections_of};
+ghost use Rattle.edd_image.specs.Versions.{header_size};
 ghost use Rattle.edd_assembly.specs.Assembly as assembly;
 ghost use Rattle.edd_assembly.specs.Assembly.{assembled};
 ghost use Rattle.edd_assembly.specs.Views.{lowered_of};
@@ -21,7 +23,7 @@ use crate::units::{CodeSection, Lowered, code_section};
 use edd_image::{Counts, Parts, VarKind, Version};
 use edd_syntax::checked::Checked;
 use edd_syntax::item::{Identification, Item};
-use edd_syntax::numbers::Kind;
+use edd_syntax::numbers::{Element, Kind};
 use edd_syntax::reference::Target;
 use edd_syntax::words::Words;
 use std::alloc::{AllocError, Global};
@@ -50,65 +52,88 @@ fn counts_of(identification: Identification, items: &[Item<Target>], strings: &[
 // The numbers of rows and of bytes fit an image, whose length four bytes say. More is refused as a
 // growth that is too large.
 fn check_length(
+    version: Version,
     variables: usize,
     names: usize,
     attributes: usize,
+    elements: usize,
     code: usize,
     strings: usize,
     bytes: usize,
 ) -> Result<(), AllocError>
-    ensures { OnOk result (56 + 4 * variables + 8 * names + 16 * attributes + code + 8 * strings
-        + bytes < 2 ^ 32) }
+    ensures { OnOk result (header_size version + 4 * variables + 8 * names + 16 * attributes
+        + 8 * elements + code + 8 * strings + bytes < 2 ^ 32) }
 {
     let variables = u64::from(number_of(variables)?);
     let names = u64::from(number_of(names)?);
     let attributes = u64::from(number_of(attributes)?);
+    let elements = u64::from(number_of(elements)?);
     let code = u64::from(number_of(code)?);
     let strings = u64::from(number_of(strings)?);
     let bytes = u64::from(number_of(bytes)?);
-    let total = 56 + 4 * variables + 8 * names + 16 * attributes + code + 8 * strings + bytes;
+    let total = version.header_size() as u64
+        + 4 * variables
+        + 8 * names
+        + 16 * attributes
+        + 8 * elements
+        + code
+        + 8 * strings
+        + bytes;
     if total > u64::from(u32::MAX) {
         return Err(AllocError);
     }
     Ok(())
 }
 
-// The parts of these sections, in the first version of the layout.
+// An image needs the second version of the layout where there is an array.
+fn version_of(counts: Counts) -> Version
+    ensures { result ≡ agreement.version_with counts }
+{
+    if counts.arrays > 0 {
+        Version::Two
+    } else {
+        Version::One
+    }
+}
+
+// The parts of these sections.
 fn parts_of(
-    alloc: Global,
     counts: Counts,
     variables: Vec<VarKind>,
     names: NameSection,
+    elements: Vec<Element>,
     code: CodeSection,
     strings: StringSection,
 ) -> Result<Parts, AllocError>
     requires variables_counted { counts.variables ≡ length variables.items }
     requires names_counted { counts.variables + counts.commands + counts.menus + counts.collections
         + counts.methods + counts.arrays ≡ length names.rows.items }
-    requires no_arrays { counts.arrays ≡ 0 }
+    requires no_elements { counts.arrays ≡ 0 → elements.items ≡ [] }
     requires strings_counted { counts.strings ≡ length strings.rows.items }
     ensures { IfOk result (λ parts. sections_of parts
-        ≡ assembly.sections counts variables.items names.rows.items code.rows.items code.bytes.items
-        strings.rows.items
-        names.bytes.items strings.bytes.items) }
+        ≡ assembly.sections counts variables.items names.rows.items code.rows.items elements.items
+        code.bytes.items strings.rows.items names.bytes.items strings.bytes.items) }
 {
+    let version = version_of(counts);
     let name_bytes = number_of(names.bytes.len())?;
     let string_bytes = number_of(strings.bytes.len())?;
     check_length(
+        version,
         variables.len(),
         names.rows.len(),
         code.rows.len(),
+        elements.len(),
         code.bytes.len(),
         strings.rows.len(),
         name_bytes as usize + string_bytes as usize,
     )?;
     Ok(Parts {
-        version: Version::One,
+        version,
         counts,
         variables,
         names: names.rows,
         attributes: code.rows,
-        elements: Vec::new(alloc),
+        elements,
         code: code.bytes,
         strings: strings.rows,
         name_bytes: names.bytes,
@@ -121,9 +146,12 @@ fn assemble_items(
     alloc: Global,
     identification: Identification,
     items: &[Item<Target>],
+    elements: Vec<Element>,
     units: &[Lowered],
     strings: &[Words],
 ) -> Result<Parts, AllocError>
+    requires elements { elements.items ≡ (environment
+        (description (identification_of identification) (map numbered_item items.now))).elements }
     requires few { (k : Kind) → count_of k (map numbered_item items.now) ≤ 4096 }
     requires small { IsTrue (list_all assembly.is_small_variable (map numbered_item items.now)) }
     requires few_strings { length strings.now ≤ 65535 }
@@ -136,11 +164,11 @@ fn assemble_items(
     let names = name_section(alloc, items)?;
     let code = code_section(alloc, units)?;
     let strings = string_section(alloc, strings)?;
-    parts_of(alloc, counts, variables, names, code, strings)
+    parts_of(counts, variables, names, elements, code, strings)
 }
 
-/// The parts of an image: the description's counts, types and names, the code of its attributes in
-/// this order, and its strings by number.
+/// The parts of an image: the description's counts, types, names and elements, the code of its
+/// attributes in this order, and its strings by number.
 pub fn assemble(
     alloc: Global,
     checked: &Checked,
@@ -153,10 +181,12 @@ pub fn assemble(
         (numbered_items checked.now.items.value.items))
         (map lowered_of units.now) (map string_of strings.now)) }
 {
+    let elements = checked.elements(alloc)?;
     assemble_items(
         alloc,
         checked.identification,
         &checked.items,
+        elements,
         units,
         strings,
     )

@@ -19,7 +19,7 @@ use Rattle.edd_syntax.specs.Rows.{part_attr, written_attrs, stands_for, is_writt
 use Rattle.edd_syntax.proofs.EveryAttribute.{every_text}
 use Rattle.edd_attrs.specs.Trees.{Tree, Named, trees_of_parts, trees_of_attribute, trees_of, first_tree}
 use Rattle.edd_assembly.proofs.KnownByNumber.{same_attrs}
-use Rattle.edd_bounds.proofs.Repeats.{no_front, no_rest}
+use Rattle.edd_syntax.proofs.WithinLimits.{no_front, no_rest}
 
 -- the word under which an attribute is written
 abbrev pub word_of : Attr → Name
@@ -78,6 +78,7 @@ written_under (item.Transaction number parts) = refl
 written_under (item.ResponseCodes responses) = refl
 written_under (item.Items entries) = refl
 written_under (item.Members members) = refl
+written_under (item.Elements elements) = refl
 written_under (item.Definition body) = refl
 
 trees_of_parts_under : (parts : List (TypePart Target))
@@ -103,6 +104,7 @@ trees_under (item.Transaction number parts) = refl
 trees_under (item.ResponseCodes responses) = refl
 trees_under (item.Items entries) = refl
 trees_under (item.Members members) = refl
+trees_under (item.Elements elements) = refl
 trees_under (item.Definition body) = refl
 
 one_of : (b : Attr) (word : Name) (all : List Attr) → list_all (λ x. bytes_eq word (word_of x)) all

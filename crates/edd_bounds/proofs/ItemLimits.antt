@@ -293,6 +293,7 @@ all_weigh (item.Transaction number parts ∷ rest) =
 all_weigh (item.ResponseCodes responses ∷ rest) = omega (arith, all_weigh rest)
 all_weigh (item.Items entries ∷ rest) = omega (arith, all_weigh rest)
 all_weigh (item.Members members ∷ rest) = omega (arith, all_weigh rest)
+all_weigh (item.Elements elements ∷ rest) = omega (arith, all_weigh rest)
 all_weigh (item.Definition body ∷ rest) = omega (arith, all_weigh rest)
 
 pub item_limit : (i : Item Target) → total (rows_limit i.attributes) attributes_in_order

@@ -25,7 +25,7 @@ use Rattle.edd_attrs.specs.Trees.{trees_of_parts, trees_of, first_tree}
 use Rattle.edd_attrs.specs.Sizes.{tree_strings, strings_of_tree}
 use Rattle.edd_code.proofs.Different.{has}
 use Rattle.edd_assembly.proofs.KnownByNumber.{same_attrs}
-use Rattle.edd_bounds.proofs.Repeats.{no_front, no_rest}
+use Rattle.edd_syntax.proofs.WithinLimits.{no_front, no_rest}
 use Rattle.edd_bounds.proofs.Apart.{word_of, not_before, tree_passes}
 use Rattle.edd_bounds.proofs.PartStrings.{either, first_stays, InParts, in_parts}
 
@@ -119,6 +119,8 @@ module _ (w : Words) where
       record { attribute = attr.Items; plain = refl; written = refl; held = h }
   of_first (item.Members members) rest once h =
       record { attribute = attr.Members; plain = refl; written = refl; held = h }
+  of_first (item.Elements elements) rest once h =
+      record { attribute = attr.Elements; plain = refl; written = refl; held = h }
   of_first (item.Definition body) rest once h =
       record { attribute = attr.Definition; plain = refl; written = refl; held = h }
 

@@ -8,7 +8,7 @@ use Rattle.edd_syntax.specs.declared.numbers.Kind.{Kind}
 use Rattle.edd_syntax.specs.declared.reference.Target.{Target}
 use Rattle.edd_syntax.specs.Execution.{body_in}
 use Rattle.edd_syntax.specs.Item as item
-use Rattle.edd_syntax.specs.Item.{ItemKind, VariableItem, CommandItem, MenuItem, CollectionItem, MethodItem, kind_of_item, Item, Description}
+use Rattle.edd_syntax.specs.Item.{ItemKind, VariableItem, CommandItem, MenuItem, CollectionItem, MethodItem, ArrayItem, kind_of_item, Item, Description}
 use Rattle.edd_syntax.specs.NameRules.{kinds}
 use Rattle.edd_syntax.specs.Numbers.{index_of, item_number, same_kind, same_attr}
 use Rattle.edd_syntax.specs.Rows.{positions, rows_at, item_rows, rows_from, of_kind, rows_of_attr, rows_of_kind, attributes_in_order, rows}
@@ -95,11 +95,12 @@ one_kind f i rest CommandItem = omega arith
 one_kind f i rest MenuItem = omega arith
 one_kind f i rest (CollectionItem of) = omega arith
 one_kind f i rest MethodItem = omega arith
+one_kind f i rest ArrayItem = omega arith
 
-of_five_kinds : (f : Item Target → ℕ) (items : List (Item Target))
+of_all_kinds : (f : Item Target → ℕ) (items : List (Item Target))
     → total (λ k. total f (of_kind k items)) kinds ≡ total f items
-of_five_kinds f [] = omega arith
-of_five_kinds f (i ∷ rest) = one_kind f i rest i.sort ∙ ap (λ n. f i + n) (of_five_kinds f rest)
+of_all_kinds f [] = omega arith
+of_all_kinds f (i ∷ rest) = one_kind f i rest i.sort ∙ ap (λ n. f i + n) (of_all_kinds f rest)
 
 pub all_rows_limit : (d : Description Target) → sum (map (λ r. limit_of_row d r) (rows d.items))
     ≤ 32 * unit_nodes d
@@ -108,7 +109,7 @@ all_rows_limit d =
     let by_kind = total-flat_map (limit_of_row d) (rows_of_kind d.items) kinds in
     let each = total_le (λ k. total (limit_of_row d) (rows_of_kind d.items k))
     (λ k. total (λ i. 32 * item_nodes i) (of_kind k d.items)) (kind_limit d) kinds in
-    let joined = of_five_kinds (λ i. 32 * item_nodes i) d.items in
+    let joined = of_all_kinds (λ i. 32 * item_nodes i) d.items in
     let times = total_times item_nodes d.items in
     let nodes = sum_is_total item_nodes d.items in
     omega (arith, summed, by_kind, each, joined, times, nodes)

@@ -27,7 +27,7 @@ use Rattle.edd_assembly.proofs.KnownByNumber.{numbered_kind, numbered_index}
 use Rattle.edd_assembly.proofs.RowsAmong.{same_ref, among_rows}
 use Rattle.edd_assembly.proofs.RowsFound.{same_refs}
 use Rattle.edd_bounds.specs.RowContents.{strings_of_row}
-use Rattle.edd_bounds.proofs.Repeats.{empty_is_none, has_each_once, once_when_checked}
+use Rattle.edd_syntax.proofs.Repeats.{empty_is_none, has_each_once, once_when_checked}
 use Rattle.edd_bounds.proofs.PartStrings.{either}
 use Rattle.edd_bounds.proofs.ItemStrings.{strings_in, of_item}
 

@@ -123,6 +123,7 @@ module _ (w : Words) where
       alone (attribute_strings {R = Target} (item.ResponseCodes responses)) h
   in_attribute (item.Items entries) h = alone (attribute_strings (item.Items entries)) h
   in_attribute (item.Members members) h = alone (attribute_strings (item.Members members)) h
+  in_attribute (item.Elements elements) h = alone (attribute_strings (item.Elements elements)) h
   in_attribute (item.Definition body) h = absurd (false≢true h)
 
   in_attributes : (ws : List (Attribute Target)) → list_any tree_has (trees_of ws) ≡ true

@@ -61,4 +61,5 @@ module _ (text : List ℕ) (unit : Description Path) (spelled : IsUnitOf text un
     type_refused (type.BreakOutside line) is = (unit, spelled, broken_profile_rule _ is)
     type_refused (type.ConstRange line) is = (unit, spelled, broken_profile_rule _ is)
     type_refused (type.DuplicateCase line) is = (unit, spelled, broken_profile_rule _ is)
+    type_refused (type.DuplicateElement line) is = (unit, spelled, broken_profile_rule _ is)
     type_refused type.Memory is = tt

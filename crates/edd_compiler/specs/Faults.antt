@@ -58,6 +58,7 @@ of_type (type.FloatValue line) = fault.Type (type.FloatValue line)
 of_type (type.BreakOutside line) = fault.Type (type.BreakOutside line)
 of_type (type.ConstRange line) = fault.Type (type.ConstRange line)
 of_type (type.DuplicateCase line) = fault.Type (type.DuplicateCase line)
+of_type (type.DuplicateElement line) = fault.Type (type.DuplicateElement line)
 of_type type.Memory = fault.Memory
 
 abbrev pub of_lower : LowerFault → Fault

@@ -1,7 +1,8 @@
-use Rattle.std.proofs.Common.{◌∙◌, ap, sym, subst, ◌≤◌, List, map, IsTrue}
+use Rattle.std.proofs.Common.{◌≡◌, ◌∙◌, ap, sym, subst, ◌≤◌, List, map, IsTrue}
 use Rattle.std.specs.List.{list_all}
 use Rattle.edd_syntax.specs.declared.item.Item.{Item}
 use Rattle.edd_syntax.specs.declared.reference.Target.{Target}
+use Rattle.edd_syntax.specs.Device.{environment}
 use Rattle.edd_syntax.specs.ItemView.{identification_of, numbered_items, numbered_item}
 use Rattle.edd_syntax.specs.Resolution.{count_of}
 use Rattle.edd_syntax.specs.Resolved.{description}
@@ -24,3 +25,10 @@ assemble_items-requires-clause-small c =
     (sym (c.deref-2.ensures.value ∙ ap (λ v. v.items) c.deref.ensures))
     (small_when_checked (description (identification_of c.args.checked.now.identification)
     (numbered_items c.args.checked.now.items.value.items)) c.args.checked.now.checked)
+
+pub assemble_items-requires-clause-elements : goal.assemble_items-requires-clause-elements
+assemble_items-requires-clause-elements c =
+    subst (λ (items : List (Item Target)). c.in_ok-elements.elements.items
+    ≡ (environment (description (identification_of c.args.checked.now.identification)
+    (map numbered_item items))).elements)
+    (sym (c.deref-2.ensures.value ∙ ap (λ v. v.items) c.deref.ensures)) c.in_ok-elements.ensures
