@@ -3,12 +3,13 @@
 use crate::conditionals::{walk_cond, walk_conds};
 use crate::statements::{Around, walk_block};
 use crate::types::walk_type;
-use edd_syntax::item::{Attribute, Item, Member, TransactionPart};
+use edd_lexer::token::TokenKind;
+use edd_syntax::item::{ArrayElement, Attribute, Item, Member, TransactionPart};
 use edd_syntax::numbers::{Attr, Kind};
 use edd_syntax::reference::Path;
 use edd_syntax::symbols::Keyword;
 use edd_trails::breach::Rule;
-use edd_trails::walk::{Walk, Words, has_word};
+use edd_trails::walk::{VARIABLES, Walk, Words, has_word};
 use indexmap::IndexMap;
 use std::alloc::AllocError;
 
@@ -27,6 +28,7 @@ pub fn word_of(attribute: &Attribute<Path>) -> &'static str {
         Attribute::Items(_) => Attr::Items.word(),
         Attribute::Members(_) => Attr::Members.word(),
         Attribute::Definition(_) => Attr::Definition.word(),
+        Attribute::Elements(_) => Attr::Elements.word(),
     }
 }
 
@@ -84,6 +86,38 @@ fn walk_members<'a>(
     Ok(())
 }
 
+/// The numbers of the elements of one attribute so far, with their tokens.
+type Numbers = IndexMap<u32, Option<usize>>;
+
+// An element's number, and the variable that it names.
+fn walk_element<'a>(
+    element: &'a ArrayElement<Path>,
+    before: &mut Numbers,
+    walk: &mut Walk<'a>,
+) -> Result<(), AllocError> {
+    let place = walk.trail.token(TokenKind::Integer(element.number));
+    match before.get(&element.number).copied() {
+        Some(earlier) => {
+            walk.note_clash(Rule::DuplicateElement(element.line), place, earlier)?;
+        }
+        None => {
+            before.insert(element.number, place)?;
+        }
+    }
+    walk.refer(&element.variable, &VARIABLES)
+}
+
+fn walk_elements<'a>(
+    elements: &'a [ArrayElement<Path>],
+    walk: &mut Walk<'a>,
+) -> Result<(), AllocError> {
+    let mut before = IndexMap::new(walk.alloc);
+    for element in elements {
+        walk_element(element, &mut before, walk)?;
+    }
+    Ok(())
+}
+
 // The kinds that the members of an item may have.
 fn kinds_of_members(item: &Item<Path>) -> [Kind; 1] {
     match item {
@@ -107,6 +141,7 @@ fn walk_inside<'a>(
         Attribute::Transaction { parts, .. } => walk_transaction(parts, walk),
         Attribute::Items(entries) => walk_conds(entries, walk),
         Attribute::Members(list) => walk_members(list, &kinds_of_members(item), members, walk),
+        Attribute::Elements(elements) => walk_elements(elements, walk),
         Attribute::Definition(parts) => {
             let around = Around {
                 in_loop: false,

@@ -87,6 +87,10 @@ pub fn walk_expr<'a>(
             walk.note(Rule::FloatValue(*line), place)
         }
         Expr::Reference(path) | Expr::Increment(_, path) => walk.refer(path, &VARIABLES),
+        Expr::Indexed(array, index) => {
+            walk.refer_array(array)?;
+            walk_expr(index, false, walk)
+        }
         Expr::Parentheses(inner) | Expr::Unary(_, inner) => walk_expr(inner, false, walk),
         Expr::Binary(_, a, b)
         | Expr::Compare(_, a, b)

@@ -29,6 +29,7 @@ fn keyword_of(item: &Item<Path>) -> Keyword {
         Item::Menu(_) => Keyword::Menu,
         Item::Collection(_) => Keyword::Collection,
         Item::Method(_) => Keyword::Method,
+        Item::Array(_) => Keyword::Array,
     }
 }
 
@@ -44,6 +45,7 @@ fn needed(item: &Item<Path>) -> [Option<&'static str>; 3] {
         Item::Menu(_) => [Some(Attr::Items.word()), None, None],
         Item::Collection(_) => [Some(Attr::Members.word()), None, None],
         Item::Method(_) => [Some(Attr::Definition.word()), None, None],
+        Item::Array(_) => [Some(Attr::Elements.word()), None, None],
     }
 }
 

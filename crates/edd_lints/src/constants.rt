@@ -201,6 +201,7 @@ pub fn evaluate(e: &Expr<Target>, width: Width) -> Known {
             evaluate(first, width),
             evaluate(second, width),
         ),
+        Expr::Indexed(_, index) => unused(evaluate(index, width)),
         Expr::Assign(_, value) => unused(evaluate(value, width)),
         Expr::CompoundAssign(operator, _, value) => {
             combined(*operator, Known::Nothing, evaluate(value, width), width)

@@ -125,7 +125,7 @@ pub fn check_expression(
     match e {
         Expr::Literal(_) | Expr::Decimal { .. } => Ok(()),
         Expr::Reference(to) | Expr::Increment(_, to) => walk.read(*to),
-        Expr::Parentheses(inner) | Expr::Unary(_, inner) => {
+        Expr::Indexed(_, inner) | Expr::Parentheses(inner) | Expr::Unary(_, inner) => {
             check_expression(inner, false, walk, findings)
         }
         Expr::Binary(operator, first, second) => {

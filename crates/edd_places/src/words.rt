@@ -56,18 +56,10 @@ pub fn item_kind(token: &Token) -> Option<Kind> {
         TokenKind::Keyword(Keyword::Menu) => Some(Kind::Menu),
         TokenKind::Keyword(Keyword::Collection) => Some(Kind::Collection),
         TokenKind::Keyword(Keyword::Method) => Some(Kind::Method),
+        TokenKind::Keyword(Keyword::Array) => Some(Kind::Array),
         _ => None,
     }
 }
-
-/// The kinds of items that a source may have: arrays stand in images alone.
-pub const SOURCE_KINDS: [Kind; 5] = [
-    Kind::Variable,
-    Kind::Command,
-    Kind::Menu,
-    Kind::Collection,
-    Kind::Method,
-];
 
 /// The word with which an item of a kind begins in a source.
 pub fn kind_word(kind: Kind) -> &'static str {
@@ -77,7 +69,7 @@ pub fn kind_word(kind: Kind) -> &'static str {
         Kind::Menu => Keyword::Menu.spelling(),
         Kind::Collection => Keyword::Collection.spelling(),
         Kind::Method => Keyword::Method.spelling(),
-        Kind::Array => "ARRAY",
+        Kind::Array => Keyword::Array.spelling(),
     }
 }
 

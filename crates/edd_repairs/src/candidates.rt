@@ -38,6 +38,11 @@ const OF: Missing = Missing {
     name: "OF with a kind of item",
 };
 
+const OF_VARIABLE: Missing = Missing {
+    spelling: "OF VARIABLE",
+    name: "OF VARIABLE",
+};
+
 const TYPE: Missing = Missing {
     spelling: "TYPE",
     name: "TYPE",
@@ -86,6 +91,8 @@ const BEFORE_TEXT: &[Missing] = &[LABEL];
 
 const AFTER_COLLECTION: &[Missing] = &[OF, NAME];
 
+const AFTER_ARRAY: &[Missing] = &[OF_VARIABLE, NAME];
+
 const AFTER_NAMED: &[Missing] = &[NAME];
 
 const BEFORE_TYPE: &[Missing] = &[TYPE];
@@ -100,6 +107,7 @@ const BEFORE_OTHER: &[Missing] = &[VALUE, TEXT];
 fn missing_after(before: Option<TokenKind>) -> Option<&'static [Missing]> {
     match before {
         Some(TokenKind::Keyword(Keyword::Collection)) => Some(AFTER_COLLECTION),
+        Some(TokenKind::Keyword(Keyword::Array)) => Some(AFTER_ARRAY),
         Some(TokenKind::Keyword(Keyword::Type)) => Some(AFTER_TYPE),
         Some(
             TokenKind::Keyword(
@@ -188,7 +196,7 @@ pub fn signs_for(kind: TokenKind) -> &'static [&'static str] {
 
 /// The words with which items, attributes and statements begin, and others that the grammar asks
 /// for.
-const WORDS: [Keyword; 50] = [
+const WORDS: [Keyword; 52] = [
     Keyword::Manufacturer,
     Keyword::DeviceType,
     Keyword::DeviceRevision,
@@ -198,6 +206,7 @@ const WORDS: [Keyword; 50] = [
     Keyword::Menu,
     Keyword::Collection,
     Keyword::Method,
+    Keyword::Array,
     Keyword::Of,
     Keyword::Label,
     Keyword::Help,
@@ -215,6 +224,7 @@ const WORDS: [Keyword; 50] = [
     Keyword::Items,
     Keyword::Members,
     Keyword::Definition,
+    Keyword::Elements,
     Keyword::If,
     Keyword::Else,
     Keyword::Select,

@@ -5,7 +5,8 @@
 //! miss their closing ones, and as many closing ones that come later are taken for these.
 
 use edd_lexical_repairs::scanning::{Scanned, Shape, byte_at, piece_at};
-use edd_places::words::{SOURCE_KINDS, kind_word, text_in};
+use edd_places::words::{kind_word, text_in};
+use edd_syntax::numbers::KINDS;
 use std::alloc::{AllocError, Global};
 
 /// An item, with what stands behind it up to the next one.
@@ -47,8 +48,7 @@ struct Scan<'a> {
 }
 
 // The words in column 1 with which items begin that this profile leaves out.
-const LEFT_OUT: [&str; 20] = [
-    "ARRAY",
+const LEFT_OUT: [&str; 19] = [
     "AXIS",
     "BLOCK",
     "CHART",
@@ -74,9 +74,9 @@ fn is_left_out_word(word: &str) -> bool {
     LEFT_OUT.iter().any(|left_out| *left_out == word)
 }
 
-// Whether a word begins an item.
-fn is_item_word(word: &str) -> bool {
-    SOURCE_KINDS.iter().any(|kind| kind_word(*kind) == word)
+/// Whether a word begins an item.
+pub fn is_item_word(word: &str) -> bool {
+    KINDS.iter().any(|kind| kind_word(*kind) == word)
 }
 
 // Whether a byte is the first of its line.

@@ -2,14 +2,15 @@
 
 use crate::grammar::{Grammar, TextFault};
 use crate::located::{Where, located, place_on, tokens_on};
+use crate::sections::is_item_word;
 use crate::trials::{Change, Misfit};
 use edd_lexer::token::{Token, TokenKind};
 use edd_lexical_repairs::Found;
 use edd_lexical_repairs::scanning::byte_at;
 use edd_places::diagnostic::{Diagnostic, Finding};
 use edd_places::outline::Outline;
-use edd_places::words::{SOURCE_KINDS, Span, item_kind, kind_word, span_of, word_of};
-use edd_syntax::numbers::{ATTRIBUTES, Attr, Kind};
+use edd_places::words::{Span, item_kind, kind_word, span_of, word_of};
+use edd_syntax::numbers::{ATTRIBUTES, Attr, KINDS, Kind};
 use edd_syntax::operators::Operator;
 use edd_syntax::symbols::{Keyword, Symbol};
 use edd_token_reader::fault::ParseFault;
@@ -50,15 +51,9 @@ fn help_open(
     Ok(())
 }
 
-// Whether an item of a source may have the attribute.
-fn is_of_source(attr: Attr) -> bool {
-    SOURCE_KINDS.iter().any(|kind| attr.may_belong_to(*kind))
-}
-
 // The attribute with this word.
 fn attribute_of(word: &str) -> Option<Attr> {
-    let attr = ATTRIBUTES.iter().copied().find(|attr| attr.word() == word)?;
-    if is_of_source(attr) { Some(attr) } else { None }
+    ATTRIBUTES.iter().copied().find(|attr| attr.word() == word)
 }
 
 // Whether the word is that of an attribute that stands in the braces of TYPE.
@@ -76,7 +71,7 @@ fn is_option(attr: Attr) -> bool {
 // The kinds that have an attribute.
 fn push_kinds(line: &mut String, attr: Attr) -> Result<(), AllocError> {
     let mut between = " ";
-    for kind in SOURCE_KINDS {
+    for kind in KINDS {
         if attr.may_belong_to(kind) {
             line.push_str(between)?;
             line.push_str(kind_word(kind))?;
@@ -338,7 +333,12 @@ fn place_left_out<G: Grammar>(
     Ok(places.get(low).map(|token| span_of(*token)))
 }
 
+// The word of a kind of item is left out behind ARRAY OF alone.
 fn help_left_out(alloc: Global, word: &str, found: &mut Diagnostic) -> Result<(), AllocError> {
+    if is_item_word(word) {
+        let help = "this profile of EDDL has arrays of VARIABLE alone";
+        return found.help(String::from_str(alloc, help)?);
+    }
     let instead = match word {
         "LIKE" => "write the item with all its attributes",
         "float" | "double" => "numbers are whole: take int or long",

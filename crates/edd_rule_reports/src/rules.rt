@@ -5,8 +5,8 @@ use edd_breaches::{Breach, Rule};
 use edd_name_meanings::fault::NameFault;
 use edd_places::diagnostic::{Diagnostic, Finding};
 use edd_places::nearest::Nearest;
-use edd_places::words::kind_word;
 use edd_syntax::limits::Limit;
+use edd_syntax::numbers::Kind;
 use edd_syntax::operators::{Builtin, Parameter};
 use edd_syntax::symbols::Keyword;
 use edd_types::fault::TypeFault;
@@ -48,6 +48,7 @@ fn type_fault(alloc: Global, rule: &Rule<'_>) -> Result<Option<TypeFault>, Alloc
         Rule::BreakOutside(line) => TypeFault::BreakOutside { line: *line },
         Rule::ConstRange(line) => TypeFault::ConstRange { line: *line },
         Rule::DuplicateCase(line) => TypeFault::DuplicateCase { line: *line },
+        Rule::DuplicateElement(line) => TypeFault::DuplicateElement { line: *line },
         _ => return Ok(None),
     };
     Ok(Some(fault))
@@ -167,6 +168,18 @@ fn type_help(alloc: Global, word: &str) -> Result<String, AllocError> {
     }
 }
 
+// An item of a kind, with its article.
+fn named_kind(kind: Kind) -> &'static str {
+    match kind {
+        Kind::Variable => "a VARIABLE",
+        Kind::Command => "a COMMAND",
+        Kind::Menu => "a MENU",
+        Kind::Collection => "a COLLECTION",
+        Kind::Method => "a METHOD",
+        Kind::Array => "an ARRAY",
+    }
+}
+
 // The helps that speak of a second place.
 fn help_beside(
     alloc: Global,
@@ -177,14 +190,15 @@ fn help_beside(
     if let Some(earlier) = breach.earlier {
         let text = match breach.rule {
             Rule::DuplicateCase(_) => String::from_str(alloc, "this case is there already")?,
+            Rule::DuplicateElement(_) => String::from_str(alloc, "this number is there already")?,
             _ => format!(in alloc; "{} is there already", source.word(earlier))?,
         };
         return found.help_at(source.span(earlier), text);
     }
     if let Rule::WrongKind(name) = breach.rule {
         if let Some(item) = source.item(name) {
-            let kind = kind_word(item.kind);
-            let text = format!(in alloc; "{name} is a {kind}, which is declared")?;
+            let kind = named_kind(item.kind);
+            let text = format!(in alloc; "{name} is {kind}, which is declared")?;
             return found.help_at(source.span(item.name), text);
         }
     }
@@ -201,7 +215,7 @@ fn missing_help(
         return Ok(None);
     };
     match source.item_at(name) {
-        Some(item) => Ok(Some(format!(in alloc; "a {} needs {word}", kind_word(item.kind))?)),
+        Some(item) => Ok(Some(format!(in alloc; "{} needs {word}", named_kind(item.kind))?)),
         None => Ok(None),
     }
 }

@@ -14,12 +14,13 @@ pub enum Rule<'a> {
     FloatVariable(&'a str),
     OtherType { variable: &'a str, word: &'a str },
     BadSize(&'a str),
-    /// The last five with the line that a refusal says, counted from 1.
+    /// The last six with the line that a refusal says, counted from 1.
     Mismatch(u32),
     FloatValue(u32),
     BreakOutside(u32),
     ConstRange(u32),
     DuplicateCase(u32),
+    DuplicateElement(u32),
 }
 
 /// A rule that is broken, and where.
@@ -46,9 +47,10 @@ pub enum Rank {
     Breaks,
     Constants,
     Cases,
+    Elements,
 }
 
-pub const RANKS: [Rank; 11] = [
+pub const RANKS: [Rank; 12] = [
     Rank::Counts,
     Rank::Names,
     Rank::Attributes,
@@ -60,6 +62,7 @@ pub const RANKS: [Rank; 11] = [
     Rank::Breaks,
     Rank::Constants,
     Rank::Cases,
+    Rank::Elements,
 ];
 
 impl<'a> Rule<'a> {
@@ -76,6 +79,7 @@ impl<'a> Rule<'a> {
             Rule::BreakOutside(_) => Rank::Breaks,
             Rule::ConstRange(_) => Rank::Constants,
             Rule::DuplicateCase(_) => Rank::Cases,
+            Rule::DuplicateElement(_) => Rank::Elements,
         }
     }
 }

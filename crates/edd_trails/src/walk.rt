@@ -12,6 +12,9 @@ use std::alloc::{AllocError, Global};
 /// Where variables may stand.
 pub const VARIABLES: [Kind; 1] = [Kind::Variable];
 
+/// What an index may stand behind.
+const ARRAYS: [Kind; 1] = [Kind::Array];
+
 /// What a menu shows.
 pub const ENTRIES: [Kind; 4] = [Kind::Variable, Kind::Menu, Kind::Collection, Kind::Method];
 
@@ -70,9 +73,30 @@ impl<'a> Walk<'a> {
         }
     }
 
+    // What the name before an index means; no local is an array.
+    fn meaning_of_array(&self, path: &'a Path) -> Meaning<'a> {
+        let name = path.base.as_str();
+        if self.locals.has(name) {
+            Meaning::Broken(Rule::WrongKind(name), 0)
+        } else {
+            item_meant(&self.directory, path, &ARRAYS)
+        }
+    }
+
     /// Passes a reference where items of these kinds may stand.
     pub fn refer(&mut self, path: &'a Path, allowed: &[Kind]) -> Result<(), AllocError> {
         let meaning = self.meaning(path, allowed);
+        self.pass_path(path, meaning)
+    }
+
+    /// Passes the name of an array before an index.
+    pub fn refer_array(&mut self, path: &'a Path) -> Result<(), AllocError> {
+        let meaning = self.meaning_of_array(path);
+        self.pass_path(path, meaning)
+    }
+
+    // Passes the names of a path, and notes what is broken at the one that breaks it.
+    fn pass_path(&mut self, path: &'a Path, meaning: Meaning<'a>) -> Result<(), AllocError> {
         let mut place = self.trail.name(path.base.as_str());
         let broken = match meaning {
             Meaning::Broken(rule, dots) => Some((rule, dots)),

@@ -164,7 +164,8 @@ fn check_attribute(
         | Attribute::Operation(_)
         | Attribute::ResponseCodes(_)
         | Attribute::Members(_)
-        | Attribute::Definition(_) => {}
+        | Attribute::Definition(_)
+        | Attribute::Elements(_) => {}
     }
     Ok(())
 }

@@ -37,7 +37,7 @@ fn check_item<'a>(
             check_command(&command.attributes, places, commands, findings)?;
         }
         Item::Method(method) => check_method(&method.attributes, text, tokens, findings)?,
-        Item::Menu(_) | Item::Collection(_) => {}
+        Item::Menu(_) | Item::Collection(_) | Item::Array(_) => {}
     }
     Ok(())
 }

@@ -1,4 +1,4 @@
-//! Variables and collections that nothing refers to.
+//! Variables, collections and arrays that nothing refers to.
 
 use edd_lexer::token::{Token, TokenKind};
 use edd_lints::lint::Lint;
@@ -18,6 +18,7 @@ fn keyword_of(item: &Item<Target>) -> Keyword {
         Item::Menu(_) => Keyword::Menu,
         Item::Collection(_) => Keyword::Collection,
         Item::Method(_) => Keyword::Method,
+        Item::Array(_) => Keyword::Array,
     }
 }
 
@@ -45,7 +46,7 @@ fn uses_of<'a>(
 
 // Whether an item is one that others use: hosts come to the other kinds by themselves.
 fn is_for_others(kind: Kind) -> bool {
-    matches!(kind, Kind::Variable | Kind::Collection)
+    matches!(kind, Kind::Variable | Kind::Collection | Kind::Array)
 }
 
 fn check_item<'a>(
