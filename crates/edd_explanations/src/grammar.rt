@@ -8,7 +8,8 @@ pub const EXPLANATIONS: [Explanation; 3] = [
         name: "SYNTAX",
         text: r#"What stands at the line fits nothing that may stand there. It is often the end of
 something before it that is missing: a semicolon, a brace, a quote. At the end of the text
-the line is the last.
+the line is the last. An element of an array is only read: nothing is stored to it, and no
+menu entry and no message has one.
 
 Wrong:
 
@@ -34,7 +35,8 @@ Divide the expression: give a part of it to a local, or to a variable of its own
         name: "UNSUPPORTED",
         text: r#"The word is one of EDDL that this profile leaves out, and nothing that it has fits there:
 an item as RECORD or REFRESH, an attribute as SCALING_FACTOR, LIKE, a statement with float
-or goto. docs/LANGUAGE.md lists the words.
+or goto. After ARRAY OF it is the word of a kind of item: arrays are of variables alone.
+docs/LANGUAGE.md lists the words.
 
 Wrong:
 

@@ -2,7 +2,7 @@
 
 use crate::Explanation;
 
-pub const EXPLANATIONS: [Explanation; 14] = [
+pub const EXPLANATIONS: [Explanation; 15] = [
     Explanation {
         number: 20,
         name: "DUPLICATE_NAME",
@@ -39,9 +39,10 @@ Right:
     Explanation {
         number: 22,
         name: "WRONG_KIND",
-        text: r#"What has this name may not stand there: an expression and a data item want a variable, a
-member an item of the kind after OF, a menu entry anything but a command. A point may
-follow only a collection.
+        text: r#"What has this name may not stand there: an expression, a data item and an element of an
+array want a variable, a member an item of the kind after OF, a menu entry anything but a
+command and an array. A point may follow only a collection, and an index in brackets only
+an array, which a local of its name hides.
 
 Wrong:
 
@@ -73,7 +74,7 @@ Right:
         number: 24,
         name: "MISSING_ATTRIBUTE",
         text: r#"The item must have this attribute: a variable TYPE; a command NUMBER, OPERATION and a
-TRANSACTION; a menu ITEMS; a collection MEMBERS; a method DEFINITION.
+TRANSACTION; a menu ITEMS; a collection MEMBERS; a method DEFINITION; an array ELEMENTS.
 
 Wrong:
 
@@ -133,8 +134,9 @@ Right:
         number: 33,
         name: "MISMATCH",
         text: r#"At the line something stands that does not fit its place: arguments that the function does
-not take, abort inside an expression, an enumerator in INTEGER or UNSIGNED_INTEGER,
-MIN_VALUE or another option but DEFAULT_VALUE in an enumerated type.
+not take, as an element of an array for a variable of the device, abort inside an
+expression, an enumerator in INTEGER or UNSIGNED_INTEGER, MIN_VALUE or another option but
+DEFAULT_VALUE in an enumerated type.
 
 Wrong:
 
@@ -201,6 +203,25 @@ Wrong:
 Right:
 
     METHOD m { DEFINITION { switch (1) { case 1: break; case 2: return; } } }
+"#,
+    },
+    Explanation {
+        number: 38,
+        name: "DUPLICATE_ELEMENT",
+        text: r#"Two elements of one array have the same number. The line is that of the later one. The
+numbers may leave gaps and come in any order, and one variable may have several.
+
+Wrong:
+
+    VARIABLE p { TYPE INTEGER; }
+    VARIABLE q { TYPE INTEGER; }
+    ARRAY OF VARIABLE pressures { ELEMENTS { 1, p; 1, q; } }
+
+Right:
+
+    VARIABLE p { TYPE INTEGER; }
+    VARIABLE q { TYPE INTEGER; }
+    ARRAY OF VARIABLE pressures { ELEMENTS { 1, p; 2, q; } }
 "#,
     },
     Explanation {

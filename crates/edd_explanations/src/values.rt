@@ -101,8 +101,18 @@ method, 64 in an attribute.
 has no value. Where an attribute is shown its line says so, as MAX_VALUE fault NO_ELEMENT;
 in a method the run ends there: end trapped NO_ELEMENT.
 
-Only images of version 2 have arrays. The images that compile writes are of version 1, and
-have none.
+A number below 0 is that of no element. In a method an index has 32 bits, so none reads an
+element of a number over 2147483647.
+
+Wrong:
+
+    ARRAY OF VARIABLE limits { ELEMENTS { 1, lower; 2, upper; } }
+    VARIABLE p { TYPE INTEGER { MAX_VALUE limits[range]; } }
+
+Right:
+
+    ARRAY OF VARIABLE limits { ELEMENTS { 1, lower; 2, upper; } }
+    VARIABLE p { TYPE INTEGER { MAX_VALUE range == 1 || range == 2 ? limits[range] : 0; } }
 "#,
     },
     Explanation {
