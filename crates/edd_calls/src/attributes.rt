@@ -4,7 +4,7 @@ use crate::descriptions::{described, row};
 use edd_attrs::lower_attribute;
 use edd_strings::{Table, split};
 use edd_syntax::checked::Checked;
-use edd_syntax::numbers::{Attr, CmdNo, CollNo, ItemNo, MenuNo, VarNo};
+use edd_syntax::numbers::{ArrNo, Attr, CmdNo, CollNo, ItemNo, MenuNo, VarNo};
 use std::alloc::{AllocError, Global};
 use std::test::Fail;
 
@@ -140,6 +140,47 @@ const CLASSES: [Row; 2] = [
 #[test]
 fn class_words_are_lowered(rt: HostRuntime) -> Result<(), Fail> {
     let other = first_other(rt.alloc(), OF_CLASS, &CLASSES)?;
+    assert_eq!(rt; other, None);
+    Ok(())
+}
+
+const OF_ARRAYS: &str = "VARIABLE v { TYPE INTEGER; VALIDITY IF (b[v + a[258]]) { FALSE; } }
+    ARRAY OF VARIABLE a { ELEMENTS { 258, v, \"label\", \"help\"; } }
+    ARRAY OF VARIABLE b { ELEMENTS { 1, v; 0, v, \"help\"; } }";
+
+const ARRAYS: [Row; 3] = [
+    (
+        0,
+        VARIABLE,
+        Attr::Validity,
+        &[
+            0x02, 0, 0, 0x01, 0, 0, 1, 2, 0x08, 0, 0, 0x10, 0x08, 0, 1, 0x31, 0, 0, 0, 31, 0x01, 0,
+            0, 0, 0, 0x41, 0x30, 0, 0, 0, 31, 0x00,
+        ],
+        0,
+    ),
+    (
+        3,
+        ItemNo::Array(ArrNo(0)),
+        Attr::Elements,
+        &[0x48, 0, 0, 1, 2, 0, 0, 0, 3, 0, 4, 0x00],
+        5,
+    ),
+    (
+        5,
+        ItemNo::Array(ArrNo(1)),
+        Attr::Elements,
+        &[
+            0x48, 0, 0, 0, 1, 0, 0, 255, 255, 255, 255, 0x48, 0, 0, 0, 0, 0, 0, 0, 4, 255, 255,
+            0x00,
+        ],
+        5,
+    ),
+];
+
+#[test]
+fn arrays_and_indexes_are_lowered(rt: HostRuntime) -> Result<(), Fail> {
+    let other = first_other(rt.alloc(), OF_ARRAYS, &ARRAYS)?;
     assert_eq!(rt; other, None);
     Ok(())
 }

@@ -6,7 +6,7 @@ use edd_image::Record;
 use edd_loader::{Image, load};
 use edd_machine::{Values, attribute};
 use edd_syntax::item::Identification;
-use edd_syntax::numbers::{Attr, AttrRef, CmdNo, ItemNo, MenuNo, StrNo, VarNo};
+use edd_syntax::numbers::{ArrNo, Attr, AttrRef, CmdNo, Element, ItemNo, MenuNo, StrNo, VarNo};
 use std::alloc::{AllocError, Global};
 use std::test::Fail;
 
@@ -58,7 +58,9 @@ fn a_text_comes_to_its_unit_or_its_fault(rt: HostRuntime) -> Result<(), Fail> {
     Ok(())
 }
 
-const ITEMS_OF_FOUR_KINDS: &str = "MENU m { ITEMS { b } LABEL \"M\"; }
+const ITEMS_OF_FIVE_KINDS: &str =
+    "ARRAY OF VARIABLE r { ELEMENTS { 1, b; } HELP \"H\"; LABEL \"R\"; }
+        MENU m { ITEMS { b } LABEL \"M\"; }
         VARIABLE a { TYPE INTEGER { MIN_VALUE 1; } LABEL \"A\"; }
         COMMAND c { NUMBER 1; OPERATION READ; TRANSACTION 0 { REPLY { a } } TRANSACTION 1 { } }
         VARIABLE b { LABEL \"B\"; TYPE INTEGER; }";
@@ -74,6 +76,7 @@ fn rows_stand_by_kind_attribute_item_and_position(rt: HostRuntime) -> Result<(),
     let alloc = rt.alloc();
     let (a, b) = (ItemNo::Variable(VarNo(0)), ItemNo::Variable(VarNo(1)));
     let (command, menu) = (ItemNo::Command(CmdNo(0)), ItemNo::Menu(MenuNo(0)));
+    let array = ItemNo::Array(ArrNo(0));
     let expected = [
         row(a, Attr::Label, 0),
         row(b, Attr::Label, 0),
@@ -88,8 +91,11 @@ fn rows_stand_by_kind_attribute_item_and_position(rt: HostRuntime) -> Result<(),
         row(command, Attr::Reply, 1),
         row(menu, Attr::Label, 0),
         row(menu, Attr::Items, 0),
+        row(array, Attr::Label, 0),
+        row(array, Attr::Help, 0),
+        row(array, Attr::Elements, 0),
     ];
-    let rows = rows_of(alloc, ITEMS_OF_FOUR_KINDS)?;
+    let rows = rows_of(alloc, ITEMS_OF_FIVE_KINDS)?;
     assert_eq!(rt; rows.as_slice(), expected.as_slice());
     Ok(())
 }
@@ -104,6 +110,79 @@ fn a_type_without_braces_has_no_row(rt: HostRuntime) -> Result<(), Fail> {
     Ok(())
 }
 
+fn element(array: u16, number: u32, var: u16) -> Element {
+    Element {
+        array: ArrNo(array),
+        number,
+        var: VarNo(var),
+    }
+}
+
+const ONE_ARRAY: &str = "VARIABLE x { TYPE INTEGER; } VARIABLE y { TYPE INTEGER; }
+    VARIABLE k { TYPE INTEGER; } ARRAY OF VARIABLE a { ELEMENTS { 1, x; 5, y, \"Y\"; } }";
+
+// The elements of the first array stand behind those of the second one, and their numbers fall.
+const TWO_ARRAYS: &str = "ARRAY OF VARIABLE b { ELEMENTS { 4294967295, x; 0, y; 7, x; } }
+    VARIABLE x { TYPE INTEGER; } VARIABLE y { TYPE INTEGER; }
+    ARRAY OF VARIABLE none { ELEMENTS { } }
+    ARRAY OF VARIABLE c { ELEMENTS { 2, y; } }";
+
+#[test]
+fn elements_stand_by_array_and_number(rt: HostRuntime) -> Result<(), Fail> {
+    let alloc = rt.alloc();
+    let elements = described(alloc, ONE_ARRAY)?.elements(alloc)?;
+    let expected = [element(0, 1, 0), element(0, 5, 1)];
+    assert_eq!(rt; elements.as_slice(), expected.as_slice());
+    let elements = described(alloc, TWO_ARRAYS)?.elements(alloc)?;
+    let expected = [
+        element(0, 0, 1),
+        element(0, 7, 0),
+        element(0, 4_294_967_295, 0),
+        element(2, 2, 1),
+    ];
+    assert_eq!(rt; elements.as_slice(), expected.as_slice());
+    let elements = described(alloc, "")?.elements(alloc)?;
+    assert!(rt; elements.is_empty(), "none without an array");
+    Ok(())
+}
+
+#[test]
+fn the_second_version_has_arrays(rt: HostRuntime) -> Result<(), Fail> {
+    let alloc = rt.alloc();
+    assert_eq!(rt; described(alloc, "")?.version(), 1);
+    assert_eq!(rt;
+        described(alloc, "VARIABLE x { TYPE INTEGER; }")?.version(),
+        1
+    );
+    assert_eq!(rt; described(alloc, ONE_ARRAY)?.version(), 2);
+    assert_eq!(rt;
+        described(alloc, "ARRAY OF VARIABLE a { ELEMENTS { } }")?.version(),
+        2
+    );
+    Ok(())
+}
+
+// The variable that an image has under a number of its first array.
+fn found(alloc: Global, numbers: &[i64], expected: &[Option<VarNo>]) -> Result<bool, Fail> {
+    let text = text_of(alloc, ONE_ARRAY)?;
+    let bytes = compile(alloc, text.as_bytes())?;
+    let image = load(alloc, &bytes)?;
+    for (number, wanted) in numbers.iter().zip(expected) {
+        if image.element(ArrNo(0), *number) != *wanted {
+            return Ok(false);
+        }
+    }
+    Ok(image.counts().arrays == 1)
+}
+
+#[test]
+fn elements_are_found_in_the_image_by_their_numbers(rt: HostRuntime) -> Result<(), Fail> {
+    let numbers = [1, 5, 0, 2, 6, -1, 4_294_967_297];
+    let expected = [Some(VarNo(0)), Some(VarNo(1)), None, None, None, None, None];
+    assert!(rt; found(rt.alloc(), &numbers, &expected)?, "elements");
+    Ok(())
+}
+
 // Each attribute that isn't a method's, once.
 const EVERY_ATTRIBUTE: &str =
     "VARIABLE a { LABEL \"A\"; HELP \"a\"; CLASS DEVICE & INPUT; HANDLING READ; CONSTANT_UNIT \"bar\";
@@ -114,10 +193,11 @@ const EVERY_ATTRIBUTE: &str =
     COMMAND c { NUMBER 3; OPERATION WRITE; TRANSACTION 9 { REQUEST { 1, a } REPLY { a (INFO) } }
         RESPONSE_CODES { 0, SUCCESS, \"ok\"; } }
     MENU m { ITEMS { a, \"text\" } }
-    COLLECTION OF VARIABLE k { MEMBERS { x, a; } }";
+    COLLECTION OF VARIABLE k { MEMBERS { x, a; } }
+    ARRAY OF VARIABLE r { LABEL \"R\"; HELP \"r\"; ELEMENTS { 7, b, \"B\", \"off\"; 2, a; } }";
 
 // What each row gives where each variable is 0. Strings are numbered as the rows come to name them.
-const RECORDS: [&[Record]; 20] = [
+const RECORDS: [&[Record]; 23] = [
     &[Record::Words(StrNo(0))],
     &[Record::Words(StrNo(1))],
     &[Record::Words(StrNo(2)), Record::Words(StrNo(3))],
@@ -175,6 +255,22 @@ const RECORDS: [&[Record]; 20] = [
         label: None,
         help: None,
     }],
+    &[Record::Words(StrNo(12))],
+    &[Record::Words(StrNo(13))],
+    &[
+        Record::Element {
+            number: 7,
+            var: VarNo(1),
+            label: Some(StrNo(14)),
+            help: Some(StrNo(7)),
+        },
+        Record::Element {
+            number: 2,
+            var: VarNo(0),
+            label: None,
+            help: None,
+        },
+    ],
 ];
 
 // The first row that gives other records.

@@ -199,6 +199,33 @@ fn assignments_store_or_trap(rt: HostRuntime) -> Result<(), Fail> {
     Ok(())
 }
 
+const INDEXED: &str = "VARIABLE x { TYPE INTEGER; } VARIABLE y { TYPE INTEGER (2); }
+    ARRAY OF VARIABLE a { ELEMENTS { 9, y; 3, x; } }
+    METHOD m { DEFINITION { x = a[ACKNOWLEDGE(\"which\")] + 1; } }";
+
+// How the method ends under an answer with this code, where y is 60, and the value that x has then.
+fn picks(alloc: Global, code: i32, ending: Ending, left: i64) -> Result<bool, Fail> {
+    let answers = vec![in alloc; setting(alloc, code, 1, 60)?]?;
+    let made = played(alloc, INDEXED, &[4, 50], &answers)??;
+    Ok(made.ending == ending && made.values.get(VarNo(0)) == Some(left))
+}
+
+#[test]
+fn a_method_reads_the_element_of_the_number(rt: HostRuntime) -> Result<(), Fail> {
+    let alloc = rt.alloc();
+    let none = Ending::Trapped(Trap::NoElement);
+    for (code, ending, left) in [
+        (9, Ending::Ended, 61),
+        (3, Ending::Ended, 5),
+        (0, none, 4),
+        (1, none, 4),
+        (-9, none, 4),
+    ] {
+        assert!(rt; picks(alloc, code, ending, left)?, "{code}");
+    }
+    Ok(())
+}
+
 const UNSIGNED: &str =
     "VARIABLE u { TYPE UNSIGNED_INTEGER (4); VALIDITY IF (u > 0) { TRUE; } ELSE { FALSE; } }
     METHOD m { DEFINITION { iassign(u, -1); if (u == -1) PUT_MESSAGE(\"same\"); } }";

@@ -34,6 +34,7 @@ fn main(rt: HostRuntime) -> io::Result<ExitCode> {
 fn calls(rt: HostRuntime) -> Result<(), Stop> {
     texts::print_tokens(rt)?;
     texts::print_numbers(rt)?;
+    texts::print_elements(rt)?;
     runs::print_values(rt)?;
     runs::print_plays(rt)?;
     runs::print_drives(rt)

@@ -1,5 +1,6 @@
 //! Why the calls end early.
 
+use edd_compiler::Fault;
 use edd_lexer::fault::LexFault;
 use edd_loader::LoadFault;
 use edd_machine::ValuesFault;
@@ -64,6 +65,15 @@ impl From<ValuesFault> for Stop {
     fn from(fault: ValuesFault) -> Stop {
         match fault {
             ValuesFault::Memory => Stop::Memory,
+            _ => Stop::Refused,
+        }
+    }
+}
+
+impl From<Fault> for Stop {
+    fn from(fault: Fault) -> Stop {
+        match fault {
+            Fault::Memory => Stop::Memory,
             _ => Stop::Refused,
         }
     }

@@ -1,6 +1,7 @@
-//! The calls on a text and on strings.
+//! The calls on a text, on strings and on the elements of a description.
 
 use crate::stop::Stop;
+use edd_compiler::checked_of;
 use edd_lexer::lex;
 use edd_strings::{Table, split};
 use edd_syntax::words::{Variant, Words};
@@ -43,5 +44,24 @@ fn print_words(rt: HostRuntime, words: &Words) -> Result<(), Stop> {
 
 fn print_variant(rt: HostRuntime, variant: &Variant) -> Result<(), Stop> {
     println!(rt; "split: {} \"{}\"", variant.code, variant.text)?;
+    Ok(())
+}
+
+/// Two arrays, and a number of the first that falls.
+const ARRAYS: &str = "MANUFACTURER 1, DEVICE_TYPE 2, DEVICE_REVISION 3, DD_REVISION 4
+    VARIABLE x { TYPE INTEGER; } VARIABLE y { TYPE INTEGER; }
+    ARRAY OF VARIABLE a { ELEMENTS { 5, y; 1, x; } }
+    ARRAY OF VARIABLE b { ELEMENTS { 0, y; } }";
+
+/// The elements of a description, in the order of an image.
+pub fn print_elements(rt: HostRuntime) -> Result<(), Stop> {
+    let checked = checked_of(rt.alloc(), ARRAYS.as_bytes())?;
+    println!(rt; "version: {}", checked.version())?;
+    for element in &checked.elements(rt.alloc())? {
+        println!(rt;
+            "element: {} of array {} is variable {}",
+            element.number, element.array.0, element.var.0
+        )?;
+    }
     Ok(())
 }

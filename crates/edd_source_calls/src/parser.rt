@@ -54,7 +54,7 @@ fn item_answers(alloc: Global, parts: &[&str], expected: &str) -> Result<bool, A
 }
 
 // The head of an item, and its attributes, each alone.
-const ALTERNATIVES: [(&str, &[&str]); 5] = [
+const ALTERNATIVES: [(&str, &[&str]); 6] = [
     (
         "VARIABLE v",
         &[
@@ -68,6 +68,7 @@ const ALTERNATIVES: [(&str, &[&str]); 5] = [
             "CONSTANT_UNIT IF (x) { \"a\"; } ELSE { \"b\"; }",
             "CONSTANT_UNIT IF (x) { \"a\"; } ELSE IF (y) { \"b\"; }",
             "VALIDITY SELECT (x) { CASE 1: TRUE; CASE -1: FALSE; DEFAULT: TRUE; }",
+            "VALIDITY IF (a[x + 1]) { TRUE; }",
             "TYPE INTEGER;",
             "TYPE UNSIGNED_INTEGER (2);",
             "TYPE ENUMERATED { { 1, \"a\" }, { -2, \"b\", [c] } }",
@@ -119,6 +120,16 @@ const ALTERNATIVES: [(&str, &[&str]); 5] = [
             "VALIDITY TRUE;",
             "DEFINITION { int a, b = 1; long c = a = 2; f(); g(\"t\", [k], a, b + 1); }",
             "DEFINITION { a += ++b; a <<= -b--; c.d = 1.5; x = a ? b = 1 : !~c; }",
+            "DEFINITION { x = a[1] + -a[k = b[c.d]]; f(a[g()], \"t\"); a [ 1 ]; }",
+        ],
+    ),
+    (
+        "ARRAY OF VARIABLE r",
+        &[
+            "LABEL \"a\";",
+            "HELP IF (r[x]) { \"a\"; } ELSE { [b]; }",
+            "ELEMENTS { };;",
+            "ELEMENTS { 0, a; 0x10, b, \"label\"; 4294967295, c, [label], \"help\"; }",
         ],
     ),
 ];
@@ -367,9 +378,43 @@ fn lists_have_each_entry(rt: HostRuntime) -> Result<(), Fail> {
 }
 
 // An item on the second line, and its fault.
-const FAULTS: [(&str, &str); 32] = [
+const FAULTS: [(&str, &str); 51] = [
     ("FILE f { }", "12 UNSUPPORTED FILE"),
-    ("ARRAY OF VARIABLE a { }", "12 UNSUPPORTED ARRAY"),
+    ("ARRAY OF MENU a { }", "12 UNSUPPORTED MENU"),
+    ("ARRAY OF COMMAND a { }", "12 UNSUPPORTED COMMAND"),
+    ("ARRAY OF COLLECTION a { }", "12 UNSUPPORTED COLLECTION"),
+    ("ARRAY OF METHOD a { }", "12 UNSUPPORTED METHOD"),
+    ("ARRAY OF ARRAY a { }", "12 UNSUPPORTED ARRAY"),
+    ("ARRAY OF x a { }", "10 SYNTAX line 2"),
+    ("ARRAY VARIABLE a { }", "10 SYNTAX line 2"),
+    ("ARRAY OF VARIABLE { }", "10 SYNTAX line 2"),
+    ("COLLECTION OF ARRAY c { }", "10 SYNTAX line 2"),
+    ("VARIABLE ARRAY { }", "10 SYNTAX line 2"),
+    (
+        "ARRAY OF VARIABLE a { MEMBERS { m, x; } }",
+        "10 SYNTAX line 2",
+    ),
+    (
+        "ARRAY OF VARIABLE a { ELEMENTS { x, 1; } }",
+        "10 SYNTAX line 2",
+    ),
+    (
+        "ARRAY OF VARIABLE a { ELEMENTS { 1, c.m; } }",
+        "10 SYNTAX line 2",
+    ),
+    (
+        "ARRAY OF VARIABLE a { ELEMENTS { 1, x,\n2, y; } }",
+        "10 SYNTAX line 3",
+    ),
+    (
+        "ARRAY OF VARIABLE a { ELEMENTS { IF (x) { 1, x; } } }",
+        "10 SYNTAX line 2",
+    ),
+    ("MENU m { ITEMS { a[1] } }", "10 SYNTAX line 2"),
+    ("METHOD m { DEFINITION { a[1] = 2; } }", "10 SYNTAX line 2"),
+    ("METHOD m { DEFINITION { a[1]--; } }", "10 SYNTAX line 2"),
+    ("METHOD m { DEFINITION { ++a[1]; } }", "10 SYNTAX line 2"),
+    ("METHOD m { DEFINITION { c.m[1]; } }", "10 SYNTAX line 2"),
     ("RESPONSE_CODES r { }", "12 UNSUPPORTED RESPONSE_CODES"),
     (
         "COMMAND c { TRANSACTION { RESPONSE_CODES { } } }",

@@ -95,6 +95,12 @@ VARIABLE a { TYPE INTEGER { MAX_VALUE a << 64; } }
 VARIABLE a { TYPE INTEGER { MAX_VALUE a >> -1; } }
 @
 VARIABLE a { TYPE INTEGER { MAX_VALUE a << 63; } }
+@ 2 / trapping-expression
+VARIABLE a { TYPE INTEGER { MAX_VALUE r[1 / 0]; } }
+ARRAY OF VARIABLE r { ELEMENTS { 1, a; } }
+@
+VARIABLE a { TYPE INTEGER; VALIDITY IF (r[1]) { TRUE; } }
+ARRAY OF VARIABLE r { ELEMENTS { 1, a; } }
 @ 3 IF constant-condition
 VARIABLE a { TYPE INTEGER;
 VALIDITY IF (1 < 2) { TRUE; } ELSE { FALSE; } }

@@ -7,7 +7,8 @@ use crate::found::check_rows;
 use std::test::Fail;
 
 const BEFORE: &str =
-    "VARIABLE a { TYPE INTEGER; } MENU n { ITEMS { a } }\nMETHOD m { DEFINITION {\n";
+    "VARIABLE a { TYPE INTEGER { MAX_VALUE r[1]; } } ARRAY OF VARIABLE r { ELEMENTS { 1, a; } }
+METHOD m { DEFINITION {\n";
 
 const BEHIND: &str = "} }";
 
@@ -84,6 +85,16 @@ for (;;) { while (a) { break; } }
 do { a = 1; } while (send_command(3) + 1 > 0 || 1);
 @
 for (;;) { for (;;) { abort(); } }
+@ 4 while endless-loop
+while (1) { a = r[1]; }
+@
+while (r[1]) { a = r[a]; }
+@
+if (r[1]) a = 1;
+@ 4 / trapping-expression
+a = r[1 / 0];
+@
+int b = 1; a = r[b];
 @ 4 b unread-local
 int b; b = a;
 @
