@@ -191,6 +191,7 @@ fn help_beside(
         let text = match breach.rule {
             Rule::DuplicateCase(_) => String::from_str(alloc, "this case is there already")?,
             Rule::DuplicateElement(_) => String::from_str(alloc, "this number is there already")?,
+            Rule::WrongKind(name) => format!(in alloc; "{name} is a local, which is declared")?,
             _ => format!(in alloc; "{} is there already", source.word(earlier))?,
         };
         return found.help_at(source.span(earlier), text);

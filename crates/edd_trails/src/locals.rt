@@ -55,6 +55,14 @@ impl<'a> Locals<'a> {
         self.local(name).is_some()
     }
 
+    /// The token that declares the local of a name.
+    pub fn token(&self, name: &str) -> Option<usize> {
+        match self.local(name) {
+            Some(local) => local.token,
+            None => None,
+        }
+    }
+
     /// A block begins.
     pub fn enter(&mut self) -> Mark {
         let mark = Mark {

@@ -111,7 +111,10 @@ impl<'a> Walk<'a> {
             }
         }
         match broken {
-            Some((rule, _)) => self.note(rule, place),
+            Some((rule, _)) => {
+                let local = self.locals.token(path.base.as_str());
+                self.note_clash(rule, place, local)
+            }
             None => Ok(()),
         }
     }
