@@ -16,7 +16,7 @@ pub same : {A : Type 0} (a : Action A) → Extends a a
 same a s over = refl
 
 -- one outcome and then two actions, of which the second extends the first
-and_then_extends : {A B : Type 0} (o o' : Outcome A) (f g : A → Action B) → (IsOver o → o' ≡ o)
+pub and_then_extends : {A B : Type 0} (o o' : Outcome A) (f g : A → Action B) → (IsOver o → o' ≡ o)
     → ((x : A) → Extends (f x) (g x)) → IsOver (and_then o f) → and_then o' g ≡ and_then o f
 and_then_extends (Done x s) o' f g e h over = ap (λ r. and_then r g) (e tt) ∙ h x s over
 and_then_extends (Stopped (Trapped t) s) o' f g e h over = ap (λ r. and_then r g) (e tt)

@@ -14,7 +14,7 @@ use Rattle.edd_syntax.specs.Item as item
 use Rattle.edd_syntax.specs.Item.{Description, Attribute, TypeOf, Known, Members, Definition}
 use Rattle.edd_syntax.specs.TwosComplement.{wrap, store}
 use Rattle.edd_syntax.specs.Evaluation.{evaluate}
-use Rattle.edd_syntax.specs.Execution.{execute, run, run_body, Ended}
+use Rattle.edd_syntax.specs.Execution.{execute, run, Ended}
 use Rattle.edd_syntax.specs.ResolvedTrees.{resolved_unit, resolved_stmt, resolved_expr}
 use Rattle.edd_syntax.specs.Refusal.{Refusal, UnknownName, WrongKind, first_of}
 use Rattle.edd_syntax.specs.NameRules.{wrong_uses}
@@ -90,10 +90,11 @@ store_keeps_low_bits : run 1 (source the_x (sets the_x 300 ∷ [])) (record { 0 
       requests = [];
       changes = record { variable = record { 0 = 0 }; value = pos 44 } ∷ [];
       values = pos 44 ∷ [];
+      abort_methods = [];
       answers = [];
       ending = Ended;
     }
-unfolding run run_body execute evaluate wrap store slots_of
+unfolding run execute evaluate wrap store slots_of
 store_keeps_low_bits = refl
 
 -- `{ int x; x = 1; } x = 2;`: the local hides the variable inside its block alone

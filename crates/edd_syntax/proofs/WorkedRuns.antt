@@ -104,6 +104,7 @@ quiet requests values ending = record {
   requests = requests;
   changes = [];
   values = values;
+  abort_methods = [];
   answers = [];
   ending = ending;
 }
@@ -157,6 +158,7 @@ adds_before : runs 1 unsigned1
       changes = (changed 0 (pos 1))
           ∷ (changed 0 (pos 4)) ∷ [];
       values = pos 4 ∷ [];
+      abort_methods = [];
       answers = [];
       ending = Ended;
     }
@@ -260,6 +262,7 @@ gets_value : runs 1 int4
           ∷ [];
       changes = (changed 0 (pos 7)) ∷ [];
       values = pos 7 ∷ [];
+      abort_methods = [];
       answers = [];
       ending =
           Ended;
@@ -282,6 +285,7 @@ stores_and_reads_back : runs 1 unsigned4
       requests = put (codes "same") ∷ [];
       changes = (changed 0 (pos 4294967295)) ∷ [];
       values = pos 4294967295 ∷ [];
+      abort_methods = [];
       answers = [];
       ending = Ended;
     }
@@ -364,7 +368,14 @@ one_side = refl
 -- `abort(); PUT_MESSAGE("n");`
 aborts_by_itself : runs 1 no_variables
     (body_from (eval (calls builtin.Abort []) ∷ do_ (print (codes "n")) ∷ [])) [] (ok ∷ []) ≡
-    record { requests = []; changes = []; values = []; answers = ok ∷ []; ending = Aborted }
+    record {
+      requests = [];
+      changes = [];
+      values = [];
+      abort_methods = [];
+      answers = ok ∷ [];
+      ending = Aborted;
+    }
 unfolding run_body execute evaluate call slots_of
 aborts_by_itself = refl
 
@@ -377,6 +388,7 @@ assigns : runs 1 unsigned1
       requests = sent 0 ∷ [];
       changes = changed 0 (pos 44) ∷ [];
       values = pos 44 ∷ [];
+      abort_methods = [];
       answers = [];
       ending = Ended;
     }
@@ -416,6 +428,7 @@ after_it : runs 1 byte_and_number
       changes = changed 0 (pos 0) ∷ changed 1 (pos 255) ∷ [];
       values = pos 0
           ∷ pos 255 ∷ [];
+      abort_methods = [];
       answers = [];
       ending = Ended;
     }
@@ -431,6 +444,7 @@ before_it : runs 1 byte_and_number
       changes = changed 0 (pos 0) ∷ changed 1 (pos 0) ∷ [];
       values = pos 0
           ∷ pos 0 ∷ [];
+      abort_methods = [];
       answers = [];
       ending = Ended;
     }

@@ -11,7 +11,7 @@ use Rattle.edd_syntax.specs.Item.{Attribute, Definition, Description}
 use Rattle.edd_syntax.specs.TwosComplement.{wrap, is_zero}
 use Rattle.edd_syntax.specs.Device.{Environment, environment, item_at}
 use Rattle.edd_syntax.specs.MethodState as stops
-use Rattle.edd_syntax.specs.MethodState.{State, Request, Stop, Outcome, Done, Stopped, Action, pure, stop, ◌>>=◌, ◌>>◌, assign}
+use Rattle.edd_syntax.specs.MethodState.{State, Request, Stop, Outcome, Done, Stopped, Action, pure, stop, and_then, ◌>>=◌, ◌>>◌, assign}
 use Rattle.edd_syntax.specs.Answers.{Change, Answer}
 use Rattle.edd_syntax.specs.Evaluation.{evaluate}
 
@@ -144,6 +144,8 @@ pub record Transcript : Type 0 where
   pub requests : List Request
   pub changes : List Change
   pub values : List ℤ
+  -- the abort methods that are listed, or that are left
+  pub abort_methods : List MethNo
   pub answers : List Answer
   pub ending : Ending
 
@@ -152,6 +154,7 @@ transcript ending s = record {
   requests = s.requests;
   changes = s.changes;
   values = s.values;
+  abort_methods = s.abort_methods;
   answers = s.answers;
   ending = ending;
 }
@@ -166,11 +169,13 @@ abbrev pub ended : Outcome Completion → Transcript
 ended (Done completion s) = transcript Ended s
 ended (Stopped why s) = transcript (ending_of why) s
 
--- the state in which a method starts: all slots 0
+-- the state in which a method starts: all slots 0, and no abort methods
 abbrev pub opening : (slots : ℕ) → List ℤ → List Answer → State
 opening slots values answers = record {
   slots = replicate slots (pos 0);
   values = values;
+  abort_methods = [];
+  is_aborting = false;
   requests = [];
   changes = [];
   answers = answers;
@@ -192,8 +197,33 @@ body_of unit m = elim (item_at unit (item_no.Method m)) [
   | None ↦ Nil
 ]
 
--- the run of a method under these device values and answers
+-- ---- abort methods
+
+-- the state in which an abort method starts: all slots 0, and those behind it left
+abbrev pub aborting : (slots : ℕ) → (rest : List MethNo) → State → State
+aborting slots rest s =
+    record s { slots = replicate slots (pos 0); abort_methods = rest; is_aborting = true }
+
+-- Abort methods run one after the other, `return` and the end of one going on with the next; after
+-- the last the run is aborted. An abort inside one ends the run at once, as a trap does.
+unfoldable pub run_listed : ℕ → Description Target → List MethNo → Action Completion
+run_listed n unit [] = stop stops.Aborted
+run_listed n unit (m ∷ rest) = λ s.
+    let body = body_of unit m in
+    and_then (execute_all (environment unit) body n (aborting (slots_in body) rest s))
+    (λ completion. run_listed n unit rest)
+
+-- what a method's body comes to, after an abort with its abort methods
+abbrev pub after_body : ℕ → Description Target → Outcome Completion → Outcome Completion
+after_body n unit (Done completion s) = Done completion s
+after_body n unit (Stopped (stops.Trapped why) s) = Stopped (stops.Trapped why) s
+after_body n unit (Stopped stops.Aborted s) = run_listed n unit s.abort_methods s
+after_body n unit (Stopped stops.Waiting s) = Stopped stops.Waiting s
+after_body n unit (Stopped stops.OutOfTurns s) = Stopped stops.OutOfTurns s
+
+-- the run of a method under these device values and answers, with its abort methods
 unfoldable pub run : ℕ → Description Target → MethNo → List ℤ → List Answer → Transcript
 run n unit m values answers =
-    let body = body_of unit m in run_body n (environment unit) body
-    (opening (slots_in body) values answers)
+    let body = body_of unit m in
+    ended (after_body n unit (execute_all (environment unit) body n
+    (opening (slots_in body) values answers)))

@@ -1,3 +1,4 @@
+pub mod AbortMethods
 pub mod Accepted
 pub mod Answers
 pub mod AttributeValue

@@ -1,6 +1,7 @@
 -- The state of a method, what it asks of its host, what the host answers, and actions on the state.
-use Rattle.std.specs.Prelude.{ℤ, pos, List, [], ◌∷◌, ◌++◌, slice_index_or, slice_set, Result, Ok, Err}
+use Rattle.std.specs.Prelude.{Bool, ℤ, pos, negsuc, List, [], ◌∷◌, ◌++◌, slice_index_or, slice_set, Some, None, Result, Ok, Err}
 use Rattle.edd_syntax.specs.declared.numbers.VarNo.{VarNo}
+use Rattle.edd_syntax.specs.declared.numbers.MethNo.{MethNo}
 use Rattle.edd_syntax.specs.declared.numbers.ItemNo.{ItemNo}
 use Rattle.edd_syntax.specs.declared.numbers.ItemNo.TheVariants as item_no
 use Rattle.edd_syntax.specs.declared.answer.Trap.{Trap}
@@ -10,6 +11,7 @@ use Rattle.edd_syntax.specs.Words.{Words}
 use Rattle.edd_syntax.specs.Answers.{Change, Answer, Go, Abort}
 use Rattle.edd_syntax.specs.DeviceValues.{value_at}
 use Rattle.edd_syntax.specs.Elements.{indexed_value}
+use Rattle.edd_syntax.specs.AbortMethods.{listed}
 use Rattle.edd_syntax.specs.Device.{Environment, type_of_variable}
 
 -- what a method asks of its host
@@ -28,6 +30,10 @@ pub record State : Type 0 where
   pub slots : List ℤ
   -- the values of the device's variables
   pub values : List ℤ
+  -- the methods that are to run, in order, if the run is aborted, or that are left of them
+  pub abort_methods : List MethNo
+  -- it was aborted, and they run
+  pub is_aborting : Bool
   -- the requests and the changes so far
   pub requests : List Request
   pub changes : List Change
@@ -121,6 +127,15 @@ assign env (Function f) z = pure z
 -- the value of an element, or its trap
 abbrev pub read_element : Environment → Target → ℤ → Action ℤ
 read_element env array index = λ s. number (indexed_value env.elements 32 s.values array index) s
+
+-- ---- abort methods
+
+-- the value is 0 where the method is listed, else -1
+abbrev pub add_abort_method : MethNo → Action ℤ
+add_abort_method m s = elim (listed s.is_aborting s.abort_methods m) [
+  | Some methods ↦ Done (pos 0) (record s { abort_methods = methods })
+  | None ↦ Done (negsuc 0) s
+]
 
 -- ---- requests
 
