@@ -7,18 +7,18 @@ use Rattle.edd_syntax.specs.Answers.{Answer, IsValidAnswer}
 use Rattle.edd_syntax.specs.DeviceValues.{VariableType, AreDeviceValues}
 use Rattle.edd_syntax.specs.Execution.{Transcript}
 use Rattle.edd_image.specs.Steps.{State, Environment}
-use Rattle.edd_image.specs.Execution.{Outcome, execute}
+use Rattle.edd_image.specs.Execution.{Outcome, execute_following}
 use Rattle.edd_image.specs.MethodAgreement.{SameOutcome, AgreesOnRuns}
-use Rattle.edd_image.proofs.StaysOver.{stays_over}
+use Rattle.edd_image.proofs.StaysOver.{stays_over_following}
 
 module _ (string_numbered : StrNo → Option Words) (types : List VariableType) (source : ℕ → List ℤ
-    → List Answer → Transcript) (env : Environment) (start : List ℤ → State) where
+    → List Answer → Transcript) (follow : State → State) (env : Environment) (start : List ℤ → State) where
   pub follows_agrees : ((values : List ℤ) (answers : List Answer) → AreDeviceValues types values
       → AllByRecursion (IsValidAnswer types) answers
       → (n : ℕ) → (k : ℕ) × (n ≤ k) × SameOutcome string_numbered (source n values answers)
-      (execute env k (start values) answers))
+      (execute_following follow env k (start values) answers))
       → AgreesOnRuns string_numbered types source
-      (λ k values answers. execute env k (start values) answers)
+      (λ k values answers. execute_following follow env k (start values) answers)
   follows_agrees follows = record {
     forward = λ values answers are valid n over. let k =
         follows values answers are valid n in (k.0, k.2);
@@ -26,7 +26,7 @@ module _ (string_numbered : StrNo → Option Words) (types : List VariableType) 
         let m = follows values answers are valid k in (
           k,
           subst (λ (o : Outcome). SameOutcome string_numbered (source k values answers) o)
-              (stays_over env k m.0 m.1 (start values) answers over) m.2,
+              (stays_over_following follow env k m.0 m.1 (start values) answers over) m.2,
         );
     in_progress = λ values answers are valid n out. follows values answers are valid n;
   }

@@ -63,6 +63,13 @@ all_keep : (which : UnitRule) (us : List PlacedUnit)
 all_keep which [] valid = tt
 all_keep which (u ∷ us) valid = (keeps_of which u valid.0, all_keep which us valid.1)
 
+units_keep : (which : UnitRule) (c : Contents) → IsSound c → UnitsKeep c which
+units_keep unit_rule.Chain c sound = all_keep unit_rule.Chain _ sound.valid_units
+units_keep unit_rule.Jump c sound = all_keep unit_rule.Jump _ sound.valid_units
+units_keep unit_rule.Depth c sound = all_keep unit_rule.Depth _ sound.valid_units
+units_keep unit_rule.Reference c sound =
+    (all_keep unit_rule.Reference _ sound.valid_units, sound.abort_methods)
+
 lengths_do : (s : Sections) → AreSections s → length s.code ≤ code_limit → lengths_agree (layout s)
     ≡ true
 lengths_do s are short =
@@ -97,4 +104,4 @@ is_valid s are short sound rule.Name = subst (λ (c : Contents). IsTrue (are_nam
 is_valid s are short sound rule.Text = subst (λ (c : Contents). IsTrue (are_strings c))
     (sym (contents_are s are)) sound.strings
 is_valid s are short sound (rule.Unit which) = subst (λ (c : Contents). UnitsKeep c which)
-    (sym (contents_are s are)) (all_keep which _ sound.valid_units)
+    (sym (contents_are s are)) (units_keep which (contents_of s) sound)

@@ -3,7 +3,7 @@ use Rattle.std.proofs.Common.{◌≡◌, ℕ, ◌-◌, ◌<◌, ◌≤◌, Bool,
 use Rattle.std.specs.Prelude.{IfSome, option_map, ◌==◌, nat_lt}
 use Rattle.std.specs.Int.{Width, w16, w32, w64, byte_len}
 use Rattle.edd_image.specs.declared.instruction.Instruction.{Instruction}
-use Rattle.edd_image.specs.Decoding.{◌>>=◌, byte_from, number_from, signed_from, listed_item, item_from, basic_from, operator_of, comparison_of, unary_of, jump_from, entry_from, data_from, enumerator_from, response_from, member_from, element_from, record_from, ask_of, ask_from, instruction_from, instruction_at}
+use Rattle.edd_image.specs.Decoding.{◌>>=◌, byte_from, number_from, signed_from, listed_item, item_from, basic_from, operator_of, comparison_of, unary_of, jump_from, entry_from, data_from, enumerator_from, response_from, member_from, element_from, record_from, ask_of, ask_from, abort_method_from, instruction_from, instruction_at}
 
 -- at most n bytes are left where something is read
 abbrev pub Leaves : {A : Type 0} → ℕ → Option (A × List ℕ) → Type 0
@@ -178,6 +178,13 @@ ask_leaves n bytes h =
     then_leaves n (number_from w16 y.1) _ (number_leaves w16 n y.1 l) (λ z m.
     value_leaves n (ask_of x.0 y.0 z.0) _ (λ request. some_leaves n _ z.1 m))))
 
+abort_method_leaves : (n : ℕ) (bytes : List ℕ) → length bytes ≤ n
+    → Leaves n (abort_method_from bytes)
+unfolding abort_method_from
+abort_method_leaves n bytes h =
+    then_leaves n (number_from w16 bytes) _ (number_leaves w16 n bytes h)
+    (λ x k. some_leaves n _ x.1 k)
+
 pub instruction_leaves : (bytes : List ℕ) (found : Instruction × List ℕ) → instruction_from bytes
     ≡ Some found → length found.1 < length bytes
 unfolding instruction_from
@@ -192,7 +199,8 @@ instruction_leaves (code ∷ bytes) found e =
     choice_leaves n (nat_lt code 0x40) _ _ (jump_leaves n code bytes le) (
     choice_leaves n (nat_lt code 0x50) _ _ (record_leaves n code bytes le) (
     choice_leaves n (code == 0x50) _ _ (ask_leaves n bytes le) (
-    choice_leaves n (code == 0x51) _ _ (some_leaves n _ bytes le) (none_leaves n)))))))) in
+    choice_leaves n (code == 0x51) _ _ (some_leaves n _ bytes le) (
+    choice_leaves n (code == 0x52) _ _ (abort_method_leaves n bytes le) (none_leaves n))))))))) in
     let here = all found e in
     omega (arith, here)
 

@@ -20,6 +20,11 @@ pub mod Widths
 pub mod WorkedEdits
 pub mod WorkedImages
 pub mod WorkedMethods
+pub mod StepLists
+pub mod Followed
+pub mod NextMethods
+pub mod JoinedRuns
+pub mod JoinedAgreement
 pub mod FollowedRuns
 pub mod WorkedAsking
 pub mod WorkedAskingValid

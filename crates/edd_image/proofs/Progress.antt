@@ -1,11 +1,13 @@
 -- An instruction that finds its operands has an effect, which keeps what a state keeps and goes one
 -- of the instruction's ways.
-use Rattle.std.proofs.Common.{◌≡◌, ℕ, zero, suc, ◌+◌, ◌-◌, ◌≤◌, Bool, true, false, cond, ℤ, pos, List, [], ◌∷◌, length, Option, Some, Result, Ok, Err, refl, sym, subst, ◌⊎◌, inl, inr, arith, length-set}
+use Rattle.std.proofs.Common.{◌≡◌, ℕ, zero, suc, ◌+◌, ◌-◌, ◌≤◌, Bool, true, false, cond, ℤ, pos, negsuc, List, [], ◌∷◌, length, Option, Some, None, Result, Ok, Err, refl, sym, subst, ◌⊎◌, inl, inr, arith, length-set}
 use Rattle.std.proofs.lemmas.Int.{ints}
 use Rattle.std.specs.Prelude.{slice_index_or, slice_set}
 use Rattle.std.specs.List.{AllByRecursion}
 use Rattle.std.specs.Ordering.{int_eq}
 use Rattle.edd_syntax.specs.declared.answer.Trap as trap
+use Rattle.edd_syntax.specs.declared.numbers.MethNo.{MethNo}
+use Rattle.edd_syntax.specs.AbortMethods.{listed}
 use Rattle.edd_syntax.specs.TwosComplement.{store, operate, is_zero}
 use Rattle.edd_syntax.specs.DeviceValues.{VariableType, type_at, value_at, AreDeviceValues}
 use Rattle.edd_image.specs.declared.records.Request.{Request}
@@ -31,6 +33,10 @@ AllFit sort xs = AllByRecursion (Fits sort) xs
 pub zero_fits : (sort : Sort) → Fits sort (pos 0)
 zero_fits Attribute = omega (arith, ints)
 zero_fits Method = omega (arith, ints)
+
+less_fits : (sort : Sort) → Fits sort (negsuc 0)
+less_fits Attribute = omega (arith, ints)
+less_fits Method = omega (arith, ints)
 
 slot_fits : (sort : Sort) (slots : List ℤ) (slot : ℕ) → AllFit sort slots
     → Fits sort (slice_index_or slots slot (pos 0))
@@ -307,5 +313,16 @@ module _ (env : Environment) (s : State) (running : s.status ≡ Running)
   instruction_acts (instruction.Element n v label help) next fit le =
       give_acts _ next _ _ refl (omega arith) fit
   instruction_acts (instruction.Ask request) next fit le = request_acts request next fit le
+  instruction_acts (instruction.AddAbortMethod m) next fit le =
+      by_list (listed s.is_aborting s.abort_methods m)
+    where
+      by_list : (o : Option (List MethNo)) → Acts env (instruction.AddAbortMethod m) next s
+          (elim o [
+            | Some methods ↦ go (record s { abort_methods = methods }) next (pos 0 ∷ s.operands)
+            | None ↦ go s next (negsuc 0 ∷ s.operands)
+          ])
+      by_list (Some methods) = onward_acts _ next 1 _ refl refl refl (omega arith)
+          (keeps _ refl refl refl) (zero_fits s.unit.sort, fit)
+      by_list None = go_acts _ next 1 _ refl (omega arith) (less_fits s.unit.sort, fit)
   instruction_acts instruction.Abort next fit le = over_acts _ next _ tt (keeps _ refl refl refl)
       fit

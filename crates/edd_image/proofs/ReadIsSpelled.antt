@@ -1,5 +1,5 @@
 -- An instruction that is read is spelled by the bytes that it was read from.
-use Rattle.std.proofs.Common.{◌≡◌, ℕ, ◌-◌, ◌<◌, ◌^◌, Bool, true, false, cond, List, [], ◌∷◌, ◌++◌, length, take, drop, Some, None, suc, refl, sym, ap, subst, ◌∙◌, append_assoc, arith, length-append}
+use Rattle.std.proofs.Common.{◌≡◌, ℕ, ◌-◌, ◌<◌, ◌^◌, Bool, true, false, cond, List, [], ◌∷◌, ◌++◌, length, take, drop, Some, None, suc, refl, sym, ap, ◌∙◌, append_assoc, arith, length-append}
 use Rattle.std.proofs.lemmas.List.{take-append-drop, drop_at}
 use Rattle.std.proofs.lemmas.Bool.{false≢true, ltb-true, ltb-false, eqb-true, eqb-false}
 use Rattle.std.specs.Prelude.{nat_lt, ◌==◌}
@@ -16,7 +16,7 @@ use Rattle.edd_image.specs.declared.instruction.Ask.TheVariants as ask
 use Rattle.edd_image.specs.declared.instruction.Instruction.{Instruction}
 use Rattle.edd_image.specs.declared.instruction.Instruction.TheVariants as instruction
 use Rattle.edd_image.specs.Layout.{u16, u32}
-use Rattle.edd_image.specs.Decoding.{byte_from, number_from, signed_from, optional_string, item_from, basic_from, operator_of, comparison_of, unary_of, jump_from, entry_from, data_from, enumerator_from, response_from, member_from, element_from, record_from, ask_of, ask_from, instruction_from, instruction_at, listed_item}
+use Rattle.edd_image.specs.Decoding.{byte_from, number_from, signed_from, optional_string, item_from, basic_from, operator_of, comparison_of, unary_of, jump_from, entry_from, data_from, enumerator_from, response_from, member_from, element_from, record_from, ask_of, ask_from, abort_method_from, instruction_from, instruction_at, listed_item}
 use Rattle.edd_image.specs.Spelling.{AreBytes, i64, item_bytes, optional_number, optional_bytes, operator_code, comparison_code, ask_bytes, spelling, IsOptional, IsAsk, IsListed, IsSpelled}
 use Rattle.edd_image.proofs.Readings.{Gives, gives_none, gives_some, gives_choice, gives_then, gives_map, Begins, drop_bytes, byte_took, u16_took, u32_took, i64_took}
 
@@ -379,6 +379,15 @@ ask_says code bytes are e =
           ∙ ap (λ (t : List ℕ). t ++ z.1) (sym m.1)),
     )))))
 
+abort_method_says : (code : ℕ) (bytes : List ℕ) → AreBytes bytes → (code == 0x52) ≡ true
+    → Gives (Says (code ∷ bytes)) (abort_method_from bytes)
+unfolding abort_method_from
+abort_method_says code bytes are e =
+    let P : Instruction × List ℕ → Type 0 = Says (code ∷ bytes) in
+    gives_then P (number_from w16 bytes) _ (λ x r. let h = u16_took bytes are x r in
+    gives_some P (instruction.AddAbortMethod (record { 0 = x.0 }), x.1)
+    (h.1, spelled code bytes are e h.0.is))
+
 instruction_says : (bytes : List ℕ) → AreBytes bytes → Gives (Says bytes) (instruction_from bytes)
 unfolding instruction_from P
 instruction_says [] are = gives_none (Says [])
@@ -399,8 +408,9 @@ instruction_says (code ∷ bytes) are =
     gives_choice P' (nat_lt code 0x50) _ _ (λ _. record_says code bytes rest) (λ _.
     gives_choice P' (code == 0x50) _ _ (λ e. ask_says code bytes rest e) (λ _.
     gives_choice P' (code == 0x51) _ _
-    (λ e. gives_some P' (instruction.Abort, bytes) (tt, spelled code bytes rest e refl))
-    (λ _. gives_none P'))))))))
+    (λ e. gives_some P' (instruction.Abort, bytes) (tt, spelled code bytes rest e refl)) (λ _.
+    gives_choice P' (code == 0x52) _ _ (λ e. abort_method_says code bytes rest e)
+    (λ _. gives_none P')))))))))
 
 -- what is behind the instruction is what is behind the next place
 next_is : (size : ℕ) (place : ℕ) (whole code : List ℕ) (i : Instruction) (rest : List ℕ)

@@ -12,13 +12,12 @@ use Rattle.edd_syntax.specs.declared.operators.Operator.{Operator}
 use Rattle.edd_syntax.specs.declared.operators.Operator.TheVariants as operator
 use Rattle.edd_syntax.specs.declared.operators.Comparison.{Comparison}
 use Rattle.edd_syntax.specs.declared.operators.Comparison.TheVariants as comparison
-use Rattle.edd_syntax.specs.Numbers.{index_of}
 use Rattle.edd_image.specs.declared.instruction.Ask.{Ask}
 use Rattle.edd_image.specs.declared.instruction.Ask.TheVariants as ask
 use Rattle.edd_image.specs.declared.instruction.Instruction.{Instruction}
 use Rattle.edd_image.specs.declared.instruction.Instruction.TheVariants as instruction
 use Rattle.edd_image.specs.Layout.{u16, u32}
-use Rattle.edd_image.specs.Decoding.{byte_from, number_from, signed_from, optional_string, item_from, basic_from, operator_of, comparison_of, unary_of, jump_from, entry_from, data_from, enumerator_from, response_from, member_from, element_from, record_from, ask_of, ask_from, instruction_from, instruction_at}
+use Rattle.edd_image.specs.Decoding.{byte_from, number_from, signed_from, optional_string, item_from, basic_from, operator_of, comparison_of, unary_of, jump_from, entry_from, data_from, enumerator_from, response_from, member_from, element_from, record_from, ask_of, ask_from, abort_method_from, instruction_from, instruction_at}
 use Rattle.edd_image.specs.Spelling.{i64, item_bytes, optional_number, optional_bytes, operator_code, comparison_code, ask_bytes, spelling, IsOptional, IsAsk, IsListed, IsSpelled}
 
 enough : (w : Width) (n : ℕ) (rest : List ℕ) → length (to_be_bytes w n) ≡ byte_len w
@@ -143,7 +142,7 @@ comparison_again comparison.GreaterOrEqual rest = refl
 pub instruction_again : (i : Instruction) (rest : List ℕ) → IsSpelled i
     → instruction_from (spelling i ++ rest) ≡ Some (i, rest)
 unfolding instruction_from basic_from unary_of jump_from record_from data_from enumerator_from
-    response_from member_from element_from byte_from
+    response_from member_from element_from abort_method_from byte_from
 instruction_again instruction.End rest h = refl
 instruction_again (instruction.Push n) rest h = rw (u32_again n rest h) refl
 instruction_again (instruction.Variable v) rest h = rw (u16_again v.0 rest h) refl
@@ -214,6 +213,7 @@ instruction_again (instruction.Element n v label help) rest h =
     ) refl
 instruction_again (instruction.Ask request) rest h = ask_again request rest h
 instruction_again instruction.Abort rest h = refl
+instruction_again (instruction.AddAbortMethod m) rest h = rw (u16_again m.0 rest h) refl
 
 pub stands_where_spelled : (before after : List ℕ) (i : Instruction) → IsSpelled i
     → instruction_at (before ++ (spelling i ++ after)) (length before)

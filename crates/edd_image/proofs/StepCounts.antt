@@ -12,7 +12,7 @@ few_steps n (Some ending) m x behind few = omega arith
 few_steps n None m None behind few = omega arith
 few_steps n None m (Some e) behind few = omega (arith, few e)
 
-at_most_following : (follow : State → State) (env : Environment) (n : ℕ) (s : State)
+pub at_most_following : (follow : State → State) (env : Environment) (n : ℕ) (s : State)
     (answers : List Answer) → (execute_following follow env n s answers).steps ≤ n
 unfolding execute_following
 at_most_following follow env zero s answers = omega arith
@@ -35,7 +35,7 @@ every_step n (Some ending) m x behind never all out =
 every_step n None m None behind never all out = absurd cc
 every_step n None m (Some e) behind never all out = ap suc (all e out)
 
-all_taken_following : (follow : State → State) (env : Environment) (n : ℕ) (s : State)
+pub all_taken_following : (follow : State → State) (env : Environment) (n : ℕ) (s : State)
     (answers : List Answer) → (execute_following follow env n s answers).ending ≡ OutOfSteps
     → (execute_following follow env n s answers).steps ≡ n
 unfolding execute_following

@@ -38,7 +38,10 @@ use Rattle.edd_image.specs.Strings.{string_in, variants_from}
 use Rattle.edd_image.specs.Agreement.{machine_of, string_numbered}
 use Rattle.edd_image.specs.MethodAgreement.{ending_of, SameRequests, SameOutcome, AgreesOnMethod, AgreesOnMethods}
 use Rattle.edd_image.proofs.FollowedRuns.{follows_agrees}
-use Rattle.edd_image.proofs.Meetings.{waiting, aborted, going_on}
+use Rattle.edd_image.specs.AbortMethods.{start_in, execute_in}
+use Rattle.edd_image.specs.AbortMethods as abort_methods
+use Rattle.edd_image.proofs.Followed.{still_waits, answer_met, stays}
+use Rattle.edd_image.proofs.NextMethods.{next_asks_nothing}
 use Rattle.edd_image.specs.WorkedMethods.{x, y, test, increased, set, turn, asking_unit, image_with, asking_code, asking_image, exchanged_code, unasked_code}
 
 -- ---- the source
@@ -64,18 +67,18 @@ abbrev says : Words
 says = words_of (Quoted (codes "a"))
 
 abbrev st : List ℤ → List source.Request → List Change → List Answer → State
-st values requests changes answers = record { slots = []; values = values; requests = requests; changes = changes; answers = answers }
+st values requests changes answers = record { slots = []; values = values; abort_methods = []; is_aborting = false; requests = requests; changes = changes; answers = answers }
 
 -- the loop with n turns, where loops in its body have m
 abbrev loop : (n m : ℕ) → source.Action Completion
 loop n m = turns n (evaluate (environment asking_unit) test) (execute (environment asking_unit) turn m) (pure (pos 0))
 
 abbrev loop_run : (n m : ℕ) → State → Transcript
-loop_run n m s = run.ended (and_then (loop n m s) (next (pure Normal)))
+loop_run n m s = run.ended (run.after_body m asking_unit (and_then (loop n m s) (next (pure Normal))))
 
 -- behind the answer
 abbrev behind : (n m : ℕ) → State → Transcript
-behind n m s = run.ended (and_then (and_then (execute_all (environment asking_unit) (Cons (Statement (Evaluate increased)) (Cons (Statement (Evaluate set)) Nil)) m s) (next_turn (pure (pos 0) >> loop n m))) (next (pure Normal)))
+behind n m s = run.ended (run.after_body m asking_unit (and_then (and_then (execute_all (environment asking_unit) (Cons (Statement (Evaluate increased)) (Cons (Statement (Evaluate set)) Nil)) m s) (next_turn (pure (pos 0) >> loop n m))) (next (pure Normal))))
 
 sets_applied : (sets : List Change) (s : State) → apply_sets sets s ≡ record s { values = values_set s.values sets; changes = s.changes ++ sets }
 sets_applied [] s = ap (λ (c : List Change). record s { changes = c }) (sym (append-nil s.changes))
@@ -85,7 +88,7 @@ sets_applied (set ∷ rest) s =
 
 module _ (n m : ℕ) (values : List ℤ) (asked : List source.Request) (changed : List Change) where
   abbrev branch : Bool → List Answer → Transcript
-  branch b answers = run.ended (and_then ((elim b as (λ w. source.Action Completion) [ true ↦ pure Normal | false ↦ execute (environment asking_unit) turn m >>= next_turn (pure (pos 0) >> loop n m) ]) (st values asked changed answers)) (next (pure Normal)))
+  branch b answers = run.ended (run.after_body m asking_unit (and_then ((elim b as (λ w. source.Action Completion) [ true ↦ pure Normal | false ↦ execute (environment asking_unit) turn m >>= next_turn (pure (pos 0) >> loop n m) ]) (st values asked changed answers)) (next (pure Normal))))
 
   source_ends : (answers : List Answer) → is_done values ≡ true → loop_run (suc n) m (st values asked changed answers) ≡ run.transcript run.Ended (st values asked changed answers)
   unfolding turns evaluate
@@ -96,7 +99,7 @@ module _ (n m : ℕ) (values : List ℤ) (asked : List source.Request) (changed 
   source_waits is = ap (λ b. branch b []) is
 
   source_aborts : (rest : List Answer) → is_done values ≡ false → loop_run (suc n) m (st values asked changed (Abort ∷ rest)) ≡ run.transcript run.Aborted (st values (asked ++ source.PutMessage says ∷ []) changed rest)
-  unfolding turns evaluate call execute
+  unfolding turns evaluate call execute run.run_listed
   source_aborts rest is = ap (λ b. branch b (Abort ∷ rest)) is
 
   source_asks : (code : ℤ) (sets : List Change) (rest : List Answer) → is_done values ≡ false
@@ -115,9 +118,18 @@ module _ (n m : ℕ) (values : List ℤ) (asked : List source.Request) (changed 
 abbrev env : Environment
 env = machine_of (environment asking_unit)
 
+abbrev held : Contents
+held = contents_in asking_image
+
+abbrev follow : steps.State → steps.State
+follow = abort_methods.next (start_in held)
+
+abbrev machine_run : ℕ → steps.State → List Answer → Outcome
+machine_run k s answers = image.execute_following follow env k s answers
+
 -- at a place of the code
 abbrev at : ℕ → List ℤ → List ℤ → steps.State
-at place operands values = record { unit = record { sort = sort.Method; code = asking_code }; place = place; operands = operands; slots = []; values = values; status = status.Running }
+at place operands values = record { unit = record { sort = sort.Method; code = asking_code }; place = place; operands = operands; slots = []; values = values; status = status.Running; abort_methods = []; is_aborting = false }
 
 abbrev asks : List ℤ → steps.State
 asks values = record (at 20 [] values) { status = status.Asking (requests.PutMessage (record { 0 = 0 })) }
@@ -134,25 +146,25 @@ stepping zero o = o
 stepping (suc n) o = stepped (stepping n o)
 
 module _ (k : ℕ) (values : List ℤ) (answers : List Answer) where
-  machine_tests : image.execute env (suc (suc (suc (suc k)))) (at 0 [] values) answers ≡ stepping 4 (image.execute env k (at (if is_done values then 48 else 14) [] values) answers)
-  unfolding image.execute image.execute_following step act instruction_at instruction_from basic_from comparison_of unary_of jump_from number_from
+  machine_tests : machine_run (suc (suc (suc (suc k)))) (at 0 [] values) answers ≡ stepping 4 (machine_run k (at (if is_done values then 48 else 14) [] values) answers)
+  unfolding image.execute_following step act instruction_at instruction_from basic_from comparison_of unary_of jump_from number_from
   machine_tests = refl
 
-  machine_ends : image.execute env (suc k) (at 48 [] values) answers ≡ stepped (image.execute env k (over values) answers)
-  unfolding image.execute image.execute_following step act instruction_at instruction_from basic_from
+  machine_ends : machine_run (suc k) (at 48 [] values) answers ≡ stepped (machine_run k (over values) answers)
+  unfolding image.execute_following step act instruction_at instruction_from basic_from
   machine_ends = refl
 
-  machine_asks : image.execute env (suc k) (at 14 [] values) answers ≡ ask_step (image.execute env k (asks values) answers)
-  unfolding image.execute image.execute_following step act instruction_at instruction_from basic_from number_from byte_from ask_from ask_of
+  machine_asks : machine_run (suc k) (at 14 [] values) answers ≡ ask_step (machine_run k (asks values) answers)
+  unfolding image.execute_following step act instruction_at instruction_from basic_from number_from byte_from ask_from ask_of
   machine_asks = refl
 
-  machine_stores : (code : ℤ) → image.execute env (suc (suc (suc (suc (suc (suc (suc (suc (suc (suc k)))))))))) (at 20 (code ∷ []) values) answers
-      ≡ stepping 10 (preceded [] (stored values) (image.execute env k (at 0 [] (after_turn values)) answers))
-  unfolding image.execute image.execute_following step act instruction_at instruction_from basic_from operator_of comparison_of unary_of jump_from number_from operate
+  machine_stores : (code : ℤ) → machine_run (suc (suc (suc (suc (suc (suc (suc (suc (suc (suc k)))))))))) (at 20 (code ∷ []) values) answers
+      ≡ stepping 10 (preceded [] (stored values) (machine_run k (at 0 [] (after_turn values)) answers))
+  unfolding image.execute_following step act instruction_at instruction_from basic_from operator_of comparison_of unary_of jump_from number_from operate
   machine_stores code = refl
 
-machine_over : (k : ℕ) (values : List ℤ) (answers : List Answer) → image.execute env k (over values) answers ≡ image.closed (image.nothing_met (over values) answers None) image.Ended
-unfolding image.execute image.execute_following
+machine_over : (k : ℕ) (values : List ℤ) (answers : List Answer) → machine_run k (over values) answers ≡ image.closed (image.nothing_met (over values) answers None) image.Ended
+unfolding image.execute_following
 machine_over zero values answers = refl
 machine_over (suc k) values answers = refl
 
@@ -170,23 +182,24 @@ module _ (string_numbered : StrNo → Option Words) (known : string_numbered (re
     same : SameRequests string_numbered more o.requests
     changes : t.changes ≡ changed ++ o.changes
     values : o.state.values ≡ t.values
+    abort_methods : o.state.abort_methods ≡ t.abort_methods
     answers : o.answers ≡ t.answers
     ending : o.ending ≡ ending_of t.ending
 
   module _ (n m : ℕ) (asked : List source.Request) (changed : List Change) where
     -- with n turns the machine comes along within n steps or more
     abbrev Goes : List ℤ → List Answer → Type 0
-    Goes values answers = (k : ℕ) × (n ≤ k) × Along asked changed (loop_run n m (st values asked changed answers)) (image.execute env k (at 0 [] values) answers)
+    Goes values answers = (k : ℕ) × (n ≤ k) × Along asked changed (loop_run n m (st values asked changed answers)) (machine_run k (at 0 [] values) answers)
 
-    goes : (k : ℕ) (values : List ℤ) (answers : List Answer) (t : Transcript) (o : Outcome) → n ≤ k → loop_run n m (st values asked changed answers) ≡ t → image.execute env k (at 0 [] values) answers ≡ o → Along asked changed t o → Goes values answers
+    goes : (k : ℕ) (values : List ℤ) (answers : List Answer) (t : Transcript) (o : Outcome) → n ≤ k → loop_run n m (st values asked changed answers) ≡ t → machine_run k (at 0 [] values) answers ≡ o → Along asked changed t o → Goes values answers
     goes k values answers t o enough source_is machine_is h =
-        (k, enough, subst (λ (t' : Transcript). Along asked changed t' (image.execute env k (at 0 [] values) answers)) (sym source_is) (subst (λ (o' : Outcome). Along asked changed t o') (sym machine_is) h))
+        (k, enough, subst (λ (t' : Transcript). Along asked changed t' (machine_run k (at 0 [] values) answers)) (sym source_is) (subst (λ (o' : Outcome). Along asked changed t o') (sym machine_is) h))
 
   -- the test, and then the request, where the loop goes on
-  to_request : (k : ℕ) (values : List ℤ) (answers : List Answer) → is_done values ≡ false → image.execute env (suc (suc (suc (suc (suc k))))) (at 0 [] values) answers ≡ stepping 4 (ask_step (image.execute env k (asks values) answers))
+  to_request : (k : ℕ) (values : List ℤ) (answers : List Answer) → is_done values ≡ false → machine_run (suc (suc (suc (suc (suc k))))) (at 0 [] values) answers ≡ stepping 4 (ask_step (machine_run k (asks values) answers))
   to_request k values answers is =
       machine_tests (suc k) values answers
-      ∙ ap (λ (b : Bool). stepping 4 (image.execute env (suc k) (at (if b then 48 else 14) [] values) answers)) is
+      ∙ ap (λ (b : Bool). stepping 4 (machine_run (suc k) (at (if b then 48 else 14) [] values) answers)) is
       ∙ ap (stepping 4) (machine_asks k values answers)
 
   asked_once : SameRequests string_numbered (source.PutMessage says ∷ []) (requests.PutMessage (record { 0 = 0 }) ∷ [])
@@ -198,26 +211,26 @@ module _ (string_numbered : StrNo → Option Words) (known : string_numbered (re
   one_turn n m values asked changed answers valid more true is =
       goes (suc n) m asked changed (suc (suc (suc (suc (suc n))))) values answers _ _ (omega arith) (source_ends n m values asked changed answers is)
       (machine_tests (suc n) values answers
-      ∙ ap (λ (b : Bool). stepping 4 (image.execute env (suc n) (at (if b then 48 else 14) [] values) answers)) is
+      ∙ ap (λ (b : Bool). stepping 4 (machine_run (suc n) (at (if b then 48 else 14) [] values) answers)) is
       ∙ ap (stepping 4) (machine_ends n values answers ∙ ap stepped (machine_over n values answers)))
-      (record { more = []; requests = sym (append-nil asked); same = tt; changes = sym (append-nil changed); values = refl; answers = refl; ending = refl })
+      (record { more = []; requests = sym (append-nil asked); same = tt; changes = sym (append-nil changed); values = refl; abort_methods = refl; answers = refl; ending = refl })
   one_turn n m values asked changed [] valid more false is =
       goes (suc n) m asked changed (suc (suc (suc (suc (suc n))))) values [] _ _ (omega arith) (source_waits n m values asked changed is)
-      (to_request n values [] is ∙ ap (λ (o : Outcome). stepping 4 (ask_step o)) (waiting env (asks values) (requests.PutMessage (record { 0 = 0 })) refl n))
-      (record { more = source.PutMessage says ∷ []; requests = refl; same = asked_once; changes = sym (append-nil changed); values = refl; answers = refl; ending = refl })
+      (to_request n values [] is ∙ ap (λ (o : Outcome). stepping 4 (ask_step o)) (still_waits follow (next_asks_nothing (start_in held)) env (asks values) (requests.PutMessage (record { 0 = 0 })) refl n))
+      (record { more = source.PutMessage says ∷ []; requests = refl; same = asked_once; changes = sym (append-nil changed); values = refl; abort_methods = refl; answers = refl; ending = refl })
   one_turn n m values asked changed (Abort ∷ rest) valid more false is =
       goes (suc n) m asked changed (suc (suc (suc (suc (suc n))))) values (Abort ∷ rest) _ _ (omega arith) (source_aborts n m values asked changed rest is)
-      (to_request n values (Abort ∷ rest) is ∙ ap (λ (o : Outcome). stepping 4 (ask_step o)) (aborted env (asks values) (requests.PutMessage (record { 0 = 0 })) refl n rest))
-      (record { more = source.PutMessage says ∷ []; requests = refl; same = asked_once; changes = sym (append-nil changed); values = refl; answers = refl; ending = refl })
+      (to_request n values (Abort ∷ rest) is ∙ ap (λ (o : Outcome). stepping 4 (ask_step o)) (answer_met follow (next_asks_nothing (start_in held)) env (asks values) (requests.PutMessage (record { 0 = 0 })) refl Abort rest refl n ∙ ap (preceded [] []) (stays follow (next_asks_nothing (start_in held)) env _ rest image.Aborted refl n)))
+      (record { more = source.PutMessage says ∷ []; requests = refl; same = asked_once; changes = sym (append-nil changed); values = refl; abort_methods = refl; answers = refl; ending = refl })
   one_turn n m values asked changed (Go code sets ∷ rest) valid more false is =
       let values' = values_set values sets in
       let h = more (after_turn values') (asked ++ source.PutMessage says ∷ []) (((changed ++ sets) ++ record { variable = x; value = one_more values' } ∷ []) ++ record { variable = y; value = two } ∷ []) rest valid.1 in
       let k = suc (suc (suc (suc (suc (suc (suc (suc (suc (suc h.0))))))))) in
-      let o = image.execute env h.0 (at 0 [] (after_turn values')) rest in
+      let o = machine_run h.0 (at 0 [] (after_turn values')) rest in
       goes (suc n) m asked changed (suc (suc (suc (suc (suc k))))) values (Go code sets ∷ rest) _ _ (omega (arith, h.1))
       (source_asks n m values asked changed code sets rest is ∙ source_stores n m values' (asked ++ source.PutMessage says ∷ []) (changed ++ sets) rest)
       (to_request k values (Go code sets ∷ rest) is
-      ∙ ap (λ (o : Outcome). stepping 4 (ask_step o)) (going_on env (asks values) (requests.PutMessage (record { 0 = 0 })) refl k code sets rest valid.0.1)
+      ∙ ap (λ (o : Outcome). stepping 4 (ask_step o)) (answer_met follow (next_asks_nothing (start_in held)) env (asks values) (requests.PutMessage (record { 0 = 0 })) refl (Go code sets) rest valid.0.1 k)
       ∙ ap (λ (o' : Outcome). stepping 4 (ask_step (preceded [] sets o'))) (machine_stores h.0 values' rest code))
       (record {
         more = source.PutMessage says ∷ h.2.more;
@@ -228,13 +241,14 @@ module _ (string_numbered : StrNo → Option Words) (known : string_numbered (re
             ∙ one_behind (changed ++ sets) (record { variable = x; value = one_more values' }) (record { variable = y; value = two } ∷ o.changes)
             ∙ append_assoc changed sets (record { variable = x; value = one_more values' } ∷ record { variable = y; value = two } ∷ o.changes);
         values = h.2.values;
+        abort_methods = h.2.abort_methods;
         answers = h.2.answers;
         ending = h.2.ending;
       })
 
   along : (n m : ℕ) (values : List ℤ) (asked : List source.Request) (changed : List Change) (answers : List Answer) → AllByRecursion (IsValidAnswer env.types) answers → Goes n m asked changed values answers
   unfolding turns image.execute image.execute_following
-  along zero m values asked changed answers valid = (0, omega arith, record { more = []; requests = sym (append-nil asked); same = tt; changes = sym (append-nil changed); values = refl; answers = refl; ending = refl })
+  along zero m values asked changed answers valid = (0, omega arith, record { more = []; requests = sym (append-nil asked); same = tt; changes = sym (append-nil changed); values = refl; abort_methods = refl; answers = refl; ending = refl })
   along (suc n) m values asked changed answers valid = one_turn n m values asked changed answers valid (λ values' asked' changed' rest valid'. along n m values' asked' changed' rest valid') (is_done values) refl
 
 -- ---- the image
@@ -245,9 +259,6 @@ first = record { 0 = 0 }
 -- the row of the body
 abbrev body : AttributeFields
 body = record { kind = 5; attribute = 21; item = 0; sub = 0; padding = 0; span = record { start = 0; size = 49 } }
-
-abbrev held : Contents
-held = contents_in asking_image
 
 body_found : reading.body_of held first ≡ Some body
 unfolding contents_in rows_from number_at variable_rows_start name_rows_start attribute_rows_start element_rows_start code_start string_rows_start name_bytes_start string_bytes_start sections_end
@@ -270,34 +281,35 @@ unfolding contents_in rows_from number_at variable_rows_start name_rows_start at
 one_method = refl
 
 source_runs : (n : ℕ) (values : List ℤ) (answers : List Answer) → run.run n asking_unit first values answers ≡ loop_run n n (st values [] [] answers)
-unfolding run.run run_body execute slots_in
+unfolding run.run execute slots_in
 source_runs n values answers = refl
 
 follows : (values : List ℤ) (answers : List Answer) → AllByRecursion (IsValidAnswer env.types) answers → (n : ℕ)
-    → (k : ℕ) × (n ≤ k) × SameOutcome (string_numbered held) (run.run n asking_unit first values answers) (image.execute (reading.environment_of held) k (reading.opening_of held body values) answers)
+    → (k : ℕ) × (n ≤ k) × SameOutcome (string_numbered held) (run.run n asking_unit first values answers) (execute_in held k (reading.opening_of held body values) answers)
 follows values answers valid n =
     let h = along (string_numbered held) string_known n n values [] [] answers valid in
     let t = loop_run n n (st values [] [] answers) in
-    let o = image.execute env h.0 (at 0 [] values) answers in
+    let o = machine_run h.0 (at 0 [] values) answers in
     let same : SameOutcome (string_numbered held) t o = record {
       requests = subst (λ (rs : List source.Request). SameRequests (string_numbered held) rs o.requests) (sym h.2.requests) h.2.same;
       changes = sym h.2.changes;
       values = h.2.values;
+      abort_methods = h.2.abort_methods;
       answers = h.2.answers;
       ending = h.2.ending;
     } in (
       h.0,
       h.1,
-      subst (λ (t' : Transcript). SameOutcome (string_numbered held) t' (image.execute (reading.environment_of held) h.0 (reading.opening_of held body values) answers)) (sym (source_runs n values answers))
-          (subst (λ (e : Environment). SameOutcome (string_numbered held) t (image.execute e h.0 (reading.opening_of held body values) answers)) (sym same_types)
-          (subst (λ (s : steps.State). SameOutcome (string_numbered held) t (image.execute env h.0 s answers)) (sym (opens values)) same)),
+      subst (λ (t' : Transcript). SameOutcome (string_numbered held) t' (execute_in held h.0 (reading.opening_of held body values) answers)) (sym (source_runs n values answers))
+          (subst (λ (e : Environment). SameOutcome (string_numbered held) t (image.execute_following follow e h.0 (reading.opening_of held body values) answers)) (sym same_types)
+          (subst (λ (s : steps.State). SameOutcome (string_numbered held) t (machine_run h.0 s answers)) (sym (opens values)) same)),
     )
 
 asking_agrees : AgreesOnMethod asking_unit held first
 asking_agrees = record {
   row = body;
   found = body_found;
-  agrees = follows_agrees (string_numbered held) (environment asking_unit).variables (λ n values answers. run.run n asking_unit first values answers) (reading.environment_of held) (reading.opening_of held body) (λ values answers are valid n. follows values answers valid n);
+  agrees = follows_agrees (string_numbered held) (environment asking_unit).variables (λ n values answers. run.run n asking_unit first values answers) follow (reading.environment_of held) (reading.opening_of held body) (λ values answers are valid n. follows values answers valid n);
 }
 
 by_number : (n : ℕ) → IsTrue (nat_lt n 1) → AgreesOnMethod asking_unit held (record { 0 = n })
@@ -321,12 +333,13 @@ put = record {
   requests = source.PutMessage says ∷ [];
   changes = record { variable = x; value = pos 1 } ∷ record { variable = y; value = pos 2 } ∷ [];
   values = pos 1 ∷ pos 2 ∷ [];
+  abort_methods = [];
   answers = [];
   ending = run.Ended;
 }
 
 source_put : (n : ℕ) → (run.run n asking_unit first zeros one_answer).ending ≢ run.OutOfTurns → run.run n asking_unit first zeros one_answer ≡ put
-unfolding run.run run_body execute slots_in turns evaluate call wrap store operate compare
+unfolding run.run execute slots_in turns evaluate call wrap store operate compare
 source_put zero over = absurd (over refl)
 source_put (suc zero) over = absurd (over refl)
 source_put (suc (suc n)) over = refl
@@ -336,7 +349,7 @@ zero_fits = record { sfits = omega arith }
 
 -- the run of an image with other code under the same values and answers, from the start of this row's unit
 abbrev other_run : List ℕ → AttributeFields → Outcome
-other_run code row = image.execute (reading.environment_of (contents_in (image_with code))) 40 (reading.opening_of (contents_in (image_with code)) row zeros) one_answer
+other_run code row = execute_in (contents_in (image_with code)) 40 (reading.opening_of (contents_in (image_with code)) row zeros) one_answer
 
 -- an image that agrees comes to the same, where it ends
 module _ (code : List ℕ) (found : reading.body_of (contents_in (image_with code)) first ≡ Some body) (there : (contents_in (image_with code)).counts.methods ≡ 1)

@@ -57,7 +57,7 @@ asking_valid (rule.Unit unit_rule.Depth) = (
   ),
   tt,
 )
-asking_valid (rule.Unit unit_rule.Reference) = (refl, tt)
+asking_valid (rule.Unit unit_rule.Reference) = ((refl, tt), refl)
 
 -- the numbers of operands before its instructions
 abbrev exchanged_depth : ℕ → ℕ
@@ -97,7 +97,7 @@ exchanged_valid (rule.Unit unit_rule.Depth) = (
   ),
   tt,
 )
-exchanged_valid (rule.Unit unit_rule.Reference) = (refl, tt)
+exchanged_valid (rule.Unit unit_rule.Reference) = ((refl, tt), refl)
 
 -- the numbers of operands before its instructions
 abbrev unasked_depth : ℕ → ℕ
@@ -138,4 +138,4 @@ unasked_valid (rule.Unit unit_rule.Depth) = (
   ),
   tt,
 )
-unasked_valid (rule.Unit unit_rule.Reference) = (refl, tt)
+unasked_valid (rule.Unit unit_rule.Reference) = ((refl, tt), refl)

@@ -289,7 +289,7 @@ unfolding contents_in rows_from number_at variable_rows_start name_rows_start at
     string_rows_start name_bytes_start string_bytes_start sections_end string_in variants_from
     is_utf8 chars encode_utf8 instructions instructions_from instruction_at instruction_from
     basic_from unary_of jump_from record_from entry_from byte_from number_from signed_from item_from
-variable_missing = (earlier, λ h. reached_not h.0)
+variable_missing = (earlier, λ h. reached_not h.0.0)
   where
     earlier : (e : Rule) → fault_number e < 111 → Keeps (with_code 0x02 0x00 0x00 0x06 0x00) e
     earlier rule.Short h = refl

@@ -43,7 +43,7 @@ empty_valid rule.Text = refl
 empty_valid (rule.Unit unit_rule.Chain) = tt
 empty_valid (rule.Unit unit_rule.Jump) = tt
 empty_valid (rule.Unit unit_rule.Depth) = tt
-empty_valid (rule.Unit unit_rule.Reference) = tt
+empty_valid (rule.Unit unit_rule.Reference) = (tt, refl)
 
 pub loop_valid : IsValid loop_image
 unfolding contents_in rows_from number_at variable_rows_start name_rows_start attribute_rows_start element_rows_start code_start
@@ -71,7 +71,7 @@ loop_valid (rule.Unit unit_rule.Depth) = (
   ),
   tt,
 )
-loop_valid (rule.Unit unit_rule.Reference) = (refl, tt)
+loop_valid (rule.Unit unit_rule.Reference) = ((refl, tt), refl)
 
 pub label_valid : IsValid label_image
 unfolding contents_in rows_from number_at variable_rows_start name_rows_start attribute_rows_start element_rows_start code_start
@@ -100,7 +100,7 @@ label_valid (rule.Unit unit_rule.Depth) = (
   ),
   tt,
 )
-label_valid (rule.Unit unit_rule.Reference) = (refl, tt)
+label_valid (rule.Unit unit_rule.Reference) = ((refl, tt), refl)
 
 -- ---- what is read of the variable
 

@@ -1,6 +1,6 @@
 -- The worked image with a loop does what a method that never ends does; with an end in its place it
 -- doesn't.
-use Rattle.std.proofs.Common.{◌≡◌, refl, sym, ap, subst, ◌∙◌, ℕ, zero, suc, ℤ, List, [], ◌∷◌, Some, arith}
+use Rattle.std.proofs.Common.{◌≡◌, refl, sym, ap, subst, ◌∙◌, ℕ, zero, suc, ℤ, List, [], ◌∷◌, Option, Some, arith}
 use Rattle.std.proofs.lemmas.Bool.Decides.{nat_tests}
 use Rattle.std.specs.Prelude.{nat_lt, IsTrue}
 use Rattle.edd_syntax.specs.declared.numbers.MethNo.{MethNo}
@@ -23,6 +23,7 @@ use Rattle.edd_image.specs.Steps.{Environment, opening, act, step}
 use Rattle.edd_image.specs.Execution as image
 use Rattle.edd_image.specs.Execution.{Ending, Ended, OutOfSteps, Outcome, preceded, stepped}
 use Rattle.edd_image.specs.Reading as reading
+use Rattle.edd_image.specs.AbortMethods.{Start, next, start_in, execute_in}
 use Rattle.edd_image.specs.Agreement.{string_numbered}
 use Rattle.edd_image.specs.MethodAgreement.{ending_of, SameOutcome, AgreesOnMethod, AgreesOnMethods}
 use Rattle.edd_image.specs.Worked.{loop_image}
@@ -44,15 +45,17 @@ in_turns values answers = record {
   requests = [];
   changes = [];
   values = values;
+  abort_methods = [];
   answers = answers;
   ending = run.OutOfTurns;
 }
 
 source_goes_on : (n : ℕ) (values : List ℤ) (answers : List Answer)
     → run.run n loop_unit first values answers ≡ in_turns values answers
-unfolding run.run run_body execute slots_in
+unfolding run.run execute slots_in
 source_goes_on n values answers =
-    ap (λ o. run.ended (source.and_then o (run.next (source.pure run.Normal))))
+    ap (λ o. run.ended (run.after_body n loop_unit
+    (source.and_then o (run.next (source.pure run.Normal)))))
     (loop_goes_on n (run.opening 0 values answers))
 
 -- ---- so does the machine, however many steps
@@ -71,13 +74,15 @@ in_steps k values answers = record {
   steps = k;
 }
 
-machine_goes_on : (env : Environment) (k : ℕ) (values : List ℤ) (answers : List Answer)
-    → image.execute env k (looping values) answers ≡ in_steps k values answers
-unfolding image.execute image.execute_following step act instruction_at instruction_from basic_from
+machine_goes_on : (start_of : MethNo → Option Start) (env : Environment) (k : ℕ)
+    (values : List ℤ) (answers : List Answer)
+    → image.execute_following (next start_of) env k (looping values) answers
+    ≡ in_steps k values answers
+unfolding image.execute_following step act instruction_at instruction_from basic_from
     unary_of jump_from number_from
-machine_goes_on env zero values answers = refl
-machine_goes_on env (suc k) values answers = ap (λ (o : Outcome). stepped (preceded [] [] o))
-    (machine_goes_on env k values answers)
+machine_goes_on start_of env zero values answers = refl
+machine_goes_on start_of env (suc k) values answers =
+    ap (λ (o : Outcome). stepped (preceded [] [] o)) (machine_goes_on start_of env k values answers)
 
 -- ---- the row of the body
 
@@ -104,11 +109,14 @@ loop_opens values = refl
 
 -- ---- the image does what the method does
 
-goes_on_so : (env : Environment) (k : ℕ) (values : List ℤ) (answers : List Answer)
-    → image.execute env k (reading.opening_of (contents_in loop_image) body values) answers
+goes_on_so : (k : ℕ) (values : List ℤ) (answers : List Answer)
+    → execute_in (contents_in loop_image) k
+    (reading.opening_of (contents_in loop_image) body values) answers
     ≡ in_steps k values answers
-goes_on_so env k values answers = ap (λ (s : steps.State). image.execute env k s answers)
-    (loop_opens values) ∙ machine_goes_on env k values answers
+goes_on_so k values answers =
+    ap (λ (s : steps.State). execute_in (contents_in loop_image) k s answers) (loop_opens values)
+    ∙ machine_goes_on (start_in (contents_in loop_image))
+    (reading.environment_of (contents_in loop_image)) k values answers
 
 loop_agrees : AgreesOnMethod loop_unit (contents_in loop_image) first
 loop_agrees = record {
@@ -119,7 +127,7 @@ loop_agrees = record {
         (over (ap (λ (t : Transcript). t.ending) (source_goes_on n values answers)));
     backward = λ values answers are valid k over.
         absurd (over (ap (λ (o : Outcome). o.ending)
-        (goes_on_so (reading.environment_of (contents_in loop_image)) k values answers)));
+        (goes_on_so k values answers)));
     in_progress = λ values answers are valid n e. (n, omega arith, same n values answers);
   };
 }
@@ -127,17 +135,17 @@ loop_agrees = record {
     same : (n : ℕ) (values : List ℤ) (answers : List Answer)
         → SameOutcome (string_numbered (contents_in loop_image))
         (run.run n loop_unit first values answers)
-        (image.execute (reading.environment_of (contents_in loop_image)) n
+        (execute_in (contents_in loop_image) n
         (reading.opening_of (contents_in loop_image) body values) answers)
     same n values answers =
         subst (λ (t : Transcript). SameOutcome (string_numbered (contents_in loop_image)) t
-        (image.execute (reading.environment_of (contents_in loop_image)) n
+        (execute_in (contents_in loop_image) n
         (reading.opening_of (contents_in loop_image) body values) answers))
         (sym (source_goes_on n values answers))
         (subst (λ (o : Outcome). SameOutcome (string_numbered (contents_in loop_image))
         (in_turns values answers) o)
-        (sym (goes_on_so (reading.environment_of (contents_in loop_image)) n values answers))
-        (record { requests = tt; changes = refl; values = refl; answers = refl; ending = refl }))
+        (sym (goes_on_so n values answers))
+        (record { requests = tt; changes = refl; values = refl; abort_methods = refl; answers = refl; ending = refl }))
 
 one_method : (contents_in loop_image).counts.methods ≡ 1
 unfolding contents_in rows_from number_at variable_rows_start name_rows_start attribute_rows_start element_rows_start code_start
@@ -160,9 +168,9 @@ unfolding contents_in rows_from number_at variable_rows_start name_rows_start at
     string_rows_start name_bytes_start string_bytes_start sections_end
 end_found = refl
 
-ends : (image.execute (reading.environment_of (contents_in end_image)) 1
+ends : (execute_in (contents_in end_image) 1
     (reading.opening_of (contents_in end_image) body []) []).ending ≡ Ended
-unfolding image.execute image.execute_following step act instruction_at instruction_from basic_from
+unfolding image.execute_following step act instruction_at instruction_from basic_from
     contents_in rows_from number_at variable_rows_start name_rows_start attribute_rows_start element_rows_start code_start
     string_rows_start name_bytes_start string_bytes_start sections_end
 ends = refl
@@ -180,7 +188,7 @@ not_by_an_end h =
     let here = h first (subst (λ (k : ℕ). IsTrue (nat_lt 0 k)) (sym one_method_ends) refl) in
     let is_body : body ≡ here.row = some_same (sym end_found ∙ here.found) in
     let over = subst (λ (r : AttributeFields).
-    (image.execute (reading.environment_of (contents_in end_image)) 1
+    (execute_in (contents_in end_image) 1
     (reading.opening_of (contents_in end_image) r []) []).ending ≡ Ended) is_body ends in
     let back = here.agrees.backward [] [] tt tt 1 (λ e. ended_is_not_out (sym over ∙ e)) in
     ended_is_not_out (sym over ∙ back.1.ending ∙ ap (λ (t : Transcript). ending_of t.ending)

@@ -3,6 +3,7 @@ use Rattle.std.specs.Prelude.{ℕ, ℤ, ◌-◌, ◌==◌, List, [], ◌∷◌, 
 use Rattle.std.specs.Int.{Width, w16, w32, w64, byte_len, from_be_bytes, cast_signed}
 use Rattle.edd_syntax.specs.declared.numbers.VarNo.{VarNo}
 use Rattle.edd_syntax.specs.declared.numbers.ArrNo.{ArrNo}
+use Rattle.edd_syntax.specs.declared.numbers.MethNo.{MethNo}
 use Rattle.edd_syntax.specs.declared.numbers.StrNo.{StrNo}
 use Rattle.edd_syntax.specs.declared.numbers.ItemNo.{ItemNo}
 use Rattle.edd_syntax.specs.declared.numbers.Kind.TheVariants.{Array}
@@ -40,6 +41,9 @@ variable n = record { 0 = n }
 
 abbrev pub array : ℕ → ArrNo
 array n = record { 0 = n }
+
+abbrev pub method : ℕ → MethNo
+method n = record { 0 = n }
 
 abbrev pub string : ℕ → StrNo
 string n = record { 0 = n }
@@ -215,6 +219,10 @@ ask_from bytes = do
   request ← ask_of b.0 s.0 t.0
   Some (instruction.Ask request, t.1)
 
+unfoldable pub abort_method_from : List ℕ → Option (Instruction × List ℕ)
+abort_method_from bytes = number_from w16 bytes
+    >>= (λ n. Some (instruction.AddAbortMethod (method n.0), n.1))
+
 -- the instruction at the front, and the bytes after it
 unfoldable pub instruction_from : List ℕ → Option (Instruction × List ℕ)
 instruction_from [] = None
@@ -229,6 +237,7 @@ instruction_from (code ∷ bytes) =
     if nat_lt code 0x50 then record_from code bytes else
     if code == 0x50 then ask_from bytes else
     if code == 0x51 then Some (instruction.Abort, bytes) else
+    if code == 0x52 then abort_method_from bytes else
     None
 
 -- the instruction at a place, and the place after it

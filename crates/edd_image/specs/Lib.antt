@@ -4,6 +4,7 @@ pub mod Decoding
 pub mod Execution
 pub mod Fields
 pub mod Layout
+pub mod AbortMethods
 pub mod MethodAgreement
 pub mod Reading
 pub mod References

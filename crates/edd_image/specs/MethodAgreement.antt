@@ -1,5 +1,5 @@
 -- When the code of a method, and a whole image, do what the methods of a description do.
-use Rattle.std.specs.Prelude.{◌≡◌, ◌≢◌, ℕ, ◌≤◌, ℤ, List, [], ◌∷◌, Option, Some, IsTrue, ⊤}
+use Rattle.std.specs.Prelude.{◌≡◌, ◌≢◌, ℕ, ◌≤◌, ℤ, List, [], ◌∷◌, Option, Some, None, IsTrue, ⊤}
 use Rattle.std.specs.List.{AllByRecursion}
 use Rattle.edd_syntax.specs.declared.numbers.MethNo.{MethNo}
 use Rattle.edd_syntax.specs.declared.numbers.ItemNo.TheVariants.{Method}
@@ -7,7 +7,7 @@ use Rattle.edd_syntax.specs.declared.numbers.StrNo.{StrNo}
 use Rattle.edd_syntax.specs.declared.reference.Target.{Target}
 use Rattle.edd_syntax.specs.Words.{Words}
 use Rattle.edd_syntax.specs.Item.{Description}
-use Rattle.edd_syntax.specs.Statement.{slots_in}
+use Rattle.edd_syntax.specs.Statement.{Nil, slots_in}
 use Rattle.edd_syntax.specs.Answers.{Answer, IsValidAnswer}
 use Rattle.edd_syntax.specs.DeviceValues.{VariableType, AreDeviceValues}
 use Rattle.edd_syntax.specs.Device.{environment}
@@ -16,6 +16,7 @@ use Rattle.edd_syntax.specs.Execution as run
 use Rattle.edd_syntax.specs.Execution.{Transcript, body_of}
 use Rattle.edd_image.specs.declared.records.Request.{Request}
 use Rattle.edd_image.specs.declared.records.Request.TheVariants as requests
+use Rattle.edd_image.specs.declared.records.Status.TheVariants.{Running}
 use Rattle.edd_image.specs.declared.unit.Context.{Context}
 use Rattle.edd_image.specs.declared.unit.Sort.TheVariants as sort
 use Rattle.edd_image.specs.Agreement.{AgreesOnData, IsString, machine_of, string_of_table, string_numbered, unit_context}
@@ -23,8 +24,9 @@ use Rattle.edd_image.specs.Contents.{AttributeFields, Contents}
 use Rattle.edd_image.specs.References.{item_exists}
 use Rattle.edd_image.specs.Reading as image
 use Rattle.edd_image.specs.Reading.{environment_of, opening_of}
-use Rattle.edd_image.specs.Steps.{opening}
-use Rattle.edd_image.specs.Execution.{Ending, Ended, Aborted, Trapped, Waiting, OutOfSteps, Outcome, execute}
+use Rattle.edd_image.specs.Steps.{RunningUnit, State}
+use Rattle.edd_image.specs.AbortMethods.{Start, start_in, execute_in}
+use Rattle.edd_image.specs.Execution.{Ending, Ended, Aborted, Trapped, Waiting, OutOfSteps, Outcome, preceded, execute}
 use Rattle.edd_image.specs.Units.{IsValidUnit}
 
 -- ---- what a host sees of a run
@@ -67,6 +69,7 @@ module _ (string_numbered : StrNo → Option Words) where
     pub requests : SameRequests t.requests o.requests
     pub changes : o.changes ≡ t.changes
     pub values : o.state.values ≡ t.values
+    pub abort_methods : o.state.abort_methods ≡ t.abort_methods
     pub answers : o.answers ≡ t.answers
     pub ending : o.ending ≡ ending_of t.ending
 
@@ -96,33 +99,68 @@ module _ (string_numbered : StrNo → Option Words) where
 abbrev pub method_context : Description Target → (strings : List Words) → (slots : ℕ) → Context
 method_context unit strings slots = unit_context unit strings sort.Method slots
 
--- The code is a valid unit with a slot for each declared local, and its runs are those of the
--- method's body, with strings by their numbers in this table.
+-- the machine at the start of a unit, in the state that the source has come to
+abbrev pub started : RunningUnit → source.State → State
+started unit s = record {
+  unit = unit;
+  place = 0;
+  operands = [];
+  slots = s.slots;
+  values = s.values;
+  status = Running;
+  abort_methods = s.abort_methods;
+  is_aborting = s.is_aborting;
+}
+
+-- From each state, whatever was asked and changed before, and for each number of turns the machine
+-- comes, within as many steps or more, to what the body comes to.
+abbrev pub FollowsBody : (StrNo → Option Words) → (types : List VariableType)
+    → (body : (turns : ℕ) → source.State → Transcript)
+    → (machine : (steps : ℕ) → source.State → Outcome) → Type 0
+FollowsBody string_numbered types body machine = (s : source.State) (before : List Request)
+    → AllByRecursion (IsValidAnswer types) s.answers
+    → SameRequests string_numbered s.requests before
+    → (n : ℕ) → (k : ℕ) × (n ≤ k)
+    × SameOutcome string_numbered (body n s) (preceded before s.changes (machine k s))
+
+-- The code is a valid unit with a slot for each declared local. Alone, without abort methods behind
+-- it, it does what the method's body does, with strings by their numbers in this table.
 pub record IsMethodCode (unit : Description Target) (strings : List Words) (method : MethNo)
     (slots : ℕ) (code : List ℕ) : Type 0 where
   pub locals : slots ≡ slots_in (body_of unit method)
   pub valid : IsValidUnit (method_context unit strings slots) code
-  pub agrees : AgreesOnRuns (string_of_table strings) (environment unit).variables
-      (λ n values answers. run.run n unit method values answers)
-      (λ k values answers. execute (machine_of (environment unit)) k
-      (opening (record { sort = sort.Method; code = code }) slots values) answers)
+  pub follows : FollowsBody (string_of_table strings) (environment unit).variables
+      (λ n s. run.run_body n (environment unit) (body_of unit method) s)
+      (λ k s. execute (machine_of (environment unit)) k
+      (started (record { sort = sort.Method; code = code }) s) s.answers)
 
 -- ---- the whole image
 
--- The body of a method in the image: the row of its code, whose runs from its start are those of
--- the method.
+-- The body of a method in the image: the row of its code, whose runs from its start, with abort
+-- methods behind it, are those of the method.
 pub record AgreesOnMethod (unit : Description Target) (c : Contents) (method : MethNo) : Type 0
   where
     pub row : AttributeFields
     pub found : image.body_of c method ≡ Some row
     pub agrees : AgreesOnRuns (string_numbered c) (environment unit).variables
         (λ n values answers. run.run n unit method values answers)
-        (λ k values answers. execute (environment_of c) k (opening_of c row values) answers)
+        (λ k values answers. execute_in c k (opening_of c row values) answers)
 
 -- each method that there is
 abbrev pub AgreesOnMethods : Description Target → Contents → Type 0
 AgreesOnMethods unit c = (method : MethNo) → IsTrue (item_exists c.counts (Method method))
     → AgreesOnMethod unit c method
+
+-- The code of a method alone does what its body does; a method without code has an empty body.
+abbrev pub IsBodyOf : Description Target → Contents → MethNo → Option Start → Type 0
+IsBodyOf unit c method None = body_of unit method ≡ Nil
+IsBodyOf unit c method (Some start) = (start.slots ≡ slots_in (body_of unit method))
+    × FollowsBody (string_numbered c) (environment unit).variables
+    (λ n s. run.run_body n (environment unit) (body_of unit method) s)
+    (λ k s. execute (environment_of c) k (started start.unit s) s.answers)
+
+abbrev pub EachIsBody : Description Target → Contents → Type 0
+EachIsBody unit c = (method : MethNo) → IsBodyOf unit c method (start_in c method)
 
 -- The image says and does what the description does: this is all that a compiled image promises of
 -- its unit.

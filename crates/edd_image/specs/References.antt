@@ -5,6 +5,7 @@ use Rattle.edd_syntax.specs.declared.numbers.ItemNo.TheVariants as items
 use Rattle.edd_syntax.specs.declared.numbers.StrNo.{StrNo}
 use Rattle.edd_syntax.specs.declared.numbers.VarNo.{VarNo}
 use Rattle.edd_syntax.specs.declared.numbers.ArrNo.{ArrNo}
+use Rattle.edd_syntax.specs.declared.numbers.MethNo.{MethNo}
 use Rattle.edd_image.specs.declared.instruction.Ask.{Ask}
 use Rattle.edd_image.specs.declared.instruction.Ask.TheVariants as ask
 use Rattle.edd_image.specs.declared.instruction.Instruction.{Instruction}
@@ -24,6 +25,9 @@ variable_exists counts v = nat_lt v.0 counts.variables
 
 abbrev pub array_exists : Counts → ArrNo → Bool
 array_exists counts a = nat_lt a.0 counts.arrays
+
+abbrev pub method_exists : Counts → MethNo → Bool
+method_exists counts m = nat_lt m.0 counts.methods
 
 abbrev pub item_exists : Counts → ItemNo → Bool
 item_exists counts (items.Variable n) = nat_lt n.0 counts.variables
@@ -78,3 +82,4 @@ names_exist context (instruction.Element n v label help) = variable_exists conte
     && (optional_string_exists context.counts label && optional_string_exists context.counts help)
 names_exist context (instruction.Ask request) = request_exists context.counts request
 names_exist context instruction.Abort = true
+names_exist context (instruction.AddAbortMethod m) = method_exists context.counts m

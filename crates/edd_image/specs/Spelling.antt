@@ -95,6 +95,7 @@ spelling (instruction.Element n v label help) = 0x48
     ∷ (u32 n ++ (u16 v.0 ++ (optional_bytes label ++ optional_bytes help)))
 spelling (instruction.Ask request) = 0x50 ∷ ask_bytes request
 spelling instruction.Abort = 0x51 ∷ []
+spelling (instruction.AddAbortMethod m) = 0x52 ∷ u16 m.0
 
 -- the instruction that leads to a target
 abbrev pub jump_to : Jump → ℕ → Instruction
@@ -168,6 +169,7 @@ IsSpelled (instruction.Element n v label help) = (n < 2 ^ 32) × (v.0 < 2 ^ 16)
     × IsOptional label × IsOptional help
 IsSpelled (instruction.Ask request) = IsAsk request
 IsSpelled instruction.Abort = ⊤
+IsSpelled (instruction.AddAbortMethod m) = m.0 < 2 ^ 16
 
 -- each byte is below 256
 pub record AreBytes (bytes : List ℕ) : Type 0 where

@@ -1,11 +1,13 @@
 -- One step of the machine: the effect of the instruction at its place.
-use Rattle.std.specs.Prelude.{◌≡◌, ℕ, suc, ℤ, pos, List, [], ◌∷◌, length, Option, Some, None, Result, Ok, Err, if◌then◌else◌, ⊤, IsTrue, FitsSigned, replicate, slice_index_or, slice_set}
+use Rattle.std.specs.Prelude.{◌≡◌, ℕ, suc, ℤ, pos, negsuc, Bool, false, List, [], ◌∷◌, length, Option, Some, None, Result, Ok, Err, if◌then◌else◌, ⊤, IsTrue, FitsSigned, replicate, slice_index_or, slice_set}
 use Rattle.std.specs.Int.{w32, w64}
 use Rattle.std.specs.List.{AllByRecursion}
 use Rattle.std.specs.Ordering.{int_eq}
 use Rattle.edd_syntax.specs.declared.answer.Trap.{Trap}
 use Rattle.edd_syntax.specs.declared.numbers.Element.{Element}
 use Rattle.edd_syntax.specs.declared.operators.UnaryOperator.TheVariants as unary_operator
+use Rattle.edd_syntax.specs.declared.numbers.MethNo.{MethNo}
+use Rattle.edd_syntax.specs.AbortMethods.{listed}
 use Rattle.edd_syntax.specs.Elements.{element_value}
 use Rattle.edd_syntax.specs.TwosComplement.{wrap, store, operate, compare, apply, is_zero}
 use Rattle.edd_syntax.specs.DeviceValues.{VariableType, type_at, value_at, AreDeviceValues}
@@ -43,6 +45,10 @@ pub record State : Type 0 where
   pub slots : List ℤ
   pub values : List ℤ
   pub status : Status
+  -- the methods that are to run, in order, if the run is aborted, or that are left of them
+  pub abort_methods : List MethNo
+  -- it was aborted, and they run
+  pub is_aborting : Bool
 
 -- what is round a run, and stays
 pub record Environment : Type 0 where
@@ -65,6 +71,8 @@ opening unit slots values = record {
   slots = replicate slots (pos 0);
   values = values;
   status = Running;
+  abort_methods = [];
+  is_aborting = false;
 }
 
 -- arithmetic has 64 bits in attributes and 32 bits in methods
@@ -202,6 +210,10 @@ act env (instruction.Element n v label help) next s =
     give s next s.operands (records.Element n v label help)
 act env (instruction.Ask request) next s = act_ask request next s
 act env instruction.Abort next s = stop s Aborted
+act env (instruction.AddAbortMethod m) next s = elim (listed s.is_aborting s.abort_methods m) [
+  | Some methods ↦ go (record s { abort_methods = methods }) next (pos 0 ∷ s.operands)
+  | None ↦ go s next (negsuc 0 ∷ s.operands)
+]
 
 -- only a running state has a step
 abbrev pub if_running : Status → Option Effect → Option Effect

@@ -90,6 +90,7 @@ takes (instruction.Member name item label help) = 0
 takes (instruction.Element n v label help) = 0
 takes (instruction.Ask request) = numbers_asked request
 takes instruction.Abort = 0
+takes (instruction.AddAbortMethod m) = 0
 
 -- how many it leaves in place of those, where it goes on to the instruction after it
 abbrev pub leaves : Instruction → Option ℕ
@@ -122,6 +123,7 @@ leaves (instruction.Member name item label help) = Some 0
 leaves (instruction.Element n v label help) = Some 0
 leaves (instruction.Ask request) = Some 1
 leaves instruction.Abort = None
+leaves (instruction.AddAbortMethod m) = Some 1
 
 -- the way to the instruction after it
 abbrev pub onward : Instruction → ℕ → Option Way
@@ -158,6 +160,7 @@ jump (instruction.Member name item label help) = None
 jump (instruction.Element n v label help) = None
 jump (instruction.Ask request) = None
 jump instruction.Abort = None
+jump (instruction.AddAbortMethod m) = None
 
 -- the ways from an instruction
 abbrev pub ways : Placed → List Way
@@ -182,7 +185,7 @@ methods_only = record { in_attributes = false; in_methods = true }
 abbrev pub nowhere : Allowed
 nowhere = record { in_attributes = false; in_methods = false }
 
--- the first version has no arrays
+-- the first version has no arrays and no abort methods
 abbrev pub from_version_two : Version → Allowed → Allowed
 from_version_two One a = nowhere
 from_version_two Two a = a
@@ -217,6 +220,7 @@ allowed version (instruction.Member name item label help) = attributes_only
 allowed version (instruction.Element n v label help) = from_version_two version attributes_only
 allowed version (instruction.Ask request) = methods_only
 allowed version instruction.Abort = methods_only
+allowed version (instruction.AddAbortMethod m) = from_version_two version methods_only
 
 abbrev pub is_allowed : Version → Sort → Instruction → Bool
 is_allowed version Attribute i = (allowed version i).in_attributes

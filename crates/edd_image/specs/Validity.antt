@@ -1,14 +1,16 @@
 -- The rules on an image, in their order, and valid images.
 use Rattle.std.specs.Prelude.{ℕ, ◌+◌, ◌<◌, ◌==◌, Bool, true, false, not, ◌&&◌, ◌||◌, List, [], ◌∷◌, length, map, Option, Some, None, is_some, nat_lt, nat_le, IsTrue, if◌then◌else◌}
-use Rattle.std.specs.List.{AllByRecursion, list_all}
+use Rattle.std.specs.List.{AllByRecursion, list_all, list_any}
 use Rattle.std.specs.Option.{option_map_or}
 use Rattle.edd_syntax.specs.declared.numbers.ItemNo.{ItemNo}
 use Rattle.edd_syntax.specs.declared.numbers.Element.{Element}
+use Rattle.edd_syntax.specs.declared.numbers.MethNo.{MethNo}
+use Rattle.edd_syntax.specs.declared.numbers.Kind.TheVariants as kinds
 use Rattle.edd_syntax.specs.declared.numbers.Attr.{Attr}
 use Rattle.edd_syntax.specs.declared.numbers.Attr.TheVariants as attr
 use Rattle.edd_syntax.specs.declared.types.VarType.{VarType}
 use Rattle.edd_syntax.specs.declared.types.VarType.TheVariants as var_type
-use Rattle.edd_syntax.specs.Numbers.{kind_of, attr_number, attr_from_number, same_attr, has_attr, item_from_numbers}
+use Rattle.edd_syntax.specs.Numbers.{kind_number, kind_of, attr_number, attr_from_number, same_attr, has_attr, item_from_numbers}
 use Rattle.edd_syntax.specs.Attributes.{is_of_transaction}
 use Rattle.edd_syntax.specs.Names.{is_name, is_within}
 use Rattle.edd_image.specs.declared.parts.Counts.{Counts}
@@ -24,7 +26,9 @@ use Rattle.edd_image.specs.Layout.{type_code}
 use Rattle.edd_image.specs.Fields.{header_length, has_magic, version_number, total_length, code_length, sections_end}
 use Rattle.edd_image.specs.Contents.{Span, part, VariableFields, AttributeFields, Contents, version_of, contents_in}
 use Rattle.edd_image.specs.Strings.{is_string}
-use Rattle.edd_image.specs.Units.{UnitKeeps, IsValidUnit}
+use Rattle.edd_image.specs.declared.instruction.Instruction.{Instruction}
+use Rattle.edd_image.specs.declared.instruction.Instruction.TheVariants as instruction
+use Rattle.edd_image.specs.Units.{instructions, UnitKeeps, IsValidUnit}
 
 -- ---- the lengths
 
@@ -154,8 +158,30 @@ placed_unit c r = record {
 abbrev pub units : Contents → List PlacedUnit
 units c = map (placed_unit c) c.attributes
 
+-- the method has a body
+abbrev pub has_body : Contents → MethNo → Bool
+has_body c m = list_any (λ r. r.kind == kind_number kinds.Method && (is_body r && r.item == m.0))
+    c.attributes
+
+-- where it adds an abort method, that has a body
+abbrev pub adds_with_body : Contents → Instruction → Bool
+adds_with_body c (instruction.AddAbortMethod m) = has_body c m
+adds_with_body c _ = true
+
+abbrev pub all_add_with_body : Contents → Bool
+all_add_with_body c = list_all (λ u. list_all (λ x. adds_with_body c x.instruction)
+    (instructions u.code)) (units c)
+
+abbrev pub EachUnitKeeps : Contents → UnitRule → Type 0
+EachUnitKeeps c which = AllByRecursion (λ u. UnitKeeps u.context u.code which) (units c)
+
+-- each unit keeps the rule; what units name exists, and an abort method that one adds has a body
 abbrev pub UnitsKeep : Contents → UnitRule → Type 0
-UnitsKeep c which = AllByRecursion (λ u. UnitKeeps u.context u.code which) (units c)
+UnitsKeep c unit_rule.Chain = EachUnitKeeps c unit_rule.Chain
+UnitsKeep c unit_rule.Jump = EachUnitKeeps c unit_rule.Jump
+UnitsKeep c unit_rule.Depth = EachUnitKeeps c unit_rule.Depth
+UnitsKeep c unit_rule.Reference = EachUnitKeeps c unit_rule.Reference
+    × IsTrue (all_add_with_body c)
 
 -- ---- the rules, the first that is broken, and valid images
 
@@ -197,3 +223,4 @@ pub record IsSound (c : Contents) : Type 0 where
   pub names : IsTrue (are_names c)
   pub strings : IsTrue (are_strings c)
   pub valid_units : AllByRecursion (λ u. IsValidUnit u.context u.code) (units c)
+  pub abort_methods : IsTrue (all_add_with_body c)

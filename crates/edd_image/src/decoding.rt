@@ -3,10 +3,10 @@
 ghost use Rattle.std.specs.Prelude.{◌≡◌, ◌-◌, ◌<◌, ◌≤◌, ◌∷◌, drop, length, ◌==◌, IfSome, option_map, nat_lt, if◌then◌else◌, None, Some};
 ghost use Rattle.edd_image.specs.declared.instruction.Instruction.TheVariants as instructions;
 ghost use Rattle.std.specs.Int.{w16, w32, w64};
-ghost use Rattle.edd_image.specs.Decoding.{byte_from, number_from, signed_from, basic_from, jump_from, item_from, optional_string, entry_from, data_from, enumerator_from, response_from, member_from, element_from, record_from, ask_of, ask_from, instruction_from, instruction_at};
+ghost use Rattle.edd_image.specs.Decoding.{byte_from, number_from, signed_from, basic_from, jump_from, item_from, optional_string, entry_from, data_from, enumerator_from, response_from, member_from, element_from, record_from, ask_of, ask_from, abort_method_from, instruction_from, instruction_at};
 
 use crate::instruction::{Ask, Instruction};
-use edd_syntax::numbers::{ArrNo, ItemNo, Kind, StrNo, VarNo};
+use edd_syntax::numbers::{ArrNo, ItemNo, Kind, MethNo, StrNo, VarNo};
 use edd_syntax::operators::{Comparison, Operator};
 
 #[inline(always)]
@@ -364,6 +364,16 @@ fn ask_from(bytes: &[u8]) -> Option<(Instruction, &[u8])>
     Some((Instruction::Ask(request), rest))
 }
 
+#[inline(always)]
+#[tactic(auto, unfolding(crate::specs::Decoding::abort_method_from))]
+fn abort_method_from(bytes: &[u8]) -> Option<(Instruction, &[u8])>
+    ensures value { option_map (λ x. (x.0, x.1.now)) result ≡ abort_method_from bytes.now }
+    ensures left { IfSome result (λ x. length x.1.now ≤ length bytes.now) }
+{
+    let (number, rest) = u16_from(bytes)?;
+    Some((Instruction::AddAbortMethod(MethNo(number)), rest))
+}
+
 // The longest instructions. They stand apart, as requests do.
 #[inline(never)]
 fn long_from(number: u8, bytes: &[u8]) -> Option<(Instruction, &[u8])>
@@ -447,6 +457,7 @@ fn numbered(number: u8, code: &[u8], next: usize) -> Option<(Instruction, usize)
         0x43 => placed(code, data_const_from(&code[next..])),
         0x50 => placed(code, ask_from(&code[next..])),
         0x51 => Some((Instruction::Abort, next)),
+        0x52 => placed(code, abort_method_from(&code[next..])),
         _ => placed(code, long_from(number, &code[next..])),
     }
 }

@@ -277,5 +277,6 @@ pub fn encode(instruction: Instruction) -> Encoding
         } => element(number, var, label, help),
         Instruction::Ask(request) => ask(request),
         Instruction::Abort => alone(0x51),
+        Instruction::AddAbortMethod(method) => with_u16(0x52, method.0),
     }
 }

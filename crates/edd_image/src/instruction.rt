@@ -1,6 +1,6 @@
 //! The instructions of a unit.
 
-use edd_syntax::numbers::{ArrNo, ItemNo, StrNo, VarNo};
+use edd_syntax::numbers::{ArrNo, ItemNo, MethNo, StrNo, VarNo};
 use edd_syntax::operators::{Comparison, Operator};
 
 /// A request as an instruction names it: its numbers come from the operands.
@@ -86,4 +86,5 @@ pub enum Instruction {
     },
     Ask(Ask),
     Abort,
+    AddAbortMethod(MethNo),
 }

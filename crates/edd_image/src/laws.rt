@@ -5,23 +5,29 @@ ghost use Rattle.std.specs.List.{AllByRecursion};
 ghost use Rattle.edd_image.specs.declared.instruction.Instruction.{Instruction};
 ghost use Rattle.edd_image.specs.Decoding.{instruction_at};
 ghost use Rattle.edd_image.specs.Layout.{Sections, AreSections, layout};
-ghost use Rattle.edd_image.specs.Contents.{contents_in, contents_of};
 ghost use Rattle.edd_image.specs.Units.{IsValidUnit};
 ghost use Rattle.edd_image.specs.Validity.{code_limit, IsSound, IsValid};
-ghost use Rattle.edd_syntax.specs.Answers.{Answer, Go, Abort, Change, IsValidAnswer, answer_fault};
+ghost use Rattle.edd_syntax.specs.Answers.{Answer, IsValidAnswer, answer_fault};
 ghost use Rattle.edd_syntax.specs.declared.numbers.AttrRef.{AttrRef};
 ghost use Rattle.edd_syntax.specs.DeviceValues.{AreDeviceValues, VariableType};
-ghost use Rattle.edd_image.specs.Reading.{Reading, IsReading};
 ghost use Rattle.edd_syntax.specs.Words.{Words};
 ghost use Rattle.edd_image.specs.declared.records.Request.{Request};
 ghost use Rattle.edd_image.specs.declared.records.Status.TheVariants.{Running, Asking};
 ghost use Rattle.edd_image.specs.declared.unit.Context.{Context};
 ghost use Rattle.edd_image.specs.Strings.{WordsFit, string_bytes, string_in};
 ghost use Rattle.edd_image.specs.Steps.{State, Environment, Effect, IsState, opening, step};
-ghost use Rattle.edd_image.specs.Execution.{Aborted, Waiting, OutOfSteps, IsGoodEnding, AsksNothing, answered, closed, execute, execute_following, nothing_met, preceded, resumed, resumed_following};
+ghost use Rattle.edd_image.specs.Execution.{Waiting, OutOfSteps, IsGoodEnding, AsksNothing, answered, closed, execute, execute_following, nothing_met, preceded, resumed, resumed_following};
 ghost use Rattle.edd_syntax.specs.declared.numbers.StrNo.{StrNo};
-ghost use Rattle.edd_syntax.specs.Execution.{Transcript};
-ghost use Rattle.edd_image.specs.MethodAgreement.{SameOutcome, AgreesOnRuns};
+ghost use Rattle.edd_syntax.specs.declared.numbers.MethNo.{MethNo};
+ghost use Rattle.edd_syntax.specs.declared.reference.Target.{Target};
+ghost use Rattle.edd_syntax.specs.Device.{environment};
+ghost use Rattle.edd_syntax.specs.Item.{Description};
+ghost use Rattle.edd_syntax.specs.Execution.{Transcript, run};
+ghost use Rattle.edd_image.specs.AbortMethods.{Start, next, execute_in};
+ghost use Rattle.edd_image.specs.Agreement.{string_numbered};
+ghost use Rattle.edd_image.specs.Contents.{Contents, AttributeFields, contents_in, contents_of};
+ghost use Rattle.edd_image.specs.Reading.{Reading, IsReading, body_of, opening_of};
+ghost use Rattle.edd_image.specs.MethodAgreement.{SameOutcome, AgreesOnRuns, EachIsBody};
 ghost use Rattle.edd_image.specs.Spelling.{AreBytes, spelling, IsSpelled};
 
 /// An instruction that was spelled is read again, whatever stands around it.
@@ -92,37 +98,38 @@ pub fn runs_may_be_cut()
         → execute env (j + k) s answers ≡ resumed env k (execute env j s answers) }
 {}
 
-/// A request that stands is met by the next answer, whatever answers follow. The answer's sets are
-/// changes, and the run goes on from the state after them; an abort ends the run; without an answer
-/// the run waits.
+/// A request that stands is met by the next answer, whatever answers follow: the answer's sets are
+/// changes, and the run goes on from the state after them and from what follows that. Without an
+/// answer the run waits.
 pub fn requests_are_met()
-    ensures goes_on { (env : Environment) (k : ℕ) (s : State) (r : Request) (code : ℤ)
-        (sets : List Change) (rest : List Answer)
-        → s.status ≡ Asking r → answer_fault env.types (Go code sets) ≡ None
-        → execute env k s (Go code sets ∷ rest)
-        ≡ preceded [] sets (execute env k (answered s (Go code sets)).state rest) }
-    ensures aborts { (env : Environment) (k : ℕ) (s : State) (r : Request) (rest : List Answer)
-        → s.status ≡ Asking r
-        → execute env k s (Abort ∷ rest) ≡ closed (nothing_met (answered s Abort).state rest None)
-        Aborted }
-    ensures waits { (env : Environment) (k : ℕ) (s : State) (r : Request) → s.status ≡ Asking r
-        → execute env k s [] ≡ closed (nothing_met s [] None) Waiting }
+    ensures met { (follow : State → State) → AsksNothing follow
+        → (env : Environment) (k : ℕ) (s : State) (r : Request) (answer : Answer)
+        (rest : List Answer)
+        → s.status ≡ Asking r → answer_fault env.types answer ≡ None
+        → execute_following follow env k s (answer ∷ rest)
+        ≡ preceded [] (answered s answer).changes
+        (execute_following follow env k (follow (answered s answer).state) rest) }
+    ensures waits { (follow : State → State) → AsksNothing follow
+        → (env : Environment) (k : ℕ) (s : State) (r : Request) → s.status ≡ Asking r
+        → execute_following follow env k s [] ≡ closed (nothing_met s [] None) Waiting }
 {}
 
 /// A run that is over comes to the same within more steps.
 pub fn what_is_over_stays()
-    ensures { (env : Environment) (m n : ℕ) → m ≤ n → (s : State) (answers : List Answer)
-        → (execute env m s answers).ending ≢ OutOfSteps → execute env n s answers
-        ≡ execute env m s answers }
+    ensures { (follow : State → State) (env : Environment) (m n : ℕ) → m ≤ n
+        → (s : State) (answers : List Answer)
+        → (execute_following follow env m s answers).ending ≢ OutOfSteps
+        → execute_following follow env n s answers ≡ execute_following follow env m s answers }
 {}
 
 /// A run takes at most as many steps as it may, and one that is out of steps has taken all of them.
-/// Answers are no steps.
+/// Answers are no steps, and neither is what follows.
 pub fn steps_are_counted()
-    ensures at_most { (env : Environment) (n : ℕ) (s : State) (answers : List Answer)
-        → (execute env n s answers).steps ≤ n }
-    ensures all { (env : Environment) (n : ℕ) (s : State) (answers : List Answer)
-        → (execute env n s answers).ending ≡ OutOfSteps → (execute env n s answers).steps ≡ n }
+    ensures at_most { (follow : State → State) (env : Environment) (n : ℕ) (s : State)
+        (answers : List Answer) → (execute_following follow env n s answers).steps ≤ n }
+    ensures all { (follow : State → State) (env : Environment) (n : ℕ) (s : State)
+        (answers : List Answer) → (execute_following follow env n s answers).ending ≡ OutOfSteps
+        → (execute_following follow env n s answers).steps ≡ n }
 {}
 
 /// From a state of a valid unit, under valid answers, a run comes to a state of the same unit. It
@@ -142,17 +149,32 @@ pub fn readings_are_unique()
         → IsReading b ref values r → IsReading b ref values q → r ≡ q }
 {}
 
-/// A unit that comes along with the source agrees with it on all runs: where for every number of
-/// turns the machine comes to the same within that many steps or more, what one of them comes to
-/// when it is over the other comes to as well.
+/// A machine that comes along with the source agrees with it on all runs: where for every number of
+/// turns it comes to the same within that many steps or more, what one of them comes to when it is
+/// over the other comes to as well.
 pub fn followed_runs_agree()
     ensures { (string_numbered : StrNo → Option Words) (types : List VariableType)
-        (source : (turns : ℕ) → List ℤ → List Answer → Transcript) (env : Environment)
-        (start : List ℤ → State)
+        (source : (turns : ℕ) → List ℤ → List Answer → Transcript) (follow : State → State)
+        (env : Environment) (start : List ℤ → State)
         → ((values : List ℤ) (answers : List Answer) → AreDeviceValues types values
         → AllByRecursion (IsValidAnswer types) answers → (n : ℕ)
         → (k : ℕ) × (n ≤ k) × SameOutcome string_numbered (source n values answers)
-        (execute env k (start values) answers))
+        (execute_following follow env k (start values) answers))
         → AgreesOnRuns string_numbered types source
-        (λ k values answers. execute env k (start values) answers) }
+        (λ k values answers. execute_following follow env k (start values) answers) }
+{}
+
+/// What follows an abort in a run makes no request of its own.
+pub fn abort_methods_ask_nothing()
+    ensures { (start_of : MethNo → Option Start) → AsksNothing (next start_of) }
+{}
+
+/// Where the code of each method alone does what the method's body does, the runs of the image, in
+/// which abort methods follow, are those of the methods.
+pub fn joined_runs_agree()
+    ensures { (unit : Description Target) (c : Contents) → EachIsBody unit c
+        → (method : MethNo) (row : AttributeFields) → body_of c method ≡ Some row
+        → AgreesOnRuns (string_numbered c) (environment unit).variables
+        (λ n values answers. run n unit method values answers)
+        (λ k values answers. execute_in c k (opening_of c row values) answers) }
 {}

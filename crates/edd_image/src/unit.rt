@@ -3,18 +3,18 @@
 ghost use Rattle.std.specs.Prelude.{◌≡◌};
 ghost use Rattle.edd_image.specs.Versions.{version_code, header_size};
 ghost use Rattle.edd_image.specs.Units.{takes, onward, jump, allowed, is_allowed};
-ghost use Rattle.edd_image.specs.References.{names_exist, string_exists, optional_string_exists, variable_exists, array_exists, item_exists, request_exists};
+ghost use Rattle.edd_image.specs.References.{names_exist, string_exists, optional_string_exists, variable_exists, array_exists, method_exists, item_exists, request_exists};
 
 use crate::header::{EXTENDED_HEADER_LENGTH, HEADER_LENGTH};
 use crate::instruction::{Ask, Instruction};
 use crate::parts::Counts;
-use edd_syntax::numbers::{ArrNo, ItemNo, StrNo, VarNo};
+use edd_syntax::numbers::{ArrNo, ItemNo, MethNo, StrNo, VarNo};
 
 /// A version of the layout.
 #[derive(Clone, Copy, PartialEq, Eq, Debug)]
 pub enum Version {
     One,
-    /// With item arrays.
+    /// With item arrays and abort methods.
     Two,
 }
 
@@ -113,7 +113,8 @@ impl Instruction {
             | Instruction::Complement
             | Instruction::Case { .. }
             | Instruction::ReadElement(_)
-            | Instruction::Ask(_) => 1,
+            | Instruction::Ask(_)
+            | Instruction::AddAbortMethod(_) => 1,
             _ => 0,
         };
         Some(Way { to: next, leaves })
@@ -146,7 +147,8 @@ impl Instruction {
             | Instruction::GetLocal(_)
             | Instruction::SetLocal(_)
             | Instruction::Ask(_)
-            | Instruction::Abort => false,
+            | Instruction::Abort
+            | Instruction::AddAbortMethod(_) => false,
             Instruction::ReadElement(_) | Instruction::Element { .. } => {
                 matches!(version, Version::Two)
             }
@@ -169,7 +171,9 @@ impl Instruction {
             | Instruction::Response { .. }
             | Instruction::Member { .. }
             | Instruction::Element { .. } => false,
-            Instruction::ReadElement(_) => matches!(version, Version::Two),
+            Instruction::ReadElement(_) | Instruction::AddAbortMethod(_) => {
+                matches!(version, Version::Two)
+            }
             _ => true,
         }
     }
@@ -218,6 +222,13 @@ impl Counts {
         array.0 < self.arrays
     }
 
+    /// Whether there is such a method.
+    pub fn has_method(self, method: MethNo) -> bool
+        ensures { result ≡ method_exists self method }
+    {
+        method.0 < self.methods
+    }
+
     /// Whether there is such an item.
     pub fn has_item(self, item: ItemNo) -> bool
         ensures { result ≡ item_exists self item }
@@ -256,6 +267,7 @@ impl Context {
             Instruction::Variable(v) | Instruction::Store(v) => counts.has_variable(v),
             Instruction::DataVar { var, .. } => counts.has_variable(var),
             Instruction::ReadElement(array) => counts.has_array(array),
+            Instruction::AddAbortMethod(method) => counts.has_method(method),
             Instruction::GetLocal(slot) | Instruction::SetLocal(slot) => slot < self.slots,
             Instruction::Text(s) => counts.has_string(s),
             Instruction::Response { text, .. } => counts.has_string(text),

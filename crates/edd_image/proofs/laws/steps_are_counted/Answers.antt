@@ -1,8 +1,8 @@
-use Rattle.edd_image.proofs.StepCounts.{at_most, all_taken}
+use Rattle.edd_image.proofs.StepCounts.{at_most_following, all_taken_following}
 use Rattle.edd_image.proofs.laws.steps_are_counted.Goals as goal
 
 pub returns-clause-at_most : goal.returns-clause-at_most
-returns-clause-at_most c = λ env n s answers. at_most env n s answers
+returns-clause-at_most c = λ follow env n s answers. at_most_following follow env n s answers
 
 pub returns-clause-all : goal.returns-clause-all
-returns-clause-all c = λ env n s answers out. all_taken env n s answers out
+returns-clause-all c = λ follow env n s answers out. all_taken_following follow env n s answers out

@@ -1,5 +1,5 @@
-use Rattle.edd_image.proofs.StaysOver.{stays_over}
+use Rattle.edd_image.proofs.StaysOver.{stays_over_following}
 use Rattle.edd_image.proofs.laws.what_is_over_stays.Goals as goal
 
 pub returns : goal.returns
-returns c = stays_over
+returns c = stays_over_following
