@@ -1,6 +1,6 @@
 -- When the code of an attribute, and a whole image, say what the tree of a description means,
 -- methods aside.
-use Rattle.std.specs.Prelude.{◌≡◌, ℕ, ◌+◌, nat_lt, ℤ, List, [], ◌∷◌, length, slice_get, Option, Some, None, option_map, Result, Ok, Err, if◌then◌else◌, ⊤}
+use Rattle.std.specs.Prelude.{◌≡◌, ℕ, ◌+◌, ℤ, List, [], ◌∷◌, length, slice_get, Option, Some, None, option_map, Result, Ok, Err, if◌then◌else◌, ⊤}
 use Rattle.edd_syntax.specs.declared.answer.Trap.{Trap}
 use Rattle.edd_syntax.specs.declared.numbers.Kind.{Kind}
 use Rattle.edd_syntax.specs.declared.numbers.Kind.TheVariants as kind
@@ -16,6 +16,7 @@ use Rattle.edd_syntax.specs.declared.reference.Target.{Target}
 use Rattle.edd_syntax.specs.Words.{Words}
 use Rattle.edd_syntax.specs.Item.{Item, Identification, Description}
 use Rattle.edd_syntax.specs.Resolution.{count_of}
+use Rattle.edd_syntax.specs.LayoutVersion.{needs_second_version}
 use Rattle.edd_syntax.specs.AttributeValue.{Trapping}
 use Rattle.edd_syntax.specs.Device as device
 use Rattle.edd_syntax.specs.Device.{item_at, environment}
@@ -155,14 +156,14 @@ counts_of i items strings = record {
   dd_revision = i.dd_revision;
 }
 
--- the version of an image with so much of everything: the second has arrays
-abbrev pub version_with : Counts → Version
-version_with counts = if nat_lt 0 counts.arrays then Two else One
+-- the version of a description's image
+abbrev pub version_for : Description Target → Version
+version_for unit = if needs_second_version unit then Two else One
 
 -- where a unit stands in the image
 abbrev pub unit_context : Description Target → (strings : List Words) → Sort → (slots : ℕ) → Context
 unit_context unit strings sort slots = record {
-  version = version_with (counts_of unit.identification unit.items (length strings));
+  version = version_for unit;
   counts = counts_of unit.identification unit.items (length strings);
   sort = sort;
   slots = slots;

@@ -8,6 +8,7 @@ pub mod EveryAttribute
 pub mod FirstLaws
 pub mod KeptItems
 pub mod Made
+pub mod VersionLaws
 pub mod WithinLimits
 pub mod Existing
 pub mod Repeats

@@ -8,7 +8,7 @@ use Rattle.edd_syntax.specs.Statement.{slots_of}
 use Rattle.edd_syntax.specs.TwosComplement.{wrap}
 use Rattle.edd_syntax.specs.Words.{words_of, pieces, unescape}
 use Rattle.edd_syntax.specs.WellFormed.{are_items}
-use Rattle.edd_syntax.specs.ResolvedTrees.{resolved_unit, resolved_stmt, resolved_expr}
+use Rattle.edd_syntax.specs.ResolvedTrees.{resolved_unit, resolved_stmt, resolved_by}
 use Rattle.edd_syntax.specs.Accepted.{IsAccepted}
 use Rattle.edd_syntax.specs.Resolved.{IsResolved, IsChecked}
 use Rattle.std.proofs.Common.{◌∷◌}
@@ -18,7 +18,7 @@ abbrev written : Description Path
 written = source (named (codes "x")) (sets (dotted (codes "c") (codes "m")) 300 ∷ [])
 
 member_assignment_is_resolved : IsResolved (source the_x (sets the_x 300 ∷ []))
-unfolding are_items resolved_unit resolved_stmt resolved_expr slots_of
+unfolding are_items resolved_unit resolved_stmt resolved_by slots_of
 member_assignment_is_resolved = record {
   unit = written;
   well_formed = refl;
@@ -32,6 +32,6 @@ member_assignment_is_checked =
     record { is_resolved = member_assignment_is_resolved; no_breach = refl }
 
 member_assignment_is_accepted : IsAccepted written
-unfolding resolved_unit resolved_stmt resolved_expr slots_of wrap words_of pieces unescape
+unfolding resolved_unit resolved_stmt resolved_by slots_of wrap words_of pieces unescape
 member_assignment_is_accepted =
     record { resolved = source the_x (sets the_x 300 ∷ []); meanings = refl; no_breach = refl }

@@ -1,21 +1,23 @@
 -- Worked examples of names, computed.
 use Rattle.std.proofs.Common.{◌≡◌, refl, ℕ, pos, List, [], ◌∷◌}
-use Rattle.std.specs.Prelude.{Some, None, codes, Option}
+use Rattle.std.specs.Prelude.{true, false, Some, None, codes, Option}
 use Rattle.edd_syntax.specs.declared.numbers.Kind.{Kind}
 use Rattle.edd_syntax.specs.declared.numbers.Kind.TheVariants as kind
 use Rattle.edd_syntax.specs.declared.numbers.ItemNo.TheVariants as item_no
+use Rattle.edd_syntax.specs.declared.operators.Builtin.TheVariants as builtin
 use Rattle.edd_syntax.specs.declared.types.VarType.TheVariants as var_type
 use Rattle.edd_syntax.specs.Text.{Name}
-use Rattle.edd_syntax.specs.Reference.{Path, Target, Local, Item}
-use Rattle.edd_syntax.specs.Expression.{Literal, Reference, Assign}
+use Rattle.edd_syntax.specs.Reference.{Path, Target, Local, Item, Function}
+use Rattle.edd_syntax.specs.Expression.{Literal, Reference, Assign, Call, Value, arguments_from}
 use Rattle.edd_syntax.specs.Conditional as cond
-use Rattle.edd_syntax.specs.Statement.{Evaluate, Block, Part, body_from, Declare, Statement, slots_of}
+use Rattle.edd_syntax.specs.Statement.{Evaluate, Block, Return, Part, body_from, Declare, Statement, slots_of}
 use Rattle.edd_syntax.specs.Item as item
 use Rattle.edd_syntax.specs.Item.{Description, Attribute, TypeOf, Known, Members, Definition}
 use Rattle.edd_syntax.specs.TwosComplement.{wrap, store}
 use Rattle.edd_syntax.specs.Evaluation.{evaluate}
 use Rattle.edd_syntax.specs.Execution.{execute, run, Ended}
-use Rattle.edd_syntax.specs.ResolvedTrees.{resolved_unit, resolved_stmt, resolved_expr}
+use Rattle.edd_syntax.specs.LayoutVersion.{needs_second_version}
+use Rattle.edd_syntax.specs.ResolvedTrees.{resolved_unit, resolved_stmt, resolved_by}
 use Rattle.edd_syntax.specs.Refusal.{Refusal, UnknownName, WrongKind, first_of}
 use Rattle.edd_syntax.specs.NameRules.{wrong_uses}
 
@@ -81,7 +83,7 @@ source x body = of_items (variable (codes "x") ∷ collection kind.Variable (cod
 member_is_its_item : resolved_unit
     (source (named (codes "x")) (sets (dotted (codes "c") (codes "m")) 300 ∷ []))
     ≡ Some (source the_x (sets the_x 300 ∷ []))
-unfolding resolved_unit resolved_stmt resolved_expr
+unfolding resolved_unit resolved_stmt resolved_by
 member_is_its_item = refl
 
 -- which keeps the low 8 bits of 300
@@ -104,7 +106,7 @@ local_hides_item_in_its_block : resolved_unit
     ∷ sets (named (codes "x")) 2 ∷ []))
     ≡ Some (source the_x (Statement (Block (body_from (declares (Local 0) ∷ sets (Local 0) 1 ∷ [])))
     ∷ sets the_x 2 ∷ []))
-unfolding resolved_unit resolved_stmt resolved_expr slots_of
+unfolding resolved_unit resolved_stmt resolved_by slots_of
 local_hides_item_in_its_block = refl
 
 -- `int x = x;`: the scope of a local begins after its own declarator
@@ -114,7 +116,7 @@ scope_begins_after_declarator : resolved_unit
     ∷ []) ∷ []))
     ≡ Some (source the_x (Declare (record { place = Local 0; value = Some (Reference the_x) } ∷ [])
     ∷ []))
-unfolding resolved_unit resolved_stmt resolved_expr
+unfolding resolved_unit resolved_stmt resolved_by
 scope_begins_after_declarator = refl
 
 -- `{ int a; } int b; b = 1;`: a slot isn't used again
@@ -123,8 +125,22 @@ slots_are_not_reused : resolved_unit
     ∷ declares (named (codes "b")) ∷ sets (named (codes "b")) 1 ∷ []))
     ≡ Some (source the_x (Statement (Block (body_from (declares (Local 0) ∷ [])))
     ∷ declares (Local 1) ∷ sets (Local 1) 1 ∷ []))
-unfolding resolved_unit resolved_stmt resolved_expr slots_of
+unfolding resolved_unit resolved_stmt resolved_by slots_of
 slots_are_not_reused = refl
+
+-- ---- the version of the layout
+
+abbrev adds_itself : Part Target
+adds_itself = Statement (Evaluate (Call (Function builtin.AddAbortMethod)
+    (arguments_from (Value (Reference (Item (item_no.Method (record { 0 = 0 })))) ∷ []))))
+
+-- `return; add_abort_method(m);`: also what is never reached counts
+abort_method_needs_second_version :
+    needs_second_version (source the_x (Statement Return ∷ adds_itself ∷ [])) ≡ true
+abort_method_needs_second_version = refl
+
+without_it_the_first_is_enough : needs_second_version (source the_x (sets the_x 300 ∷ [])) ≡ false
+without_it_the_first_is_enough = refl
 
 -- ---- names at fault
 

@@ -20,7 +20,7 @@ use Rattle.edd_syntax.specs.Item.{Description, Attribute, TypeOf, Known, Other, 
 use Rattle.edd_syntax.specs.TwosComplement.{wrap}
 use Rattle.edd_syntax.specs.Words.{words_of, pieces, unescape}
 use Rattle.edd_syntax.specs.Size.{attribute_height}
-use Rattle.edd_syntax.specs.ResolvedTrees.{resolved_unit, resolved_stmt, resolved_expr, resolved_cond}
+use Rattle.edd_syntax.specs.ResolvedTrees.{resolved_unit, resolved_stmt, resolved_by, resolved_cond}
 use Rattle.edd_syntax.specs.Refusal.{Refusal, TooMany, DuplicateName, DuplicateAttribute, MissingAttribute, UnknownName, WrongKind, FloatVariable, OtherType, BadSize, Mismatch, FloatValue, BreakOutside, ConstRange, DuplicateCase, first_of}
 use Rattle.edd_syntax.specs.NameRules.{too_many, duplicate_names, duplicate_attributes, missing_attributes, wrong_uses}
 use Rattle.edd_syntax.specs.Accepted.{refusal, profile_breaches}
@@ -106,7 +106,7 @@ reply d = item.Reply (cond.Cons (Value d) cond.Nil)
 -- ---- each rule
 
 nothing_is_broken : refusal (with_method (sets (codes "x") (Literal 1) ∷ [])) ≡ None
-unfolding resolved_unit resolved_stmt resolved_expr slots_of wrap
+unfolding resolved_unit resolved_stmt resolved_by slots_of wrap
 nothing_is_broken = refl
 
 -- what there is too much of is refused before all else
@@ -138,13 +138,13 @@ too_many_items = too_many_first many_items (TooMany limit.Items) refl
 two_variables_p : refusal
     (of_items (variable (codes "p") (integer ∷ []) ∷ variable (codes "p") (integer ∷ []) ∷ []))
     ≡ Some (DuplicateName (codes "p"))
-unfolding resolved_unit resolved_stmt resolved_expr
+unfolding resolved_unit resolved_stmt resolved_by
 two_variables_p = refl
 
 -- `int i, i;`
 two_locals_i : refusal (with_method (declares (codes "i") ∷ declares (codes "i") ∷ []))
     ≡ Some (DuplicateName (codes "i"))
-unfolding resolved_unit resolved_stmt resolved_expr slots_of
+unfolding resolved_unit resolved_stmt resolved_by slots_of
 two_locals_i = refl
 
 -- `COLLECTION OF VARIABLE c { MEMBERS { m, x; m, x; } }`
@@ -157,24 +157,24 @@ two_members_m : refusal (of_items
       name = codes "c";
       attributes = Members (member_m ∷ member_m ∷ []) ∷ [];
     } ∷ [])) ≡ Some (DuplicateName (codes "m"))
-unfolding resolved_unit resolved_stmt resolved_expr words_of pieces unescape
+unfolding resolved_unit resolved_stmt resolved_by words_of pieces unescape
 two_members_m = refl
 
 two_labels : refusal (of_items
     (variable (codes "p") (integer ∷ label (codes "a") ∷ label (codes "b") ∷ []) ∷ []))
     ≡ Some (DuplicateAttribute (codes "LABEL"))
-unfolding resolved_unit resolved_cond resolved_expr words_of pieces unescape
+unfolding resolved_unit resolved_cond resolved_by words_of pieces unescape
 two_labels = refl
 
 no_type : refusal (of_items (variable (codes "p") (label (codes "x") ∷ []) ∷ []))
     ≡ Some (MissingAttribute (codes "p") (codes "TYPE"))
-unfolding resolved_unit resolved_cond resolved_expr words_of pieces unescape
+unfolding resolved_unit resolved_cond resolved_by words_of pieces unescape
 no_type = refl
 
 -- `MENU n { ITEMS { z } }`
 nothing_named_z : refusal (of_items (menu (named (codes "z")) ∷ []))
     ≡ Some (UnknownName (codes "z"))
-unfolding resolved_unit resolved_cond resolved_expr
+unfolding resolved_unit resolved_cond resolved_by
 nothing_named_z = refl
 
 -- a MENU n, and a REQUEST `{ n }`
@@ -183,7 +183,7 @@ menu_as_data_item : refusal
     ∷ command (item.Request (cond.Cons
     (Value (item.Variable (named (codes "n")) None no_qualifiers)) cond.Nil) ∷ []) ∷ []))
     ≡ Some (WrongKind (codes "n"))
-unfolding resolved_unit resolved_cond resolved_expr
+unfolding resolved_unit resolved_cond resolved_by
 menu_as_data_item = refl
 
 float_variable : refusal (of_items (variable (codes "f") (TypeOf (Other (codes "FLOAT")) [] ∷ [])
@@ -206,7 +206,7 @@ five_octets = refl
 number_for_text : refusal
     (with_method (evaluates (calls (codes "PUT_MESSAGE") (expr.Value (Literal 1) ∷ [])) ∷ []))
     ≡ Some Mismatch
-unfolding resolved_unit resolved_stmt resolved_expr slots_of
+unfolding resolved_unit resolved_stmt resolved_by slots_of
 number_for_text = refl
 
 -- `int i; ivar_value(i);`: a local is no device variable
@@ -214,37 +214,81 @@ local_for_variable : refusal
     (with_method (declares (codes "i")
     ∷ evaluates (calls (codes "ivar_value") (expr.Value (Reference (named (codes "i"))) ∷ []))
     ∷ [])) ≡ Some Mismatch
-unfolding resolved_unit resolved_stmt resolved_expr slots_of
+unfolding resolved_unit resolved_stmt resolved_by slots_of
 local_for_variable = refl
 
 -- `(abort());`
 abort_inside_expression : refusal
     (with_method (evaluates (Parentheses (calls (codes "abort") [])) ∷ [])) ≡ Some Mismatch
-unfolding resolved_unit resolved_stmt resolved_expr slots_of
+unfolding resolved_unit resolved_stmt resolved_by slots_of
 abort_inside_expression = refl
+
+abbrev adds : Expr Path → List (Part Path)
+adds e = evaluates (calls (codes "add_abort_method") (expr.Value e ∷ [])) ∷ []
+
+-- `add_abort_method(m);` in the method m itself
+abort_method_allowed : refusal (with_method (adds (Reference (named (codes "m"))))) ≡ None
+unfolding resolved_unit resolved_stmt resolved_by slots_of
+abort_method_allowed = refl
+
+-- `add_abort_method(x);` with a variable
+variable_for_method : refusal (with_method (adds (Reference (named (codes "x")))))
+    ≡ Some (WrongKind (codes "x"))
+unfolding slots_of
+variable_for_method = refl
+
+-- `add_abort_method((m));`: only a plain reference names a method
+method_inside_argument : refusal
+    (with_method (adds (Parentheses (Reference (named (codes "m")))))) ≡ Some (WrongKind (codes "m"))
+unfolding slots_of
+method_inside_argument = refl
+
+-- `ivar_value(m);`
+method_for_variable : refusal
+    (with_method (evaluates (calls (codes "ivar_value")
+    (expr.Value (Reference (named (codes "m"))) ∷ [])) ∷ [])) ≡ Some (WrongKind (codes "m"))
+unfolding slots_of
+method_for_variable = refl
+
+-- `add_abort_method(y);` where nothing has the name y
+unknown_abort_method : refusal (with_method (adds (Reference (named (codes "y")))))
+    ≡ Some (UnknownName (codes "y"))
+unfolding slots_of
+unknown_abort_method = refl
+
+-- `add_abort_method(1);`
+number_for_method : refusal (with_method (adds (Literal 1))) ≡ Some Mismatch
+unfolding resolved_unit resolved_stmt resolved_by slots_of
+number_for_method = refl
+
+-- `int m; add_abort_method(m);`: the local hides the method
+local_for_method : refusal
+    (with_method (declares (codes "m") ∷ adds (Reference (named (codes "m"))))) ≡ Some Mismatch
+unfolding resolved_unit resolved_stmt resolved_by slots_of
+local_for_method = refl
 
 -- `VALIDITY IF (0.5) { FALSE; }`
 decimal_condition : refusal
     (of_items (variable (codes "v")
     (integer ∷ Validity (If Decimal (cond.Cons (Value false) cond.Nil) cond.Nil) ∷ []) ∷ []))
     ≡ Some FloatValue
-unfolding resolved_unit resolved_cond resolved_expr
+unfolding resolved_unit resolved_cond resolved_by
 decimal_condition = refl
 
 break_alone : refusal (with_method (Statement s.Break ∷ [])) ≡ Some BreakOutside
-unfolding resolved_unit resolved_stmt resolved_expr slots_of
+unfolding resolved_unit resolved_stmt resolved_by slots_of
 break_alone = refl
 
 -- `REPLY { 256 }`
 constant_256 : refusal (of_items (command (reply (item.Constant 256) ∷ []) ∷ [])) ≡ Some ConstRange
-unfolding resolved_unit resolved_cond resolved_expr
+unfolding resolved_unit resolved_cond resolved_by
 constant_256 = refl
 
 -- `REPLY { x <0> }`
 mask_0 : refusal (of_items
     (x ∷ command (reply (item.Variable (named (codes "x")) (Some 0) no_qualifiers) ∷ []) ∷ []))
     ≡ Some ConstRange
-unfolding resolved_unit resolved_cond resolved_expr
+unfolding resolved_unit resolved_cond resolved_by
 mask_0 = refl
 
 -- `switch (1) { case -1: case 4294967295: }`
@@ -252,7 +296,7 @@ labels_equal_as_32_bits : refusal
     (with_method (Statement (s.Switch (Literal 1)
     (body_from (CaseLabel (negsuc 0) ∷ CaseLabel (pos 4294967295) ∷ []))) ∷ []))
     ≡ Some DuplicateCase
-unfolding resolved_unit resolved_stmt resolved_expr slots_of wrap
+unfolding resolved_unit resolved_stmt resolved_by slots_of wrap
 labels_equal_as_32_bits = refl
 
 -- `SELECT (x) { CASE 1: "a"; CASE 1: "b"; }` has equal labels, which is allowed
@@ -262,7 +306,7 @@ equal_labels_of_select : refusal
     (ConsArm (Case (pos 1) (cond.Cons (Value (Quoted (codes "a"))) cond.Nil))
     (ConsArm (Case (pos 1) (cond.Cons (Value (Quoted (codes "b"))) cond.Nil)) NoArms))) ∷ [])
     ∷ [])) ≡ None
-unfolding resolved_unit resolved_cond resolved_expr words_of pieces unescape
+unfolding resolved_unit resolved_cond resolved_by words_of pieces unescape
 equal_labels_of_select = refl
 
 -- ---- an earlier rule wins over an earlier place
@@ -272,14 +316,14 @@ duplicate_before_unknown : refusal
     (of_items (method (sets (codes "gone") (Literal 1) ∷ []) ∷ variable (codes "p") (integer ∷ [])
     ∷ variable (codes "p") (integer ∷ []) ∷ []))
     ≡ Some (DuplicateName (codes "p"))
-unfolding resolved_unit resolved_stmt resolved_expr slots_of
+unfolding resolved_unit resolved_stmt resolved_by slots_of
 duplicate_before_unknown = refl
 
 -- `break; PUT_MESSAGE(1);`
 mismatch_before_break : refusal
     (with_method (Statement s.Break
     ∷ evaluates (calls (codes "PUT_MESSAGE") (expr.Value (Literal 1) ∷ [])) ∷ [])) ≡ Some Mismatch
-unfolding resolved_unit resolved_stmt resolved_expr slots_of
+unfolding resolved_unit resolved_stmt resolved_by slots_of
 mismatch_before_break = refl
 
 -- a FLOAT variable twice

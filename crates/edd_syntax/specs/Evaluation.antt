@@ -13,7 +13,7 @@ use Rattle.edd_syntax.specs.TwosComplement.{wrap, truth, is_zero, operate, compa
 use Rattle.edd_syntax.specs.Words.{Words, words_of}
 use Rattle.edd_syntax.specs.Device.{Environment}
 use Rattle.edd_syntax.specs.MethodState as asks
-use Rattle.edd_syntax.specs.MethodState.{Aborted, Action, pure, stop, ◌>>=◌, ◌>>◌, number, read, read_element, assign, ask}
+use Rattle.edd_syntax.specs.MethodState.{Aborted, Action, pure, stop, ◌>>=◌, ◌>>◌, number, read, read_element, assign, add_abort_method, ask}
 
 -- an argument of a function: a text, or a number with the target that a plain reference names
 pub data Given : Type 0 where
@@ -52,8 +52,8 @@ module _ (env : Environment) where
   abbrev pub mismatch : Action ℤ
   mismatch = pure (pos 0)
 
-  -- what a function does with its arguments: it asks the host, reads or stores a variable, or
-  -- aborts
+  -- what a function does with its arguments: it asks the host, reads or stores a variable, aborts,
+  -- or lists an abort method
   abbrev pub call_builtin : Builtin → List Given → Action ℤ
   call_builtin builtin.PutMessage (Text text ∷ []) = ask (asks.PutMessage text)
   call_builtin builtin.PutMessage _ = mismatch
@@ -88,6 +88,9 @@ module _ (env : Environment) where
   call_builtin builtin.Abort _ = mismatch
   call_builtin builtin.ProcessAbort [] = stop Aborted
   call_builtin builtin.ProcessAbort _ = mismatch
+  call_builtin builtin.AddAbortMethod (Number _ (Some (Item (item_no.Method m))) ∷ []) =
+      add_abort_method m
+  call_builtin builtin.AddAbortMethod _ = mismatch
 
   unfoldable pub call : Target → List Given → Action ℤ
   call (Function f) given = call_builtin f given

@@ -14,6 +14,7 @@ pub mod Grammar
 pub mod Item
 pub mod ItemGrammar
 pub mod ItemView
+pub mod LayoutVersion
 pub mod MethodState
 pub mod MoreTurns
 pub mod NameRules

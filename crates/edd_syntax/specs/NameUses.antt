@@ -11,7 +11,7 @@ use Rattle.edd_syntax.specs.Statement as s
 use Rattle.edd_syntax.specs.Statement.{Declarator, Stmt, Body, Nil, Cons, Declare, Statement, CaseLabel, DefaultLabel, slots_of}
 use Rattle.edd_syntax.specs.Item as item
 use Rattle.edd_syntax.specs.Item.{ItemKind, TypePart, TransactionPart, Attribute, Description}
-use Rattle.edd_syntax.specs.Resolution.{Scope, variable_kinds, entry_kinds, member_kinds, declared, all_declared}
+use Rattle.edd_syntax.specs.Resolution.{Scope, variable_kinds, argument_kinds, entry_kinds, member_kinds, declared, all_declared}
 
 -- a use of a name: a reference, with the locals that can be used there and the kinds of items that
 -- may stand there, an array before an index, or a call
@@ -23,30 +23,42 @@ pub data Use : Type 0 where
 -- ---- expressions, from left to right
 
 abbrev mutual
-  pub expr_uses : Scope → Expr Path → List Use
-  expr_uses scope (Literal value) = []
-  expr_uses scope Decimal = []
-  expr_uses scope (Reference from) = OfItem scope variable_kinds from ∷ []
-  expr_uses scope (Indexed array index) = OfArray scope array ∷ expr_uses scope index
-  expr_uses scope (Parentheses inner) = expr_uses scope inner
-  expr_uses scope (Unary op operand) = expr_uses scope operand
-  expr_uses scope (Binary op left right) = expr_uses scope left ++ expr_uses scope right
-  expr_uses scope (Compare by left right) = expr_uses scope left ++ expr_uses scope right
-  expr_uses scope (LogicalAnd left right) = expr_uses scope left ++ expr_uses scope right
-  expr_uses scope (LogicalOr left right) = expr_uses scope left ++ expr_uses scope right
-  expr_uses scope (Conditional test first second) = expr_uses scope test
-      ++ (expr_uses scope first ++ expr_uses scope second)
-  expr_uses scope (Assign to value) = OfItem scope variable_kinds to ∷ expr_uses scope value
-  expr_uses scope (CompoundAssign op to value) = OfItem scope variable_kinds to
-      ∷ expr_uses scope value
-  expr_uses scope (Increment op to) = OfItem scope variable_kinds to ∷ []
-  expr_uses scope (Call function arguments) = OfFunction function ∷ argument_uses scope arguments
+  -- where a plain reference names an item of these kinds
+  pub uses_among : Scope → (kinds : List Kind) → Expr Path → List Use
+  uses_among scope kinds (Literal value) = []
+  uses_among scope kinds Decimal = []
+  uses_among scope kinds (Reference from) = OfItem scope kinds from ∷ []
+  uses_among scope kinds (Indexed array index) = OfArray scope array
+      ∷ uses_among scope variable_kinds index
+  uses_among scope kinds (Parentheses inner) = uses_among scope variable_kinds inner
+  uses_among scope kinds (Unary op operand) = uses_among scope variable_kinds operand
+  uses_among scope kinds (Binary op left right) = uses_among scope variable_kinds left
+      ++ uses_among scope variable_kinds right
+  uses_among scope kinds (Compare by left right) = uses_among scope variable_kinds left
+      ++ uses_among scope variable_kinds right
+  uses_among scope kinds (LogicalAnd left right) = uses_among scope variable_kinds left
+      ++ uses_among scope variable_kinds right
+  uses_among scope kinds (LogicalOr left right) = uses_among scope variable_kinds left
+      ++ uses_among scope variable_kinds right
+  uses_among scope kinds (Conditional test first second) = uses_among scope variable_kinds test
+      ++ (uses_among scope variable_kinds first ++ uses_among scope variable_kinds second)
+  uses_among scope kinds (Assign to value) = OfItem scope variable_kinds to
+      ∷ uses_among scope variable_kinds value
+  uses_among scope kinds (CompoundAssign op to value) = OfItem scope variable_kinds to
+      ∷ uses_among scope variable_kinds value
+  uses_among scope kinds (Increment op to) = OfItem scope variable_kinds to ∷ []
+  uses_among scope kinds (Call function arguments) = OfFunction function
+      ∷ argument_uses scope (argument_kinds function) arguments
 
-  pub argument_uses : Scope → Arguments Path → List Use
-  argument_uses scope expr.Nil = []
-  argument_uses scope (expr.Cons (Text text) rest) = argument_uses scope rest
-  argument_uses scope (expr.Cons (expr.Value e) rest) = expr_uses scope e
-      ++ argument_uses scope rest
+  pub argument_uses : Scope → (kinds : List Kind) → Arguments Path → List Use
+  argument_uses scope kinds expr.Nil = []
+  argument_uses scope kinds (expr.Cons (Text text) rest) = argument_uses scope kinds rest
+  argument_uses scope kinds (expr.Cons (expr.Value e) rest) = uses_among scope kinds e
+      ++ argument_uses scope kinds rest
+
+-- where a plain reference names a variable
+abbrev pub expr_uses : Scope → Expr Path → List Use
+expr_uses scope e = uses_among scope variable_kinds e
 
 abbrev pub optional_uses : Scope → Option (Expr Path) → List Use
 optional_uses scope None = []

@@ -146,6 +146,7 @@ builtin_name builtin.Iassign = codes "iassign"
 builtin_name builtin.Lassign = codes "lassign"
 builtin_name builtin.Abort = codes "abort"
 builtin_name builtin.ProcessAbort = codes "process_abort"
+builtin_name builtin.AddAbortMethod = codes "add_abort_method"
 
 abbrev pub all_builtins : List Builtin
 all_builtins =
@@ -153,7 +154,8 @@ all_builtins =
     ∷ builtin.SelectFromList ∷
     builtin.SendCommand ∷ builtin.SendCommandTrans ∷ builtin.SaveValues ∷ builtin.IvarValue
     ∷ builtin.LvarValue ∷
-    builtin.Iassign ∷ builtin.Lassign ∷ builtin.Abort ∷ builtin.ProcessAbort ∷ []
+    builtin.Iassign ∷ builtin.Lassign ∷ builtin.Abort ∷ builtin.ProcessAbort
+    ∷ builtin.AddAbortMethod ∷ []
 
 -- the functions that a method may call, by their names
 abbrev pub builtins : List (Name × Builtin)
@@ -167,6 +169,16 @@ function_meant path = option_map Function (look_up path.base builtins)
 -- expressions and data items refer to variables
 abbrev pub variable_kinds : List Kind
 variable_kinds = kind.Variable ∷ []
+
+-- what is to run after an abort
+abbrev pub method_kinds : List Kind
+method_kinds = kind.Method ∷ []
+
+-- what a plain reference may name as an argument of a function
+abbrev pub argument_kinds : (function : Path) → List Kind
+argument_kinds function =
+    if bytes_eq (builtin_name builtin.AddAbortMethod) function.base then method_kinds
+    else variable_kinds
 
 -- a menu shows variables, menus, collections and methods
 abbrev pub entry_kinds : List Kind

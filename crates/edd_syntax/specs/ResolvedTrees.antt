@@ -11,7 +11,7 @@ use Rattle.edd_syntax.specs.Statement as s
 use Rattle.edd_syntax.specs.Statement.{Declarator, Stmt, Body, Nil, Cons, Declare, Statement, CaseLabel, DefaultLabel, slots_of}
 use Rattle.edd_syntax.specs.Item as item
 use Rattle.edd_syntax.specs.Item.{ItemKind, TypePart, TransactionPart, Attribute, Description}
-use Rattle.edd_syntax.specs.Resolution.{Scope, meaning, array_meant, function_meant, variable_kinds, entry_kinds, member_kinds, declared, all_declared}
+use Rattle.edd_syntax.specs.Resolution.{Scope, meaning, array_meant, function_meant, variable_kinds, argument_kinds, entry_kinds, member_kinds, declared, all_declared}
 
 -- one after another, as long as each has a value
 infixl 10 ◌>>=◌
@@ -23,69 +23,80 @@ abbrev pub each : {A B : Type 0} → (A → Option B) → List A → Option (Lis
 each of [] = Some []
 each of (x ∷ rest) = do y ← of x; others ← each of rest; Some (y ∷ others)
 
--- what names mean at a place: a reference, and the name of an array before an index
+-- what names mean at a place: a reference, a plain reference that is an argument of a function, and
+-- the name of an array before an index
 pub record Meanings : Type 0 where
   pub reference : Path → Option Target
+  pub argument : (function : Path) → Path → Option Target
   pub array : Path → Option Target
 
 -- ---- expressions, at a place where `at` says what names mean
 
 module _ (at : Meanings) where
   unfoldable mutual
-    pub resolved_expr : Expr Path → Option (Expr Target)
-    resolved_expr (Literal value) = Some (Literal value)
-    resolved_expr Decimal = Some Decimal
-    resolved_expr (Reference from) = do from' ← at.reference from; Some (Reference from')
-    resolved_expr (Indexed array index) = do
+    -- where `plain` says what a plain reference means
+    pub resolved_by : (plain : Path → Option Target) → Expr Path → Option (Expr Target)
+    resolved_by plain (Literal value) = Some (Literal value)
+    resolved_by plain Decimal = Some Decimal
+    resolved_by plain (Reference from) = do from' ← plain from; Some (Reference from')
+    resolved_by plain (Indexed array index) = do
       array' ← at.array array
-      index' ← resolved_expr index
+      index' ← resolved_by at.reference index
       Some (Indexed array' index')
-    resolved_expr (Parentheses inner) = do inner' ← resolved_expr inner; Some (Parentheses inner')
-    resolved_expr (Unary op operand) = do operand' ← resolved_expr operand; Some (Unary op operand')
-    resolved_expr (Binary op left right) = do
-      left' ← resolved_expr left
-      right' ← resolved_expr right
+    resolved_by plain (Parentheses inner) = do
+      inner' ← resolved_by at.reference inner
+      Some (Parentheses inner')
+    resolved_by plain (Unary op operand) = do
+      operand' ← resolved_by at.reference operand
+      Some (Unary op operand')
+    resolved_by plain (Binary op left right) = do
+      left' ← resolved_by at.reference left
+      right' ← resolved_by at.reference right
       Some (Binary op left' right')
-    resolved_expr (Compare by left right) = do
-      left' ← resolved_expr left
-      right' ← resolved_expr right
+    resolved_by plain (Compare by left right) = do
+      left' ← resolved_by at.reference left
+      right' ← resolved_by at.reference right
       Some (Compare by left' right')
-    resolved_expr (LogicalAnd left right) = do
-      left' ← resolved_expr left
-      right' ← resolved_expr right
+    resolved_by plain (LogicalAnd left right) = do
+      left' ← resolved_by at.reference left
+      right' ← resolved_by at.reference right
       Some (LogicalAnd left' right')
-    resolved_expr (LogicalOr left right) = do
-      left' ← resolved_expr left
-      right' ← resolved_expr right
+    resolved_by plain (LogicalOr left right) = do
+      left' ← resolved_by at.reference left
+      right' ← resolved_by at.reference right
       Some (LogicalOr left' right')
-    resolved_expr (Conditional test first second) = do
-      test' ← resolved_expr test
-      first' ← resolved_expr first
-      second' ← resolved_expr second
+    resolved_by plain (Conditional test first second) = do
+      test' ← resolved_by at.reference test
+      first' ← resolved_by at.reference first
+      second' ← resolved_by at.reference second
       Some (Conditional test' first' second')
-    resolved_expr (Assign to value) = do
+    resolved_by plain (Assign to value) = do
       to' ← at.reference to
-      value' ← resolved_expr value
+      value' ← resolved_by at.reference value
       Some (Assign to' value')
-    resolved_expr (CompoundAssign op to value) = do
+    resolved_by plain (CompoundAssign op to value) = do
       to' ← at.reference to
-      value' ← resolved_expr value
+      value' ← resolved_by at.reference value
       Some (CompoundAssign op to' value')
-    resolved_expr (Increment op to) = do to' ← at.reference to; Some (Increment op to')
-    resolved_expr (Call name arguments) = do
+    resolved_by plain (Increment op to) = do to' ← at.reference to; Some (Increment op to')
+    resolved_by plain (Call name arguments) = do
       function ← function_meant name
-      arguments' ← resolved_arguments arguments
+      arguments' ← resolved_arguments (at.argument name) arguments
       Some (Call function arguments')
 
-    pub resolved_arguments : Arguments Path → Option (Arguments Target)
-    resolved_arguments expr.Nil = Some expr.Nil
-    resolved_arguments (expr.Cons (Text text) rest) = do
-      rest' ← resolved_arguments rest
+    pub resolved_arguments : (plain : Path → Option Target) → Arguments Path
+        → Option (Arguments Target)
+    resolved_arguments plain expr.Nil = Some expr.Nil
+    resolved_arguments plain (expr.Cons (Text text) rest) = do
+      rest' ← resolved_arguments plain rest
       Some (expr.Cons (Text text) rest')
-    resolved_arguments (expr.Cons (expr.Value e) rest) = do
-      e' ← resolved_expr e
-      rest' ← resolved_arguments rest
+    resolved_arguments plain (expr.Cons (expr.Value e) rest) = do
+      e' ← resolved_by plain e
+      rest' ← resolved_arguments plain rest
       Some (expr.Cons (expr.Value e') rest')
+
+  abbrev pub resolved_expr : Expr Path → Option (Expr Target)
+  resolved_expr e = resolved_by at.reference e
 
   -- a part that may be missing
   abbrev pub resolved_optional : Option (Expr Path) → Option (Option (Expr Target))
@@ -135,6 +146,7 @@ module _ (unit : Description Path) where
   abbrev pub at_scope : Scope → Meanings
   at_scope scope = record {
     reference = meaning unit scope variable_kinds;
+    argument = λ function. meaning unit scope (argument_kinds function);
     array = array_meant unit scope;
   }
 

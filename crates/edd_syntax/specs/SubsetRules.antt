@@ -153,10 +153,15 @@ parameters builtin.Iassign = parameter.DeviceVariable ∷ parameter.Number ∷ [
 parameters builtin.Lassign = parameter.DeviceVariable ∷ parameter.Number ∷ []
 parameters builtin.Abort = []
 parameters builtin.ProcessAbort = []
+parameters builtin.AddAbortMethod = parameter.Method ∷ []
 
 abbrev pub is_device_variable : Argument Target → Bool
 is_device_variable (expr.Value (Reference (Item (item_no.Variable v)))) = true
 is_device_variable _ = false
+
+abbrev pub is_method : Argument Target → Bool
+is_method (expr.Value (Reference (Item (item_no.Method m)))) = true
+is_method _ = false
 
 abbrev pub is_text : Argument Target → Bool
 is_text (expr.Text text) = true
@@ -166,6 +171,7 @@ abbrev pub fits : Parameter → Argument Target → Bool
 fits parameter.Text argument = is_text argument
 fits parameter.Number argument = not (is_text argument)
 fits parameter.DeviceVariable argument = is_device_variable argument
+fits parameter.Method argument = is_method argument
 
 abbrev pub all_fit : List Parameter → Arguments Target → Bool
 all_fit [] expr.Nil = true

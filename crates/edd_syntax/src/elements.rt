@@ -1,13 +1,11 @@
 //! The elements of arrays, in the order in which an image has them.
 
-ghost use Rattle.std.specs.Prelude.{◌≡◌, ◌++◌, ◌≤◌, map, nat_lt, if◌then◌else◌, IfOk, OnOk};
-ghost use Rattle.std.specs.List.{list_any, flat_map};
+ghost use Rattle.std.specs.Prelude.{◌≡◌, ◌++◌, ◌≤◌, map, IfOk, OnOk};
+ghost use Rattle.std.specs.List.{flat_map};
 ghost use Rattle.edd_syntax.specs.declared.numbers.Kind.TheVariants as kind;
 ghost use Rattle.edd_syntax.specs.Device.{environment};
 ghost use Rattle.edd_syntax.specs.Elements as listed;
-ghost use Rattle.edd_syntax.specs.Item.{kind_of_item};
 ghost use Rattle.edd_syntax.specs.ItemView.{identification_of, numbered_items, numbered_array_element, numbered_attribute, numbered_item};
-ghost use Rattle.edd_syntax.specs.Numbers.{same_kind};
 ghost use Rattle.edd_syntax.specs.Resolution.{count_of};
 ghost use Rattle.edd_syntax.specs.Resolved.{description};
 ghost use Rattle.edd_syntax.specs.Rows.{of_kind};
@@ -118,18 +116,6 @@ fn push_arrays(
     Ok(())
 }
 
-fn has_array(items: &[Item<Target>]) -> bool
-    ensures { result ≡ list_any (λ i. same_kind (kind_of_item i.sort) kind.Array)
-        (map numbered_item items.now) }
-{
-    for item in items {
-        if item.kind() == Kind::Array {
-            return true;
-        }
-    }
-    false
-}
-
 impl Checked {
     /// The elements of all arrays, by array and number.
     pub fn elements(&self, alloc: Global) -> Result<Vec<Element>, AllocError>
@@ -140,13 +126,5 @@ impl Checked {
         let mut all = Vec::new(alloc);
         push_arrays(&mut all, &self.items, alloc)?;
         Ok(all)
-    }
-
-    /// 2 where there is an array, else 1: the version of the layout that an image of it needs.
-    pub fn version(&self) -> u16
-        ensures { result ≡ (if nat_lt 0 (count_of kind.Array
-            (numbered_items self.now.items.value.items)) then 2 else 1) }
-    {
-        if has_array(&self.items) { 2 } else { 1 }
     }
 }

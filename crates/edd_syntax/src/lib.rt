@@ -20,5 +20,6 @@ mod tables;
 pub mod text;
 pub mod types;
 pub mod unit;
+mod version;
 pub mod words;
 pub mod wrap;

@@ -61,12 +61,15 @@ pub enum Builtin {
     Lassign,
     Abort,
     ProcessAbort,
+    AddAbortMethod,
 }
 
-/// What a function takes in a place: a text, a number, or a plain reference to a device variable.
+/// What a function takes in a place: a text, a number, or a plain reference to a device variable or
+/// a METHOD.
 #[derive(Clone, Copy, PartialEq, Eq, Debug)]
 pub enum Parameter {
     Text,
     Number,
     DeviceVariable,
+    Method,
 }

@@ -250,6 +250,7 @@ impl Builtin {
             Builtin::Lassign => "lassign",
             Builtin::Abort => "abort",
             Builtin::ProcessAbort => "process_abort",
+            Builtin::AddAbortMethod => "add_abort_method",
         }
     }
 
@@ -257,7 +258,7 @@ impl Builtin {
     pub fn parameters(self) -> &'static [Parameter]
         ensures { result.now ≡ parameters self }
     {
-        use Parameter::{DeviceVariable, Number, Text};
+        use Parameter::{DeviceVariable, Method, Number, Text};
         match self {
             Builtin::PutMessage | Builtin::Acknowledge => &[Text],
             Builtin::Delay => &[Number, Text],
@@ -268,6 +269,7 @@ impl Builtin {
             Builtin::SaveValues | Builtin::Abort | Builtin::ProcessAbort => &[],
             Builtin::IvarValue | Builtin::LvarValue => &[DeviceVariable],
             Builtin::Iassign | Builtin::Lassign => &[DeviceVariable, Number],
+            Builtin::AddAbortMethod => &[Method],
         }
     }
 }
