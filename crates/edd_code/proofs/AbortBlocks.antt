@@ -28,3 +28,4 @@ is_abort_alone number builtin.IvarValue is = absurd cc
 is_abort_alone number builtin.LvarValue is = absurd cc
 is_abort_alone number builtin.Iassign is = absurd cc
 is_abort_alone number builtin.Lassign is = absurd cc
+is_abort_alone number builtin.AddAbortMethod is = absurd cc

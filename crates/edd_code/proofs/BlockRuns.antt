@@ -187,6 +187,7 @@ module _ (env : Environment) (code : List ℕ) (values : List ℤ) where
       record_comes p next operands operands (instruction.Element n v label help) _ stands refl
   straight_comes p next (instruction.Ask request) operands stands h = absurd (cc h)
   straight_comes p next instruction.Abort operands stands h = absurd (cc h)
+  straight_comes p next (instruction.AddAbortMethod m) operands stands h = absurd (cc h)
 
   -- ---- parts of a run
 

@@ -4,6 +4,7 @@ use Rattle.std.specs.Prelude.{Option, Some, None}
 use Rattle.edd_syntax.specs.declared.numbers.ItemNo.TheVariants as item_no
 use Rattle.edd_syntax.specs.declared.numbers.StrNo.{StrNo}
 use Rattle.edd_syntax.specs.declared.numbers.VarNo.{VarNo}
+use Rattle.edd_syntax.specs.declared.numbers.MethNo.{MethNo}
 use Rattle.edd_syntax.specs.declared.operators.Builtin.TheVariants as builtin
 use Rattle.edd_syntax.specs.declared.reference.Target.{Target}
 use Rattle.edd_syntax.specs.declared.reference.Target.TheVariants.{Local, Item, Function}
@@ -12,7 +13,7 @@ use Rattle.edd_syntax.specs.Text as texts
 use Rattle.edd_syntax.specs.Words.{Words}
 use Rattle.edd_image.specs.declared.instruction.Ask.TheVariants as ask
 use Rattle.edd_image.specs.declared.instruction.Instruction.TheVariants as instruction
-use Rattle.edd_code.specs.Arguments.{as_text, as_value, as_target, as_variable, only, pair, both, alone_block}
+use Rattle.edd_code.specs.Arguments.{as_text, as_value, as_target, as_variable, as_method, only, pair, both, alone_block}
 use Rattle.edd_code.specs.Expressions.{no_value}
 use Rattle.edd_code.specs.MethodExpressions.{call_block}
 
@@ -70,6 +71,32 @@ variable_is (Value (CompoundAssign op to value)) v h = absurd cc
 variable_is (Value (Increment op to)) v h = absurd cc
 variable_is (Value (Call function arguments)) v h = absurd cc
 
+method_is : (x : Argument Target) (m : MethNo) → as_method x ≡ Some m
+    → x ≡ Value (Reference (Item (item_no.Method m)))
+method_is (Text t) m h = absurd cc
+method_is (Value (Reference (Item (item_no.Method n)))) m h = cc
+method_is (Value (Reference (Item (item_no.Variable n)))) m h = absurd cc
+method_is (Value (Reference (Item (item_no.Command n)))) m h = absurd cc
+method_is (Value (Reference (Item (item_no.Menu n)))) m h = absurd cc
+method_is (Value (Reference (Item (item_no.Collection n)))) m h = absurd cc
+method_is (Value (Reference (Item (item_no.Array n)))) m h = absurd cc
+method_is (Value (Reference (Local slot))) m h = absurd cc
+method_is (Value (Reference (Function f))) m h = absurd cc
+method_is (Value (Literal value)) m h = absurd cc
+method_is (Value (Decimal)) m h = absurd cc
+method_is (Value (Parentheses inner)) m h = absurd cc
+method_is (Value (Indexed array index)) m h = absurd cc
+method_is (Value (Unary op operand)) m h = absurd cc
+method_is (Value (Binary op left right)) m h = absurd cc
+method_is (Value (Compare by left right)) m h = absurd cc
+method_is (Value (LogicalAnd left right)) m h = absurd cc
+method_is (Value (LogicalOr left right)) m h = absurd cc
+method_is (Value (Conditional test first second)) m h = absurd cc
+method_is (Value (Assign to value)) m h = absurd cc
+method_is (Value (CompoundAssign op to value)) m h = absurd cc
+method_is (Value (Increment op to)) m h = absurd cc
+method_is (Value (Call function arguments)) m h = absurd cc
+
 -- ---- all arguments
 
 module _ {A : Type 0} (kind : Argument Target → Option A) where
@@ -106,6 +133,11 @@ pub only_value_is : (a : Arguments Target) (e : Expr Target) → Some e ≡ only
     → a ≡ Cons (Value e) Nil
 only_value_is a e h = let all = only_is as_value a e h in all.1
     ∙ ap (λ (x : Argument Target). Cons x Nil) (value_is all.0 e all.2)
+
+pub only_method_is : (a : Arguments Target) (m : MethNo) → Some m ≡ only as_method a
+    → a ≡ Cons (Value (Reference (Item (item_no.Method m)))) Nil
+only_method_is a m h = let all = only_is as_method a m h in all.1
+    ∙ ap (λ (x : Argument Target). Cons x Nil) (method_is all.0 m all.2)
 
 two_are : (a : Arguments Target) (x y z w : Argument Target) → a ≡ Cons x (Cons y Nil) → x ≡ z
     → y ≡ w → a ≡ Cons z (Cons w Nil)
@@ -265,6 +297,35 @@ module _ (number : Words → StrNo) where
   no_assignment (Cons (Value (CompoundAssign op to value)) rest) h = refl
   no_assignment (Cons (Value (Increment op to)) rest) h = refl
   no_assignment (Cons (Value (Call function arguments)) rest) h = refl
+
+  pub no_method : (a : Arguments Target) → None ≡ only as_method a
+      → call_block number builtin.AddAbortMethod a ≡ no_value
+  unfolding call_block
+  no_method Nil h = refl
+  no_method (Cons (Text t) rest) h = refl
+  no_method (Cons (Value (Reference (Item (item_no.Method m)))) Nil) h = absurd cc
+  no_method (Cons (Value (Reference (Item (item_no.Method m)))) (Cons y rest)) h = refl
+  no_method (Cons (Value (Reference (Item (item_no.Variable n)))) rest) h = refl
+  no_method (Cons (Value (Reference (Item (item_no.Command n)))) rest) h = refl
+  no_method (Cons (Value (Reference (Item (item_no.Menu n)))) rest) h = refl
+  no_method (Cons (Value (Reference (Item (item_no.Collection n)))) rest) h = refl
+  no_method (Cons (Value (Reference (Item (item_no.Array n)))) rest) h = refl
+  no_method (Cons (Value (Reference (Local slot))) rest) h = refl
+  no_method (Cons (Value (Reference (Function f))) rest) h = refl
+  no_method (Cons (Value (Literal value)) rest) h = refl
+  no_method (Cons (Value (Decimal)) rest) h = refl
+  no_method (Cons (Value (Parentheses inner)) rest) h = refl
+  no_method (Cons (Value (Indexed array index)) rest) h = refl
+  no_method (Cons (Value (Unary op operand)) rest) h = refl
+  no_method (Cons (Value (Binary op left right)) rest) h = refl
+  no_method (Cons (Value (Compare by left right)) rest) h = refl
+  no_method (Cons (Value (LogicalAnd left right)) rest) h = refl
+  no_method (Cons (Value (LogicalOr left right)) rest) h = refl
+  no_method (Cons (Value (Conditional test first second)) rest) h = refl
+  no_method (Cons (Value (Assign to value)) rest) h = refl
+  no_method (Cons (Value (CompoundAssign op to value)) rest) h = refl
+  no_method (Cons (Value (Increment op to)) rest) h = refl
+  no_method (Cons (Value (Call function arguments)) rest) h = refl
 
   -- ---- functions that differ in name alone
 

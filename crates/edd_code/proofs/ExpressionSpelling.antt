@@ -1,7 +1,7 @@
 -- The operands of an expression's block are in their ranges, and its instructions may stand in an
 -- attribute: the variables and arrays that they name exist.
 use Rattle.std.proofs.Common.{◌≡◌, refl, ◌≤◌, ◌^◌, Bool, true, false, arith}
-use Rattle.std.specs.Prelude.{◌&&◌}
+use Rattle.std.specs.Prelude.{◌&&◌, nat_lt}
 use Rattle.std.proofs.lemmas.Bool.{ltb-true}
 use Rattle.edd_syntax.specs.declared.numbers.ItemNo.{ItemNo}
 use Rattle.edd_syntax.specs.declared.numbers.ItemNo.TheVariants as item_no
@@ -15,7 +15,7 @@ use Rattle.edd_image.specs.declared.parts.Counts.{Counts}
 use Rattle.edd_image.specs.declared.unit.Context.{Context}
 use Rattle.edd_image.specs.declared.unit.Sort.TheVariants.{Attribute}
 use Rattle.edd_image.specs.declared.unit.Version.{Version}
-use Rattle.edd_image.specs.Agreement.{version_with}
+use Rattle.edd_image.specs.declared.unit.Version.TheVariants.{Two}
 use Rattle.edd_code.specs.Expressions.{expression_block, item_block, read_block, item_element_block, element_block, no_element, unary_block, no_value}
 use Rattle.edd_code.specs.Flow.{AreSpelled, all_straight, may_stand}
 use Rattle.edd_code.specs.Reads.{item_is_there, reads_existing}
@@ -108,7 +108,7 @@ module _ (counts : Counts) (plain : Target → Bool) (few : counts.variables ≤
 -- ---- names
 
 module _ (version : Version) (counts : Counts) (plain : Target → Bool)
-    (fits : version ≡ version_with counts) where
+    (holds_arrays : nat_lt 0 counts.arrays ≡ true → version ≡ Two) where
   -- where the unit of an attribute stands
   abbrev context : Context
   context = record { version = version; counts = counts; sort = Attribute; slots = 0 }
@@ -130,7 +130,7 @@ module _ (version : Version) (counts : Counts) (plain : Target → Bool)
 
   item_element_named : (i : ItemNo) → item_is_there counts i ≡ true
       → all_straight (may_stand context) (item_element_block i) ≡ true
-  item_element_named (item_no.Array n) is = and_is (in_attributes version counts n fits is) is
+  item_element_named (item_no.Array n) is = and_is (in_attributes version counts n holds_arrays is) is
   item_element_named (item_no.Variable v) is = refl
   item_element_named (item_no.Command n) is = refl
   item_element_named (item_no.Menu n) is = refl

@@ -56,6 +56,7 @@ spelling_not_empty (instruction.Member name item label help) = omega arith
 spelling_not_empty (instruction.Element n v label help) = omega arith
 spelling_not_empty (instruction.Ask request) = omega arith
 spelling_not_empty instruction.Abort = omega arith
+spelling_not_empty (instruction.AddAbortMethod m) = omega arith
 
 pub fewer_than_bytes : (is : List Instruction) → length is ≤ length (bytes_of is)
 unfolding bytes_of

@@ -17,7 +17,7 @@ use Rattle.edd_code.specs.Blocks.{Straight, Then, WhenNotZero, WhenZero, Either}
 use Rattle.edd_code.specs.Expressions.{no_value, element_block, unary_block, truth_block, then_test, instead}
 use Rattle.edd_code.specs.MethodExpressions.{load_block, store_block, ask_block, method_block, call_block}
 use Rattle.edd_code.proofs.BlockFlow.{Runs, then_runs, either_runs, push_runs, change_runs, join_runs, pop_runs, no_value_runs, element_runs, read_runs, store_runs, unary_runs, operate_runs, two_run, increment_runs, and_runs, or_runs}
-use Rattle.edd_code.proofs.Fitting.{front_none, fits, of_none, of_text, of_number, of_number_text, of_texts, of_numbers, of_variable, of_variable_number, of_text_variable}
+use Rattle.edd_code.proofs.Fitting.{front_none, fits, of_none, of_text, of_number, of_number_text, of_texts, of_numbers, of_variable, of_method, of_variable_number, of_text_variable}
 
 high : (e : Expr Target) → 1 ≤ height e
 high (Literal value) = omega arith
@@ -120,6 +120,9 @@ module _ (number : Words → StrNo) where
       is
   call_runs builtin.Abort arguments here is = absurd cc
   call_runs builtin.ProcessAbort arguments here is = absurd cc
+  call_runs builtin.AddAbortMethod arguments here is = of_method (CallRuns builtin.AddAbortMethod)
+      (λ m run d few. push_runs (instruction.AddAbortMethod m) d refl refl refl (omega arith))
+      arguments is
 
   -- ---- expressions
 

@@ -19,7 +19,7 @@ use Rattle.edd_code.specs.Blocks.{size}
 use Rattle.edd_code.specs.Expressions.{item_block, unary_block}
 use Rattle.edd_code.proofs.ExpressionSizes.{element_size}
 use Rattle.edd_code.specs.MethodExpressions.{load_block, store_item_block, store_block, increment_block, method_block, call_block}
-use Rattle.edd_code.proofs.Fitting.{front_none, fits, of_none, of_text, of_number, of_number_text, of_texts, of_numbers, of_variable, of_variable_number, of_text_variable}
+use Rattle.edd_code.proofs.Fitting.{front_none, fits, of_none, of_text, of_number, of_number_text, of_texts, of_numbers, of_variable, of_method, of_variable_number, of_text_variable}
 
 -- ---- locals, variables and operators
 
@@ -98,6 +98,8 @@ module _ (number : Words → StrNo) where
       (λ v e short. omega (arith, short.1.0))
   call_short builtin.Abort = of_none (CallShort builtin.Abort) (λ short. omega arith)
   call_short builtin.ProcessAbort = of_none (CallShort builtin.ProcessAbort) (λ short. omega arith)
+  call_short builtin.AddAbortMethod = of_method (CallShort builtin.AddAbortMethod)
+      (λ m short. omega arith)
 
   mutual
     unfolding method_block

@@ -1,14 +1,15 @@
 -- The operands of the block of an expression of a method are in their ranges, and what it names
 -- exists.
 use Rattle.std.proofs.Common.{◌≡◌, refl, ℕ, ◌<◌, ◌≤◌, ◌^◌, Bool, true, false, List, [], ◌++◌, arith}
-use Rattle.std.specs.Prelude.{◌&&◌}
+use Rattle.std.specs.Prelude.{◌&&◌, ◌||◌, nat_lt}
 use Rattle.std.specs.List.{AllByRecursion}
-use Rattle.std.proofs.lemmas.Bool.{ltb-true, and_parts, and_from}
+use Rattle.std.proofs.lemmas.Bool.{ltb-true, and_parts, and_from, or_left, or_right}
 use Rattle.edd_syntax.specs.declared.numbers.ItemNo.{ItemNo}
 use Rattle.edd_syntax.specs.declared.numbers.ItemNo.TheVariants as item_no
 use Rattle.edd_syntax.specs.declared.numbers.StrNo.{StrNo}
 use Rattle.edd_syntax.specs.declared.numbers.VarNo.{VarNo}
 use Rattle.edd_syntax.specs.declared.numbers.ArrNo.{ArrNo}
+use Rattle.edd_syntax.specs.declared.numbers.MethNo.{MethNo}
 use Rattle.edd_syntax.specs.declared.operators.Builtin.{Builtin}
 use Rattle.edd_syntax.specs.declared.operators.Builtin.TheVariants as builtin
 use Rattle.edd_syntax.specs.declared.operators.Operator.{Operator}
@@ -21,6 +22,7 @@ use Rattle.edd_syntax.specs.declared.reference.Target.{Target}
 use Rattle.edd_syntax.specs.declared.reference.Target.TheVariants.{Local, Item, Function}
 use Rattle.edd_syntax.specs.Text as texts
 use Rattle.edd_syntax.specs.Expression.{Expr, Literal, Decimal, Reference, Indexed, Parentheses, Unary, Binary, Compare, LogicalAnd, LogicalOr, Conditional, Assign, CompoundAssign, Increment, Call, Text, Value, Arguments, Nil, Cons}
+use Rattle.edd_syntax.specs.LayoutVersion.{is_add_abort_method, names_it, argument_names_it}
 use Rattle.edd_syntax.specs.Strings.{expr_texts, argument_texts}
 use Rattle.edd_syntax.specs.SubsetRules.{parameters, all_fit, call_breaches, call_mismatches, argument_mismatches}
 use Rattle.edd_syntax.specs.WellFormed.{is_text, is_expr, are_arguments}
@@ -31,8 +33,8 @@ use Rattle.edd_image.specs.declared.parts.Counts.{Counts}
 use Rattle.edd_image.specs.declared.unit.Context.{Context}
 use Rattle.edd_image.specs.declared.unit.Sort.TheVariants.{Method}
 use Rattle.edd_image.specs.declared.unit.Version.{Version}
-use Rattle.edd_image.specs.Agreement.{version_with}
-use Rattle.edd_image.specs.References.{string_exists, variable_exists, array_exists}
+use Rattle.edd_image.specs.declared.unit.Version.TheVariants.{Two}
+use Rattle.edd_image.specs.References.{string_exists, variable_exists, array_exists, method_exists}
 use Rattle.edd_image.specs.Spelling.{IsSpelled}
 use Rattle.edd_code.specs.Blocks.{Block, Nothing, Straight, Then, WhenNotZero, WhenZero, Either}
 use Rattle.edd_code.specs.Expressions.{no_value, item_block, item_element_block, element_block, no_element, unary_block, truth_block, then_test, instead}
@@ -40,11 +42,13 @@ use Rattle.edd_code.specs.Flow.{AreSpelled, all_straight, may_stand}
 use Rattle.edd_code.specs.Reads.{item_is_there}
 use Rattle.edd_code.specs.MethodExpressions.{load_block, store_item_block, store_block, store_next_block, store_behind_block, increment_block, method_block, call_block}
 use Rattle.edd_code.specs.MethodReads.{uses_existing}
-use Rattle.edd_code.proofs.Versions.{in_methods}
-use Rattle.edd_code.proofs.Fitting.{front_none, all_parts, fits, of_none, of_text, of_number, of_number_text, of_texts, of_numbers, of_variable, of_variable_number, of_text_variable}
+use Rattle.edd_code.proofs.Versions.{in_methods, abort_methods_allowed}
+use Rattle.edd_code.proofs.Fitting.{front_none, all_parts, fits, of_none, of_text, of_number, of_number_text, of_texts, of_numbers, of_variable, of_method, of_variable_number, of_text_variable}
 
-module _ (version : Version) (counts : Counts) (slots : ℕ) (fits_version : version ≡ version_with counts)
+module _ (version : Version) (counts : Counts) (slots : ℕ)
+    (holds_arrays : nat_lt 0 counts.arrays ≡ true → version ≡ Two)
     (variables : counts.variables ≤ 65536) (arrays : counts.arrays ≤ 65536)
+    (methods : counts.methods ≤ 65536)
     (strings : counts.strings ≤ 65536) (few_slots : slots ≤ 65536) where
   -- where the unit of a method stands
   abbrev context : Context
@@ -77,6 +81,10 @@ module _ (version : Version) (counts : Counts) (slots : ℕ) (fits_version : ver
   short_array n is = let below = ltb-true n.0 counts.arrays is in omega
       (arith, arrays, below)
 
+  short_method : (m : MethNo) → method_exists counts m ≡ true → m.0 < 2 ^ 16
+  short_method m is = let below = ltb-true m.0 counts.methods is in omega
+      (arith, methods, below)
+
   short_string : (n : StrNo) → string_exists counts n ≡ true → n.0 < 2 ^ 16
   short_string n is = let below = ltb-true n.0 counts.strings is in omega
       (arith, strings, below)
@@ -103,7 +111,7 @@ module _ (version : Version) (counts : Counts) (slots : ℕ) (fits_version : ver
   item_element_stands : (i : ItemNo) → item_is_there counts i ≡ true
       → Stands (item_element_block i)
   item_element_stands (item_no.Array n) is = one_stands (instruction.ReadElement n)
-      (short_array n is) (and_from _ _ (in_methods version counts n fits_version is) is)
+      (short_array n is) (and_from _ _ (in_methods version counts n holds_arrays is) is)
   item_element_stands (item_no.Variable v) is = no_element_stands
   item_element_stands (item_no.Command n) is = no_element_stands
   item_element_stands (item_no.Menu n) is = no_element_stands
@@ -205,7 +213,10 @@ module _ (version : Version) (counts : Counts) (slots : ℕ) (fits_version : ver
     AllStand (Cons (Value e) rest) = Stands (method_block number e) × AllStand rest
 
     abbrev CallStands : Builtin → Arguments Target → Type 0
-    CallStands f arguments = AllStand arguments → Stands (call_block number f arguments)
+    CallStands f arguments = AllStand arguments
+        → are_arguments (uses_existing context) plain arguments ≡ true
+        → (is_add_abort_method (Function f) ≡ true → version ≡ Two)
+        → Stands (call_block number f arguments)
 
     -- ---- calls
 
@@ -222,34 +233,39 @@ module _ (version : Version) (counts : Counts) (slots : ℕ) (fits_version : ver
         ≡ true → CallStands f arguments
     unfolding method_block call_block
     call_stands builtin.PutMessage = of_text (CallStands builtin.PutMessage)
-        (λ t is. one_stands _ (string_short t is.0) is.0)
+        (λ t is are second. one_stands _ (string_short t is.0) is.0)
     call_stands builtin.Acknowledge = of_text (CallStands builtin.Acknowledge)
-        (λ t is. one_stands _ (string_short t is.0) is.0)
+        (λ t is are second. one_stands _ (string_short t is.0) is.0)
     call_stands builtin.Delay = of_number_text (CallStands builtin.Delay)
-        (λ e t is. then_stand is.0 (one_stands _ (string_short t is.1.0) is.1.0))
+        (λ e t is are second. then_stand is.0 (one_stands _ (string_short t is.1.0) is.1.0))
     call_stands builtin.GetDevVarValue =
         of_text_variable (CallStands builtin.GetDevVarValue)
-        (λ t v is. let there = variable_there v is.1.0 in one_stands _
+        (λ t v is are second. let there = variable_there v is.1.0 in one_stands _
         (string_short t is.0, short_variable v there) (and_from _ _ is.0 there))
     call_stands builtin.SelectFromList = of_texts (CallStands builtin.SelectFromList)
-        (λ t u is. one_stands _ (string_short t is.0, string_short u is.1.0)
+        (λ t u is are second. one_stands _ (string_short t is.0, string_short u is.1.0)
         (and_from _ _ is.0 is.1.0))
     call_stands builtin.SendCommand = of_number (CallStands builtin.SendCommand)
-        (λ e is. then_stand is.0 (one_stands _ tt refl))
+        (λ e is are second. then_stand is.0 (one_stands _ tt refl))
     call_stands builtin.SendCommandTrans = of_numbers (CallStands builtin.SendCommandTrans)
-        (λ e x is. then_stand is.0 (then_stand is.1.0 (one_stands _ tt refl)))
+        (λ e x is are second. then_stand is.0 (then_stand is.1.0 (one_stands _ tt refl)))
     call_stands builtin.SaveValues = of_none (CallStands builtin.SaveValues)
-        (λ is. one_stands _ tt refl)
-    call_stands builtin.IvarValue = of_variable (CallStands builtin.IvarValue) (λ v is. is.0)
-    call_stands builtin.LvarValue = of_variable (CallStands builtin.LvarValue) (λ v is. is.0)
+        (λ is are second. one_stands _ tt refl)
+    call_stands builtin.IvarValue = of_variable (CallStands builtin.IvarValue) (λ v is are second. is.0)
+    call_stands builtin.LvarValue = of_variable (CallStands builtin.LvarValue) (λ v is are second. is.0)
     call_stands builtin.Iassign = of_variable_number (CallStands builtin.Iassign)
-        (λ v e is. zero_stands v (variable_there v is.0) is.1.0)
+        (λ v e is are second. zero_stands v (variable_there v is.0) is.1.0)
     call_stands builtin.Lassign = of_variable_number (CallStands builtin.Lassign)
-        (λ v e is. zero_stands v (variable_there v is.0) is.1.0)
+        (λ v e is are second. zero_stands v (variable_there v is.0) is.1.0)
     call_stands builtin.Abort = of_none (CallStands builtin.Abort)
-        (λ is. one_stands instruction.Abort tt refl)
+        (λ is are second. one_stands instruction.Abort tt refl)
     call_stands builtin.ProcessAbort = of_none (CallStands builtin.ProcessAbort)
-        (λ is. one_stands instruction.Abort tt refl)
+        (λ is are second. one_stands instruction.Abort tt refl)
+    call_stands builtin.AddAbortMethod = of_method (CallStands builtin.AddAbortMethod)
+        (λ m is are second.
+        let there : method_exists counts m ≡ true = (and_parts _ _ are).0 in
+        one_stands (instruction.AddAbortMethod m) (short_method m there)
+        (and_from _ _ (abort_methods_allowed version m (second refl)) there))
 
     -- ---- expressions
 
@@ -260,91 +276,112 @@ module _ (version : Version) (counts : Counts) (slots : ℕ) (fits_version : ver
     -- the premises of an expression
     abbrev IsChecked : Expr Target → Type 0
     IsChecked e = (call_mismatches false e ≡ []) × (is_expr (uses_existing context) plain e ≡ true)
-        × AllByRecursion TextStands (expr_texts e)
+        × AllByRecursion TextStands (expr_texts e) × (names_it e ≡ true → version ≡ Two)
 
     both_checked : (left right : Expr Target) → call_mismatches false left
         ++ call_mismatches false right ≡ []
         → (is_expr (uses_existing context) plain left && is_expr (uses_existing context) plain
         right) ≡ true
         → AllByRecursion TextStands (expr_texts left ++ expr_texts right)
+        → ((names_it left || names_it right) ≡ true → version ≡ Two)
         → IsChecked left × IsChecked right
-    both_checked left right fit is known =
+    both_checked left right fit is known second =
         let fits = front_none (call_mismatches false left) (call_mismatches false right) fit in
         let are = and_parts _ _ is in
         let parts = text_parts (expr_texts left) (expr_texts right) known in
-        ((fits.0, are.0, parts.0), (fits.1, are.1, parts.1))
+        (
+          (fits.0, are.0, parts.0, λ h. second (or_left (names_it left) (names_it right) h)),
+          (fits.1, are.1, parts.1, λ h. second (or_right (names_it left) (names_it right) h)),
+        )
 
     mutual
       unfolding method_block
 
       pub method_stands : (is_statement : Bool) (e : Expr Target) → call_mismatches is_statement e
           ≡ [] → is_expr (uses_existing context) plain e ≡ true
-          → AllByRecursion TextStands (expr_texts e) → Stands (method_block number e)
-      method_stands b (Literal value) fit is known = one_stands (instruction.Push value)
+          → AllByRecursion TextStands (expr_texts e) → (names_it e ≡ true → version ≡ Two)
+          → Stands (method_block number e)
+      method_stands b (Literal value) fit is known second = one_stands (instruction.Push value)
           (ltb-true value (2 ^ 32) is) refl
-      method_stands b Decimal fit is known = no_value_stands
-      method_stands b (Reference from) fit is known = read_stands from is
-      method_stands b (Indexed array index) fit is known =
+      method_stands b Decimal fit is known second = no_value_stands
+      method_stands b (Reference from) fit is known second = read_stands from is
+      method_stands b (Indexed array index) fit is known second =
           let are = and_parts _ _ is in
           let front = and_parts _ _ are.0 in
-          then_stand (method_stands false index fit are.1 known) (element_stands array front.0)
-      method_stands b (Parentheses inner) fit is known = method_stands false inner fit is known
-      method_stands b (Unary op operand) fit is known =
-          then_stand (method_stands false operand fit is known) (unary_stands op)
-      method_stands b (Binary op left right) fit is known =
-          let p = both_checked left right fit is known in
-          then_stand (method_stands false left p.0.0 p.0.1 p.0.2)
-          (then_stand (method_stands false right p.1.0 p.1.1 p.1.2) (operate_stands op))
-      method_stands b (Compare by left right) fit is known =
-          let p = both_checked left right fit is known in
-          then_stand (method_stands false left p.0.0 p.0.1 p.0.2)
-          (then_stand (method_stands false right p.1.0 p.1.1 p.1.2)
+          then_stand (method_stands false index fit are.1 known second) (element_stands array front.0)
+      method_stands b (Parentheses inner) fit is known second = method_stands false inner fit is known second
+      method_stands b (Unary op operand) fit is known second =
+          then_stand (method_stands false operand fit is known second) (unary_stands op)
+      method_stands b (Binary op left right) fit is known second =
+          let p = both_checked left right fit is known second in
+          then_stand (method_stands false left p.0.0 p.0.1 p.0.2 p.0.3)
+          (then_stand (method_stands false right p.1.0 p.1.1 p.1.2 p.1.3) (operate_stands op))
+      method_stands b (Compare by left right) fit is known second =
+          let p = both_checked left right fit is known second in
+          then_stand (method_stands false left p.0.0 p.0.1 p.0.2 p.0.3)
+          (then_stand (method_stands false right p.1.0 p.1.1 p.1.2 p.1.3)
           (one_stands (instruction.Compare by) tt refl))
-      method_stands b (LogicalAnd left right) fit is known =
-          let p = both_checked left right fit is known in
-          then_stand (method_stands false left p.0.0 p.0.1 p.0.2)
-          (and_stands (method_stands false right p.1.0 p.1.1 p.1.2))
-      method_stands b (LogicalOr left right) fit is known =
-          let p = both_checked left right fit is known in
-          then_stand (method_stands false left p.0.0 p.0.1 p.0.2)
-          (or_stands (method_stands false right p.1.0 p.1.1 p.1.2))
-      method_stands b (Conditional test first second) fit is known =
+      method_stands b (LogicalAnd left right) fit is known second =
+          let p = both_checked left right fit is known second in
+          then_stand (method_stands false left p.0.0 p.0.1 p.0.2 p.0.3)
+          (and_stands (method_stands false right p.1.0 p.1.1 p.1.2 p.1.3))
+      method_stands b (LogicalOr left right) fit is known second =
+          let p = both_checked left right fit is known second in
+          then_stand (method_stands false left p.0.0 p.0.1 p.0.2 p.0.3)
+          (or_stands (method_stands false right p.1.0 p.1.1 p.1.2 p.1.3))
+      method_stands b (Conditional test first other) fit is known second =
           let fits = front_none (call_mismatches false test) (call_mismatches false first
-          ++ call_mismatches false second) fit in
-          let fits_behind = front_none (call_mismatches false first) (call_mismatches false second)
+          ++ call_mismatches false other) fit in
+          let fits_behind = front_none (call_mismatches false first) (call_mismatches false other)
           fits.1 in
           let are = and_parts _ _ is in
           let are_front = and_parts _ _ are.0 in
-          let parts = text_parts (expr_texts test) (expr_texts first ++ expr_texts second) known in
-          let parts_behind = text_parts (expr_texts first) (expr_texts second) parts.1 in
-          then_stand (method_stands false test fits.0 are_front.0 parts.0)
-          (either_stand (method_stands false first fits_behind.0 are_front.1 parts_behind.0)
-          (method_stands false second fits_behind.1 are.1 parts_behind.1))
-      method_stands b (Assign to value) fit is known =
+          let parts = text_parts (expr_texts test) (expr_texts first ++ expr_texts other) known in
+          let parts_behind = text_parts (expr_texts first) (expr_texts other) parts.1 in
+          let named = names_it first || names_it other in
+          let behind : named ≡ true → version ≡ Two =
+          λ h. second (or_right (names_it test) named h) in
+          then_stand (method_stands false test fits.0 are_front.0 parts.0
+          (λ h. second (or_left (names_it test) named h)))
+          (either_stand (method_stands false first fits_behind.0 are_front.1 parts_behind.0
+          (λ h. behind (or_left (names_it first) (names_it other) h)))
+          (method_stands false other fits_behind.1 are.1 parts_behind.1
+          (λ h. behind (or_right (names_it first) (names_it other) h))))
+      method_stands b (Assign to value) fit is known second =
           let are = and_parts _ _ is in
-          then_stand (method_stands false value fit are.1 known) (store_stands to are.0)
-      method_stands b (CompoundAssign op to value) fit is known =
+          then_stand (method_stands false value fit are.1 known second) (store_stands to are.0)
+      method_stands b (CompoundAssign op to value) fit is known second =
           let are = and_parts _ _ is in
-          then_stand (read_stands to are.0) (then_stand (method_stands false value fit are.1 known)
+          then_stand (read_stands to are.0) (then_stand (method_stands false value fit are.1 known second)
           (then_stand (operate_stands op) (store_stands to are.0)))
-      method_stands b (Increment op to) fit is known = increment_stands op to is
-      method_stands b (Call (Function f) arguments) fit is known =
+      method_stands b (Increment op to) fit is known second = increment_stands op to is
+      method_stands b (Call (Function f) arguments) fit is known second =
           let parts = front_none (call_breaches b (Function f) arguments)
           (argument_mismatches arguments) fit in
           let are = and_parts _ _ is in
+          let of_call = is_add_abort_method (Function f) in
+          let of_arguments = argument_names_it arguments in
           call_stands f arguments (fits b f arguments parts.0).0
-          (all_stand arguments parts.1 are.1 known)
-      method_stands b (Call (Local slot) arguments) fit is known = absurd cc
-      method_stands b (Call (Item i) arguments) fit is known = absurd cc
+          (all_stand arguments parts.1 are.1 known
+          (λ h. second (or_right of_call of_arguments h))) are.1
+          (λ h. second (or_left of_call of_arguments h))
+      method_stands b (Call (Local slot) arguments) fit is known second = absurd cc
+      method_stands b (Call (Item i) arguments) fit is known second = absurd cc
 
       all_stand : (arguments : Arguments Target) → argument_mismatches arguments ≡ []
           → are_arguments (uses_existing context) plain arguments ≡ true
-          → AllByRecursion TextStands (argument_texts arguments) → AllStand arguments
-      all_stand Nil fit is known = tt
-      all_stand (Cons (Text t) rest) fit is known =
-          (known.0, all_stand rest fit (and_parts (is_text t) _ is).1 known.1)
-      all_stand (Cons (Value e) rest) fit is known =
+          → AllByRecursion TextStands (argument_texts arguments)
+          → (argument_names_it arguments ≡ true → version ≡ Two) → AllStand arguments
+      all_stand Nil fit is known second = tt
+      all_stand (Cons (Text t) rest) fit is known second =
+          (known.0, all_stand rest fit (and_parts (is_text t) _ is).1 known.1 second)
+      all_stand (Cons (Value e) rest) fit is known second =
           let parts = front_none (call_mismatches false e) (argument_mismatches rest) fit in
           let are = and_parts _ _ is in
           let numbers = text_parts (expr_texts e) (argument_texts rest) known in
-          (method_stands false e parts.0 are.0 numbers.0, all_stand rest parts.1 are.1 numbers.1)
+          (
+            method_stands false e parts.0 are.0 numbers.0
+                (λ h. second (or_left (names_it e) (argument_names_it rest) h)),
+            all_stand rest parts.1 are.1 numbers.1
+                (λ h. second (or_right (names_it e) (argument_names_it rest) h)),
+          )

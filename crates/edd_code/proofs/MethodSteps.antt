@@ -1,6 +1,7 @@
 -- One step of a method, in what it reports.
 use Rattle.std.proofs.Common.{◌≡◌, refl, sym, ap, subst, ◌∙◌, ℕ, zero, suc, ℤ, List, [], ◌∷◌, ◌++◌, Option, Some, arith, append_assoc, append-nil}
 use Rattle.std.specs.Prelude.{map, unwrap_or}
+use Rattle.edd_syntax.specs.declared.numbers.MethNo.{MethNo}
 use Rattle.edd_syntax.specs.declared.numbers.StrNo.{StrNo}
 use Rattle.edd_syntax.specs.declared.answer.Trap.{Trap}
 use Rattle.edd_syntax.specs.Words.{Words}
@@ -48,6 +49,7 @@ changes_before text changes s o =
           ++ map (worded text) o.requests;
       changes = cs;
       values = o.state.values;
+      abort_methods = o.state.abort_methods;
       answers = o.answers;
       ending = o.ending;
     })
@@ -64,6 +66,7 @@ request_before text r q is s o =
       changes = s.changes
           ++ o.changes;
       values = o.state.values;
+      abort_methods = o.state.abort_methods;
       answers = o.answers;
       ending = o.ending;
     })
@@ -91,6 +94,7 @@ pub over_now : (text : StrNo → Option Words) (s : source.State) (t : State) (a
       requests = map Some s.requests;
       changes = s.changes;
       values = t.values;
+      abort_methods = t.abort_methods;
       answers = answers;
       ending = ending;
     }
@@ -99,6 +103,7 @@ over_now text s t answers ending =
       requests = rs;
       changes = s.changes ++ [];
       values = t.values;
+      abort_methods = t.abort_methods;
       answers = answers;
       ending = ending;
     }) (append-nil (map Some s.requests))
@@ -106,6 +111,7 @@ over_now text s t answers ending =
       requests = map Some s.requests;
       changes = cs;
       values = t.values;
+      abort_methods = t.abort_methods;
       answers = answers;
       ending = ending;
     }) (append-nil s.changes)
@@ -160,6 +166,15 @@ module _ (text : StrNo → Option Words) (env : Environment) (code : List ℕ) w
       })
       → Leads p q operands left s (record s { slots = slots })
   quiet_leads p q operands left s slots h k = ap (behind text s) (one_step p operands s _ h k)
+
+  pub list_leads : (p q : ℕ) (operands left : List ℤ) (s : source.State) (methods : List MethNo)
+      → Acts p operands s (record {
+        state = at code q left (record s { abort_methods = methods });
+        emitted = emitted.Nothing;
+        changes = [];
+      })
+      → Leads p q operands left s (record s { abort_methods = methods })
+  list_leads p q operands left s methods h k = ap (behind text s) (one_step p operands s _ h k)
 
   -- the records of an attribute are none of a method's requests
   pub record_leads : (p q : ℕ) (operands left : List ℤ) (s : source.State) (given : Emitted)
@@ -224,6 +239,7 @@ module _ (text : StrNo → Option Words) (env : Environment) (code : List ℕ) w
         requests = map Some s.requests;
         changes = s.changes;
         values = s.values;
+        abort_methods = s.abort_methods;
         answers = s.answers;
         ending = image.Ended;
       }
@@ -273,6 +289,7 @@ module _ (text : StrNo → Option Words) (env : Environment) (code : List ℕ) w
             requests = map Some (s.requests ++ said ∷ []);
             changes = s.changes;
             values = s.values;
+            abort_methods = s.abort_methods;
             answers = a;
             ending = image.Waiting;
           })

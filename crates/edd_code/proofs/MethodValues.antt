@@ -1,8 +1,9 @@
 -- The block of an expression of a method does what the expression means.
-use Rattle.std.proofs.Common.{◌≡◌, refl, sym, ap, ◌∙◌, ℤ, pos, Bool, true, false, List, [], ◌∷◌, ◌++◌, Option, Some, None}
+use Rattle.std.proofs.Common.{◌≡◌, refl, sym, ap, ◌∙◌, ℤ, pos, negsuc, Bool, true, false, List, [], ◌∷◌, ◌++◌, Option, Some, None}
 use Rattle.std.specs.Prelude.{option_map}
 use Rattle.std.specs.List.{AllByRecursion}
 use Rattle.edd_syntax.specs.declared.numbers.ItemNo.TheVariants as item_no
+use Rattle.edd_syntax.specs.declared.numbers.MethNo.{MethNo}
 use Rattle.edd_syntax.specs.declared.numbers.StrNo.{StrNo}
 use Rattle.edd_syntax.specs.declared.numbers.VarNo.{VarNo}
 use Rattle.edd_syntax.specs.declared.operators.Builtin.{Builtin}
@@ -12,6 +13,7 @@ use Rattle.edd_syntax.specs.declared.reference.Target.TheVariants.{Local, Item, 
 use Rattle.edd_syntax.specs.Device as device
 use Rattle.edd_syntax.specs.Text as texts
 use Rattle.edd_syntax.specs.Expression.{Expr, Literal, Decimal, Reference, Indexed, Parentheses, Unary, Binary, Compare, LogicalAnd, LogicalOr, Conditional, Assign, CompoundAssign, Increment, Call, Text, Value, Arguments, Nil, Cons}
+use Rattle.edd_syntax.specs.AbortMethods.{listed}
 use Rattle.edd_syntax.specs.MethodState as source
 use Rattle.edd_syntax.specs.MethodState.{State, Done, Stopped, Action, pure, stop, Aborted, ◌>>=◌, ◌>>◌, read, read_element, assign, ask}
 use Rattle.edd_syntax.specs.Evaluation.{Given, Number, referred, call, evaluate, evaluate_all}
@@ -21,15 +23,17 @@ use Rattle.edd_syntax.specs.TwosComplement.{apply, operate, compare}
 use Rattle.edd_syntax.specs.Words.{Words, words_of}
 use Rattle.edd_image.specs.declared.instruction.Ask.TheVariants as ask
 use Rattle.edd_image.specs.declared.instruction.Instruction.TheVariants as instruction
-use Rattle.edd_image.specs.Steps.{act}
+use Rattle.edd_image.specs.Steps.{act, go}
 use Rattle.edd_code.specs.Blocks.{Block, Straight, Then, WhenNotZero, WhenZero, Either}
 use Rattle.edd_code.specs.Expressions.{no_value, element_block, unary_block, truth_block, then_test, instead}
 use Rattle.edd_code.specs.BlockEffects as blocks
-use Rattle.edd_code.specs.MethodEffects.{pushed, when_known}
+use Rattle.edd_image.specs.Agreement.{machine_of}
+use Rattle.edd_code.specs.Reports.{at}
+use Rattle.edd_code.specs.MethodEffects.{pushed, when_known, outcome_of, unless_jump}
 use Rattle.edd_code.specs.MethodExpressions.{load_block, store_block, ask_block, method_block, call_block}
 use Rattle.edd_code.specs.Numbered.{IsNumbered}
 use Rattle.edd_code.proofs.ExpressionActions.{Means, one_means, two_mean, push_means, no_value_means, element_means, read_means, store_means, store_means_zero, unary_means, operate_means, compare_means, operate_then, increment_means, and_means, or_means, either_means}
-use Rattle.edd_code.proofs.Fitting.{front_none, all_parts, fits, of_none, of_text, of_number, of_number_text, of_texts, of_numbers, of_variable, of_variable_number, of_text_variable}
+use Rattle.edd_code.proofs.Fitting.{front_none, all_parts, fits, of_none, of_text, of_number, of_number_text, of_texts, of_numbers, of_variable, of_method, of_variable_number, of_text_variable}
 
 -- ---- actions, one after another
 
@@ -192,6 +196,25 @@ module _ (text : StrNo → Option Words) (number : Words → StrNo) (around : de
   unfolding method_block call_block evaluate evaluate_all call blocks.does act
   process_abort is = λ operands s. refl
 
+  add_abort_method : (m : MethNo)
+      → CallMeans builtin.AddAbortMethod (Cons (Value (Reference (Item (item_no.Method m)))) Nil)
+  unfolding method_block call_block evaluate evaluate_all call blocks.does act
+  add_abort_method m is = λ operands s. by_list operands s
+      (listed s.is_aborting s.abort_methods m)
+    where
+      by_list : (operands : List ℤ) (s : State) (o : Option (List MethNo))
+          → unless_jump None (outcome_of text (machine_of around) s (elim o [
+            | Some methods ↦ go (record (at [] 0 operands s) { abort_methods = methods }) 0
+                (pos 0 ∷ operands)
+            | None ↦ go (at [] 0 operands s) 0 (negsuc 0 ∷ operands)
+          ]))
+          ≡ pushed operands (elim o [
+            | Some methods ↦ Done (pos 0) (record s { abort_methods = methods })
+            | None ↦ Done (negsuc 0) s
+          ])
+      by_list operands s (Some methods) = refl
+      by_list operands s None = refl
+
   call_means : (f : Builtin) (arguments : Arguments Target) → all_fit (parameters f) arguments
       ≡ true → CallMeans f arguments
   call_means builtin.PutMessage = of_text (CallMeans builtin.PutMessage) put_message
@@ -209,6 +232,7 @@ module _ (text : StrNo → Option Words) (number : Words → StrNo) (around : de
   call_means builtin.Lassign = of_variable_number (CallMeans builtin.Lassign) lassign
   call_means builtin.Abort = of_none (CallMeans builtin.Abort) abort
   call_means builtin.ProcessAbort = of_none (CallMeans builtin.ProcessAbort) process_abort
+  call_means builtin.AddAbortMethod = of_method (CallMeans builtin.AddAbortMethod) add_abort_method
 
   -- ---- expressions
 

@@ -1,7 +1,9 @@
 -- A straight instruction does where it stands what it does anywhere.
-use Rattle.std.proofs.Common.{◌≡◌, refl, ℕ, suc, ℤ, List, [], ◌∷◌, ◌++◌, Option, Some, None, Result, Ok, Err, arith}
+use Rattle.std.proofs.Common.{◌≡◌, refl, ap, ℕ, suc, ℤ, pos, negsuc, List, [], ◌∷◌, ◌++◌, Option, Some, None, Result, Ok, Err, arith}
+use Rattle.edd_syntax.specs.declared.numbers.MethNo.{MethNo}
 use Rattle.edd_syntax.specs.declared.numbers.StrNo.{StrNo}
 use Rattle.edd_syntax.specs.declared.answer.Trap.{Trap}
+use Rattle.edd_syntax.specs.AbortMethods.{listed}
 use Rattle.edd_syntax.specs.TwosComplement.{operate}
 use Rattle.edd_syntax.specs.Words.{Words}
 use Rattle.edd_syntax.specs.Answers.{Change}
@@ -14,12 +16,12 @@ use Rattle.edd_image.specs.declared.instruction.Ask.TheVariants as ask
 use Rattle.edd_image.specs.declared.instruction.Instruction.{Instruction}
 use Rattle.edd_image.specs.declared.instruction.Instruction.TheVariants as instruction
 use Rattle.edd_image.specs.Decoding.{instruction_at}
-use Rattle.edd_image.specs.Steps.{Environment, act, go, give, ask_for, push_or_trap}
+use Rattle.edd_image.specs.Steps.{Environment, Effect, act, go, give, ask_for, push_or_trap}
 use Rattle.edd_syntax.specs.Elements.{element_value}
 use Rattle.edd_code.specs.BlockEffects.{Goes}
 use Rattle.edd_code.specs.Reports.{at, worded}
 use Rattle.edd_code.specs.MethodEffects.{when_known, outcome_of, does_one, CanBeTaken, Comes}
-use Rattle.edd_code.proofs.MethodSteps.{Leads, quiet_leads, record_leads, change_leads, trap_reports, abort_reports, ask_comes}
+use Rattle.edd_code.proofs.MethodSteps.{Leads, quiet_leads, list_leads, record_leads, change_leads, trap_reports, abort_reports, ask_comes}
 
 module _ (text : StrNo → Option Words) (env : Environment) (code : List ℕ) (p next : ℕ) (s : State)
     (valid : CanBeTaken env s.answers) where
@@ -35,6 +37,15 @@ module _ (text : StrNo → Option Words) (env : Environment) (code : List ℕ) (
     goes operands left slots acts =
         leads_comes operands left (record s { slots = slots }) valid
         (quiet_leads text env code p next operands left s slots
+        (record { instruction = i; next = next; stands = stands; acts = acts }))
+
+    lists : (operands left : List ℤ) (methods : List MethNo)
+        → act env i next (at code p operands s)
+        ≡ go (at code p operands (record s { abort_methods = methods })) next left
+        → Comes text env code p next operands s (Goes left (record s { abort_methods = methods }))
+    lists operands left methods acts =
+        leads_comes operands left (record s { abort_methods = methods }) valid
+        (list_leads text env code p next operands left s methods
         (record { instruction = i; next = next; stands = stands; acts = acts }))
 
     gives : (operands left : List ℤ) (r : Record) → act env i next (at code p operands s)
@@ -174,3 +185,22 @@ module _ (text : StrNo → Option Words) (env : Environment) (code : List ℕ) (
     abort_reports text env code p operands s
         (record { instruction = instruction.Abort; next = next; stands = h; acts = refl }) k,
   )
+  straight_comes (instruction.AddAbortMethod m) operands h =
+      by_list (listed s.is_aborting s.abort_methods m) refl
+    where
+      effect : List ℕ → (place next : ℕ) → Option (List MethNo) → Option Effect
+      effect c place next o = elim o [
+        | Some methods ↦ go (at c place operands (record s { abort_methods = methods })) next
+            (pos 0 ∷ operands)
+        | None ↦ go (at c place operands s) next (negsuc 0 ∷ operands)
+      ]
+
+      by_list : (o : Option (List MethNo)) → listed s.is_aborting s.abort_methods m ≡ o
+          → Comes text env code p next operands s
+          (outcome_of text env s (effect [] 0 0 o))
+      by_list (Some methods) is =
+          lists (instruction.AddAbortMethod m) h operands (pos 0 ∷ operands) methods
+          (ap (effect code p next) is)
+      by_list None is =
+          goes (instruction.AddAbortMethod m) h operands (negsuc 0 ∷ operands) s.slots
+          (ap (effect code p next) is)

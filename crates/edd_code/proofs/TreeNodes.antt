@@ -12,66 +12,73 @@ use Rattle.edd_syntax.specs.Statement as s
 use Rattle.edd_syntax.specs.Statement.{Declarator, Stmt, Body, Nil, Cons, Declare, Statement, CaseLabel, DefaultLabel, slots_of}
 use Rattle.edd_syntax.specs.Item.{Description}
 use Rattle.edd_syntax.specs.Resolution.{Scope, function_meant, declared, all_declared}
-use Rattle.edd_syntax.specs.ResolvedTrees.{Meanings, resolved_expr, resolved_arguments, resolved_optional, resolved_cond, resolved_conds, resolved_arms, at_scope, resolved_declarators, resolved_stmt, resolved_body}
+use Rattle.edd_syntax.specs.ResolvedTrees.{Meanings, resolved_by, resolved_expr, resolved_arguments, resolved_optional, resolved_cond, resolved_conds, resolved_arms, at_scope, resolved_declarators, resolved_stmt, resolved_body}
 use Rattle.edd_syntax.specs.Size.{nodes, argument_nodes, cond_nodes, conds_nodes, arms_nodes, optional_nodes, declarator_nodes, statement_nodes, body_nodes}
 use Rattle.edd_syntax.proofs.Made.{stays, made, made_of_two, made_of_three, made_of_four}
 
 module _ (at : Meanings) where
   mutual
-    unfolding resolved_expr resolved_arguments
+    unfolding resolved_by
 
-    pub expr_keeps : (e : Expr Path) (e' : Expr Target) → resolved_expr at e ≡ Some e'
-        → nodes e' ≡ nodes e
-    expr_keeps (Literal value) e' h = stays nodes (Literal value) e' h
-    expr_keeps Decimal e' h = stays nodes Decimal e' h
-    expr_keeps (Reference from) e' h = made nodes (at.reference from) Reference e' _ (λ x p. refl) h
-    expr_keeps (Indexed array index) e' h = made_of_two nodes (at.array array)
-        (resolved_expr at index) Indexed e' _ (λ x y p q. ap (λ n. 1 + n) (expr_keeps index y q)) h
-    expr_keeps (Parentheses inner) e' h = made nodes (resolved_expr at inner) Parentheses e' _
-        (λ x p. ap (λ n. 1 + n) (expr_keeps inner x p)) h
-    expr_keeps (Unary op operand) e' h = made nodes (resolved_expr at operand) (Unary op) e' _
-        (λ x p. ap (λ n. 1 + n) (expr_keeps operand x p)) h
-    expr_keeps (Binary op left right) e' h =
-        made_of_two nodes (resolved_expr at left) (resolved_expr at right) (Binary op) e' _
-        (λ x y p q. omega (arith, expr_keeps left x p, expr_keeps right y q)) h
-    expr_keeps (Compare by left right) e' h =
-        made_of_two nodes (resolved_expr at left) (resolved_expr at right) (Compare by) e' _
-        (λ x y p q. omega (arith, expr_keeps left x p, expr_keeps right y q)) h
-    expr_keeps (LogicalAnd left right) e' h =
-        made_of_two nodes (resolved_expr at left) (resolved_expr at right) LogicalAnd e' _
-        (λ x y p q. omega (arith, expr_keeps left x p, expr_keeps right y q)) h
-    expr_keeps (LogicalOr left right) e' h =
-        made_of_two nodes (resolved_expr at left) (resolved_expr at right) LogicalOr e' _
-        (λ x y p q. omega (arith, expr_keeps left x p, expr_keeps right y q)) h
-    expr_keeps (Conditional test first second) e' h =
-        made_of_three nodes (resolved_expr at test) (resolved_expr at first)
-        (resolved_expr at second) Conditional e' _
+    -- where `plain` says what a plain reference means
+    keeps : (plain : Path → Option Target) (e : Expr Path) (e' : Expr Target)
+        → resolved_by at plain e ≡ Some e' → nodes e' ≡ nodes e
+    keeps plain (Literal value) e' h = stays nodes (Literal value) e' h
+    keeps plain Decimal e' h = stays nodes Decimal e' h
+    keeps plain (Reference from) e' h = made nodes (plain from) Reference e' _ (λ x p. refl) h
+    keeps plain (Indexed array index) e' h = made_of_two nodes (at.array array)
+        (resolved_by at at.reference index) Indexed e' _ (λ x y p q. ap (λ n. 1 + n) (keeps at.reference index y q)) h
+    keeps plain (Parentheses inner) e' h = made nodes (resolved_by at at.reference inner) Parentheses e' _
+        (λ x p. ap (λ n. 1 + n) (keeps at.reference inner x p)) h
+    keeps plain (Unary op operand) e' h = made nodes (resolved_by at at.reference operand) (Unary op) e' _
+        (λ x p. ap (λ n. 1 + n) (keeps at.reference operand x p)) h
+    keeps plain (Binary op left right) e' h =
+        made_of_two nodes (resolved_by at at.reference left) (resolved_by at at.reference right) (Binary op) e' _
+        (λ x y p q. omega (arith, keeps at.reference left x p, keeps at.reference right y q)) h
+    keeps plain (Compare by left right) e' h =
+        made_of_two nodes (resolved_by at at.reference left) (resolved_by at at.reference right) (Compare by) e' _
+        (λ x y p q. omega (arith, keeps at.reference left x p, keeps at.reference right y q)) h
+    keeps plain (LogicalAnd left right) e' h =
+        made_of_two nodes (resolved_by at at.reference left) (resolved_by at at.reference right) LogicalAnd e' _
+        (λ x y p q. omega (arith, keeps at.reference left x p, keeps at.reference right y q)) h
+    keeps plain (LogicalOr left right) e' h =
+        made_of_two nodes (resolved_by at at.reference left) (resolved_by at at.reference right) LogicalOr e' _
+        (λ x y p q. omega (arith, keeps at.reference left x p, keeps at.reference right y q)) h
+    keeps plain (Conditional test first second) e' h =
+        made_of_three nodes (resolved_by at at.reference test) (resolved_by at at.reference first)
+        (resolved_by at at.reference second) Conditional e' _
         (λ x y z p q r. omega (
           arith,
-          expr_keeps test x p,
-          expr_keeps first y q,
-          expr_keeps second z r,
+          keeps at.reference test x p,
+          keeps at.reference first y q,
+          keeps at.reference second z r,
         )) h
-    expr_keeps (Assign to value) e' h = made_of_two nodes (at.reference to) (resolved_expr at value) Assign e'
-        _ (λ x y p q. ap (λ n. 1 + n) (expr_keeps value y q)) h
-    expr_keeps (CompoundAssign op to value) e' h =
-        made_of_two nodes (at.reference to) (resolved_expr at value) (CompoundAssign op) e' _
-        (λ x y p q. ap (λ n. 1 + n) (expr_keeps value y q)) h
-    expr_keeps (Increment op to) e' h = made nodes (at.reference to) (Increment op) e' _ (λ x p. refl) h
-    expr_keeps (Call name arguments) e' h =
-        made_of_two nodes (function_meant name) (resolved_arguments at arguments) Call e' _
-        (λ x y p q. ap (λ n. 1 + n) (arguments_keep arguments y q)) h
+    keeps plain (Assign to value) e' h = made_of_two nodes (at.reference to) (resolved_by at at.reference value) Assign e'
+        _ (λ x y p q. ap (λ n. 1 + n) (keeps at.reference value y q)) h
+    keeps plain (CompoundAssign op to value) e' h =
+        made_of_two nodes (at.reference to) (resolved_by at at.reference value) (CompoundAssign op) e' _
+        (λ x y p q. ap (λ n. 1 + n) (keeps at.reference value y q)) h
+    keeps plain (Increment op to) e' h = made nodes (at.reference to) (Increment op) e' _ (λ x p. refl) h
+    keeps plain (Call name arguments) e' h =
+        made_of_two nodes (function_meant name) (resolved_arguments at (at.argument name) arguments)
+        Call e' _ (λ x y p q. ap (λ n. 1 + n)
+        (arguments_keep (at.argument name) arguments y q)) h
 
-    pub arguments_keep : (all : Arguments Path) (all' : Arguments Target)
-        → resolved_arguments at all ≡ Some all' → argument_nodes all' ≡ argument_nodes all
-    arguments_keep expr.Nil all' h = stays argument_nodes expr.Nil all' h
-    arguments_keep (expr.Cons (Text text) rest) all' h =
-        made argument_nodes (resolved_arguments at rest) (expr.Cons (Text text)) all' _
-        (λ x p. arguments_keep rest x p) h
-    arguments_keep (expr.Cons (expr.Value e) rest) all' h =
-        made_of_two argument_nodes (resolved_expr at e) (resolved_arguments at rest)
+    arguments_keep : (plain : Path → Option Target) (all : Arguments Path)
+        (all' : Arguments Target) → resolved_arguments at plain all ≡ Some all'
+        → argument_nodes all' ≡ argument_nodes all
+    arguments_keep plain expr.Nil all' h = stays argument_nodes expr.Nil all' h
+    arguments_keep plain (expr.Cons (Text text) rest) all' h =
+        made argument_nodes (resolved_arguments at plain rest) (expr.Cons (Text text)) all' _
+        (λ x p. arguments_keep plain rest x p) h
+    arguments_keep plain (expr.Cons (expr.Value e) rest) all' h =
+        made_of_two argument_nodes (resolved_by at plain e) (resolved_arguments at plain rest)
         (λ e' rest'. expr.Cons (expr.Value e') rest') all' _
-        (λ x y p q. omega (arith, expr_keeps e x p, arguments_keep rest y q)) h
+        (λ x y p q. omega (arith, keeps plain e x p, arguments_keep plain rest y q)) h
+
+  pub expr_keeps : (e : Expr Path) (e' : Expr Target) → resolved_expr at e ≡ Some e'
+      → nodes e' ≡ nodes e
+  expr_keeps = keeps at.reference
 
   pub optional_keeps : (o : Option (Expr Path)) (o' : Option (Expr Target)) → resolved_optional at o
       ≡ Some o' → optional_nodes o' ≡ optional_nodes o

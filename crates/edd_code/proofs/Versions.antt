@@ -1,8 +1,10 @@
--- In the version of an image an element may be read where there is an array.
+-- In the version of an image an element may be read where there is an array, and in the second
+-- version an abort method may be listed.
 use Rattle.std.proofs.Common.{◌≡◌, refl, ap, ◌∙◌, ℕ, ◌-◌, Bool, true, arith}
 use Rattle.std.specs.Prelude.{◌&&◌, nat_lt, if◌then◌else◌}
 use Rattle.std.proofs.lemmas.Bool.{and_parts, and_from, lt-ltb, ltb-true}
 use Rattle.edd_syntax.specs.declared.numbers.ArrNo.{ArrNo}
+use Rattle.edd_syntax.specs.declared.numbers.MethNo.{MethNo}
 use Rattle.edd_image.specs.declared.instruction.Instruction.{Instruction}
 use Rattle.edd_image.specs.declared.instruction.Instruction.TheVariants as instruction
 use Rattle.edd_image.specs.declared.parts.Counts.{Counts}
@@ -11,31 +13,33 @@ use Rattle.edd_image.specs.declared.unit.Sort.{Sort}
 use Rattle.edd_image.specs.declared.unit.Sort.TheVariants.{Attribute, Method}
 use Rattle.edd_image.specs.declared.unit.Version.{Version}
 use Rattle.edd_image.specs.declared.unit.Version.TheVariants.{One, Two}
-use Rattle.edd_image.specs.Agreement.{version_with}
 use Rattle.edd_image.specs.References.{array_exists, names_exist}
 use Rattle.edd_image.specs.Units.{is_allowed}
 use Rattle.edd_code.specs.Blocks.{Block, Nothing, Straight, Then, WhenNotZero, WhenZero, Either, Match}
 use Rattle.edd_code.specs.Flow.{FlowsIn, all_straight, depth_after, may_stand}
 
-there_is_one : (n m : ℕ) → nat_lt n m ≡ true → nat_lt 0 m ≡ true
-there_is_one n m is = lt-ltb 0 m (omega (arith, ltb-true n m is))
+-- where there are arrays, the version is the second
+abbrev pub HoldsArrays : Version → Counts → Type 0
+HoldsArrays version counts = nat_lt 0 counts.arrays ≡ true → version ≡ Two
 
-pub with_arrays : (counts : Counts) → nat_lt 0 counts.arrays ≡ true → version_with counts ≡ Two
-with_arrays counts is = ap (λ (b : Bool). if b then Two else One) is
-
-second : (version : Version) (counts : Counts) (a : ArrNo) → version ≡ version_with counts
+second : (version : Version) (counts : Counts) (a : ArrNo) → HoldsArrays version counts
     → array_exists counts a ≡ true → version ≡ Two
-second version counts a fits is =
-    fits ∙ with_arrays counts (there_is_one a.0 counts.arrays is)
+second version counts a holds is =
+    holds (lt-ltb 0 counts.arrays (omega (arith, ltb-true a.0 counts.arrays is)))
 
-pub in_attributes : (version : Version) (counts : Counts) (a : ArrNo) → version ≡ version_with counts
+pub in_attributes : (version : Version) (counts : Counts) (a : ArrNo) → HoldsArrays version counts
     → array_exists counts a ≡ true
     → is_allowed version Attribute (instruction.ReadElement a) ≡ true
-in_attributes version counts a fits is = rw (second version counts a fits is) refl
+in_attributes version counts a holds is = rw (second version counts a holds is) refl
 
-pub in_methods : (version : Version) (counts : Counts) (a : ArrNo) → version ≡ version_with counts
+pub in_methods : (version : Version) (counts : Counts) (a : ArrNo) → HoldsArrays version counts
     → array_exists counts a ≡ true → is_allowed version Method (instruction.ReadElement a) ≡ true
-in_methods version counts a fits is = rw (second version counts a fits is) refl
+in_methods version counts a holds is = rw (second version counts a holds is) refl
+
+-- in the second version a method may list an abort method
+pub abort_methods_allowed : (version : Version) (m : MethNo) → version ≡ Two
+    → is_allowed version Method (instruction.AddAbortMethod m) ≡ true
+abort_methods_allowed version m is = rw is refl
 
 -- ---- what flows in the newest version flows in one where its instructions may stand
 

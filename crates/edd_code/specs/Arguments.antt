@@ -2,6 +2,7 @@
 use Rattle.std.specs.Prelude.{Option, Some, None}
 use Rattle.edd_syntax.specs.declared.numbers.ItemNo.TheVariants as item_no
 use Rattle.edd_syntax.specs.declared.numbers.VarNo.{VarNo}
+use Rattle.edd_syntax.specs.declared.numbers.MethNo.{MethNo}
 use Rattle.edd_syntax.specs.declared.reference.Target.{Target}
 use Rattle.edd_syntax.specs.declared.reference.Target.TheVariants.{Item}
 use Rattle.edd_syntax.specs.Expression.{Expr, Reference, Argument, Text, Value, Arguments, Nil, Cons}
@@ -29,6 +30,11 @@ as_target _ = None
 abbrev pub as_variable : Argument Target → Option VarNo
 as_variable (Value (Reference (Item (item_no.Variable v)))) = Some v
 as_variable _ = None
+
+-- a plain reference to a METHOD
+abbrev pub as_method : Argument Target → Option MethNo
+as_method (Value (Reference (Item (item_no.Method m)))) = Some m
+as_method _ = None
 
 -- ---- one argument and two
 

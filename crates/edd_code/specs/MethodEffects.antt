@@ -69,7 +69,11 @@ module _ (text : StrNo → Option Words) (env : Environment) where
   abbrev pub outcome_of : State → Option Effect → Outcome State Halted
   outcome_of s None = Stuck
   outcome_of s (Some e) = with_answer e.state.status e.state.operands
-      (noted e.changes (record s { slots = e.state.slots; values = e.state.values }))
+      (noted e.changes (record s {
+        slots = e.state.slots;
+        values = e.state.values;
+        abort_methods = e.state.abort_methods;
+      }))
 
   -- what a straight instruction comes to does not depend on where it stands
   abbrev pub does_one : Instruction → List ℤ → State → Outcome State Halted

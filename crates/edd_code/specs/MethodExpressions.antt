@@ -126,4 +126,6 @@ module _ (number : Words → StrNo) where
         Then (method_block e) (Then (store_block to) (Then (Straight instruction.Pop) no_value))
     call_block builtin.Abort Nil = Straight instruction.Abort
     call_block builtin.ProcessAbort Nil = Straight instruction.Abort
+    call_block builtin.AddAbortMethod (Cons (Value (Reference (Item (item_no.Method m)))) Nil) =
+        Straight (instruction.AddAbortMethod m)
     call_block _ _ = no_value

@@ -13,8 +13,8 @@ use Rattle.edd_image.specs.declared.unit.Context.{Context}
 use Rattle.edd_image.specs.References.{string_exists}
 use Rattle.edd_code.specs.Reads.{item_is_there}
 
--- where a reference is a variable or an array, it is one of so many, and where it is a local, there
--- is its slot
+-- where a reference is a variable, an array or a method, it is one of so many, and where it is a
+-- local, there is its slot
 abbrev pub uses_existing : Context → Target → Bool
 uses_existing context (Local slot) = nat_lt slot context.slots
 uses_existing context (Item i) = item_is_there context.counts i

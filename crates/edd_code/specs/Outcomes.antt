@@ -45,6 +45,8 @@ at code place operands values = record {
   slots = [];
   values = values;
   status = Running;
+  abort_methods = [];
+  is_aborting = false;
 }
 
 abbrev pub records_of : Emitted → List Record

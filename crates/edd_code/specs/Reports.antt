@@ -1,6 +1,7 @@
 -- What a host sees of a method's run: by the machine that runs it, and by the state that the source
 -- comes to.
 use Rattle.std.specs.Prelude.{ℕ, ℤ, List, ◌++◌, map, Option, Some, None, option_map}
+use Rattle.edd_syntax.specs.declared.numbers.MethNo.{MethNo}
 use Rattle.edd_syntax.specs.declared.numbers.StrNo.{StrNo}
 use Rattle.edd_syntax.specs.Words.{Words}
 use Rattle.edd_syntax.specs.Answers.{Change, Answer}
@@ -14,12 +15,13 @@ use Rattle.edd_image.specs.Steps.{State, Environment}
 use Rattle.edd_image.specs.Execution.{Ending, Outcome, execute}
 use Rattle.edd_image.specs.MethodAgreement.{ending_of}
 
--- the requests, the changes, the device's values, the answers left, and how the run ends; a request
--- with an unknown string is none
+-- the requests, the changes, the device's values, the abort methods listed or left, the answers
+-- left, and how the run ends; a request with an unknown string is none
 pub record Report : Type 0 where
   pub requests : List (Option source.Request)
   pub changes : List Change
   pub values : List ℤ
+  pub abort_methods : List MethNo
   pub answers : List Answer
   pub ending : Ending
 
@@ -31,13 +33,15 @@ told t = record {
   requests = map Some t.requests;
   changes = t.changes;
   values = t.values;
+  abort_methods = t.abort_methods;
   answers = t.answers;
   ending = ending_of t.ending;
 }
 
 -- ---- by the machine
 
--- a running method, with its operands from the top, and the slots and values of the source's state
+-- a running method, with its operands from the top, and the slots, values and abort methods of the
+-- source's state
 abbrev pub at : (code : List ℕ) (place : ℕ) (operands : List ℤ) → source.State → State
 at code place operands s = record {
   unit = record { sort = Method; code = code };
@@ -46,6 +50,8 @@ at code place operands s = record {
   slots = s.slots;
   values = s.values;
   status = Running;
+  abort_methods = s.abort_methods;
+  is_aborting = s.is_aborting;
 }
 
 -- text: the words of each number, where it is the number of a string
@@ -68,6 +74,7 @@ module _ (text : StrNo → Option Words) where
     requests = map Some s.requests ++ map worded o.requests;
     changes = s.changes ++ o.changes;
     values = o.state.values;
+    abort_methods = o.state.abort_methods;
     answers = o.answers;
     ending = o.ending;
   }

@@ -8,7 +8,7 @@ ghost use Rattle.edd_code.specs.Arguments as kinds;
 ghost use Rattle.edd_code.specs.Arguments.{both, only};
 
 use edd_syntax::expr::{Argument, Expr};
-use edd_syntax::numbers::{ItemNo, VarNo};
+use edd_syntax::numbers::{ItemNo, MethNo, VarNo};
 use edd_syntax::reference::Target;
 use edd_syntax::text::Text;
 
@@ -54,6 +54,16 @@ fn as_variable(argument: &Argument<Target>) -> Option<VarNo>
     }
 }
 
+// A plain reference to a METHOD.
+fn as_method(argument: &Argument<Target>) -> Option<MethNo>
+    ensures { result ≡ kinds.as_method (numbered_argument argument.now) }
+{
+    match argument {
+        Argument::Value(Expr::Reference(Target::Item(ItemNo::Method(method)))) => Some(*method),
+        _ => None,
+    }
+}
+
 /// The text, where it is the only argument.
 #[tactic(auto, using(crate::proofs::FewArguments::not_one))]
 pub(crate) fn only_text<'a>(arguments: &'a [Argument<Target>]) -> Option<&'a Text>
@@ -74,6 +84,18 @@ pub(crate) fn only_value<'a>(arguments: &'a [Argument<Target>]) -> Option<&'a Ex
 {
     match arguments {
         [only] => as_value(only),
+        _ => None,
+    }
+}
+
+/// The METHOD, where a plain reference to one is the only argument.
+#[tactic(auto, using(crate::proofs::FewArguments::not_one))]
+pub(crate) fn only_method(arguments: &[Argument<Target>]) -> Option<MethNo>
+    ensures { result ≡ only kinds.as_method
+        (arguments_from (map numbered_argument arguments.now)) }
+{
+    match arguments {
+        [only] => as_method(only),
         _ => None,
     }
 }

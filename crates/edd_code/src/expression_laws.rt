@@ -1,6 +1,6 @@
 //! Laws of the blocks of expressions, for the crates above.
 
-ghost use Rattle.std.specs.Prelude.{◌≡◌, ℕ, suc, ◌+◌, ◌*◌, ◌≤◌, Bool, true, ℤ, List};
+ghost use Rattle.std.specs.Prelude.{◌≡◌, ℕ, suc, ◌+◌, ◌*◌, ◌≤◌, nat_lt, Bool, true, ℤ, List};
 ghost use Rattle.edd_syntax.specs.declared.reference.Target.{Target};
 ghost use Rattle.edd_syntax.specs.Expression.{Expr};
 ghost use Rattle.edd_syntax.specs.Device as device;
@@ -10,7 +10,7 @@ ghost use Rattle.edd_syntax.specs.WellFormed.{is_pure_expr};
 ghost use Rattle.edd_image.specs.declared.parts.Counts.{Counts};
 ghost use Rattle.edd_image.specs.declared.unit.Sort.TheVariants.{Attribute};
 ghost use Rattle.edd_image.specs.declared.unit.Version.{Version};
-ghost use Rattle.edd_image.specs.Agreement.{version_with};
+ghost use Rattle.edd_image.specs.declared.unit.Version.TheVariants.{Two};
 ghost use Rattle.edd_image.specs.Steps.{Environment};
 ghost use Rattle.edd_code.specs.Blocks.{size};
 ghost use Rattle.edd_code.specs.Expressions.{expression_block};
@@ -47,7 +47,7 @@ pub fn expressions_are_spelled()
         → counts.variables ≤ 65536 → counts.arrays ≤ 65536
         → is_pure_expr (reads_existing counts) plain e ≡ true → AreSpelled (expression_block e) }
     ensures stands { (version : Version) (counts : Counts) (plain : Target → Bool) (e : Expr Target)
-        → version ≡ version_with counts
+        → (nat_lt 0 counts.arrays ≡ true → version ≡ Two)
         → is_pure_expr (reads_existing counts) plain e ≡ true
         → all_straight (may_stand (record {
           version = version;

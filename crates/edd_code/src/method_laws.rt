@@ -1,6 +1,6 @@
 //! Laws of the blocks of expressions of methods, for the crates above.
 
-ghost use Rattle.std.specs.Prelude.{◌≡◌, ◌+◌, ◌*◌, ◌≤◌, Option, ℕ, suc, Bool, true, false, ℤ, List, []};
+ghost use Rattle.std.specs.Prelude.{◌≡◌, ◌+◌, ◌*◌, ◌≤◌, nat_lt, Option, ℕ, suc, Bool, true, false, ℤ, List, []};
 ghost use Rattle.edd_syntax.specs.declared.numbers.StrNo.{StrNo};
 ghost use Rattle.edd_syntax.specs.declared.reference.Target.{Target};
 ghost use Rattle.edd_syntax.specs.declared.reference.Target.TheVariants.{Function};
@@ -18,10 +18,10 @@ ghost use Rattle.edd_syntax.specs.WellFormed.{is_expr, is_pure_expr};
 ghost use Rattle.edd_syntax.specs.Words.{Words};
 ghost use Rattle.edd_image.specs.declared.unit.Context.{Context};
 ghost use Rattle.edd_image.specs.declared.unit.Sort.TheVariants.{Method};
+ghost use Rattle.edd_syntax.specs.LayoutVersion.{names_it};
 ghost use Rattle.edd_image.specs.declared.unit.Version.{Version};
 ghost use Rattle.edd_image.specs.declared.unit.Version.TheVariants.{Two};
 ghost use Rattle.edd_image.specs.declared.parts.Counts.{Counts};
-ghost use Rattle.edd_image.specs.Agreement.{version_with};
 ghost use Rattle.edd_code.specs.Blocks.{Straight, size};
 ghost use Rattle.edd_code.specs.Expressions.{expression_block};
 ghost use Rattle.edd_code.specs.Flow.{AreSpelled, FlowsIn, all_straight, depth_after, may_stand};
@@ -61,12 +61,14 @@ pub fn method_expressions_are_short()
 {}
 
 /// The block of an expression of a method has its operands in their ranges, and its instructions
-/// may stand there: the variables, arrays, slots and strings that they name exist.
+/// may stand there: the variables, arrays, methods, slots and strings that they name exist, and the
+/// version is the second where it must be.
 pub fn method_expressions_are_spelled()
     ensures { (version : Version) (counts : Counts) (slots : ℕ) (number : Words → StrNo)
         (plain : Target → Bool) (is_statement : Bool) (e : Expr Target)
-        → version ≡ version_with counts
-        → counts.variables ≤ 65536 → counts.arrays ≤ 65536 → counts.strings ≤ 65536 → slots ≤ 65536
+        → (nat_lt 0 counts.arrays ≡ true → version ≡ Two)
+        → counts.variables ≤ 65536 → counts.arrays ≤ 65536 → counts.methods ≤ 65536
+        → counts.strings ≤ 65536 → slots ≤ 65536
         → (let context : Context = record {
           version = version;
           counts = counts;
@@ -74,7 +76,7 @@ pub fn method_expressions_are_spelled()
           slots = slots;
         } in
         call_mismatches is_statement e ≡ [] → is_expr (uses_existing context) plain e ≡ true
-        → HasStrings context number e
+        → HasStrings context number e → (names_it e ≡ true → version ≡ Two)
         → AreSpelled (method_block number e)
         × (all_straight (may_stand context) (method_block number e) ≡ true)) }
 {}

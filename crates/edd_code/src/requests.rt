@@ -12,7 +12,7 @@ ghost use Rattle.edd_code.specs.MethodExpressions.{call_block};
 ghost use Rattle.edd_code.specs.Tables.{Grows, Overflows};
 ghost use Rattle.edd_code.specs.Written.{WritesPart};
 
-use crate::arguments::{only_text, text_and_variable, two_texts};
+use crate::arguments::{only_method, only_text, text_and_variable, two_texts};
 use crate::emit::put;
 use crate::fault::LowerFault;
 use crate::strings::add_text;
@@ -196,6 +196,33 @@ pub(crate) fn write_select(
             let among = add_text(alloc, table, choices)?;
             Ok(put(code, Instruction::Ask(Ask::SelectFromList(number, among)))?)
         }
+        None => write_misfit(alloc, code, table, arguments),
+    }
+}
+
+/// The listing of an abort method.
+#[tactic(auto, using(crate::proofs::NumberedBlocks::writing))]
+pub(crate) fn write_abort_method(
+    alloc: Global,
+    code: &mut Emitter,
+    table: &mut Table,
+    arguments: &[Argument<Target>],
+) -> Result<(), LowerFault>
+    requires { IsTrue (list_all is_text
+        (argument_texts (arguments_from (map numbered_argument arguments.now)))) }
+    ensures sound { OnOk result
+        (WritesPart table.old code.old
+        (argument_texts (arguments_from (map numbered_argument arguments.now)))
+        (λ number. call_block number Builtin.AddAbortMethod
+        (arguments_from (map numbered_argument arguments.now))) table.new code.new) }
+    ensures grows { Grows table.old table.new }
+    ensures refused { IsErrOf result LowerFault.TooMany
+        → Overflows table.old (strings_of_texts
+        (argument_texts (arguments_from (map numbered_argument arguments.now)))) }
+    ensures longer { OnOk result (length code.old ≤ length code.new) }
+{
+    match only_method(arguments) {
+        Some(method) => Ok(put(code, Instruction::AddAbortMethod(method))?),
         None => write_misfit(alloc, code, table, arguments),
     }
 }

@@ -17,7 +17,8 @@ use crate::emit::{close, open, put};
 use crate::expression::{write_element, write_truth, write_unary};
 use crate::fault::LowerFault;
 use crate::requests::{
-    write_acknowledge, write_alone, write_get, write_message, write_misfit, write_select,
+    write_abort_method, write_acknowledge, write_alone, write_get, write_message, write_misfit,
+    write_select,
 };
 use crate::storing::{write_increment, write_load, write_store};
 use crate::strings::add_text;
@@ -342,6 +343,7 @@ fn write_builtin(
         Builtin::Lassign => write_assigned(alloc, code, table, arguments),
         Builtin::Abort => write_alone(alloc, code, table, Instruction::Abort, arguments),
         Builtin::ProcessAbort => write_alone(alloc, code, table, Instruction::Abort, arguments),
+        Builtin::AddAbortMethod => write_abort_method(alloc, code, table, arguments),
     }
 }
 

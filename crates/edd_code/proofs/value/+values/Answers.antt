@@ -730,6 +730,15 @@ write_builtin-returns-in-ProcessAbort-clause-sound t c =
     (arguments_from (map numbered_argument c.args.arguments.now))) w))
     c.write_alone-in-ProcessAbort.ensures.sound
 
+pub write_builtin-returns-in-AddAbortMethod-clause-sound :
+    goal.write_builtin-returns-in-AddAbortMethod-clause-sound
+write_builtin-returns-in-AddAbortMethod-clause-sound t c =
+    let is : c.args.f ≡ builtin.AddAbortMethod = cc in
+    carried c.write_abort_method.result
+    (builtin_part c.args.f builtin.AddAbortMethod
+    (arguments_from (map numbered_argument c.args.arguments.now)) is)
+    c.write_abort_method.ensures.sound
+
 pub write_builtin-returns-in-LvarValue-clause-sound :
     goal.write_builtin-returns-in-LvarValue-clause-sound
 write_builtin-returns-in-LvarValue-clause-sound t c =
