@@ -86,7 +86,7 @@ pub record BodyFacts (d : Description Target) (m : MethNo) : Type 0 where
   pub low : NoneHigher height_limit (body_expressions (body_of d m))
   pub few_items : (k : Kind) → count_of k d.items ≤ 4096
   pub refer : (counts : Counts) → count_of kind.Variable d.items ≡ counts.variables
-      → count_of kind.Array d.items ≡ counts.arrays
+      → count_of kind.Array d.items ≡ counts.arrays → count_of kind.Method d.items ≡ counts.methods
       → Refers counts (body_of d m)
   pub inside : Inside (body_of d m)
 
@@ -110,7 +110,7 @@ module _ (d : Description Target) (is : ∥ IsChecked d ∥₁) (m : MethNo) whe
     fit = body_fits d typed.0 m;
     low = ∥∥₁_elim is (AllByRecursion-prop _ (λ p. le_prop) _) (λ c. body_is_low d c.is_resolved m);
     few_items = few_when_checked d is;
-    refer = λ counts variables arrays. ∥∥₁_elim is (AllByRecursion-prop _ (λ p. Bool-set _ _) _)
-        (λ c. body_refers d c.is_resolved counts variables arrays m);
+    refer = λ counts variables arrays methods. ∥∥₁_elim is (AllByRecursion-prop _ (λ p. Bool-set _ _) _)
+        (λ c. body_refers d c.is_resolved counts variables arrays methods m);
     inside = breaks_inside d typed.1 m;
   }

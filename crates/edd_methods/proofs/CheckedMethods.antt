@@ -1,8 +1,8 @@
 -- The code of a method of a checked description.
 use Rattle.std.proofs.Common.{◌≡◌, refl, ℕ, true, false, ◌*◌, ◌<◌, ◌≤◌, ◌^◌, List, [], ◌∷◌, length, arith}
-use Rattle.std.specs.Prelude.{◌&&◌}
+use Rattle.std.specs.Prelude.{◌&&◌, nat_lt}
 use Rattle.std.specs.List.{AllByRecursion}
-use Rattle.std.proofs.lemmas.Bool.{lt-ltb}
+use Rattle.std.proofs.lemmas.Bool.{lt-ltb, or_left, or_right}
 use Rattle.std.proofs.lemmas.Option.{slice_get_within}
 use Rattle.edd_syntax.specs.declared.numbers.Kind.TheVariants as kind
 use Rattle.edd_syntax.specs.declared.numbers.MethNo.{MethNo}
@@ -14,15 +14,17 @@ use Rattle.edd_syntax.specs.Item.{Description}
 use Rattle.edd_syntax.specs.Size.{body_nodes}
 use Rattle.edd_syntax.specs.Statement.{slots_in}
 use Rattle.edd_syntax.specs.Strings.{expr_texts}
+use Rattle.edd_syntax.specs.LayoutVersion.{names_it, one_names_it}
 use Rattle.edd_syntax.specs.SubsetRules.{Placed, body_expressions, call_mismatches}
 use Rattle.edd_syntax.specs.Text as texts
 use Rattle.edd_syntax.specs.Words.{Words, words_of}
 use Rattle.edd_image.specs.declared.unit.Context.{Context}
-use Rattle.edd_image.specs.Agreement.{counts_of, string_of_table, version_with}
+use Rattle.edd_image.specs.Agreement.{counts_of, string_of_table, version_for}
 use Rattle.edd_image.specs.MethodAgreement.{IsMethodCode, method_context}
 use Rattle.edd_image.specs.declared.parts.Counts.{Counts}
 use Rattle.edd_image.specs.declared.unit.Sort.TheVariants.{Method}
 use Rattle.edd_image.specs.declared.unit.Version.{Version}
+use Rattle.edd_image.specs.declared.unit.Version.TheVariants.{Two}
 use Rattle.edd_image.specs.References.{string_exists}
 use Rattle.edd_image.specs.Units.{IsValidUnit}
 use Rattle.edd_code.specs.Flow.{AreSpelled, all_straight, may_stand}
@@ -38,6 +40,7 @@ use Rattle.edd_methods.proofs.ResolvedSlots.{each_slot}
 use Rattle.edd_methods.proofs.TreeParts.{each_in_listed}
 use Rattle.edd_methods.specs.Statements.{size, unit_code}
 use Rattle.edd_methods.proofs.BodyFacts.{BodyFacts}
+use Rattle.edd_methods.proofs.NeededVersion.{with_arrays, with_names}
 use Rattle.edd_methods.proofs.MethodAgreement.{is_method_code}
 use Rattle.edd_methods.proofs.ResolvedExpressions.{any}
 use Rattle.edd_methods.proofs.ResolvedStatements.{ReferToExisting}
@@ -61,10 +64,12 @@ abbrev pub Stands : Context → (number : Words → StrNo) → Expr Target → T
 Stands context number e = AreSpelled (method_block number e)
     × (all_straight (may_stand context) (method_block number e) ≡ true)
 
-module _ (version : Version) (counts : Counts) (slots : ℕ) (fits : version ≡ version_with counts)
+module _ (version : Version) (counts : Counts) (slots : ℕ)
+    (holds_arrays : nat_lt 0 counts.arrays ≡ true → version ≡ Two)
     (strings : List Words) (number : Words → StrNo) (long : counts.strings ≡ length strings)
     (few : length strings ≤ 65536) (variables : counts.variables ≤ 65536)
-    (arrays : counts.arrays ≤ 65536) (few_slots : slots ≤ 65536) where
+    (arrays : counts.arrays ≤ 65536) (methods : counts.methods ≤ 65536)
+    (few_slots : slots ≤ 65536) where
   abbrev context : Context
   context = record { version = version; counts = counts; sort = Method; slots = slots }
 
@@ -72,14 +77,19 @@ module _ (version : Version) (counts : Counts) (slots : ℕ) (fits : version ≡
       → AllByRecursion (λ p. call_mismatches p.is_statement p.expression ≡ []) ps
       → ReferToExisting context ps
       → AllByRecursion (λ p. HasNumbers (string_of_table strings) number p.expression) ps
+      → (one_names_it ps ≡ true → version ≡ Two)
       → AllByRecursion (λ p. Stands context number p.expression) ps
-  all_stand [] fit refer known = tt
-  all_stand (p ∷ ps) fit refer known =
+  all_stand [] fit refer known second = tt
+  all_stand (p ∷ ps) fit refer known second =
       let e = p.expression in
       let there = strings_there context strings number long (expr_texts e) known.0 in
-      let x = method_stands version counts slots fits variables arrays (omega (arith, long, few))
-      few_slots number any p.is_statement e fit.0 refer.0 there in
-      ((x.spelled, x.named), all_stand ps fit.1 refer.1 known.1)
+      let x = method_stands version counts slots holds_arrays variables arrays methods
+      (omega (arith, long, few)) few_slots number any p.is_statement e fit.0 refer.0 there
+      (λ h. second (or_left (names_it e) (one_names_it ps) h)) in (
+        (x.spelled, x.named),
+        all_stand ps fit.1 refer.1 known.1
+            (λ h. second (or_right (names_it e) (one_names_it ps) h)),
+      )
 
 module _ (d : Description Target) (m : MethNo) (is : BodyFacts d m) (strings : List Words)
     (few : length strings ≤ 65536) (number : Words → StrNo)
@@ -92,10 +102,12 @@ module _ (d : Description Target) (m : MethNo) (is : BodyFacts d m) (strings : L
       let counts = counts_of d.identification d.items (length strings) in
       let variables = is.few_items kind.Variable in
       let arrays = is.few_items kind.Array in
+      let methods = is.few_items kind.Method in
       let slots = is.few_slots in
-      all_stand (version_with counts) counts (slots_in (body_of d m)) refl strings number refl few
-      (omega (arith, variables)) (omega (arith, arrays)) (omega (arith, slots))
-      (body_expressions (body_of d m)) is.fit (is.refer counts refl refl) known
+      all_stand (version_for d) counts (slots_in (body_of d m)) (with_arrays d) strings number refl
+      few (omega (arith, variables)) (omega (arith, arrays)) (omega (arith, methods))
+      (omega (arith, slots)) (body_expressions (body_of d m)) is.fit (is.refer counts refl refl refl)
+      known (with_names d m)
 
   pub has_blocks : HasBlocks number (string_of_table strings) (body_of d m)
   has_blocks = record {

@@ -51,6 +51,7 @@ abort_called builtin.IvarValue is env s = not_true is
 abort_called builtin.LvarValue is env s = not_true is
 abort_called builtin.Iassign is env s = not_true is
 abort_called builtin.Lassign is env s = not_true is
+abort_called builtin.AddAbortMethod is env s = not_true is
 
 abort_stops : (e : Expr Target) → is_abort_call e ≡ true → (env : device.Environment) (s : State)
     → evaluate env e s ≡ Stopped source.Aborted s

@@ -21,6 +21,7 @@ pub mod ResolvedExpressions
 pub mod ResolvedStatements
 pub mod ResolvedUnits
 pub mod ResolvedReferences
+pub mod NeededVersion
 pub mod CheckedMethods
 pub mod MethodFits
 pub mod ValidMethods

@@ -14,9 +14,9 @@ use Rattle.edd_syntax.specs.Execution as source
 use Rattle.edd_syntax.specs.Execution.{body_of, execute_all}
 use Rattle.edd_image.specs.declared.unit.Sort.TheVariants.{Method}
 use Rattle.edd_image.specs.Agreement.{string_of_table}
-use Rattle.edd_image.specs.Steps.{Environment, opening}
+use Rattle.edd_image.specs.Steps.{Environment}
 use Rattle.edd_image.specs.Execution.{execute}
-use Rattle.edd_image.specs.MethodAgreement.{AgreesOnRuns, IsMethodCode, method_context}
+use Rattle.edd_image.specs.MethodAgreement.{FollowsBody, started, IsMethodCode, method_context}
 use Rattle.edd_image.specs.Units.{IsValidUnit}
 use Rattle.edd_code.specs.Blocks.{Block}
 use Rattle.edd_code.specs.MethodExpressions.{method_block}
@@ -30,7 +30,7 @@ use Rattle.edd_methods.specs.StatementCode.{body_code, IsSpelled, Means}
 use Rattle.edd_methods.specs.MethodCode.{method_code, HasBlocks}
 use Rattle.edd_methods.proofs.CodeSpelled.{values_spelled}
 use Rattle.edd_methods.proofs.ResolvedSlots.{each_slot}
-use Rattle.edd_methods.proofs.SameRuns.{followed_agree}
+use Rattle.edd_methods.proofs.SameRuns.{followed_so}
 use Rattle.edd_methods.proofs.StatementTrees.{body_same, body_is_whole}
 use Rattle.edd_methods.proofs.TreeParts.{each_in_listed}
 use Rattle.edd_methods.proofs.UnitRuns.{unit_follows}
@@ -48,23 +48,22 @@ module _ (text : StrNo → Option Words) (machine : Environment) (env : device.E
       (body_is_whole text machine env block_of body means) (execute_all env body)
       (λ n. body_same text machine env block_of n body means)
 
--- a run of a method is a run of its body
+-- the code of a method's body does what the body does
 pub body_agrees : (text : StrNo → Option Words) (unit : Description Target) (m : MethNo)
     (block_of : Expr Target → Block)
     → EachIn (Means block_of text (machine_of (device.environment unit)) (device.environment unit))
     (body_of unit m) → EachIn (IsSpelled block_of) (body_of unit m)
     → size (body_code block_of (body_of unit m)) < 2 ^ 31
-    → AgreesOnRuns text (device.environment unit).variables
-    (λ n values answers. source.run n unit m values answers)
-    (λ k values answers. execute (machine_of (device.environment unit)) k
-    (opening (record { sort = Method; code = unit_code (body_code block_of (body_of unit m)) })
-    (slots_in (body_of unit m)) values) answers)
-unfolding source.run source.run_body
+    → FollowsBody text (device.environment unit).variables
+    (λ n s. source.run_body n (device.environment unit) (body_of unit m) s)
+    (λ k s. execute (machine_of (device.environment unit)) k
+    (started (record { sort = Method; code = unit_code (body_code block_of (body_of unit m)) }) s)
+    s.answers)
+unfolding source.run_body
 body_agrees text unit m block_of means ok small =
     let env = device.environment unit in
     let code = unit_code (body_code block_of (body_of unit m)) in
-    followed_agree text (machine_of env) code (execute_all env (body_of unit m))
-    (slots_in (body_of unit m))
+    followed_so text env.variables (machine_of env) code (execute_all env (body_of unit m)) refl
     (body_follows text (machine_of env) env block_of (body_of unit m) means ok small)
 
 -- ---- with the blocks of the expressions of methods
@@ -85,13 +84,13 @@ module _ (unit : Description Target) (m : MethNo) (text : StrNo → Option Words
     → StrNo) (slots : EachSlot (slots_in (body_of unit m)) (body_of unit m))
     (few : slots_in (body_of unit m) ≤ 2 ^ 8) (has : HasBlocks number text (body_of unit m))
     (small : size (method_code number (body_of unit m)) < 2 ^ 31) where
-  pub method_agrees : AgreesOnRuns text (device.environment unit).variables
-      (λ n values answers. source.run n unit m values answers)
-      (λ k values answers. execute (machine_of (device.environment unit)) k
-      (opening (record {
+  pub method_agrees : FollowsBody text (device.environment unit).variables
+      (λ n s. source.run_body n (device.environment unit) (body_of unit m) s)
+      (λ k s. execute (machine_of (device.environment unit)) k
+      (started (record {
         sort = Method;
         code = unit_code (method_code number (body_of unit m));
-      }) (slots_in (body_of unit m)) values) answers)
+      }) s) s.answers)
   method_agrees =
       let body = body_of unit m in
       let env = device.environment unit in
@@ -121,6 +120,6 @@ is_method_code unit strings m number slots few has small valid =
     record {
       locals = refl;
       valid = valid;
-      agrees = method_agrees unit m (string_of_table strings)
+      follows = method_agrees unit m (string_of_table strings)
           number slots few has small;
     }

@@ -54,6 +54,7 @@ not_aborting builtin.IvarValue (expr.Cons first rest) fit is = refl
 not_aborting builtin.LvarValue (expr.Cons first rest) fit is = refl
 not_aborting builtin.Iassign (expr.Cons first rest) fit is = refl
 not_aborting builtin.Lassign (expr.Cons first rest) fit is = refl
+not_aborting builtin.AddAbortMethod (expr.Cons first rest) fit is = refl
 not_aborting builtin.Abort (expr.Cons first rest) fit is = absurd (cc fit)
 not_aborting builtin.ProcessAbort (expr.Cons first rest) fit is = absurd (cc fit)
 

@@ -16,7 +16,7 @@ use Rattle.edd_syntax.specs.Item.{kind_of_item, Attribute, Item, Description}
 use Rattle.edd_syntax.specs.Reference.{Path}
 use Rattle.edd_syntax.specs.Resolution.{Scope, function_meant, declared, all_declared}
 use Rattle.edd_syntax.specs.Resolved.{IsResolved}
-use Rattle.edd_syntax.specs.ResolvedTrees.{Meanings, at_scope, resolved_expr, resolved_arguments, resolved_optional, resolved_declarators, resolved_stmt, resolved_body}
+use Rattle.edd_syntax.specs.ResolvedTrees.{Meanings, at_scope, resolved_by, resolved_expr, resolved_arguments, resolved_optional, resolved_declarators, resolved_stmt, resolved_body}
 use Rattle.edd_syntax.specs.Size.{height, argument_height, optional_height, declarator_height, statement_height, body_height, attribute_height, height_limit}
 use Rattle.edd_syntax.specs.Statement.{Declarator, Stmt, Empty, Evaluate, Block, If, IfElse, While, Do, For, Switch, Break, Continue, Return, Body, Nil, Cons, Declare, Statement, CaseLabel, DefaultLabel, slots_of}
 use Rattle.edd_syntax.specs.SubsetRules.{Placed, part_of, optional_part, stmt_expressions, body_expressions}
@@ -36,75 +36,80 @@ module _ (at : Meanings) where
   AreLow n arguments = argument_height arguments ≤ n
 
   mutual
-    unfolding resolved_expr
+    unfolding resolved_by
 
-    expr_low : (e : Expr Path) (e' : Expr Target) → resolved_expr at e ≡ Some e' → Low (height e) e'
-    expr_low (Literal value) e' h = subst (Low 1) (same_Some (Literal value) e' h) (omega arith)
-    expr_low Decimal e' h = subst (Low 1) (same_Some Decimal e' h) (omega arith)
-    expr_low (Reference from) e' h = let a = bound (at.reference from) _ e' h in subst (Low 1)
+    low_by : (plain : Path → Option Target) (e : Expr Path) (e' : Expr Target)
+        → resolved_by at plain e ≡ Some e' → Low (height e) e'
+    low_by plain (Literal value) e' h = subst (Low 1) (same_Some (Literal value) e' h) (omega arith)
+    low_by plain Decimal e' h = subst (Low 1) (same_Some Decimal e' h) (omega arith)
+    low_by plain (Reference from) e' h = let a = bound (plain from) _ e' h in subst (Low 1)
         (same_Some _ e' a.2) (omega arith)
-    expr_low (Indexed array index) e' h =
+    low_by plain (Indexed array index) e' h =
         let a = bound (at.array array) _ e' h in
-        let b = bound (resolved_expr at index) _ e' a.2 in
-        subst (Low (1 + height index)) (same_Some _ e' b.2) (omega (arith, expr_low index b.0 b.1))
-    expr_low (Parentheses inner) e' h = let a = bound (resolved_expr at inner) _ e' h in subst
-        (Low (1 + height inner)) (same_Some _ e' a.2) (omega (arith, expr_low inner a.0 a.1))
-    expr_low (Unary op operand) e' h = let a = bound (resolved_expr at operand) _ e' h in subst
-        (Low (1 + height operand)) (same_Some _ e' a.2) (omega (arith, expr_low operand a.0 a.1))
-    expr_low (Binary op left right) e' h =
-        let a = bound (resolved_expr at left) _ e' h in
-        let b = bound (resolved_expr at right) _ e' a.2 in
+        let b = bound (resolved_by at at.reference index) _ e' a.2 in
+        subst (Low (1 + height index)) (same_Some _ e' b.2) (omega (arith, low_by at.reference index b.0 b.1))
+    low_by plain (Parentheses inner) e' h = let a = bound (resolved_by at at.reference inner) _ e' h in subst
+        (Low (1 + height inner)) (same_Some _ e' a.2) (omega (arith, low_by at.reference inner a.0 a.1))
+    low_by plain (Unary op operand) e' h = let a = bound (resolved_by at at.reference operand) _ e' h in subst
+        (Low (1 + height operand)) (same_Some _ e' a.2) (omega (arith, low_by at.reference operand a.0 a.1))
+    low_by plain (Binary op left right) e' h =
+        let a = bound (resolved_by at at.reference left) _ e' h in
+        let b = bound (resolved_by at at.reference right) _ e' a.2 in
         subst (Low (1 + max (height left) (height right))) (same_Some _ e' b.2)
-        (omega (arith, expr_low left a.0 a.1, expr_low right b.0 b.1))
-    expr_low (Compare by left right) e' h =
-        let a = bound (resolved_expr at left) _ e' h in
-        let b = bound (resolved_expr at right) _ e' a.2 in
+        (omega (arith, low_by at.reference left a.0 a.1, low_by at.reference right b.0 b.1))
+    low_by plain (Compare by left right) e' h =
+        let a = bound (resolved_by at at.reference left) _ e' h in
+        let b = bound (resolved_by at at.reference right) _ e' a.2 in
         subst (Low (1 + max (height left) (height right))) (same_Some _ e' b.2)
-        (omega (arith, expr_low left a.0 a.1, expr_low right b.0 b.1))
-    expr_low (LogicalAnd left right) e' h =
-        let a = bound (resolved_expr at left) _ e' h in
-        let b = bound (resolved_expr at right) _ e' a.2 in
+        (omega (arith, low_by at.reference left a.0 a.1, low_by at.reference right b.0 b.1))
+    low_by plain (LogicalAnd left right) e' h =
+        let a = bound (resolved_by at at.reference left) _ e' h in
+        let b = bound (resolved_by at at.reference right) _ e' a.2 in
         subst (Low (1 + max (height left) (height right))) (same_Some _ e' b.2)
-        (omega (arith, expr_low left a.0 a.1, expr_low right b.0 b.1))
-    expr_low (LogicalOr left right) e' h =
-        let a = bound (resolved_expr at left) _ e' h in
-        let b = bound (resolved_expr at right) _ e' a.2 in
+        (omega (arith, low_by at.reference left a.0 a.1, low_by at.reference right b.0 b.1))
+    low_by plain (LogicalOr left right) e' h =
+        let a = bound (resolved_by at at.reference left) _ e' h in
+        let b = bound (resolved_by at at.reference right) _ e' a.2 in
         subst (Low (1 + max (height left) (height right))) (same_Some _ e' b.2)
-        (omega (arith, expr_low left a.0 a.1, expr_low right b.0 b.1))
-    expr_low (Conditional test first second) e' h =
-        let a = bound (resolved_expr at test) _ e' h in
-        let b = bound (resolved_expr at first) _ e' a.2 in
-        let c = bound (resolved_expr at second) _ e' b.2 in
+        (omega (arith, low_by at.reference left a.0 a.1, low_by at.reference right b.0 b.1))
+    low_by plain (Conditional test first second) e' h =
+        let a = bound (resolved_by at at.reference test) _ e' h in
+        let b = bound (resolved_by at at.reference first) _ e' a.2 in
+        let c = bound (resolved_by at at.reference second) _ e' b.2 in
         subst (Low (1 + max (height test) (max (height first) (height second))))
         (same_Some _ e' c.2)
-        (omega (arith, expr_low test a.0 a.1, expr_low first b.0 b.1, expr_low second c.0 c.1))
-    expr_low (Assign to value) e' h =
+        (omega (arith, low_by at.reference test a.0 a.1, low_by at.reference first b.0 b.1, low_by at.reference second c.0 c.1))
+    low_by plain (Assign to value) e' h =
         let a = bound (at.reference to) _ e' h in
-        let b = bound (resolved_expr at value) _ e' a.2 in
-        subst (Low (1 + height value)) (same_Some _ e' b.2) (omega (arith, expr_low value b.0 b.1))
-    expr_low (CompoundAssign op to value) e' h =
+        let b = bound (resolved_by at at.reference value) _ e' a.2 in
+        subst (Low (1 + height value)) (same_Some _ e' b.2) (omega (arith, low_by at.reference value b.0 b.1))
+    low_by plain (CompoundAssign op to value) e' h =
         let a = bound (at.reference to) _ e' h in
-        let b = bound (resolved_expr at value) _ e' a.2 in
-        subst (Low (1 + height value)) (same_Some _ e' b.2) (omega (arith, expr_low value b.0 b.1))
-    expr_low (Increment op to) e' h = let a = bound (at.reference to) _ e' h in subst (Low 1)
+        let b = bound (resolved_by at at.reference value) _ e' a.2 in
+        subst (Low (1 + height value)) (same_Some _ e' b.2) (omega (arith, low_by at.reference value b.0 b.1))
+    low_by plain (Increment op to) e' h = let a = bound (at.reference to) _ e' h in subst (Low 1)
         (same_Some _ e' a.2) (omega arith)
-    expr_low (Call name arguments) e' h =
+    low_by plain (Call name arguments) e' h =
         let a = bound (function_meant name) _ e' h in
-        let b = bound (resolved_arguments at arguments) _ e' a.2 in
+        let b = bound (resolved_arguments at (at.argument name) arguments) _ e' a.2 in
         subst (Low (1 + argument_height arguments)) (same_Some _ e' b.2)
-        (omega (arith, arguments_low arguments b.0 b.1))
+        (omega (arith, arguments_low (at.argument name) arguments b.0 b.1))
 
-    arguments_low : (arguments : Arguments Path) (others : Arguments Target)
-        → resolved_arguments at arguments ≡ Some others → AreLow (argument_height arguments) others
-    arguments_low expr.Nil others h = subst (AreLow 0) (same_Some expr.Nil others h) (omega arith)
-    arguments_low (expr.Cons (expr.Text text) rest) others h =
-        let a = bound (resolved_arguments at rest) _ others h in
-        subst (AreLow (argument_height rest)) (same_Some _ others a.2) (arguments_low rest a.0 a.1)
-    arguments_low (expr.Cons (expr.Value e) rest) others h =
-        let a = bound (resolved_expr at e) _ others h in
-        let b = bound (resolved_arguments at rest) _ others a.2 in
+    arguments_low : (plain : Path → Option Target) (arguments : Arguments Path)
+        (others : Arguments Target) → resolved_arguments at plain arguments ≡ Some others
+        → AreLow (argument_height arguments) others
+    arguments_low plain expr.Nil others h = subst (AreLow 0) (same_Some expr.Nil others h) (omega arith)
+    arguments_low plain (expr.Cons (expr.Text text) rest) others h =
+        let a = bound (resolved_arguments at plain rest) _ others h in
+        subst (AreLow (argument_height rest)) (same_Some _ others a.2) (arguments_low plain rest a.0 a.1)
+    arguments_low plain (expr.Cons (expr.Value e) rest) others h =
+        let a = bound (resolved_by at plain e) _ others h in
+        let b = bound (resolved_arguments at plain rest) _ others a.2 in
         subst (AreLow (max (height e) (argument_height rest))) (same_Some _ others b.2)
-        (omega (arith, expr_low e a.0 a.1, arguments_low rest b.0 b.1))
+        (omega (arith, low_by plain e a.0 a.1, arguments_low plain rest b.0 b.1))
+
+  expr_low : (e : Expr Path) (e' : Expr Target) → resolved_expr at e ≡ Some e' → Low (height e) e'
+  expr_low = low_by at.reference
 
   optional_low : (e : Option (Expr Path)) (e' : Option (Expr Target)) → resolved_optional at e
       ≡ Some e' → optional_height e' ≤ optional_height e

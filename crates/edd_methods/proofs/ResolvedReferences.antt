@@ -21,7 +21,7 @@ use Rattle.edd_syntax.specs.WellFormed.{is_path, is_plain, is_attribute, is_body
 use Rattle.edd_image.specs.declared.parts.Counts.{Counts}
 use Rattle.edd_image.specs.declared.unit.Context.{Context}
 use Rattle.edd_image.specs.declared.unit.Sort.TheVariants.{Method}
-use Rattle.edd_image.specs.Agreement.{version_with}
+use Rattle.edd_image.specs.declared.unit.Version.TheVariants.{Two}
 use Rattle.edd_methods.proofs.CheckedBodies.{OfBody, of_method}
 use Rattle.edd_methods.proofs.ResolvedSlots.{bound, body_in}
 use Rattle.edd_methods.proofs.ResolvedStatements.{ReferToExisting, body_at}
@@ -101,10 +101,10 @@ in_items (i ∷ rest) is =
 
 -- ---- bodies that mean something
 
--- where the unit of a method stands that has so many slots
+-- where the unit of a method stands that has so many slots, in the newest version
 abbrev pub around : Counts → (slots : ℕ) → Context
 around counts slots = record {
-  version = version_with counts;
+  version = Two;
   counts = counts;
   sort = Method;
   slots = slots;
@@ -115,19 +115,24 @@ abbrev pub Refers : Counts → Body Target → Type 0
 Refers counts b = ReferToExisting (around counts (slots_in b)) (body_expressions b)
 
 refers : (unit : Description Path) (counts : Counts) → count_of kind.Variable unit.items
-    ≡ counts.variables → count_of kind.Array unit.items ≡ counts.arrays → (b : Body Path) (b' : Body Target) → WellFormed b
+    ≡ counts.variables → count_of kind.Array unit.items ≡ counts.arrays
+    → count_of kind.Method unit.items ≡ counts.methods → (b : Body Path) (b' : Body Target)
+    → WellFormed b
     → resolved_body unit b [] 0 ≡ Some b' → Refers counts b'
-refers unit counts variables arrays b b' is h =
+refers unit counts variables arrays methods b b' is h =
     let i = body_in unit b [] 0 b' h in
-    body_at unit (around counts (slots_in b')) variables arrays false b [] 0 b' (refl, omega (arith, i.0))
+    body_at unit (around counts (slots_in b')) variables arrays methods false b [] 0 b'
+    (refl, omega (arith, i.0))
     is h
 
 pub body_refers : (d : Description Target) → IsResolved d → (counts : Counts)
-    → count_of kind.Variable d.items ≡ counts.variables → count_of kind.Array d.items ≡ counts.arrays
+    → count_of kind.Variable d.items ≡ counts.variables
+    → count_of kind.Array d.items ≡ counts.arrays → count_of kind.Method d.items ≡ counts.methods
     → (m : MethNo) → Refers counts (body_of d m)
-body_refers d is counts variables arrays m =
+body_refers d is counts variables arrays methods m =
     of_method (Refers counts) tt d m
     (unit_made is.unit WellFormed (Refers counts)
     (refers is.unit counts (counts_stay is.unit kind.Variable d is.meanings ∙ variables)
-    (counts_stay is.unit kind.Array d is.meanings ∙ arrays)) d
+    (counts_stay is.unit kind.Array d is.meanings ∙ arrays)
+    (counts_stay is.unit kind.Method d is.meanings ∙ methods)) d
     (in_items is.unit.items is.well_formed) is.meanings)

@@ -8,7 +8,7 @@ use Rattle.edd_syntax.specs.declared.reference.Target.{Target}
 use Rattle.edd_syntax.specs.Expression.{Expr}
 use Rattle.edd_syntax.specs.Item.{Description}
 use Rattle.edd_syntax.specs.Reference.{Path}
-use Rattle.edd_syntax.specs.Resolution.{Scope, count_of, declared, all_declared}
+use Rattle.edd_syntax.specs.Resolution.{Scope, argument_kinds, count_of, declared, all_declared, variable_kinds}
 use Rattle.edd_syntax.specs.ResolvedTrees.{at_scope, resolved_expr, resolved_optional, resolved_declarators, resolved_stmt, resolved_body}
 use Rattle.edd_syntax.specs.Statement.{Declarator, Stmt, Empty, Evaluate, Block, If, IfElse, While, Do, For, Switch, Break, Continue, Return, Body, Nil, Cons, Declare, Statement, CaseLabel, DefaultLabel, slots_of, slots_in}
 use Rattle.edd_syntax.specs.SubsetRules.{Placed, part_of, optional_part, stmt_expressions, body_expressions}
@@ -25,7 +25,8 @@ ReferToExisting context ps = AllByRecursion (λ p. is_expr (uses_existing contex
 
 module _ (unit : Description Path) (context : Context)
     (variables : count_of kind.Variable unit.items ≡ context.counts.variables)
-    (arrays : count_of kind.Array unit.items ≡ context.counts.arrays) where
+    (arrays : count_of kind.Array unit.items ≡ context.counts.arrays)
+    (methods : count_of kind.Method unit.items ≡ context.counts.methods) where
   abbrev All : List (Placed Target) → Type 0
   All ps = ReferToExisting context ps
 
@@ -42,8 +43,9 @@ module _ (unit : Description Path) (context : Context)
       → All (part_of e')
   part_at e scope e' below is h = (
     expr_good (at_scope unit scope) (uses_existing context)
-        (meant_there unit context variables arrays scope below)
-        (array_there unit context variables arrays scope) e e' is h,
+        (meant_there unit context variables arrays methods variable_kinds scope below)
+        (λ name. meant_there unit context variables arrays methods (argument_kinds name) scope below)
+        (array_there unit context variables arrays methods scope) e e' is h,
     tt,
   )
 

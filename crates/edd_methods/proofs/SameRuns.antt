@@ -1,20 +1,20 @@
--- A unit that follows the source agrees with it on all runs.
-use Rattle.std.proofs.Common.{◌≡◌, ap, subst, refl, ℕ, ℤ, List, [], ◌∷◌, Option, Some, None}
+-- A unit that follows the source does what it does, after all that was asked before.
+use Rattle.std.proofs.Common.{◌≡◌, ap, subst, refl, ◌∙◌, ℕ, List, [], ◌∷◌, ◌++◌, Option, Some, None}
 use Rattle.std.specs.Prelude.{map, option_map}
 use Rattle.edd_syntax.specs.declared.numbers.StrNo.{StrNo}
 use Rattle.edd_syntax.specs.Words.{Words}
-use Rattle.edd_syntax.specs.Answers.{Answer}
+use Rattle.std.specs.List.{AllByRecursion}
+use Rattle.edd_syntax.specs.Answers.{IsValidAnswer}
+use Rattle.edd_syntax.specs.DeviceValues.{VariableType}
 use Rattle.edd_syntax.specs.MethodState as source
 use Rattle.edd_syntax.specs.MethodState.{Action}
-use Rattle.edd_syntax.specs.Execution as run
 use Rattle.edd_syntax.specs.Execution.{Completion, ended}
 use Rattle.edd_image.specs.declared.records.Request as image
 use Rattle.edd_image.specs.declared.records.Request.TheVariants as asks
 use Rattle.edd_image.specs.declared.unit.Sort.TheVariants.{Method}
-use Rattle.edd_image.specs.Steps.{Environment, opening}
-use Rattle.edd_image.specs.Execution.{execute}
-use Rattle.edd_image.specs.MethodAgreement.{SameRequest, SameRequests, SameOutcome, AgreesOnRuns}
-use Rattle.edd_image.proofs.FollowedRuns.{follows_agrees}
+use Rattle.edd_image.specs.Steps.{RunningUnit, Environment}
+use Rattle.edd_image.specs.Execution.{preceded, execute}
+use Rattle.edd_image.specs.MethodAgreement.{SameRequest, SameRequests, SameOutcome, started, FollowsBody}
 use Rattle.edd_code.specs.Reports.{Report, told, worded, report}
 use Rattle.edd_methods.specs.Following.{Follows}
 use Rattle.edd_methods.proofs.UnitRuns.{valid_are_taken}
@@ -75,29 +75,72 @@ module _ (text : StrNo → Option Words) where
       both : {A : Type 0} (x y : A) (xs ys : List A) → x ∷ xs ≡ y ∷ ys → (x ≡ y) × (xs ≡ ys)
       both x y xs ys h = (cc h, cc h)
 
-  module _ (env : Environment) (code : List ℕ) (f : ℕ → Action Completion) (slots : ℕ) where
-    same_outcome : (k n : ℕ) (values : List ℤ) (answers : List Answer)
-        → report text env code k 0 [] (run.opening slots values answers)
-        ≡ told (ended (f n (run.opening slots values answers)))
-        → SameOutcome text (ended (f n (run.opening slots values answers)))
-        (execute env k (opening (record { sort = Method; code = code }) slots values) answers)
-    same_outcome k n values answers e = record {
-      requests = same_requests _ _ (ap (λ (r : Report). r.requests) e);
-      changes = ap (λ (r : Report). r.changes) e;
-      values = ap (λ (r : Report). r.values) e;
-      answers = ap (λ (r : Report). r.answers) e;
-      ending = ap (λ (r : Report). r.ending) e;
-    }
+  -- ---- what was asked before
 
-    pub followed_agree : Follows text env code f
-        → AgreesOnRuns text env.types
-        (λ n values answers. ended (f n (run.opening slots values answers)))
-        (λ k values answers. execute env k (opening (record { sort = Method; code = code }) slots
-        values) answers)
-    followed_agree follows =
-        follows_agrees text env.types
-        (λ n values answers. ended (f n (run.opening slots values answers))) env
-        (λ values. opening (record { sort = Method; code = code }) slots values)
-        (λ values answers are valid n.
-        let a = follows (run.opening slots values answers) (valid_are_taken env answers valid) n in
-        (a.0, a.1, same_outcome a.0 n values answers a.2))
+  -- a request that asks the same has the words of the numbers in it
+  worded_so : (q : source.Request) (r : image.Request) → SameRequest text q r
+      → worded text r ≡ Some q
+  worded_so (source.PutMessage w) r h =
+      ap (worded text) h.1 ∙ ap (option_map source.PutMessage) h.2
+  worded_so (source.Acknowledge w) r h =
+      ap (worded text) h.1 ∙ ap (option_map source.Acknowledge) h.2
+  worded_so (source.Delay seconds w) r h =
+      ap (worded text) h.1 ∙ ap (option_map (source.Delay seconds)) h.2
+  worded_so (source.GetDevVarValue w v) r h =
+      ap (worded text) h.1 ∙ ap (option_map (λ x. source.GetDevVarValue x v)) h.2
+  worded_so (source.SelectFromList w choices) r h =
+      ap (worded text) h.2
+      ∙ ap (λ (o : Option Words). elim o as (λ _. Option source.Request) [
+        | None ↦ None
+        | Some x ↦ option_map (source.SelectFromList x) (text h.1)
+      ]) h.3 ∙ ap (option_map (source.SelectFromList w)) h.4
+  worded_so (source.SendCommand n) r h = ap (worded text) h
+  worded_so (source.SendCommandTrans n transaction) r h = ap (worded text) h
+  worded_so source.SaveValues r h = ap (worded text) h
+
+  all_worded : (qs : List source.Request) (rs : List image.Request) → SameRequests text qs rs
+      → map (worded text) rs ≡ map Some qs
+  all_worded [] [] h = refl
+  all_worded [] (r ∷ rs) h = absurd h
+  all_worded (q ∷ qs) [] h = absurd h
+  all_worded (q ∷ qs) (r ∷ rs) h =
+      ap (λ (o : Option source.Request). o ∷ map (worded text) rs) (worded_so q r h.0)
+      ∙ ap (λ (os : List (Option source.Request)). Some q ∷ os) (all_worded qs rs h.1)
+
+  worded_twice : (rs more : List image.Request)
+      → map (worded text) (rs ++ more) ≡ map (worded text) rs ++ map (worded text) more
+  worded_twice [] more = refl
+  worded_twice (r ∷ rs) more =
+      ap (λ (os : List (Option source.Request)). worded text r ∷ os) (worded_twice rs more)
+
+  module _ (types : List VariableType) (env : Environment) (code : List ℕ) (f : ℕ
+      → Action Completion) where
+    abbrev unit : RunningUnit
+    unit = record { sort = Method; code = code }
+
+    same_outcome : (k n : ℕ) (s : source.State) (before : List image.Request)
+        → SameRequests text s.requests before
+        → report text env code k 0 [] s ≡ told (ended (f n s))
+        → SameOutcome text (ended (f n s))
+        (preceded before s.changes (execute env k (started unit s) s.answers))
+    same_outcome k n s before asked e =
+        let o = execute env k (started unit s) s.answers in
+        record {
+          requests = same_requests _ _ (worded_twice before o.requests
+              ∙ ap (λ (os : List (Option source.Request)). os ++ map (worded text) o.requests)
+              (all_worded s.requests before asked) ∙ ap (λ (r : Report). r.requests) e);
+          changes = ap (λ (r : Report). r.changes) e;
+          values = ap (λ (r : Report). r.values) e;
+          abort_methods = ap (λ (r : Report). r.abort_methods) e;
+          answers = ap (λ (r : Report). r.answers) e;
+          ending = ap (λ (r : Report). r.ending) e;
+        }
+
+    pub followed_so : types ≡ env.types → Follows text env code f
+        → FollowsBody text types (λ n s. ended (f n s))
+        (λ k s. execute env k (started unit s) s.answers)
+    followed_so same follows s before valid asked n =
+        let a = follows s (valid_are_taken env s.answers
+        (subst (λ (ts : List VariableType). AllByRecursion (IsValidAnswer ts) s.answers) same
+        valid)) n in
+        (a.0, a.1, same_outcome a.0 n s before asked a.2)

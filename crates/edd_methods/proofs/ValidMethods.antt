@@ -10,7 +10,7 @@ use Rattle.edd_syntax.specs.Item.{Description}
 use Rattle.edd_syntax.specs.Statement.{slots_in}
 use Rattle.edd_syntax.specs.SubsetRules.{body_expressions}
 use Rattle.edd_syntax.specs.Words.{Words}
-use Rattle.edd_image.specs.Agreement.{counts_of, string_of_table, version_with}
+use Rattle.edd_image.specs.Agreement.{counts_of, string_of_table, version_for}
 use Rattle.edd_image.specs.MethodAgreement.{IsMethodCode, method_context}
 use Rattle.edd_image.specs.Units.{IsValidUnit}
 use Rattle.edd_code.specs.Flow.{all_straight, may_stand}
@@ -48,7 +48,7 @@ module _ (d : Description Target) (m : MethNo) (is : BodyFacts d m) (strings : L
     code_is_valid =
         let body = body_of d m in
         let counts = counts_of d.identification d.items (length strings) in
-        let version = version_with counts in
+        let version = version_for d in
         let slots = slots_in body in
         let context = method_context d strings slots in
         let code = method_code number body in

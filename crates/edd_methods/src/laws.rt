@@ -7,8 +7,7 @@ ghost use Rattle.edd_syntax.specs.declared.numbers.StrNo.{StrNo};
 ghost use Rattle.edd_syntax.specs.declared.reference.Target.{Target};
 ghost use Rattle.edd_syntax.specs.Answers.{Answer, IsValidAnswer};
 ghost use Rattle.edd_syntax.specs.Device as device;
-ghost use Rattle.edd_syntax.specs.Execution as runs;
-ghost use Rattle.edd_syntax.specs.Execution.{Completion, body_of, ended, execute, execute_all, run, turns, turns_of_do};
+ghost use Rattle.edd_syntax.specs.Execution.{Completion, body_of, ended, execute, execute_all, run_body, turns, turns_of_do};
 ghost use Rattle.edd_syntax.specs.Expression.{Expr};
 ghost use Rattle.edd_syntax.specs.Item.{Description};
 ghost use Rattle.edd_syntax.specs.MethodState as source;
@@ -24,8 +23,8 @@ ghost use Rattle.edd_image.specs.declared.unit.Context.{Context};
 ghost use Rattle.edd_image.specs.declared.unit.Sort.TheVariants.{Method};
 ghost use Rattle.edd_image.specs.Agreement.{string_of_table};
 ghost use Rattle.edd_image.specs.Execution as image;
-ghost use Rattle.edd_image.specs.MethodAgreement.{AgreesOnRuns, IsMethodCode, method_context};
-ghost use Rattle.edd_image.specs.Steps.{Environment, opening};
+ghost use Rattle.edd_image.specs.MethodAgreement.{FollowsBody, IsMethodCode, method_context, started};
+ghost use Rattle.edd_image.specs.Steps.{Environment};
 ghost use Rattle.edd_image.specs.Units.{IsValidUnit};
 ghost use Rattle.edd_code.specs.Blocks.{Block};
 ghost use Rattle.edd_code.specs.MethodEffects.{CanBeTaken};
@@ -86,16 +85,14 @@ pub fn units_follow_their_code()
         → Follows text env (unit_code c) f }
 {}
 
-/// A unit that follows the source agrees with it on all runs, with strings by their numbers: what
-/// ends in one ends so in the other, and what goes on goes on.
+/// A unit that follows the source does what it does, with strings by their numbers, whatever was
+/// asked and changed before.
 pub fn followed_units_agree()
     ensures { (text : StrNo → Option Words) (env : Environment) (code : List ℕ) (f : ℕ
-        → Action Completion) (slots : ℕ)
+        → Action Completion)
         → Follows text env code f
-        → AgreesOnRuns text env.types
-        (λ n values answers. ended (f n (runs.opening slots values answers)))
-        (λ k values answers. image.execute env k
-        (opening (record { sort = Method; code = code }) slots values) answers) }
+        → FollowsBody text env.types (λ n s. ended (f n s))
+        (λ k s. image.execute env k (started (record { sort = Method; code = code }) s) s.answers) }
 {}
 
 /// Where the blocks of its expressions mean them, the code of a statement is whole, and for any
@@ -185,20 +182,20 @@ pub fn bodies_are_followed()
         → Follows text machine (unit_code (body_code block_of body)) (execute_all env body) }
 {}
 
-/// The unit of the code of a method's body agrees with the method on all its runs, forward,
-/// backward and in progress, with strings by their numbers; where its declarators have slots, its
-/// calls fit, its texts have numbers, and operands are in their ranges.
+/// The unit of the code of a method's body does from every state what the body does, with strings
+/// by their numbers; where its declarators have slots, its calls fit, its texts have numbers, and
+/// operands are in their ranges.
 pub fn methods_agree()
     ensures { (unit : Description Target) (m : MethNo) (text : StrNo → Option Words) (number : Words
         → StrNo)
         → EachSlot (slots_in (body_of unit m)) (body_of unit m) → slots_in (body_of unit m) ≤ 2 ^ 8
         → HasBlocks number text (body_of unit m) → size (method_code number (body_of unit m))
         < 2 ^ 31
-        → AgreesOnRuns text (device.environment unit).variables
-        (λ n values answers. run n unit m values answers)
-        (λ k values answers. image.execute (machine_of (device.environment unit)) k
-        (opening (record { sort = Method; code = unit_code (method_code number (body_of unit m)) })
-        (slots_in (body_of unit m)) values) answers) }
+        → FollowsBody text (device.environment unit).variables
+        (λ n s. run_body n (device.environment unit) (body_of unit m) s)
+        (λ k s. image.execute (machine_of (device.environment unit)) k
+        (started (record { sort = Method; code = unit_code (method_code number (body_of unit m)) })
+        s) s.answers) }
 {}
 
 /// So it is the code of the method, where it is a valid unit and its strings are numbered in the
@@ -217,7 +214,8 @@ pub fn valid_code_is_the_methods()
 
 /// In a checked description, in whose table of strings the texts of a method have their numbers,
 /// the operands in the blocks of the method's expressions are in their ranges, and their
-/// instructions may stand there: the variables, arrays, slots and strings that they name exist.
+/// instructions may stand there: the variables, arrays, methods, slots and strings that they name
+/// exist.
 pub fn checked_expressions_are_spelled()
     ensures { (d : Description Target) → ∥ IsChecked d ∥₁ → (m : MethNo) → (strings : List Words)
         → length strings ≤ 65536 → (number : Words → StrNo)
