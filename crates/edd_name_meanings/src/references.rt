@@ -4,6 +4,7 @@ ghost use Rattle.std.specs.Prelude.{◌≡◌, [], ◌∷◌, None, Some, IfErr,
 ghost use Rattle.std.specs.Str.{bytes_eq};
 ghost use Rattle.edd_syntax.specs.NameRules.{faults_of_local, faults_of_item};
 ghost use Rattle.edd_syntax.specs.NameUses.{OfItem, OfArray, OfFunction};
+ghost use Rattle.edd_syntax.specs.Resolution as resolution;
 ghost use Rattle.edd_syntax.specs.Resolution.{look_up, builtin_name, builtins, meaning, array_meant, local_meant, item_meant, function_meant};
 ghost use Rattle.edd_syntax.specs.Refusal.{first_of};
 ghost use Rattle.edd_syntax.specs.TreeView.{path_of};
@@ -130,7 +131,8 @@ fn if_named(name: &str, function: Builtin, otherwise: Option<Builtin>) -> Option
 pub fn builtin(name: &str) -> Option<Builtin>
     ensures { result ≡ look_up name.now builtins }
 {
-    let found = if_named(name, Builtin::ProcessAbort, None);
+    let found = if_named(name, Builtin::AddAbortMethod, None);
+    let found = if_named(name, Builtin::ProcessAbort, found);
     let found = if_named(name, Builtin::Abort, found);
     let found = if_named(name, Builtin::Lassign, found);
     let found = if_named(name, Builtin::Iassign, found);
@@ -144,6 +146,18 @@ pub fn builtin(name: &str) -> Option<Builtin>
     let found = if_named(name, Builtin::Delay, found);
     let found = if_named(name, Builtin::Acknowledge, found);
     if_named(name, Builtin::PutMessage, found)
+}
+
+/// The kinds of items that a plain reference may name as an argument of a function.
+pub fn argument_kinds(function: &Path) -> &'static [Kind]
+    ensures { result.now ≡ resolution.argument_kinds (path_of function.now) }
+{
+    let name: &str = &function.base;
+    if Builtin::AddAbortMethod.name() == name {
+        &[Kind::Method]
+    } else {
+        &[Kind::Variable]
+    }
 }
 
 /// What the name of a call means.

@@ -9,14 +9,15 @@ use Rattle.edd_names.specs.ResolvedParts.{resolved_argument}
 use Rattle.edd_syntax.specs.declared.expr.Expr as code
 use Rattle.edd_syntax.specs.declared.expr.Expr.TheVariants as e
 use Rattle.edd_syntax.specs.declared.expr.Argument as code_argument
+use Rattle.edd_syntax.specs.declared.numbers.Kind.{Kind}
 use Rattle.edd_syntax.specs.declared.reference.Path as code_path
 use Rattle.edd_syntax.specs.declared.reference.Target.{Target}
 use Rattle.edd_syntax.specs.Reference.{Path}
 use Rattle.edd_syntax.specs.Item.{Description}
 use Rattle.edd_syntax.specs.Expression.{Argument, Text, Value, Arguments, Cons, Call, arguments_from}
-use Rattle.edd_syntax.specs.NameUses.{OfFunction, expr_uses, argument_uses}
-use Rattle.edd_syntax.specs.Resolution.{Scope, function_meant}
-use Rattle.edd_syntax.specs.ResolvedTrees.{◌>>=◌, Meanings, each, resolved_expr, resolved_arguments}
+use Rattle.edd_syntax.specs.NameUses.{OfFunction, uses_among, argument_uses}
+use Rattle.edd_syntax.specs.Resolution.{Scope, argument_kinds, function_meant}
+use Rattle.edd_syntax.specs.ResolvedTrees.{◌>>=◌, Meanings, each, resolved_by, resolved_arguments}
 use Rattle.edd_syntax.specs.Size.{nodes, argument_nodes}
 use Rattle.edd_syntax.specs.TreeView.{path_of, expr_of, argument_of, numbered_argument, numbered_expr}
 use Rattle.edd_name_rules.proofs.Spends.{argument_nodes_split}
@@ -36,30 +37,32 @@ pub each_joined : {A B : Type 0} (of : A → Option B) (y : A) (ys : List A) (w 
     → of y ≡ Some w → each of ys ≡ Some ws → each of (y ∷ ys) ≡ Some (w ∷ ws)
 each_joined of y ys w ws f g = bound (of y) (each of ys) (λ w ws. w ∷ ws) w ws f g
 
-pub argument_uses_split : (scope : Scope) (x : Argument Path) (xs : List (Argument Path))
-    → argument_uses scope (arguments_from (x ∷ xs)) ≡ argument_uses scope (arguments_from (x ∷ []))
-    ++ argument_uses scope (arguments_from xs)
-argument_uses_split scope (Text text) xs = refl
-argument_uses_split scope (Value e) xs = ap (λ us. us ++ argument_uses scope (arguments_from xs))
-    (sym (append-nil (expr_uses scope e)))
+pub argument_uses_split : (scope : Scope) (kinds : List Kind) (x : Argument Path)
+    (xs : List (Argument Path)) → argument_uses scope kinds (arguments_from (x ∷ xs))
+    ≡ argument_uses scope kinds (arguments_from (x ∷ []))
+    ++ argument_uses scope kinds (arguments_from xs)
+argument_uses_split scope kinds (Text text) xs = refl
+argument_uses_split scope kinds (Value e) xs =
+    ap (λ us. us ++ argument_uses scope kinds (arguments_from xs))
+    (sym (append-nil (uses_among scope kinds e)))
 
-module _ (at : Meanings) where
-  first_then : (y : Argument Path) (rest : Arguments Path) → resolved_arguments at (Cons y rest)
-      ≡ (resolved_argument at y >>= (λ w. resolved_arguments at rest >>= (λ r. Some (Cons w r))))
-  unfolding resolved_expr
+module _ (at : Meanings) (plain : Path → Option Target) where
+  first_then : (y : Argument Path) (rest : Arguments Path) → resolved_arguments at plain (Cons y rest)
+      ≡ (resolved_argument at plain y >>= (λ w. resolved_arguments at plain rest >>= (λ r. Some (Cons w r))))
+  unfolding resolved_by
   first_then (Text text) rest = refl
-  first_then (Value e) rest = regroup (resolved_expr at e) (λ x. Value x)
-      (λ w. resolved_arguments at rest >>= (λ r. Some (Cons w r)))
+  first_then (Value e) rest = regroup (resolved_by at plain e) (λ x. Value x)
+      (λ w. resolved_arguments at plain rest >>= (λ r. Some (Cons w r)))
 
   pub arguments_joined : (y : Argument Path) (ys : List (Argument Path)) (w : Argument Target)
-      (ws : List (Argument Target)) → resolved_argument at y ≡ Some w
-      → resolved_arguments at (arguments_from ys) ≡ Some (arguments_from ws)
-      → resolved_arguments at (arguments_from (y ∷ ys)) ≡ Some (arguments_from (w ∷ ws))
-  arguments_joined y ys w ws f g = first_then y (arguments_from ys) ∙ bound (resolved_argument at y)
-      (resolved_arguments at (arguments_from ys)) (λ w r. Cons w r) w (arguments_from ws) f g
+      (ws : List (Argument Target)) → resolved_argument at plain y ≡ Some w
+      → resolved_arguments at plain (arguments_from ys) ≡ Some (arguments_from ws)
+      → resolved_arguments at plain (arguments_from (y ∷ ys)) ≡ Some (arguments_from (w ∷ ws))
+  arguments_joined y ys w ws f g = first_then y (arguments_from ys) ∙ bound (resolved_argument at plain y)
+      (resolved_arguments at plain (arguments_from ys)) (λ w r. Cons w r) w (arguments_from ws) f g
 
-  pub no_arguments : resolved_arguments at (arguments_from []) ≡ Some (arguments_from [])
-  unfolding resolved_expr
+  pub no_arguments : resolved_arguments at plain (arguments_from []) ≡ Some (arguments_from [])
+  unfolding resolved_by
   no_arguments = refl
 
 module _ (unit : Description Path) (x : code.Expr code_path.Path) (line : ℕ) (p : code_path.Path)
@@ -70,29 +73,29 @@ module _ (unit : Description Path) (x : code.Expr code_path.Path) (line : ℕ) (
   call = call_is path_of x line p v is
       ∙ ap (λ xs. Call (path_of p) (arguments_from (map (argument_of path_of) xs))) (sym same)
 
-  pub call_none : (scope : Scope)
+  pub call_none : (scope : Scope) (kinds : List Kind)
       → NoFault unit (OfFunction (path_of p)
-      ∷ argument_uses scope (arguments_from (map (argument_of path_of) items)))
-      → NoFault unit (expr_uses scope (expr_of path_of x))
-  call_none scope h = subst (λ t. NoFault unit (expr_uses scope t)) (sym call) h
+      ∷ argument_uses scope (argument_kinds (path_of p)) (arguments_from (map (argument_of path_of) items)))
+      → NoFault unit (uses_among scope kinds (expr_of path_of x))
+  call_none scope kinds h = subst (λ t. NoFault unit (uses_among scope kinds t)) (sym call) h
 
-  pub call_fault : (scope : Scope) (f : NameFault)
+  pub call_fault : (scope : Scope) (kinds : List Kind) (f : NameFault)
       → FirstFault f unit (OfFunction (path_of p)
-      ∷ argument_uses scope (arguments_from (map (argument_of path_of) items)))
-      → FirstFault f unit (expr_uses scope (expr_of path_of x))
-  call_fault scope f h = subst (λ t. FirstFault f unit (expr_uses scope t)) (sym call) h
+      ∷ argument_uses scope (argument_kinds (path_of p)) (arguments_from (map (argument_of path_of) items)))
+      → FirstFault f unit (uses_among scope kinds (expr_of path_of x))
+  call_fault scope kinds f h = subst (λ t. FirstFault f unit (uses_among scope kinds t)) (sym call) h
 
-  pub call_means : (at : Meanings) (t : Target)
+  pub call_means : (at : Meanings) (plain : Path → Option Target) (t : Target)
       (w : Vec (code_argument.Argument Target) alloc.Global)
       → Means unit (function_meant (path_of p)) t
-      → Means unit (resolved_arguments at (arguments_from (map (argument_of path_of) items)))
+      → Means unit (resolved_arguments at (at.argument (path_of p)) (arguments_from (map (argument_of path_of) items)))
       (arguments_from (map numbered_argument w.items))
-      → Means unit (resolved_expr at (expr_of path_of x)) (numbered_expr (e.Call line t w))
-  unfolding Means resolved_expr
-  call_means at t w h k = λ known.
-      ap (resolved_expr at) call
+      → Means unit (resolved_by at plain (expr_of path_of x)) (numbered_expr (e.Call line t w))
+  unfolding Means resolved_by
+  call_means at plain t w h k = λ known.
+      ap (resolved_by at plain) call
       ∙ bound (function_meant (path_of p))
-      (resolved_arguments at (arguments_from (map (argument_of path_of) items)))
+      (resolved_arguments at (at.argument (path_of p)) (arguments_from (map (argument_of path_of) items)))
       (λ f r. Call f r) t (arguments_from (map numbered_argument w.items)) (h known) (k known)
       ∙ ap (λ y. Some y) (sym (call_is (λ r. r) (e.Call line t w) line t w refl))
 

@@ -10,12 +10,13 @@ use Rattle.edd_syntax.specs.Reference.{Path}
 use Rattle.edd_syntax.specs.declared.reference.Target.{Target}
 use Rattle.edd_syntax.specs.Expression.{Argument, Text, Value}
 use Rattle.edd_syntax.specs.Conditional.{Arm, Case, Default}
-use Rattle.edd_syntax.specs.ResolvedTrees.{◌>>=◌, Meanings, at_scope, resolved_expr, resolved_conds, resolved_optional, resolved_declarators, resolved_stmt}
+use Rattle.edd_syntax.specs.ResolvedTrees.{◌>>=◌, Meanings, at_scope, resolved_by, resolved_conds, resolved_optional, resolved_declarators, resolved_stmt}
 
-abbrev pub resolved_argument : (at : Meanings) → Argument Path
+-- an argument, where `plain` says what a plain reference means
+abbrev pub resolved_argument : (at : Meanings) → (plain : Path → Option Target) → Argument Path
     → Option (Argument Target)
-resolved_argument at (Text text) = Some (Text text)
-resolved_argument at (Value e) = do e' ← resolved_expr at e; Some (Value e')
+resolved_argument at plain (Text text) = Some (Text text)
+resolved_argument at plain (Value e) = do e' ← resolved_by at plain e; Some (Value e')
 
 abbrev pub resolved_arm : {V W : Type 0} → (at : Meanings) → (of : V → Option W)
     → Arm Path V → Option (Arm Target W)

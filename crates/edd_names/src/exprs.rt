@@ -4,9 +4,10 @@ ghost use Rattle.std.specs.Prelude.{◌≡◌, [], ◌∷◌, ◌++◌, OnOk, ma
 ghost use Rattle.edd_syntax.specs.declared.expr.Argument.{Argument};
 ghost use Rattle.edd_syntax.specs.declared.reference.Target.{Target};
 ghost use Rattle.edd_syntax.specs.Expression.{arguments_from};
-ghost use Rattle.edd_syntax.specs.NameUses.{OfArray, OfFunction, OfItem, expr_uses, argument_uses};
+ghost use Rattle.edd_syntax.specs.NameUses.{OfArray, OfFunction, OfItem, expr_uses, uses_among, argument_uses};
+ghost use Rattle.edd_syntax.specs.Resolution as resolution;
 ghost use Rattle.edd_syntax.specs.Resolution.{array_meant, function_meant, meaning, variable_kinds};
-ghost use Rattle.edd_syntax.specs.ResolvedTrees.{at_scope, resolved_expr, resolved_arguments};
+ghost use Rattle.edd_syntax.specs.ResolvedTrees.{at_scope, resolved_expr, resolved_by, resolved_arguments};
 ghost use Rattle.edd_syntax.specs.TreeView.{path_of, expr_of, argument_of, numbered_argument, numbered_expr};
 ghost use Rattle.edd_name_meanings.specs.Directory.{description_of};
 ghost use Rattle.edd_names.specs.ResolvedParts.{resolved_argument};
@@ -17,7 +18,7 @@ use crate::made::made_of;
 use crate::texts::copy_text;
 use edd_name_meanings::directory::Names;
 use edd_name_meanings::fault::NameFault;
-use edd_name_meanings::references::{Local, refer, refer_array, refer_function};
+use edd_name_meanings::references::{Local, argument_kinds, refer, refer_array, refer_function};
 use edd_syntax::expr::{Argument, Expr};
 use edd_syntax::numbers::Kind;
 use edd_syntax::reference::{Path, Target};
@@ -36,8 +37,6 @@ pub fn refer_variable(names: &Names, scope: &[Local], path: &Path) -> Result<Tar
 }
 
 /// An expression with the meaning of its names.
-#[cycle(exprs)]
-#[tactic(auto, using(crate::proofs::UseLaws::faults), unfolding(edd_name_meanings::specs::Meanings::Means, edd_syntax::specs::ResolvedTrees::resolved_expr))]
 pub fn copy_expr(e: &Expr<Path>, names: &Names, scope: &[Local]) -> Result<Expr<Target>, NameFault>
     ensures accepted { Accepts (description_of names.now)
         (expr_uses (scope_of scope.now) (expr_of path_of e.now)) result }
@@ -47,11 +46,32 @@ pub fn copy_expr(e: &Expr<Path>, names: &Names, scope: &[Local]) -> Result<Expr<
     ensures refused { Refuses (description_of names.now)
         (expr_uses (scope_of scope.now) (expr_of path_of e.now)) result }
 {
+    copy_among(e, &[Kind::Variable], names, scope)
+}
+
+// An expression in whose place a plain reference names an item of these kinds.
+#[cycle(exprs)]
+#[tactic(auto, using(crate::proofs::UseLaws::faults), unfolding(edd_name_meanings::specs::Meanings::Means, edd_syntax::specs::ResolvedTrees::resolved_by))]
+fn copy_among(
+    e: &Expr<Path>,
+    kinds: &[Kind],
+    names: &Names,
+    scope: &[Local],
+) -> Result<Expr<Target>, NameFault>
+    ensures accepted { Accepts (description_of names.now)
+        (uses_among (scope_of scope.now) kinds.now (expr_of path_of e.now)) result }
+    ensures sound { Copies (description_of names.now)
+        (resolved_by (at_scope (description_of names.now) (scope_of scope.now))
+        (meaning (description_of names.now) (scope_of scope.now) kinds.now)
+        (expr_of path_of e.now)) numbered_expr result }
+    ensures refused { Refuses (description_of names.now)
+        (uses_among (scope_of scope.now) kinds.now (expr_of path_of e.now)) result }
+{
     match e {
         Expr::Literal(value) => Ok(Expr::Literal(*value)),
         Expr::Decimal { line } => Ok(Expr::Decimal { line: *line }),
         Expr::Reference(from) => {
-            made_of!(refer_variable(names, scope, from), from => Expr::Reference(from))
+            made_of!(refer(names, scope, kinds, from), from => Expr::Reference(from))
         }
         Expr::Indexed(array, index) => {
             made_of!(
@@ -139,7 +159,10 @@ fn copy_boxed(
     ensures refused { Refuses (description_of names.now)
         (expr_uses (scope_of scope.now) (expr_of path_of e.now)) result }
 {
-    made_of!(copy_expr(e, names, scope), copy => Box::new(names.alloc, copy)?)
+    made_of!(
+        copy_among(e, &[Kind::Variable], names, scope),
+        copy => Box::new(names.alloc, copy)?
+    )
 }
 
 // Two parts of an expression, one behind the other.
@@ -230,65 +253,72 @@ fn copy_call(
     scope: &[Local],
 ) -> Result<(Target, Vec<Argument<Target>>), NameFault>
     ensures accepted { Accepts (description_of names.now) (OfFunction (path_of function.now)
-        ∷ argument_uses (scope_of scope.now)
+        ∷ argument_uses (scope_of scope.now) (resolution.argument_kinds (path_of function.now))
         (arguments_from (map (argument_of path_of) arguments.now))) result }
     ensures function { Copies (description_of names.now) (function_meant (path_of function.now))
         (λ t. t.0) result }
     ensures arguments { Copies (description_of names.now)
         (resolved_arguments (at_scope (description_of names.now) (scope_of scope.now))
+        (meaning (description_of names.now) (scope_of scope.now)
+        (resolution.argument_kinds (path_of function.now)))
         (arguments_from (map (argument_of path_of) arguments.now)))
         (λ t. arguments_from (map numbered_argument t.1.items)) result }
     ensures refused { Refuses (description_of names.now) (OfFunction (path_of function.now)
-        ∷ argument_uses (scope_of scope.now)
+        ∷ argument_uses (scope_of scope.now) (resolution.argument_kinds (path_of function.now))
         (arguments_from (map (argument_of path_of) arguments.now))) result }
 {
+    let kinds = argument_kinds(function);
     let function = refer_function(names, function)?;
-    made_of!(copy_arguments(arguments, names, scope), arguments => (function, arguments))
+    made_of!(copy_arguments(arguments, kinds, names, scope), arguments => (function, arguments))
 }
 
 #[cycle(exprs)]
 fn copy_arguments(
     arguments: &[Argument<Path>],
+    kinds: &[Kind],
     names: &Names,
     scope: &[Local],
 ) -> Result<Vec<Argument<Target>>, NameFault>
     ensures accepted { Accepts (description_of names.now)
-        (argument_uses (scope_of scope.now)
+        (argument_uses (scope_of scope.now) kinds.now
         (arguments_from (map (argument_of path_of) arguments.now))) result }
     ensures sound { Copies (description_of names.now)
         (resolved_arguments (at_scope (description_of names.now) (scope_of scope.now))
+        (meaning (description_of names.now) (scope_of scope.now) kinds.now)
         (arguments_from (map (argument_of path_of) arguments.now)))
         (λ all. arguments_from (map numbered_argument all.items)) result }
     ensures refused { Refuses (description_of names.now)
-        (argument_uses (scope_of scope.now)
+        (argument_uses (scope_of scope.now) kinds.now
         (arguments_from (map (argument_of path_of) arguments.now))) result }
 {
     let mut all = Vec::new(names.alloc);
-    add_arguments(arguments, names, scope, &mut all)?;
+    add_arguments(arguments, kinds, names, scope, &mut all)?;
     Ok(all)
 }
 
 #[cycle(exprs)]
 fn add_arguments(
     arguments: &[Argument<Path>],
+    kinds: &[Kind],
     names: &Names,
     scope: &[Local],
     all: &mut Vec<Argument<Target>>,
 ) -> Result<(), NameFault>
     requires { all.old.items ≡ [] }
     ensures accepted { Accepts (description_of names.now)
-        (argument_uses (scope_of scope.now)
+        (argument_uses (scope_of scope.now) kinds.now
         (arguments_from (map (argument_of path_of) arguments.now))) result }
     ensures sound { Copies (description_of names.now)
         (resolved_arguments (at_scope (description_of names.now) (scope_of scope.now))
+        (meaning (description_of names.now) (scope_of scope.now) kinds.now)
         (arguments_from (map (argument_of path_of) arguments.now)))
         (λ _. arguments_from (map numbered_argument all.new.items)) result }
     ensures refused { Refuses (description_of names.now)
-        (argument_uses (scope_of scope.now)
+        (argument_uses (scope_of scope.now) kinds.now
         (arguments_from (map (argument_of path_of) arguments.now))) result }
 {
     for argument in arguments {
-        add_argument(argument, names, scope, all)?;
+        add_argument(argument, kinds, names, scope, all)?;
     }
     Ok(())
 }
@@ -297,22 +327,24 @@ fn add_arguments(
 #[tactic(auto, using(crate::proofs::UseLaws::faults))]
 fn add_argument(
     argument: &Argument<Path>,
+    kinds: &[Kind],
     names: &Names,
     scope: &[Local],
     all: &mut Vec<Argument<Target>>,
 ) -> Result<(), NameFault>
     ensures accepted { Accepts (description_of names.now)
-        (argument_uses (scope_of scope.now)
+        (argument_uses (scope_of scope.now) kinds.now
         (arguments_from (argument_of path_of argument.now ∷ []))) result }
     ensures sound { OnOk result ((z : Argument Target) × (all.new.items ≡ all.old.items ++ z ∷ [])
         × Means (description_of names.now)
         (resolved_argument (at_scope (description_of names.now) (scope_of scope.now))
+        (meaning (description_of names.now) (scope_of scope.now) kinds.now)
         (argument_of path_of argument.now)) (numbered_argument z)) }
     ensures refused { Refuses (description_of names.now)
-        (argument_uses (scope_of scope.now)
+        (argument_uses (scope_of scope.now) kinds.now
         (arguments_from (argument_of path_of argument.now ∷ []))) result }
 {
-    let copy = copy_argument(argument, names, scope)?;
+    let copy = copy_argument(argument, kinds, names, scope)?;
     all.push(copy)?;
     Ok(())
 }
@@ -321,22 +353,24 @@ fn add_argument(
 #[tactic(auto, using(crate::proofs::UseLaws::faults), unfolding(edd_name_meanings::specs::Meanings::Means))]
 fn copy_argument(
     argument: &Argument<Path>,
+    kinds: &[Kind],
     names: &Names,
     scope: &[Local],
 ) -> Result<Argument<Target>, NameFault>
     ensures accepted { Accepts (description_of names.now)
-        (argument_uses (scope_of scope.now)
+        (argument_uses (scope_of scope.now) kinds.now
         (arguments_from (argument_of path_of argument.now ∷ []))) result }
     ensures sound { Copies (description_of names.now)
         (resolved_argument (at_scope (description_of names.now) (scope_of scope.now))
+        (meaning (description_of names.now) (scope_of scope.now) kinds.now)
         (argument_of path_of argument.now)) numbered_argument result }
     ensures refused { Refuses (description_of names.now)
-        (argument_uses (scope_of scope.now)
+        (argument_uses (scope_of scope.now) kinds.now
         (arguments_from (argument_of path_of argument.now ∷ []))) result }
 {
     match argument {
         Argument::Text(text) =>
             made_of!(copy_text(text, names.alloc), text => Argument::Text(text)),
-        Argument::Value(e) => made_of!(copy_expr(e, names, scope), e => Argument::Value(e)),
+        Argument::Value(e) => made_of!(copy_among(e, kinds, names, scope), e => Argument::Value(e)),
     }
 }

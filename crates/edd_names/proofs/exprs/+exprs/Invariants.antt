@@ -1,6 +1,7 @@
 use Rattle.std.proofs.Common.{◌+◌}
 use Rattle.edd_syntax.specs.Expression.{arguments_from}
 use Rattle.edd_syntax.specs.NameUses.{argument_uses}
+use Rattle.edd_syntax.specs.Resolution.{meaning}
 use Rattle.edd_syntax.specs.ResolvedTrees.{at_scope, resolved_arguments}
 use Rattle.edd_syntax.specs.TreeView.{path_of, argument_of, numbered_argument}
 use Rattle.edd_name_meanings.specs.Directory.{description_of}
@@ -10,8 +11,8 @@ use Rattle.edd_names.proofs.Copying.{Copied}
 use Rattle.edd_names.proofs.ExprSteps.{argument_uses_split, arguments_joined, expr_depth, argument_depth, arguments_depth}
 use Rattle.edd_names.proofs.exprs.+exprs.Given as goal
 
-abbrev pub decreases-copy_expr : goal.decreases-copy_expr
-decreases-copy_expr l = expr_depth l.e.now
+abbrev pub decreases-copy_among : goal.decreases-copy_among
+decreases-copy_among l = expr_depth l.e.now
 
 abbrev pub decreases-copy_boxed : goal.decreases-copy_boxed
 decreases-copy_boxed l = expr_depth l.e.now + 1
@@ -43,10 +44,13 @@ decreases-copy_argument l = argument_depth l.argument.now + 1
 -- the arguments so far are copied
 abbrev pub invariant-add_arguments-loop-argument : goal.invariant-add_arguments-loop-argument
 invariant-add_arguments-loop-argument l = Copied (description_of l.fn.names) (argument_of path_of)
-    numbered_argument (λ xs. argument_uses (scope_of l.fn.scope) (arguments_from xs))
-    (argument_uses_split (scope_of l.fn.scope))
-    (resolved_argument (at_scope (description_of l.fn.names) (scope_of l.fn.scope)))
+    numbered_argument (λ xs. argument_uses (scope_of l.fn.scope) l.fn.kinds (arguments_from xs))
+    (argument_uses_split (scope_of l.fn.scope) l.fn.kinds)
+    (resolved_argument (at_scope (description_of l.fn.names) (scope_of l.fn.scope))
+    (meaning (description_of l.fn.names) (scope_of l.fn.scope) l.fn.kinds))
     (λ xs. resolved_arguments (at_scope (description_of l.fn.names) (scope_of l.fn.scope))
+    (meaning (description_of l.fn.names) (scope_of l.fn.scope) l.fn.kinds)
     (arguments_from xs)) arguments_from
-    (arguments_joined (at_scope (description_of l.fn.names) (scope_of l.fn.scope)))
+    (arguments_joined (at_scope (description_of l.fn.names) (scope_of l.fn.scope))
+    (meaning (description_of l.fn.names) (scope_of l.fn.scope) l.fn.kinds))
     l.argument-index l.arguments l.all.items
