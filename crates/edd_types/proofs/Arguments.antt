@@ -73,6 +73,7 @@ few_parameters builtin.Iassign = omega arith
 few_parameters builtin.Lassign = omega arith
 few_parameters builtin.Abort = omega arith
 few_parameters builtin.ProcessAbort = omega arith
+few_parameters builtin.AddAbortMethod = omega arith
 
 -- ---- a call and its arguments
 

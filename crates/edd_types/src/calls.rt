@@ -31,6 +31,15 @@ fn is_device_variable(argument: &Argument<Target>) -> bool
     }
 }
 
+fn is_method(argument: &Argument<Target>) -> bool
+    ensures { result ≡ rules.is_method (numbered_argument argument.now) }
+{
+    match argument {
+        Argument::Value(Expr::Reference(Target::Item(ItemNo::Method(_)))) => true,
+        _ => false,
+    }
+}
+
 fn fits(parameter: Parameter, argument: &Argument<Target>) -> bool
     ensures { result ≡ rules.fits parameter (numbered_argument argument.now) }
 {
@@ -38,6 +47,7 @@ fn fits(parameter: Parameter, argument: &Argument<Target>) -> bool
         Parameter::Text => is_text(argument),
         Parameter::Number => !is_text(argument),
         Parameter::DeviceVariable => is_device_variable(argument),
+        Parameter::Method => is_method(argument),
     }
 }
 
