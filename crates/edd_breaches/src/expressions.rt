@@ -1,7 +1,7 @@
 //! Expressions.
 
 use edd_lexer::token::TokenKind;
-use edd_name_meanings::references::builtin;
+use edd_name_meanings::references::{argument_kinds, builtin};
 use edd_syntax::expr::{Argument, Expr};
 use edd_syntax::numbers::Kind;
 use edd_syntax::operators::{Builtin, Parameter};
@@ -11,12 +11,12 @@ use edd_trails::paths::Meaning;
 use edd_trails::walk::{VARIABLES, Walk};
 use std::alloc::AllocError;
 
-// Whether an argument may be a variable of the device; one that has no meaning may.
-fn may_be_variable<'a>(walk: &Walk<'a>, argument: &'a Argument<Path>) -> bool {
+// Whether an argument may be a plain reference to an item of a kind; one that has no meaning may.
+fn may_name<'a>(walk: &Walk<'a>, kind: Kind, argument: &'a Argument<Path>) -> bool {
     match argument {
-        Argument::Value(Expr::Reference(path)) => match walk.meaning(path, &VARIABLES) {
+        Argument::Value(Expr::Reference(path)) => match walk.meaning(path, &[kind]) {
             Meaning::Local => false,
-            Meaning::Item(kind) => kind == Kind::Variable,
+            Meaning::Item(found) => found == kind,
             Meaning::Unjudged | Meaning::Broken(_, _) => true,
         },
         _ => false,
@@ -28,7 +28,8 @@ fn may_fit<'a>(walk: &Walk<'a>, parameter: Parameter, argument: &'a Argument<Pat
     match parameter {
         Parameter::Text => is_text,
         Parameter::Number => !is_text,
-        Parameter::DeviceVariable => may_be_variable(walk, argument),
+        Parameter::DeviceVariable => may_name(walk, Kind::Variable, argument),
+        Parameter::Method => may_name(walk, Kind::Method, argument),
     }
 }
 
@@ -114,7 +115,7 @@ pub fn walk_expr<'a>(
             arguments,
         } => {
             walk_function(walk, function, arguments, is_statement, *line)?;
-            walk_arguments(arguments, walk)
+            walk_arguments(arguments, argument_kinds(function), walk)
         }
     }
 }
@@ -122,18 +123,25 @@ pub fn walk_expr<'a>(
 #[cycle(expressions)]
 fn walk_arguments<'a>(
     arguments: &'a [Argument<Path>],
+    kinds: &[Kind],
     walk: &mut Walk<'a>,
 ) -> Result<(), AllocError> {
     for argument in arguments {
-        walk_argument(argument, walk)?;
+        walk_argument(argument, kinds, walk)?;
     }
     Ok(())
 }
 
+// An argument, where a plain reference names an item of these kinds.
 #[cycle(expressions)]
-fn walk_argument<'a>(argument: &'a Argument<Path>, walk: &mut Walk<'a>) -> Result<(), AllocError> {
+fn walk_argument<'a>(
+    argument: &'a Argument<Path>,
+    kinds: &[Kind],
+    walk: &mut Walk<'a>,
+) -> Result<(), AllocError> {
     match argument {
         Argument::Text(_) => Ok(()),
+        Argument::Value(Expr::Reference(path)) => walk.refer(path, kinds),
         Argument::Value(e) => walk_expr(e, false, walk),
     }
 }

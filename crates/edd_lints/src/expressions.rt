@@ -59,7 +59,8 @@ fn asks(function: Builtin) -> bool {
         | Builtin::Iassign
         | Builtin::Lassign
         | Builtin::Abort
-        | Builtin::ProcessAbort => false,
+        | Builtin::ProcessAbort
+        | Builtin::AddAbortMethod => false,
     }
 }
 
