@@ -41,8 +41,8 @@ Right:
         name: "WRONG_KIND",
         text: r#"What has this name may not stand there: an expression, a data item and an element of an
 array want a variable, a member an item of the kind after OF, a menu entry anything but a
-command and an array. A point may follow only a collection, and an index in brackets only
-an array, which a local of its name hides.
+command and an array, add_abort_method a method. A point may follow only a collection, and
+an index in brackets only an array, which a local of its name hides.
 
 Wrong:
 

@@ -76,6 +76,7 @@ fn parameter_word(parameter: Parameter) -> &'static str {
         Parameter::Text => "a text",
         Parameter::Number => "a number",
         Parameter::DeviceVariable => "a variable of the device",
+        Parameter::Method => "a METHOD",
     }
 }
 

@@ -9,7 +9,7 @@ use indexmap::IndexMap;
 use std::alloc::{AllocError, Global};
 
 /// The functions that methods may call.
-pub const BUILTINS: [Builtin; 14] = [
+pub const BUILTINS: [Builtin; 15] = [
     Builtin::PutMessage,
     Builtin::Acknowledge,
     Builtin::Delay,
@@ -24,6 +24,7 @@ pub const BUILTINS: [Builtin; 14] = [
     Builtin::Lassign,
     Builtin::Abort,
     Builtin::ProcessAbort,
+    Builtin::AddAbortMethod,
 ];
 
 /// How many names of a sort one that is unknown is compared with, so that many of both take no long
