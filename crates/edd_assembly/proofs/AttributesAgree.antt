@@ -27,7 +27,7 @@ use Rattle.edd_syntax.specs.Rows.{is_written, transaction_positions, positions, 
 use Rattle.edd_image.specs.declared.unit.Sort.TheVariants.{Attribute, Method}
 use Rattle.edd_image.specs.References.{item_exists}
 use Rattle.edd_image.specs.Contents.{part, Contents, AttributeFields, contents_of}
-use Rattle.edd_image.specs.Strings.{string_bytes, is_words}
+use Rattle.edd_image.specs.Strings.{string_in, string_bytes, is_words}
 use Rattle.edd_image.specs.Steps.{opening}
 use Rattle.edd_image.specs.Reading as image
 use Rattle.edd_image.specs.Reading.{environment_of, row_of, opening_of, given_within, reading_of, default_records, is_no_item, reading_within}
@@ -36,7 +36,8 @@ use Rattle.edd_assembly.specs.Assembly.{Lowered, assembled}
 use Rattle.edd_assembly.specs.LoweredUnits.{IsBodyCode, IsUnitOf, AreUnitsOf}
 use Rattle.edd_assembly.proofs.Cutting.{code_of, code_cut}
 use Rattle.edd_assembly.proofs.KnownByNumber.{same_kinds}
-use Rattle.edd_assembly.proofs.RecordsAgree.{string_read, default_same, reading_agrees}
+use Rattle.edd_image.specs.Decoding as decoding
+use Rattle.edd_assembly.proofs.RecordsAgree.{string_missing, string_read, default_same, reading_agrees}
 use Rattle.edd_assembly.proofs.RowsAmong.{same_ref, among_rows}
 use Rattle.edd_assembly.proofs.RowsFound.{Found, of_ref, same_refs, found_or_none, among_plain}
 use Rattle.edd_assembly.proofs.TypesRead.{types_read}
@@ -86,6 +87,20 @@ module _ (unit : Description Target) (lowered : List Lowered) (strings : List Wo
       → string_numbered contents n ≡ Some w
   unfolding assembled
   kept = string_read strings valid short
+
+  pub kept_back : (n : StrNo) (w : Words) → string_numbered contents n ≡ Some w
+      → string_of_table strings n ≡ Some w
+  unfolding assembled
+  kept_back n w h = by_string (string_of_table strings n) refl
+    where
+      by_string : (o : Option Words) → string_of_table strings n ≡ o
+          → string_of_table strings n ≡ Some w
+      by_string (Some v) is = is ∙ sym (string_read strings valid short n v is) ∙ h
+      by_string None is =
+          let none : string_numbered contents n ≡ None =
+          ap (λ o. decoding.◌>>=◌ o (λ span. string_in (part span contents.string_bytes)))
+          (string_missing strings n is) in
+          absurd (cc (none, h))
 
   pub same_types : environment_of contents ≡ machine_of (environment unit)
   unfolding assembled

@@ -1,3 +1,5 @@
+pub mod BodiesStand
+pub mod NeededVersion
 pub mod Appending
 pub mod ElementRows
 pub mod SectionSplits

@@ -36,6 +36,22 @@ then_read : (bytes : List ℕ) (o : Option Span)
 then_read bytes None = refl
 then_read bytes (Some span) = refl
 
+-- where the table has no string, the rows have none
+pub string_missing : (ws : List Words) (n : StrNo) → string_of_table ws n ≡ None
+    → slice_get (map fields_of_string (string_rows 0 ws)) n.0 ≡ None
+string_missing ws n h =
+    none_of (λ span. part span (flat_map string_bytes ws))
+    (slice_get (map fields_of_string (string_rows 0 ws)) n.0)
+    (sym (slice_get-map (λ span. part span (flat_map string_bytes ws))
+    (map fields_of_string (string_rows 0 ws)) n.0)
+    ∙ ap (λ bs. slice_get bs n.0) (strings_cut ws)
+    ∙ slice_get-map string_bytes ws n.0
+    ∙ ap (option_map string_bytes) h)
+  where
+    none_of : {A B : Type 0} (f : A → B) (o : Option A) → option_map f o ≡ None → o ≡ None
+    none_of f None e = refl
+    none_of f (Some x) e = absurd (cc e)
+
 pub string_read : (ws : List Words) → list_all is_words ws ≡ true
     → length (flat_map string_bytes ws) < 2 ^ 32 → (n : StrNo) (w : Words)
     → string_of_table ws n ≡ Some w

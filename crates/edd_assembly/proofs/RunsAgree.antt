@@ -1,15 +1,14 @@
--- Runs that agree under one table of strings agree under each that holds the same strings by the
--- same numbers.
-use Rattle.std.proofs.Common.{◌≡◌, ℕ, ℤ, List, [], ◌∷◌, Option, Some}
+-- Code that does what a body does under one table of strings does so under each that holds the same
+-- strings by the same numbers.
+use Rattle.std.proofs.Common.{◌≡◌, ℕ, List, [], ◌∷◌, Option, Some}
 use Rattle.edd_syntax.specs.declared.numbers.StrNo.{StrNo}
 use Rattle.edd_syntax.specs.Words.{Words}
-use Rattle.edd_syntax.specs.Answers.{Answer}
 use Rattle.edd_syntax.specs.DeviceValues.{VariableType}
 use Rattle.edd_syntax.specs.MethodState as source
 use Rattle.edd_syntax.specs.Execution.{Transcript}
 use Rattle.edd_image.specs.declared.records.Request.{Request}
-use Rattle.edd_image.specs.Execution.{Outcome}
-use Rattle.edd_image.specs.MethodAgreement.{SameRequest, SameRequests, SameOutcome, AgreesOnRuns}
+use Rattle.edd_image.specs.Execution.{Outcome, preceded}
+use Rattle.edd_image.specs.MethodAgreement.{SameRequest, SameRequests, SameOutcome, FollowsBody}
 
 module _ (f g : StrNo → Option Words) (kept : (n : StrNo) (w : Words) → f n ≡ Some w → g n ≡ Some w)
   where
@@ -36,24 +35,18 @@ module _ (f g : StrNo → Option Words) (kept : (n : StrNo) (w : Words) → f n 
       requests = requests_kept t.requests o.requests h.requests;
       changes = h.changes;
       values = h.values;
+      abort_methods = h.abort_methods;
       answers = h.answers;
       ending = h.ending;
     }
 
-    pub runs_kept : (types : List VariableType) (source : ℕ → List ℤ → List Answer → Transcript)
-        (machine : ℕ → List ℤ → List Answer → Outcome) → AgreesOnRuns f types source machine
-        → AgreesOnRuns g types source machine
-    runs_kept types source machine h = record {
-      forward = λ values answers are valid n over. let k = h.forward values answers are valid n
-          over in (k.0, outcome_kept (source n values answers) (machine k.0 values answers) k.1);
-      backward = λ values answers are valid k over. let n = h.backward values answers are valid k
-          over in (n.0, outcome_kept (source n.0 values answers) (machine k values answers) n.1);
-      in_progress = λ values answers are valid n out.
-          let k = h.in_progress values answers are valid n
-          out in (
-            k.0,
-            k.1,
-            outcome_kept (source n values answers) (machine k.0 values answers)
-                k.2,
-          );
-    }
+-- so does code, where both hold the same strings
+pub follows_kept : (f g : StrNo → Option Words)
+    → ((n : StrNo) (w : Words) → f n ≡ Some w → g n ≡ Some w)
+    → ((n : StrNo) (w : Words) → g n ≡ Some w → f n ≡ Some w)
+    → (types : List VariableType) (body : ℕ → source.State → Transcript)
+    (machine : ℕ → source.State → Outcome)
+    → FollowsBody f types body machine → FollowsBody g types body machine
+follows_kept f g kept back types body machine follows s before valid asked n =
+    let h = follows s before valid (requests_kept g f back s.requests before asked) n in
+    (h.0, h.1, outcome_kept f g kept (body n s) (preceded before s.changes (machine h.0 s)) h.2)

@@ -18,10 +18,11 @@ use Rattle.edd_image.specs.Contents.{part, Contents, fields_of_name, fields_of_a
 use Rattle.edd_image.specs.Layout.{AreSections}
 use Rattle.edd_image.specs.Strings.{string_bytes}
 use Rattle.edd_image.specs.Units.{IsValidUnit}
-use Rattle.edd_image.specs.Validity.{placed_unit, fills, rise, is_attribute_row, are_variable_rows, are_name_rows, are_attribute_rows, are_element_rows, are_string_rows, IsSound}
-use Rattle.edd_image.specs.Agreement.{counts_of, version_with, IsAttributeCode}
+use Rattle.edd_image.specs.Validity.{placed_unit, fills, rise, is_attribute_row, are_variable_rows, are_name_rows, are_attribute_rows, are_element_rows, are_string_rows, all_add_with_body, IsSound}
+use Rattle.edd_image.specs.Agreement.{counts_of, version_for, IsAttributeCode}
 use Rattle.edd_assembly.specs.Assembly.{Lowered, names_of, name_rows, attribute_rows, assembled}
 use Rattle.edd_assembly.specs.LoweredUnits.{plain_row, IsBodyCode, IsUnitOf, AreUnitsOf}
+use Rattle.edd_assembly.proofs.BodiesStand.{units_add}
 use Rattle.edd_assembly.proofs.Cutting.{first_or, behind_first, code_of, code_cut}
 use Rattle.edd_assembly.proofs.Filling.{names_fill, strings_fill, code_fills, no_name_padding}
 use Rattle.edd_assembly.proofs.ItemForms.{is_formed, formed_when_checked}
@@ -56,7 +57,7 @@ module _ (unit : Description Target) (strings : List Words) where
 
   valid : (l : Lowered) → IsUnitOf unit strings l
       → IsValidUnit (record {
-        version = version_with counts;
+        version = version_for unit;
         counts = counts;
         sort = if same_attr l.row.attr
             attr.Definition then Method else Attribute;
@@ -70,7 +71,7 @@ module _ (unit : Description Target) (strings : List Words) where
         | false ↦ IsAttributeCode unit strings l.row l.code
       ])
           → IsValidUnit (record {
-            version = version_with counts;
+            version = version_for unit;
             counts = counts;
             sort = if b then Method else
                 Attribute;
@@ -80,7 +81,7 @@ module _ (unit : Description Target) (strings : List Words) where
       pick false u = u.valid
 
   -- the rows cut the code of their units from the whole
-  units_valid : (c : Contents) → c.version ≡ version_with counts → c.counts ≡ counts → (s : ℕ)
+  units_valid : (c : Contents) → c.version ≡ version_for unit → c.counts ≡ counts → (s : ℕ)
       (ls : List Lowered)
       → map (λ r. part r.span c.code) (map fields_of_attribute (attribute_rows s ls))
       ≡ map code_of ls
@@ -110,7 +111,7 @@ module _ (unit : Description Target) (strings : List Words) where
         }) l.code) (sym one)
         (subst (λ n. IsValidUnit
         (record {
-          version = version_with counts;
+          version = version_for unit;
           counts = n;
           sort = if same_attr l.row.attr attr.Definition then
               Method else Attribute;
@@ -184,6 +185,11 @@ module _ (unit : Description Target) (lowered : List Lowered) (words : List code
   units_sound = units_valid unit (map string_of words) contents refl refl 0 lowered
       (code_cut lowered) each
 
+  bodies : IsTrue (all_add_with_body contents)
+  unfolding assembled
+  bodies = units_add unit (map string_of words) lowered checked units contents refl refl
+      contents.attributes units_sound
+
   pub sections_sound : IsSound contents
   unfolding assembled
   sections_sound = record {
@@ -200,4 +206,5 @@ module _ (unit : Description Target) (lowered : List Lowered) (words : List code
     names = names_sound unit.items formed;
     strings = strings_sound (map string_of words) (strings_valid words) strings_short;
     valid_units = units_sound;
+    abort_methods = bodies;
   }

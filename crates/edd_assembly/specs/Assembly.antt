@@ -24,7 +24,8 @@ use Rattle.edd_image.specs.declared.parts.StringRow.{StringRow}
 use Rattle.edd_image.specs.declared.parts.Counts.{Counts}
 use Rattle.edd_image.specs.Layout.{Sections}
 use Rattle.edd_image.specs.Strings.{string_bytes}
-use Rattle.edd_image.specs.Agreement.{counts_of, version_with}
+use Rattle.edd_image.specs.declared.unit.Version.{Version}
+use Rattle.edd_image.specs.Agreement.{counts_of, version_for}
 
 -- an attribute and its code; for the body of a method `sub` is its number of slots
 pub record Lowered : Type 0 where
@@ -102,13 +103,12 @@ abbrev pub variable_kinds : List (Item Target) → List VarKind
 variable_kinds items = map (λ i. kind_of_type (written_type i.attributes))
     (of_kind kind.Variable items)
 
--- ---- all sections, in the first version of the layout where there are no arrays, else in the
--- second
+-- ---- all sections, in the version of the layout that the description needs
 
-abbrev pub sections : Counts → List VarKind → List NameRow → List AttributeRow → List Element
+abbrev pub sections : Version → Counts → List VarKind → List NameRow → List AttributeRow → List Element
     → (code : List ℕ) → List StringRow → (name_bytes string_bytes : List ℕ) → Sections
-sections counts variables names attributes elements code strings name_bytes string_bytes = record {
-  version = version_with counts;
+sections version counts variables names attributes elements code strings name_bytes string_bytes = record {
+  version = version;
   counts = counts;
   variables = variables;
   names = names;
@@ -122,7 +122,7 @@ sections counts variables names attributes elements code strings name_bytes stri
 
 unfoldable pub assembled : Description Target → List Lowered → List Words → Sections
 assembled unit lowered strings = record {
-  version = version_with (counts_of unit.identification unit.items (length strings));
+  version = version_for unit;
   counts = counts_of unit.identification unit.items (length strings);
   variables = variable_kinds unit.items;
   names = name_rows 0 (names_of unit.items);

@@ -8,7 +8,9 @@ ghost use Rattle.edd_syntax.specs.ItemView.{identification_of, numbered_items, n
 ghost use Rattle.edd_syntax.specs.Resolution.{count_of};
 ghost use Rattle.edd_syntax.specs.Resolved.{description};
 ghost use Rattle.edd_syntax.specs.WordsView.{string_of};
+ghost use Rattle.edd_image.specs.declared.unit.Version.TheVariants.{One};
 ghost use Rattle.edd_image.specs.Agreement as agreement;
+ghost use Rattle.edd_image.specs.Agreement.{version_for};
 ghost use Rattle.edd_image.specs.Layout.{sections_of};
 ghost use Rattle.edd_image.specs.Versions.{header_size};
 ghost use Rattle.edd_assembly.specs.Assembly as assembly;
@@ -85,11 +87,12 @@ fn check_length(
     Ok(())
 }
 
-// An image needs the second version of the layout where there is an array.
-fn version_of(counts: Counts) -> Version
-    ensures { result ≡ agreement.version_with counts }
+// The version of the layout that an image of the description needs.
+fn version_of(checked: &Checked) -> Version
+    ensures { result ≡ version_for (description (identification_of checked.now.identification)
+        (numbered_items checked.now.items.value.items)) }
 {
-    if counts.arrays > 0 {
+    if checked.version() == 2 {
         Version::Two
     } else {
         Version::One
@@ -98,6 +101,7 @@ fn version_of(counts: Counts) -> Version
 
 // The parts of these sections.
 fn parts_of(
+    version: Version,
     counts: Counts,
     variables: Vec<VarKind>,
     names: NameSection,
@@ -108,13 +112,13 @@ fn parts_of(
     requires variables_counted { counts.variables ≡ length variables.items }
     requires names_counted { counts.variables + counts.commands + counts.menus + counts.collections
         + counts.methods + counts.arrays ≡ length names.rows.items }
-    requires no_elements { counts.arrays ≡ 0 → elements.items ≡ [] }
+    requires no_arrays { version ≡ One → counts.arrays ≡ 0 }
+    requires no_elements { version ≡ One → elements.items ≡ [] }
     requires strings_counted { counts.strings ≡ length strings.rows.items }
     ensures { IfOk result (λ parts. sections_of parts
-        ≡ assembly.sections counts variables.items names.rows.items code.rows.items elements.items
+        ≡ assembly.sections version counts variables.items names.rows.items code.rows.items elements.items
         code.bytes.items strings.rows.items names.bytes.items strings.bytes.items) }
 {
-    let version = version_of(counts);
     let name_bytes = number_of(names.bytes.len())?;
     let string_bytes = number_of(strings.bytes.len())?;
     check_length(
@@ -144,12 +148,15 @@ fn parts_of(
 #[tactic(auto, using(crate::proofs::RowCounts::row_counts), unfolding(crate::specs::Assembly::assembled))]
 fn assemble_items(
     alloc: Global,
+    version: Version,
     identification: Identification,
     items: &[Item<Target>],
     elements: Vec<Element>,
     units: &[Lowered],
     strings: &[Words],
 ) -> Result<Parts, AllocError>
+    requires version { version ≡ version_for (description (identification_of identification)
+        (map numbered_item items.now)) }
     requires elements { elements.items ≡ (environment
         (description (identification_of identification) (map numbered_item items.now))).elements }
     requires few { (k : Kind) → count_of k (map numbered_item items.now) ≤ 4096 }
@@ -164,7 +171,7 @@ fn assemble_items(
     let names = name_section(alloc, items)?;
     let code = code_section(alloc, units)?;
     let strings = string_section(alloc, strings)?;
-    parts_of(counts, variables, names, elements, code, strings)
+    parts_of(version, counts, variables, names, elements, code, strings)
 }
 
 /// The parts of an image: the description's counts, types, names and elements, the code of its
@@ -184,6 +191,7 @@ pub fn assemble(
     let elements = checked.elements(alloc)?;
     assemble_items(
         alloc,
+        version_of(checked),
         checked.identification,
         &checked.items,
         elements,

@@ -241,7 +241,7 @@ item_readable count (item_no.Variable v) h = h
 item_readable count (item_no.Command n) h = refl
 item_readable count (item_no.Menu n) h = refl
 item_readable count (item_no.Collection n) h = refl
-item_readable count (item_no.Method n) h = refl
+item_readable count (item_no.Method n) h = h
 item_readable count (item_no.Array n) h = h
 
 abbrev pub is_whole : Description Target → Tree → Bool

@@ -121,6 +121,7 @@ module _ (unit : Description Target) (strings later : List Words) where
       both_true found.0 (both_true (optional_still label told.0) (optional_still help told.1))
   names_still (instruction.Ask request) h = request_still request h
   names_still instruction.Abort h = refl
+  names_still (instruction.AddAbortMethod m) h = h
 
   stands_still : (i : Instruction) → may_stand (attribute_context unit strings) i ≡ true
       → may_stand (attribute_context unit (strings ++ later)) i ≡ true

@@ -7,7 +7,7 @@ use Rattle.edd_syntax.specs.declared.reference.Target.{Target}
 use Rattle.edd_syntax.specs.Expression.{Expr, Literal, Decimal, Reference, Indexed, Parentheses, Unary, Binary, Compare, LogicalAnd, LogicalOr, Conditional, Assign, CompoundAssign, Increment, Call}
 use Rattle.edd_syntax.specs.Conditional as cond
 use Rattle.edd_syntax.specs.Conditional.{Cond, Value, If, Select, Conds, Arms, NoArms, ConsArm, Case, Default}
-use Rattle.edd_syntax.specs.ResolvedTrees.{Meanings, resolved_expr, resolved_cond, resolved_conds, resolved_arms}
+use Rattle.edd_syntax.specs.ResolvedTrees.{Meanings, resolved_by, resolved_expr, resolved_cond, resolved_conds, resolved_arms}
 use Rattle.edd_syntax.specs.Size.{height, cond_height, conds_height, arms_height}
 use Rattle.edd_syntax.specs.WellFormed.{is_path, is_plain, is_label, is_pure_expr, is_cond, are_conds, are_arms, is_single, is_one, is_at_most_one, are_single_arms}
 use Rattle.edd_syntax.proofs.Made.{stays, made, made_of_two, made_of_three}
@@ -31,7 +31,7 @@ module _ (at : Meanings) (reads : Target → Bool)
 
   pub expr_pure : (e : Expr Path) (e' : Expr Target) → pure_before e ≡ true
       → resolved_expr at e ≡ Some e' → pure_after e' ≡ true
-  unfolding resolved_expr
+  unfolding resolved_by
   expr_pure (Literal value) e' p h = stays pure_after (Literal value) e' h ∙ p
   expr_pure Decimal e' p h = stays pure_after Decimal e' h
   expr_pure (Reference from) e' p h = made pure_after (at.reference from) Reference e' _
@@ -76,7 +76,7 @@ module _ (at : Meanings) (reads : Target → Bool)
 
   pub expr_height : (e : Expr Path) (e' : Expr Target) → pure_before e ≡ true
       → resolved_expr at e ≡ Some e' → height e' ≡ height e
-  unfolding resolved_expr
+  unfolding resolved_by
   expr_height (Literal value) e' p h = stays height (Literal value) e' h
   expr_height Decimal e' p h = stays height Decimal e' h
   expr_height (Reference from) e' p h = made height (at.reference from) Reference e' _ (λ x q. refl) h

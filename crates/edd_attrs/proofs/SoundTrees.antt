@@ -32,6 +32,7 @@ use Rattle.edd_code.specs.Blocks as block
 use Rattle.edd_code.specs.Blocks.{Block, size}
 use Rattle.edd_code.specs.Flow.{AreSpelled, Flows, all_straight, depth_after, may_stand}
 use Rattle.edd_code.specs.Reads.{reads_existing}
+use Rattle.edd_code.proofs.Versions.{with_arrays}
 use Rattle.edd_code.proofs.ExpressionFlow.{expression_runs}
 use Rattle.edd_code.proofs.ExpressionSizes.{is_short}
 use Rattle.edd_code.proofs.ExpressionSpelling.{is_spelled, is_named}
@@ -102,7 +103,7 @@ module _ (unit : Description Target) (few : (k : Kind) → count_of k unit.items
         (omega (arith, few kind.Variable)) (omega (arith, few kind.Array)) e
         (pure_there strings e h);
     exist = λ e h. is_named (attribute_context unit strings).version
-        (attribute_context unit strings).counts reads refl e (pure_there strings e h);
+        (attribute_context unit strings).counts reads (with_arrays unit) e (pure_there strings e h);
   }
 
   number_fine : (n : ℕ) → is_small n ≡ true → is_fine unit (source.Number (pos n)) ≡ true

@@ -2,9 +2,17 @@
 -- version an abort method may be listed.
 use Rattle.std.proofs.Common.{◌≡◌, refl, ap, ◌∙◌, ℕ, ◌-◌, Bool, true, arith}
 use Rattle.std.specs.Prelude.{◌&&◌, nat_lt, if◌then◌else◌}
-use Rattle.std.proofs.lemmas.Bool.{and_parts, and_from, lt-ltb, ltb-true}
+use Rattle.std.proofs.lemmas.Bool.{and_parts, and_from, lt-ltb, ltb-true, or_left}
+use Rattle.std.specs.List.{list_any}
+use Rattle.edd_syntax.specs.declared.numbers.Kind.TheVariants as kind
 use Rattle.edd_syntax.specs.declared.numbers.ArrNo.{ArrNo}
 use Rattle.edd_syntax.specs.declared.numbers.MethNo.{MethNo}
+use Rattle.edd_syntax.specs.declared.reference.Target.{Target}
+use Rattle.edd_syntax.specs.Item.{Description}
+use Rattle.edd_syntax.specs.LayoutVersion.{body_names_it, needs_second_version}
+use Rattle.edd_syntax.specs.Resolution.{count_of}
+use Rattle.edd_syntax.specs.SubsetRules.{bodies_of}
+use Rattle.edd_image.specs.Agreement.{version_for}
 use Rattle.edd_image.specs.declared.instruction.Instruction.{Instruction}
 use Rattle.edd_image.specs.declared.instruction.Instruction.TheVariants as instruction
 use Rattle.edd_image.specs.declared.parts.Counts.{Counts}
@@ -21,6 +29,16 @@ use Rattle.edd_code.specs.Flow.{FlowsIn, all_straight, depth_after, may_stand}
 -- where there are arrays, the version is the second
 abbrev pub HoldsArrays : Version → Counts → Type 0
 HoldsArrays version counts = nat_lt 0 counts.arrays ≡ true → version ≡ Two
+
+-- a description that needs the second version has it
+pub needed : (d : Description Target) → needs_second_version d ≡ true → version_for d ≡ Two
+needed d is = ap (λ (b : Bool). if b then Two else One) is
+
+-- one with arrays does
+pub with_arrays : (d : Description Target) → nat_lt 0 (count_of kind.Array d.items) ≡ true
+    → version_for d ≡ Two
+with_arrays d is = needed d
+    (or_left (nat_lt 0 (count_of kind.Array d.items)) (list_any body_names_it (bodies_of d)) is)
 
 second : (version : Version) (counts : Counts) (a : ArrNo) → HoldsArrays version counts
     → array_exists counts a ≡ true → version ≡ Two

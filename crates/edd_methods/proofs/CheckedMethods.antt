@@ -32,6 +32,7 @@ use Rattle.edd_code.specs.MethodExpressions.{method_block}
 use Rattle.edd_code.specs.Numbered.{HasNumbers, IsNumbered}
 use Rattle.edd_code.proofs.MethodSizes.{is_short}
 use Rattle.edd_code.proofs.MethodSpelling.{method_stands}
+use Rattle.edd_code.proofs.Versions.{with_arrays}
 use Rattle.edd_methods.specs.MethodCode.{HasBlocks, method_code}
 use Rattle.edd_methods.specs.StatementCode.{IsShort}
 use Rattle.edd_methods.specs.TreeExpressions.{UnlessAbort, is_abort_call}
@@ -40,7 +41,7 @@ use Rattle.edd_methods.proofs.ResolvedSlots.{each_slot}
 use Rattle.edd_methods.proofs.TreeParts.{each_in_listed}
 use Rattle.edd_methods.specs.Statements.{size, unit_code}
 use Rattle.edd_methods.proofs.BodyFacts.{BodyFacts}
-use Rattle.edd_methods.proofs.NeededVersion.{with_arrays, with_names}
+use Rattle.edd_methods.proofs.NeededVersion.{with_names}
 use Rattle.edd_methods.proofs.MethodAgreement.{is_method_code}
 use Rattle.edd_methods.proofs.ResolvedExpressions.{any}
 use Rattle.edd_methods.proofs.ResolvedStatements.{ReferToExisting}

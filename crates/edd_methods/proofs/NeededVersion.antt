@@ -1,7 +1,6 @@
--- The version of a description's image is the second where the description has arrays, and where a
--- method names add_abort_method.
-use Rattle.std.proofs.Common.{◌≡◌, refl, ap, Bool, true, false, List, [], ◌∷◌}
-use Rattle.std.specs.Prelude.{◌||◌, nat_lt, if◌then◌else◌}
+-- The version of a description's image is the second where a method names add_abort_method.
+use Rattle.std.proofs.Common.{◌≡◌, Bool, true, List, [], ◌∷◌}
+use Rattle.std.specs.Prelude.{nat_lt}
 use Rattle.std.specs.List.{AllByRecursion, list_any, flat_map}
 use Rattle.std.proofs.lemmas.Bool.{or_left, or_right}
 use Rattle.edd_syntax.specs.declared.numbers.Kind.TheVariants as kind
@@ -10,23 +9,18 @@ use Rattle.edd_syntax.specs.declared.reference.Target.{Target}
 use Rattle.edd_syntax.specs.Execution.{body_of}
 use Rattle.edd_syntax.specs.Item as item
 use Rattle.edd_syntax.specs.Item.{Attribute, Description}
-use Rattle.edd_syntax.specs.LayoutVersion.{body_names_it, needs_second_version}
+use Rattle.edd_syntax.specs.LayoutVersion.{body_names_it}
 use Rattle.edd_syntax.specs.Resolution.{count_of}
 use Rattle.edd_syntax.specs.Statement.{Body}
 use Rattle.edd_syntax.specs.SubsetRules.{attributes_of, bodies_in, bodies_of}
-use Rattle.edd_image.specs.declared.unit.Version.TheVariants.{One, Two}
+use Rattle.edd_image.specs.declared.unit.Version.TheVariants.{Two}
 use Rattle.edd_image.specs.Agreement.{version_for}
+use Rattle.edd_code.proofs.Versions.{needed}
 use Rattle.edd_methods.proofs.CheckedBodies.{OfBody, of_method}
 
 module _ (d : Description Target) where
-  needed : needs_second_version d ≡ true → version_for d ≡ Two
-  needed is = ap (λ (b : Bool). if b then Two else One) is
-
   abbrev has_arrays : Bool
   has_arrays = nat_lt 0 (count_of kind.Array d.items)
-
-  pub with_arrays : has_arrays ≡ true → version_for d ≡ Two
-  with_arrays is = needed (or_left has_arrays (list_any body_names_it (bodies_of d)) is)
 
   -- where the body names it, the version is the second
   abbrev Asks : Body Target → Type 0
@@ -59,4 +53,4 @@ module _ (d : Description Target) where
   with_names m =
       of_method Asks (λ is. absurd cc) d m
       (each_asks (attributes_of d)
-      (λ is. needed (or_right has_arrays (list_any body_names_it (bodies_of d)) is)))
+      (λ is. needed d (or_right has_arrays (list_any body_names_it (bodies_of d)) is)))

@@ -7,6 +7,7 @@ use Rattle.edd_syntax.specs.ItemView.{identification_of, numbered_items, numbere
 use Rattle.edd_syntax.specs.Resolution.{count_of}
 use Rattle.edd_syntax.specs.Resolved.{description}
 use Rattle.edd_syntax.proofs.WithinLimits.{few_when_checked}
+use Rattle.edd_image.specs.Agreement.{version_for}
 use Rattle.edd_assembly.specs.Assembly.{is_small_variable}
 use Rattle.edd_assembly.proofs.SmallVariables.{small_when_checked}
 use Rattle.edd_assembly.proofs.parts.assemble.Goals as goal
@@ -32,3 +33,10 @@ assemble_items-requires-clause-elements c =
     ≡ (environment (description (identification_of c.args.checked.now.identification)
     (map numbered_item items))).elements)
     (sym (c.deref-2.ensures.value ∙ ap (λ v. v.items) c.deref.ensures)) c.in_ok-elements.ensures
+
+pub assemble_items-requires-clause-version : goal.assemble_items-requires-clause-version
+assemble_items-requires-clause-version c =
+    subst (λ (items : List (Item Target)). c.version_of.result
+    ≡ version_for (description (identification_of c.args.checked.now.identification)
+    (map numbered_item items)))
+    (sym (c.deref-2.ensures.value ∙ ap (λ v. v.items) c.deref.ensures)) c.version_of.ensures
