@@ -1,10 +1,16 @@
 -- The search by halving among things that rise, and what is found so.
 use Rattle.std.proofs.Common.{◌≡◌, ℕ, zero, suc, ◌+◌, ◌<◌, ◌≤◌, Bool, true, false, List, [], ◌∷◌, Some, None, refl, sym, ap, subst, ◌∙◌, arith, inl, inr}
 use Rattle.std.specs.Prelude.{find}
-use Rattle.std.specs.List.{slice_get}
+use Rattle.std.specs.List.{AllByRecursion, slice_get}
 use Rattle.std.proofs.lemmas.Bool.{cases_eq}
 
 -- ---- what is found
+
+pub holds_at : {X : Type 0} (P : X → Type 0) (xs : List X) (n : ℕ) (x : X) → AllByRecursion P xs
+    → slice_get xs n ≡ Some x → P x
+holds_at P [] n x h e = absurd cc
+holds_at P (y ∷ ys) zero x h e = let same : y ≡ x = cc in subst P same h.0
+holds_at P (y ∷ ys) (suc n) x h e = holds_at P ys n x h.1 e
 
 pub found_at : {A : Type 0} (p : A → Bool) (rows : List A) (k : ℕ) (x : A)
     → slice_get rows k ≡ Some x → p x ≡ true

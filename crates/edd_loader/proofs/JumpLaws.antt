@@ -37,6 +37,7 @@ jump_is_to (instructions.Member name item label help) = refl
 jump_is_to (instructions.Element n v label help) = refl
 jump_is_to (instructions.Ask request) = refl
 jump_is_to instructions.Abort = refl
+jump_is_to (instructions.AddAbortMethod m) = refl
 
 -- what is brought with the way to the next instruction
 pub brought_onward : (rest next : ℕ) (o : Option ℕ)

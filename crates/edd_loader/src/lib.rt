@@ -1,6 +1,7 @@
 //! The checked loading of an image.
 #![tactic(auto)]
 
+mod abort_methods;
 mod attributes;
 mod checks;
 mod codes;
@@ -11,6 +12,7 @@ mod image;
 mod lookups;
 mod marks;
 mod names;
+mod ranks;
 mod rows;
 mod sections;
 mod spans;
@@ -24,5 +26,6 @@ mod words;
 
 pub use fault::LoadFault;
 pub use image::{Image, load};
+pub use ranks::{attribute_row, body_row};
 pub use starts::Starts;
 pub use texts::Text;

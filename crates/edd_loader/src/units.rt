@@ -5,10 +5,11 @@ ghost use Rattle.std.specs.List.{AllByRecursion, list_all};
 ghost use Rattle.edd_image.specs.declared.rules.Rule.TheVariants as rule;
 ghost use Rattle.edd_image.specs.Contents.{rows_from, attribute_fields, contents_in, version_of};
 ghost use Rattle.edd_image.specs.Fields.{header_length, version_number};
-ghost use Rattle.edd_image.specs.Validity.{are_rows, fault_number, UnitsKeep};
+ghost use Rattle.edd_image.specs.Validity.{are_rows, fault_number, EachUnitKeeps, UnitsKeep};
 ghost use Rattle.edd_loader.specs.Sections.{AreSectionsOf, lies_within};
 ghost use Rattle.edd_loader.specs.UnitRows.{RowKeeps, RowsKeepBelow, context_of, fault_bound, first_of};
 
+use crate::abort_methods::all_add_with_body;
 use crate::attributes::DEFINITION;
 use crate::spans::part;
 use crate::whole_unit::broken_in_unit;
@@ -102,15 +103,15 @@ fn known_version(bytes: &[u8]) -> Version
     }
 }
 
-/// The first of the rules on units that one of the units breaks, if one does.
-pub fn broken_in_units(alloc: Global, bytes: &[u8]) -> Result<Option<UnitRule>, AllocError>
+// The first of the rules that one of the units breaks by itself.
+fn broken_in_each(alloc: Global, bytes: &[u8]) -> Result<Option<UnitRule>, AllocError>
     requires sections { AreSectionsOf bytes.now }
     requires version { IsTrue (is_some (version_of (version_number bytes.now))) }
     requires rows { IsTrue (are_rows (contents_in bytes.now)) }
     ensures kept { IfOk result (λ broken. (earlier : UnitRule) → fault_number (rule.Unit earlier)
-        < fault_bound broken → UnitsKeep (contents_in bytes.now) earlier) }
+        < fault_bound broken → EachUnitKeeps (contents_in bytes.now) earlier) }
     ensures broken { IfOk result
-        (λ broken. IfSome broken (λ which. ¬ UnitsKeep (contents_in bytes.now) which)) }
+        (λ broken. IfSome broken (λ which. ¬ EachUnitKeeps (contents_in bytes.now) which)) }
 {
     let start = attribute_rows_start(bytes);
     let count = attribute_count(bytes) as usize;
@@ -126,4 +127,23 @@ pub fn broken_in_units(alloc: Global, bytes: &[u8]) -> Result<Option<UnitRule>, 
         start,
         count,
     )
+}
+
+/// The first of the rules on units that is broken, if one is.
+pub fn broken_in_units(alloc: Global, bytes: &[u8]) -> Result<Option<UnitRule>, AllocError>
+    requires sections { AreSectionsOf bytes.now }
+    requires version { IsTrue (is_some (version_of (version_number bytes.now))) }
+    requires rows { IsTrue (are_rows (contents_in bytes.now)) }
+    ensures kept { IfOk result (λ broken. (earlier : UnitRule) → fault_number (rule.Unit earlier)
+        < fault_bound broken → UnitsKeep (contents_in bytes.now) earlier) }
+    ensures broken { IfOk result
+        (λ broken. IfSome broken (λ which. ¬ UnitsKeep (contents_in bytes.now) which)) }
+{
+    if let Some(rule) = broken_in_each(alloc, bytes)? {
+        return Ok(Some(rule));
+    }
+    if !all_add_with_body(bytes) {
+        return Ok(Some(UnitRule::Reference));
+    }
+    Ok(None)
 }

@@ -156,7 +156,7 @@ impl Walk {
     {
         let sort = context.sort;
         let is_method = matches!(sort, Sort::Method);
-        let has_arrays = matches!(context.version, Version::Two);
+        let is_second = matches!(context.version, Version::Two);
         let counts = context.counts;
         match instruction {
             Instruction::End => self.stop(place, depth, true),
@@ -174,7 +174,7 @@ impl Walk {
             Instruction::Pop => self.go_on(place, depth, true, 1, 0),
             Instruction::Duplicate => self.go_on(place, depth, true, 1, 2),
             Instruction::ReadElement(array) => {
-                self.go_on(place, depth, has_arrays && counts.has_array(array), 1, 1)
+                self.go_on(place, depth, is_second && counts.has_array(array), 1, 1)
             }
             Instruction::Operate(_) | Instruction::Compare(_) => {
                 self.go_on(place, depth, true, 2, 1)
@@ -215,7 +215,7 @@ impl Walk {
                 self.go_on(place, depth, fits, 0, 0)
             }
             Instruction::Element { .. } => {
-                let fits = has_arrays && !is_method && context.has_names(instruction);
+                let fits = is_second && !is_method && context.has_names(instruction);
                 self.go_on(place, depth, fits, 0, 0)
             }
             Instruction::Ask(_) => {
@@ -223,6 +223,10 @@ impl Walk {
                 self.go_on(place, depth, fits, instruction.takes(), 1)
             }
             Instruction::Abort => self.stop(place, depth, is_method),
+            Instruction::AddAbortMethod(method) => {
+                let fits = is_second && is_method && counts.has_method(method);
+                self.go_on(place, depth, fits, 0, 1)
+            }
         }
     }
 }

@@ -4,7 +4,7 @@ use Rattle.edd_image.specs.Units.{UnitKeeps}
 use Rattle.edd_loader.proofs.BrokenUnits.{broken_of_more}
 use Rattle.edd_loader.proofs.Spaces.{rooms, units_lie}
 use Rattle.edd_loader.proofs.UnitTurns.{are_units_of, to_units, from_units}
-use Rattle.edd_loader.proofs.units.broken_in_units.Goals as goal
+use Rattle.edd_loader.proofs.units.broken_in_each.Goals as goal
 
 pub part-code-requires : goal.part-code-requires
 part-code-requires c = omega (

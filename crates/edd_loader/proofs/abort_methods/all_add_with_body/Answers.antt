@@ -1,0 +1,43 @@
+use Rattle.std.proofs.Common.{arith, sym, ◌∙◌}
+use Rattle.edd_image.specs.Contents.{contents_in}
+use Rattle.edd_loader.proofs.AddedMethods.{others_add_none, rows_add_all, version_one_adds_none}
+use Rattle.edd_loader.proofs.Spaces.{rooms, units_lie}
+use Rattle.edd_loader.proofs.abort_methods.all_add_with_body.Goals as goal
+
+pub part-requires : goal.part-requires
+part-requires c = omega (
+  arith,
+  rooms _ c.requires.sections,
+  c.code_start-place.ensures.start,
+  c.code_length-size.ensures,
+)
+
+pub rows_add_with_body-requires-clause-room : goal.rows_add_with_body-requires-clause-room
+rows_add_with_body-requires-clause-room c = omega (
+  arith,
+  rooms _ c.requires.sections,
+  c.attribute_rows_start-start.ensures.start,
+  c.attribute_count-count.ensures,
+)
+
+pub rows_add_with_body-requires-clause-within : goal.rows_add_with_body-requires-clause-within
+rows_add_with_body-requires-clause-within c =
+    units_lie _ _ _ _ _ _ c.requires.sections c.requires.rows c.part.ensures
+    c.code_start-place.ensures.start c.code_length-size.ensures
+    c.attribute_rows_start-start.ensures.start c.attribute_count-count.ensures
+
+pub rows_add_with_body-requires-clause-others : goal.rows_add_with_body-requires-clause-others
+rows_add_with_body-requires-clause-others c =
+    others_add_none _ _ _ _ _ _ c.part.ensures c.code_start-place.ensures.start
+    c.code_length-size.ensures c.attribute_rows_start-start.ensures.start
+    c.attribute_count-count.ensures c.requires.chains
+
+pub returns : goal.returns
+returns c = c.rows_add_with_body.ensures
+    ∙ rows_add_all _ _ _ _ _ _ c.part.ensures c.code_start-place.ensures.start
+    c.code_length-size.ensures c.attribute_rows_start-start.ensures.start
+    c.attribute_count-count.ensures
+
+pub returns-then-not-is_of_version_two : goal.returns-then-not-is_of_version_two
+returns-then-not-is_of_version_two c = sym (version_one_adds_none (contents_in c.args.bytes.now)
+    (c.is_of_version_two.ensures c.if-not-is_of_version_two.true) c.requires.chains)

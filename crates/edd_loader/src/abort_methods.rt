@@ -1,0 +1,122 @@
+//! The rule that each abort method that is added has a body.
+
+ghost use Rattle.std.specs.Prelude.{◌≡◌, ◌+◌, ◌*◌, ◌≤◌, IsTrue, false, length};
+ghost use Rattle.std.specs.List.{list_all};
+ghost use Rattle.edd_image.specs.Contents.{attribute_fields, contents_in, rows_from};
+ghost use Rattle.edd_image.specs.Fields.{attribute_rows_start, header_length};
+ghost use Rattle.edd_image.specs.Validity.{EachUnitKeeps, adds_with_body, all_add_with_body, are_rows};
+ghost use Rattle.edd_image.specs.declared.rules.UnitRule.TheVariants.{Chain};
+ghost use Rattle.edd_image.specs.declared.unit.Version.TheVariants.{One};
+ghost use Rattle.edd_loader.specs.AbortMethods.{is_body_or_adds, row_adds_with_body, unit_adds_with_body};
+ghost use Rattle.edd_loader.specs.Sections.{AreSectionsOf, lies_within};
+
+use crate::attributes::DEFINITION;
+use crate::ranks::body_row;
+use crate::spans::part;
+use edd_image::{
+    ATTRIBUTE_ROW, Instruction, Version, attribute_count, attribute_length, attribute_number,
+    attribute_rows_start, attribute_start, code_length, code_start, decode, version,
+};
+
+// Whether the method that an instruction adds, if it adds one, has a body. The rows of attributes
+// stand from `start` on.
+fn adds_with_body(bytes: &[u8], start: usize, instruction: Instruction) -> bool
+    requires sections { AreSectionsOf bytes.now }
+    requires rows { IsTrue (are_rows (contents_in bytes.now)) }
+    requires start { start ≡ attribute_rows_start bytes.now }
+    ensures { result ≡ adds_with_body (contents_in bytes.now) instruction }
+{
+    match instruction {
+        Instruction::AddAbortMethod(method) => body_row(bytes, start, method).is_some(),
+        _ => true,
+    }
+}
+
+// Whether each method that a unit adds has a body.
+fn unit_adds_with_body(bytes: &[u8], start: usize, unit: &[u8]) -> bool
+    requires sections { AreSectionsOf bytes.now }
+    requires rows { IsTrue (are_rows (contents_in bytes.now)) }
+    requires start { start ≡ attribute_rows_start bytes.now }
+    ensures { result ≡ unit_adds_with_body (contents_in bytes.now) unit.now }
+{
+    let mut place = 0;
+    while let Some((instruction, next)) = decode(unit, place) {
+        if !adds_with_body(bytes, start, instruction) {
+            return false;
+        }
+        place = next;
+    }
+    true
+}
+
+// The same of the unit of a row, which adds none if it is no method's body.
+fn row_adds_with_body(bytes: &[u8], start: usize, code: &[u8], row: usize) -> bool
+    requires sections { AreSectionsOf bytes.now }
+    requires rows { IsTrue (are_rows (contents_in bytes.now)) }
+    requires start { start ≡ attribute_rows_start bytes.now }
+    requires room { row + ATTRIBUTE_ROW ≤ length bytes.now }
+    requires within { IsTrue (lies_within (length code.now)
+        (attribute_fields bytes.now row).span) }
+    requires others { IsTrue (is_body_or_adds (contents_in bytes.now) code.now
+        (attribute_fields bytes.now row)) }
+    ensures { result ≡ row_adds_with_body (contents_in bytes.now) code.now
+        (attribute_fields bytes.now row) }
+{
+    if attribute_number(bytes, row) != DEFINITION {
+        return true;
+    }
+    let place = attribute_start(bytes, row) as usize;
+    let size = attribute_length(bytes, row) as usize;
+    unit_adds_with_body(bytes, start, part(code, place, size))
+}
+
+// The same of `count` rows, which are all that there are.
+fn rows_add_with_body(bytes: &[u8], start: usize, code: &[u8], count: usize) -> bool
+    requires sections { AreSectionsOf bytes.now }
+    requires rows { IsTrue (are_rows (contents_in bytes.now)) }
+    requires start { start ≡ attribute_rows_start bytes.now }
+    requires room { start + ATTRIBUTE_ROW * count ≤ length bytes.now }
+    requires within { IsTrue (list_all (λ r. lies_within (length code.now) r.span)
+        (rows_from (attribute_fields bytes.now) 16 count start)) }
+    requires others { IsTrue (list_all (is_body_or_adds (contents_in bytes.now) code.now)
+        (rows_from (attribute_fields bytes.now) 16 count start)) }
+    ensures { result ≡ list_all (row_adds_with_body (contents_in bytes.now) code.now)
+        (rows_from (attribute_fields bytes.now) 16 count start) }
+{
+    for index in 0..count {
+        if !row_adds_with_body(bytes, start, code, start + ATTRIBUTE_ROW * index) {
+            return false;
+        }
+    }
+    true
+}
+
+// Whether the version is the second one, if it is known. The first has no abort methods.
+#[tactic(auto, unfolding(edd_image::specs::Contents::contents_in))]
+fn is_of_version_two(bytes: &[u8]) -> bool
+    requires { header_length ≤ length bytes.now }
+    ensures { result ≡ false → (contents_in bytes.now).version ≡ One }
+{
+    match version(bytes) {
+        Some(Version::Two) => true,
+        Some(Version::One) | None => false,
+    }
+}
+
+/// Whether each abort method that a unit adds has a body. It takes no memory: for each the rows are
+/// searched by halving.
+pub fn all_add_with_body(bytes: &[u8]) -> bool
+    requires sections { AreSectionsOf bytes.now }
+    requires rows { IsTrue (are_rows (contents_in bytes.now)) }
+    requires chains { EachUnitKeeps (contents_in bytes.now) Chain }
+    ensures { result ≡ all_add_with_body (contents_in bytes.now) }
+{
+    if !is_of_version_two(bytes) {
+        return true;
+    }
+    let start = attribute_rows_start(bytes);
+    let count = attribute_count(bytes) as usize;
+    let place = code_start(bytes);
+    let size = code_length(bytes) as usize;
+    rows_add_with_body(bytes, start, part(bytes, place, size), count)
+}
