@@ -1,5 +1,5 @@
 -- The units of a valid image: valid, and their code among its bytes.
-use Rattle.std.proofs.Common.{◌≡◌, ℕ, zero, suc, ◌+◌, ◌-◌, ◌≤◌, List, [], ◌∷◌, length, take, drop, Some, refl, sym, ap, subst, ◌∙◌, arith}
+use Rattle.std.proofs.Common.{◌≡◌, ℕ, zero, suc, ◌+◌, ◌-◌, ◌≤◌, List, [], ◌∷◌, length, take, drop, Some, refl, sym, ap, ◌∙◌, arith}
 use Rattle.std.specs.List.{AllByRecursion, slice_get}
 use Rattle.std.proofs.lemmas.Bool.{leb-true}
 use Rattle.std.proofs.lemmas.List.{drop-take}
@@ -10,17 +10,12 @@ use Rattle.edd_image.specs.Contents.{AttributeFields, part, rows_from, attribute
 use Rattle.edd_image.specs.Units.{UnitKeeps, IsValidUnit}
 use Rattle.edd_image.specs.Validity.{PlacedUnit, placed_unit, units, IsValid}
 use Rattle.edd_loader.specs.Sections.{lies_within}
+use Rattle.edd_loader.proofs.Halving.{holds_at}
 use Rattle.edd_loader.proofs.LookupLaws.{all_at}
 use Rattle.edd_loader.proofs.RuleOrder.{valid_sections}
 use Rattle.edd_loader.proofs.Spaces.{rooms, spans}
 use Rattle.edd_loader.proofs.UnitTurns.{all_of_map}
 use Rattle.edd_machine.specs.Running.{unit_at, code_at}
-
-pub holds_at : {X : Type 0} (P : X → Type 0) (xs : List X) (n : ℕ) (x : X) → AllByRecursion P xs
-    → slice_get xs n ≡ Some x → P x
-holds_at P [] n x h e = absurd cc
-holds_at P (y ∷ ys) zero x h e = let same : y ≡ x = cc in subst P same h.0
-holds_at P (y ∷ ys) (suc n) x h e = holds_at P ys n x h.1 e
 
 pub unit_valid : (b : List ℕ) (n : ℕ) (r : AttributeFields) → IsValid b
     → slice_get (contents_in b).attributes n ≡ Some r
@@ -37,7 +32,7 @@ unit_valid b n r valid at =
       chain = keeps unit_rule.Chain (valid (rule.Unit unit_rule.Chain));
       jumps = keeps unit_rule.Jump (valid (rule.Unit unit_rule.Jump));
       depths = keeps unit_rule.Depth (valid (rule.Unit unit_rule.Depth));
-      references = keeps unit_rule.Reference (valid (rule.Unit unit_rule.Reference));
+      references = keeps unit_rule.Reference (valid (rule.Unit unit_rule.Reference)).0;
     }
 
 pub counts_are : (b : List ℕ) (r : AttributeFields) → (placed_unit (contents_in b) r).context.counts

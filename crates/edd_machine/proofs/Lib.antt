@@ -4,7 +4,6 @@ pub mod AttributeReadings
 pub mod BodyUnits
 pub mod Following
 pub mod ImageUnits
-pub mod RisingRows
 pub mod SetFaults
 pub mod Stepping
 pub mod Tops

@@ -1,6 +1,5 @@
 pub mod Faults
 pub mod Given
 pub mod Outcomes
-pub mod Ranks
 pub mod Running
 pub mod Types

@@ -2,9 +2,19 @@ use Rattle.std.proofs.Common.{◌≡◌, Some, ap, ◌∙◌}
 use Rattle.std.specs.Prelude.{option_map}
 use Rattle.edd_image.specs.Contents.{attribute_fields, contents_in}
 use Rattle.edd_image.specs.Reading.{body_of}
+use Rattle.edd_image.specs.declared.rules.Rule.TheVariants as rule
+use Rattle.edd_loader.proofs.RuleOrder.{valid_sections}
 use Rattle.edd_machine.specs.Running.{unit_at}
 use Rattle.edd_machine.proofs.BodyUnits.{is_body_unit}
 use Rattle.edd_machine.proofs.rows.find_body.Goals as goal
+
+pub body_row-requires-clause-sections : goal.body_row-requires-clause-sections
+body_row-requires-clause-sections c = rw c.bytes-bytes.ensures.sound
+    (valid_sections c.args.image.now c.bytes-bytes.ensures.valid)
+
+pub body_row-requires-clause-rows : goal.body_row-requires-clause-rows
+body_row-requires-clause-rows c = rw c.bytes-bytes.ensures.sound
+    (c.bytes-bytes.ensures.valid rule.Row)
 
 pub returns-clause-unit : goal.returns-clause-unit
 returns-clause-unit c =
