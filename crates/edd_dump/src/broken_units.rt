@@ -112,12 +112,27 @@ impl Standing {
         }
     }
 
-    fn breaks(&self, rule: UnitRule, places: &Places, context: Context) -> bool {
+    // Whether it names what doesn't exist, or adds an abort method that has no body.
+    fn breaks_reference(&self, sections: &Sections<'_>, context: Context) -> bool {
+        let lacks_body = match self.instruction {
+            Instruction::AddAbortMethod(method) => !sections.has_body(method),
+            _ => false,
+        };
+        lacks_body || !context.has_names(self.instruction)
+    }
+
+    fn breaks(
+        &self,
+        rule: UnitRule,
+        places: &Places,
+        sections: &Sections<'_>,
+        context: Context,
+    ) -> bool {
         match rule {
             UnitRule::Chain => !self.instruction.is_allowed(context.version, context.sort),
             UnitRule::Jump => self.breaks_jump(places, context.sort),
             UnitRule::Depth => self.breaks_depth(places),
-            UnitRule::Reference => !context.has_names(self.instruction),
+            UnitRule::Reference => self.breaks_reference(sections, context),
         }
     }
 }
@@ -133,6 +148,7 @@ fn arrival(brought: Option<u8>, known: Option<u8>) -> u8 {
 // The first place of a unit at which it breaks the rule, and how many operands are there.
 fn broken_place(
     alloc: Global,
+    sections: &Sections<'_>,
     context: Context,
     code: &[u8],
     rule: UnitRule,
@@ -151,7 +167,7 @@ fn broken_place(
             next,
             depth,
         };
-        if standing.breaks(rule, &places, context) {
+        if standing.breaks(rule, &places, sections, context) {
             return Ok(Some((place, depth)));
         }
         places.note(place, depth);
@@ -193,7 +209,7 @@ pub fn broken_instruction(
         };
         let code = part(sections.code, row.unit).unwrap_or(b"");
         let context = context_of(sections, row);
-        if let Some((place, depth)) = broken_place(alloc, context, code, rule)? {
+        if let Some((place, depth)) = broken_place(alloc, sections, context, code, rule)? {
             return Ok(Some(Spot::Instruction {
                 row: number,
                 place,

@@ -72,6 +72,7 @@ fn word_of(instruction: Instruction) -> &'static str {
         Instruction::Element { .. } => "Element",
         Instruction::Ask(_) => "Ask",
         Instruction::Abort => "Abort",
+        Instruction::AddAbortMethod(_) => "AddAbortMethod",
     }
 }
 
@@ -228,6 +229,7 @@ impl Page<'_, '_> {
             | Instruction::JumpIfNotZero(target) => Ok(write!(line, " to {target}")?),
             Instruction::Case { label, target } => Ok(write!(line, " {label} to {target}")?),
             Instruction::Ask(ask) => self.push_ask(line, ask),
+            Instruction::AddAbortMethod(method) => self.push_number(line, ItemNo::Method(method)),
             other => self.push_record(line, other),
         }
     }

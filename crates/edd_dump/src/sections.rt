@@ -11,7 +11,7 @@ use edd_image::{
     string_length, string_rows_start, string_start, type_of, variable_rows_start, variable_size,
     variable_type, variable_zero, version,
 };
-use edd_syntax::numbers::{ArrNo, Attr, Element, ItemNo, VarNo};
+use edd_syntax::numbers::{ArrNo, Attr, Element, ItemNo, Kind, MethNo, VarNo};
 
 /// How many bytes a name has at most.
 const LONGEST_NAME: usize = 255;
@@ -111,6 +111,11 @@ fn fields(row: &[u8]) -> RowFields
             has_zero: attribute_zero(row, 0) == 0,
         },
     }
+}
+
+// The numbers by which rows rise, but the last, as one.
+fn rank(kind: u8, attribute: u8, item: u16) -> u32 {
+    (u32::from(kind) * 256 + u32::from(attribute)) * 65_536 + u32::from(item)
 }
 
 fn element(row: &[u8]) -> Element
@@ -244,6 +249,29 @@ impl<'a> Sections<'a> {
     /// The fields of an attribute row.
     pub fn row(&self, number: usize) -> Option<RowFields> {
         Some(fields(row_at(self.attribute_rows, ATTRIBUTE_ROW, number)?))
+    }
+
+    /// Whether the method has a body, where the rows rise.
+    pub fn has_body(&self, method: MethNo) -> bool {
+        let sought = rank(Kind::Method.number(), Attr::Definition.number(), method.0);
+        let mut low = 0;
+        let mut high = self.row_count();
+        while low < high {
+            let middle = low + (high - low) / 2;
+            let Some(row) = self.row(middle) else {
+                return false;
+            };
+            let here = rank(row.kind, row.attribute, row.item);
+            if here == sought {
+                return true;
+            }
+            if here < sought {
+                low = middle + 1;
+            } else {
+                high = middle;
+            }
+        }
+        false
     }
 
     /// The fields of an element row, whether or not there are such an array and such a variable.
