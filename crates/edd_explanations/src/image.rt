@@ -53,7 +53,7 @@ Or a zero of the header is not zero.
         number: 108,
         name: "INSTRUCTION",
         text: r#"The code of an attribute or a method is not a row of whole instructions that may stand in
-it. Those of arrays may stand in version 2 alone.
+it. Those of arrays and of abort methods may stand in version 2 alone.
 "#,
     },
     Explanation {
@@ -72,7 +72,7 @@ it. Those of arrays may stand in version 2 alone.
         number: 111,
         name: "REFERENCE",
         text: r#"An instruction names a variable, an array, a string, an item or a local that does not
-exist.
+exist, or adds an abort method that does not exist or has no body.
 "#,
     },
 ];
