@@ -5,6 +5,7 @@ use Rattle.std.specs.List.{slice_get}
 use Rattle.std.proofs.lemmas.Bool.{ltb-true}
 use Rattle.std.proofs.lemmas.Option.{get_or_from_slice_get}
 use Rattle.std.proofs.lemmas.Slice.Zip.{AllZip-long}
+use Rattle.edd_syntax.specs.declared.numbers.MethNo.{MethNo}
 use Rattle.edd_syntax.specs.declared.numbers.VarNo.{VarNo}
 use Rattle.edd_syntax.specs.TwosComplement.{wrap, store}
 use Rattle.edd_syntax.specs.DeviceValues.{VariableType, type_at, AreDeviceValues}
@@ -71,36 +72,38 @@ effect_same o p b m e i = record {
 -- the instructions that attributes have
 pub shared : (i : Instruction) → ((v : VarNo) → i ≡ instructions.Store v → ⊥)
     → ((n : ℕ) → i ≡ instructions.GetLocal n → ⊥) → ((n : ℕ) → i ≡ instructions.SetLocal n → ⊥)
-    → ((r : Ask) → i ≡ instructions.Ask r → ⊥) → (i ≡ instructions.Abort → ⊥) → IsShared i
-shared instructions.End a b c d e = (One, refl)
-shared (instructions.Push n) a b c d e = (One, refl)
-shared (instructions.Variable v) a b c d e = (One, refl)
-shared (instructions.Store v) a b c d e = absurd (a v refl)
-shared (instructions.GetLocal slot) a b c d e = absurd (b slot refl)
-shared (instructions.SetLocal slot) a b c d e = absurd (c slot refl)
-shared instructions.Pop a b c d e = (One, refl)
-shared instructions.Duplicate a b c d e = (One, refl)
-shared (instructions.ReadElement array) a b c d e = (Two, refl)
-shared (instructions.Operate op) a b c d e = (One, refl)
-shared (instructions.Compare op) a b c d e = (One, refl)
-shared instructions.Negate a b c d e = (One, refl)
-shared instructions.Not a b c d e = (One, refl)
-shared instructions.Complement a b c d e = (One, refl)
-shared (instructions.Jump to) a b c d e = (One, refl)
-shared (instructions.JumpIfZero to) a b c d e = (One, refl)
-shared (instructions.JumpIfNotZero to) a b c d e = (One, refl)
-shared (instructions.Case label to) a b c d e = (One, refl)
-shared (instructions.Text s) a b c d e = (One, refl)
-shared instructions.Number a b c d e = (One, refl)
-shared (instructions.Item item quals) a b c d e = (One, refl)
-shared (instructions.DataConst n) a b c d e = (One, refl)
-shared (instructions.DataVar v mask quals) a b c d e = (One, refl)
-shared (instructions.Enumerator n text help) a b c d e = (One, refl)
-shared (instructions.Response n class text) a b c d e = (One, refl)
-shared (instructions.Member name item label help) a b c d e = (One, refl)
-shared (instructions.Element n v label help) a b c d e = (Two, refl)
-shared (instructions.Ask request) a b c d e = absurd (d request refl)
-shared instructions.Abort a b c d e = absurd (e refl)
+    → ((r : Ask) → i ≡ instructions.Ask r → ⊥) → (i ≡ instructions.Abort → ⊥)
+    → ((m : MethNo) → i ≡ instructions.AddAbortMethod m → ⊥) → IsShared i
+shared instructions.End a b c d e f = (One, refl)
+shared (instructions.Push n) a b c d e f = (One, refl)
+shared (instructions.Variable v) a b c d e f = (One, refl)
+shared (instructions.Store v) a b c d e f = absurd (a v refl)
+shared (instructions.GetLocal slot) a b c d e f = absurd (b slot refl)
+shared (instructions.SetLocal slot) a b c d e f = absurd (c slot refl)
+shared instructions.Pop a b c d e f = (One, refl)
+shared instructions.Duplicate a b c d e f = (One, refl)
+shared (instructions.ReadElement array) a b c d e f = (Two, refl)
+shared (instructions.Operate op) a b c d e f = (One, refl)
+shared (instructions.Compare op) a b c d e f = (One, refl)
+shared instructions.Negate a b c d e f = (One, refl)
+shared instructions.Not a b c d e f = (One, refl)
+shared instructions.Complement a b c d e f = (One, refl)
+shared (instructions.Jump to) a b c d e f = (One, refl)
+shared (instructions.JumpIfZero to) a b c d e f = (One, refl)
+shared (instructions.JumpIfNotZero to) a b c d e f = (One, refl)
+shared (instructions.Case label to) a b c d e f = (One, refl)
+shared (instructions.Text s) a b c d e f = (One, refl)
+shared instructions.Number a b c d e f = (One, refl)
+shared (instructions.Item item quals) a b c d e f = (One, refl)
+shared (instructions.DataConst n) a b c d e f = (One, refl)
+shared (instructions.DataVar v mask quals) a b c d e f = (One, refl)
+shared (instructions.Enumerator n text help) a b c d e f = (One, refl)
+shared (instructions.Response n class text) a b c d e f = (One, refl)
+shared (instructions.Member name item label help) a b c d e f = (One, refl)
+shared (instructions.Element n v label help) a b c d e f = (Two, refl)
+shared (instructions.Ask request) a b c d e f = absurd (d request refl)
+shared instructions.Abort a b c d e f = absurd (e refl)
+shared (instructions.AddAbortMethod m) a b c d e f = absurd (f m refl)
 
 -- the variable that an instruction reads has a value
 pub variable_there : (b : List ℕ) (i : Instruction) (s : State) (v : VarNo) → CanAct b i s

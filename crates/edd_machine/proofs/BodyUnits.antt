@@ -13,6 +13,7 @@ use Rattle.edd_syntax.specs.Numbers.{kind_of, attr_from_number, has_attr, item_f
 use Rattle.edd_image.specs.declared.parts.Counts.{Counts}
 use Rattle.edd_image.specs.declared.rules.Rule.TheVariants as rule
 use Rattle.edd_image.specs.declared.unit.Sort.TheVariants.{Method}
+use Rattle.edd_image.specs.AbortMethods.{start_at}
 use Rattle.edd_image.specs.Contents.{AttributeFields, contents_in}
 use Rattle.edd_image.specs.References.{item_exists}
 use Rattle.edd_image.specs.Reading.{body_of, is_row_of, opening_of}
@@ -21,7 +22,7 @@ use Rattle.edd_image.specs.Validity.{IsValid, has_attribute, is_attribute_row, i
 use Rattle.edd_loader.proofs.LookupLaws.{all_at}
 use Rattle.edd_loader.proofs.RowRules.{row_rules}
 use Rattle.edd_machine.specs.declared.code_unit.CodeUnit.{CodeUnit}
-use Rattle.edd_machine.specs.Running.{unit_at, running_unit, IsUnitOf}
+use Rattle.edd_machine.specs.Running.{unit_at, running_unit, start_of, IsUnitOf}
 use Rattle.edd_machine.proofs.ImageUnits.{unit_code}
 use Rattle.edd_machine.proofs.AttributeReadings.{stands}
 
@@ -91,3 +92,13 @@ body_opens b m row values valid e =
     let at = stands (is_row_of (items.Method m) attr.Definition) (contents_in b).attributes row e in
     ap (λ (code : List ℕ). opening (record { sort = sort_of row; code = code })
     (unit_at b row).slots values) (unit_code b at.0 row valid at.1)
+
+pub body_starts : (b : List ℕ) (m : MethNo) (row : AttributeFields) → IsValid b
+    → body_of (contents_in b) m ≡ Some row
+    → start_at (contents_in b) row ≡ start_of b (unit_at b row)
+body_starts b m row valid e =
+    let at = stands (is_row_of (items.Method m) attr.Definition) (contents_in b).attributes row e in
+    sym (ap (λ (code : List ℕ). record {
+      unit = record { sort = sort_of row; code = code };
+      slots = slots_of row;
+    }) (unit_code b at.0 row valid at.1))

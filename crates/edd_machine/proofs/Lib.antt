@@ -1,3 +1,4 @@
+pub mod Aborting
 pub mod Acting
 pub mod Answering
 pub mod AttributeReadings

@@ -1,10 +1,12 @@
 -- The steps of a state on a unit of a valid image.
 use Rattle.std.proofs.Common.{◌≡◌, ℕ, ◌+◌, ◌≤◌, ℤ, List, length, Option, Some, None, sym, ap, subst, ◌∙◌}
+use Rattle.std.specs.Prelude.{option_map}
 use Rattle.edd_syntax.specs.DeviceValues.{AreDeviceValues}
 use Rattle.edd_image.specs.declared.parts.Counts.{Counts}
 use Rattle.edd_image.specs.declared.instruction.Instruction.{Instruction}
 use Rattle.edd_image.specs.declared.records.Status.{Status}
 use Rattle.edd_image.specs.declared.records.Status.TheVariants.{Running}
+use Rattle.edd_image.specs.AbortMethods.{follow_with, next, start_in}
 use Rattle.edd_image.specs.Contents.{contents_in}
 use Rattle.edd_image.specs.Decoding.{◌>>=◌, instruction_at}
 use Rattle.edd_image.specs.Units.{IsValidUnit}
@@ -14,7 +16,7 @@ use Rattle.edd_image.specs.Reading.{environment_of}
 use Rattle.edd_image.proofs.NextStates.{next_state, opens}
 use Rattle.edd_machine.specs.declared.machine.Machine.{Machine}
 use Rattle.edd_machine.specs.declared.code_unit.CodeUnit.{CodeUnit}
-use Rattle.edd_machine.specs.Running.{code_at, running_unit, state_of, IsUnitOf, IsStateIn, IsMachine, StepsTo, ActsTo, CanAct}
+use Rattle.edd_machine.specs.Running.{code_at, running_unit, state_of, IsUnitOf, IsStateIn, IsMachine, IsEffect, StepsTo, ActsTo, CanAct}
 use Rattle.edd_machine.specs.Types.{types_in}
 use Rattle.edd_loader.proofs.VariableTypes.{types_counted}
 use Rattle.edd_machine.proofs.ImageUnits.{unit_valid, unit_code, unit_inside, counts_are}
@@ -90,10 +92,10 @@ module _ (b : List ℕ) (u : CodeUnit) (s : State) (valid : IsValid b) (is : IsS
 
 -- ---- machines
 
-pub stepped : (b : List ℕ) (m n : Machine) (found : Instruction × ℕ) → m.status ≡ Running
+pub acted : (b : List ℕ) (m n : Machine) (found : Instruction × ℕ) → m.status ≡ Running
     → instruction_at (code_at b m.unit) m.place ≡ Some found → ActsTo b found.0 found.1 m n
-    → StepsTo b m n
-stepped b m n found running e acts = record {
+    → IsEffect (step (environment_of (contents_in b)) (state_of b m)) b n
+acted b m n found running e acts = record {
   effect = acts.effect;
   is = step_is (environment_of (contents_in b)) (state_of b m) found (Some acts.effect) running e
       acts.is;
@@ -101,14 +103,29 @@ stepped b m n found running e acts = record {
   emitted = acts.emitted;
 }
 
+-- with what follows it
+pub stepped : (b : List ℕ) (m n o : Machine)
+    → IsEffect (step (environment_of (contents_in b)) (state_of b m)) b n
+    → state_of b o ≡ next (start_in (contents_in b)) (state_of b n) → o.emitted ≡ n.emitted
+    → StepsTo b m o
+stepped b m n o e follows same =
+    let on = next (start_in (contents_in b)) in
+    record {
+      effect = follow_with on e.effect;
+      is = ap (λ (x : Option Effect). option_map (follow_with on) x) e.is;
+      state = ap on e.state ∙ sym follows;
+      emitted = e.emitted ∙ sym same;
+    }
+
 pub again : (b : List ℕ) (m n : Machine) → IsValid b → IsMachine b m → m.status ≡ Running
-    → n.unit ≡ m.unit → StepsTo b m n → IsMachine b n
-again b m n valid is running same steps =
-    let runs : steps.effect.state.unit ≡ (state_of b m).unit =
-    ap (λ (t : State). t.unit) steps.state ∙ ap (running_unit b) same in
-    let next = state_again b m.unit (state_of b m) valid is running steps.effect steps.is runs in
+    → n.unit ≡ m.unit → IsEffect (step (environment_of (contents_in b)) (state_of b m)) b n
+    → IsMachine b n
+again b m n valid is running same e =
+    let runs : e.effect.state.unit ≡ (state_of b m).unit =
+    ap (λ (t : State). t.unit) e.state ∙ ap (running_unit b) same in
+    let next = state_again b m.unit (state_of b m) valid is running e.effect e.is runs in
     subst (λ (u : CodeUnit). IsStateIn b u (state_of b n)) (sym same)
-    (subst (λ (t : State). IsStateIn b m.unit t) steps.state next)
+    (subst (λ (t : State). IsStateIn b m.unit t) e.state next)
 
 pub opened : (b : List ℕ) (u : CodeUnit) (s : State) (values : List ℤ) → IsValid b → IsUnitOf b u
     → AreDeviceValues (types_in b) values → s ≡ opening (running_unit b u) u.slots values

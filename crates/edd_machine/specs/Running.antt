@@ -8,7 +8,8 @@ use Rattle.edd_image.specs.Fields.{code_start, counts_in}
 use Rattle.edd_image.specs.References.{names_exist}
 use Rattle.edd_image.specs.Units.{takes, leaves, is_allowed}
 use Rattle.edd_image.specs.Validity.{sort_of, slots_of, placed_unit}
-use Rattle.edd_image.specs.Steps.{RunningUnit, State, Effect, IsState, act, step}
+use Rattle.edd_image.specs.AbortMethods.{Start, step_in}
+use Rattle.edd_image.specs.Steps.{RunningUnit, State, Effect, IsState, act}
 use Rattle.edd_image.specs.Reading.{environment_of}
 use Rattle.edd_machine.specs.declared.code_unit.CodeUnit.{CodeUnit}
 use Rattle.edd_machine.specs.declared.machine.Machine.{Machine}
@@ -30,6 +31,10 @@ code_at b u = part (record { start = u.start; size = u.size }) b
 abbrev pub running_unit : List ℕ → CodeUnit → RunningUnit
 running_unit b u = record { sort = u.sort; code = code_at b u }
 
+-- where a method with this unit starts
+abbrev pub start_of : List ℕ → CodeUnit → Start
+start_of b u = record { unit = running_unit b u; slots = u.slots }
+
 -- a machine as a state, over the bytes of the image
 abbrev pub state_of : List ℕ → Machine → State
 state_of b m = record {
@@ -39,6 +44,8 @@ state_of b m = record {
   slots = m.slots.items;
   values = m.values.numbers.items;
   status = m.status;
+  abort_methods = m.abort_methods;
+  is_aborting = m.is_aborting;
 }
 
 -- It is the unit of a row of the image.
@@ -67,9 +74,9 @@ pub record IsEffect (o : Option Effect) (b : List ℕ) (m : Machine) : Type 0 wh
   pub state : effect.state ≡ state_of b m
   pub emitted : effect.emitted ≡ m.emitted
 
--- the second machine is the first after its step
+-- the second machine is the first after its step, with what follows it
 abbrev pub StepsTo : List ℕ → Machine → Machine → Type 0
-StepsTo b m n = IsEffect (step (environment_of (contents_in b)) (state_of b m)) b n
+StepsTo b m n = IsEffect (step_in (contents_in b) (state_of b m)) b n
 
 -- the instruction, behind which the place `next` lies, makes the second of the first machine
 abbrev pub ActsTo : List ℕ → Instruction → ℕ → Machine → Machine → Type 0

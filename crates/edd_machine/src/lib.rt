@@ -1,6 +1,7 @@
 //! The machine: values of a device, the steps of a unit, and what is read of an attribute.
 #![tactic(auto)]
 
+mod abort_methods;
 mod arithmetic;
 mod code_unit;
 mod fault;
@@ -14,6 +15,7 @@ mod rows;
 mod sets;
 mod values;
 
+pub use abort_methods::AbortMethods;
 pub use code_unit::CodeUnit;
 pub use fault::{ReadFault, SetFault, ValuesFault};
 pub use laws::{answers_stay_in_the_unit, asking_has_room, bodies_open_as_their_rows};

@@ -7,15 +7,17 @@ ghost use Rattle.edd_image.specs.declared.instruction.Instruction.TheVariants as
 ghost use Rattle.edd_image.specs.declared.records.Emitted.TheVariants as emitted;
 ghost use Rattle.edd_image.specs.declared.records.Status.TheVariants.{Running};
 ghost use Rattle.edd_image.specs.declared.unit.Sort.TheVariants.{Method};
+ghost use Rattle.edd_image.specs.AbortMethods.{aborting, next, start_in, start_listed};
 ghost use Rattle.edd_image.specs.Contents.{contents_in};
 ghost use Rattle.edd_image.specs.Fields.{counts_in};
 ghost use Rattle.edd_image.specs.Steps.{Environment, Fits, act, act_ask, ask_for, opening};
 ghost use Rattle.edd_image.specs.Units.{numbers_asked};
 ghost use Rattle.edd_image.specs.Validity.{IsValid};
 ghost use Rattle.edd_machine.specs.Outcomes.{comes_to};
-ghost use Rattle.edd_machine.specs.Running.{running_unit, state_of, IsUnitOf, IsMachine, IsEffect, StepsTo, ActsTo, CanAct};
+ghost use Rattle.edd_machine.specs.Running.{running_unit, start_of, state_of, IsUnitOf, IsMachine, IsEffect, StepsTo, ActsTo, CanAct};
 ghost use Rattle.edd_machine.specs.Types.{types_in};
 
+use crate::abort_methods::AbortMethods;
 use crate::arithmetic::wrapped;
 use crate::code_unit::{CodeUnit, code_of};
 use crate::operands::Operands;
@@ -25,7 +27,7 @@ use crate::values::Values;
 use arrayvec::ArrayVec;
 use edd_image::{Ask, Emitted, Instruction, Request, Sort, Status, decode};
 use edd_loader::Image;
-use edd_syntax::numbers::VarNo;
+use edd_syntax::numbers::{MethNo, VarNo};
 
 /// A state of the machine over one unit of an image, and what its last step emitted.
 #[derive(Debug, Drop)]
@@ -38,6 +40,10 @@ pub struct Machine {
     pub values: Values,
     pub status: Status,
     pub emitted: Emitted,
+    /// The methods that are to run, in order, if the run is aborted, or that are left of them.
+    pub abort_methods: AbortMethods,
+    /// It was aborted, and they run.
+    pub is_aborting: bool,
 }
 
 // So many slots of 0.
@@ -72,6 +78,8 @@ impl Machine {
             values,
             status: Status::Running,
             emitted: Emitted::Nothing,
+            abort_methods: AbortMethods::new(),
+            is_aborting: false,
         }
     }
 
@@ -227,6 +235,24 @@ impl Machine {
         self.emit_nothing();
     }
 
+    // Lists a method, where the run isn't aborting and there is room: the value tells whether.
+    #[tactic(auto, unfolding(edd_image::specs::Steps::act))]
+    fn add_abort_method(&mut self, method: MethNo, next: usize)
+        requires { length self.old.operands < 128 }
+        ensures unit { self.new.unit ≡ self.old.unit }
+        ensures acts { (b : List ℕ)
+            → ActsTo b (instructions.AddAbortMethod method) next self.old self.new }
+    {
+        if self.is_aborting || self.abort_methods.is_full() {
+            self.operands.push(-1);
+        } else {
+            self.abort_methods.push(method);
+            self.operands.push(0);
+        }
+        self.place = next;
+        self.emit_nothing();
+    }
+
     // The effect of an instruction that the rules on its unit let stand here.
     #[inline(always)]
     fn execute(&mut self, image: &Image<'_>, instruction: Instruction, next: usize)
@@ -241,6 +267,7 @@ impl Machine {
             Instruction::SetLocal(slot) => self.set_slot(slot, next),
             Instruction::Ask(ask) => self.ask(ask, next),
             Instruction::Abort => self.abort(),
+            Instruction::AddAbortMethod(method) => self.add_abort_method(method, next),
             _ => {
                 let sort = self.unit.sort;
                 let values = self.values.numbers.as_slice();
@@ -250,19 +277,71 @@ impl Machine {
         }
     }
 
-    /// One step: the effect of the instruction at its place. A running state of a unit of the image
-    /// has exactly one, and keeps what every state keeps. It takes no memory.
+    // Starts an abort method: at its first byte, with no operands and slots of 0.
+    fn start(&mut self, unit: CodeUnit)
+        requires { unit.slots ≤ 64 }
+        ensures unit { self.new.unit ≡ unit }
+        ensures state { (b : List ℕ) → state_of b self.new
+            ≡ aborting (start_of b unit) self.old.abort_methods (state_of b self.old) }
+        ensures emitted { self.new.emitted ≡ self.old.emitted }
+    {
+        self.unit = unit;
+        self.place = 0;
+        self.operands = Operands::new();
+        self.slots = empty_slots(unit.slots);
+        self.status = Status::Running;
+        self.is_aborting = true;
+    }
+
+    // Goes on with the first listed method that has a body; after the last the run is aborted.
+    fn start_listed(&mut self, image: &Image<'_>)
+        requires { IsMachine image.now self.old }
+        ensures follows { state_of image.now self.new
+            ≡ start_listed (start_in (contents_in image.now)) self.old.abort_methods
+            (state_of image.now self.old) }
+        ensures machine { IsMachine image.now self.new }
+        ensures emitted { self.new.emitted ≡ self.old.emitted }
+    {
+        match self.abort_methods.next_body(image) {
+            Some(unit) => self.start(unit),
+            None => self.status = Status::Aborted,
+        }
+    }
+
+    /// Goes on from where a step or an answer has led: the abort of a run that isn't aborting yet
+    /// starts the first of its abort methods, and the end of one starts the next. Behind the last
+    /// the run is aborted. Else nothing follows. It is no step, and takes no memory.
+    #[inline(always)]
+    pub fn follow(&mut self, image: &Image<'_>)
+        requires { IsMachine image.now self.old }
+        ensures follows { state_of image.now self.new
+            ≡ next (start_in (contents_in image.now)) (state_of image.now self.old) }
+        ensures machine { IsMachine image.now self.new }
+        ensures emitted { self.new.emitted ≡ self.old.emitted }
+    {
+        let goes_on = match self.status {
+            Status::Ended => self.is_aborting,
+            Status::Aborted => !self.is_aborting,
+            _ => false,
+        };
+        if goes_on {
+            self.start_listed(image);
+        }
+    }
+
+    /// One step: the effect of the instruction at its place, and what follows it. A running state of
+    /// a unit of the image has exactly one, and keeps what every state keeps. It takes no memory.
     pub fn step(&mut self, image: &Image<'_>)
         requires machine { IsMachine image.now self.old }
         requires running { self.old.status ≡ Running }
         ensures step { StepsTo image.now self.old self.new }
         ensures machine { IsMachine image.now self.new }
-        ensures unit { self.new.unit ≡ self.old.unit }
     {
         let code = code_of(image.bytes(), self.unit);
         match decode(code, self.place) {
             Some((instruction, next)) => self.execute(image, instruction, next),
             None => unreachable!(),
         }
+        self.follow(image);
     }
 }

@@ -354,6 +354,7 @@ pub fn perform(
         | Instruction::GetLocal(_)
         | Instruction::SetLocal(_)
         | Instruction::Ask(_)
-        | Instruction::Abort => unreachable!(),
+        | Instruction::Abort
+        | Instruction::AddAbortMethod(_) => unreachable!(),
     }
 }

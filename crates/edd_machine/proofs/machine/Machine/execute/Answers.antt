@@ -10,6 +10,7 @@ use Rattle.edd_machine.proofs.machine.Machine.execute.Goals as goal
 pub perform-outcome-requires-clause-shared : goal.perform-outcome-requires-clause-shared
 perform-outcome-requires-clause-shared c = shared c.args.instruction c.in_default.not-Store
     c.in_default.not-GetLocal c.in_default.not-SetLocal c.in_default.not-Ask c.in_default.not-Abort
+    c.in_default.not-AddAbortMethod
 
 pub perform-outcome-requires-clause-exists : goal.perform-outcome-requires-clause-exists
 perform-outcome-requires-clause-exists c = λ v e. rw c.as_slice-values.ensures.value

@@ -1,7 +1,7 @@
 use Rattle.std.proofs.Common.{◌≡◌, ℕ, List, Some, None, sym, ap, ◌∙◌}
 use Rattle.edd_image.specs.Decoding.{instruction_at}
-use Rattle.edd_machine.specs.Running.{code_at, state_of, StepsTo}
-use Rattle.edd_machine.proofs.Stepping.{code_inside, place_inside, instruction_there, can_act, stepped, again}
+use Rattle.edd_machine.specs.Running.{code_at, state_of}
+use Rattle.edd_machine.proofs.Stepping.{code_inside, place_inside, instruction_there, can_act, acted, stepped, again}
 use Rattle.edd_machine.proofs.machine.Machine.step.Goals as goal
 
 pub code_of-code-requires : goal.code_of-code-requires
@@ -45,6 +45,22 @@ unreachable-requires c =
     (state_of c.args.image.now c.args.self.now) c.bytes.ensures.valid c.requires.machine
     c.requires.running nothing
 
+pub follow-requires : goal.follow-requires
+follow-requires c =
+    let same : c.code_of-code.result.now ≡ code_at c.args.image.now c.args.self.now.unit =
+    c.code_of-code.ensures ∙ ap (λ (b : List ℕ). code_at b c.args.self.now.unit)
+    c.bytes.ensures.sound in
+    let at : instruction_at (code_at c.args.image.now c.args.self.now.unit) c.args.self.now.place
+    ≡ Some (c.in-Some.instruction, c.in-Some.next) =
+    ap (λ (code : List ℕ). instruction_at code c.args.self.now.place) (sym same)
+    ∙ sym c.decode.ensures.value ∙ c.in-Some.is in
+    again c.args.image.now c.args.self.now c.execute.new.self c.bytes.ensures.valid
+    c.requires.machine c.requires.running c.execute.ensures.unit
+    (acted c.args.image.now c.args.self.now c.execute.new.self (
+      c.in-Some.instruction,
+      c.in-Some.next,
+    ) c.requires.running at c.execute.ensures.acts)
+
 pub returns-clause-step : goal.returns-clause-step
 returns-clause-step c =
     let same : c.code_of-code.result.now ≡ code_at c.args.image.now c.args.self.now.unit =
@@ -54,24 +70,9 @@ returns-clause-step c =
     ≡ Some (c.in-Some.instruction, c.in-Some.next) =
     ap (λ (code : List ℕ). instruction_at code c.args.self.now.place) (sym same)
     ∙ sym c.decode.ensures.value ∙ c.in-Some.is in
-    stepped c.args.image.now c.args.self.now c.execute.new.self (
+    stepped c.args.image.now c.args.self.now c.execute.new.self c.follow.new.self
+    (acted c.args.image.now c.args.self.now c.execute.new.self (
       c.in-Some.instruction,
       c.in-Some.next,
-    ) c.requires.running at c.execute.ensures.acts
-
-pub returns-clause-machine : goal.returns-clause-machine
-returns-clause-machine c =
-    let same : c.code_of-code.result.now ≡ code_at c.args.image.now c.args.self.now.unit =
-    c.code_of-code.ensures ∙ ap (λ (b : List ℕ). code_at b c.args.self.now.unit)
-    c.bytes.ensures.sound in
-    let at : instruction_at (code_at c.args.image.now c.args.self.now.unit) c.args.self.now.place
-    ≡ Some (c.in-Some.instruction, c.in-Some.next) =
-    ap (λ (code : List ℕ). instruction_at code c.args.self.now.place) (sym same)
-    ∙ sym c.decode.ensures.value ∙ c.in-Some.is in
-    let steps : StepsTo c.args.image.now c.args.self.now c.execute.new.self =
-    stepped c.args.image.now c.args.self.now c.execute.new.self (
-      c.in-Some.instruction,
-      c.in-Some.next,
-    ) c.requires.running at c.execute.ensures.acts in
-    again c.args.image.now c.args.self.now c.execute.new.self c.bytes.ensures.valid
-    c.requires.machine c.requires.running c.execute.ensures.unit steps
+    ) c.requires.running at c.execute.ensures.acts) c.follow.ensures.follows
+    c.follow.ensures.emitted
