@@ -329,8 +329,9 @@ impl Machine {
         }
     }
 
-    /// One step: the effect of the instruction at its place, and what follows it. A running state of
-    /// a unit of the image has exactly one, and keeps what every state keeps. It takes no memory.
+    /// One step: the effect of the instruction at its place, and what follows it. A running state
+    /// of a unit of the image has exactly one, and keeps what every state keeps. It takes no
+    /// memory.
     pub fn step(&mut self, image: &Image<'_>)
         requires machine { IsMachine image.now self.old }
         requires running { self.old.status ≡ Running }

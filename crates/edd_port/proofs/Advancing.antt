@@ -1,11 +1,12 @@
 -- Instructions that are executed one after the other.
 use Rattle.std.proofs.Common.{◌≡◌, ℕ, suc, ◌+◌, ◌-◌, ◌≤◌, List, [], refl, sym, ap, ◌∙◌, ◌⊎◌, inl, inr, arith}
 use Rattle.edd_image.specs.declared.records.Status.TheVariants.{Running}
-use Rattle.edd_image.specs.Execution.{Outcome, request_in, preceded, stepped, execute}
-use Rattle.edd_image.specs.Steps.{State, Environment, Effect}
+use Rattle.edd_image.specs.AbortMethods.{execute_in}
+use Rattle.edd_image.specs.Contents.{Contents, contents_in}
+use Rattle.edd_image.specs.Execution.{Outcome, request_in, preceded, stepped}
+use Rattle.edd_image.specs.Steps.{State, Effect}
 use Rattle.edd_machine.specs.declared.machine.Machine.{Machine}
 use Rattle.edd_machine.specs.Running.{state_of, IsMachine, StepsTo}
-use Rattle.edd_port.specs.Runs.{environment}
 use Rattle.edd_port.specs.Turns.{turn_of, ending_of}
 use Rattle.edd_port.proofs.Outcomes.{halted, without_steps, at_rest, steps_on}
 
@@ -15,12 +16,12 @@ pub record Advances (b : List ℕ) (budget left : ℕ) (first now : Machine) : T
   pub fewer : left ≤ budget
   pub first_left : left ≡ budget → now.status ≡ first.status
   pub machine : IsMachine b now
-  pub state : (execute (environment b) budget (state_of b first) []).state
-      ≡ (execute (environment b) left (state_of b now) []).state
-  pub ending : (execute (environment b) budget (state_of b first) []).ending
-      ≡ (execute (environment b) left (state_of b now) []).ending
-  pub steps : (execute (environment b) budget (state_of b first) []).steps + left ≡ budget
-      + (execute (environment b) left (state_of b now) []).steps
+  pub state : (execute_in (contents_in b) budget (state_of b first) []).state
+      ≡ (execute_in (contents_in b) left (state_of b now) []).state
+  pub ending : (execute_in (contents_in b) budget (state_of b first) []).ending
+      ≡ (execute_in (contents_in b) left (state_of b now) []).ending
+  pub steps : (execute_in (contents_in b) budget (state_of b first) []).steps + left ≡ budget
+      + (execute_in (contents_in b) left (state_of b now) []).steps
 
 pub begins : (b : List ℕ) (budget : ℕ) (m : Machine) → IsMachine b m → Advances b budget budget m m
 begins b budget m is = record {
@@ -37,16 +38,16 @@ pub goes : (b : List ℕ) (budget left rest : ℕ) (first now next : Machine)
     → Advances b budget left first now → now.status ≡ Running → left ≡ suc rest
     → StepsTo b now next → IsMachine b next → Advances b budget rest first next
 goes b budget left rest first now next is runs one to there =
-    let env : Environment = environment b in
+    let c : Contents = contents_in b in
     let e : Effect = to.effect in
-    let here : execute env left (state_of b now) []
-    ≡ stepped (preceded (request_in e.emitted) e.changes (execute env rest e.state [])) =
-    ap (λ (n : ℕ). execute env n (state_of b now) []) one ∙ steps_on env rest (state_of b now) [] e
+    let here : execute_in c left (state_of b now) []
+    ≡ stepped (preceded (request_in e.emitted) e.changes (execute_in c rest e.state [])) =
+    ap (λ (n : ℕ). execute_in c n (state_of b now) []) one ∙ steps_on c rest (state_of b now) [] e
     runs to.is in
-    let moved : execute env rest e.state [] ≡ execute env rest (state_of b next) [] =
-    ap (λ (s : State). execute env rest s []) to.state in
-    let steps : (execute env left (state_of b now) []).steps
-    ≡ suc (execute env rest (state_of b next) []).steps = ap (λ (o : Outcome). o.steps) here
+    let moved : execute_in c rest e.state [] ≡ execute_in c rest (state_of b next) [] =
+    ap (λ (s : State). execute_in c rest s []) to.state in
+    let steps : (execute_in c left (state_of b now) []).steps
+    ≡ suc (execute_in c rest (state_of b next) []).steps = ap (λ (o : Outcome). o.steps) here
     ∙ ap (λ (o : Outcome). suc o.steps) moved in
     record {
       fewer = omega (arith, is.fewer, one);
@@ -61,10 +62,10 @@ goes b budget left rest first now next is runs one to there =
 -- nothing more is executed
 pub record Advanced (b : List ℕ) (budget count : ℕ) (first now : Machine) : Type 0 where
   pub machine : IsMachine b now
-  pub state : state_of b now ≡ (execute (environment b) budget (state_of b first) []).state
-  pub ending : (execute (environment b) budget (state_of b first) []).ending
+  pub state : state_of b now ≡ (execute_in (contents_in b) budget (state_of b first) []).state
+  pub ending : (execute_in (contents_in b) budget (state_of b first) []).ending
       ≡ ending_of (turn_of now.status)
-  pub counts : count ≡ (execute (environment b) budget (state_of b first) []).steps
+  pub counts : count ≡ (execute_in (contents_in b) budget (state_of b first) []).steps
   pub all : now.status ≡ Running → count ≡ budget
   pub moves : first.status ≡ Running → 1 ≤ budget → 1 ≤ count
 
@@ -72,10 +73,10 @@ pub ends : (b : List ℕ) (budget left : ℕ) (first now : Machine) → Advances
     → (left ≡ 0) ⊎ (now.status ≡ Running → ⊥)
     → Advanced b budget (budget - left) first now
 ends b budget left first now is over =
-    let env : Environment = environment b in
-    let rest : execute env left (state_of b now) []
+    let c : Contents = contents_in b in
+    let rest : execute_in c left (state_of b now) []
     ≡ halted (state_of b now) (ending_of (turn_of now.status)) = at_end over in
-    let none : (execute env left (state_of b now) []).steps ≡ 0 =
+    let none : (execute_in c left (state_of b now) []).steps ≡ 0 =
     ap (λ (o : Outcome). o.steps) rest in
     record {
       machine = is.machine;
@@ -87,11 +88,11 @@ ends b budget left first now is over =
     }
   where
     at_end : (left ≡ 0) ⊎ (now.status ≡ Running → ⊥)
-        → execute (environment b) left (state_of b now) []
+        → execute_in (contents_in b) left (state_of b now) []
         ≡ halted (state_of b now) (ending_of (turn_of now.status))
-    at_end (inl none) = ap (λ (n : ℕ). execute (environment b) n (state_of b now) []) none
-        ∙ without_steps (environment b) (state_of b now)
-    at_end (inr never) = at_rest (environment b) left (state_of b now) never
+    at_end (inl none) = ap (λ (n : ℕ). execute_in (contents_in b) n (state_of b now) []) none
+        ∙ without_steps (contents_in b) (state_of b now)
+    at_end (inr never) = at_rest (contents_in b) left (state_of b now) never
 
     whole : (left ≡ 0) ⊎ (now.status ≡ Running → ⊥) → now.status ≡ Running → budget - left ≡ budget
     whole (inl none) runs = omega (arith, none)

@@ -1,6 +1,6 @@
 -- Which requests a run makes that no answer meets.
-use Rattle.std.proofs.Common.{◌≡◌, ℕ, zero, suc, ℤ, Bool, true, false, List, [], ◌∷◌, ◌++◌, Option, Some, None, refl, sym, ap, subst, ◌∙◌, append-nil}
-use Rattle.std.specs.Prelude.{Result, Ok, Err, if◌then◌else◌, IfSome}
+use Rattle.std.proofs.Common.{◌≡◌, ℕ, zero, suc, ℤ, pos, negsuc, Bool, true, false, List, [], ◌∷◌, ◌++◌, Option, Some, None, refl, sym, ap, subst, ◌∙◌, append-nil}
+use Rattle.std.specs.Prelude.{option_map, Result, Ok, Err, if◌then◌else◌, IfSome}
 use Rattle.std.specs.Ordering.{int_eq}
 use Rattle.edd_syntax.specs.declared.answer.Trap.{Trap}
 use Rattle.edd_image.specs.declared.instruction.Ask.{Ask}
@@ -11,7 +11,14 @@ use Rattle.edd_image.specs.declared.records.Request.{Request}
 use Rattle.edd_image.specs.declared.records.Status.{Status}
 use Rattle.edd_image.specs.declared.records.Status.TheVariants as status
 use Rattle.edd_image.specs.Decoding.{◌>>=◌, instruction_at}
-use Rattle.edd_image.specs.Execution.{Outcome, request_in, execute}
+use Rattle.edd_image.specs.AbortMethods.{Start, execute_in, follow_with, next, start_in, step_in}
+use Rattle.edd_image.specs.Contents.{Contents}
+use Rattle.edd_image.specs.Reading.{environment_of}
+use Rattle.edd_image.proofs.Followed.{IsLive}
+use Rattle.edd_image.proofs.NextMethods.{next_asks_nothing, next_of_live}
+use Rattle.edd_syntax.specs.AbortMethods.{listed}
+use Rattle.edd_syntax.specs.declared.numbers.MethNo.{MethNo}
+use Rattle.edd_image.specs.Execution.{Outcome, request_in}
 use Rattle.edd_image.specs.Steps.{State, Environment, Effect, go, on_top, on_two, push_or_trap, act_ask, act, if_running, step}
 use Rattle.edd_port.specs.Drives.{standing}
 use Rattle.edd_port.proofs.Cuts.{by_running}
@@ -57,6 +64,13 @@ module _ (s : State) (runs : s.status ≡ status.Running) where
   asks ask.SendCommandTrans next = two s.operands _ (λ a b below. refl)
   asks ask.SaveValues next = refl
 
+  adds : (o : Option (List MethNo)) (next : ℕ) → Emits (elim o [
+    | Some methods ↦ go (record s { abort_methods = methods }) next (pos 0 ∷ s.operands)
+    | None ↦ go s next (negsuc 0 ∷ s.operands)
+  ])
+  adds (Some methods) next = none
+  adds None next = none
+
   acts : (env : Environment) (i : Instruction) (next : ℕ) → Emits (act env i next s)
   unfolding act
   acts env instruction.End next = refl
@@ -91,6 +105,7 @@ module _ (s : State) (runs : s.status ≡ status.Running) where
   acts env (instruction.Element n v label help) next = none
   acts env (instruction.Ask request) next = asks request next
   acts env instruction.Abort next = refl
+  acts env (instruction.AddAbortMethod m) next = adds (listed s.is_aborting s.abort_methods m) next
 
   found : (env : Environment) (o : Option (Instruction × ℕ)) → Emits (o >>= λ x. act env x.0 x.1 s)
   found env None = tt
@@ -102,9 +117,48 @@ module _ (s : State) (runs : s.status ≡ status.Running) where
       (if_running st (instruction_at s.unit.code s.place >>= λ x. act env x.0 x.1 s))) (sym runs)
       (found env (instruction_at s.unit.code s.place))
 
-  pub emits_what_stands : (env : Environment) (e : Effect) → step env s ≡ Some e
-      → request_in e.emitted ≡ standing e.state.status
-  emits_what_stands env e is = subst (λ (o : Option Effect). Emits o) is (emits env)
+-- ---- what follows
+
+none_standing : (st : Status) → ((r : Request) → st ≡ status.Asking r → ⊥) → standing st ≡ []
+none_standing status.Running never = refl
+none_standing (status.Asking r) never = absurd (never r refl)
+none_standing status.Ended never = refl
+none_standing status.Aborted never = refl
+none_standing (status.Trapped why) never = refl
+
+-- no request stands where what follows leads that didn't stand before
+pub follows_standing : (start_of : MethNo → Option Start) (s : State)
+    → standing (next start_of s).status ≡ standing s.status
+follows_standing start_of s = by_status s.status refl
+  where
+    quiet : (r : Request) → (next start_of s).status ≡ status.Asking r → s.status ≡ status.Asking r
+    quiet r e = next_asks_nothing start_of s r e
+
+    live : IsLive s.status → standing (next start_of s).status ≡ standing s.status
+    live l = ap (λ (t : State). standing t.status) (next_of_live start_of s l)
+
+    still : (st : Status) → s.status ≡ st → ((r : Request) → st ≡ status.Asking r → ⊥)
+        → standing (next start_of s).status ≡ standing s.status
+    still st is never = none_standing (next start_of s).status (λ r e. never r (sym is ∙ quiet r e))
+        ∙ sym (ap standing is ∙ none_standing st never)
+
+    by_status : (st : Status) → s.status ≡ st
+        → standing (next start_of s).status ≡ standing s.status
+    by_status status.Running is = live (subst IsLive (sym is) tt)
+    by_status (status.Asking r) is = live (subst IsLive (sym is) tt)
+    by_status status.Ended is = still status.Ended is (λ r e. cc)
+    by_status status.Aborted is = still status.Aborted is (λ r e. cc)
+    by_status (status.Trapped why) is = still (status.Trapped why) is (λ r e. cc)
+
+followed_emits : (start_of : MethNo → Option Start) (x : Option Effect) → Emits x
+    → Emits (option_map (follow_with (next start_of)) x)
+followed_emits start_of None h = tt
+followed_emits start_of (Some e) h = h ∙ sym (follows_standing start_of e.state)
+
+pub emits_what_stands : (c : Contents) (s : State) → s.status ≡ status.Running → (e : Effect)
+    → step_in c s ≡ Some e → request_in e.emitted ≡ standing e.state.status
+emits_what_stands c s runs e is = subst (λ (o : Option Effect). Emits o) is
+    (followed_emits (start_in c) (step (environment_of c) s) (emits s runs (environment_of c)))
 
 -- ---- a run without answers
 
@@ -112,24 +166,24 @@ module _ (s : State) (runs : s.status ≡ status.Running) where
 abbrev Leaves : State → Outcome → Type 0
 Leaves s o = standing s.status ++ o.requests ≡ standing o.state.status
 
-pub one_stands : (env : Environment) (n : ℕ) (s : State) → Leaves s (execute env n s [])
-one_stands env zero s = subst (λ (o : Outcome). Leaves s o) (sym (without_steps env s))
+pub one_stands : (c : Contents) (n : ℕ) (s : State) → Leaves s (execute_in c n s [])
+one_stands c zero s = subst (λ (o : Outcome). Leaves s o) (sym (without_steps c s))
     (append-nil (standing s.status))
-one_stands env (suc n) s =
-    by_running {P = λ (st : Status). s.status ≡ st → Leaves s (execute env (suc n) s [])} s.status
-    (λ runs. by_step (λ t. one_stands env n t) runs (step env s) refl)
+one_stands c (suc n) s =
+    by_running {P = λ (st : Status). s.status ≡ st → Leaves s (execute_in c (suc n) s [])} s.status
+    (λ runs. by_step (λ t. one_stands c n t) runs (step_in c s) refl)
     (λ st never is. subst (λ (o : Outcome). Leaves s o)
-    (sym (at_rest env (suc n) s (λ e. never (sym is ∙ e)))) (append-nil (standing s.status)))
+    (sym (at_rest c (suc n) s (λ e. never (sym is ∙ e)))) (append-nil (standing s.status)))
     refl
   where
-    by_step : ((t : State) → Leaves t (execute env n t [])) → s.status ≡ status.Running
-        → (x : Option Effect) → step env s ≡ x → Leaves s (execute env (suc n) s [])
+    by_step : ((t : State) → Leaves t (execute_in c n t [])) → s.status ≡ status.Running
+        → (x : Option Effect) → step_in c s ≡ x → Leaves s (execute_in c (suc n) s [])
     by_step more runs None is = subst (λ (o : Outcome). Leaves s o)
-        (sym (gets_stuck env n s runs is)) (append-nil (standing s.status))
+        (sym (gets_stuck c n s runs is)) (append-nil (standing s.status))
     by_step more runs (Some e) is =
-        let o : Outcome = execute env n e.state [] in
+        let o : Outcome = execute_in c n e.state [] in
         let first : request_in e.emitted ≡ standing e.state.status =
-        emits_what_stands s runs env e is in
-        subst (λ (x : Outcome). Leaves s x) (sym (steps_on env n s [] e runs is))
+        emits_what_stands c s runs e is in
+        subst (λ (x : Outcome). Leaves s x) (sym (steps_on c n s [] e runs is))
         (ap (λ (st : Status). standing st ++ (request_in e.emitted ++ o.requests)) runs
         ∙ ap (λ (rs : List Request). rs ++ o.requests) first ∙ more e.state)

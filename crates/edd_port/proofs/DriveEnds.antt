@@ -7,6 +7,7 @@ use Rattle.edd_syntax.specs.Answers.{answer_fault}
 use Rattle.edd_image.specs.declared.records.Request.{Request}
 use Rattle.edd_image.specs.declared.records.Status.{Status}
 use Rattle.edd_image.specs.declared.records.Status.TheVariants as status
+use Rattle.edd_image.specs.Contents.{contents_in}
 use Rattle.edd_image.specs.Execution.{Ending}
 use Rattle.edd_port.specs.declared.turn.Drive.{Drive}
 use Rattle.edd_port.specs.declared.turn.Drive.TheVariants.{Done, Waiting, Refused, HostFailed}
@@ -77,7 +78,8 @@ falls left fewer now next book new (inr (still, (pair, takes, more))) =
     takes.asks in
     let none : length (standing next.state.status) ≡ 0 =
     ap (λ (r : Run). length (standing r.state.status)) takes.is
-    ∙ ap (λ (rs : List Request). length rs) (none_stands now.state pair.answer) in
+    ∙ ap (λ (rs : List Request). length rs)
+    (none_stands (contents_in now.image) now.state pair.answer) in
     omega (arith, still, one, none)
 
 -- ---- where it ends

@@ -1,12 +1,16 @@
 -- A play, turn by turn.
-use Rattle.std.proofs.Common.{◌≡◌, ◌≢◌, ℕ, zero, suc, ◌+◌, ◌<◌, ◌≤◌, List, [], ◌∷◌, ◌++◌, length, drop, get_or, drop-cons, add-one, Option, Some, None, refl, sym, ap, ◌∙◌, append_assoc, append-nil, arith}
-use Rattle.std.specs.Prelude.{unwrap_or}
+use Rattle.std.proofs.Common.{◌≡◌, ◌≢◌, ℕ, suc, ◌+◌, ◌*◌, ◌<◌, ◌≤◌, List, [], ◌∷◌, ◌++◌, length, drop, get_or, drop-cons, add-one, Some, None, refl, sym, ap, ◌∙◌, append_assoc, append-nil, arith}
 use Rattle.edd_syntax.specs.Answers.{Answer, Change, SetFault, answer_fault}
 use Rattle.edd_image.specs.declared.records.Request.{Request}
 use Rattle.edd_image.specs.declared.records.Status.{Status}
 use Rattle.edd_image.specs.declared.records.Status.TheVariants as status
-use Rattle.edd_image.specs.Execution.{Ending, Bad, Outcome, Meeting, answered, nothing_met, after_answer, meet_by, closed, go_on, unchanged, execute_following, execute, OutOfSteps}
-use Rattle.edd_image.specs.Steps.{State, Environment, step}
+use Rattle.edd_image.specs.AbortMethods.{answered_in, execute_in, next, start_in}
+use Rattle.edd_image.specs.Contents.{Contents, contents_in}
+use Rattle.edd_image.specs.Reading.{environment_of}
+use Rattle.edd_image.proofs.Followed.{is_out, stays as stays_over, still_asks}
+use Rattle.edd_image.proofs.NextMethods.{next_asks_nothing}
+use Rattle.edd_image.specs.Execution.{Ending, Bad, Outcome, OutOfSteps, over_at}
+use Rattle.edd_image.specs.Steps.{State}
 use Rattle.edd_port.specs.Drives.{Executes, standing}
 use Rattle.edd_port.specs.Plays.{under}
 use Rattle.edd_port.specs.Runs.{Run, environment, followed}
@@ -29,57 +33,40 @@ halted_with s answers ending = record {
 }
 
 -- a state that is over stays, whatever answers are left; so does one that runs without steps
-stays : (env : Environment) (n : ℕ) (s : State) (answers : List Answer)
+stays : (c : Contents) (n : ℕ) (s : State) (answers : List Answer)
     → (s.status ≡ status.Running → n ≡ 0) → ((q : Request) → s.status ≢ status.Asking q)
-    → execute env n s answers ≡ halted_with s answers (ending_of (turn_of s.status))
-unfolding execute execute_following
-stays env zero s answers last never = by_status s.status never
+    → execute_in c n s answers ≡ halted_with s answers (ending_of (turn_of s.status))
+stays c n s answers last never = by_status s.status refl
   where
-    by_status : (st : Status) → ((q : Request) → st ≢ status.Asking q)
-        → (let m = meet_by unchanged env st s answers in closed m (unwrap_or m.ending OutOfSteps))
-        ≡ halted_with s answers (ending_of (turn_of st))
-    by_status status.Running h = refl
-    by_status (status.Asking r) h = absurd (h r refl)
-    by_status status.Ended h = refl
-    by_status status.Aborted h = refl
-    by_status (status.Trapped why) h = refl
-stays env (suc n) s answers last never = by_status s.status (λ e. omega (arith, last e)) never
-  where
-    by_status : (st : Status) → (st ≡ status.Running → ⊥) → ((q : Request) → st ≢ status.Asking q)
-        → (let m = meet_by unchanged env st s answers in go_on m m.ending (step env m.state)
-        (λ e. execute env n e.state m.answers)) ≡ halted_with s answers (ending_of (turn_of st))
-    by_status status.Running k h = absurd (k refl)
-    by_status (status.Asking r) k h = absurd (h r refl)
-    by_status status.Ended k h = refl
-    by_status status.Aborted k h = refl
-    by_status (status.Trapped why) k h = refl
+    over : (st : Status) (ending : Ending) → s.status ≡ st → over_at st ≡ Some ending
+        → ending ≡ ending_of (turn_of st)
+        → execute_in c n s answers ≡ halted_with s answers (ending_of (turn_of s.status))
+    over st ending is e same =
+        stays_over (next (start_in c)) (next_asks_nothing (start_in c)) (environment_of c) s answers
+        ending (ap over_at is ∙ e) n
+        ∙ ap (halted_with s answers) (same ∙ sym (ap (λ (t : Status). ending_of (turn_of t)) is))
+
+    by_status : (st : Status) → s.status ≡ st
+        → execute_in c n s answers ≡ halted_with s answers (ending_of (turn_of s.status))
+    by_status status.Running is =
+        ap (λ (m : ℕ). execute_in c m s answers) (last is)
+        ∙ is_out (next (start_in c)) (next_asks_nothing (start_in c)) (environment_of c) s answers
+        is
+        ∙ ap (halted_with s answers) (sym (ap (λ (t : Status). ending_of (turn_of t)) is))
+    by_status (status.Asking r) is = absurd (never r is)
+    by_status status.Ended is = over status.Ended Ending.Ended is refl refl
+    by_status status.Aborted is = over status.Aborted Ending.Aborted is refl refl
+    by_status (status.Trapped why) is = over (status.Trapped why) (Ending.Trapped why) is refl refl
 
 -- an answer that can't be taken ends the run with its fault
-bad_ends : (env : Environment) (n : ℕ) (s : State) (q : Request) (answer : Answer)
+bad_ends : (c : Contents) (n : ℕ) (s : State) (q : Request) (answer : Answer)
     (rest : List Answer) (fault : SetFault) → s.status ≡ status.Asking q
-    → answer_fault env.types answer ≡ Some fault → (execute env n s (answer ∷ rest)).ending
-    ≡ Bad fault
-unfolding execute execute_following
-bad_ends env zero s q answer rest fault asks bad =
-    let all : List Answer = answer ∷ rest in
-    ap (λ (st : Status). Outcome.ending (let m = meet_by unchanged env st s all in closed m
-    (unwrap_or m.ending OutOfSteps))) asks
-    ∙ ap (λ (f : Option SetFault). Outcome.ending
-    (let m : Meeting = elim f [
-      | Some f' ↦ nothing_met s all (Some (Bad f'))
-      | None ↦ after_answer unchanged (answered s answer) rest
-    ] in closed m
-    (unwrap_or m.ending OutOfSteps))) bad
-bad_ends env (suc n) s q answer rest fault asks bad =
-    let all : List Answer = answer ∷ rest in
-    ap (λ (st : Status). Outcome.ending (let m = meet_by unchanged env st s all in go_on m m.ending
-    (step env m.state) (λ e. execute env n e.state m.answers))) asks
-    ∙ ap (λ (f : Option SetFault). Outcome.ending
-    (let m : Meeting = elim f [
-      | Some f' ↦ nothing_met s all (Some (Bad f'))
-      | None ↦ after_answer unchanged (answered s answer) rest
-    ] in
-    go_on m m.ending (step env m.state) (λ e. execute env n e.state m.answers))) bad
+    → answer_fault (environment_of c).types answer ≡ Some fault
+    → (execute_in c n s (answer ∷ rest)).ending ≡ Bad fault
+bad_ends c n s q answer rest fault asks bad =
+    ap (λ (o : Outcome). o.ending)
+    (still_asks (next (start_in c)) (next_asks_nothing (start_in c)) (environment_of c) s q asks
+    answer rest fault bad n)
 
 -- ---- turns
 
@@ -92,7 +79,7 @@ pub record Playing (first : Run) (steps left : ℕ) (now : Run) (all : List Answ
   pub image : now.image ≡ first.image
   pub within : next ≤ length all
   pub runs : under first steps all
-      ≡ followed done (execute (environment first.image) left now.state (drop next all))
+      ≡ followed done (execute_in (contents_in first.image) left now.state (drop next all))
   pub made : standing first.state.status ++ done.requests ≡ requests ++ standing now.state.status
 
 pub begins : (first : Run) (steps : ℕ) (all : List Answer)
@@ -110,15 +97,15 @@ pub executed : (first : Run) (steps left fewer : ℕ) (now after : Run) (all : L
     → Playing first steps left now all next requests → Executes left now fewer after
     → Playing first steps fewer after all next requests
 executed first steps left fewer now after all next requests is to =
-    let env : Environment = environment first.image in
-    let o : Outcome = execute env to.budget now.state [] in
+    let c : Contents = contents_in first.image in
+    let o : Outcome = execute_in c to.budget now.state [] in
     record {
       done = followed is.done o;
       image = to.image ∙ is.image;
       within = is.within;
       runs = is.runs ∙ ap (λ (x : Outcome). followed is.done x)
           (cut_here first.image left fewer now after to is.image (drop next all))
-          ∙ followed_twice is.done o (execute env fewer after.state (drop next all));
+          ∙ followed_twice is.done o (execute_in c fewer after.state (drop next all));
       made = sym (append_assoc (standing first.state.status) is.done.requests o.requests)
           ∙ ap (λ (rs : List Request). rs ++ o.requests) is.made
           ∙ append_assoc requests (standing now.state.status) o.requests
@@ -138,32 +125,34 @@ pub answers_one : (first : Run) (steps left : ℕ) (now after : Run) (all : List
     → Playing first steps left now all next requests → now.state.status ≡ status.Asking q
     → next < length all → drop next all ≡ answer ∷ drop (next + 1) all
     → answer_fault (environment first.image).types answer ≡ None → after.image ≡ now.image
-    → after.state ≡ (answered now.state answer).state
+    → after.state ≡ (answered_in (contents_in now.image) now.state answer).state
     → Playing first steps left after all (next + 1) (requests ++ q ∷ [])
 answers_one first steps left now after all next requests q answer is asks more here valid image
     there =
-    let env : Environment = environment first.image in
+    let c : Contents = contents_in first.image in
     let rest : List Answer = drop (next + 1) all in
-    let changes : List Change = (answered now.state answer).changes in
+    let there_too : after.state ≡ (answered_in c now.state answer).state = there
+    ∙ ap (λ (x : List ℕ). (answered_in (contents_in x) now.state answer).state) is.image in
+    let changes : List Change = (answered_in c now.state answer).changes in
     record {
       done = record is.done { changes = is.done.changes ++ changes };
       image = image ∙ is.image;
       within = omega (arith, more);
-      runs = is.runs ∙ ap (λ (xs : List Answer). followed is.done (execute env left now.state xs))
+      runs = is.runs ∙ ap (λ (xs : List Answer). followed is.done (execute_in c left now.state xs))
           here
           ∙ ap (λ (x : Outcome). followed is.done x)
-          (met env left now.state q answer rest asks valid)
+          (met c left now.state q answer rest asks valid)
           ∙ same_outcome refl (sym
           (append_assoc is.done.changes changes
-          (execute env left (answered now.state answer).state rest).changes)) refl
+          (execute_in c left (answered_in c now.state answer).state rest).changes)) refl
           ∙ ap (λ (s : State). followed (record is.done { changes = is.done.changes ++ changes })
-          (execute env left s rest)) (sym there);
+          (execute_in c left s rest)) (sym there_too);
       made = is.made
           ∙ ap (λ (st : Status). requests ++ standing st) asks
           ∙ sym (append-nil (requests ++ q ∷ []))
           ∙ ap (λ (rs : List Request). (requests ++ q ∷ []) ++ rs)
-          (sym (none_stands now.state answer))
-          ∙ ap (λ (s : State). (requests ++ q ∷ []) ++ standing s.status) (sym there);
+          (sym (none_stands c now.state answer))
+          ∙ ap (λ (s : State). (requests ++ q ∷ []) ++ standing s.status) (sym there_too);
     }
 
 -- ---- ends
@@ -181,11 +170,11 @@ pub waits : (first : Run) (steps left : ℕ) (now : Run) (all : List Answer) (ne
     → Playing first steps left now all next requests → now.state.status ≡ status.Asking q
     → drop next all ≡ [] → Played first steps all now (requests ++ q ∷ [])
 waits first steps left now all next requests q is asks none =
-    let env : Environment = environment first.image in
-    let rest : execute env left now.state (drop next all)
+    let c : Contents = contents_in first.image in
+    let rest : execute_in c left now.state (drop next all)
     ≡ halted now.state (ending_of (turn_of now.state.status)) =
-    ap (λ (xs : List Answer). execute env left now.state xs) none
-    ∙ at_rest env left now.state (λ runs. let clash : status.Asking q
+    ap (λ (xs : List Answer). execute_in c left now.state xs) none
+    ∙ at_rest c left now.state (λ runs. let clash : status.Asking q
     ≡ status.Running = sym asks ∙ runs in absurd cc) in
     let whole : under first steps all
     ≡ followed is.done (halted now.state (ending_of (turn_of now.state.status))) = is.runs
@@ -206,11 +195,11 @@ pub stops : (first : Run) (steps left : ℕ) (now : Run) (all : List Answer) (ne
     → (now.state.status ≡ status.Running → left ≡ 0) → standing now.state.status ≡ []
     → Played first steps all now requests
 stops first steps left now all next requests is last nothing =
-    let env : Environment = environment first.image in
+    let c : Contents = contents_in first.image in
     let never : (q : Request) → now.state.status ≢ status.Asking q = λ q asks. let clash : q ∷ []
     ≡ [] = sym (ap standing asks) ∙ nothing in absurd cc in
-    let rest : execute env left now.state (drop next all) ≡ halted_with now.state (drop next all)
-    (ending_of (turn_of now.state.status)) = stays env left now.state (drop next all) last
+    let rest : execute_in c left now.state (drop next all) ≡ halted_with now.state (drop next all)
+    (ending_of (turn_of now.state.status)) = stays c left now.state (drop next all) last
     never in
     let whole : under first steps all
     ≡ followed is.done (halted_with now.state (drop next all)
@@ -234,7 +223,22 @@ pub is_bad : (first : Run) (steps left : ℕ) (now : Run) (all : List Answer) (n
     → (under first steps all).ending ≡ Bad fault
 is_bad first steps left now all next requests q answer fault is asks here bad =
     ap (λ (o : Outcome). o.ending) is.runs
-    ∙ ap (λ (xs : List Answer). (execute (environment first.image) left now.state xs).ending)
+    ∙ ap (λ (xs : List Answer). (execute_in (contents_in first.image) left now.state xs).ending)
     here
-    ∙ bad_ends (environment first.image) left now.state q answer (drop (next + 1) all) fault asks
+    ∙ bad_ends (contents_in first.image) left now.state q answer (drop (next + 1) all) fault asks
     bad
+
+-- an answer that is taken leaves less to do: no request stands behind it
+pub answer_falls : (left : ℕ) (now after : Run) (q : Request) (answer : Answer)
+    → now.state.status ≡ status.Asking q
+    → after.state ≡ (answered_in (contents_in now.image) now.state answer).state
+    → 2 * left + length (standing after.state.status)
+    < 2 * left + length (standing now.state.status)
+answer_falls left now after q answer asks there =
+    let one : length (standing now.state.status) ≡ 1 = ap (λ (st : Status). length (standing st))
+    asks in
+    let none : length (standing after.state.status) ≡ 0 =
+    ap (λ (s : State). length (standing s.status)) there
+    ∙ ap (λ (rs : List Request). length rs)
+    (none_stands (contents_in now.image) now.state answer) in
+    omega (arith, one, none)

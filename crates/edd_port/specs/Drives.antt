@@ -5,8 +5,10 @@ use Rattle.edd_syntax.specs.DeviceValues.{VariableType}
 use Rattle.edd_image.specs.declared.records.Request.{Request}
 use Rattle.edd_image.specs.declared.records.Status.{Status}
 use Rattle.edd_image.specs.declared.records.Status.TheVariants as status
+use Rattle.edd_image.specs.AbortMethods.{answered_in, execute_in}
+use Rattle.edd_image.specs.Contents.{contents_in}
 use Rattle.edd_image.specs.Execution as execution
-use Rattle.edd_image.specs.Execution.{Outcome, answered, execute}
+use Rattle.edd_image.specs.Execution.{Outcome}
 use Rattle.edd_image.specs.Steps.{State}
 use Rattle.edd_port.specs.declared.turn.Drive.{Drive}
 use Rattle.edd_port.specs.declared.turn.Drive.TheVariants.{Done, Waiting, Refused, HostFailed}
@@ -33,7 +35,8 @@ accepted HostFailed pairs = pairs
 
 -- what a run comes to within so many steps under the answers of these pairs
 abbrev pub driven : Run → (steps : ℕ) → List Pair → Outcome
-driven r steps pairs = execute (environment r.image) steps r.state (map (λ p. p.answer) pairs)
+driven r steps pairs =
+    execute_in (contents_in r.image) steps r.state (map (λ p. p.answer) pairs)
 
 -- the request that stands, if one does
 abbrev pub standing : Status → List Request
@@ -107,7 +110,9 @@ pub record Executes (left : ℕ) (before : Run) (fewer : ℕ) (after : Run) : Ty
 pub record Takes (before : Run) (pair : Pair) (after : Run) : Type 0 where
   pub asks : before.state.status ≡ status.Asking pair.request
   pub valid : answer_fault (environment before.image).types pair.answer ≡ None
-  pub is : after ≡ record before { state = (answered before.state pair.answer).state }
+  pub is : after ≡ record before {
+    state = (answered_in (contents_in before.image) before.state pair.answer).state;
+  }
 
 -- the drive goes on with so many instructions left: some were executed and the host was not asked,
 -- or it gave an answer

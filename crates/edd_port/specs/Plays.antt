@@ -4,26 +4,27 @@ use Rattle.edd_syntax.specs.declared.numbers.MethNo.{MethNo}
 use Rattle.edd_syntax.specs.Answers as answers
 use Rattle.edd_syntax.specs.Answers.{Answer, SetFault}
 use Rattle.edd_syntax.specs.DeviceValues.{AreDeviceValues}
+use Rattle.edd_image.specs.AbortMethods.{execute_in}
 use Rattle.edd_image.specs.Contents.{contents_in}
 use Rattle.edd_image.specs.Execution as execution
-use Rattle.edd_image.specs.Execution.{Outcome, execute}
+use Rattle.edd_image.specs.Execution.{Outcome}
 use Rattle.edd_image.specs.Reading.{body_of, opening_of}
 use Rattle.edd_machine.specs.Types.{types_in}
 use Rattle.edd_port.specs.declared.fault.PlayFault.{PlayFault}
 use Rattle.edd_port.specs.declared.fault.PlayFault.TheVariants as play_fault
 use Rattle.edd_port.specs.declared.playing.Ending.{Ending}
 use Rattle.edd_port.specs.declared.playing.Ending.TheVariants.{Ended, Aborted, Trapped, Waiting, Spent}
-use Rattle.edd_port.specs.Runs.{Run, environment}
+use Rattle.edd_port.specs.Runs.{Run}
 
 -- what a run comes to within so many steps under these answers
 abbrev pub under : Run → (steps : ℕ) → List Answer → Outcome
-under r steps given = execute (environment r.image) steps r.state given
+under r steps given = execute_in (contents_in r.image) steps r.state given
 
 -- what the method comes to from its start, where it has a body
 abbrev pub played : List ℕ → MethNo → (values : List ℤ) → (steps : ℕ) → List Answer → Option Outcome
 played b method values steps given =
-    option_map (λ row. execute (environment b) steps (opening_of (contents_in b) row values) given)
-    (body_of (contents_in b) method)
+    option_map (λ row. execute_in (contents_in b) steps (opening_of (contents_in b) row values)
+    given) (body_of (contents_in b) method)
 
 -- the ending that a play shows: out of steps is spent
 abbrev pub ending_shown : Ending → execution.Ending

@@ -2,7 +2,8 @@
 use Rattle.std.specs.Prelude.{◌≡◌, ℕ, ◌+◌, ◌-◌, ◌^◌, min, ℤ, List, [], Some}
 use Rattle.edd_syntax.specs.declared.numbers.MethNo.{MethNo}
 use Rattle.edd_image.specs.Contents.{AttributeFields, contents_in}
-use Rattle.edd_image.specs.Execution.{Outcome, preceded, execute}
+use Rattle.edd_image.specs.AbortMethods.{execute_in}
+use Rattle.edd_image.specs.Execution.{Outcome, preceded}
 use Rattle.edd_image.specs.Reading.{environment_of, body_of, opening_of}
 use Rattle.edd_image.specs.Steps.{State, Environment}
 use Rattle.edd_image.specs.Validity.{IsValid}
@@ -32,7 +33,7 @@ pub record IsRun (b : List ℕ) (s : State) : Type 0 where
 
 -- what at most so many instructions come to from where a run is, while no request is answered
 abbrev pub advanced : Run → (budget : ℕ) → Outcome
-advanced r budget = execute (environment r.image) budget r.state []
+advanced r budget = execute_in (contents_in r.image) budget r.state []
 
 -- it is the state at the start of the method's body under these values
 abbrev pub OpensIn : List ℕ → MethNo → (values : List ℤ) → State → Type 0

@@ -4,22 +4,26 @@ ghost use Rattle.std.specs.Prelude.{◌≡◌, ◌≢◌, ℕ, ◌+◌, ◌-◌,
 ghost use Rattle.edd_syntax.specs.Answers.{Answer, answer_fault};
 ghost use Rattle.edd_image.specs.declared.records.Request.{Request};
 ghost use Rattle.edd_image.specs.declared.records.Status.TheVariants.{Asking};
-ghost use Rattle.edd_image.specs.Execution.{Stuck, answered, execute, preceded, resumed};
-ghost use Rattle.edd_image.specs.Steps.{State, Environment};
+ghost use Rattle.edd_image.specs.AbortMethods.{answered_in, execute_in, next, start_in};
+ghost use Rattle.edd_image.specs.Contents.{Contents};
+ghost use Rattle.edd_image.specs.Execution.{Stuck, preceded, resumed_following};
+ghost use Rattle.edd_image.specs.Reading.{environment_of};
+ghost use Rattle.edd_image.specs.Steps.{State};
 ghost use Rattle.edd_port.specs.Runs.{followed};
 
 /// Every cutting of a run into budgets gives the same run, and an answer may be handed in wherever
 /// a request stands.
 pub fn sessions_may_be_cut()
-    ensures cut { (env : Environment) (j k : ℕ) (s : State) → (execute env j s []).ending ≢ Stuck
-        → execute env (j + k) s [] ≡ resumed env k (execute env j s []) }
-    ensures answered_later { (env : Environment) (j k : ℕ) (s : State) (answers : List Answer)
-        → let o = execute env j s [] in
-        execute env (j + k) s answers
-        ≡ followed o (execute env ((j + k) - o.steps) o.state answers) }
-    ensures met { (env : Environment) (k : ℕ) (s : State) (r : Request) (answer : Answer)
+    ensures cut { (c : Contents) (j k : ℕ) (s : State) → (execute_in c j s []).ending ≢ Stuck
+        → execute_in c (j + k) s []
+        ≡ resumed_following (next (start_in c)) (environment_of c) k (execute_in c j s []) }
+    ensures answered_later { (c : Contents) (j k : ℕ) (s : State) (answers : List Answer)
+        → let o = execute_in c j s [] in
+        execute_in c (j + k) s answers
+        ≡ followed o (execute_in c ((j + k) - o.steps) o.state answers) }
+    ensures met { (c : Contents) (k : ℕ) (s : State) (r : Request) (answer : Answer)
         (rest : List Answer)
-        → s.status ≡ Asking r → answer_fault env.types answer ≡ None
-        → execute env k s (answer ∷ rest) ≡ preceded [] (answered s answer).changes
-        (execute env k (answered s answer).state rest) }
+        → s.status ≡ Asking r → answer_fault (environment_of c).types answer ≡ None
+        → execute_in c k s (answer ∷ rest) ≡ preceded [] (answered_in c s answer).changes
+        (execute_in c k (answered_in c s answer).state rest) }
 {}

@@ -5,7 +5,8 @@ ghost use Rattle.std.specs.Result.{result_err};
 ghost use Rattle.edd_syntax.specs.Answers.{answer_of};
 ghost use Rattle.edd_syntax.specs.DeviceValues.{AreDeviceValues};
 ghost use Rattle.edd_image.specs.declared.records.Status.TheVariants.{Running};
-ghost use Rattle.edd_image.specs.Execution.{answered};
+ghost use Rattle.edd_image.specs.AbortMethods.{answered_in};
+ghost use Rattle.edd_image.specs.Contents.{contents_in};
 ghost use Rattle.edd_machine.specs.Types.{types_in};
 ghost use Rattle.edd_port.specs.Faults.{IsStartFault, answer_fault_of};
 ghost use Rattle.edd_port.specs.Refusals.{refusal};
@@ -117,7 +118,7 @@ impl<'i, 'b> Session<'i, 'b> {
     }
 
     /// Goes on after the request that stands: the variables are set, and the code is the request's
-    /// value. An abort ends the method.
+    /// value. An abort goes on with the abort methods, or ends the method.
     ///
     /// The fault is `NotAsking` where no request stands, else that of the first set that can't be
     /// made; then the session is as it was. It takes no memory.
@@ -125,7 +126,8 @@ impl<'i, 'b> Session<'i, 'b> {
         ensures image { self.new.image ≡ self.old.image }
         ensures taken { self.new.taken ≡ self.old.taken }
         ensures sound { OnOk result
-            (self.new.state ≡ (answered self.old.state (answer_of answer.now)).state) }
+            (self.new.state ≡ (answered_in (contents_in self.old.image) self.old.state
+            (answer_of answer.now)).state) }
         ensures fault { option_map answer_fault_of (result_err result)
             ≡ refusal (types_in self.old.image) self.old.state.status (answer_of answer.now) }
         ensures kept { OnErr result (self.new ≡ self.old) }
@@ -134,6 +136,7 @@ impl<'i, 'b> Session<'i, 'b> {
             return Err(fault);
         }
         take_answer(&mut self.machine, answer);
+        self.machine.follow(self.image);
         Ok(())
     }
 

@@ -1,5 +1,7 @@
 use Rattle.std.proofs.Common.{◌≡◌, ℕ, ◌+◌, ◌≤◌, [], sym, ap, ◌∙◌, arith}
-use Rattle.edd_image.proofs.StepCounts.{at_most}
+use Rattle.edd_image.specs.AbortMethods.{next, start_in}
+use Rattle.edd_image.specs.Contents.{contents_in}
+use Rattle.edd_image.proofs.StepCounts.{at_most_following}
 use Rattle.edd_port.specs.Runs.{advanced, counted, environment}
 use Rattle.edd_port.proofs.driving.execute_some.Goals as goal
 
@@ -8,7 +10,8 @@ few c = omega (
   arith,
   c.from.ensures,
   c.execute-count.ensures.count,
-  at_most (environment c.args.session.now.image) c.budget_of.result c.args.session.now.state [],
+  at_most_following (next (start_in (contents_in c.args.session.now.image)))
+      (environment c.args.session.now.image) c.budget_of.result c.args.session.now.state [],
 )
 
 pub overflow_sub-result : goal.overflow_sub-result

@@ -3,7 +3,7 @@ use Rattle.edd_port.proofs.laws.sessions_may_be_cut.Goals as goal
 
 pub returns : goal.returns
 returns c = record {
-  cut = λ env j k s good. cut env j k s good;
-  answered_later = λ env j k s answers. later env j k s answers;
-  met = λ env k s r answer rest asks valid. met env k s r answer rest asks valid;
+  cut = λ d j k s good. cut d j k s good;
+  answered_later = λ d j k s answers. later d j k s answers;
+  met = λ d k s r answer rest asks valid. met d k s r answer rest asks valid;
 }

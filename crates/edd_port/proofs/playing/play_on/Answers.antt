@@ -10,7 +10,7 @@ use Rattle.edd_port.specs.Refusals.{refusal}
 use Rattle.edd_port.specs.Runs.{environment}
 use Rattle.edd_port.specs.Turns.{turn_of, ending_of}
 use Rattle.edd_port.proofs.Accepted.{taken}
-use Rattle.edd_port.proofs.Playings.{Playing, begins, executed, answers_one, waits, stops, is_bad}
+use Rattle.edd_port.proofs.Playings.{Playing, begins, executed, answers_one, answer_falls, waits, stops, is_bad}
 use Rattle.edd_port.proofs.ShownTurns.{asks_where_shown, rests_where_shown, shows_what_stands, of_refused, one_mapped}
 use Rattle.edd_port.proofs.playing.play_on.Goals as goal
 
@@ -82,6 +82,13 @@ loop-request-preserved-in-Asks c =
     subst (λ requests. Playing c.args.session.now c.args.steps c.loop-request.left c.answer.new.self
     (map answer_of c.args.answers.now) (c.loop-request.next + 1) requests)
     (sym c.in_ok-push-in-Asks.ensures.items) p
+
+pub loop-request-smaller-in-Asks : goal.loop-request-smaller-in-Asks
+loop-request-smaller-in-Asks c =
+    let shown : turn.Asks c.in-Asks.request ≡ turn_of c.loop-request.session.state.status =
+    sym c.in-Asks.is ∙ c.turn.ensures.turn in
+    answer_falls c.loop-request.left c.loop-request.session c.answer.new.self c.in-Asks.request
+    (answer_of c.index-answers-next.result) (asks_where_shown _ _ shown) c.in_default.ensures.sound
 
 pub returns-then-left-eq0 : goal.returns-then-left-eq0
 returns-then-left-eq0 c =

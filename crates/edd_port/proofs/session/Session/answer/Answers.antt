@@ -19,13 +19,11 @@ pub take_answer-requires-clause-exist : goal.take_answer-requires-clause-exist
 take_answer-requires-clause-exist c = exist c.self.inside.image.now c.self.inside.machine
     (answer_of c.args.answer.now) c.self.invariant.1 (accepted c)
 
-pub invariant_of-self : goal.invariant_of-self
-invariant_of-self c =
+pub follow-requires : goal.follow-requires
+follow-requires c =
     let taken : refusal (types_in c.self.inside.image.now) c.self.inside.machine.status
     (answer_of c.args.answer.now) ≡ None = sym c.fault_of_answer.ensures
-    ∙ ap (option_map answer_fault_of) c.in_default.is in (
-      c.self.invariant.0,
-      next_machine c.self.inside.image.now c.self.inside.machine (answer_of c.args.answer.now)
-          c.self.invariant.1 taken c.take_answer.new.machine c.take_answer.ensures.code
-          c.take_answer.ensures.unit (c.take_answer.ensures.state c.self.inside.image.now),
-    )
+    ∙ ap (option_map answer_fault_of) c.in_default.is in
+    next_machine c.self.inside.image.now c.self.inside.machine (answer_of c.args.answer.now)
+    c.self.invariant.1 taken c.take_answer.new.machine c.take_answer.ensures.code
+    c.take_answer.ensures.unit (c.take_answer.ensures.state c.self.inside.image.now)

@@ -1,8 +1,10 @@
 use Rattle.std.proofs.Common.{◌≡◌, false, true, ◌-◌, ℕ, suc, List, [], sym, ap, ◌∙◌, ◌⊎◌, inl, inr, arith}
 use Rattle.edd_image.specs.declared.records.Status.TheVariants.{Running}
-use Rattle.edd_image.specs.Execution.{Outcome, execute}
+use Rattle.edd_image.specs.AbortMethods.{execute_in}
+use Rattle.edd_image.specs.Contents.{contents_in}
+use Rattle.edd_image.specs.Execution.{Outcome}
 use Rattle.edd_machine.specs.Running.{state_of}
-use Rattle.edd_port.specs.Runs.{Run, advanced, environment}
+use Rattle.edd_port.specs.Runs.{Run, advanced}
 use Rattle.edd_port.proofs.Advancing.{Advanced, goes, ends}
 use Rattle.edd_port.proofs.session.Session.execute.Goals.{then-loop-left-test+else-matches, in-Running, in_default, else-loop-left-test}
 use Rattle.edd_port.proofs.session.Session.execute.Goals as goal
@@ -37,12 +39,12 @@ done c = ends _ _ _ _ _ c.loop-left.invariant.advances (over c)
 
 -- the outcome of the session as it was is that of its first machine
 same : (c : goal.After-self-1) → advanced c.args.self.now c.args.budget
-    ≡ execute (environment c.loop-left.self-inside.image.now) c.args.budget
+    ≡ execute_in (contents_in c.loop-left.self-inside.image.now) c.args.budget
     (state_of c.loop-left.self-inside.image.now c.self.inside.machine) []
 same c =
     sym (ap (λ (r : Run). advanced r c.args.budget) c.self.view_is)
-    ∙ ap (λ (b : List ℕ). execute (environment b) c.args.budget (state_of b c.self.inside.machine)
-    []) (sym (ap (λ i. i.now) c.loop-left.invariant.image))
+    ∙ ap (λ (b : List ℕ). execute_in (contents_in b) c.args.budget
+    (state_of b c.self.inside.machine) []) (sym (ap (λ i. i.now) c.loop-left.invariant.image))
 
 pub returns-clause-state : goal.returns-clause-state
 returns-clause-state c = (done c).state ∙ sym (ap (λ (o : Outcome). o.state) (same c))
