@@ -72,6 +72,9 @@ c { MEMBERS { x, a; } }
 VARIABLE a { TYPE INTEGER; }
 COLLECTION OF VARIABLE c { MEMBERS { x, a; } }
 MENU m { ITEMS { c.x } }
+@
+COLLECTION OF METHOD c { MEMBERS { x, m; } }
+METHOD m { DEFINITION { add_abort_method(c.x); } }
 @ 3 r unused-item
 VARIABLE a { TYPE INTEGER; }
 ARRAY OF VARIABLE r { ELEMENTS { 1, a; } }

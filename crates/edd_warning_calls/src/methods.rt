@@ -87,6 +87,10 @@ do { a = 1; } while (send_command(3) + 1 > 0 || 1);
 for (;;) { for (;;) { abort(); } }
 @ 4 while endless-loop
 while (1) { a = r[1]; }
+@ 4 while endless-loop
+while (1) { add_abort_method(m); }
+@
+add_abort_method(m); if (add_abort_method(m)) a = 1;
 @
 while (r[1]) { a = r[a]; }
 @
