@@ -47,8 +47,10 @@ argument_uses_split scope kinds (Value e) xs =
     (sym (append-nil (uses_among scope kinds e)))
 
 module _ (at : Meanings) (plain : Path → Option Target) where
-  first_then : (y : Argument Path) (rest : Arguments Path) → resolved_arguments at plain (Cons y rest)
-      ≡ (resolved_argument at plain y >>= (λ w. resolved_arguments at plain rest >>= (λ r. Some (Cons w r))))
+  first_then : (y : Argument Path) (rest : Arguments Path)
+      → resolved_arguments at plain (Cons y rest)
+      ≡ (resolved_argument at plain y
+      >>= (λ w. resolved_arguments at plain rest >>= (λ r. Some (Cons w r))))
   unfolding resolved_by
   first_then (Text text) rest = refl
   first_then (Value e) rest = regroup (resolved_by at plain e) (λ x. Value x)
@@ -58,7 +60,8 @@ module _ (at : Meanings) (plain : Path → Option Target) where
       (ws : List (Argument Target)) → resolved_argument at plain y ≡ Some w
       → resolved_arguments at plain (arguments_from ys) ≡ Some (arguments_from ws)
       → resolved_arguments at plain (arguments_from (y ∷ ys)) ≡ Some (arguments_from (w ∷ ws))
-  arguments_joined y ys w ws f g = first_then y (arguments_from ys) ∙ bound (resolved_argument at plain y)
+  arguments_joined y ys w ws f g = first_then y (arguments_from ys)
+      ∙ bound (resolved_argument at plain y)
       (resolved_arguments at plain (arguments_from ys)) (λ w r. Cons w r) w (arguments_from ws) f g
 
   pub no_arguments : resolved_arguments at plain (arguments_from []) ≡ Some (arguments_from [])
@@ -75,27 +78,32 @@ module _ (unit : Description Path) (x : code.Expr code_path.Path) (line : ℕ) (
 
   pub call_none : (scope : Scope) (kinds : List Kind)
       → NoFault unit (OfFunction (path_of p)
-      ∷ argument_uses scope (argument_kinds (path_of p)) (arguments_from (map (argument_of path_of) items)))
+      ∷ argument_uses scope (argument_kinds (path_of p))
+      (arguments_from (map (argument_of path_of) items)))
       → NoFault unit (uses_among scope kinds (expr_of path_of x))
   call_none scope kinds h = subst (λ t. NoFault unit (uses_among scope kinds t)) (sym call) h
 
   pub call_fault : (scope : Scope) (kinds : List Kind) (f : NameFault)
       → FirstFault f unit (OfFunction (path_of p)
-      ∷ argument_uses scope (argument_kinds (path_of p)) (arguments_from (map (argument_of path_of) items)))
+      ∷ argument_uses scope (argument_kinds (path_of p))
+      (arguments_from (map (argument_of path_of) items)))
       → FirstFault f unit (uses_among scope kinds (expr_of path_of x))
-  call_fault scope kinds f h = subst (λ t. FirstFault f unit (uses_among scope kinds t)) (sym call) h
+  call_fault scope kinds f h =
+      subst (λ t. FirstFault f unit (uses_among scope kinds t)) (sym call) h
 
   pub call_means : (at : Meanings) (plain : Path → Option Target) (t : Target)
       (w : Vec (code_argument.Argument Target) alloc.Global)
       → Means unit (function_meant (path_of p)) t
-      → Means unit (resolved_arguments at (at.argument (path_of p)) (arguments_from (map (argument_of path_of) items)))
+      → Means unit (resolved_arguments at (at.argument (path_of p))
+      (arguments_from (map (argument_of path_of) items)))
       (arguments_from (map numbered_argument w.items))
       → Means unit (resolved_by at plain (expr_of path_of x)) (numbered_expr (e.Call line t w))
   unfolding Means resolved_by
   call_means at plain t w h k = λ known.
       ap (resolved_by at plain) call
       ∙ bound (function_meant (path_of p))
-      (resolved_arguments at (at.argument (path_of p)) (arguments_from (map (argument_of path_of) items)))
+      (resolved_arguments at (at.argument (path_of p))
+      (arguments_from (map (argument_of path_of) items)))
       (λ f r. Call f r) t (arguments_from (map numbered_argument w.items)) (h known) (k known)
       ∙ ap (λ y. Some y) (sym (call_is (λ r. r) (e.Call line t w) line t w refl))
 

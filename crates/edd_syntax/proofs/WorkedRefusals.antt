@@ -239,7 +239,8 @@ variable_for_method = refl
 
 -- `add_abort_method((m));`: only a plain reference names a method
 method_inside_argument : refusal
-    (with_method (adds (Parentheses (Reference (named (codes "m")))))) ≡ Some (WrongKind (codes "m"))
+    (with_method (adds (Parentheses (Reference (named (codes "m"))))))
+    ≡ Some (WrongKind (codes "m"))
 unfolding slots_of
 method_inside_argument = refl
 

@@ -1,5 +1,5 @@
--- Whether an image of a description needs the second version of the layout: where there is an array,
--- or where a method names add_abort_method, also in code that is never reached.
+-- Whether an image of a description needs the second version of the layout: where there is an
+-- array, or where a method names add_abort_method, also in code that is never reached.
 use Rattle.std.specs.Prelude.{Bool, true, false, List, ◌||◌, nat_lt}
 use Rattle.std.specs.List.{list_any}
 use Rattle.edd_syntax.specs.declared.numbers.Kind.TheVariants as kind

@@ -17,15 +17,18 @@ use Rattle.edd_names.proofs.exprs.+exprs.Goals as goal
 pub add_arguments-loop-argument-init : goal.add_arguments-loop-argument-init
 add_arguments-loop-argument-init t c = at_start (description_of c.args.names.now)
     (argument_of path_of)
-    numbered_argument (λ xs. argument_uses (scope_of c.args.scope.now) c.args.kinds.now (arguments_from xs))
+    numbered_argument
+    (λ xs. argument_uses (scope_of c.args.scope.now) c.args.kinds.now (arguments_from xs))
     (argument_uses_split (scope_of c.args.scope.now) c.args.kinds.now)
     (resolved_argument (at_scope (description_of c.args.names.now) (scope_of c.args.scope.now))
-    (meaning (description_of c.args.names.now) (scope_of c.args.scope.now) c.args.kinds.now)) (λ xs. resolved_arguments
+    (meaning (description_of c.args.names.now) (scope_of c.args.scope.now) c.args.kinds.now))
+    (λ xs. resolved_arguments
     (at_scope (description_of c.args.names.now) (scope_of c.args.scope.now))
     (meaning (description_of c.args.names.now) (scope_of c.args.scope.now) c.args.kinds.now)
     (arguments_from xs)) arguments_from
     (arguments_joined (at_scope (description_of c.args.names.now) (scope_of c.args.scope.now))
-    (meaning (description_of c.args.names.now) (scope_of c.args.scope.now) c.args.kinds.now)) c.args.arguments.now c.args.all.now.items c.requires
+    (meaning (description_of c.args.names.now) (scope_of c.args.scope.now) c.args.kinds.now))
+    c.args.arguments.now c.args.all.now.items c.requires
 
 pub add_arguments-loop-argument-preserved : goal.add_arguments-loop-argument-preserved
 add_arguments-loop-argument-preserved t c =
@@ -33,12 +36,14 @@ add_arguments-loop-argument-preserved t c =
     (λ xs. argument_uses (scope_of c.args.scope.now) c.args.kinds.now (arguments_from xs))
     (argument_uses_split (scope_of c.args.scope.now) c.args.kinds.now)
     (resolved_argument (at_scope (description_of c.args.names.now) (scope_of c.args.scope.now))
-    (meaning (description_of c.args.names.now) (scope_of c.args.scope.now) c.args.kinds.now)) (λ xs. resolved_arguments
+    (meaning (description_of c.args.names.now) (scope_of c.args.scope.now) c.args.kinds.now))
+    (λ xs. resolved_arguments
     (at_scope (description_of c.args.names.now) (scope_of c.args.scope.now))
     (meaning (description_of c.args.names.now) (scope_of c.args.scope.now) c.args.kinds.now)
     (arguments_from xs)) arguments_from
     (arguments_joined (at_scope (description_of c.args.names.now) (scope_of c.args.scope.now))
-    (meaning (description_of c.args.names.now) (scope_of c.args.scope.now) c.args.kinds.now)) c.loop-argument.argument-index c.args.arguments.now c.argument-item.result
+    (meaning (description_of c.args.names.now) (scope_of c.args.scope.now) c.args.kinds.now))
+    c.loop-argument.argument-index c.args.arguments.now c.argument-item.result
     c.loop-argument.all.items c.add_argument.new.all.items c.in_ok-add_argument.ensures.sound.0
     (omega arith) c.argument-item.is
     c.in_ok-add_argument.ensures.accepted c.in_ok-add_argument.ensures.sound.2
@@ -52,12 +57,14 @@ add_arguments-returns-in_err-add_argument-clause-refused t c =
     (λ xs. argument_uses (scope_of c.args.scope.now) c.args.kinds.now (arguments_from xs))
     (argument_uses_split (scope_of c.args.scope.now) c.args.kinds.now)
     (resolved_argument (at_scope (description_of c.args.names.now) (scope_of c.args.scope.now))
-    (meaning (description_of c.args.names.now) (scope_of c.args.scope.now) c.args.kinds.now)) (λ xs. resolved_arguments
+    (meaning (description_of c.args.names.now) (scope_of c.args.scope.now) c.args.kinds.now))
+    (λ xs. resolved_arguments
     (at_scope (description_of c.args.names.now) (scope_of c.args.scope.now))
     (meaning (description_of c.args.names.now) (scope_of c.args.scope.now) c.args.kinds.now)
     (arguments_from xs)) arguments_from
     (arguments_joined (at_scope (description_of c.args.names.now) (scope_of c.args.scope.now))
-    (meaning (description_of c.args.names.now) (scope_of c.args.scope.now) c.args.kinds.now)) c.loop-argument.argument-index c.args.arguments.now c.argument-item.result
+    (meaning (description_of c.args.names.now) (scope_of c.args.scope.now) c.args.kinds.now))
+    c.loop-argument.argument-index c.args.arguments.now c.argument-item.result
     c.loop-argument.all.items c.in_err-add_argument.field-0.0 (omega arith) c.argument-item.is
     c.in_err-add_argument.ensures.refused c.loop-argument.invariant)
 
@@ -67,12 +74,14 @@ add_arguments-returns-clause-accepted t c =
     (λ xs. argument_uses (scope_of c.args.scope.now) c.args.kinds.now (arguments_from xs))
     (argument_uses_split (scope_of c.args.scope.now) c.args.kinds.now)
     (resolved_argument (at_scope (description_of c.args.names.now) (scope_of c.args.scope.now))
-    (meaning (description_of c.args.names.now) (scope_of c.args.scope.now) c.args.kinds.now)) (λ xs. resolved_arguments
+    (meaning (description_of c.args.names.now) (scope_of c.args.scope.now) c.args.kinds.now))
+    (λ xs. resolved_arguments
     (at_scope (description_of c.args.names.now) (scope_of c.args.scope.now))
     (meaning (description_of c.args.names.now) (scope_of c.args.scope.now) c.args.kinds.now)
     (arguments_from xs)) arguments_from
     (arguments_joined (at_scope (description_of c.args.names.now) (scope_of c.args.scope.now))
-    (meaning (description_of c.args.names.now) (scope_of c.args.scope.now) c.args.kinds.now)) (no_use (description_of c.args.names.now)) c.loop-argument.argument-index
+    (meaning (description_of c.args.names.now) (scope_of c.args.scope.now) c.args.kinds.now))
+    (no_use (description_of c.args.names.now)) c.loop-argument.argument-index
     c.args.arguments.now c.loop-argument.all.items
     (drop_of_length-le c.args.arguments.now (omega arith)) c.loop-argument.invariant
 
@@ -82,12 +91,14 @@ add_arguments-returns-clause-sound t c =
     (λ xs. argument_uses (scope_of c.args.scope.now) c.args.kinds.now (arguments_from xs))
     (argument_uses_split (scope_of c.args.scope.now) c.args.kinds.now)
     (resolved_argument (at_scope (description_of c.args.names.now) (scope_of c.args.scope.now))
-    (meaning (description_of c.args.names.now) (scope_of c.args.scope.now) c.args.kinds.now)) (λ xs. resolved_arguments
+    (meaning (description_of c.args.names.now) (scope_of c.args.scope.now) c.args.kinds.now))
+    (λ xs. resolved_arguments
     (at_scope (description_of c.args.names.now) (scope_of c.args.scope.now))
     (meaning (description_of c.args.names.now) (scope_of c.args.scope.now) c.args.kinds.now)
     (arguments_from xs)) arguments_from
     (arguments_joined (at_scope (description_of c.args.names.now) (scope_of c.args.scope.now))
-    (meaning (description_of c.args.names.now) (scope_of c.args.scope.now) c.args.kinds.now)) (no_arguments
+    (meaning (description_of c.args.names.now) (scope_of c.args.scope.now) c.args.kinds.now))
+    (no_arguments
     (at_scope (description_of c.args.names.now) (scope_of c.args.scope.now))
     (meaning (description_of c.args.names.now) (scope_of c.args.scope.now) c.args.kinds.now))
     c.loop-argument.argument-index c.args.arguments.now c.loop-argument.all.items

@@ -6,5 +6,6 @@ use Rattle.edd_syntax.proofs.version.in_attributes.Given as goal
 -- no attribute so far names it
 abbrev pub invariant-loop-attribute : goal.invariant-loop-attribute
 invariant-loop-attribute l =
-    holds_from in_attributes in_attribute numbered_attribute attributes_split l.attribute-index l.attributes
+    holds_from in_attributes in_attribute numbered_attribute attributes_split l.attribute-index
+    l.attributes
     ≡ holds_from in_attributes in_attribute numbered_attribute attributes_split 0 l.attributes
