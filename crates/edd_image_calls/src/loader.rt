@@ -1,7 +1,7 @@
 //! Images that are loaded, or refused with their fault.
 
 use crate::using::is_usable;
-use crate::worked::{ARRAY, LABEL, LOOP};
+use crate::worked::{ABORTING, ARRAY, LABEL, LOOP};
 use edd_image::VarKind;
 use edd_loader::{LoadFault, Text, load};
 use edd_syntax::numbers::{ItemNo, MethNo, StrNo, VarNo};
@@ -170,7 +170,13 @@ fn each_byte_set_to_each_value(rt: HostRuntime) -> Result<(), Fail> {
     assert_eq!(rt;
         count_edits(alloc, &ARRAY)?,
         [
-            8465, 0, 1020, 509, 9691, 22354, 812, 0, 1880, 54, 94, 4081, 0
+            8467, 0, 1020, 509, 9691, 22354, 812, 0, 1877, 54, 95, 4081, 0
+        ]
+    );
+    assert_eq!(rt;
+        count_edits(alloc, &ABORTING)?,
+        [
+            7529, 0, 1020, 509, 9691, 19184, 609, 0, 7426, 100, 327, 1035, 0
         ]
     );
     Ok(())
@@ -179,7 +185,12 @@ fn each_byte_set_to_each_value(rt: HostRuntime) -> Result<(), Fail> {
 #[test]
 fn prefixes_are_short(rt: HostRuntime) -> Result<(), Fail> {
     let alloc = rt.alloc();
-    for image in [LOOP.as_slice(), LABEL.as_slice(), ARRAY.as_slice()] {
+    for image in [
+        LOOP.as_slice(),
+        LABEL.as_slice(),
+        ARRAY.as_slice(),
+        ABORTING.as_slice(),
+    ] {
         for length in 0..image.len() {
             let want = if length < 56 {
                 LoadFault::Short

@@ -25,8 +25,17 @@ fn long(bytes: &[u8]) -> u32
     bytes.len().min(4096) as u32
 }
 
-/// The bytes of the image of these parts.
+/// The bytes of the image of these parts, in the first version.
 pub fn image_of(alloc: Global, small: Small) -> Result<Vec<u8>, AllocError> {
+    image_in(alloc, small, 1)
+}
+
+/// The bytes of the image of these parts, in the second version: its header has 8 bytes more.
+pub fn second_image_of(alloc: Global, small: Small) -> Result<Vec<u8>, AllocError> {
+    image_in(alloc, small, 2)
+}
+
+fn image_in(alloc: Global, small: Small, version: u8) -> Result<Vec<u8>, AllocError> {
     let mut rows = Vec::new(alloc);
     let mut units = Vec::new(alloc);
     let mut code = Vec::new(alloc);
@@ -48,14 +57,18 @@ pub fn image_of(alloc: Global, small: Small) -> Result<Vec<u8>, AllocError> {
         code.extend_from_slice(unit)?;
     }
     let count = small.rows.len().min(16) as u32;
-    let total = 56 + long(&rows) + long(&units) + long(&code) + long(&names);
+    let header = if version == 2 { 64 } else { 56 };
+    let total = header + long(&rows) + long(&units) + long(&code) + long(&names);
     let mut bytes = Vec::new(alloc);
-    bytes.extend_from_slice(&[0x45, 0x44, 0x49, 0x31, 0, 1, 0, 0])?;
+    bytes.extend_from_slice(&[0x45, 0x44, 0x49, 0x31, 0, version, 0, 0])?;
     bytes.extend_from_slice(&total.to_be_bytes())?;
     bytes.extend_from_slice(&[0, 0, 0, 1, 0, 0, 0, 2, 0, 0, 0, 3, 0, 0, 0, 4])?;
     bytes.extend_from_slice(&[0, variables, 0, 0, 0, 0, 0, 0, 0, small.methods, 0, 0])?;
     for number in [count, long(&names), long(&code), 0] {
         bytes.extend_from_slice(&number.to_be_bytes())?;
+    }
+    if version == 2 {
+        bytes.extend_from_slice(&[0; 8])?;
     }
     bytes.extend_from_slice(&rows)?;
     bytes.extend_from_slice(&units)?;
