@@ -105,20 +105,22 @@ variable_kinds items = map (λ i. kind_of_type (written_type i.attributes))
 
 -- ---- all sections, in the version of the layout that the description needs
 
-abbrev pub sections : Version → Counts → List VarKind → List NameRow → List AttributeRow → List Element
+abbrev pub sections : Version → Counts → List VarKind → List NameRow → List AttributeRow
+    → List Element
     → (code : List ℕ) → List StringRow → (name_bytes string_bytes : List ℕ) → Sections
-sections version counts variables names attributes elements code strings name_bytes string_bytes = record {
-  version = version;
-  counts = counts;
-  variables = variables;
-  names = names;
-  attributes = attributes;
-  elements = elements;
-  code = code;
-  strings = strings;
-  name_bytes = name_bytes;
-  string_bytes = string_bytes;
-}
+sections version counts variables names attributes elements code strings name_bytes string_bytes =
+    record {
+      version = version;
+      counts = counts;
+      variables = variables;
+      names = names;
+      attributes = attributes;
+      elements = elements;
+      code = code;
+      strings = strings;
+      name_bytes = name_bytes;
+      string_bytes = string_bytes;
+    }
 
 unfoldable pub assembled : Description Target → List Lowered → List Words → Sections
 assembled unit lowered strings = record {

@@ -116,8 +116,8 @@ fn parts_of(
     requires no_elements { version ≡ One → elements.items ≡ [] }
     requires strings_counted { counts.strings ≡ length strings.rows.items }
     ensures { IfOk result (λ parts. sections_of parts
-        ≡ assembly.sections version counts variables.items names.rows.items code.rows.items elements.items
-        code.bytes.items strings.rows.items names.bytes.items strings.bytes.items) }
+        ≡ assembly.sections version counts variables.items names.rows.items code.rows.items
+        elements.items code.bytes.items strings.rows.items names.bytes.items strings.bytes.items) }
 {
     let name_bytes = number_of(names.bytes.len())?;
     let string_bytes = number_of(strings.bytes.len())?;

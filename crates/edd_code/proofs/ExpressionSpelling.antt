@@ -130,7 +130,8 @@ module _ (version : Version) (counts : Counts) (plain : Target → Bool)
 
   item_element_named : (i : ItemNo) → item_is_there counts i ≡ true
       → all_straight (may_stand context) (item_element_block i) ≡ true
-  item_element_named (item_no.Array n) is = and_is (in_attributes version counts n holds_arrays is) is
+  item_element_named (item_no.Array n) is = and_is (in_attributes version counts n holds_arrays is)
+      is
   item_element_named (item_no.Variable v) is = refl
   item_element_named (item_no.Command n) is = refl
   item_element_named (item_no.Menu n) is = refl

@@ -251,8 +251,10 @@ module _ (version : Version) (counts : Counts) (slots : ℕ)
         (λ e x is are second. then_stand is.0 (then_stand is.1.0 (one_stands _ tt refl)))
     call_stands builtin.SaveValues = of_none (CallStands builtin.SaveValues)
         (λ is are second. one_stands _ tt refl)
-    call_stands builtin.IvarValue = of_variable (CallStands builtin.IvarValue) (λ v is are second. is.0)
-    call_stands builtin.LvarValue = of_variable (CallStands builtin.LvarValue) (λ v is are second. is.0)
+    call_stands builtin.IvarValue = of_variable (CallStands builtin.IvarValue)
+        (λ v is are second. is.0)
+    call_stands builtin.LvarValue = of_variable (CallStands builtin.LvarValue)
+        (λ v is are second. is.0)
     call_stands builtin.Iassign = of_variable_number (CallStands builtin.Iassign)
         (λ v e is are second. zero_stands v (variable_there v is.0) is.1.0)
     call_stands builtin.Lassign = of_variable_number (CallStands builtin.Lassign)
@@ -288,8 +290,7 @@ module _ (version : Version) (counts : Counts) (slots : ℕ)
     both_checked left right fit is known second =
         let fits = front_none (call_mismatches false left) (call_mismatches false right) fit in
         let are = and_parts _ _ is in
-        let parts = text_parts (expr_texts left) (expr_texts right) known in
-        (
+        let parts = text_parts (expr_texts left) (expr_texts right) known in (
           (fits.0, are.0, parts.0, λ h. second (or_left (names_it left) (names_it right) h)),
           (fits.1, are.1, parts.1, λ h. second (or_right (names_it left) (names_it right) h)),
         )
@@ -308,8 +309,10 @@ module _ (version : Version) (counts : Counts) (slots : ℕ)
       method_stands b (Indexed array index) fit is known second =
           let are = and_parts _ _ is in
           let front = and_parts _ _ are.0 in
-          then_stand (method_stands false index fit are.1 known second) (element_stands array front.0)
-      method_stands b (Parentheses inner) fit is known second = method_stands false inner fit is known second
+          then_stand (method_stands false index fit are.1 known second)
+          (element_stands array front.0)
+      method_stands b (Parentheses inner) fit is known second =
+          method_stands false inner fit is known second
       method_stands b (Unary op operand) fit is known second =
           then_stand (method_stands false operand fit is known second) (unary_stands op)
       method_stands b (Binary op left right) fit is known second =
@@ -352,7 +355,8 @@ module _ (version : Version) (counts : Counts) (slots : ℕ)
           then_stand (method_stands false value fit are.1 known second) (store_stands to are.0)
       method_stands b (CompoundAssign op to value) fit is known second =
           let are = and_parts _ _ is in
-          then_stand (read_stands to are.0) (then_stand (method_stands false value fit are.1 known second)
+          then_stand (read_stands to are.0)
+          (then_stand (method_stands false value fit are.1 known second)
           (then_stand (operate_stands op) (store_stands to are.0)))
       method_stands b (Increment op to) fit is known second = increment_stands op to is
       method_stands b (Call (Function f) arguments) fit is known second =
@@ -378,8 +382,7 @@ module _ (version : Version) (counts : Counts) (slots : ℕ)
       all_stand (Cons (Value e) rest) fit is known second =
           let parts = front_none (call_mismatches false e) (argument_mismatches rest) fit in
           let are = and_parts _ _ is in
-          let numbers = text_parts (expr_texts e) (argument_texts rest) known in
-          (
+          let numbers = text_parts (expr_texts e) (argument_texts rest) known in (
             method_stands false e parts.0 are.0 numbers.0
                 (λ h. second (or_left (names_it e) (argument_names_it rest) h)),
             all_stand rest parts.1 are.1 numbers.1

@@ -27,38 +27,41 @@ module _ (at : Meanings) where
     keeps plain Decimal e' h = stays nodes Decimal e' h
     keeps plain (Reference from) e' h = made nodes (plain from) Reference e' _ (λ x p. refl) h
     keeps plain (Indexed array index) e' h = made_of_two nodes (at.array array)
-        (resolved_by at at.reference index) Indexed e' _ (λ x y p q. ap (λ n. 1 + n) (keeps at.reference index y q)) h
-    keeps plain (Parentheses inner) e' h = made nodes (resolved_by at at.reference inner) Parentheses e' _
+        (resolved_expr at index) Indexed e' _
+        (λ x y p q. ap (λ n. 1 + n) (keeps at.reference index y q)) h
+    keeps plain (Parentheses inner) e' h = made nodes (resolved_expr at inner) Parentheses e' _
         (λ x p. ap (λ n. 1 + n) (keeps at.reference inner x p)) h
-    keeps plain (Unary op operand) e' h = made nodes (resolved_by at at.reference operand) (Unary op) e' _
+    keeps plain (Unary op operand) e' h = made nodes (resolved_expr at operand) (Unary op) e' _
         (λ x p. ap (λ n. 1 + n) (keeps at.reference operand x p)) h
     keeps plain (Binary op left right) e' h =
-        made_of_two nodes (resolved_by at at.reference left) (resolved_by at at.reference right) (Binary op) e' _
+        made_of_two nodes (resolved_expr at left) (resolved_expr at right) (Binary op) e' _
         (λ x y p q. omega (arith, keeps at.reference left x p, keeps at.reference right y q)) h
     keeps plain (Compare by left right) e' h =
-        made_of_two nodes (resolved_by at at.reference left) (resolved_by at at.reference right) (Compare by) e' _
+        made_of_two nodes (resolved_expr at left) (resolved_expr at right) (Compare by) e' _
         (λ x y p q. omega (arith, keeps at.reference left x p, keeps at.reference right y q)) h
     keeps plain (LogicalAnd left right) e' h =
-        made_of_two nodes (resolved_by at at.reference left) (resolved_by at at.reference right) LogicalAnd e' _
+        made_of_two nodes (resolved_expr at left) (resolved_expr at right) LogicalAnd e' _
         (λ x y p q. omega (arith, keeps at.reference left x p, keeps at.reference right y q)) h
     keeps plain (LogicalOr left right) e' h =
-        made_of_two nodes (resolved_by at at.reference left) (resolved_by at at.reference right) LogicalOr e' _
+        made_of_two nodes (resolved_expr at left) (resolved_expr at right) LogicalOr e' _
         (λ x y p q. omega (arith, keeps at.reference left x p, keeps at.reference right y q)) h
     keeps plain (Conditional test first second) e' h =
-        made_of_three nodes (resolved_by at at.reference test) (resolved_by at at.reference first)
-        (resolved_by at at.reference second) Conditional e' _
+        made_of_three nodes (resolved_expr at test) (resolved_expr at first)
+        (resolved_expr at second) Conditional e' _
         (λ x y z p q r. omega (
           arith,
           keeps at.reference test x p,
           keeps at.reference first y q,
           keeps at.reference second z r,
         )) h
-    keeps plain (Assign to value) e' h = made_of_two nodes (at.reference to) (resolved_by at at.reference value) Assign e'
+    keeps plain (Assign to value) e' h = made_of_two nodes (at.reference to)
+        (resolved_expr at value) Assign e'
         _ (λ x y p q. ap (λ n. 1 + n) (keeps at.reference value y q)) h
     keeps plain (CompoundAssign op to value) e' h =
-        made_of_two nodes (at.reference to) (resolved_by at at.reference value) (CompoundAssign op) e' _
+        made_of_two nodes (at.reference to) (resolved_expr at value) (CompoundAssign op) e' _
         (λ x y p q. ap (λ n. 1 + n) (keeps at.reference value y q)) h
-    keeps plain (Increment op to) e' h = made nodes (at.reference to) (Increment op) e' _ (λ x p. refl) h
+    keeps plain (Increment op to) e' h = made nodes (at.reference to) (Increment op) e' _
+        (λ x p. refl) h
     keeps plain (Call name arguments) e' h =
         made_of_two nodes (function_meant name) (resolved_arguments at (at.argument name) arguments)
         Call e' _ (λ x y p q. ap (λ n. 1 + n)

@@ -313,7 +313,8 @@ module _ (follow : State → State) (quiet : AsksNothing follow)
           (sym (answer_met unchanged asks_itself env s r asks x rest is k))
           (answer_met follow quiet env s r asks x rest is (o.steps + j)
           ∙ ap (λ (p : Outcome). preceded [] c p) (on t t.status refl (none_stands s x))
-          ∙ same_outcome refl (sym (append_assoc c o.changes (F j (follow o.state) o.answers).changes))
+          ∙ same_outcome refl (sym
+          (append_assoc c o.changes (F j (follow o.state) o.answers).changes))
           refl)
 
   by_live : (k j : ℕ) → ((t : State) (rest : List Answer) → t.status ≡ status.Running

@@ -12,7 +12,8 @@ use Rattle.edd_image.specs.MethodAgreement.{SameOutcome, AgreesOnRuns}
 use Rattle.edd_image.proofs.StaysOver.{stays_over_following}
 
 module _ (string_numbered : StrNo → Option Words) (types : List VariableType) (source : ℕ → List ℤ
-    → List Answer → Transcript) (follow : State → State) (env : Environment) (start : List ℤ → State) where
+    → List Answer → Transcript) (follow : State → State) (env : Environment)
+    (start : List ℤ → State) where
   pub follows_agrees : ((values : List ℤ) (answers : List Answer) → AreDeviceValues types values
       → AllByRecursion (IsValidAnswer types) answers
       → (n : ℕ) → (k : ℕ) × (n ≤ k) × SameOutcome string_numbered (source n values answers)

@@ -326,7 +326,8 @@ module _ (text : StrNo → Option Words) (unit : Description Target) (start_of :
         omega arith,
         subst (λ (x : Outcome). SameOutcome text (transcript run.Aborted s)
             (preceded before s.changes x))
-            (sym (stays (next start_of) (next_asks_nothing start_of) env u s.answers Aborted refl n))
+            (sym (stays (next start_of) (next_asks_nothing start_of) env u s.answers Aborted refl
+            n))
             (record {
               requests = subst (λ (rs : List Request). SameRequests text s.requests rs)
                   (sym (append-nil before)) asked;

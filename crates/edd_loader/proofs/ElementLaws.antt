@@ -72,7 +72,8 @@ keys_rise (r ∷ next ∷ rest) small h (suc i) (suc j) x y lt e f =
 
 -- ---- the rows of bytes
 
-pub taken_below : (n : ℕ) (bytes : List ℕ) → AreBytes bytes → (i : ℕ) → get_or (take n bytes) i 0 < 256
+pub taken_below : (n : ℕ) (bytes : List ℕ) → AreBytes bytes → (i : ℕ) → get_or (take n bytes) i 0
+    < 256
 taken_below zero bytes are i = omega arith
 taken_below (suc n) [] are i = omega arith
 taken_below (suc n) (b ∷ bytes) are zero = are.below 0

@@ -264,7 +264,8 @@ row_between kind attribute item x y small_attribute small_item small small_too l
 abbrev of_attribute : AttrRef → AttributeFields → Bool
 of_attribute ref r = is_row_of ref.item ref.attr r && nat_eq r.sub ref.sub
 
-attribute_found : (b : List ℕ) (ref : AttrRef) (key first : ℕ) → are_rows (contents_in b) ≡ true → AreBytes b
+attribute_found : (b : List ℕ) (ref : AttrRef) (key first : ℕ) → are_rows (contents_in b) ≡ true
+    → AreBytes b
     → key ≡ rank (kind_number (kind_of ref.item)) (attr_number ref.attr) (index_of ref.item) ref.sub
     → ((i : ℕ) → i < first → rank_of (row_at b i) < key)
     → ((i : ℕ) → first ≤ i → i < attribute_count b → key ≤ rank_of (row_at b i))
@@ -389,7 +390,8 @@ module _ (b : List ℕ) (m : MethNo) (first : ℕ) (s : BodySearch b m first) wh
       (omega (arith, inside, s.end)) passes)
 
 -- a row of the bytes ends inside them
-pub row_inside : (b : List ℕ) (row start first : ℕ) → AreSectionsOf b → start ≡ attribute_rows_start b
+pub row_inside : (b : List ℕ) (row start first : ℕ) → AreSectionsOf b → start
+    ≡ attribute_rows_start b
     → first ≤ attribute_count b → (first ≡ attribute_count b → ⊥) → row ≡ start + 16 * first
     → row + 16 ≤ length b
 row_inside b row start first sections s le other r =

@@ -110,7 +110,8 @@ module _ (d : Description Target) (is : ∥ IsChecked d ∥₁) (m : MethNo) whe
     fit = body_fits d typed.0 m;
     low = ∥∥₁_elim is (AllByRecursion-prop _ (λ p. le_prop) _) (λ c. body_is_low d c.is_resolved m);
     few_items = few_when_checked d is;
-    refer = λ counts variables arrays methods. ∥∥₁_elim is (AllByRecursion-prop _ (λ p. Bool-set _ _) _)
+    refer = λ counts variables arrays methods. ∥∥₁_elim is
+        (AllByRecursion-prop _ (λ p. Bool-set _ _) _)
         (λ c. body_refers d c.is_resolved counts variables arrays methods m);
     inside = breaks_inside d typed.1 m;
   }

@@ -107,7 +107,8 @@ module _ (d : Description Target) (m : MethNo) (is : BodyFacts d m) (strings : L
       let slots = is.few_slots in
       all_stand (version_for d) counts (slots_in (body_of d m)) (with_arrays d) strings number refl
       few (omega (arith, variables)) (omega (arith, arrays)) (omega (arith, methods))
-      (omega (arith, slots)) (body_expressions (body_of d m)) is.fit (is.refer counts refl refl refl)
+      (omega (arith, slots)) (body_expressions (body_of d m)) is.fit
+      (is.refer counts refl refl refl)
       known (with_names d m)
 
   pub has_blocks : HasBlocks number (string_of_table strings) (body_of d m)

@@ -55,7 +55,8 @@ module _ (d : Description Target) (checked : ∥ IsChecked d ∥₁) (m : MethNo
   pub texts_when_checked : list_all is_text (body_texts (body_of d m)) ≡ true
   texts_when_checked =
       listed_good (uses_existing (around (counts_of d.identification d.items 0) (slots_in body)))
-      any (body_expressions body) (facts.refer (counts_of d.identification d.items 0) refl refl refl)
+      any (body_expressions body) (facts.refer (counts_of d.identification d.items 0) refl refl
+      refl)
 
   pub few_slots : slots_in (body_of d m) ≤ 64
   few_slots = facts.few_slots

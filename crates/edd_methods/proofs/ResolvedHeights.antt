@@ -46,47 +46,58 @@ module _ (at : Meanings) where
         (same_Some _ e' a.2) (omega arith)
     low_by plain (Indexed array index) e' h =
         let a = bound (at.array array) _ e' h in
-        let b = bound (resolved_by at at.reference index) _ e' a.2 in
-        subst (Low (1 + height index)) (same_Some _ e' b.2) (omega (arith, low_by at.reference index b.0 b.1))
-    low_by plain (Parentheses inner) e' h = let a = bound (resolved_by at at.reference inner) _ e' h in subst
-        (Low (1 + height inner)) (same_Some _ e' a.2) (omega (arith, low_by at.reference inner a.0 a.1))
-    low_by plain (Unary op operand) e' h = let a = bound (resolved_by at at.reference operand) _ e' h in subst
-        (Low (1 + height operand)) (same_Some _ e' a.2) (omega (arith, low_by at.reference operand a.0 a.1))
+        let b = bound (resolved_expr at index) _ e' a.2 in
+        subst (Low (1 + height index)) (same_Some _ e' b.2)
+        (omega (arith, low_by at.reference index b.0 b.1))
+    low_by plain (Parentheses inner) e' h = let a = bound (resolved_expr at inner) _ e' h in subst
+        (Low (1 + height inner)) (same_Some _ e' a.2)
+        (omega (arith, low_by at.reference inner a.0 a.1))
+    low_by plain (Unary op operand) e' h = let a = bound (resolved_expr at operand) _ e' h in subst
+        (Low (1 + height operand)) (same_Some _ e' a.2)
+        (omega (arith, low_by at.reference operand a.0 a.1))
     low_by plain (Binary op left right) e' h =
-        let a = bound (resolved_by at at.reference left) _ e' h in
-        let b = bound (resolved_by at at.reference right) _ e' a.2 in
+        let a = bound (resolved_expr at left) _ e' h in
+        let b = bound (resolved_expr at right) _ e' a.2 in
         subst (Low (1 + max (height left) (height right))) (same_Some _ e' b.2)
         (omega (arith, low_by at.reference left a.0 a.1, low_by at.reference right b.0 b.1))
     low_by plain (Compare by left right) e' h =
-        let a = bound (resolved_by at at.reference left) _ e' h in
-        let b = bound (resolved_by at at.reference right) _ e' a.2 in
+        let a = bound (resolved_expr at left) _ e' h in
+        let b = bound (resolved_expr at right) _ e' a.2 in
         subst (Low (1 + max (height left) (height right))) (same_Some _ e' b.2)
         (omega (arith, low_by at.reference left a.0 a.1, low_by at.reference right b.0 b.1))
     low_by plain (LogicalAnd left right) e' h =
-        let a = bound (resolved_by at at.reference left) _ e' h in
-        let b = bound (resolved_by at at.reference right) _ e' a.2 in
+        let a = bound (resolved_expr at left) _ e' h in
+        let b = bound (resolved_expr at right) _ e' a.2 in
         subst (Low (1 + max (height left) (height right))) (same_Some _ e' b.2)
         (omega (arith, low_by at.reference left a.0 a.1, low_by at.reference right b.0 b.1))
     low_by plain (LogicalOr left right) e' h =
-        let a = bound (resolved_by at at.reference left) _ e' h in
-        let b = bound (resolved_by at at.reference right) _ e' a.2 in
+        let a = bound (resolved_expr at left) _ e' h in
+        let b = bound (resolved_expr at right) _ e' a.2 in
         subst (Low (1 + max (height left) (height right))) (same_Some _ e' b.2)
         (omega (arith, low_by at.reference left a.0 a.1, low_by at.reference right b.0 b.1))
     low_by plain (Conditional test first second) e' h =
-        let a = bound (resolved_by at at.reference test) _ e' h in
-        let b = bound (resolved_by at at.reference first) _ e' a.2 in
-        let c = bound (resolved_by at at.reference second) _ e' b.2 in
+        let a = bound (resolved_expr at test) _ e' h in
+        let b = bound (resolved_expr at first) _ e' a.2 in
+        let c = bound (resolved_expr at second) _ e' b.2 in
         subst (Low (1 + max (height test) (max (height first) (height second))))
         (same_Some _ e' c.2)
-        (omega (arith, low_by at.reference test a.0 a.1, low_by at.reference first b.0 b.1, low_by at.reference second c.0 c.1))
+        (omega (
+          arith,
+          low_by at.reference test a.0 a.1,
+          low_by at.reference first b.0 b.1,
+          low_by
+              at.reference second c.0 c.1,
+        ))
     low_by plain (Assign to value) e' h =
         let a = bound (at.reference to) _ e' h in
-        let b = bound (resolved_by at at.reference value) _ e' a.2 in
-        subst (Low (1 + height value)) (same_Some _ e' b.2) (omega (arith, low_by at.reference value b.0 b.1))
+        let b = bound (resolved_expr at value) _ e' a.2 in
+        subst (Low (1 + height value)) (same_Some _ e' b.2)
+        (omega (arith, low_by at.reference value b.0 b.1))
     low_by plain (CompoundAssign op to value) e' h =
         let a = bound (at.reference to) _ e' h in
-        let b = bound (resolved_by at at.reference value) _ e' a.2 in
-        subst (Low (1 + height value)) (same_Some _ e' b.2) (omega (arith, low_by at.reference value b.0 b.1))
+        let b = bound (resolved_expr at value) _ e' a.2 in
+        subst (Low (1 + height value)) (same_Some _ e' b.2)
+        (omega (arith, low_by at.reference value b.0 b.1))
     low_by plain (Increment op to) e' h = let a = bound (at.reference to) _ e' h in subst (Low 1)
         (same_Some _ e' a.2) (omega arith)
     low_by plain (Call name arguments) e' h =
@@ -98,10 +109,12 @@ module _ (at : Meanings) where
     arguments_low : (plain : Path → Option Target) (arguments : Arguments Path)
         (others : Arguments Target) → resolved_arguments at plain arguments ≡ Some others
         → AreLow (argument_height arguments) others
-    arguments_low plain expr.Nil others h = subst (AreLow 0) (same_Some expr.Nil others h) (omega arith)
+    arguments_low plain expr.Nil others h = subst (AreLow 0) (same_Some expr.Nil others h)
+        (omega arith)
     arguments_low plain (expr.Cons (expr.Text text) rest) others h =
         let a = bound (resolved_arguments at plain rest) _ others h in
-        subst (AreLow (argument_height rest)) (same_Some _ others a.2) (arguments_low plain rest a.0 a.1)
+        subst (AreLow (argument_height rest)) (same_Some _ others a.2)
+        (arguments_low plain rest a.0 a.1)
     arguments_low plain (expr.Cons (expr.Value e) rest) others h =
         let a = bound (resolved_by at plain e) _ others h in
         let b = bound (resolved_arguments at plain rest) _ others a.2 in

@@ -44,7 +44,8 @@ module _ (unit : Description Path) (context : Context)
   part_at e scope e' below is h = (
     expr_good (at_scope unit scope) (uses_existing context)
         (meant_there unit context variables arrays methods variable_kinds scope below)
-        (λ name. meant_there unit context variables arrays methods (argument_kinds name) scope below)
+        (λ name. meant_there unit context variables arrays methods (argument_kinds name) scope
+        below)
         (array_there unit context variables arrays methods scope) e e' is h,
     tt,
   )
