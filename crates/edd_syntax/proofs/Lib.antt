@@ -19,6 +19,7 @@ pub mod TreeRows
 pub mod RunsStay
 pub mod StableOrder
 pub mod TurnLaws
+pub mod WorkedAborts
 pub mod WorkedAttributes
 pub mod WorkedChecked
 pub mod WorkedGrammar
