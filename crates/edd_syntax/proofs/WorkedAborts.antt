@@ -133,25 +133,25 @@ none_runs = refl
 -- `u` is `x = 1 / 0;`
 traps_inside : runs (source (eval (Assign x (Binary Divide (Literal 1) (Literal 0))) ∷ [])
     (send 3 ∷ []) (eval (add 0) ∷ aborts ∷ [])) [] ≡ record {
-  requests = [];
-  changes = [];
-  values = pos 0 ∷ [];
-  abort_methods = [];
-  answers = [];
-  ending = Trapped DivZero;
-}
+      requests = [];
+      changes = [];
+      values = pos 0 ∷ [];
+      abort_methods = [];
+      answers = [];
+      ending = Trapped DivZero;
+    }
 unfolding run run_listed execute evaluate call wrap operate
 traps_inside = refl
 
 -- `u` is `x = add_abort_method(v);`, and `v` isn't run
 lists_none_inside : runs (source (eval (Assign x (add 1)) ∷ []) (send 3 ∷ [])
     (eval (add 0) ∷ aborts ∷ [])) [] ≡ record {
-  requests = [];
-  changes = record { variable = record { 0 = 0 }; value = negsuc 0 } ∷ [];
-  values = negsuc 0 ∷ [];
-  abort_methods = [];
-  answers = [];
-  ending = Aborted;
-}
+      requests = [];
+      changes = record { variable = record { 0 = 0 }; value = negsuc 0 } ∷ [];
+      values = negsuc 0 ∷ [];
+      abort_methods = [];
+      answers = [];
+      ending = Aborted;
+    }
 unfolding run run_listed execute evaluate call wrap store operate
 lists_none_inside = refl
