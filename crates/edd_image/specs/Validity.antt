@@ -158,7 +158,7 @@ placed_unit c r = record {
 abbrev pub units : Contents → List PlacedUnit
 units c = map (placed_unit c) c.attributes
 
--- the method has a body
+-- the method has a body: a row DEFINITION
 abbrev pub has_body : Contents → MethNo → Bool
 has_body c m = list_any (λ r. r.kind == kind_number kinds.Method && (is_body r && r.item == m.0))
     c.attributes
@@ -168,14 +168,17 @@ abbrev pub adds_with_body : Contents → Instruction → Bool
 adds_with_body c (instruction.AddAbortMethod m) = has_body c m
 adds_with_body c _ = true
 
+-- so do all instructions of all units
 abbrev pub all_add_with_body : Contents → Bool
 all_add_with_body c = list_all (λ u. list_all (λ x. adds_with_body c x.instruction)
     (instructions u.code)) (units c)
 
+-- each unit keeps the rule by itself
 abbrev pub EachUnitKeeps : Contents → UnitRule → Type 0
 EachUnitKeeps c which = AllByRecursion (λ u. UnitKeeps u.context u.code which) (units c)
 
--- each unit keeps the rule; what units name exists, and an abort method that one adds has a body
+-- the units keep the rule; that on references also asks that each abort method that one adds has a
+-- body
 abbrev pub UnitsKeep : Contents → UnitRule → Type 0
 UnitsKeep c unit_rule.Chain = EachUnitKeeps c unit_rule.Chain
 UnitsKeep c unit_rule.Jump = EachUnitKeeps c unit_rule.Jump

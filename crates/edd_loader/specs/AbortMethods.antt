@@ -5,6 +5,7 @@ use Rattle.edd_image.specs.Contents.{AttributeFields, Contents, part}
 use Rattle.edd_image.specs.Units.{instructions}
 use Rattle.edd_image.specs.Validity.{adds_with_body, is_body}
 
+-- each instruction of the unit does so
 abbrev pub unit_adds_with_body : Contents → (unit : List ℕ) → Bool
 unit_adds_with_body c unit = list_all (λ x. adds_with_body c x.instruction) (instructions unit)
 

@@ -2,7 +2,7 @@
 use Rattle.std.specs.Prelude.{ℕ, ◌++◌, Bool, ◌||◌, nat_le, List, [], ◌∷◌, length, Option, Some, None, if◌then◌else◌}
 use Rattle.edd_syntax.specs.declared.numbers.MethNo.{MethNo}
 
--- a list holds at most so many
+-- a list holds at most so many (this profile)
 abbrev pub abort_method_limit : ℕ
 abort_method_limit = 8
 

@@ -12,11 +12,12 @@ use Rattle.edd_syntax.specs.Item.{Description}
 use Rattle.edd_syntax.specs.Resolution.{count_of}
 use Rattle.edd_syntax.specs.SubsetRules.{Placed, body_expressions, bodies_of}
 
+-- it is the function that lists abort methods
 abbrev pub is_add_abort_method : Target → Bool
 is_add_abort_method (Function builtin.AddAbortMethod) = true
 is_add_abort_method _ = false
 
--- whether an expression names add_abort_method
+-- whether an expression, or one of its arguments, names that function
 abbrev mutual
   pub names_it : Expr Target → Bool
   names_it (Literal value) = false
@@ -41,12 +42,15 @@ abbrev mutual
   argument_names_it (expr.Cons (expr.Text text) rest) = argument_names_it rest
   argument_names_it (expr.Cons (expr.Value e) rest) = names_it e || argument_names_it rest
 
+-- whether one of these expressions does
 abbrev pub one_names_it : List (Placed Target) → Bool
 one_names_it = list_any (λ p. names_it p.expression)
 
+-- whether an expression of a method's body does
 abbrev pub body_names_it : Body Target → Bool
 body_names_it body = one_names_it (body_expressions body)
 
+-- the first version has neither arrays nor abort methods (this profile)
 abbrev pub needs_second_version : Description Target → Bool
 needs_second_version unit =
     nat_lt 0 (count_of kind.Array unit.items) || list_any body_names_it (bodies_of unit)

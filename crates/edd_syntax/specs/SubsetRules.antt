@@ -159,6 +159,7 @@ abbrev pub is_device_variable : Argument Target → Bool
 is_device_variable (expr.Value (Reference (Item (item_no.Variable v)))) = true
 is_device_variable _ = false
 
+-- a plain reference to a METHOD
 abbrev pub is_method : Argument Target → Bool
 is_method (expr.Value (Reference (Item (item_no.Method m)))) = true
 is_method _ = false
