@@ -11,7 +11,7 @@ use Rattle.edd_image.specs.Execution.{Ending, OutOfSteps, Outcome, Meeting, answ
 
 -- ---- outcomes
 
-same_outcome : {r r' : List Request} {c c' : List Change} {s : State} {left : List Answer}
+pub same_outcome : {r r' : List Request} {c c' : List Change} {s : State} {left : List Answer}
     {e : Ending} {n n' : ℕ} → r ≡ r' → c ≡ c' → n ≡ n'
     → ◌≡◌ {A = Outcome} (record {
       requests = r;
@@ -55,7 +55,7 @@ runs_at status.Aborted never e = absurd cc
 runs_at (status.Trapped why) never e = absurd cc
 
 -- behind an answer no request stands
-none_stands : (s : State) (answer : Answer) (r : Request) → (answered s answer).state.status
+pub none_stands : (s : State) (answer : Answer) (r : Request) → (answered s answer).state.status
     ≡ status.Asking r → ⊥
 none_stands s (Go code sets) r e = cc
 none_stands s Abort r e = cc

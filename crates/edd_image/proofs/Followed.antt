@@ -1,43 +1,19 @@
 -- A run in which something follows, cut where what ran alone comes to a rest.
 use Rattle.std.proofs.Common.{◌≡◌, refl, sym, ap, subst, ◌∙◌, ℕ, zero, suc, ◌+◌, List, [], ◌∷◌, ◌++◌, Option, Some, None, append_assoc, append-nil, arith, zero-add}
 use Rattle.std.specs.Prelude.{unwrap_or}
-use Rattle.edd_syntax.specs.Answers.{Change, Answer, Go, Abort, SetFault, answer_fault}
+use Rattle.edd_syntax.specs.Answers.{Change, Answer, SetFault, answer_fault}
 use Rattle.edd_image.specs.declared.records.Request.{Request}
 use Rattle.edd_image.specs.declared.records.Status.{Status}
 use Rattle.edd_image.specs.declared.records.Status.TheVariants as status
 use Rattle.edd_image.specs.Steps.{State, Environment, Effect, step}
 use Rattle.edd_image.specs.Execution.{Ending, Ended, Aborted, Trapped, Waiting, OutOfSteps, Bad, Stuck, Outcome, Meeting, answered, over_at, after_answer, nothing_met, meet_by, meet, closed, request_in, preceded, stepped, go_on, unchanged, execute_following, AsksNothing}
+use Rattle.edd_image.proofs.Cutting.{same_outcome, none_stands}
 
 -- one outcome behind another
 abbrev pub followed : Outcome → Outcome → Outcome
 followed o rest = record (preceded o.requests o.changes rest) { steps = o.steps + rest.steps }
 
-same_outcome : {r r' : List Request} {c c' : List Change} {s : State} {left : List Answer}
-    {e : Ending} {n n' : ℕ} → r ≡ r' → c ≡ c' → n ≡ n'
-    → ◌≡◌ {A = Outcome} (record {
-      requests = r;
-      changes = c;
-      state = s;
-      answers = left;
-      ending = e;
-      steps = n;
-    }) (record {
-      requests = r';
-      changes = c';
-      state = s;
-      answers = left;
-      ending = e;
-      steps = n';
-    })
-same_outcome p q t = cc
-
 -- ---- an answer
-
--- behind an answer no request stands
-none_stands : (s : State) (answer : Answer) (r : Request) → (answered s answer).state.status
-    ≡ status.Asking r → ⊥
-none_stands s (Go code sets) r e = cc
-none_stands s Abort r e = cc
 
 -- what comes of a meeting with changes is what comes of it without, behind them
 changes_first : (c : List Change) (t : State) (rest : List Answer) (o : Option Ending)
