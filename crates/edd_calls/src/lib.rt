@@ -2,6 +2,8 @@
 #![tactic(auto)]
 
 #[cfg(test)]
+mod aborting;
+#[cfg(test)]
 mod attributes;
 #[cfg(test)]
 mod compiler;

@@ -11,12 +11,14 @@ use edd_syntax::numbers::{Attr, ItemNo, MethNo, StrNo, VarNo};
 use std::alloc::{AllocError, Global};
 use std::test::Fail;
 
-fn compiled(alloc: Global, items: &str) -> Result<Vec<u8>, Fail> {
+/// The image of a description of these items.
+pub fn compiled(alloc: Global, items: &str) -> Result<Vec<u8>, Fail> {
     let text = text_of(alloc, items)?;
     Ok(compile(alloc, text.as_bytes())?)
 }
 
-fn started<'i, 'b>(
+/// A run of the first method under these values.
+pub fn started<'i, 'b>(
     alloc: Global,
     image: &'i Image<'b>,
     numbers: &[i64],
@@ -145,8 +147,8 @@ const COMMANDS: [(&str, &[i32]); 6] = [
     ),
 ];
 
-// Whether the requests are these commands.
-fn are_commands(requests: &[Request], numbers: &[i32]) -> bool {
+/// Whether the requests are these commands.
+pub fn are_commands(requests: &[Request], numbers: &[i32]) -> bool {
     if requests.len() != numbers.len() {
         return false;
     }
