@@ -3,6 +3,7 @@
 //! last one, and the program prints `no memory` and ends with status 4.
 #![tactic(auto)]
 
+mod aborting;
 mod host;
 mod runs;
 mod stop;
@@ -37,5 +38,6 @@ fn calls(rt: HostRuntime) -> Result<(), Stop> {
     texts::print_elements(rt)?;
     runs::print_values(rt)?;
     runs::print_plays(rt)?;
-    runs::print_drives(rt)
+    runs::print_drives(rt)?;
+    aborting::print_aborted(rt)
 }
