@@ -1,10 +1,3 @@
-pub mod BranchSteps
-pub mod Copying
-pub mod CopyingIn
-pub mod DeclaratorSteps
-pub mod ExprSteps
 pub mod ItemSteps
 pub mod MemberLaws
 pub mod ResolvingLaws
-pub mod StatementSteps
-pub mod UseLaws

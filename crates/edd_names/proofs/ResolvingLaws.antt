@@ -15,7 +15,7 @@ use Rattle.edd_names.specs.Units.{unit_view}
 use Rattle.edd_name_rules.specs.Walks.{described}
 use Rattle.edd_syntax.proofs.FirstLaws.{first_of-append_none}
 use Rattle.edd_names.proofs.MemberLaws.{all_named}
-use Rattle.edd_names.proofs.UseLaws.{first_left_of, first_right_of}
+use Rattle.edd_expression_names.proofs.UseLaws.{first_left_of, first_right_of}
 use Rattle.edd_syntax.specs.declared.limits.Limit.TheVariants as limit
 use Rattle.edd_syntax.specs.declared.item.Item as code_item
 use Rattle.edd_syntax.specs.declared.reference.Path as code_path

@@ -1,3 +1,2 @@
-pub mod Copies
-pub mod ResolvedParts
+pub mod MemberUses
 pub mod Units

@@ -8,14 +8,14 @@ ghost use Rattle.edd_syntax.specs.NameUses.{type_part_uses, transaction_part_use
 ghost use Rattle.edd_syntax.specs.ResolvedTrees.{each, resolved_type_part, resolved_transaction_part, resolved_member, resolved_element};
 ghost use Rattle.edd_syntax.specs.TreeView.{path_of};
 ghost use Rattle.edd_name_meanings.specs.Directory.{description_of};
-ghost use Rattle.edd_names.specs.ResolvedParts.{element_uses, member_uses};
+ghost use Rattle.edd_names.specs.MemberUses.{element_uses, member_uses};
 ghost use Rattle.edd_name_meanings.specs.Meanings.{Means};
-ghost use Rattle.edd_names.specs.Copies.{Accepts, Copies, Refuses};
+ghost use Rattle.edd_expression_names.specs.Copies.{Accepts, Copies, Refuses};
 
-use crate::conditionals::{copy_cond, copy_conds};
-use crate::exprs::refer_variable;
-use crate::made::made_of;
-use crate::texts::copy_optional_text;
+use edd_expression_names::conditionals::{copy_cond, copy_conds};
+use edd_expression_names::exprs::refer_variable;
+use edd_expression_names::made_of;
+use edd_expression_names::texts::copy_optional_text;
 use edd_name_meanings::directory::Names;
 use edd_name_meanings::fault::NameFault;
 use edd_name_meanings::references::refer;
@@ -23,7 +23,7 @@ use edd_syntax::item::{ArrayElement, Member, TransactionPart, TypePart};
 use edd_syntax::numbers::Kind;
 use edd_syntax::reference::{Path, Target};
 
-#[tactic(auto, using(crate::proofs::UseLaws::faults), unfolding(edd_name_meanings::specs::Meanings::Means))]
+#[tactic(auto, using(edd_expression_names::proofs::UseLaws::faults), unfolding(edd_name_meanings::specs::Meanings::Means))]
 fn copy_type_part(type_part: &TypePart<Path>, names: &Names) -> Result<TypePart<Target>, NameFault>
     ensures accepted { Accepts (description_of names.now)
         (type_part_uses (type_part_of path_of type_part.now)) result }
@@ -55,7 +55,7 @@ fn copy_type_part(type_part: &TypePart<Path>, names: &Names) -> Result<TypePart<
     }
 }
 
-#[tactic(auto, using(crate::proofs::UseLaws::faults))]
+#[tactic(auto, using(edd_expression_names::proofs::UseLaws::faults))]
 fn add_type_parts(
     type_parts: &[TypePart<Path>],
     names: &Names,
@@ -78,7 +78,7 @@ fn add_type_parts(
 }
 
 /// The options and elements of a type with the meaning of the names in them.
-#[tactic(auto, using(crate::proofs::UseLaws::faults))]
+#[tactic(auto, using(edd_expression_names::proofs::UseLaws::faults))]
 pub fn copy_type_parts(
     type_parts: &[TypePart<Path>],
     names: &Names,
@@ -96,7 +96,7 @@ pub fn copy_type_parts(
     Ok(copies)
 }
 
-#[tactic(auto, using(crate::proofs::UseLaws::faults), unfolding(edd_name_meanings::specs::Meanings::Means))]
+#[tactic(auto, using(edd_expression_names::proofs::UseLaws::faults), unfolding(edd_name_meanings::specs::Meanings::Means))]
 fn copy_transaction_part(
     transaction_part: &TransactionPart<Path>,
     names: &Names,
@@ -119,7 +119,7 @@ fn copy_transaction_part(
     }
 }
 
-#[tactic(auto, using(crate::proofs::UseLaws::faults))]
+#[tactic(auto, using(edd_expression_names::proofs::UseLaws::faults))]
 fn add_transaction_parts(
     transaction_parts: &[TransactionPart<Path>],
     names: &Names,
@@ -144,7 +144,7 @@ fn add_transaction_parts(
 }
 
 /// The parts of a transaction with the meaning of the names in them.
-#[tactic(auto, using(crate::proofs::UseLaws::faults))]
+#[tactic(auto, using(edd_expression_names::proofs::UseLaws::faults))]
 pub fn copy_transaction_parts(
     transaction_parts: &[TransactionPart<Path>],
     names: &Names,
@@ -165,7 +165,7 @@ pub fn copy_transaction_parts(
     Ok(copies)
 }
 
-#[tactic(auto, using(crate::proofs::UseLaws::faults), unfolding(edd_name_meanings::specs::Meanings::Means))]
+#[tactic(auto, using(edd_expression_names::proofs::UseLaws::faults), unfolding(edd_name_meanings::specs::Meanings::Means))]
 fn copy_member(
     member: &Member<Path>,
     names: &Names,
@@ -190,7 +190,7 @@ fn copy_member(
     })
 }
 
-#[tactic(auto, using(crate::proofs::UseLaws::faults))]
+#[tactic(auto, using(edd_expression_names::proofs::UseLaws::faults))]
 fn add_members(
     members: &[Member<Path>],
     names: &Names,
@@ -213,7 +213,7 @@ fn add_members(
 }
 
 /// Members with the meaning of the names in what they name.
-#[tactic(auto, using(crate::proofs::UseLaws::faults))]
+#[tactic(auto, using(edd_expression_names::proofs::UseLaws::faults))]
 pub fn copy_members(
     members: &[Member<Path>],
     names: &Names,
@@ -232,7 +232,7 @@ pub fn copy_members(
     Ok(copies)
 }
 
-#[tactic(auto, using(crate::proofs::UseLaws::faults), unfolding(edd_name_meanings::specs::Meanings::Means))]
+#[tactic(auto, using(edd_expression_names::proofs::UseLaws::faults), unfolding(edd_name_meanings::specs::Meanings::Means))]
 fn copy_element(
     element: &ArrayElement<Path>,
     names: &Names,
@@ -256,7 +256,7 @@ fn copy_element(
     })
 }
 
-#[tactic(auto, using(crate::proofs::UseLaws::faults))]
+#[tactic(auto, using(edd_expression_names::proofs::UseLaws::faults))]
 fn add_elements(
     elements: &[ArrayElement<Path>],
     names: &Names,
@@ -279,7 +279,7 @@ fn add_elements(
 }
 
 /// The elements of an array with the meaning of the names of their variables.
-#[tactic(auto, using(crate::proofs::UseLaws::faults))]
+#[tactic(auto, using(edd_expression_names::proofs::UseLaws::faults))]
 pub fn copy_elements(
     elements: &[ArrayElement<Path>],
     names: &Names,

@@ -11,17 +11,17 @@ ghost use Rattle.edd_syntax.specs.TreeView.{path_of, part_of, numbered_part};
 ghost use Rattle.edd_name_meanings.specs.declared.fault.NameFault.TheVariants.{Memory};
 ghost use Rattle.edd_name_meanings.specs.Directory.{description_of};
 ghost use Rattle.edd_name_meanings.specs.Meanings.{Means};
-ghost use Rattle.edd_names.specs.ResolvedParts.{member_uses};
+ghost use Rattle.edd_names.specs.MemberUses.{member_uses};
 ghost use Rattle.edd_name_rules.specs.Spending.{locals_in};
-ghost use Rattle.edd_names.specs.Copies.{Accepts, Copies, Refuses};
+ghost use Rattle.edd_expression_names.specs.Copies.{Accepts, Copies, Refuses};
 
 use crate::braces::{copy_elements, copy_members, copy_transaction_parts, copy_type_parts};
-use crate::conditionals::{copy_cond, copy_conds};
-use crate::made::made_of;
-use crate::statements::copy_body;
 use crate::texts::{copy_responses, copy_words};
+use edd_expression_names::conditionals::{copy_cond, copy_conds};
+use edd_expression_names::made_of;
 use edd_name_meanings::directory::Names;
 use edd_name_meanings::fault::NameFault;
+use edd_statement_names::statements::copy_body;
 use edd_syntax::item::{Attribute, Item, Member, TypeWord};
 use edd_syntax::reference::{Path, Target};
 use edd_syntax::stmt::Part;
@@ -41,7 +41,7 @@ fn copy_type_word(word: &TypeWord, alloc: Global) -> Result<TypeWord, NameFault>
 }
 
 // The body of a method, whose locals take the slots from 0 on.
-#[tactic(auto, using(crate::proofs::UseLaws::faults))]
+#[tactic(auto, using(edd_expression_names::proofs::UseLaws::faults))]
 fn copy_definition(parts: &[Part<Path>], names: &Names) -> Result<Vec<Part<Target>>, NameFault>
     requires { slots_in (body_from (map (part_of path_of) parts.now)) ≤ 64 }
     ensures accepted { Accepts (description_of names.now)
@@ -57,7 +57,7 @@ fn copy_definition(parts: &[Part<Path>], names: &Names) -> Result<Vec<Part<Targe
 }
 
 // The members of an item: those of a collection are of the kind after OF.
-#[tactic(auto, using(crate::proofs::UseLaws::faults))]
+#[tactic(auto, using(edd_expression_names::proofs::UseLaws::faults))]
 fn copy_members_of(
     item: &Item<Path>,
     members: &[Member<Path>],
@@ -81,7 +81,7 @@ fn copy_members_of(
     }
 }
 
-#[tactic(auto, using(crate::proofs::UseLaws::faults), unfolding(edd_name_meanings::specs::Meanings::Means))]
+#[tactic(auto, using(edd_expression_names::proofs::UseLaws::faults), unfolding(edd_name_meanings::specs::Meanings::Means))]
 fn copy_attribute(
     attribute: &Attribute<Path>,
     names: &Names,
@@ -133,7 +133,7 @@ fn copy_attribute(
     }
 }
 
-#[tactic(auto, using(crate::proofs::UseLaws::faults))]
+#[tactic(auto, using(edd_expression_names::proofs::UseLaws::faults))]
 fn add_attributes(
     attributes: &[Attribute<Path>],
     names: &Names,
@@ -160,7 +160,7 @@ fn add_attributes(
 }
 
 /// The attributes of an item with the meaning of their names.
-#[tactic(auto, using(crate::proofs::UseLaws::faults))]
+#[tactic(auto, using(edd_expression_names::proofs::UseLaws::faults))]
 pub fn copy_attributes(
     attributes: &[Attribute<Path>],
     names: &Names,

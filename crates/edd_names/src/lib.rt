@@ -2,14 +2,8 @@
 #![tactic(auto)]
 
 mod braces;
-mod conditionals;
-mod declarators;
-mod exprs;
 mod fields;
-mod leaves;
-mod made;
 mod resolving;
-mod statements;
 mod texts;
 mod unit_items;
 

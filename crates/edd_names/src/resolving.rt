@@ -22,7 +22,7 @@ use std::alloc::Global;
 
 // The unit of these names with their meaning, where the rules before those on uses of names are
 // kept.
-#[tactic(auto, using(crate::proofs::UseLaws::memory_refused))]
+#[tactic(auto, using(edd_expression_names::proofs::UseLaws::memory_refused))]
 fn resolve_uses(alloc: Global, names: &Names) -> Result<Resolved, NameFault>
     requires counted { None ≡ first_of (too_many (description_of names.now)) }
     requires kept { None ≡ first_of (too_many (description_of names.now)

@@ -8,7 +8,7 @@ ghost use Rattle.edd_syntax.specs.NameUses.{item_uses};
 ghost use Rattle.edd_syntax.specs.ResolvedTrees.{each, resolved_item};
 ghost use Rattle.edd_syntax.specs.TreeView.{path_of};
 ghost use Rattle.edd_name_meanings.specs.Directory.{description_of};
-ghost use Rattle.edd_names.specs.Copies.{Accepts, Copies, Refuses};
+ghost use Rattle.edd_expression_names.specs.Copies.{Accepts, Copies, Refuses};
 
 use crate::fields::copy_attributes;
 use edd_name_meanings::directory::Names;
@@ -39,7 +39,7 @@ fn like(item: &Item<Path>, name: String, attributes: Vec<Attribute<Target>>) -> 
     }
 }
 
-#[tactic(auto, using(crate::proofs::UseLaws::faults))]
+#[tactic(auto, using(edd_expression_names::proofs::UseLaws::faults))]
 fn copy_item(item: &Item<Path>, names: &Names) -> Result<Item<Target>, NameFault>
     requires { nat_lt local_limit (locals_of (item_of path_of item.now)) ≡ false }
     ensures accepted { Accepts (description_of names.now) (item_uses (item_of path_of item.now))
@@ -54,7 +54,7 @@ fn copy_item(item: &Item<Path>, names: &Names) -> Result<Item<Target>, NameFault
     Ok(like(item, name, attributes))
 }
 
-#[tactic(auto, using(crate::proofs::UseLaws::faults))]
+#[tactic(auto, using(edd_expression_names::proofs::UseLaws::faults))]
 fn add_items(
     items: &[Item<Path>],
     names: &Names,
@@ -78,7 +78,7 @@ fn add_items(
 }
 
 /// The items of a unit with the meaning of their names, where no method has too many locals.
-#[tactic(auto, using(crate::proofs::UseLaws::faults))]
+#[tactic(auto, using(edd_expression_names::proofs::UseLaws::faults))]
 pub fn copy_items(items: &[Item<Path>], names: &Names) -> Result<Vec<Item<Target>>, NameFault>
     requires { list_any (λ i. nat_lt local_limit (locals_of i)) (map (item_of path_of) items.now)
         ≡ false }

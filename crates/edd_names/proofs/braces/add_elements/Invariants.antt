@@ -3,9 +3,9 @@ use Rattle.edd_syntax.specs.ItemView.{array_element_of, numbered_array_element}
 use Rattle.edd_syntax.specs.ResolvedTrees.{each, resolved_element}
 use Rattle.edd_syntax.specs.TreeView.{path_of}
 use Rattle.edd_name_meanings.specs.Directory.{description_of}
-use Rattle.edd_names.specs.ResolvedParts.{element_uses}
-use Rattle.edd_names.proofs.Copying.{Copied}
-use Rattle.edd_names.proofs.ExprSteps.{each_joined}
+use Rattle.edd_names.specs.MemberUses.{element_uses}
+use Rattle.edd_expression_names.proofs.Copying.{Copied}
+use Rattle.edd_expression_names.proofs.ExprSteps.{each_joined}
 use Rattle.edd_syntax.proofs.FirstLaws.{flat_split}
 use Rattle.edd_names.proofs.braces.add_elements.Given as goal
 

@@ -5,13 +5,13 @@ use Rattle.edd_syntax.specs.ItemView.{member_of, numbered_member}
 use Rattle.edd_syntax.specs.ResolvedTrees.{each, resolved_member}
 use Rattle.edd_syntax.specs.TreeView.{path_of}
 use Rattle.edd_name_meanings.specs.Directory.{description_of}
-use Rattle.edd_names.specs.ResolvedParts.{member_uses}
+use Rattle.edd_names.specs.MemberUses.{member_uses}
 use Rattle.edd_name_meanings.specs.Meanings.{NoFault, FirstFault}
-use Rattle.edd_names.proofs.Copying.{at_start, one_more, stops, none_at_end, meant_at_end}
-use Rattle.edd_names.proofs.ExprSteps.{each_joined}
+use Rattle.edd_expression_names.proofs.Copying.{at_start, one_more, stops, none_at_end, meant_at_end}
+use Rattle.edd_expression_names.proofs.ExprSteps.{each_joined}
 use Rattle.edd_syntax.proofs.FirstLaws.{flat_split, flat_one}
 use Rattle.edd_name_rules.proofs.Passing.{passed}
-use Rattle.edd_names.proofs.UseLaws.{no_use}
+use Rattle.edd_expression_names.proofs.UseLaws.{no_use}
 use Rattle.edd_names.proofs.braces.add_members.Goals as goal
 
 pub loop-member-init : goal.loop-member-init

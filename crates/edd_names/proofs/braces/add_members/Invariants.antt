@@ -3,9 +3,9 @@ use Rattle.edd_syntax.specs.ItemView.{member_of, numbered_member}
 use Rattle.edd_syntax.specs.ResolvedTrees.{each, resolved_member}
 use Rattle.edd_syntax.specs.TreeView.{path_of}
 use Rattle.edd_name_meanings.specs.Directory.{description_of}
-use Rattle.edd_names.specs.ResolvedParts.{member_uses}
-use Rattle.edd_names.proofs.Copying.{Copied}
-use Rattle.edd_names.proofs.ExprSteps.{each_joined}
+use Rattle.edd_names.specs.MemberUses.{member_uses}
+use Rattle.edd_expression_names.proofs.Copying.{Copied}
+use Rattle.edd_expression_names.proofs.ExprSteps.{each_joined}
 use Rattle.edd_syntax.proofs.FirstLaws.{flat_split}
 use Rattle.edd_names.proofs.braces.add_members.Given as goal
 

@@ -7,11 +7,11 @@ use Rattle.edd_syntax.specs.ResolvedTrees.{each, resolved_transaction_part}
 use Rattle.edd_syntax.specs.TreeView.{path_of}
 use Rattle.edd_name_meanings.specs.Directory.{description_of}
 use Rattle.edd_name_meanings.specs.Meanings.{NoFault, FirstFault}
-use Rattle.edd_names.proofs.Copying.{at_start, one_more, stops, none_at_end, meant_at_end}
-use Rattle.edd_names.proofs.ExprSteps.{each_joined}
+use Rattle.edd_expression_names.proofs.Copying.{at_start, one_more, stops, none_at_end, meant_at_end}
+use Rattle.edd_expression_names.proofs.ExprSteps.{each_joined}
 use Rattle.edd_syntax.proofs.FirstLaws.{flat_split, flat_one}
 use Rattle.edd_name_rules.proofs.Passing.{passed}
-use Rattle.edd_names.proofs.UseLaws.{no_use}
+use Rattle.edd_expression_names.proofs.UseLaws.{no_use}
 use Rattle.edd_names.proofs.braces.add_transaction_parts.Goals as goal
 
 pub loop-transaction_part-init : goal.loop-transaction_part-init

@@ -4,8 +4,8 @@ use Rattle.edd_syntax.specs.NameUses.{type_part_uses}
 use Rattle.edd_syntax.specs.ResolvedTrees.{each, resolved_type_part}
 use Rattle.edd_syntax.specs.TreeView.{path_of}
 use Rattle.edd_name_meanings.specs.Directory.{description_of}
-use Rattle.edd_names.proofs.Copying.{Copied}
-use Rattle.edd_names.proofs.ExprSteps.{each_joined}
+use Rattle.edd_expression_names.proofs.Copying.{Copied}
+use Rattle.edd_expression_names.proofs.ExprSteps.{each_joined}
 use Rattle.edd_syntax.proofs.FirstLaws.{flat_split}
 use Rattle.edd_names.proofs.braces.add_type_parts.Given as goal
 

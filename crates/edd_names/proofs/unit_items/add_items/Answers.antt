@@ -7,11 +7,11 @@ use Rattle.edd_syntax.specs.ResolvedTrees.{each, resolved_item}
 use Rattle.edd_syntax.specs.TreeView.{path_of}
 use Rattle.edd_name_meanings.specs.Directory.{description_of}
 use Rattle.edd_name_meanings.specs.Meanings.{NoFault, FirstFault}
-use Rattle.edd_names.proofs.Copying.{at_start, one_more, stops, none_at_end, meant_at_end}
-use Rattle.edd_names.proofs.ExprSteps.{each_joined}
+use Rattle.edd_expression_names.proofs.Copying.{at_start, one_more, stops, none_at_end, meant_at_end}
+use Rattle.edd_expression_names.proofs.ExprSteps.{each_joined}
 use Rattle.edd_syntax.proofs.FirstLaws.{flat_split, flat_one}
 use Rattle.edd_name_rules.proofs.Passing.{passed}
-use Rattle.edd_names.proofs.UseLaws.{no_use}
+use Rattle.edd_expression_names.proofs.UseLaws.{no_use}
 use Rattle.std.specs.Prelude.{nat_lt}
 use Rattle.edd_syntax.specs.NameRules.{local_limit, locals_of}
 use Rattle.edd_name_rules.proofs.SlotLaws.{none_of_any}

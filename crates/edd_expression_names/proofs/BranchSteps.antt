@@ -1,0 +1,308 @@
+-- Conditionals with the meaning of their names, case by case.
+use Rattle.std.proofs.Common.{◌≡◌, refl, sym, ap, ◌∙◌, ℕ, ℤ, List, [], ◌∷◌, ◌++◌, map, Option, Some, subst}
+use Rattle.std.specs.Prelude.{Vec}
+use Rattle.std.specs.declared.alloc.Global as alloc
+use Rattle.std.proofs.lemmas.List.{append-nil}
+use Rattle.edd_name_meanings.specs.declared.fault.NameFault.{NameFault}
+use Rattle.edd_name_meanings.specs.Meanings.{Means, NoFault, FirstFault}
+use Rattle.edd_expression_names.specs.ResolvedParts.{resolved_arm}
+use Rattle.edd_expression_names.proofs.ExprSteps.{bound, regroup}
+use Rattle.edd_expression_names.proofs.UseLaws.{none_append, fault_left, fault_right}
+use Rattle.edd_syntax.specs.declared.cond.Cond as code
+use Rattle.edd_syntax.specs.declared.cond.Cond.TheVariants as c
+use Rattle.edd_syntax.specs.declared.cond.Arm as code_arm
+use Rattle.edd_syntax.specs.declared.cond.Arm.TheVariants as a
+use Rattle.edd_syntax.specs.declared.expr.Expr as code_expr
+use Rattle.edd_syntax.specs.declared.reference.Path as code_path
+use Rattle.edd_syntax.specs.declared.reference.Target.{Target}
+use Rattle.edd_syntax.specs.Reference.{Path}
+use Rattle.edd_syntax.specs.Item.{Description}
+use Rattle.edd_syntax.specs.Conditional.{Cond, Value, If, Select, Conds, Cons, Arm, Case, Default, Arms, ConsArm, conds_from, arms_from}
+use Rattle.edd_syntax.specs.ItemView.{cond_of, arm_of, numbered_arm, numbered_cond}
+use Rattle.edd_syntax.specs.NameUses.{Use, attribute_expr_uses, cond_uses, conds_uses, arms_uses}
+use Rattle.edd_syntax.specs.ResolvedTrees.{◌>>=◌, Meanings, at_attribute, resolved_expr, resolved_cond, resolved_conds, resolved_arms}
+use Rattle.edd_syntax.specs.TreeView.{path_of, expr_of, numbered_expr}
+use Rattle.edd_syntax.proofs.CondRows.{of_value, of_if, of_select, of_case, of_default}
+
+-- ---- lists
+
+module _ {V : Type 0} (of : V → List Use) where
+  pub conds_split : (x : Cond Path V) (xs : List (Cond Path V))
+      → conds_uses of (conds_from (x ∷ xs)) ≡ conds_uses of (conds_from (x ∷ []))
+      ++ conds_uses of (conds_from xs)
+  conds_split x xs = ap (λ us. us ++ conds_uses of (conds_from xs))
+      (sym (append-nil (cond_uses of x)))
+
+  pub arms_split : (x : Arm Path V) (xs : List (Arm Path V)) → arms_uses of (arms_from (x ∷ xs))
+      ≡ arms_uses of (arms_from (x ∷ [])) ++ arms_uses of (arms_from xs)
+  arms_split (Case label body) xs = ap (λ us. us ++ arms_uses of (arms_from xs))
+      (sym (append-nil (conds_uses of body)))
+  arms_split (Default body) xs = ap (λ us. us ++ arms_uses of (arms_from xs))
+      (sym (append-nil (conds_uses of body)))
+
+  pub one_cond : (x : Cond Path V) → cond_uses of x ≡ conds_uses of (conds_from (x ∷ []))
+  one_cond x = sym (append-nil (cond_uses of x))
+
+module _ {V W : Type 0} (at : Meanings) (of : V → Option W) where
+  pub conds_joined : (y : Cond Path V) (ys : List (Cond Path V)) (w : Cond Target W)
+      (ws : List (Cond Target W)) → resolved_cond at of y ≡ Some w
+      → resolved_conds at of (conds_from ys) ≡ Some (conds_from ws)
+      → resolved_conds at of (conds_from (y ∷ ys)) ≡ Some (conds_from (w ∷ ws))
+  unfolding resolved_cond
+  conds_joined y ys w ws f g = bound (resolved_cond at of y) (resolved_conds at of (conds_from ys))
+      (λ w r. Cons w r) w (conds_from ws) f g
+
+  first_then : (y : Arm Path V) (rest : Arms Path V) → resolved_arms at of (ConsArm y rest)
+      ≡ (resolved_arm at of y >>= (λ w. resolved_arms at of rest >>= (λ r. Some (ConsArm w r))))
+  unfolding resolved_cond
+  first_then (Case label body) rest = regroup (resolved_conds at of body) (λ x. Case label x)
+      (λ w. resolved_arms at of rest >>= (λ r. Some (ConsArm w r)))
+  first_then (Default body) rest = regroup (resolved_conds at of body) (λ x. Default x)
+      (λ w. resolved_arms at of rest >>= (λ r. Some (ConsArm w r)))
+
+  pub arms_joined : (y : Arm Path V) (ys : List (Arm Path V)) (w : Arm Target W)
+      (ws : List (Arm Target W)) → resolved_arm at of y ≡ Some w
+      → resolved_arms at of (arms_from ys) ≡ Some (arms_from ws)
+      → resolved_arms at of (arms_from (y ∷ ys)) ≡ Some (arms_from (w ∷ ws))
+  arms_joined y ys w ws f g = first_then y (arms_from ys) ∙ bound (resolved_arm at of y)
+      (resolved_arms at of (arms_from ys)) (λ w r. ConsArm w r) w (arms_from ws) f g
+
+  pub no_conds : resolved_conds at of (conds_from []) ≡ Some (conds_from [])
+  unfolding resolved_cond
+  no_conds = refl
+
+  pub no_arms : resolved_arms at of (arms_from []) ≡ Some (arms_from [])
+  unfolding resolved_cond
+  no_arms = refl
+
+  -- the trees
+
+  pub if_meant : (test : _) (first otherwise : Conds Path V) (test' : _)
+      (first' otherwise' : Conds Target W) → resolved_expr at test ≡ Some test'
+      → resolved_conds at of first ≡ Some first' → resolved_conds at of otherwise ≡ Some otherwise'
+      → resolved_cond at of (If test first otherwise) ≡ Some (If test' first' otherwise')
+  unfolding resolved_cond
+  if_meant test first otherwise test' first' otherwise' e f g =
+      ap (λ o. o >>= (λ x. resolved_conds at of first
+      >>= (λ y. resolved_conds at of otherwise >>= (λ z. Some (If x y z))))) e
+      ∙ bound (resolved_conds at of first) (resolved_conds at of otherwise) (λ y z. If test' y z)
+      first' otherwise' f g
+
+  pub select_meant : (on : _) (arms : Arms Path V) (on' : _) (arms' : Arms Target W)
+      → resolved_expr at on ≡ Some on' → resolved_arms at of arms ≡ Some arms'
+      → resolved_cond at of (Select on arms) ≡ Some (Select on' arms')
+  unfolding resolved_cond
+  select_meant on arms on' arms' e f = bound (resolved_expr at on) (resolved_arms at of arms)
+      (λ x y. Select x y) on' arms' e f
+
+  pub value_meant : (v : V) (w : W) → of v ≡ Some w → resolved_cond at of (Value v) ≡ Some (Value w)
+  unfolding resolved_cond
+  value_meant v w e = ap (λ o. o >>= (λ x. Some (Value x))) e
+
+  pub case_meant : (label : ℤ) (body : Conds Path V) (body' : Conds Target W)
+      → resolved_conds at of body ≡ Some body' → resolved_arm at of (Case label body)
+      ≡ Some (Case label body')
+  case_meant label body body' e = ap (λ o. o >>= (λ x. Some (Case label x))) e
+
+  pub default_meant : (body : Conds Path V) (body' : Conds Target W) → resolved_conds at of body
+      ≡ Some body' → resolved_arm at of (Default body) ≡ Some (Default body')
+  default_meant body body' e = ap (λ o. o >>= (λ x. Some (Default x))) e
+
+-- ---- the variants of the code
+
+module _ {V W X Y : Type 0} (unit : Description Path) (before : V → W) (after : X → Y) (uses : W
+    → List Use) (meant : Description Path → W → Option Y) where
+  abbrev pub listed : List (code.Cond code_path.Path V) → Conds Path W
+  listed xs = conds_from (map (cond_of path_of before) xs)
+
+  abbrev pub armed : List (code_arm.Arm code_path.Path V) → Arms Path W
+  armed xs = arms_from (map (arm_of path_of before) xs)
+
+  module _ (x : code.Cond code_path.Path V) (v : V) (is : x ≡ c.Value v) where
+    value : cond_of path_of before x ≡ Value (before v)
+    value = ap (cond_of path_of before) is ∙ of_value path_of before v
+
+    pub value_none : NoFault unit (uses (before v))
+        → NoFault unit (cond_uses uses (cond_of path_of before x))
+    value_none h = subst (λ t. NoFault unit (cond_uses uses t)) (sym value) h
+
+    pub value_fault : (f : NameFault) → FirstFault f unit (uses (before v))
+        → FirstFault f unit (cond_uses uses (cond_of path_of before x))
+    value_fault f h = subst (λ t. FirstFault f unit (cond_uses uses t)) (sym value) h
+
+    pub value_means : (w : X) → Means unit (meant unit (before v)) (after w)
+        → Means unit (resolved_cond (at_attribute unit) (meant unit) (cond_of path_of before x))
+        (numbered_cond after (c.Value w))
+    unfolding Means
+    value_means w h = λ known. ap (resolved_cond (at_attribute unit) (meant unit)) value
+        ∙ value_meant (at_attribute unit) (meant unit) (before v) (after w) (h known)
+        ∙ ap (λ y. Some y) (sym (of_value (λ r. r) after w))
+
+  module _ (x : code.Cond code_path.Path V) (test : code_expr.Expr code_path.Path)
+      (v w : Vec (code.Cond code_path.Path V) alloc.Global)
+      (xs ys : List (code.Cond code_path.Path V)) (is : x ≡ c.If test v w) (same : xs ≡ v.items)
+      (same' : ys ≡ w.items) where
+    if_is : cond_of path_of before x ≡ If (expr_of path_of test) (listed xs) (listed ys)
+    if_is = ap (cond_of path_of before) is ∙ of_if path_of before test v w
+        ∙ ap (λ zs. If (expr_of path_of test) (listed zs) (listed w.items)) (sym same)
+        ∙ ap (λ zs. If (expr_of path_of test) (listed xs) (listed zs)) (sym same')
+
+    pub if_none : NoFault unit (attribute_expr_uses (expr_of path_of test))
+        → NoFault unit (conds_uses uses (listed xs)) → NoFault unit (conds_uses uses (listed ys))
+        → NoFault unit (cond_uses uses (cond_of path_of before x))
+    if_none h k m = subst (λ t. NoFault unit (cond_uses uses t)) (sym if_is)
+        (none_append unit (attribute_expr_uses (expr_of path_of test)) _ h
+        (none_append unit (conds_uses uses (listed xs)) _ k m))
+
+    pub if_means : (test' : code_expr.Expr Target) (v' w' : Vec (code.Cond Target X) alloc.Global)
+        → Means unit (resolved_expr (at_attribute unit) (expr_of path_of test))
+        (numbered_expr test') → Means unit
+        (resolved_conds (at_attribute unit) (meant unit) (listed xs))
+        (conds_from (map (numbered_cond after) v'.items))
+        → Means unit (resolved_conds (at_attribute unit) (meant unit) (listed ys))
+        (conds_from (map (numbered_cond after) w'.items))
+        → Means unit (resolved_cond (at_attribute unit) (meant unit) (cond_of path_of before x))
+        (numbered_cond after (c.If test' v' w'))
+    unfolding Means
+    if_means test' v' w' h k m = λ known.
+        ap (resolved_cond (at_attribute unit) (meant unit)) if_is
+        ∙ if_meant (at_attribute unit) (meant unit) (expr_of path_of test) (listed xs) (listed ys)
+        (numbered_expr test') _ _ (h known) (k known) (m known)
+        ∙ ap (λ y. Some y) (sym (of_if (λ r. r) after test' v' w'))
+
+  -- the faults of the parts of IF, of which the lists that were not looked at yet are the variant's
+  -- own
+  module _ (x : code.Cond code_path.Path V) (test : code_expr.Expr code_path.Path)
+      (v w : Vec (code.Cond code_path.Path V) alloc.Global) (is : x ≡ c.If test v w) (f : NameFault)
+    where
+      pub if_fault : FirstFault f unit (attribute_expr_uses (expr_of path_of test))
+          → FirstFault f unit (cond_uses uses (cond_of path_of before x))
+      if_fault h = subst (λ t. FirstFault f unit (cond_uses uses t))
+          (sym (if_is x test v w v.items w.items is refl refl))
+          (fault_left unit f (attribute_expr_uses (expr_of path_of test)) _ h)
+
+      pub if_fault_first : (xs : List (code.Cond code_path.Path V)) → xs ≡ v.items
+          → NoFault unit (attribute_expr_uses (expr_of path_of test))
+          → FirstFault f unit (conds_uses uses (listed xs))
+          → FirstFault f unit (cond_uses uses (cond_of path_of before x))
+      if_fault_first xs same h k = subst (λ t. FirstFault f unit (cond_uses uses t))
+          (sym (if_is x test v w xs w.items is same refl))
+          (fault_right unit f (attribute_expr_uses (expr_of path_of test)) _ h
+          (fault_left unit f (conds_uses uses (listed xs)) _ k))
+
+      pub if_fault_otherwise : (xs ys : List (code.Cond code_path.Path V)) → xs ≡ v.items
+          → ys ≡ w.items → NoFault unit (attribute_expr_uses (expr_of path_of test))
+          → NoFault unit (conds_uses uses (listed xs))
+          → FirstFault f unit (conds_uses uses (listed ys))
+          → FirstFault f unit (cond_uses uses (cond_of path_of before x))
+      if_fault_otherwise xs ys same same' h k m = subst (λ t. FirstFault f unit (cond_uses uses t))
+          (sym (if_is x test v w xs ys is same same'))
+          (fault_right unit f (attribute_expr_uses (expr_of path_of test)) _ h
+          (fault_right unit f (conds_uses uses (listed xs)) _ k m))
+
+  module _ (x : code.Cond code_path.Path V) (on : code_expr.Expr code_path.Path)
+      (v : Vec (code_arm.Arm code_path.Path V) alloc.Global)
+      (xs : List (code_arm.Arm code_path.Path V)) (is : x ≡ c.Select on v) (same : xs ≡ v.items)
+    where
+      select_is : cond_of path_of before x ≡ Select (expr_of path_of on) (armed xs)
+      select_is = ap (cond_of path_of before) is ∙ of_select path_of before on v
+          ∙ ap (λ zs. Select (expr_of path_of on) (armed zs)) (sym same)
+
+      pub select_none : NoFault unit (attribute_expr_uses (expr_of path_of on))
+          → NoFault unit (arms_uses uses (armed xs))
+          → NoFault unit (cond_uses uses (cond_of path_of before x))
+      select_none h k = subst (λ t. NoFault unit (cond_uses uses t)) (sym select_is)
+          (none_append unit (attribute_expr_uses (expr_of path_of on)) _ h k)
+
+      pub select_fault : (f : NameFault)
+          → FirstFault f unit (attribute_expr_uses (expr_of path_of on))
+          → FirstFault f unit (cond_uses uses (cond_of path_of before x))
+      select_fault f h = subst (λ t. FirstFault f unit (cond_uses uses t)) (sym select_is)
+          (fault_left unit f (attribute_expr_uses (expr_of path_of on)) _ h)
+
+      pub select_fault_arms : (f : NameFault)
+          → NoFault unit (attribute_expr_uses (expr_of path_of on))
+          → FirstFault f unit (arms_uses uses (armed xs))
+          → FirstFault f unit (cond_uses uses (cond_of path_of before x))
+      select_fault_arms f h k = subst (λ t. FirstFault f unit (cond_uses uses t)) (sym select_is)
+          (fault_right unit f (attribute_expr_uses (expr_of path_of on)) _ h k)
+
+      pub select_means : (on' : code_expr.Expr Target)
+          (v' : Vec (code_arm.Arm Target X) alloc.Global)
+          → Means unit (resolved_expr (at_attribute unit) (expr_of path_of on)) (numbered_expr on')
+          → Means unit (resolved_arms (at_attribute unit) (meant unit) (armed xs))
+          (arms_from (map (numbered_arm after) v'.items))
+          → Means unit (resolved_cond (at_attribute unit) (meant unit) (cond_of path_of before x))
+          (numbered_cond after (c.Select on' v'))
+      unfolding Means
+      select_means on' v' h k = λ known.
+          ap (resolved_cond (at_attribute unit) (meant unit)) select_is
+          ∙ select_meant (at_attribute unit) (meant unit) (expr_of path_of on) (armed xs)
+          (numbered_expr on') _ (h known) (k known)
+          ∙ ap (λ y. Some y) (sym (of_select (λ r. r) after on' v'))
+
+  -- an arm is its label and its body
+  module _ (x : code_arm.Arm code_path.Path V) (xs : List (code.Cond code_path.Path V)) where
+    arm_none_of : (y : Arm Path W) → arm_of path_of before x ≡ y → conds_uses uses (listed xs) ++ []
+        ≡ arms_uses uses (arms_from (y ∷ [])) → NoFault unit (conds_uses uses (listed xs))
+        → NoFault unit (arms_uses uses (arms_from (arm_of path_of before x ∷ [])))
+    arm_none_of y e same h = subst (NoFault unit) (sym (append-nil (conds_uses uses (listed xs)))
+        ∙ same ∙ ap (λ z. arms_uses uses (arms_from (z ∷ []))) (sym e)) h
+
+    arm_fault_of : (y : Arm Path W) (f : NameFault) → arm_of path_of before x ≡ y
+        → conds_uses uses (listed xs) ++ [] ≡ arms_uses uses (arms_from (y ∷ []))
+        → FirstFault f unit (conds_uses uses (listed xs))
+        → FirstFault f unit (arms_uses uses (arms_from (arm_of path_of before x ∷ [])))
+    arm_fault_of y f e same h =
+        subst (FirstFault f unit) (sym (append-nil (conds_uses uses (listed xs))) ∙ same
+        ∙ ap (λ z. arms_uses uses (arms_from (z ∷ []))) (sym e)) h
+
+    module _ (label : ℤ) (v : Vec (code.Cond code_path.Path V) alloc.Global)
+        (is : x ≡ a.Case label v) (same : xs ≡ v.items) where
+      case_is : arm_of path_of before x ≡ Case label (listed xs)
+      case_is = ap (arm_of path_of before) is ∙ of_case path_of before label v
+          ∙ ap (λ zs. Case label (listed zs)) (sym same)
+
+      pub case_none : NoFault unit (conds_uses uses (listed xs))
+          → NoFault unit (arms_uses uses (arms_from (arm_of path_of before x ∷ [])))
+      case_none h = arm_none_of (Case label (listed xs)) case_is refl h
+
+      pub case_fault : (f : NameFault) → FirstFault f unit (conds_uses uses (listed xs))
+          → FirstFault f unit (arms_uses uses (arms_from (arm_of path_of before x ∷ [])))
+      case_fault f h = arm_fault_of (Case label (listed xs)) f case_is refl h
+
+      pub case_means : (w : Vec (code.Cond Target X) alloc.Global)
+          → Means unit (resolved_conds (at_attribute unit) (meant unit) (listed xs))
+          (conds_from (map (numbered_cond after) w.items))
+          → Means unit (resolved_arm (at_attribute unit) (meant unit) (arm_of path_of before x))
+          (numbered_arm after (a.Case label w))
+      unfolding Means
+      case_means w h = λ known.
+          ap (resolved_arm (at_attribute unit) (meant unit)) case_is
+          ∙ case_meant (at_attribute unit) (meant unit) label (listed xs) _ (h known)
+          ∙ ap (λ y. Some y) (sym (of_case (λ r. r) after label w))
+
+    module _ (line : ℕ) (v : Vec (code.Cond code_path.Path V) alloc.Global)
+        (is : x ≡ a.Default line v) (same : xs ≡ v.items) where
+      default_is : arm_of path_of before x ≡ Default (listed xs)
+      default_is = ap (arm_of path_of before) is ∙ of_default path_of before line v
+          ∙ ap (λ zs. Default (listed zs)) (sym same)
+
+      pub default_none : NoFault unit (conds_uses uses (listed xs))
+          → NoFault unit (arms_uses uses (arms_from (arm_of path_of before x ∷ [])))
+      default_none h = arm_none_of (Default (listed xs)) default_is refl h
+
+      pub default_fault : (f : NameFault) → FirstFault f unit (conds_uses uses (listed xs))
+          → FirstFault f unit (arms_uses uses (arms_from (arm_of path_of before x ∷ [])))
+      default_fault f h = arm_fault_of (Default (listed xs)) f default_is refl h
+
+      pub default_means : (w : Vec (code.Cond Target X) alloc.Global)
+          → Means unit (resolved_conds (at_attribute unit) (meant unit) (listed xs))
+          (conds_from (map (numbered_cond after) w.items))
+          → Means unit (resolved_arm (at_attribute unit) (meant unit) (arm_of path_of before x))
+          (numbered_arm after (a.Default line w))
+      unfolding Means
+      default_means w h = λ known.
+          ap (resolved_arm (at_attribute unit) (meant unit)) default_is
+          ∙ default_meant (at_attribute unit) (meant unit) (listed xs) _ (h known)
+          ∙ ap (λ y. Some y) (sym (of_default (λ r. r) after line w))

@@ -1,0 +1,148 @@
+-- Calls and their arguments with the meaning of their names.
+use Rattle.std.proofs.Common.{◌≡◌, refl, sym, ap, ◌∙◌, ℕ, zero, suc, ◌+◌, ◌*◌, ◌<◌, ◌≤◌, List, [], ◌∷◌, ◌++◌, length, get_or, map, Option, Some, None, arith, subst}
+use Rattle.std.specs.Prelude.{Vec}
+use Rattle.std.specs.declared.alloc.Global as alloc
+use Rattle.std.proofs.lemmas.List.{append-nil}
+use Rattle.edd_name_meanings.specs.declared.fault.NameFault.{NameFault}
+use Rattle.edd_name_meanings.specs.Meanings.{Means, NoFault, FirstFault}
+use Rattle.edd_expression_names.specs.ResolvedParts.{resolved_argument}
+use Rattle.edd_syntax.specs.declared.expr.Expr as code
+use Rattle.edd_syntax.specs.declared.expr.Expr.TheVariants as e
+use Rattle.edd_syntax.specs.declared.expr.Argument as code_argument
+use Rattle.edd_syntax.specs.declared.numbers.Kind.{Kind}
+use Rattle.edd_syntax.specs.declared.reference.Path as code_path
+use Rattle.edd_syntax.specs.declared.reference.Target.{Target}
+use Rattle.edd_syntax.specs.Reference.{Path}
+use Rattle.edd_syntax.specs.Item.{Description}
+use Rattle.edd_syntax.specs.Expression.{Argument, Text, Value, Arguments, Cons, Call, arguments_from}
+use Rattle.edd_syntax.specs.NameUses.{OfFunction, uses_among, argument_uses}
+use Rattle.edd_syntax.specs.Resolution.{Scope, argument_kinds, function_meant}
+use Rattle.edd_syntax.specs.ResolvedTrees.{◌>>=◌, Meanings, each, resolved_by, resolved_arguments}
+use Rattle.edd_syntax.specs.Size.{nodes, argument_nodes}
+use Rattle.edd_syntax.specs.TreeView.{path_of, expr_of, argument_of, numbered_argument, numbered_expr}
+use Rattle.edd_name_rules.proofs.Spends.{argument_nodes_split}
+use Rattle.edd_syntax.proofs.TreeRows.{call_is}
+
+pub bound : {A B C : Type 0} (o : Option A) (p : Option B) (k : A → B → C) (a : A) (b : B)
+    → o ≡ Some a → p ≡ Some b → (o >>= (λ x. p >>= (λ y. Some (k x y)))) ≡ Some (k a b)
+bound o p k a b f g = ap (λ q. q >>= (λ x. p >>= (λ y. Some (k x y)))) f
+    ∙ ap (λ q. q >>= (λ y. Some (k a y))) g
+
+pub regroup : {A B C : Type 0} (o : Option A) (g : A → B) (h : B → Option C)
+    → (o >>= (λ x. h (g x))) ≡ ((o >>= (λ x. Some (g x))) >>= h)
+regroup (Some x) g h = refl
+regroup None g h = refl
+
+pub each_joined : {A B : Type 0} (of : A → Option B) (y : A) (ys : List A) (w : B) (ws : List B)
+    → of y ≡ Some w → each of ys ≡ Some ws → each of (y ∷ ys) ≡ Some (w ∷ ws)
+each_joined of y ys w ws f g = bound (of y) (each of ys) (λ w ws. w ∷ ws) w ws f g
+
+pub argument_uses_split : (scope : Scope) (kinds : List Kind) (x : Argument Path)
+    (xs : List (Argument Path)) → argument_uses scope kinds (arguments_from (x ∷ xs))
+    ≡ argument_uses scope kinds (arguments_from (x ∷ []))
+    ++ argument_uses scope kinds (arguments_from xs)
+argument_uses_split scope kinds (Text text) xs = refl
+argument_uses_split scope kinds (Value e) xs =
+    ap (λ us. us ++ argument_uses scope kinds (arguments_from xs))
+    (sym (append-nil (uses_among scope kinds e)))
+
+module _ (at : Meanings) (plain : Path → Option Target) where
+  first_then : (y : Argument Path) (rest : Arguments Path)
+      → resolved_arguments at plain (Cons y rest)
+      ≡ (resolved_argument at plain y
+      >>= (λ w. resolved_arguments at plain rest >>= (λ r. Some (Cons w r))))
+  unfolding resolved_by
+  first_then (Text text) rest = refl
+  first_then (Value e) rest = regroup (resolved_by at plain e) (λ x. Value x)
+      (λ w. resolved_arguments at plain rest >>= (λ r. Some (Cons w r)))
+
+  pub arguments_joined : (y : Argument Path) (ys : List (Argument Path)) (w : Argument Target)
+      (ws : List (Argument Target)) → resolved_argument at plain y ≡ Some w
+      → resolved_arguments at plain (arguments_from ys) ≡ Some (arguments_from ws)
+      → resolved_arguments at plain (arguments_from (y ∷ ys)) ≡ Some (arguments_from (w ∷ ws))
+  arguments_joined y ys w ws f g = first_then y (arguments_from ys)
+      ∙ bound (resolved_argument at plain y)
+      (resolved_arguments at plain (arguments_from ys)) (λ w r. Cons w r) w (arguments_from ws) f g
+
+  pub no_arguments : resolved_arguments at plain (arguments_from []) ≡ Some (arguments_from [])
+  unfolding resolved_by
+  no_arguments = refl
+
+module _ (unit : Description Path) (x : code.Expr code_path.Path) (line : ℕ) (p : code_path.Path)
+    (v : Vec (code_argument.Argument code_path.Path) alloc.Global)
+    (items : List (code_argument.Argument code_path.Path)) (is : x ≡ e.Call line p v)
+    (same : items ≡ v.items) where
+  call : expr_of path_of x ≡ Call (path_of p) (arguments_from (map (argument_of path_of) items))
+  call = call_is path_of x line p v is
+      ∙ ap (λ xs. Call (path_of p) (arguments_from (map (argument_of path_of) xs))) (sym same)
+
+  pub call_none : (scope : Scope) (kinds : List Kind)
+      → NoFault unit (OfFunction (path_of p)
+      ∷ argument_uses scope (argument_kinds (path_of p))
+      (arguments_from (map (argument_of path_of) items)))
+      → NoFault unit (uses_among scope kinds (expr_of path_of x))
+  call_none scope kinds h = subst (λ t. NoFault unit (uses_among scope kinds t)) (sym call) h
+
+  pub call_fault : (scope : Scope) (kinds : List Kind) (f : NameFault)
+      → FirstFault f unit (OfFunction (path_of p)
+      ∷ argument_uses scope (argument_kinds (path_of p))
+      (arguments_from (map (argument_of path_of) items)))
+      → FirstFault f unit (uses_among scope kinds (expr_of path_of x))
+  call_fault scope kinds f h =
+      subst (λ t. FirstFault f unit (uses_among scope kinds t)) (sym call) h
+
+  pub call_means : (at : Meanings) (plain : Path → Option Target) (t : Target)
+      (w : Vec (code_argument.Argument Target) alloc.Global)
+      → Means unit (function_meant (path_of p)) t
+      → Means unit (resolved_arguments at (at.argument (path_of p))
+      (arguments_from (map (argument_of path_of) items)))
+      (arguments_from (map numbered_argument w.items))
+      → Means unit (resolved_by at plain (expr_of path_of x)) (numbered_expr (e.Call line t w))
+  unfolding Means resolved_by
+  call_means at plain t w h k = λ known.
+      ap (resolved_by at plain) call
+      ∙ bound (function_meant (path_of p))
+      (resolved_arguments at (at.argument (path_of p))
+      (arguments_from (map (argument_of path_of) items)))
+      (λ f r. Call f r) t (arguments_from (map numbered_argument w.items)) (h known) (k known)
+      ∙ ap (λ y. Some y) (sym (call_is (λ r. r) (e.Call line t w) line t w refl))
+
+-- ---- what stands inside an expression has fewer nodes than it
+
+-- how far a walk may still go down
+abbrev pub expr_depth : code.Expr code_path.Path → ℕ
+expr_depth x = 6 * nodes (expr_of path_of x)
+
+abbrev pub arguments_depth : List (code_argument.Argument code_path.Path) → ℕ
+arguments_depth xs = 6 * argument_nodes (arguments_from (map (argument_of path_of) xs))
+
+abbrev pub argument_depth : code_argument.Argument code_path.Path → ℕ
+argument_depth x = 6 * argument_nodes (arguments_from (argument_of path_of x ∷ []))
+
+pub call_falls : (t : ℕ) (x : code.Expr code_path.Path) (line : ℕ) (p : code_path.Path)
+    (v : Vec (code_argument.Argument code_path.Path) alloc.Global)
+    (xs : List (code_argument.Argument code_path.Path)) → x ≡ e.Call line p v → xs ≡ v.items
+    → t ≡ expr_depth x → arguments_depth xs + 5 < t
+call_falls t x line p v xs is same m =
+    let e = ap nodes (call_is path_of x line p v is) in
+    let f = ap arguments_depth same in
+    omega (arith, e, f, m)
+
+pub argument_falls : (t i : ℕ) (xs : List (code_argument.Argument code_path.Path))
+    (x : code_argument.Argument code_path.Path) → i < length xs → x ≡ get_or xs i x
+    → t ≡ arguments_depth xs + 3 → argument_depth x + 2 < t
+argument_falls t i xs x h is m = let e = within i xs x h is in omega (arith, e, m)
+  where
+    within : (i : ℕ) (xs : List (code_argument.Argument code_path.Path))
+        (x : code_argument.Argument code_path.Path) → i < length xs → x ≡ get_or xs i x
+        → argument_nodes (arguments_from (argument_of path_of x ∷ []))
+        ≤ argument_nodes (arguments_from (map (argument_of path_of) xs))
+    within i [] x h is = absurd (omega arith)
+    within zero (y ∷ ys) x h is =
+        let e = ap (λ z. argument_nodes (arguments_from (argument_of path_of z ∷ []))) is in
+        let f = argument_nodes_split (argument_of path_of y) (map (argument_of path_of) ys) in
+        omega (arith, e, f)
+    within (suc i) (y ∷ ys) x h is =
+        let e = within i ys x (omega arith) is in
+        let f = argument_nodes_split (argument_of path_of y) (map (argument_of path_of) ys) in
+        omega (arith, e, f)

@@ -1,0 +1,4 @@
+pub mod BranchSteps
+pub mod Copying
+pub mod ExprSteps
+pub mod UseLaws

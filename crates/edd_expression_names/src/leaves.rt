@@ -1,0 +1,208 @@
+//! What stands under conditions, with the meaning of its names.
+
+ghost use Rattle.std.specs.Prelude.{Bool};
+ghost use Rattle.edd_syntax.specs.declared.reference.Target.{Target};
+ghost use Rattle.edd_syntax.specs.declared.types.Handling as handling;
+ghost use Rattle.edd_syntax.specs.Expression as expression;
+ghost use Rattle.edd_syntax.specs.Item as item;
+ghost use Rattle.edd_syntax.specs.ItemView.{enumerator_of, entry_of, data_item_of, numbered_data_item, numbered_entry};
+ghost use Rattle.edd_syntax.specs.NameUses.{attribute_expr_uses, entry_uses, data_uses, no_uses};
+ghost use Rattle.edd_syntax.specs.Reference as pure;
+ghost use Rattle.edd_syntax.specs.ResolvedTrees.{at_attribute, resolved_data, resolved_entry, resolved_expr, unchanged};
+ghost use Rattle.edd_syntax.specs.Text as texts;
+ghost use Rattle.edd_syntax.specs.TreeView.{path_of, expr_of, numbered_expr};
+ghost use Rattle.edd_syntax.specs.WordsView.{text_of};
+
+use crate::conditionals::Named;
+use crate::exprs::{copy_expr, refer_variable};
+use crate::made_of;
+use crate::texts::{copy_optional_text, copy_text};
+use edd_name_meanings::directory::Names;
+use edd_name_meanings::fault::NameFault;
+use edd_name_meanings::references::refer;
+use edd_syntax::expr::Expr;
+use edd_syntax::item::{DataItem, Enumerator, MenuEntry};
+use edd_syntax::numbers::Kind;
+use edd_syntax::reference::{Path, Target};
+use edd_syntax::text::Text;
+use edd_syntax::types::Handling;
+
+impl Named for Text {
+    type Out = Text;
+
+    ghost Before = { texts.Text };
+
+    ghost After = { texts.Text };
+
+    ghost before = { text_of };
+
+    ghost after = { text_of };
+
+    ghost uses = { no_uses };
+
+    ghost meant = { λ unit. unchanged };
+
+    #[tactic(auto, using(crate::proofs::UseLaws::faults), unfolding(edd_name_meanings::specs::Meanings::Means))]
+    fn copy(&self, names: &Names) -> Result<Text, NameFault> {
+        copy_text(self, names.alloc)
+    }
+}
+
+impl Named for Handling {
+    type Out = Handling;
+
+    ghost Before = { handling.Handling };
+
+    ghost After = { handling.Handling };
+
+    ghost before = { λ h. h };
+
+    ghost after = { λ h. h };
+
+    ghost uses = { no_uses };
+
+    ghost meant = { λ unit. unchanged };
+
+    #[tactic(auto, using(crate::proofs::UseLaws::faults), unfolding(edd_name_meanings::specs::Meanings::Means))]
+    fn copy(&self, names: &Names) -> Result<Handling, NameFault> {
+        Ok(*self)
+    }
+}
+
+impl Named for bool {
+    type Out = bool;
+
+    ghost Before = { Bool };
+
+    ghost After = { Bool };
+
+    ghost before = { λ b. b };
+
+    ghost after = { λ b. b };
+
+    ghost uses = { no_uses };
+
+    ghost meant = { λ unit. unchanged };
+
+    #[tactic(auto, using(crate::proofs::UseLaws::faults), unfolding(edd_name_meanings::specs::Meanings::Means))]
+    fn copy(&self, names: &Names) -> Result<bool, NameFault> {
+        Ok(*self)
+    }
+}
+
+impl Named for Enumerator {
+    type Out = Enumerator;
+
+    ghost Before = { item.Enumerator };
+
+    ghost After = { item.Enumerator };
+
+    ghost before = { enumerator_of };
+
+    ghost after = { enumerator_of };
+
+    ghost uses = { no_uses };
+
+    ghost meant = { λ unit. unchanged };
+
+    #[tactic(auto, using(crate::proofs::UseLaws::faults), unfolding(edd_name_meanings::specs::Meanings::Means))]
+    fn copy(&self, names: &Names) -> Result<Enumerator, NameFault> {
+        let text = copy_text(&self.text, names.alloc)?;
+        made_of!(copy_optional_text(&self.help, names.alloc), help => Enumerator {
+            line: self.line,
+            value: self.value,
+            text,
+            help,
+        })
+    }
+}
+
+impl Named for Expr<Path> {
+    type Out = Expr<Target>;
+
+    ghost Before = { expression.Expr pure.Path };
+
+    ghost After = { expression.Expr Target };
+
+    ghost before = { expr_of path_of };
+
+    ghost after = { numbered_expr };
+
+    ghost uses = { attribute_expr_uses };
+
+    ghost meant = { λ unit. resolved_expr (at_attribute unit) };
+
+    #[tactic(auto, using(crate::proofs::UseLaws::faults), unfolding(edd_name_meanings::specs::Meanings::Means))]
+    fn copy(&self, names: &Names) -> Result<Expr<Target>, NameFault> {
+        copy_expr(self, names, &[])
+    }
+}
+
+impl Named for MenuEntry<Path> {
+    type Out = MenuEntry<Target>;
+
+    ghost Before = { item.MenuEntry pure.Path };
+
+    ghost After = { item.MenuEntry Target };
+
+    ghost before = { entry_of path_of };
+
+    ghost after = { numbered_entry };
+
+    ghost uses = { entry_uses };
+
+    ghost meant = { resolved_entry };
+
+    #[tactic(auto, using(crate::proofs::UseLaws::faults), unfolding(edd_name_meanings::specs::Meanings::Means))]
+    fn copy(&self, names: &Names) -> Result<MenuEntry<Target>, NameFault> {
+        match self {
+            MenuEntry::Text(text) => {
+                made_of!(copy_text(text, names.alloc), text => MenuEntry::Text(text))
+            }
+            MenuEntry::Reference { to, qualifiers } => {
+                let kinds = [Kind::Variable, Kind::Menu, Kind::Collection, Kind::Method];
+                made_of!(refer(names, &[], &kinds, to), to => MenuEntry::Reference {
+                    to,
+                    qualifiers: *qualifiers,
+                })
+            }
+        }
+    }
+}
+
+impl Named for DataItem<Path> {
+    type Out = DataItem<Target>;
+
+    ghost Before = { item.DataItem pure.Path };
+
+    ghost After = { item.DataItem Target };
+
+    ghost before = { data_item_of path_of };
+
+    ghost after = { numbered_data_item };
+
+    ghost uses = { data_uses };
+
+    ghost meant = { resolved_data };
+
+    #[tactic(auto, using(crate::proofs::UseLaws::faults), unfolding(edd_name_meanings::specs::Meanings::Means))]
+    fn copy(&self, names: &Names) -> Result<DataItem<Target>, NameFault> {
+        match self {
+            DataItem::Constant { line, value } => Ok(DataItem::Constant {
+                line: *line,
+                value: *value,
+            }),
+            DataItem::Variable {
+                line,
+                variable,
+                mask,
+                qualifiers,
+            } => Ok(DataItem::Variable {
+                line: *line,
+                variable: refer_variable(names, &[], variable)?,
+                mask: *mask,
+                qualifiers: *qualifiers,
+            }),
+        }
+    }
+}

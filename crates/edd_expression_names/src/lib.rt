@@ -1,0 +1,8 @@
+//! Expressions, conditionals and what is under them, with the meaning of each name in its place.
+#![tactic(auto)]
+
+pub mod conditionals;
+pub mod exprs;
+mod leaves;
+mod made;
+pub mod texts;

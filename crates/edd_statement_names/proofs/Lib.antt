@@ -1,0 +1,3 @@
+pub mod CopyingIn
+pub mod DeclaratorSteps
+pub mod StatementSteps

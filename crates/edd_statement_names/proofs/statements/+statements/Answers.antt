@@ -1,0 +1,179 @@
+use Rattle.std.proofs.Common.{arith, ap, sym, ◌∙◌, ◌+◌, map}
+use Rattle.std.proofs.Math.ListN.{drop_of_length-le}
+use Rattle.edd_syntax.specs.Statement.{body_from, slots_in}
+use Rattle.edd_syntax.specs.TreeView.{path_of, part_of, numbered_part}
+use Rattle.edd_name_meanings.specs.Directory.{description_of}
+use Rattle.edd_name_meanings.specs.Meanings.{scope_of}
+use Rattle.edd_statement_names.specs.ResolvedParts.{scope_behind}
+use Rattle.edd_statement_names.proofs.CopyingIn.{one_more, stops, none_at_end, meant_at_end}
+use Rattle.edd_name_rules.proofs.Passing.{passed}
+use Rattle.edd_statement_names.proofs.StatementSteps.{behind, uses_here, uses_from, uses_split, meant_here, meant_from, parts_joined, no_parts, no_slots, slots_next, slots_more, block_slots, block_none, block_fault, block_means, switch_slots, switch_none, switch_fault, switch_means, block_falls, switch_falls, part_falls}
+use Rattle.edd_expression_names.proofs.UseLaws.{no_use}
+use Rattle.edd_statement_names.proofs.statements.+statements.Goals as goal
+
+pub add_parts-returns-in_err-copy_part-clause-refused :
+    goal.add_parts-returns-in_err-copy_part-clause-refused
+add_parts-returns-in_err-copy_part-clause-refused t c =
+    passed c.from_residual.result c.in_err-copy_part.field-0.0 _ c.from_residual.ensures.1
+    (stops (description_of c.args.names.now) (part_of path_of) numbered_part behind uses_here
+    uses_from
+    uses_split (meant_here (description_of c.args.names.now))
+    (meant_from (description_of c.args.names.now))
+    body_from (parts_joined (description_of c.args.names.now)) (
+      scope_of c.args.scope.now.items,
+      c.args.next.now,
+    ) (scope_of c.loop-part.scope.items, c.loop-part.next) c.loop-part.part-index
+    c.args.parts.now c.part-item.result c.loop-part.copies.items c.in_err-copy_part.field-0.0
+    (omega arith) c.part-item.is c.in_err-copy_part.ensures.refused c.loop-part.invariant.0)
+
+pub add_parts-loop-part-preserved : goal.add_parts-loop-part-preserved
+add_parts-loop-part-preserved t c = (
+  one_more (description_of c.args.names.now) (part_of path_of) numbered_part behind uses_here
+      uses_from
+      uses_split (meant_here (description_of c.args.names.now))
+      (meant_from (description_of c.args.names.now))
+      body_from (parts_joined (description_of c.args.names.now)) (
+        scope_of c.args.scope.now.items,
+        c.args.next.now,
+      ) (scope_of c.loop-part.scope.items, c.loop-part.next)
+      (scope_of c.copy_part.new.scope.items, c.copy_part.new.next) c.loop-part.part-index
+      c.args.parts.now c.part-item.result c.loop-part.copies.items c.push.new.self.items
+      c.in_ok-copy_part.field-0 (omega arith) c.part-item.is
+      (ap (λ p. (p, c.copy_part.new.next)) c.in_ok-copy_part.ensures.scope
+      ∙ ap (λ n. (
+        scope_behind (scope_of c.loop-part.scope.items) c.loop-part.next
+            (part_of path_of c.part-item.result),
+        n,
+      )) c.in_ok-copy_part.ensures.next)
+      c.in_ok-copy_part.ensures.accepted c.in_ok-copy_part.ensures.sound c.in_ok-push.ensures.items
+      c.loop-part.invariant.0,
+  slots_more (part_of path_of) c.loop-part.part-index c.args.parts.now c.part-item.result
+      (omega arith) c.part-item.is c.loop-part.next c.copy_part.new.next _
+      c.in_ok-copy_part.ensures.next c.loop-part.invariant.1,
+)
+
+pub add_parts-returns-clause-accepted : goal.add_parts-returns-clause-accepted
+add_parts-returns-clause-accepted t c = none_at_end (description_of c.args.names.now)
+    (part_of path_of)
+    numbered_part behind uses_here uses_from uses_split
+    (meant_here (description_of c.args.names.now))
+    (meant_from (description_of c.args.names.now)) body_from
+    (parts_joined (description_of c.args.names.now))
+    (scope_of c.args.scope.now.items, c.args.next.now)
+    (λ s. no_use (description_of c.args.names.now))
+    (scope_of c.loop-part.scope.items, c.loop-part.next) c.loop-part.part-index c.args.parts.now
+    c.loop-part.copies.items (drop_of_length-le c.args.parts.now (omega arith))
+    c.loop-part.invariant.0
+
+pub add_parts-returns-clause-sound : goal.add_parts-returns-clause-sound
+add_parts-returns-clause-sound t c = meant_at_end (description_of c.args.names.now)
+    (part_of path_of)
+    numbered_part behind uses_here uses_from uses_split
+    (meant_here (description_of c.args.names.now))
+    (meant_from (description_of c.args.names.now)) body_from
+    (parts_joined (description_of c.args.names.now))
+    (scope_of c.args.scope.now.items, c.args.next.now) (no_parts (description_of c.args.names.now))
+    (scope_of c.loop-part.scope.items, c.loop-part.next) c.loop-part.part-index c.args.parts.now
+    c.loop-part.copies.items (drop_of_length-le c.args.parts.now (omega arith))
+    c.loop-part.invariant.0
+
+pub add_parts-returns-clause-next : goal.add_parts-returns-clause-next
+add_parts-returns-clause-next t c =
+    no_slots c.loop-part.next
+    ∙ ap (λ ps. c.loop-part.next + slots_in (body_from (map (part_of path_of) ps)))
+    (sym (drop_of_length-le c.args.parts.now (omega arith))) ∙ c.loop-part.invariant.1
+
+pub copy_stmt-returns-in_err-copy_body-in-Block-clause-refused :
+    goal.copy_stmt-returns-in_err-copy_body-in-Block-clause-refused
+copy_stmt-returns-in_err-copy_body-in-Block-clause-refused t c =
+    passed c.from_residual.result c.in_err-copy_body-in-Block.field-0.0 _ c.from_residual.ensures.1
+    (block_fault (description_of c.args.names.now) c.args.s.now _ c.deref.result.now
+    c.deref.ensures.value
+    c.in-Block.is (scope_of c.args.scope.now) c.args.next.now
+    c.in_err-copy_body-in-Block.field-0.0 c.in_err-copy_body-in-Block.ensures.refused)
+
+pub copy_stmt-returns-in_err-on-in-Switch-clause-refused :
+    goal.copy_stmt-returns-in_err-on-in-Switch-clause-refused
+copy_stmt-returns-in_err-on-in-Switch-clause-refused t c =
+    passed c.from_residual-in_err-on-in-Switch.result c.in_err-on-in-Switch.field-0.0 _
+    c.from_residual-in_err-on-in-Switch.ensures.1
+    (switch_fault (description_of c.args.names.now) c.args.s.now _ c.deref-in-Switch.result.now
+    c.deref-in-Switch.ensures.value _ c.in-Switch.is (scope_of c.args.scope.now) c.args.next.now
+    c.in_err-on-in-Switch.field-0.0 c.in_err-on-in-Switch.ensures.refused)
+
+pub copy_stmt-returns-in_ok-copy_body-in-Block-clause-accepted :
+    goal.copy_stmt-returns-in_ok-copy_body-in-Block-clause-accepted
+copy_stmt-returns-in_ok-copy_body-in-Block-clause-accepted t c =
+    block_none (description_of c.args.names.now) c.args.s.now _ c.deref.result.now
+    c.deref.ensures.value
+    c.in-Block.is (scope_of c.args.scope.now) c.args.next.now
+    c.in_ok-copy_body-in-Block.ensures.accepted
+
+pub copy_stmt-returns-in_ok-copy_body-in-Block-clause-sound :
+    goal.copy_stmt-returns-in_ok-copy_body-in-Block-clause-sound
+copy_stmt-returns-in_ok-copy_body-in-Block-clause-sound t c =
+    block_means (description_of c.args.names.now)
+    c.args.s.now _ c.deref.result.now c.deref.ensures.value c.in-Block.is
+    (scope_of c.args.scope.now) c.args.next.now c.in_ok-copy_body-in-Block.field-0
+    c.in_ok-copy_body-in-Block.ensures.sound
+
+pub copy_stmt-returns-in_ok-copy_body-in-Block-clause-next :
+    goal.copy_stmt-returns-in_ok-copy_body-in-Block-clause-next
+copy_stmt-returns-in_ok-copy_body-in-Block-clause-next t c =
+    c.in_ok-copy_body-in-Block.ensures.next ∙ ap (λ k. c.args.next.now + k)
+    (sym (block_slots (description_of c.args.names.now) c.args.s.now _ c.deref.result.now
+    c.deref.ensures.value c.in-Block.is))
+
+pub copy_stmt-returns-in_ok-on-in-Switch-clause-accepted :
+    goal.copy_stmt-returns-in_ok-on-in-Switch-clause-accepted
+copy_stmt-returns-in_ok-on-in-Switch-clause-accepted t c =
+    switch_none (description_of c.args.names.now)
+    c.args.s.now _ c.deref-in-Switch.result.now c.deref-in-Switch.ensures.value _ c.in-Switch.is
+    (scope_of c.args.scope.now) c.args.next.now c.in_ok-on-in-Switch.ensures.accepted
+
+pub copy_stmt-returns-in_ok-on-in-Switch-clause-sound :
+    goal.copy_stmt-returns-in_ok-on-in-Switch-clause-sound
+copy_stmt-returns-in_ok-on-in-Switch-clause-sound t c =
+    switch_means (description_of c.args.names.now)
+    c.args.s.now _ c.deref-in-Switch.result.now c.deref-in-Switch.ensures.value _ c.in-Switch.is
+    (scope_of c.args.scope.now) c.args.next.now c.in_ok-on-in-Switch.on c.in_ok-on-in-Switch.parts
+    c.in_ok-on-in-Switch.ensures.on c.in_ok-on-in-Switch.ensures.parts
+
+pub copy_stmt-returns-in_ok-on-in-Switch-clause-next :
+    goal.copy_stmt-returns-in_ok-on-in-Switch-clause-next
+copy_stmt-returns-in_ok-on-in-Switch-clause-next t c =
+    c.in_ok-on-in-Switch.ensures.next ∙ ap (λ k. c.args.next.now + k)
+    (sym (switch_slots (description_of c.args.names.now) c.args.s.now _ c.deref-in-Switch.result.now
+    c.deref-in-Switch.ensures.value _ c.in-Switch.is))
+
+pub add_parts-copy_part-requires : goal.add_parts-copy_part-requires
+add_parts-copy_part-requires t c =
+    let e = slots_next (part_of path_of) c.loop-part.part-index c.args.parts.now c.part-item.result
+    (omega arith) c.part-item.is in
+    let n = c.loop-part.invariant.1 in
+    let r = c.requires.room in (
+      part_falls t c.loop-part.part-index c.args.parts.now c.part-item.result (omega arith)
+          c.part-item.is (sym c.decreases),
+      omega (arith, e, n, r),
+    )
+
+pub copy_stmt-copy_body-requires : goal.copy_stmt-copy_body-requires
+copy_stmt-copy_body-requires t c =
+    let e = block_slots (description_of c.args.names.now) c.args.s.now _ c.deref.result.now
+    c.deref.ensures.value c.in-Block.is in
+    let r = c.requires in (
+      block_falls t c.args.s.now _ c.deref.result.now c.in-Block.is c.deref.ensures.value
+          (sym c.decreases),
+      omega (arith, e, r),
+    )
+
+pub copy_stmt-copy_switched-requires : goal.copy_stmt-copy_switched-requires
+copy_stmt-copy_switched-requires t c =
+    let e = switch_slots (description_of c.args.names.now) c.args.s.now _
+    c.deref-in-Switch.result.now
+    c.deref-in-Switch.ensures.value _ c.in-Switch.is in
+    let r = c.requires in (
+      switch_falls t c.args.s.now _ _ c.deref-in-Switch.result.now c.in-Switch.is
+          c.deref-in-Switch.ensures.value (sym c.decreases),
+      omega (arith, e, r),
+    )

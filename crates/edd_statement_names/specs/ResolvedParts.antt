@@ -1,0 +1,49 @@
+-- The parts of statements with the meaning of their names.
+use Rattle.std.specs.Prelude.{ℕ, ◌+◌, List, [], length, Option, Some}
+use Rattle.edd_syntax.specs.Item.{Description}
+use Rattle.edd_syntax.specs.Resolution.{Scope, all_declared}
+use Rattle.edd_syntax.specs.Statement.{Declarator, Part, Declare, Statement, CaseLabel, DefaultLabel, slots_of}
+use Rattle.edd_syntax.specs.declared.reference.Target.TheVariants.{Local}
+use Rattle.edd_syntax.specs.NameUses.{Use, declarator_uses, stmt_uses}
+use Rattle.edd_syntax.specs.Reference.{Path}
+use Rattle.edd_syntax.specs.declared.reference.Target.{Target}
+use Rattle.edd_syntax.specs.ResolvedTrees.{◌>>=◌, at_scope, resolved_optional, resolved_declarators, resolved_stmt}
+
+-- a declarator whose slot is `next`
+abbrev pub resolved_declarator : Description Path → Scope → (next : ℕ) → Declarator Path
+    → Option (Declarator Target)
+resolved_declarator unit scope next d = do
+  value ← resolved_optional (at_scope unit scope) d.value
+  Some (record { place = Local next; value = value })
+
+-- ---- a part of a block, where `next` is the slot of the next declarator
+
+abbrev pub part_uses : Scope → (next : ℕ) → Part Path → List Use
+part_uses scope next (Declare declarators) = declarator_uses scope next declarators
+part_uses scope next (Statement s) = stmt_uses s scope next
+part_uses scope next (CaseLabel label) = []
+part_uses scope next DefaultLabel = []
+
+abbrev pub resolved_part : Description Path → Scope → (next : ℕ) → Part Path → Option (Part Target)
+resolved_part unit scope next (Declare declarators) = do
+  declarators' ← resolved_declarators unit scope next declarators
+  Some (Declare declarators')
+resolved_part unit scope next (Statement s) = do
+  s' ← resolved_stmt unit s scope next
+  Some (Statement s')
+resolved_part unit scope next (CaseLabel label) = Some (CaseLabel label)
+resolved_part unit scope next DefaultLabel = Some DefaultLabel
+
+-- the locals that can be used behind it
+abbrev pub scope_behind : Scope → (next : ℕ) → Part Path → Scope
+scope_behind scope next (Declare declarators) = all_declared scope next declarators
+scope_behind scope next (Statement s) = scope
+scope_behind scope next (CaseLabel label) = scope
+scope_behind scope next DefaultLabel = scope
+
+-- the next slot behind it
+abbrev pub next_behind : (next : ℕ) → Part Path → ℕ
+next_behind next (Declare declarators) = next + length declarators
+next_behind next (Statement s) = next + slots_of s
+next_behind next (CaseLabel label) = next
+next_behind next DefaultLabel = next
