@@ -364,7 +364,8 @@ fn ask_from(bytes: &[u8]) -> Option<(Instruction, &[u8])>
     Some((Instruction::Ask(request), rest))
 }
 
-#[inline(always)]
+// It stands apart, as requests do: with it, decoding would be too large to be inline.
+#[inline(never)]
 #[tactic(auto, unfolding(crate::specs::Decoding::abort_method_from))]
 fn abort_method_from(bytes: &[u8]) -> Option<(Instruction, &[u8])>
     ensures value { option_map (λ x. (x.0, x.1.now)) result ≡ abort_method_from bytes.now }
