@@ -15,41 +15,41 @@ use edd_trails::walk::{ENTRIES, VARIABLES, Walk};
 use std::alloc::AllocError;
 
 /// What may stand under a condition.
-pub trait Value {
+pub trait WalkValue {
     fn walk_value<'a>(&'a self, walk: &mut Walk<'a>) -> Result<(), AllocError>;
 }
 
-impl Value for Text {
+impl WalkValue for Text {
     fn walk_value<'a>(&'a self, _walk: &mut Walk<'a>) -> Result<(), AllocError> {
         Ok(())
     }
 }
 
-impl Value for Handling {
+impl WalkValue for Handling {
     fn walk_value<'a>(&'a self, _walk: &mut Walk<'a>) -> Result<(), AllocError> {
         Ok(())
     }
 }
 
-impl Value for bool {
+impl WalkValue for bool {
     fn walk_value<'a>(&'a self, _walk: &mut Walk<'a>) -> Result<(), AllocError> {
         Ok(())
     }
 }
 
-impl Value for Enumerator {
+impl WalkValue for Enumerator {
     fn walk_value<'a>(&'a self, _walk: &mut Walk<'a>) -> Result<(), AllocError> {
         Ok(())
     }
 }
 
-impl Value for Expr<Path> {
+impl WalkValue for Expr<Path> {
     fn walk_value<'a>(&'a self, walk: &mut Walk<'a>) -> Result<(), AllocError> {
         walk_expr(self, false, walk)
     }
 }
 
-impl Value for MenuEntry<Path> {
+impl WalkValue for MenuEntry<Path> {
     fn walk_value<'a>(&'a self, walk: &mut Walk<'a>) -> Result<(), AllocError> {
         let MenuEntry::Reference { to, .. } = self else {
             return Ok(());
@@ -62,7 +62,7 @@ impl Value for MenuEntry<Path> {
     }
 }
 
-impl Value for DataItem<Path> {
+impl WalkValue for DataItem<Path> {
     fn walk_value<'a>(&'a self, walk: &mut Walk<'a>) -> Result<(), AllocError> {
         match self {
             DataItem::Constant { line, value } => walk_constant(*line, *value, walk),
@@ -106,7 +106,7 @@ fn walk_mask<'a>(line: u32, mask: Option<u32>, walk: &mut Walk<'a>) -> Result<()
 /// Walks over a single value.
 #[cycle(conditionals)]
 #[tactic(auto, using(crate::proofs::Falls::falls))]
-pub fn walk_cond<'a, V: Value>(
+pub fn walk_cond<'a, V: WalkValue>(
     c: &'a Cond<Path, V>,
     walk: &mut Walk<'a>,
 ) -> Result<(), AllocError> {
@@ -133,7 +133,7 @@ pub fn walk_cond<'a, V: Value>(
 /// Walks over a list of values.
 #[cycle(conditionals)]
 #[tactic(auto, using(crate::proofs::Falls::falls))]
-pub fn walk_conds<'a, V: Value>(
+pub fn walk_conds<'a, V: WalkValue>(
     all: &'a [Cond<Path, V>],
     walk: &mut Walk<'a>,
 ) -> Result<(), AllocError> {
@@ -145,7 +145,7 @@ pub fn walk_conds<'a, V: Value>(
 
 #[cycle(conditionals)]
 #[tactic(auto, using(crate::proofs::Falls::falls))]
-fn walk_arms<'a, V: Value>(
+fn walk_arms<'a, V: WalkValue>(
     arms: &'a [Arm<Path, V>],
     walk: &mut Walk<'a>,
 ) -> Result<(), AllocError> {
@@ -159,7 +159,7 @@ fn walk_arms<'a, V: Value>(
 // `default` is the token of the first DEFAULT so far.
 #[cycle(conditionals)]
 #[tactic(auto, using(crate::proofs::Falls::falls))]
-fn walk_arm<'a, V: Value>(
+fn walk_arm<'a, V: WalkValue>(
     arm: &'a Arm<Path, V>,
     default: &mut Option<Option<usize>>,
     walk: &mut Walk<'a>,

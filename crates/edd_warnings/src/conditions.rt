@@ -17,7 +17,7 @@ use edd_syntax::types::Handling;
 use std::alloc::AllocError;
 
 // A value that stands under conditions.
-trait Value {
+trait LintValue {
     // Looks at the expressions in it. Most values have none.
     fn check_value(
         &self,
@@ -28,26 +28,26 @@ trait Value {
     }
 }
 
-impl Value for Text {}
+impl LintValue for Text {}
 
-impl Value for Handling {}
+impl LintValue for Handling {}
 
-impl Value for bool {}
+impl LintValue for bool {}
 
-impl Value for Enumerator {}
+impl LintValue for Enumerator {}
 
-impl Value for MenuEntry<Target> {}
+impl LintValue for MenuEntry<Target> {}
 
-impl Value for DataItem<Target> {}
+impl LintValue for DataItem<Target> {}
 
-impl Value for Expr<Target> {
+impl LintValue for Expr<Target> {
     fn check_value(&self, walk: &mut Walk<'_>, findings: &mut Findings) -> Result<(), AllocError> {
         check_expression(self, false, walk, findings)
     }
 }
 
 // One step of a conditional. `selects` has the labels of each SELECT that is open.
-fn check_step<'a, V: Value>(
+fn check_step<'a, V: LintValue>(
     step: &Step<'_, V>,
     selects: &mut Vec<Numbers<'a>>,
     walk: &mut Walk<'a>,
@@ -79,7 +79,7 @@ fn check_step<'a, V: Value>(
     }
 }
 
-fn check_steps<V: Value>(
+fn check_steps<V: LintValue>(
     steps: &[Step<'_, V>],
     walk: &mut Walk<'_>,
     findings: &mut Findings,
@@ -91,7 +91,7 @@ fn check_steps<V: Value>(
     Ok(())
 }
 
-fn check_cond<V: Value>(
+fn check_cond<V: LintValue>(
     c: &Cond<Target, V>,
     walk: &mut Walk<'_>,
     findings: &mut Findings,
@@ -101,7 +101,7 @@ fn check_cond<V: Value>(
     check_steps(&steps, walk, findings)
 }
 
-fn check_conds<V: Value>(
+fn check_conds<V: LintValue>(
     all: &[Cond<Target, V>],
     walk: &mut Walk<'_>,
     findings: &mut Findings,
