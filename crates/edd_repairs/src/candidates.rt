@@ -9,7 +9,7 @@ use std::alloc::{AllocError, Global};
 /// The signs that may be missing behind a token, and before one.
 pub const BEHIND: [&str; 7] = [";", ",", ")", "}", "]", ">", "&"];
 
-pub const BEFORE: [&str; 3] = ["(", "{", ":"];
+pub const BEFORE: [&str; 4] = ["(", "{", "[", ":"];
 
 /// What may be missing before a token: how it could be written, and what it is called.
 #[derive(Clone, Copy)]
@@ -36,6 +36,11 @@ const TEXT: Missing = Missing {
 const OF: Missing = Missing {
     spelling: "OF VARIABLE",
     name: "OF with a kind of item",
+};
+
+const KIND: Missing = Missing {
+    spelling: "VARIABLE",
+    name: "a kind of item such as VARIABLE",
 };
 
 const OF_VARIABLE: Missing = Missing {
@@ -93,6 +98,8 @@ const AFTER_COLLECTION: &[Missing] = &[OF, NAME];
 
 const AFTER_ARRAY: &[Missing] = &[OF_VARIABLE, NAME];
 
+const AFTER_OF: &[Missing] = &[KIND];
+
 const AFTER_NAMED: &[Missing] = &[NAME];
 
 const BEFORE_TYPE: &[Missing] = &[TYPE];
@@ -108,6 +115,7 @@ fn missing_after(before: Option<TokenKind>) -> Option<&'static [Missing]> {
     match before {
         Some(TokenKind::Keyword(Keyword::Collection)) => Some(AFTER_COLLECTION),
         Some(TokenKind::Keyword(Keyword::Array)) => Some(AFTER_ARRAY),
+        Some(TokenKind::Keyword(Keyword::Of)) => Some(AFTER_OF),
         Some(TokenKind::Keyword(Keyword::Type)) => Some(AFTER_TYPE),
         Some(
             TokenKind::Keyword(
