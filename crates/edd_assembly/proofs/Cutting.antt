@@ -36,7 +36,7 @@ module _ {Y : Type 0} (bytes : Y → List ℕ) where
       (spans n ys)) (sym (length-append before (bytes y)))
       ∙ ap (λ rest. bytes y ∷ rest) (cut (before ++ bytes y) ys)
 
--- the first of several parts, and those behind it
+-- the first of several parts, and those after it
 abbrev pub first_or : List ℕ → List (List ℕ) → List ℕ
 first_or none [] = none
 first_or none (x ∷ xs) = x

@@ -112,7 +112,7 @@ module _ (a : ArrNo) where
 
 -- ---- one array after another
 
--- a list that rises behind one whose elements are all of a smaller array
+-- a list that rises after one whose elements are all of a smaller array
 pub joined : (n : ℕ) (xs ys : List Element) → elements_rise xs ≡ true → elements_rise ys ≡ true
     → AllByRecursion (λ x. x.array.0 < n) xs → AllByRecursion (λ y. n ≤ y.array.0) ys
     → elements_rise (xs ++ ys) ≡ true

@@ -41,7 +41,7 @@ new_word true word h = absurd (not_empty h)
 new_word false word h = refl
 
 module _ {R : Type 0} where
-  -- what the rule says of the attributes behind one
+  -- what the rule says of the attributes after one
   behind : (before : List Name) (w : Attribute R) (rest : List (Attribute R))
       → repeated_words before (w ∷ rest) ≡ [] → repeated_words (attribute_word w ∷ before) rest
       ≡ []

@@ -43,7 +43,7 @@ module _ (items : List (Item Target)) where
   as_many : (k : Kind) → length (names k) ≡ count_of k items
   as_many k = length-map (of_kind k items) (λ (i : Item Target). i.name)
 
-  -- the names of the kinds behind a kind
+  -- the names of the kinds after a kind
   abbrev behind_variables : List Name
   behind_variables = names kind.Command
       ++ (names kind.Menu

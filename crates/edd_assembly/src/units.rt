@@ -56,7 +56,7 @@ impl CodeSection {
     }
 }
 
-/// The code of attributes, one behind the other.
+/// The code of attributes, one after the other.
 pub fn code_section(alloc: Global, units: &[Lowered]) -> Result<CodeSection, AllocError>
     ensures rows { IfOk result (λ s. s.rows.items ≡ attribute_rows 0 (map lowered_of units.now)) }
     ensures bytes { IfOk result

@@ -23,7 +23,7 @@ use Rattle.edd_attrs.proofs.Loops.{later_on, dropped, flat_take, flat_drop, flat
 
 -- ---- one body
 
--- code with a body behind it has those bytes more that its jump and its body have
+-- code with a body after it has those bytes more that its jump and its body have
 pub with_body_length : (before : List ℕ) (hole : ℕ) (body : Block) → hole + 4 ≤ length before
     → length before ≤ length (with_body before hole body)
 with_body_length before hole body inside =
@@ -37,7 +37,7 @@ with_body_length before hole body inside =
     (omega arith) in
     omega (arith, l1, l2, l3, l4)
 
--- behind the header of its CASE and the rest, the code with a body is that of a match
+-- after the header of its CASE and the rest, the code with a body is that of a match
 pub body_matches : (front before : List ℕ) (label : ℤ) (body rest : Block)
     → before ≡ (front ++ spelling (instruction.Case label 0))
     ++ bytes_at (length (front ++ spelling (instruction.Case label 0))) rest
@@ -245,7 +245,7 @@ module _ {V : Type 0} (strings : V → List Words) (is_block : (StrNo → Option
         (strings_at_arm strings arm) (arms_strings strings (arms_from arms)) back.table over
         (λ w held. all_within w (rest_within w held)) (λ w held. all_within w (arm_within w held))
 
-    -- the open target of the arm stands behind the headers before it
+    -- the open target of the arm comes after the headers before it
     pub own_hole : (place : ℕ) → get_or (holes_of place arms) i None
         ≡ hole_of (place + length (headers (take i arms))) arm
     own_hole place = hole_at place arms i arm below at

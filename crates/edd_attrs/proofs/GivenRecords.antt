@@ -124,7 +124,7 @@ module _ (there : Environment) (d : List ℤ) where
   all_by_test true s t u v h k = h
   all_by_test false s t u v h k = k
 
-  -- nothing behind it
+  -- nothing after it
   alone_given : (t : Trapping (List source.Record)) → (t >>= λ xs. Ok (xs ++ [])) ≡ t
   alone_given (Err why) = refl
   alone_given (Ok xs) = ap Ok (append-nil xs)

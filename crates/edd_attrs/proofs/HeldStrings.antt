@@ -66,7 +66,7 @@ module _ (strings : List Words) where
           append_held (values_in first) (values_of rest) (cond_held first is.0 is.3 none.0)
           (conds_held rest is.1 is.4 none.1)
 
-      -- where no DEFAULT was met yet, the block behind the CASEs is that of the first one
+      -- where no DEFAULT was met yet, the block after the CASEs is that of the first one
       arms_held : (had : Bool) (arms : Arms Target V) (y : Block)
           → (had ≡ false → IsDefaultBlock Gives arms y) → (b : Block) → IsArmsBlock Gives y arms b
           → arms_defaults had arms ≡ [] → Held (strings_by (values_under arms))

@@ -25,7 +25,7 @@ viewed_at view [] i x h is = absurd (omega arith)
 viewed_at view (y ∷ xs) zero x h is = ap view is
 viewed_at view (y ∷ xs) (suc i) x h is = viewed_at view xs i x (omega arith) is
 
--- what is behind the first i elements begins with the one at i
+-- what is after the first i elements begins with the one at i
 pub dropped : {X : Type 0} (xs : List X) (i : ℕ) (x : X) → i < length xs → x ≡ get_or xs i x
     → drop i xs ≡ x ∷ drop (i + 1) xs
 dropped {X} xs i x h is = drop_more xs i x h ∙ ap (λ (y : X). y ∷ drop (i + 1) xs) (sym is)
@@ -49,7 +49,7 @@ module _ {X A : Type 0} (f : X → List A) where
 
 module _ {X : Type 0} (strings : X → List Words) (of : (StrNo → Option Words) → List X → Block
     → Type 0) where
-  -- one element more: the block of those behind it becomes that of it and those behind it
+  -- one element more: the block of those after it becomes that of it and those after it
   pub record Step (x : X) (b : List Words) (between : List ℕ) (c : List Words)
       (after : List ℕ) : Type 0 where
     pub table : GrowsBy b (strings x) c
@@ -60,7 +60,7 @@ module _ {X : Type 0} (strings : X → List Words) (of : (StrNo → Option Words
         → of (string_of_table (c ++ later)) rest y
         → of (string_of_table (c ++ later)) (x ∷ rest) (around y)
 
-  -- the first i elements are written, and the table grew: the block of those behind them becomes
+  -- the first i elements are written, and the table grew: the block of those after them becomes
   -- that of all
   pub record Front (i : ℕ) (xs : List X) (a : List Words) (before : List ℕ) (b : List Words)
       (between : List ℕ) : Type 0 where

@@ -79,7 +79,7 @@ module _ (string_numbered : StrNo → Option Words) where
         → SameOutcome t o
     same_on t o p e h = subst (SameOutcome t) (sym e) h
 
-    -- an expression, and behind it what takes its value
+    -- an expression, and after it what takes its value
     on_value : (e : Expr Target) (b : Block) (next : ℤ → Trapping (List source.Record))
         → ((a : ℤ) → SameWith a (next a) b)
         → Same (value there d e >>= next) (block.Then (expression_block e) b)

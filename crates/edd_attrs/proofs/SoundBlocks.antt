@@ -85,7 +85,7 @@ module _ (context : Context) where
   }
 
   module _ (reads : Target → Bool) (facts : ExpressionFacts context reads) where
-    -- an expression, and behind it what takes its value
+    -- an expression, and after it what takes its value
     on_value : (e : Expr Target) (b : Block) (n : ℕ) → is_pure_expr reads reads e ≡ true
         → height e ≤ 99 → TakesOne b n → n ≤ 32 * (1 + n) → (m : ℕ) → 32 * nodes e + n ≤ 32 * m
         → IsSound (block.Then (expression_block e) b) m

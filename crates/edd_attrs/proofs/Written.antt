@@ -34,7 +34,7 @@ use Rattle.edd_code.proofs.Growing.{no_growth, nothing_added, growth, grows_on, 
 
 -- ---- instructions in a line
 
--- a first block, and another behind it
+-- a first block, and another after it
 pub both_blocks : (before between after : List ℕ) (a b : Block)
     → between ≡ before ++ bytes_at (length before) a
     → after ≡ between ++ bytes_at (length between) b

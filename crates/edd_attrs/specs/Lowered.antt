@@ -1,4 +1,4 @@
--- What lowering an attribute comes to.
+-- What lowering an attribute results in.
 use Rattle.std.specs.Prelude.{◌≡◌, ℕ, List, ◌++◌, length, Option}
 use Rattle.edd_syntax.specs.declared.numbers.StrNo.{StrNo}
 use Rattle.edd_syntax.specs.Words.{Words}

@@ -20,7 +20,7 @@ use Rattle.edd_attrs.specs.Code.{giving}
 use Rattle.edd_attrs.specs.Records.{text_record, class_record, handling_record, validity_record}
 use Rattle.edd_attrs.specs.Trees.{Tree, Texts, Class, Handling, Validity, Expressions, Enumerators, Number, Operation, Transaction, Data, ResponseCodes, Items, Members, Elements}
 
--- instructions one behind the other
+-- instructions one after the other
 abbrev pub straight_line : List Instruction → Block
 straight_line [] = block.Nothing
 straight_line (i ∷ is) = block.Then (block.Straight i) (straight_line is)
@@ -38,7 +38,7 @@ module _ {V : Type 0} (of : V → Block → Type 0) where
         (x y : Block) × (b ≡ block.Then (expression_block on) x) × IsDefaultBlock arms y
         × IsArmsBlock y arms x
 
-    -- one behind the other
+    -- one after the other
     pub IsCondsBlock : Conds Target V → Block → Type 0
     IsCondsBlock Nil b = b ≡ block.Nothing
     IsCondsBlock (Cons first rest) b = (x y : Block) × (b ≡ block.Then x y) × IsCondBlock first x
@@ -58,7 +58,7 @@ module _ {V : Type 0} (of : V → Block → Type 0) where
     IsDefaultBlock (ConsArm (Case label body) rest) b = IsDefaultBlock rest b
     IsDefaultBlock (ConsArm (Default body) rest) b = IsCondsBlock body b
 
-  -- elements one behind the other
+  -- elements one after the other
   abbrev pub IsLineBlock : List V → Block → Type 0
   IsLineBlock [] b = b ≡ block.Nothing
   IsLineBlock (v ∷ rest) b = (x y : Block) × (b ≡ block.Then x y) × of v x × IsLineBlock rest y

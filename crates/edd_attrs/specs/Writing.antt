@@ -1,4 +1,4 @@
--- What writing code comes to, step by step.
+-- What writing code results in, step by step.
 use Rattle.std.specs.Prelude.{◌≡◌, ℕ, ◌+◌, ◌≤◌, Bool, true, List, [], ◌∷◌, ◌++◌, length, Option, Some, None}
 use Rattle.std.specs.List.{flat_map, list_all}
 use Rattle.edd_syntax.specs.declared.numbers.StrNo.{StrNo}
@@ -60,12 +60,12 @@ abbrev pub hole_of : {V : Type 0} → (place : ℕ) → Arm Target V → Option 
 hole_of place (Case label body) = Some (place + 9)
 hole_of place (Default body) = None
 
--- the same of all arms, whose headers stand one behind the other
+-- the same of all arms, whose headers are one after the other
 abbrev pub holes_of : {V : Type 0} → (place : ℕ) → List (Arm Target V) → List (Option ℕ)
 holes_of place [] = []
 holes_of place (arm ∷ rest) = hole_of place arm ∷ holes_of (place + length (header arm)) rest
 
--- behind the code a jump over the body, which is the target of the CASE
+-- after the code a jump over the body, which is the target of the CASE
 abbrev pub with_body : (code : List ℕ) (hole : ℕ) → Block → List ℕ
 with_body code hole body =
     let opened = closed (code ++ spelling (instruction.Jump 0)) hole in closed

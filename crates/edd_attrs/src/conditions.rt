@@ -1,5 +1,5 @@
 //! The code of conditionals. A jump is written with an open target, which is closed when the place
-//! behind is known.
+//! after is known.
 
 ghost use Rattle.std.specs.Prelude.{◌≡◌, ℕ, ◌+◌, ◌≤◌, ◌++◌, IfOk, IsErrOf, IsTrue, OnOk, length, map, option_map};
 ghost use Rattle.std.specs.List.{list_all};
@@ -83,7 +83,7 @@ fn write_if<V: Element>(
     Ok(())
 }
 
-/// The code of conditionals, one behind the other.
+/// The code of conditionals, one after the other.
 #[cycle(conditions)]
 pub fn write_conds<V: Element>(
     alloc: Global,

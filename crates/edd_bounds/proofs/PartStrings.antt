@@ -52,7 +52,7 @@ module _ (w : Words) where
   in_rest_text xs ys h = ap (has w) (map-append words_of xs ys)
       ∙ in_rest (map words_of xs) (map words_of ys) h
 
-  -- a string of the first tree of an attribute stays with more trees behind
+  -- a string of the first tree of an attribute stays with more trees after it
   pub first_stays : (b : Attr) (xs ys : List Named) → has w (strings_of_tree (first_tree b xs))
       ≡ true → has w (strings_of_tree (first_tree b (xs ++ ys))) ≡ true
   first_stays b [] ys h = absurd (false≢true h)

@@ -41,7 +41,7 @@ pub fn nodes_stay()
     ensures few { (unit : Description Target) → ∥ IsChecked unit ∥₁ → unit_nodes unit ≤ 524288 }
 {}
 
-/// What the code of each row may come to, in octets and summed over the rows, is at most 32 for
+/// What the code of each row may amount to, in octets and summed over the rows, is at most 32 for
 /// each node of the description.
 pub fn nodes_of_rows()
     ensures { (unit : Description Target) → sum (map (λ r. limit_of_row unit r) (rows unit.items))

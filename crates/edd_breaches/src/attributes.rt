@@ -126,7 +126,7 @@ fn kinds_of_members(item: &Item<Path>) -> [Kind; 1] {
     }
 }
 
-// Behind the word of an attribute.
+// After the word of an attribute.
 fn walk_inside<'a>(
     item: &'a Item<Path>,
     attribute: &'a Attribute<Path>,

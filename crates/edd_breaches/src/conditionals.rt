@@ -87,7 +87,7 @@ fn walk_constant<'a>(line: u32, value: u32, walk: &mut Walk<'a>) -> Result<(), A
     Ok(())
 }
 
-// The mask behind a variable, and the qualifiers behind that.
+// The mask after a variable, and the qualifiers after that.
 fn walk_mask<'a>(line: u32, mask: Option<u32>, walk: &mut Walk<'a>) -> Result<(), AllocError> {
     if mask.is_some() {
         walk.trail.sign(Symbol::Comparison(Comparison::Less));

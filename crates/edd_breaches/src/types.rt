@@ -106,7 +106,7 @@ fn note_part<'a>(
     Ok(())
 }
 
-// What a type can't have in its braces. The way begins again behind the opening brace then.
+// What a type can't have in its braces. The way begins again after the opening brace then.
 fn note_parts<'a>(
     parts: &'a [TypePart<Path>],
     kind: VarType,
@@ -121,7 +121,7 @@ fn note_parts<'a>(
     Ok(())
 }
 
-// The size behind a type's word.
+// The size after a type's word.
 fn walk_size<'a>(
     variable: &'a str,
     size: Option<u32>,
@@ -139,7 +139,7 @@ fn walk_size<'a>(
     Ok(())
 }
 
-// A word that is no type of the profile, and what is skipped behind it.
+// A word that is no type of the profile, and what is skipped after it.
 fn walk_other<'a>(variable: &'a str, word: &'a str, walk: &mut Walk<'a>) -> Result<(), AllocError> {
     let place = walk.trail.next();
     if walk.trail.is_at(Symbol::OpenParenthesis) {
@@ -178,7 +178,7 @@ pub fn walk_parts<'a>(parts: &'a [TypePart<Path>], walk: &mut Walk<'a>) -> Resul
     Ok(())
 }
 
-/// Walks over what stands behind TYPE in a variable of this name.
+/// Walks over what comes after TYPE in a variable of this name.
 pub fn walk_type<'a>(
     variable: &'a str,
     word: &'a TypeWord,

@@ -32,7 +32,7 @@ const ADDS_ANOTHER: &str = "METHOD m { DEFINITION { add_abort_method(u); abort()
     METHOD u { DEFINITION { x = add_abort_method(v); } }
     METHOD v { DEFINITION { send_command(3); } }";
 
-// What a run of m comes to.
+// What a run of m results in.
 #[derive(Clone, Copy)]
 struct Run {
     items: &'static str,
@@ -45,7 +45,7 @@ struct Run {
 }
 
 // Adding and popping twice, and a number and its command, are 6 instructions. A number and its
-// command of u or v are 2, and the pop and the end behind a command 2 more.
+// command of u or v are 2, and the pop and the end after a command 2 more.
 const COMMANDS: [Run; 4] = [
     Run {
         items: ASKS,

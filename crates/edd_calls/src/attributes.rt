@@ -241,7 +241,7 @@ const RECORDS: [Row; 5] = [
     ),
 ];
 
-// The items above behind 259 menus, of which the first shows the last.
+// The items above after 259 menus, of which the first shows the last.
 fn items_of_each_record(alloc: Global) -> Result<String, AllocError> {
     let mut items = String::from_str(
         alloc,

@@ -37,7 +37,7 @@ fn comes_to(alloc: Global, items: &str, expected: &str) -> Result<bool, AllocErr
     Ok(printed.as_str() == expected)
 }
 
-// What stands behind the identification, and the outcome.
+// What comes after the identification, and the outcome.
 const OUTCOMES: [(&str, &str); 5] = [
     ("", "1 2 3 4, items 0"),
     (
@@ -121,7 +121,7 @@ fn element(array: u16, number: u32, var: u16) -> Element {
 const ONE_ARRAY: &str = "VARIABLE x { TYPE INTEGER; } VARIABLE y { TYPE INTEGER; }
     VARIABLE k { TYPE INTEGER; } ARRAY OF VARIABLE a { ELEMENTS { 1, x; 5, y, \"Y\"; } }";
 
-// The elements of the first array stand behind those of the second one, and their numbers fall.
+// The elements of the first array come after those of the second one, and their numbers fall.
 const TWO_ARRAYS: &str = "ARRAY OF VARIABLE b { ELEMENTS { 4294967295, x; 0, y; 7, x; } }
     VARIABLE x { TYPE INTEGER; } VARIABLE y { TYPE INTEGER; }
     ARRAY OF VARIABLE none { ELEMENTS { } }

@@ -14,9 +14,9 @@ struct OneFile {
     not_saved: Option<FileFault>,
     // The most bytes that a read gives.
     piece: usize,
-    // How many further bytes stand behind the identification.
+    // How many further bytes come after the identification.
     further: usize,
-    // Whether a read behind all of them fails.
+    // Whether a read after all of them fails.
     is_broken: bool,
 }
 
@@ -70,7 +70,7 @@ const WHOLE: OneFile = OneFile {
     is_broken: false,
 };
 
-// The bytes behind the identification of the longest file that is read.
+// The bytes after the identification of the longest file that is read.
 const MOST_FURTHER: usize = 67_108_864 - IDENTIFICATION.len();
 
 // A file, the exit status, and what is printed.

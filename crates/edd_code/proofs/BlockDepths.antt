@@ -68,7 +68,7 @@ module _ (version : Version) (sort : Sort) (depth : ℕ → ℕ) where
   abbrev Agrees : (p d : ℕ) → Block → Type 0
   Agrees p d b = (x : ℕ) → p ≤ x → x < p + size b → depth x ≡ depth_in b p d x
 
-  -- a function that agrees inside and behind the block has its numbers
+  -- a function that agrees inside and after the block has its numbers
   pub has_depths : (p d : ℕ) (b : Block) → FlowsIn version sort b d → Agrees p d b
       → depth (p + size b) ≡ depth_after b d → HasDepthsOf depth p d b
   has_depths p d Nothing flows agrees exit = ap depth (omega arith) ∙ exit

@@ -1,4 +1,4 @@
--- The ways inside a block lead forward to its instructions or to the one behind it, and agree on
+-- The ways inside a block lead forward to its instructions or to the one after it, and agree on
 -- the number of operands, in a unit of any version and sort.
 use Rattle.std.proofs.Common.{◌≡◌, refl, sym, ap, subst, ◌∙◌, ℕ, ◌+◌, ◌-◌, ◌<◌, ◌≤◌, ℤ, Bool, true, false, List, [], ◌∷◌, length, Option, Some, None, arith}
 use Rattle.std.specs.Prelude.{◌==◌, ◌&&◌, ◌||◌, is_some, is_none, nat_lt}
@@ -163,7 +163,7 @@ module _ (xs : List Placed) where
   pub starts : (x : Placed) → Among x → is_start xs x.place ≡ true
   starts x among = among (λ y. is_start xs y.place ≡ true) (starts_among xs)
 
-  -- where the place behind a block is a start, so is its own
+  -- where the place after a block is a start, so is its own
   pub starts_at : (p : ℕ) (b : Block) → Inside p b → is_start xs (p + size b) ≡ true
       → is_start xs p ≡ true
   starts_at p Nothing inside exit = ap (is_start xs) (omega arith) ∙ exit
@@ -186,7 +186,7 @@ module _ (xs : List Placed) where
       (λ P h. (inside P h).0)
 
 module _ (version : Version) (sort : Sort) (xs : List Placed) where
-  -- where no instruction leads to the place behind a block, the block is empty, and none leads to
+  -- where no instruction leads to the place after a block, the block is empty, and none leads to
   -- its own
   pub exit_fresh : (p d : ℕ) (b : Block) → FlowsIn version sort b d → Inside xs p b
       → (IsFresh xs p → d ≡ 0) → IsFresh xs (p + size b) → depth_after b d ≡ 0

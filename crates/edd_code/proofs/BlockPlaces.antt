@@ -13,7 +13,7 @@ use Rattle.edd_code.proofs.Lines.{placed}
 abbrev pub stand : ℕ → Instruction → ℕ → Placed
 stand p i n = record { place = p; instruction = i; next = n }
 
--- the instructions of a block at a place, and those behind it
+-- the instructions of a block at a place, and those after it
 abbrev pub listed : (place : ℕ) → Block → List Placed → List Placed
 listed p Nothing after = after
 listed p (Straight i) after = stand p i (p + length (spelling i)) ∷ after
@@ -116,7 +116,7 @@ target_is place h = mod-eq_of_lt (omega (arith, h))
 moved : (is : List Instruction) (p q : ℕ) → p ≡ q → placed p is ≡ placed q is
 moved is p q e = ap (λ (x : ℕ). placed x is) e
 
--- a jump that joins, and the part behind it
+-- a jump that joins, and the part after it
 jump_placed : (p q next to : ℕ) (is : List Instruction) (others : List Placed) → to < 2 ^ 32 → p ≡ q
     → next ≡ q + 5 → placed next is ≡ others
     → placed p (instruction.Jump (target to) ∷ is) ≡ stand q (instruction.Jump to) next ∷ others

@@ -36,7 +36,7 @@ all_read front (i ∷ is) behind ok =
     )
 
 -- what holds of the instructions from a place on holds of those of the block that stands there, and
--- of those behind it
+-- of those after it
 pub block_in : (P : Placed → Type 0) (p : ℕ) (b : Block) (after : List Instruction)
     → p + size b < 2 ^ 32 → AllByRecursion P (placed p (emitted p b ++ after))
     → AllIn P p b × AllByRecursion P (placed (p + size b) after)

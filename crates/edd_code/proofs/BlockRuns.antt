@@ -1,4 +1,4 @@
--- What the code of a block comes to, followed from the place where it stands.
+-- What the code of a block results in, followed from the place where it stands.
 use Rattle.std.proofs.Common.{◌≡◌, refl, ap, subst, ◌∙◌, ℕ, suc, ◌+◌, ◌-◌, Bool, true, false, ℤ, List, [], ◌∷◌, ◌++◌, length, Option, Some, None, Result, Ok, Err, arith}
 use Rattle.std.specs.Prelude.{option_map, if◌then◌else◌}
 use Rattle.std.specs.Ordering.{int_eq}
@@ -55,7 +55,7 @@ module _ (env : Environment) (code : List ℕ) (values : List ℤ) where
   abbrev pub given_at : (n place : ℕ) → (operands : List ℤ) → Given
   given_at n p operands = given_within n env (at code p operands values)
 
-  -- from a place with these operands the run goes on to another place, behind the records and with
+  -- from a place with these operands the run goes on to another place, after the records and with
   -- the operands of the outcome
   abbrev pub Comes : (from to : ℕ) (operands : List ℤ) → Outcome → Type 0
   Comes p q operands (Goes rs left) = (k : ℕ)
@@ -210,7 +210,7 @@ module _ (env : Environment) (code : List ℕ) (values : List ℤ) where
   then_comes p m q operands (Traps why) next first second = first
   then_comes p m q operands Stuck next first second = tt
 
-  -- a step that gives nothing, in front and behind
+  -- a step that gives nothing, before and after
   after_step : (p m q : ℕ) (operands left : List ℤ) (o : Outcome) → Quietly p m operands left
       → Comes m q left o → Comes p q operands o
   after_step p m q operands left (Goes rs rest) goes comes = λ k. let c =

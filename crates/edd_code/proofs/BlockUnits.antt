@@ -113,7 +113,7 @@ all_true p q r = rw (p, q, r) refl
 abbrev pub in_unit : Block → List Instruction
 in_unit b = emitted 0 b ++ (instruction.End ∷ [])
 
--- the end behind a block
+-- the end after a block
 abbrev pub the_end : Block → Placed
 the_end b = stand (0 + size b) instruction.End (0 + size b + 1)
 

@@ -66,7 +66,7 @@ closed_length code hole inside =
 
 -- ---- one part that a jump leads over
 
--- behind code, a jump whose target is open, and a part; then the target is closed
+-- after code, a jump whose target is open, and a part; then the target is closed
 pub part_closed : (front c1 c2 part : List ℕ) (op : ℕ) → c1 ≡ front ++ (op ∷ u32 0)
     → c2 ≡ c1 ++ part → closed c2 (length front + 1) ≡ front
     ++ (op ∷ (u32 (target (length c2)) ++ part))
@@ -111,7 +111,7 @@ when_zero_closed before c1 c2 body one two =
 
 -- ---- two parts, with a jump over the second between them
 
--- the first target is closed behind the jump, the second behind the second part
+-- the first target is closed after the jump, the second after the second part
 parts_closed : (front c1 c2 c3 c4 c5 x y : List ℕ) (skip hole : ℕ) → c1 ≡ front ++ u32 0
     → c2 ≡ c1 ++ x → c3 ≡ c2 ++ (skip ∷ u32 0) → hole ≡ length front → c4 ≡ closed c3 hole
     → c5 ≡ c4 ++ y
@@ -138,7 +138,7 @@ parts_closed front c1 c2 c3 c4 c5 x y skip hole one two three at four five =
     ) in
     closes c5 start (u32 0) y (length c2 + 1) fifth place refl ∙ simp append_assoc
 
--- the same behind an opening of one byte and a label, which may be empty
+-- the same after an opening of one byte and a label, which may be empty
 behind_label : (before c1 c2 c3 c4 c5 label x y : List ℕ) (op skip hole : ℕ)
     → c1 ≡ before ++ (op ∷ (label ++ u32 0)) → c2 ≡ c1 ++ x → c3 ≡ c2 ++ (skip ∷ u32 0)
     → hole ≡ length before + (1 + length label) → c4 ≡ closed c3 hole → c5 ≡ c4 ++ y

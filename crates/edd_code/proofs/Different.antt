@@ -74,7 +74,7 @@ abbrev out : Words → List Words → List Words
 out w [] = []
 out w (x ∷ xs) = cond (same_words w x) xs (x ∷ out w xs)
 
--- no string stands behind itself
+-- no string comes after itself
 abbrev Apart : List Words → Type 0
 Apart [] = Unit {0}
 Apart (x ∷ xs) = (has x xs ≡ false) × Apart xs

@@ -54,7 +54,7 @@ module _ (text : StrNo → Option Words) (around : device.Environment) where
   MeansOfTwo b f = (a c : ℤ) (operands : List ℤ) (s : State) → runs b (c ∷ a ∷ operands) s
       ≡ pushed operands (f a c s)
 
-  -- ---- one behind the other
+  -- ---- one after the other
 
   -- where a block goes on, the next one finds what it leaves
   then_does : (a b : Block) (operands left : List ℤ) (s t : State) → runs a operands s ≡ Goes left t

@@ -23,7 +23,7 @@ use Rattle.edd_code.specs.Expressions.{expression_block, item_block, read_block,
 use Rattle.edd_code.specs.ExpressionMeaning.{of_value}
 use Rattle.edd_code.specs.Outcomes.{Outcome, Goes, Traps, Stuck, behind, and_then, does}
 
--- ---- blocks, one behind the other
+-- ---- blocks, one after the other
 
 nothing_in_front : (o : Outcome) → behind [] o ≡ o
 nothing_in_front (Goes records operands) = refl

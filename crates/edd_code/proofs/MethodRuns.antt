@@ -1,4 +1,4 @@
--- What the code of a block comes to in a method, followed from the place where it stands.
+-- What the code of a block results in, in a method, followed from the place where it stands.
 use Rattle.std.proofs.Common.{◌≡◌, refl, subst, ◌∙◌, ℕ, suc, ◌+◌, Bool, true, false, ℤ, List, [], ◌∷◌, length, Some, arith, Option}
 use Rattle.std.specs.Prelude.{if◌then◌else◌}
 use Rattle.std.specs.Ordering.{int_eq}
@@ -50,7 +50,7 @@ module _ (text : StrNo → Option Words) (env : Environment) (code : List ℕ) w
   then_comes p m q operands s (Stops x) next first second = first
   then_comes p m q operands s Stuck next first second = tt
 
-  -- a step in front and behind
+  -- a step before and after
   after_step : (p m q : ℕ) (operands left : List ℤ) (s : State) (o : Outcome State Halted)
       → Leads text env code p m operands left s s → Comes text env code m q left s o
       → Comes text env code p q operands s o

@@ -1,4 +1,4 @@
--- Parts of code that name strings by their numbers, one behind the other and round each other.
+-- Parts of code that name strings by their numbers, one after the other and round each other.
 use Rattle.std.proofs.Common.{◌≡◌, sym, ap, subst, ◌∙◌, ℕ, zero, suc, ◌+◌, inl, inr, List, [], ◌∷◌, ◌++◌, length, arith, append_assoc, length-append}
 use Rattle.std.specs.List.{Contains}
 use Rattle.std.proofs.lemmas.List.{map-append}
@@ -84,7 +84,7 @@ module _ {old mid new first second : List Words} {c0 c1 c2 c3 before after : Lis
           (v.written d (w.table.more ++ later))) (w.written (v.table.different d) later);
     }
 
--- a part and another behind it
+-- a part and another after it
 pub both_written : {old mid new first second : List Words} {before between after : List ℕ}
     {f g : Bytes} → WritesNumbered old before first f mid between
     → WritesNumbered mid between second g new after

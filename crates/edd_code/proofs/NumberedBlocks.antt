@@ -79,7 +79,7 @@ module _ {old new : List Words} where
       part_written w (λ number one. one ∙ ap (λ (x : Block). before ++ bytes_at (length before) x)
       (same number))
 
-  -- nothing stands behind the last texts
+  -- nothing comes after the last texts
   pub last_part : (before after : List ℕ) (ts : List texts.Text) (b : Numbered)
       → WritesPart old before ts b new after → WritesPart old before (ts ++ []) b new after
   last_part before after ts b w =
@@ -214,7 +214,7 @@ pub longer_by : (before after bytes : List ℕ) → after ≡ before ++ bytes
     → length before ≤ length after
 longer_by before after bytes is = omega (arith, ap length is, length-append before bytes)
 
--- the four bytes behind the first of an opening lie inside what is longer
+-- the four bytes after the first of an opening lie inside what is longer
 pub opened_inside : (before c1 c2 opening : List ℕ) (hole : ℕ) → c1 ≡ before ++ opening
     → length opening ≡ 5 → hole ≡ length before + 1 → length c1 ≤ length c2 → hole + 4 ≤ length c2
 opened_inside before c1 c2 opening hole one five at longer =

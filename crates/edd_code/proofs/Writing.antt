@@ -6,7 +6,7 @@ use Rattle.edd_image.specs.Spelling.{spelling}
 use Rattle.edd_code.specs.Blocks.{Block, Straight, Then, bytes_at}
 use Rattle.edd_code.proofs.Closing.{straight_written, then_written}
 
--- a block behind a block is their `Then`
+-- a block after a block is their `Then`
 pub goes_on : (c0 c1 c2 : List ℕ) (a b : Block) → c1 ≡ c0 ++ bytes_at (length c0) a
     → c2 ≡ c1 ++ bytes_at (length c1) b → c2 ≡ c0 ++ bytes_at (length c0) (Then a b)
 goes_on c0 c1 c2 a b one two = two ∙ ap (λ c. c ++ bytes_at (length c) b) one ∙ then_written c0 a b

@@ -16,10 +16,10 @@ behind given (attribute.Traps why) = Stops why
 behind given attribute.Stuck = Stuck
 
 module _ (env : Environment) (values : List ℤ) where
-  -- what a straight instruction comes to
+  -- what a straight instruction results in
   abbrev pub does_one : Instruction → List ℤ → List Record → Outcome (List Record) Trap
   does_one i operands given = behind given (attribute.does_one env values i operands)
 
-  -- what a block comes to with these operands in front of it and these records so far
+  -- what a block results in with these operands in front of it and these records so far
   abbrev pub does : Block → List ℤ → List Record → Outcome (List Record) Trap
   does b operands given = blocks.does does_one b operands given

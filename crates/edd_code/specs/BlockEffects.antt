@@ -1,4 +1,4 @@
--- What a block comes to, whatever is carried along; in attributes and in methods.
+-- What a block results in, whatever is carried along; in attributes and in methods.
 use Rattle.std.specs.Prelude.{true, false, ℤ, List, [], ◌∷◌}
 use Rattle.std.specs.Ordering.{int_eq}
 use Rattle.edd_syntax.specs.TwosComplement.{is_zero}
@@ -9,7 +9,7 @@ use Rattle.edd_code.specs.Blocks.{Block, Nothing, Straight, Then, WhenNotZero, W
 pub data Outcome (W E : Type 0) : Type 0 where
   Goes : (operands : List ℤ) → W → Outcome W E
   Stops : E → Outcome W E
-  -- an operand is missing, or the instruction doesn't go on to the one behind it
+  -- an operand is missing, or the instruction doesn't go on to the one after it
   Stuck : Outcome W E
 
 -- what follows where the first goes on
@@ -23,9 +23,9 @@ abbrev pub on_topmost : {W E : Type 0} → List ℤ → (ℤ → List ℤ → Ou
 on_topmost [] f = Stuck
 on_topmost (a ∷ below) f = f a below
 
--- one: what a straight instruction comes to
+-- one: what a straight instruction results in
 module _ {W E : Type 0} (one : Instruction → List ℤ → W → Outcome W E) where
-  -- what a block comes to with these operands in front of it
+  -- what a block results in with these operands in front of it
   unfoldable pub does : Block → List ℤ → W → Outcome W E
   does Nothing operands w = Goes operands w
   does (Straight i) operands w = one i operands w

@@ -8,9 +8,9 @@ use Rattle.edd_image.specs.Spelling.{spelling}
 
 pub data Block : Type 0 where
   Nothing : Block
-  -- an instruction that goes on to the one behind it
+  -- an instruction that goes on to the one after it
   Straight : Instruction → Block
-  -- one behind the other
+  -- one after the other
   Then : (first second : Block) → Block
   -- takes the topmost operand; where it isn't 0, the body follows
   WhenNotZero : (body : Block) → Block
@@ -63,6 +63,6 @@ bytes_of is = flat_map spelling is
 abbrev pub bytes_at : (place : ℕ) → Block → List ℕ
 bytes_at p b = bytes_of (emitted p b)
 
--- the unit of a block: it stands at 0, and an end is behind it
+-- the unit of a block: it stands at 0, and an end is after it
 abbrev pub unit_code : Block → List ℕ
 unit_code b = bytes_at 0 b ++ spelling instruction.End

@@ -1,4 +1,4 @@
--- A jump is written before its target is known: four bytes stay open, and the place behind the code
+-- A jump is written before its target is known: four bytes stay open, and the place after the code
 -- so far closes them.
 use Rattle.std.specs.Prelude.{ℕ, ◌+◌, List, ◌++◌, length, take, drop}
 use Rattle.edd_image.specs.Layout.{u32}

@@ -1,4 +1,4 @@
--- What the block of an expression comes to, by the value of the expression.
+-- What the block of an expression results in, by the value of the expression.
 use Rattle.std.specs.Prelude.{ℤ, List, [], ◌∷◌, Result, Ok, Err}
 use Rattle.edd_syntax.specs.declared.answer.Trap.{Trap}
 use Rattle.edd_code.specs.Outcomes.{Outcome, Goes, Traps}

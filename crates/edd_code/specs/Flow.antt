@@ -13,12 +13,12 @@ use Rattle.edd_image.specs.References.{names_exist}
 use Rattle.edd_image.specs.Units.{takes, leaves, jump, is_allowed}
 use Rattle.edd_code.specs.Blocks.{Block, Nothing, Straight, Then, WhenNotZero, WhenZero, Either, Match}
 
--- how many operands an instruction leaves for the one behind it
+-- how many operands an instruction leaves for the one after it
 abbrev pub left_of : Option ℕ → ℕ
 left_of None = 0
 left_of (Some n) = n
 
--- how many operands there are behind a block, with so many in front of it
+-- how many operands there are after a block, with so many in front of it
 abbrev pub depth_after : Block → ℕ → ℕ
 depth_after Nothing d = d
 depth_after (Straight i) d = d - takes i + left_of (leaves i)
@@ -29,7 +29,7 @@ depth_after (Either first otherwise) d = depth_after first (d - 1)
 depth_after (Match label body rest) d = depth_after body (d - 1)
 
 module _ (version : Version) (sort : Sort) where
-  -- an instruction that may stand in such a unit, and that goes on to the one behind it and nowhere
+  -- an instruction that may stand in such a unit, and that goes on to the one after it and nowhere
   -- else
   abbrev pub is_straight_in : Instruction → Bool
   is_straight_in i = is_allowed version sort i && (is_some (leaves i) && is_none (jump i))

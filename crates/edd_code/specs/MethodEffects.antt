@@ -1,4 +1,4 @@
--- What a block comes to in a method: the operands that it leaves and the state of the method, or a
+-- What a block results in, in a method: the operands that it leaves and the state of the method, or a
 -- stop.
 use Rattle.std.specs.Prelude.{◌≡◌, ℕ, ◌≤◌, ℤ, List, [], ◌∷◌, ◌++◌, Option, Some, None}
 use Rattle.std.specs.List.{AllByRecursion}
@@ -28,7 +28,7 @@ pub record Halted : Type 0 where
 abbrev pub stops : Stop → State → Outcome State Halted
 stops why s = Stops (record { why = why; state = s })
 
--- the changes are noted behind those so far
+-- the changes are noted after those so far
 abbrev pub noted : List Change → State → State
 noted [] s = s
 noted (c ∷ rest) s = noted rest (record s { changes = s.changes ++ c ∷ [] })
@@ -43,7 +43,7 @@ abbrev pub when_known : List ℤ → State → Option source.Request → Outcome
 when_known operands s None = Stuck
 when_known operands s (Some r) = pushed operands (ask r s)
 
--- only what doesn't jump goes on to the instruction behind it
+-- only what doesn't jump goes on to the instruction after it
 abbrev pub unless_jump : Option Way → Outcome State Halted → Outcome State Halted
 unless_jump None o = o
 unless_jump (Some to) o = Stuck
@@ -65,7 +65,7 @@ module _ (text : StrNo → Option Words) (env : Environment) where
   with_answer Aborted operands s = stops source.Aborted s
   with_answer (Trapped why) operands s = stops (source.Trapped why) s
 
-  -- what the effect of an instruction comes to, by the state that was before it
+  -- what the effect of an instruction results in, by the state that was before it
   abbrev pub outcome_of : State → Option Effect → Outcome State Halted
   outcome_of s None = Stuck
   outcome_of s (Some e) = with_answer e.state.status e.state.operands
@@ -75,16 +75,16 @@ module _ (text : StrNo → Option Words) (env : Environment) where
         abort_methods = e.state.abort_methods;
       }))
 
-  -- what a straight instruction comes to does not depend on where it stands
+  -- what a straight instruction results in does not depend on where it stands
   abbrev pub does_one : Instruction → List ℤ → State → Outcome State Halted
   does_one i operands s = unless_jump (jump i) (outcome_of s (act env i 0 (at [] 0 operands s)))
 
-  -- what a block comes to with these operands in front of it
+  -- what a block results in with these operands in front of it
   abbrev pub does : Block → List ℤ → State → Outcome State Halted
   does b operands s = blocks.does does_one b operands s
 
   -- From a place with these operands the run goes on to another place, with the operands and the
-  -- state of the outcome, or comes to its stop: for any number of steps behind it, from there at
+  -- state of the outcome, or comes to its stop: for any number of steps after it, from there at
   -- least as many.
   abbrev pub Comes : (code : List ℕ) → (from to : ℕ) → (operands : List ℤ) → State
       → Outcome State Halted → Type 0

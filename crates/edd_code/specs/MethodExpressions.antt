@@ -52,7 +52,7 @@ abbrev pub store_behind_block : Operator → Target → Block
 store_behind_block op to = Then (Straight instruction.Duplicate)
     (Then (store_next_block op to) (Straight instruction.Pop))
 
--- `++` and `--`, in front and behind
+-- `++` and `--`, before and after
 abbrev pub increment_block : IncrementOperator → Target → Block
 increment_block PreIncrement to = Then (load_block to) (store_next_block operator.Add to)
 increment_block PostIncrement to = Then (load_block to) (store_behind_block operator.Add to)
@@ -70,7 +70,7 @@ ask_block a = Straight (instruction.Ask a)
 module _ (number : Words → StrNo) where
   -- The operands from left to right, and what is read before a right side is read in front of it. A
   -- call that aborts is ABORT and leaves nothing; in a checked description it is a whole statement,
-  -- behind which no POP may stand.
+  -- after which no POP may stand.
   unfoldable mutual
     pub method_block : Expr Target → Block
     method_block (Literal value) = Straight (instruction.Push value)

@@ -1,4 +1,4 @@
--- What a block comes to in an attribute: the records that it gives and the operands that it leaves,
+-- What a block results in, in an attribute: the records that it gives and the operands that it leaves,
 -- or a trap.
 use Rattle.std.specs.Prelude.{ℕ, true, false, ℤ, List, [], ◌∷◌, ◌++◌, Option, Some, None}
 use Rattle.std.specs.Ordering.{int_eq}
@@ -17,7 +17,7 @@ use Rattle.edd_code.specs.Blocks.{Block, Nothing, Straight, Then, WhenNotZero, W
 pub data Outcome : Type 0 where
   Goes : (records : List Record) → (operands : List ℤ) → Outcome
   Traps : Trap → Outcome
-  -- an operand is missing, or the instruction doesn't go on to the one behind it
+  -- an operand is missing, or the instruction doesn't go on to the one after it
   Stuck : Outcome
 
 -- with these records in front
@@ -66,11 +66,11 @@ outcome_of None = Stuck
 outcome_of (Some e) = outcome_in e.state.status (records_of e.emitted) e.state.operands
 
 module _ (env : Environment) (values : List ℤ) where
-  -- what a straight instruction comes to does not depend on where it stands
+  -- what a straight instruction results in does not depend on where it stands
   abbrev pub does_one : Instruction → List ℤ → Outcome
   does_one i operands = outcome_of (act env i 0 (at [] 0 operands values))
 
-  -- what a block comes to with these operands in front of it
+  -- what a block results in with these operands in front of it
   unfoldable pub does : Block → List ℤ → Outcome
   does Nothing operands = Goes [] operands
   does (Straight i) operands = does_one i operands

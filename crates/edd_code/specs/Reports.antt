@@ -68,7 +68,7 @@ module _ (text : StrNo → Option Words) where
   worded (asks.SendCommandTrans n transaction) = Some (source.SendCommandTrans n transaction)
   worded asks.SaveValues = Some source.SaveValues
 
-  -- what the machine did, behind what was asked and changed before
+  -- what the machine did, after what was asked and changed before
   abbrev pub behind : source.State → Outcome → Report
   behind s o = record {
     requests = map Some s.requests ++ map worded o.requests;

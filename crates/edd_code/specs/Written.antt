@@ -1,4 +1,4 @@
--- What writing a part of a unit comes to.
+-- What writing a part of a unit results in.
 use Rattle.std.specs.Prelude.{◌≡◌, ℕ, List, [], ◌++◌, length, Option}
 use Rattle.std.specs.List.{Contains}
 use Rattle.edd_syntax.specs.declared.numbers.StrNo.{StrNo}
@@ -20,7 +20,7 @@ pub record WritesBlock (old : List Words) (before : List ℕ) (strings : List Wo
     pub is : (later : List Words) → of (string_of_table (new ++ later)) block
 
 -- The table grew by these strings alone and holds them, and the code by these bytes at the place
--- behind it, with strings by their numbers in the new table and in any that begins with it.
+-- after it, with strings by their numbers in the new table and in any that begins with it.
 pub record WritesNumbered (old : List Words) (before : List ℕ) (strings : List Words)
     (bytes : (Words → StrNo) → (place : ℕ) → List ℕ) (new : List Words) (after : List ℕ) : Type 0
   where

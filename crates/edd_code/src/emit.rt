@@ -1,4 +1,4 @@
-//! Instructions of blocks, and jumps whose target is written when the place behind is known.
+//! Instructions of blocks, and jumps whose target is written when the place after them is known.
 
 ghost use Rattle.std.specs.Prelude.{◌≡◌, ◌+◌, ◌≤◌, ◌++◌, length, IfOk, OnErr, OnOk};
 ghost use Rattle.edd_image.specs.Spelling.{head_length, jump_to, spelling};
@@ -7,7 +7,7 @@ ghost use Rattle.edd_code.specs.Closing.{closed};
 use edd_image::{Emitter, Hole, Instruction, Jump, encode, head};
 use std::alloc::AllocError;
 
-/// Writes an instruction behind the code.
+/// Writes an instruction after the code.
 pub fn put(code: &mut Emitter, instruction: Instruction) -> Result<(), AllocError>
     ensures code { OnOk result (code.new ≡ code.old ++ spelling instruction) }
     ensures kept { OnErr result (code.new ≡ code.old) }
@@ -15,7 +15,7 @@ pub fn put(code: &mut Emitter, instruction: Instruction) -> Result<(), AllocErro
     code.emit(encode(instruction).as_slice())
 }
 
-/// Writes a jump behind the code, whose target is open.
+/// Writes a jump after the code, whose target is open.
 pub fn open(code: &mut Emitter, jump: Jump) -> Result<Hole, AllocError>
     ensures code { OnOk result (code.new ≡ code.old ++ spelling (jump_to jump 0)) }
     ensures place { IfOk result (λ hole. hole ≡ length code.old + head_length jump) }
@@ -24,7 +24,7 @@ pub fn open(code: &mut Emitter, jump: Jump) -> Result<Hole, AllocError>
     code.hole(head(jump).as_slice())
 }
 
-/// Lets an open target be the place behind the code so far. No unit is as long as 2^32 bytes.
+/// Lets an open target be the place after the code so far. No unit is as long as 2^32 bytes.
 pub fn close(code: &mut Emitter, hole: Hole)
     requires { hole + 4 ≤ length code.old }
     ensures { code.new ≡ closed code.old hole }

@@ -154,7 +154,7 @@ fn write_two(
     write_expression(code, right)
 }
 
-// What stands behind the left side of `&&`.
+// What comes after the left side of `&&`.
 #[cycle(expressions)]
 fn write_and(code: &mut Emitter, right: &Expr<Target>) -> Result<(), AllocError>
     ensures { OnOk result (code.new ≡ code.old ++ bytes_at (length code.old)
@@ -167,7 +167,7 @@ fn write_and(code: &mut Emitter, right: &Expr<Target>) -> Result<(), AllocError>
     Ok(())
 }
 
-// What stands behind the left side of `||`.
+// What comes after the left side of `||`.
 #[cycle(expressions)]
 fn write_or(code: &mut Emitter, right: &Expr<Target>) -> Result<(), AllocError>
     ensures { OnOk result (code.new ≡ code.old ++ bytes_at (length code.old)
@@ -193,7 +193,7 @@ fn write_instead(code: &mut Emitter, right: &Expr<Target>) -> Result<(), AllocEr
     write_truth(code)
 }
 
-// Behind a test, the expression that it chooses.
+// After a test, the expression that it chooses.
 #[cycle(expressions)]
 fn write_either(
     code: &mut Emitter,

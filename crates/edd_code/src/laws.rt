@@ -45,7 +45,7 @@ pub fn blocks_flow_in_their_version()
         → all_straight (names_exist context) b ≡ true }
 {}
 
-/// The unit of a block, followed from its first byte, gives what the block comes to.
+/// The unit of a block, followed from its first byte, gives what the block results in.
 pub fn blocks_are_followed()
     ensures goes { (env : Environment) (values : List ℤ) (b : Block) (records : List Record)
         → AreSpelled b → Flows b 0 → size b < 2 ^ 31 → does env values b [] ≡ Goes records []
@@ -57,7 +57,7 @@ pub fn blocks_are_followed()
         values) ≡ Some (Err why)) }
 {}
 
-/// What a block comes to in an attribute is the general meaning of blocks, with the records so far
+/// What a block results in, in an attribute is the general meaning of blocks, with the records so far
 /// carried along.
 pub fn attributes_are_a_case()
     ensures { (env : Environment) (values : List ℤ) (b : Block) (operands : List ℤ)
@@ -67,7 +67,7 @@ pub fn attributes_are_a_case()
 {}
 
 /// Wherever the bytes of a block stand in a method, the machine goes on from their first to the
-/// place behind them, or to the stop, as the block does; for any number of steps behind it, from
+/// place after them, or to the stop, as the block does; for any number of steps after it, from
 /// its first byte in at least as many.
 pub fn blocks_come_to_their_outcomes()
     ensures { (text : StrNo → Option Words) (env : Environment) (before after : List ℕ) (b : Block)

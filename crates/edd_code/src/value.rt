@@ -207,7 +207,7 @@ fn write_instead(
     Ok(write_truth(code)?)
 }
 
-// Behind a test, the expression that it chooses.
+// After a test, the expression that it chooses.
 #[cycle(values)]
 #[tactic(auto, using(crate::proofs::NumberedBlocks::writing))]
 fn write_either(

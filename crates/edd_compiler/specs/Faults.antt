@@ -22,7 +22,7 @@ use Rattle.edd_compiler.specs.declared.fault.Fault.{Fault}
 use Rattle.edd_compiler.specs.declared.fault.Fault.TheVariants as fault
 use Rattle.edd_compiler.specs.Sources.{IsUnitOf, IsRefused}
 
--- want of memory is one fault, whoever met it
+-- out of memory is one fault, whoever met it
 abbrev pub of_lex : LexFault → Fault
 of_lex lex.TooLong = fault.Lex lex.TooLong
 of_lex (lex.NotUtf8 line) = fault.Lex (lex.NotUtf8 line)
@@ -75,7 +75,7 @@ IsOfLowering over fault.TooManyStrings = over
 IsOfLowering over fault.Memory = ⊤
 
 -- A lexical fault is the text's. A syntax fault comes only where its tokens spell no unit. A broken
--- rule is the first of a unit that it spells. Nothing is said of memory, want of which is one
+-- rule is the first of a unit that it spells. Nothing is said of memory, lack of which is one
 -- fault, whoever met it.
 abbrev pub Explains : List ℕ → Fault → Type 0
 Explains text (fault.Lex e) = IsSomeAnd (fault_of e) (LexicalFault text)

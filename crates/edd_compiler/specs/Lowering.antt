@@ -49,7 +49,7 @@ pub record HasLowered (d : Description Target) (rows : List AttrRef) (table : Li
       → Contains table w
   pub only : (w : Words) → Contains table w → IsOfRow d w
 
--- one row more: its unit stands behind the others, and the table grew by its strings alone
+-- one row more: its unit comes after the others, and the table grew by its strings alone
 pub record AddsRow (d : Description Target) (row : AttrRef) (old : List Words)
     (before : List Lowered) (new : List Words) (after : List Lowered) : Type 0 where
   pub unit : Lowered

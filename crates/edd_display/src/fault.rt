@@ -26,7 +26,7 @@ impl<T: Drop> From<AllocFailed<T>> for ShowFault {
     }
 }
 
-// A String that is written to fails for want of memory alone.
+// A String that is written to fails for lack of memory alone.
 impl From<fmt::Error> for ShowFault {
     fn from(_error: fmt::Error) -> ShowFault {
         ShowFault::Memory

@@ -18,7 +18,7 @@ use std::alloc::Global;
 use std::fmt::Write as _;
 use std::io::Write;
 
-// What a read of an attribute comes to.
+// What a read of an attribute results in.
 #[derive(Drop)]
 enum Found {
     Nothing,
@@ -171,7 +171,7 @@ fn print_attributes<W: Write>(
     Ok(())
 }
 
-// The first line of an item: a variable has its type and its size behind its name.
+// The first line of an item: a variable has its type and its size after its name.
 fn print_head<W: Write>(
     alloc: Global,
     page: &Page<'_, '_>,

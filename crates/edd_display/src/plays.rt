@@ -39,7 +39,7 @@ fn push_variable(page: &Page<'_, '_>, line: &mut String, variable: VarNo) -> Res
     Ok(())
 }
 
-// The arguments in their order, each behind a blank.
+// The arguments in their order, each after a blank.
 fn push_arguments(
     page: &Page<'_, '_>,
     line: &mut String,

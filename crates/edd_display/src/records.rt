@@ -153,7 +153,7 @@ fn push_record(page: &Page<'_, '_>, line: &mut String, record: Record) -> Result
     }
 }
 
-/// Appends the records to a line, each behind a blank.
+/// Appends the records to a line, each after a blank.
 pub fn push_records(
     page: &Page<'_, '_>,
     line: &mut String,

@@ -95,7 +95,7 @@ fn print_before<W: Write>(
     }
 }
 
-// All items, and what stands behind them before the fault.
+// All items, and what comes after them before the fault.
 fn print_behind_items<W: Write>(
     alloc: Global,
     sections: &Sections<'_>,
@@ -110,7 +110,7 @@ fn print_behind_items<W: Write>(
     }
 }
 
-// All elements, and what stands behind them before the fault.
+// All elements, and what comes after them before the fault.
 fn print_behind_elements<W: Write>(
     alloc: Global,
     sections: &Sections<'_>,

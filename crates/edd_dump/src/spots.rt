@@ -114,7 +114,7 @@ fn print_field<W: Write>(
     }
 }
 
-// The fields of a row, as they are. Behind the last row there are none.
+// The fields of a row, as they are. After the last row there are none.
 fn push_fields(sections: &Sections<'_>, line: &mut String, spot: Spot) -> Result<(), ShowFault> {
     match spot {
         Spot::Variable(number) => {

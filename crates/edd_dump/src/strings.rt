@@ -8,7 +8,7 @@ use std::alloc::Global;
 use std::fmt::Write as _;
 use std::io::Write;
 
-/// A variant of a string, and the bytes behind it.
+/// A variant of a string, and the bytes after it.
 #[derive(Clone, Copy)]
 pub struct Variant<'a> {
     pub code: &'a str,
@@ -16,7 +16,7 @@ pub struct Variant<'a> {
     pub behind: &'a [u8],
 }
 
-// The first bytes and those behind them, where there are so many.
+// The first bytes and those after them, where there are so many.
 fn front(bytes: &[u8], size: usize) -> Option<(&[u8], &[u8])>
     ensures { IfSome result (λ found. length found.0.now ≡ size) }
 {

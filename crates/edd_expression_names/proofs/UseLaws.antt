@@ -1,4 +1,4 @@
--- Faults in uses that stand one behind the other, and what trees of references mean.
+-- Faults in uses that are one after the other, and what trees of references mean.
 use Rattle.std.proofs.Common.{◌≡◌, refl, sym, ap, ◌∙◌, List, [], ◌∷◌, ◌++◌, None, Option, append_assoc, subst}
 use Rattle.std.proofs.lemmas.Grind.{flat_map-append}
 use Rattle.edd_name_meanings.specs.declared.fault.NameFault.{NameFault}

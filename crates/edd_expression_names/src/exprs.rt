@@ -165,7 +165,7 @@ fn copy_boxed(
     )
 }
 
-// Two parts of an expression, one behind the other.
+// Two parts of an expression, one after the other.
 #[cycle(exprs)]
 #[tactic(auto, using(crate::proofs::UseLaws::faults))]
 fn copy_pair(

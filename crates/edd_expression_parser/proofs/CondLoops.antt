@@ -131,7 +131,7 @@ module _ {V W : Type 0} (view : V → W) where
         (same_elements element element_shortens (length here) (suc (length (skip_comma rest)))
         (skip_comma rest) (omega arith) (omega arith))
 
--- fewer tokens are left behind an element
+-- fewer tokens are left after an element
 pub element_left : {W : Type 0} (value : ℕ → List Token → Read W)
     → ((height_left : ℕ) → Shortens (value height_left))
     → (height_left : ℕ) (here : List Token) (c : Cond Path W) (rest next : List Token)
@@ -218,7 +218,7 @@ module _ {V W : Type 0} (view : V → W) (form : Form) (value : ℕ → List Tok
       let more : length here + 1 ≡ suc (length here) = omega arith in
       rw more (rw (arms_next (length here) here e) (rw fails refl))
 
-  -- what reads the same behind an arm reads the same before it
+  -- what reads the same after an arm reads the same before it
   more_arms : (n m : ℕ) (here : List Token) → ((a : Arm Path W × List Token)
       → arm_at form value height_left here ≡ Some a
       → arms form value height_left n a.1 ≡ arms form value height_left m a.1)

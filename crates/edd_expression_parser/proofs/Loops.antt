@@ -68,7 +68,7 @@ module _ (p : Place) (inner : Inner) (height_left row : ℕ) where
 
 -- ---- arguments
 
--- arguments behind the ones that are read already
+-- arguments after the ones that are read already
 abbrev pub behind : List (code.Argument path.Path) → Arguments Path → Arguments Path
 behind [] others = others
 behind (a ∷ before) others = Cons (argument_view a) (behind before others)

@@ -34,12 +34,12 @@ arms_view view all = cond.arms_from (map (arm_of path_of view) all)
 
 -- ---- reading
 
--- a value, with a semicolon behind a single one
+-- a value, with a semicolon after a single one
 unfoldable pub value_in : {V : Type 0} → Form → (List Token → Read V) → List Token → Read V
 value_in One value here = ended value here
 value_in Many value here = value here
 
--- what a SELECT is on, and the brace behind it
+-- what a SELECT is on, and the brace after it
 unfoldable pub select_head : ℕ → List Token → Read (Expr Path)
 select_head height_left here = do
   (on, brace) ← condition_at InAttribute height_left here

@@ -49,7 +49,7 @@ pub trait ParseValue: Sized + Drop {
     ghost shortens: { (height_left : ℕ) → Shortens (read height_left) };
 }
 
-// An integer behind a minus sign.
+// An integer after a minus sign.
 fn negative(cursor: &mut Cursor) -> Result<i64, ParseFault>
     ensures { Gives (λ z. z) result cursor.new (reading.negative_at cursor.old) }
 {
@@ -89,7 +89,7 @@ pub fn condition(
     Ok(inside.expr)
 }
 
-// What a SELECT is on, and the brace behind it.
+// What a SELECT is on, and the brace after it.
 #[tactic(auto, unfolding(crate::specs::Conditionals::select_head))]
 fn select_head(cursor: &mut Cursor, height_left: u32) -> Result<Expr<Path>, ParseFault>
     requires { height_left ≤ 100 }
@@ -108,7 +108,7 @@ fn list_ends(cursor: &Cursor) -> bool
         || cursor.at_word(Keyword::Default)
 }
 
-// A value, with a semicolon behind a single one.
+// A value, with a semicolon after a single one.
 #[tactic(auto, unfolding(crate::specs::Conditionals::value_in, edd_grammar::specs::ConditionalReading::ended))]
 fn one_value<V: ParseValue>(
     cursor: &mut Cursor,
@@ -176,7 +176,7 @@ fn layer<V: ParseValue>(
     Ok(Cond::Value(one_value(cursor, form, height_left)?))
 }
 
-// Behind IF.
+// After IF.
 #[cycle(cond)]
 #[tactic(auto, unfolding(edd_grammar::specs::ConditionalReading::if_at), using(edd_syntax::proofs::CondRows::equations))]
 fn if_behind<V: ParseValue>(
@@ -278,7 +278,7 @@ pub fn elements<V: ParseValue>(
     Ok(all)
 }
 
-// Behind SELECT.
+// After SELECT.
 #[cycle(cond)]
 #[tactic(auto, unfolding(edd_grammar::specs::ConditionalReading::select_at, crate::specs::Conditionals::select_head), using(edd_syntax::proofs::CondRows::equations))]
 fn select_behind<V: ParseValue>(

@@ -28,7 +28,7 @@ use edd_token_reader::operators::{
 };
 use edd_token_reader::texts::{at_text, path, path_from, text};
 
-// A reference, and a step behind it.
+// A reference, and a step after it.
 #[tactic(auto, unfolding(edd_grammar::specs::ExpressionReading::postfix))]
 fn stepped(cursor: &mut Cursor, place: Place, to: Path) -> Result<Measured, ParseFault>
     ensures read { Gives (λ t. expr_view t.expr) result cursor.new
@@ -44,7 +44,7 @@ fn stepped(cursor: &mut Cursor, place: Place, to: Path) -> Result<Measured, Pars
     Ok(leaf(Expr::Increment(op, to)))
 }
 
-// A step and the reference behind it.
+// A step and the reference after it.
 #[tactic(auto, unfolding(edd_grammar::specs::ExpressionReading::step_before))]
 fn step_before(
     cursor: &mut Cursor,
@@ -198,7 +198,7 @@ fn operand(cursor: &mut Cursor, place: Place, height_left: u32) -> Result<Measur
     }
 }
 
-// Behind a name: a call's arguments, the number of an element, or the rest of a reference.
+// After a name: a call's arguments, the number of an element, or the rest of a reference.
 #[cycle(expr)]
 #[tactic(auto, unfolding(edd_grammar::specs::ExpressionReading::named_at))]
 fn named(
@@ -229,7 +229,7 @@ fn named(
     stepped(cursor, place, to)
 }
 
-// Behind the name of an array and its bracket.
+// After the name of an array and its bracket.
 #[cycle(expr)]
 #[tactic(auto, unfolding(edd_grammar::specs::ExpressionReading::index_behind, crate::specs::Expressions::up_to_at))]
 fn indexed(
@@ -248,7 +248,7 @@ fn indexed(
     Ok(indexed_by(cursor.alloc(), name, index)?)
 }
 
-// Behind an operator before its operand.
+// After an operator before its operand.
 #[cycle(expr)]
 #[tactic(auto, unfolding(edd_grammar::specs::ExpressionReading::unary_behind))]
 fn unary(
@@ -267,7 +267,7 @@ fn unary(
     Ok(unary_over(op, operand))
 }
 
-// Behind a sign: an expression in parentheses, or an operand behind its operator.
+// After a sign: an expression in parentheses, or an operand after its operator.
 #[cycle(expr)]
 #[tactic(auto, unfolding(edd_grammar::specs::ExpressionReading::signed_at, edd_grammar::specs::ExpressionReading::parentheses_behind, crate::specs::Expressions::up_to_at))]
 fn signed(
@@ -428,7 +428,7 @@ fn chain(
     last(cursor, row, left)
 }
 
-// Row 2, behind its condition.
+// Row 2, after its condition.
 #[cycle(expr)]
 #[tactic(auto, unfolding(edd_grammar::specs::ExpressionReading::choice_at, crate::specs::Expressions::up_to_at))]
 fn choice(
@@ -454,7 +454,7 @@ fn choice(
     Ok(choice_between(test, first, second))
 }
 
-// Row 1, behind what may be its left side.
+// Row 1, after what may be its left side.
 #[cycle(expr)]
 #[tactic(auto, unfolding(edd_grammar::specs::ExpressionReading::assign_at))]
 fn assignment(

@@ -14,14 +14,14 @@ fn words_of(rt: HostRuntime, text: &str) -> io::Result<Vec<String>> {
     Ok(words)
 }
 
-/// Runs `edd` with these words, and prints its status behind its lines.
+/// Runs `edd` with these words, and prints its status after its lines.
 pub fn run(rt: HostRuntime, text: &str) -> io::Result<()> {
     let words = words_of(rt, text)?;
     let status = edd_program::run(&rt, &words, &mut io::writer(&rt));
     println!(rt; "status {status}")
 }
 
-/// Runs `edd` with these words and the name of a pipe behind them, and prints how many bytes the
+/// Runs `edd` with these words and the name of a pipe after them, and prints how many bytes the
 /// pipe took.
 pub fn run_into_pipe(rt: HostRuntime, text: &str) -> io::Result<()> {
     let (mut reader, writer) = io::pipe(&rt)?;

@@ -14,12 +14,12 @@ pub branch : {A P : Type 0} (b : Bool) (x y z : A) → cond b x y ≡ z → (b �
 branch true x y z e first second = first refl e
 branch false x y z e first second = second refl e
 
--- what holds of the tokens holds of the sign and those behind it
+-- what holds of the tokens holds of the sign and those after it
 pub expected : (P : List Token → Type 0) (s : Symbol) (here rest : List Token)
     → expect s here ≡ Some rest → P here → P (Sign s ∷ rest)
 expected P s here rest e h = subst P (expect_is s here rest e) h
 
--- a word and what stands behind it, of which a tree is made
+-- a word and what comes after it, of which a tree is made
 pub worded : {A V : Type 0} (Here : Spelling A) (tall : A → ℕ) (height_left : ℕ) (k : Keyword)
     (Inner : Spelling V) (inner_tall : V → ℕ) (inner : List Token → Read V)
     → SoundOf Inner inner_tall height_left inner

@@ -238,7 +238,7 @@ module _ (k : Kind) (height_left : ℕ) where
       let own : begins_own k here ≡ true = (starts_attribute a here rest h.1).belongs k ∙ h.0 in
       rw own (attribute_again height_left a here rest h.1 low)
 
-  -- attributes, each with any number of semicolons behind it
+  -- attributes, each with any number of semicolons after it
   pub own_attributes : RowOf (ThenSemicolons (OwnAttributeHere k)) attribute_height height_left
       (λ rest. at sign.Semicolon rest ≡ false) at_close (closed (own_attribute_at k height_left))
   own_attributes =

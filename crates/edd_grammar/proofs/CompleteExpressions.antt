@@ -354,7 +354,7 @@ module _ (p : Place) (inner : Inner) (height_left : ℕ) (complete : Complete p 
         let taller = infix_height o.0 left right.0 in
         chain_fuel row n m (infix_tree o.0 left right.0) right.1 (omega arith) (omega arith)))))
 
-    -- a left side that the first operand and the operators behind it make
+    -- a left side that the first operand and the operators after it make
     abbrev from_operand : ℕ → List Token → Read (Expr Path)
     from_operand row here = operand_at p inner here >>= λ first. chain p inner height_left row
         (suc height_left) first.0 first.1
@@ -374,7 +374,7 @@ module _ (p : Place) (inner : Inner) (height_left : ℕ) (complete : Complete p 
         rest
         (omega arith) (omega arith))
 
-    -- the left side is read, and the right side behind its operator
+    -- the left side is read, and the right side after its operator
     chain_joins : (row level : ℕ) (op : Infix) (a b : Expr Path) (here rest : List Token)
         → row ≤ level → (h : InfixHere p level op a b here rest) → height (infix_tree op a b)
         ≤ suc height_left → Stops (suc level) rest

@@ -45,7 +45,7 @@ module _ (height_left : ℕ) where
       × (optional_height d.value ≤ height_left)) _ d _ rest v.2
       ((n.0.1, (refl, name_is here n.0.0 n.0.1 n.1), s.0), s.1)
 
-  -- the same list may stand behind a comma
+  -- the same list may come after a comma
   record Stand (here : List Token) (ds : List (Declarator Path)) (rest : List Token) : Type 0 where
     pub first : DeclaratorsHere ds here rest
     pub more : (from : List Token) → from ≡ Sign sign.Comma ∷ here

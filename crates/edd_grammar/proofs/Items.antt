@@ -105,7 +105,7 @@ sort_sound kind.Array here behind sort rest e x =
     (e ∙ ap (λ u. Reserved word.Array ∷ u) (expect_word_is word.Of behind a.0 a.1
     ∙ ap (λ u. Reserved word.Of ∷ u) (expect_word_is word.Variable a.0 b.0 b.1)))
 
--- the kind is read, and what stands behind it
+-- the kind is read, and what comes after it
 record ReadsSort (sort : ItemKind) (here rest : List Token) : Type 0 where
   pub behind : List Token
   pub kind_read : item_kind_at here ≡ Some (kind_of_item sort, behind)
@@ -276,7 +276,7 @@ end_no_semicolon : (rest : List Token) → at_end rest ≡ true → at sign.Semi
 end_no_semicolon [] e = refl
 end_no_semicolon (t ∷ rest) e = absurd cc
 
--- items up to the end of the text, each with any number of semicolons behind it
+-- items up to the end of the text, each with any number of semicolons after it
 pub all_items : (height_left : ℕ) → RowOf (ThenSemicolons ItemHere) item_height height_left
     (λ rest. at sign.Semicolon rest ≡ false) at_end (closed (item_at height_left))
 all_items height_left =

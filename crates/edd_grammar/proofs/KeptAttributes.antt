@@ -48,7 +48,7 @@ closed_kept Here of values (x ∷ xs) here rest h k =
     in
     (rw (first.0, more.0) refl, more.1)
 
--- ---- single values behind a word
+-- ---- single values after a word
 
 -- a conditional of good values, one in each branch
 single_kept : {V : Type 0} (k : Keyword) (Here : Spelling V) (of : V → Bool) → KeepsValues Here of
@@ -140,7 +140,7 @@ transaction_part_kept (item.Reply all) here rest h k =
 
 -- ---- attributes
 
--- behind a word and an opening brace
+-- after a word and an opening brace
 braced_kept : (w : Keyword) (here inside : List Token) → here ≡ Reserved w ∷ Sign sign.OpenBrace
     ∷ inside → Kept here → Kept inside
 braced_kept w here inside e k = kept_tail (Sign sign.OpenBrace) inside

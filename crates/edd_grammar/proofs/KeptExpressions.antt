@@ -17,7 +17,7 @@ use Rattle.edd_syntax.specs.Grammar.{Place, InAttribute, loosest, row_of, compar
 use Rattle.edd_grammar.specs.KeptTokens.{is_kept_token, Kept}
 use Rattle.edd_grammar.proofs.Steps.{both_true}
 
--- a test that holds, and tokens behind that are kept
+-- a test that holds, and tokens after that are kept
 abbrev pub Both : Bool → List Token → Type 0
 Both b rest = (b ≡ true) × Kept rest
 

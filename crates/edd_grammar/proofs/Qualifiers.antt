@@ -16,7 +16,7 @@ use Rattle.edd_grammar.proofs.SoundLists.{skip_sound}
 use Rattle.edd_grammar.proofs.CompleteLists.{comma_shorter}
 
 module _ (allowed : List Name) where
-  -- one or more names that are allowed, and the closing parenthesis behind them
+  -- one or more names that are allowed, and the closing parenthesis after them
   abbrev SomeHere : List Name → List Token → List Token → Type 0
   SomeHere [] here rest = ⊥
   SomeHere (n ∷ more) here rest =

@@ -129,7 +129,7 @@ row_inside_again Here tall height_left Follows thing things xs here rest h low =
     row_again Here tall height_left Follows at_close thing things (suc (length here)) xs here
     (Sign sign.CloseBrace ∷ rest) (omega arith) h low refl
 
--- ---- semicolons behind things
+-- ---- semicolons after things
 
 semicolons_sound : (here : List Token)
     → (n : ℕ) × TimesHere n sign.Semicolon here (skip_semicolons here)
@@ -153,7 +153,7 @@ semicolons_shorter (suc n) here rest h =
     omega (arith, ap length h.1, semicolons_shorter n h.0 rest h.2)
 
 module _ {A : Type 0} (Here : Spelling A) where
-  -- a thing and the semicolons behind it
+  -- a thing and the semicolons after it
   abbrev pub ThenSemicolons : Spelling A
   ThenSemicolons x here rest = (behind : List Token) × Here x here behind × (n : ℕ)
       × TimesHere n sign.Semicolon behind rest

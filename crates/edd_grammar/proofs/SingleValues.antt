@@ -23,7 +23,7 @@ module _ {V : Type 0} (Here : Spelling V) where
   abbrev pub Ended : Spelling V
   Ended v here rest = Here v here (Sign sign.Semicolon ∷ rest)
 
-  -- the IF behind an ELSE
+  -- the IF after an ELSE
   abbrev pub IfAgain : Spelling (Conds Path V)
   IfAgain cond.Nil here rest = ⊥
   IfAgain (cond.Cons c cond.Nil) here rest = IsIf c × OneHere Here c here rest

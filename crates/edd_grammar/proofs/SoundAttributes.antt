@@ -63,7 +63,7 @@ module _ (height_left : ℕ) where
   abbrev Stands : List Token → Attribute Path → List Token → Type 0
   Stands here a rest = AttributeHere a here rest × (attribute_height a ≤ height_left)
 
-  -- a text behind its word
+  -- a text after its word
   abbrev text_behind : List Token → TextAttribute → Read (Attribute Path)
   text_behind here which = one_at text_value height_left (drop 1 here)
       >>= λ c. Some (item.OneText which c.0, c.1)

@@ -75,7 +75,7 @@ module _ (p : Place) (inner : Inner) (height_left : ℕ) (sound : Sound p height
           → MoreArgumentsHere p args from (Sign sign.CloseParenthesis ∷ rest)
       pub low : argument_height args ≤ height_left
 
-  -- one argument: it may stand first, or behind a comma
+  -- one argument: it may stand first, or after a comma
   record ArgumentStands (here : List Token) (a : Argument Path) (rest : List Token) : Type 0 where
     pub first : (others : Arguments Path) (end : List Token) → MoreArgumentsHere p others rest end
         → ArgumentsHere p (tree.Cons a others) here end
@@ -156,7 +156,7 @@ module _ (p : Place) (inner : Inner) (height_left : ℕ) (sound : Sound p height
   step_low : (op : IncrementOperator) (r : Path) → height (tree.Increment op r) ≤ suc height_left
   step_low op r = omega arith
 
-  -- a path with nothing behind it, or with an increment
+  -- a path with nothing after it, or with an increment
   postfix_sound : (r : Path) (from here : List Token) (e : Expr Path) (rest : List Token)
       → PathHere r from here → postfix p r here ≡ Some (e, rest) → Operand from e rest
   unfolding postfix
@@ -299,11 +299,11 @@ module _ (p : Place) (inner : Inner) (height_left : ℕ) (sound : Sound p height
   operand_sound (Reserved s ∷ here) e rest x = absurd cc
   operand_sound (Sign s ∷ here) e rest x = signed_sound s here e rest x
 
-  -- an expression of a layer, with nothing behind it that it should have taken
+  -- an expression of a layer, with nothing after it that it should have taken
   abbrev Whole : ℕ → List Token → Expr Path → List Token → Type 0
   Whole row from e rest = Stands p (suc height_left) row from e rest × Ends row rest
 
-  -- the same behind a chain of operators, where nothing of row 1 or 2 was read yet
+  -- the same after a chain of operators, where nothing of row 1 or 2 was read yet
   record Chained (row : ℕ) (from : List Token) (e : Expr Path) (rest : List Token) : Type 0 where
     pub level : ℕ
     pub tighter : row ≤ level

@@ -349,7 +349,7 @@ module _ (height_left : ℕ) (inner : List Token → Read (Stmt Path))
         (let l = e.0.low in omega arith),
       )
 
-  -- a word and a semicolon behind it
+  -- a word and a semicolon after it
   jump_sound : (k : Keyword) (jump : Stmt Path)
       → ((behind : List Token) → StmtHere jump (Reserved k ∷ Sign sign.Semicolon ∷ behind) behind)
       → statement_height jump ≤ suc height_left

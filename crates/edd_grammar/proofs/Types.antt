@@ -112,7 +112,7 @@ false_not : (b : Bool) → not b ≡ true → b ≡ false
 false_not true e = absurd cc
 false_not false e = refl
 
--- ---- what stands behind another word
+-- ---- what comes after another word
 
 behind_sound : (here rest : List Token) → behind_other here ≡ Some rest → OtherTypeHere here rest
 unfolding behind_other

@@ -57,7 +57,7 @@ comma_before_else_mended_is_read : is_some (worked (numbered comma_before_else_m
 unfolding worked
 comma_before_else_mended_is_read = refl
 
--- two commas behind an element: `MENU u { ITEMS { x,, y } }`
+-- two commas after an element: `MENU u { ITEMS { x,, y } }`
 abbrev two_commas : List Token
 two_commas =
     Reserved word.Menu ∷ Identifier (codes "u") ∷ Sign sign.OpenBrace ∷ Reserved word.Items
@@ -215,7 +215,7 @@ kind_of_menu_mended_is_read : is_some (worked (numbered kind_of_menu_mended)) �
 unfolding worked
 kind_of_menu_mended_is_read = refl
 
--- a second semicolon behind an option of a type: `VARIABLE v { TYPE INTEGER { MIN_VALUE 1;; } }`
+-- a second semicolon after an option of a type: `VARIABLE v { TYPE INTEGER { MIN_VALUE 1;; } }`
 abbrev second_semicolon : List Token
 second_semicolon =
     Reserved word.Variable ∷ Identifier (codes "v") ∷ Sign sign.OpenBrace ∷ Reserved word.Type ∷

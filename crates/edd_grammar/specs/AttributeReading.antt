@@ -40,7 +40,7 @@ class_of name =
 unfoldable pub class_at : List Token → Read ResponseClass
 class_at here = name_at here >>= λ n. class_of n.0 >>= λ c. Some (c, n.1)
 
--- behind a semicolon or a comma, if one is next
+-- after a semicolon or a comma, if one is next
 abbrev pub behind_response : List Token → List Token
 behind_response here = if at sign.Semicolon here then drop 1 here else if at sign.Comma here then
     drop 1 here else here
@@ -104,7 +104,7 @@ transaction_part_at height_left here =
     >>= λ all. Some (item.Reply all.0, all.1))
     else None
 
--- behind TRANSACTION
+-- after TRANSACTION
 unfoldable pub transaction_at : ℕ → List Token → Read (Attribute Path)
 transaction_at height_left here = do
   (number, brace) ← number_at here
@@ -113,21 +113,21 @@ transaction_at height_left here = do
 
 -- ---- attributes
 
--- behind CLASS
+-- after CLASS
 unfoldable pub class_words_at : List Token → Read (Attribute Path)
 class_words_at here = do
   (names, behind) ← names_at here
   rest ← expect sign.Semicolon behind
   Some (item.Class names, rest)
 
--- behind NUMBER
+-- after NUMBER
 unfoldable pub command_number_at : List Token → Read (Attribute Path)
 command_number_at here = do
   (n, behind) ← integer_at here
   rest ← expect sign.Semicolon behind
   Some (item.Number n, rest)
 
--- behind OPERATION
+-- after OPERATION
 unfoldable pub command_operation_at : List Token → Read (Attribute Path)
 command_operation_at here = do
   (o, behind) ← operation_at here

@@ -14,7 +14,7 @@ use Rattle.edd_grammar.specs.Signs.{same_sign}
 use Rattle.edd_grammar.specs.Reading.{◌>>=◌, Read, at, expect, at_word, is_text, text_at}
 use Rattle.edd_grammar.specs.ExpressionReading.{expr_at}
 
--- behind `-`
+-- after `-`
 abbrev pub negative_at : List Token → Read ℤ
 negative_at (Integer n ∷ rest) = Some (neg_ℤ (pos n), rest)
 negative_at _ = None
@@ -35,7 +35,7 @@ condition_at p height_left here = do
   Some (e, rest)
 
 -- A conditional whose conditions have at most this height, whose values `value` reads, whose
--- branches `branch` reads, and the IF behind an ELSE `inner`.
+-- branches `branch` reads, and the IF after an ELSE `inner`.
 module _ {V : Type 0} (height_left : ℕ) (value : List Token → Read V) (branch : List Token
     → Read (Conds Path V)) (inner : List Token → Read (Cond Path V)) where
   unfoldable pub braces_at : List Token → Read (Conds Path V)
@@ -52,7 +52,7 @@ module _ {V : Type 0} (height_left : ℕ) (value : List Token → Read V) (branc
       >>= λ c. Some (cond.Cons c.0 cond.Nil, c.1)) else braces_at (drop 1 here))
       else Some (cond.Nil, here)
 
-  -- behind CASE
+  -- after CASE
   unfoldable pub case_at : List Token → Read (ℤ × Conds Path V)
   case_at here = do
     (label, colon) ← label_at here
@@ -60,7 +60,7 @@ module _ {V : Type 0} (height_left : ℕ) (value : List Token → Read V) (branc
     (body, rest) ← branch from
     Some ((label, body), rest)
 
-  -- behind DEFAULT
+  -- after DEFAULT
   unfoldable pub default_at : List Token → Read (Conds Path V)
   default_at here = do
     from ← expect sign.Colon here
@@ -77,7 +77,7 @@ module _ {V : Type 0} (height_left : ℕ) (value : List Token → Read V) (branc
       >>= λ arms. Some (ConsArm (Default x.0) arms.0, arms.1))
       else None
 
-  -- behind IF
+  -- after IF
   unfoldable pub if_at : List Token → Read (Cond Path V)
   if_at here = do
     (condition, from) ← condition_at InAttribute height_left here
@@ -85,7 +85,7 @@ module _ {V : Type 0} (height_left : ℕ) (value : List Token → Read V) (branc
     (otherwise, rest) ← else_at behind
     Some (cond.If condition first otherwise, rest)
 
-  -- behind SELECT
+  -- after SELECT
   unfoldable pub select_at : List Token → Read (Cond Path V)
   select_at here = do
     (on, from) ← condition_at InAttribute height_left here
@@ -102,7 +102,7 @@ module _ {V : Type 0} (height_left : ℕ) (value : List Token → Read V) (branc
 
 -- ---- a single value
 
--- a value and the semicolon behind it
+-- a value and the semicolon after it
 unfoldable pub ended : {V : Type 0} → (List Token → Read V) → List Token → Read V
 ended value here = do
   (v, behind) ← value here
@@ -139,7 +139,7 @@ list_ends here = if at sign.CloseBrace here then true else if at_word word.Case 
 abbrev pub skip_comma : List Token → List Token
 skip_comma here = if at sign.Comma here then drop 1 here else here
 
--- Elements up to the end of the list, each with a comma behind it or none. The number bounds how
+-- Elements up to the end of the list, each with a comma after it or none. The number bounds how
 -- many there are.
 unfoldable pub elements_at : {V : Type 0} → (List Token → Read (Cond Path V)) → ℕ → List Token
     → Read (Conds Path V)

@@ -9,7 +9,7 @@ use Rattle.edd_syntax.specs.Grammar.{InMethod}
 use Rattle.edd_grammar.specs.Reading.{◌>>=◌, Read, at, name_at}
 use Rattle.edd_grammar.specs.ExpressionReading.{expr_at}
 
--- a value of at most this height behind `=`, or none
+-- a value of at most this height after `=`, or none
 unfoldable pub value_at : ℕ → List Token → Read (Option (Expr Path))
 value_at height_left here =
     if at sign.Equals here then (expr_at InMethod height_left 1 (drop 1 here)

@@ -29,12 +29,12 @@ abbrev pub assignment_at : List Token → Read Assignment
 assignment_at (Sign s ∷ rest) = assignment_of s >>= λ op. Some (op, rest)
 assignment_at _ = None
 
--- `++` or `--` behind a reference
+-- `++` or `--` after a reference
 abbrev pub increment_at : List Token → Read IncrementOperator
 increment_at (Sign s ∷ rest) = behind_of s >>= λ op. Some (op, rest)
 increment_at _ = None
 
--- behind a path
+-- after a path
 unfoldable pub postfix : Place → Path → List Token → Read (Expr Path)
 postfix p r here =
     on_option (increment_at here) (Some (tree.Reference r, here))
@@ -52,12 +52,12 @@ as_path _ = None
 abbrev pub assigned : Place → ℕ → Expr Path → Option Path
 assigned p row e = if nat_le row 1 && is_method p then as_path e else None
 
--- these arguments, if the tokens behind the closing parenthesis are there
+-- these arguments, if the tokens after the closing parenthesis are there
 abbrev pub closing : Arguments Path → Option (List Token) → Read (Arguments Path)
 closing all None = None
 closing all (Some rest) = Some (all, rest)
 
--- a path behind `++` or `--`
+-- a path after `++` or `--`
 unfoldable pub step_before : Place → IncrementOperator → List Token → Read (Expr Path)
 step_before p op here = if is_method p then
     (path_at here >>= λ r. Some (tree.Increment op r.0, r.1)) else None
@@ -83,14 +83,14 @@ module _ (p : Place) (inner : Inner) where
   arguments_at here = if at sign.CloseParenthesis here then Some (tree.Nil, drop 1 here) else
       some_arguments (length here) here
 
-  -- behind a name and `[`
+  -- after a name and `[`
   unfoldable pub index_behind : Name → List Token → Read (Expr Path)
   index_behind name here = do
     (e, behind) ← inner (loosest p) here
     rest ← expect sign.CloseBracket behind
     Some (tree.Indexed (record { base = name; members = [] }) e, rest)
 
-  -- behind a name
+  -- after a name
   unfoldable pub named_at : Name → List Token → Read (Expr Path)
   named_at name here =
       if at sign.OpenParenthesis here
@@ -109,7 +109,7 @@ module _ (p : Place) (inner : Inner) where
     rest ← expect sign.CloseParenthesis behind
     Some (tree.Parentheses e, rest)
 
-  -- behind a sign
+  -- after a sign
   unfoldable pub signed_at : Symbol → List Token → Read (Expr Path)
   signed_at s here =
       if same_sign s sign.OpenParenthesis then parentheses_behind here
@@ -141,7 +141,7 @@ module _ (p : Place) (inner : Inner) where
       on_option (operator_at row here) (Some (left, here))
       (λ o. joined_at height_left o.0 left o.1 >>= λ whole. chain height_left row n whole.0 whole.1)
 
-  -- row 2, behind its condition
+  -- row 2, after its condition
   unfoldable pub choice_at : ℕ → ℕ → Expr Path → List Token → Read (Expr Path)
   choice_at height_left row c here =
       if nat_le row 2 && at sign.Question here

@@ -40,7 +40,7 @@ pub record SingleValue {V : Type 0} (of : V → ℕ) (Here : V → List Token �
       × (at_word word.Select here ≡ false)
   pub shorter : (v : V) (here rest : List Token) → Here v here rest → length rest < length here
 
--- what stands behind a branch or a list: its closing brace, or the next arm
+-- what comes after a branch or a list: its closing brace, or the next arm
 abbrev pub EndsBranch : List Token → Type 0
 EndsBranch rest = (at sign.CloseBrace rest ≡ true)
     ⊎ ((at_word word.Case rest ≡ true) ⊎ (at_word word.Default rest ≡ true))

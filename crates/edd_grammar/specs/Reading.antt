@@ -1,4 +1,4 @@
--- Reading names, paths and texts from left to right: what was read and the tokens behind it, or
+-- Reading names, paths and texts from left to right: what was read and the tokens after it, or
 -- nothing.
 use Rattle.std.specs.Prelude.{ℕ, Bool, true, false, List, [], ◌∷◌, ◌++◌, drop, Option, Some, None, if◌then◌else◌}
 use Rattle.edd_syntax.specs.declared.symbols.Keyword.{Keyword}
@@ -20,7 +20,7 @@ abbrev pub on_option : {A B : Type 0} → Option A → B → (A → B) → B
 on_option None none some = none
 on_option (Some x) none some = some x
 
--- what was read, and the tokens behind it
+-- what was read, and the tokens after it
 abbrev pub Read : Type 0 → Type 0
 Read A = Option (A × List Token)
 
@@ -31,7 +31,7 @@ abbrev pub at : Symbol → List Token → Bool
 at s (Sign t ∷ rest) = same_sign s t
 at s _ = false
 
--- the tokens behind this sign
+-- the tokens after this sign
 unfoldable pub expect : Symbol → List Token → Option (List Token)
 expect s here = if at s here then Some (drop 1 here) else None
 
@@ -40,7 +40,7 @@ abbrev pub at_word : Keyword → List Token → Bool
 at_word k (Reserved w ∷ rest) = same_word k w
 at_word k _ = false
 
--- the tokens behind this word
+-- the tokens after this word
 unfoldable pub expect_word : Keyword → List Token → Option (List Token)
 expect_word k here = if at_word k here then Some (drop 1 here) else None
 
@@ -77,7 +77,7 @@ abbrev pub strings_at : List Token → List ℕ × List Token
 strings_at (String s ∷ rest) = (s ++ (strings_at rest).0, (strings_at rest).1)
 strings_at here = ([], here)
 
--- behind the opening bracket
+-- after the opening bracket
 unfoldable pub key_at : List Token → Read texts.Text
 key_at here = do
   (name, behind) ← name_at here

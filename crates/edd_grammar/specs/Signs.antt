@@ -60,7 +60,7 @@ infix_of sign.LogicalAnd = Some Both
 infix_of sign.LogicalOr = Some Either
 infix_of _ = None
 
--- ---- operators before an operand, behind a reference, and assignments
+-- ---- operators before an operand, after a reference, and assignments
 
 abbrev pub unary_of : Symbol → Option UnaryOperator
 unary_of (sign.Operator operator.Add) = Some unary_operator.Plus
@@ -79,7 +79,7 @@ behind_of sign.Increment = Some PostIncrement
 behind_of sign.Decrement = Some PostDecrement
 behind_of _ = None
 
--- `=`, or an operator and `=` behind it
+-- `=`, or an operator and `=` after it
 pub data Assignment : Type 0 where
   Simple : Assignment
   Compound : Operator → Assignment

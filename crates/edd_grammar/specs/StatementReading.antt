@@ -19,7 +19,7 @@ use Rattle.edd_grammar.specs.DeclarationReading.{declarators_at}
 abbrev pub at_local_type : List Token → Bool
 at_local_type here = if at_word word.Int here then true else at_word word.Long here
 
--- Declarators behind their type and the semicolon behind them. The declaration and each declarator
+-- Declarators after their type and the semicolon after them. The declaration and each declarator
 -- are a node above a value, so a declaration is two levels high at least.
 unfoldable pub declaration_at : ℕ → List Token → Read (List (Declarator Path))
 declaration_at zero here = None
@@ -29,7 +29,7 @@ declaration_at (suc (suc height_left)) here = do
   rest ← expect sign.Semicolon behind
   Some (declarators, rest)
 
--- a label behind `case` and the colon behind it
+-- a label after `case` and the colon after it
 unfoldable pub case_label_at : List Token → Read ℤ
 case_label_at here = do
   (label, colon) ← label_at here
@@ -59,35 +59,35 @@ module _ (height_left : ℕ) (inner : List Token → Read (Stmt Path)) where
       else (part_at labels here >>= λ p. parts_at labels n p.1
       >>= λ more. Some (Cons p.0 more.0, more.1))
 
-  -- behind an opening brace, with the closing one
+  -- after an opening brace, with the closing one
   unfoldable pub body_at : (labels : Bool) → List Token → Read (Body Path)
   body_at labels here = do
     (body, behind) ← parts_at labels (suc (length here)) here
     rest ← expect sign.CloseBrace behind
     Some (body, rest)
 
-  -- behind the first branch of an `if`
+  -- after the first branch of an `if`
   unfoldable pub method_else_at : Expr Path → Stmt Path → List Token → Read (Stmt Path)
   method_else_at condition first here =
       if at_word word.MethodElse here then (inner (drop 1 here)
       >>= λ s. Some (IfElse condition first s.0, s.1))
       else Some (If condition first, here)
 
-  -- behind `if`
+  -- after `if`
   unfoldable pub method_if_at : List Token → Read (Stmt Path)
   method_if_at here = do
     (condition, from) ← condition_at InMethod height_left here
     (first, behind) ← inner from
     method_else_at condition first behind
 
-  -- behind `while`
+  -- after `while`
   unfoldable pub while_at : List Token → Read (Stmt Path)
   while_at here = do
     (condition, from) ← condition_at InMethod height_left here
     (body, rest) ← inner from
     Some (While condition body, rest)
 
-  -- behind `do`
+  -- after `do`
   unfoldable pub do_at : List Token → Read (Stmt Path)
   do_at here = do
     (body, behind) ← inner here
@@ -103,7 +103,7 @@ module _ (height_left : ℕ) (inner : List Token → Read (Stmt Path)) where
       else (expr_at InMethod height_left 1 here >>= λ e. expect s e.1
       >>= λ rest. Some (Some e.0, rest))
 
-  -- behind `for`
+  -- after `for`
   unfoldable pub for_at : List Token → Read (Stmt Path)
   for_at here = do
     inside ← expect sign.OpenParenthesis here
@@ -113,7 +113,7 @@ module _ (height_left : ℕ) (inner : List Token → Read (Stmt Path)) where
     (body, rest) ← inner behind
     Some (For initial condition update body, rest)
 
-  -- behind `switch`
+  -- after `switch`
   unfoldable pub switch_at : List Token → Read (Stmt Path)
   switch_at here = do
     (on, brace) ← condition_at InMethod height_left here
@@ -150,6 +150,6 @@ unfoldable pub statement_at : ℕ → List Token → Read (Stmt Path)
 statement_at zero here = None
 statement_at (suc height_left) here = statement_layer height_left (statement_at height_left) here
 
--- the body of a method of at most this height, behind its opening brace, with the closing one
+-- the body of a method of at most this height, after its opening brace, with the closing one
 unfoldable pub definition_at : ℕ → List Token → Read (Body Path)
 definition_at height_left here = body_at height_left (statement_at height_left) false here

@@ -55,7 +55,7 @@ type_parts_at height_left here =
     if at sign.Semicolon here then Some ([], drop 1 here) else braced
     (row_inside (type_part_at height_left)) here
 
--- What stands behind a type whose word is another one: it ends at its first semicolon or, where a
+-- What comes after a type whose word is another one: it ends at its first semicolon or, where a
 -- brace stands before one, at the brace that closes that.
 unfoldable pub behind_other : List Token → Option (List Token)
 behind_other [] = None
@@ -68,18 +68,18 @@ behind_other (_ ∷ rest) = behind_other rest
 abbrev pub WrittenType : Type 0
 WrittenType = TypeWord × List (TypePart Path)
 
--- behind the name of a type
+-- after the name of a type
 unfoldable pub known_type_at : ℕ → VarType → List Token → Read WrittenType
 known_type_at height_left type here = do
   (size, from) ← size_at here
   (parts, rest) ← type_parts_at height_left from
   Some ((item.Known type size, parts), rest)
 
--- behind another word
+-- after another word
 unfoldable pub other_type_at : Name → List Token → Read WrittenType
 other_type_at name here = behind_other here >>= λ rest. Some ((item.Other name, []), rest)
 
--- behind TYPE
+-- after TYPE
 unfoldable pub type_at : ℕ → List Token → Read WrittenType
 type_at height_left here = name_at here >>= λ n. on_option (type_of n.0) (other_type_at n.0 n.1)
     (λ type. known_type_at height_left type n.1)

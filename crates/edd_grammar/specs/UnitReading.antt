@@ -29,7 +29,7 @@ kind_at here =
 unfoldable pub item_kind_at : List Token → Read Kind
 item_kind_at here = if at_word word.Array here then Some (kind.Array, drop 1 here) else kind_at here
 
--- behind the word of an item: for a collection OF and the kind of its members, for an array OF
+-- after the word of an item: for a collection OF and the kind of its members, for an array OF
 -- VARIABLE
 unfoldable pub sort_behind : Kind → List Token → Read ItemKind
 sort_behind kind.Variable here = Some (VariableItem, here)
@@ -67,7 +67,7 @@ numbered_at k here = do
   behind ← expect_word k here
   integer_at behind
 
--- the four numbers, with a comma behind each or none
+-- the four numbers, with a comma after each or none
 unfoldable pub identification_at : List Token → Read Identification
 identification_at here = do
   (manufacturer, a) ← numbered_at word.Manufacturer here
@@ -84,7 +84,7 @@ identification_at here = do
     skip_comma d,
   )
 
--- items up to the end of the text, each with any number of semicolons behind it
+-- items up to the end of the text, each with any number of semicolons after it
 unfoldable pub items_at : List Token → Read (List (Item Path))
 items_at here = row_at at_end (closed (item_at height_limit)) (suc (length here)) here
 

@@ -21,7 +21,7 @@ use Rattle.edd_grammar.specs.WordReading.{integer_at, at_name, expect_name}
 
 -- ---- words
 
--- behind one of READ and WRITE, where the other one may follow `&`
+-- after one of READ and WRITE, where the other one may follow `&`
 unfoldable pub handling_behind : Handling → Name → List Token → Read Handling
 handling_behind one other here =
     if at (sign.Operator operator.And) here then (expect_name other (drop 1 here)
@@ -55,7 +55,7 @@ operation_at here =
 unfoldable pub some_text_at : List Token → Read texts.Text
 some_text_at here = if is_text here then text_at here else None
 
--- a text behind a comma, or none
+-- a text after a comma, or none
 unfoldable pub optional_text_at : List Token → Read (Option texts.Text)
 optional_text_at here =
     if at sign.Comma here then (some_text_at (drop 1 here) >>= λ t. Some (Some t.0, t.1)) else Some
@@ -79,7 +79,7 @@ unfoldable pub allowed_at : (allowed : List Name) → List Token → Read Name
 allowed_at allowed here = name_at here >>= λ n. if is_name_in allowed n.0 then Some n else None
 
 -- One or more names that are allowed, with a comma between two of them or none, and the closing
--- parenthesis behind them. The number bounds how many there are.
+-- parenthesis after them. The number bounds how many there are.
 unfoldable pub some_qualifiers : (allowed : List Name) → ℕ → List Token → Read (List Name)
 some_qualifiers allowed zero here = None
 some_qualifiers allowed (suc n) here = do

@@ -19,7 +19,7 @@ abbrev pub at_name : Name → List Token → Bool
 at_name name (Identifier n ∷ rest) = bytes_eq n name
 at_name name _ = false
 
--- the tokens behind this name
+-- the tokens after this name
 unfoldable pub expect_name : Name → List Token → Option (List Token)
 expect_name name here = if at_name name here then Some (drop 1 here) else None
 
@@ -57,12 +57,12 @@ row_at ends thing (suc n) here =
     if ends here then Some ([], here) else (thing here >>= λ x. row_at ends thing n x.1
     >>= λ more. Some (x.0 ∷ more.0, more.1))
 
--- behind the semicolons that are next
+-- after the semicolons that are next
 abbrev pub skip_semicolons : List Token → List Token
 skip_semicolons (Sign sign.Semicolon ∷ rest) = skip_semicolons rest
 skip_semicolons here = here
 
--- a thing and any number of semicolons behind it
+-- a thing and any number of semicolons after it
 unfoldable pub closed : {A : Type 0} → (List Token → Read A) → List Token → Read A
 closed thing here = thing here >>= λ x. Some (x.0, skip_semicolons x.1)
 

@@ -219,7 +219,7 @@ pub fn one_tree()
         → a ≡ b }
 {}
 
-/// An item that is read from kept tokens is one as the parser makes it, and the tokens behind it
+/// An item that is read from kept tokens is one as the parser makes it, and the tokens after it
 /// are kept.
 pub fn read_items_are_kept()
     ensures { (here : List Token) (i : Item Path) (rest : List Token)

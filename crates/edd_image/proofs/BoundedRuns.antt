@@ -79,7 +79,7 @@ module _ (context : Context) (env : Environment) where
   met status.Aborted s answers e is valid = over s answers Ending.Aborted is valid tt
   met (status.Trapped why) s answers e is valid = over s answers (Ending.Trapped why) is valid tt
 
-  -- what a run comes to
+  -- what a run results in
   pub record Bounded (unit : RunningUnit) (o : Outcome) : Type 0 where
     pub state : IsState context env o.state
     pub same : o.state.unit ≡ unit

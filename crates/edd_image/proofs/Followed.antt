@@ -9,13 +9,13 @@ use Rattle.edd_image.specs.Steps.{State, Environment, Effect, step}
 use Rattle.edd_image.specs.Execution.{Ending, Ended, Aborted, Trapped, Waiting, OutOfSteps, Bad, Stuck, Outcome, Meeting, answered, over_at, after_answer, nothing_met, meet_by, meet, closed, request_in, preceded, stepped, go_on, unchanged, execute_following, AsksNothing}
 use Rattle.edd_image.proofs.Cutting.{same_outcome, none_stands}
 
--- one outcome behind another
+-- one outcome after another
 abbrev pub followed : Outcome → Outcome → Outcome
 followed o rest = record (preceded o.requests o.changes rest) { steps = o.steps + rest.steps }
 
 -- ---- an answer
 
--- what comes of a meeting with changes is what comes of it without, behind them
+-- what comes of a meeting with changes is what comes of it without, after them
 changes_first : (c : List Change) (t : State) (rest : List Answer) (o : Option Ending)
     (x : Option Effect) (behind : Effect → Outcome)
     → go_on (record { changes = c; state = t; answers = rest; ending = o }) o x behind
@@ -160,7 +160,7 @@ module _ (follow : State → State) (quiet : AsksNothing follow)
   abbrev F : ℕ → State → List Answer → Outcome
   F = execute_following follow env
 
-  -- with j steps more behind what o says, from a state on
+  -- with j steps more after what o says, from a state on
   abbrev Along : ℕ → State → List Answer → Outcome → Type 0
   Along j s answers o = F (o.steps + j) s answers ≡ followed o (F j (follow o.state) o.answers)
 

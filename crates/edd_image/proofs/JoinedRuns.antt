@@ -340,7 +340,7 @@ module _ (text : StrNo → Option Words) (unit : Description Target) (start_of :
       )
 
   module _ (n : ℕ) (rest : List MethNo) (later : ListedCome n rest) where
-    -- behind the body of a listed method
+    -- after the body of a listed method
     listed_on : (k1 : ℕ) → n ≤ k1 → (s : State) → s.status ≡ status.Running
         → s.is_aborting ≡ true → s.abort_methods ≡ rest
         → (answers : List Answer) → AllByRecursion Valid answers
@@ -417,7 +417,7 @@ module _ (text : StrNo → Option Words) (unit : Description Target) (start_of :
 
     -- ---- a method, with its abort methods
 
-    -- behind its body
+    -- after its body
     body_on : (n k1 : ℕ) → n ≤ k1 → (s : State) → s.status ≡ status.Running
         → s.is_aborting ≡ false
         → (answers : List Answer) → AllByRecursion Valid answers

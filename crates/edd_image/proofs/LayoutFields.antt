@@ -272,7 +272,7 @@ split_7 : (a b c d e f g rest : List ℕ)
     ≡ (a ++ (b ++ (c ++ (d ++ (e ++ (f ++ g)))))) ++ rest
 split_7 a b c d e f g rest = simp append_assoc
 
--- the last piece, with nothing behind it
+-- the last piece, with nothing after it
 split_8 : (a b c d e f g h i : List ℕ)
     → a ++ (b ++ (c ++ (d ++ (e ++ (f ++ (g ++ (h ++ i)))))))
     ≡ (a ++ (b ++ (c ++ (d ++ (e ++ (f ++ (g ++ h))))))) ++ (i ++ [])

@@ -1,4 +1,4 @@
--- What is read of rows that stand one behind the other.
+-- What is read of rows that are one after the other.
 use Rattle.std.proofs.Common.{◌≡◌, ℕ, ◌+◌, ◌*◌, List, [], ◌∷◌, ◌++◌, length, take, drop, get_or, map, refl, sym, ap, ◌∙◌, append_assoc, arith, length-append}
 use Rattle.std.proofs.Math.Seq.{drop-append-add, drop-append_seam}
 use Rattle.std.proofs.lemmas.List.{take_at, drop_at, get_or-append-add}
@@ -14,7 +14,7 @@ use Rattle.edd_image.specs.Layout.{variable_row, name_row, attribute_row, elemen
 use Rattle.edd_image.specs.Fields.{number_at}
 use Rattle.edd_image.specs.Contents.{Span, part, VariableFields, NameFields, AttributeFields, variable_fields, name_fields, attribute_fields, element_fields, string_fields, rows_from, fields_of_variable, fields_of_name, fields_of_attribute, fields_of_string}
 
--- ---- numbers behind other bytes
+-- ---- numbers after other bytes
 
 number_behind : (w : Width) (before after : List ℕ) (k : ℕ)
     → number_at w (before ++ after) (length before + k) ≡ number_at w after k

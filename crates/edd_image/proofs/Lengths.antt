@@ -215,7 +215,7 @@ inside size place (Some x) found h e =
     subst (λ (y : Instruction × ℕ). (place < y.1) × (y.1 ≤ size)) same
     (omega (arith, short), omega (arith, short))
 
--- the place after an instruction lies behind it, and inside the code or at its end
+-- the place after an instruction lies after it, and inside the code or at its end
 pub instruction_inside : (code : List ℕ) (place : ℕ) (found : Instruction × ℕ)
     → instruction_at code place ≡ Some found → (place < found.1) × (found.1 ≤ length code)
 unfolding instruction_at

@@ -138,7 +138,7 @@ optional_is n lt = by_test (n == 0xffff) refl
 -- ---- instructions
 
 module _ (code : ℕ) (bytes : List ℕ) (are : AreBytes bytes) where
-  -- the code is this, and the operands stand behind it
+  -- the code is this, and the operands come after it
   spelled : {c : ℕ} {tail : List ℕ} → (code == c) ≡ true → bytes ≡ tail → code ∷ bytes ≡ c ∷ tail
   spelled {c} {tail} e h = ap (λ (n : ℕ). n ∷ bytes) (eqb-true code c e)
       ∙ ap (λ (l : List ℕ). c ∷ l) h
@@ -412,7 +412,7 @@ instruction_says (code ∷ bytes) are =
     gives_choice P' (code == 0x52) _ _ (λ e. abort_method_says code bytes rest e)
     (λ _. gives_none P')))))))))
 
--- what is behind the instruction is what is behind the next place
+-- what is after the instruction is what is after the next place
 next_is : (size : ℕ) (place : ℕ) (whole code : List ℕ) (i : Instruction) (rest : List ℕ)
     → whole ≡ drop place code → whole ≡ spelling i ++ rest → drop (length code - length rest) code
     ≡ rest

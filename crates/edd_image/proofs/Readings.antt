@@ -55,7 +55,7 @@ take_below (suc n) (b ∷ bytes) are zero = are.below 0
 take_below (suc n) (b ∷ bytes) are (suc i) =
     take_below n bytes (record { below = λ k. are.below (suc k) }) i
 
--- the bytes begin with the piece, and what is behind it is bytes
+-- the bytes begin with the piece, and what is after it is bytes
 pub record Begins (bytes piece rest : List ℕ) : Type 0 where
   pub is : bytes ≡ piece ++ rest
   pub others : AreBytes rest

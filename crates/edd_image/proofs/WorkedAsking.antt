@@ -76,7 +76,7 @@ loop n m = turns n (evaluate (environment asking_unit) test) (execute (environme
 abbrev loop_run : (n m : ℕ) → State → Transcript
 loop_run n m s = run.ended (run.after_body m asking_unit (and_then (loop n m s) (next (pure Normal))))
 
--- behind the answer
+-- after the answer
 abbrev behind : (n m : ℕ) → State → Transcript
 behind n m s = run.ended (run.after_body m asking_unit (and_then (and_then (execute_all (environment asking_unit) (Cons (Statement (Evaluate increased)) (Cons (Statement (Evaluate set)) Nil)) m s) (next_turn (pure (pos 0) >> loop n m))) (next (pure Normal))))
 
@@ -170,12 +170,12 @@ machine_over (suc k) values answers = refl
 
 -- ---- both
 
--- one more element behind others
+-- one more element after others
 one_behind : {A : Type 0} (xs : List A) (x : A) (ys : List A) → (xs ++ x ∷ []) ++ ys ≡ xs ++ x ∷ ys
 one_behind xs x ys = append_assoc xs (x ∷ []) ys
 
 module _ (string_numbered : StrNo → Option Words) (known : string_numbered (record { 0 = 0 }) ≡ Some says) where
-  -- what the loop comes to on both sides, where so much was asked and changed before
+  -- what the loop results in on both sides, where so much was asked and changed before
   record Along (asked : List source.Request) (changed : List Change) (t : Transcript) (o : Outcome) : Type 0 where
     more : List source.Request
     requests : t.requests ≡ asked ++ more

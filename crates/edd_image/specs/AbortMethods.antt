@@ -16,7 +16,7 @@ pub record Start : Type 0 where
   pub slots : ℕ
 
 -- the state in which an abort method starts: at its first byte, with no operands, slots of 0, and
--- the methods behind it left
+-- the methods after it left
 abbrev pub aborting : Start → (rest : List MethNo) → State → State
 aborting start rest s = record {
   unit = start.unit;
@@ -50,7 +50,7 @@ module _ (start_of : MethNo → Option Start) where
   next_at Aborted false s = start_listed s.abort_methods s
   next_at (Trapped why) is_aborting s = s
 
-  -- the state from which a run goes on behind a step or an answer that came to s
+  -- the state from which a run goes on after a step or an answer that came to s
   abbrev pub next : State → State
   next s = next_at s.status s.is_aborting s
 
@@ -65,7 +65,7 @@ start_at c r = record {
 abbrev pub start_in : Contents → MethNo → Option Start
 start_in c m = option_map (start_at c) (body_of c m)
 
--- what a step or an answer comes to, with what follows
+-- what a step or an answer results in, with what follows
 abbrev pub follow_with : (follow : State → State) → Effect → Effect
 follow_with follow e = record e { state = follow e.state }
 

@@ -44,7 +44,7 @@ pub data Ending : Type 0 where
   -- a running state has no step, which never happens in a valid image
   Stuck : Ending
 
--- what a run comes to: the requests and the changes that it made, in order, the state that it
+-- what a run results in: the requests and the changes that it made, in order, the state that it
 -- reaches, the answers left, and how many steps it took
 pub record Outcome : Type 0 where
   pub requests : List Request
@@ -79,7 +79,7 @@ over_at (status.Trapped why) = Some (Trapped why)
 abbrev pub unchanged : State → State
 unchanged s = s
 
--- behind an answer, and what follows it, the run goes on or is over as the state says that they
+-- after an answer, and what follows it, the run goes on or is over as the state says that they
 -- lead to
 abbrev pub after_answer : (follow : State → State) → Effect → List Answer → Meeting
 after_answer follow e rest = record {
@@ -130,7 +130,7 @@ preceded requests changes rest =
 abbrev pub stepped : Outcome → Outcome
 stepped rest = record rest { steps = suc rest.steps }
 
--- a run goes on with a step and what comes behind it, unless it is over or has no step
+-- a run goes on with a step and what comes after it, unless it is over or has no step
 abbrev pub go_on : Meeting → Option Ending → Option Effect → (Effect → Outcome) → Outcome
 go_on m (Some ending) x behind = closed m ending
 go_on m None None behind = closed m Stuck
@@ -138,7 +138,7 @@ go_on m None (Some e) behind =
     stepped (preceded (request_in e.emitted) (m.changes ++ e.changes) (behind e))
 
 -- At most n steps, each request met at once by the next answer, also one that stands at the start;
--- an answer counts no step. From the state behind each step and each answer the run goes on at what
+-- an answer counts no step. From the state after each step and each answer the run goes on at what
 -- `follow` makes of it.
 unfoldable pub execute_following : (follow : State → State) → Environment → (n : ℕ) → State
     → List Answer → Outcome

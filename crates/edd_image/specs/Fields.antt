@@ -25,7 +25,7 @@ version_number b = number_at w16 b 4
 abbrev pub is_extended : List ℕ → Bool
 is_extended b = version_number b == 2 && nat_le 64 (length b)
 
--- the zero behind the version
+-- the zero after the version
 abbrev pub header_zero : List ℕ → ℕ
 header_zero b = number_at w16 b 6
 
@@ -36,7 +36,7 @@ total_length b = number_at w32 b 8
 abbrev pub array_count : List ℕ → ℕ
 array_count b = if is_extended b then number_at w16 b 56 else 0
 
--- the zero behind the count of arrays
+-- the zero after the count of arrays
 abbrev pub extension_zero : List ℕ → ℕ
 extension_zero b = if is_extended b then number_at w16 b 58 else 0
 
@@ -71,7 +71,7 @@ code_length b = number_at w32 b 48
 abbrev pub strings_length : List ℕ → ℕ
 strings_length b = number_at w32 b 52
 
--- ---- where the sections start, one behind the other
+-- ---- where the sections start, one after the other
 
 unfoldable pub variable_rows_start : List ℕ → ℕ
 variable_rows_start b = if version_number b == 2 then 64 else header_length
@@ -97,7 +97,7 @@ name_bytes_start b = string_rows_start b + 8 * (counts_in b).strings
 unfoldable pub string_bytes_start : List ℕ → ℕ
 string_bytes_start b = name_bytes_start b + names_length b
 
--- the place behind the last section
+-- the place after the last section
 unfoldable pub sections_end : List ℕ → ℕ
 sections_end b = string_bytes_start b + strings_length b
 

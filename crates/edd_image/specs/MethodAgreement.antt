@@ -113,7 +113,7 @@ started unit s = record {
 }
 
 -- From each state, whatever was asked and changed before, and for each number of turns the machine
--- comes, within as many steps or more, to what the body comes to.
+-- comes, within as many steps or more, to what the body results in.
 abbrev pub FollowsBody : (StrNo → Option Words) → (types : List VariableType)
     → (body : (turns : ℕ) → source.State → Transcript)
     → (machine : (steps : ℕ) → source.State → Outcome) → Type 0
@@ -123,7 +123,7 @@ FollowsBody string_numbered types body machine = (s : source.State) (before : Li
     → (n : ℕ) → (k : ℕ) × (n ≤ k)
     × SameOutcome string_numbered (body n s) (preceded before s.changes (machine k s))
 
--- The code is a valid unit with a slot for each declared local. Alone, without abort methods behind
+-- The code is a valid unit with a slot for each declared local. Alone, without abort methods after
 -- it, it does what the method's body does, with strings by their numbers in this table.
 pub record IsMethodCode (unit : Description Target) (strings : List Words) (method : MethNo)
     (slots : ℕ) (code : List ℕ) : Type 0 where
@@ -137,7 +137,7 @@ pub record IsMethodCode (unit : Description Target) (strings : List Words) (meth
 -- ---- the whole image
 
 -- The body of a method in the image: the row of its code, whose runs from its start, with abort
--- methods behind it, are those of the method.
+-- methods after it, are those of the method.
 pub record AgreesOnMethod (unit : Description Target) (c : Contents) (method : MethNo) : Type 0
   where
     pub row : AttributeFields

@@ -67,7 +67,7 @@ with_record (emitted.Record r) (Ok rest) = Ok (r ∷ rest)
 with_record (emitted.Record r) (Err why) = Err why
 with_record (emitted.Request r) given = given
 
--- what comes of a step and of what is behind it; a state without a step is at the end
+-- what comes of a step and of what is after it; a state without a step is at the end
 abbrev pub given_by : Option Effect → Status → (Effect → Option (Result (List Record) Trap))
     → Option (Result (List Record) Trap)
 given_by None status behind = at_end status

@@ -55,7 +55,7 @@ pub record Environment : Type 0 where
   pub types : List VariableType
   pub elements : List Element
 
--- What a step or an answer comes to. It emits nothing, one record or one request; each store, and
+-- What a step or an answer results in. It emits nothing, one record or one request; each store, and
 -- each variable that an answer sets, is one change.
 pub record Effect : Type 0 where
   pub state : State
@@ -151,7 +151,7 @@ act_ask ask.SendCommandTrans next s =
     on_two s.operands (λ a b below. ask_for s next below (request.SendCommandTrans a b))
 act_ask ask.SaveValues next s = ask_for s next s.operands request.SaveValues
 
--- The effect of an instruction, behind which the place `next` lies, where it finds the operands
+-- The effect of an instruction, after which the place `next` lies, where it finds the operands
 -- that it needs.
 unfoldable pub act : Environment → Instruction → (next : ℕ) → State → Option Effect
 act env instruction.End next s = stop s Ended

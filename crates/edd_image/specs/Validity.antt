@@ -43,7 +43,7 @@ lengths_agree b = total_length b == length b
 
 -- ---- the rows
 
--- the spans stand one behind the other, from a place up to the end
+-- the spans are one after the other, from a place up to the end
 abbrev pub fills : ℕ → List Span → (end : ℕ) → Bool
 fills place [] end = place == end
 fills place (x ∷ xs) end = x.start == place && fills (place + x.size) xs end

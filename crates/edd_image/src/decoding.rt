@@ -398,7 +398,7 @@ fn long_from(number: u8, bytes: &[u8]) -> Option<(Instruction, &[u8])>
     }
 }
 
-// An instruction that was read and the place behind it, which the bytes that are left say.
+// An instruction that was read and the place after it, which the bytes that are left say.
 #[inline(always)]
 fn placed(code: &[u8], found: Option<(Instruction, &[u8])>) -> Option<(Instruction, usize)>
     requires { IfSome found (λ x. length x.1.now ≤ length code.now) }
@@ -408,7 +408,7 @@ fn placed(code: &[u8], found: Option<(Instruction, &[u8])>) -> Option<(Instructi
     Some((instruction, code.len() - rest.len()))
 }
 
-// The instruction of a number whose operands stand from a place on, and the place behind them.
+// The instruction of a number whose operands stand from a place on, and the place after them.
 //
 // Each arm takes the bytes of its operands by itself, so that an instruction of one byte costs no
 // slice.

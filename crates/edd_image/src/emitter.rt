@@ -52,7 +52,7 @@ impl Emitter {
         (self.bytes.len() as u64 % 0x1_0000_0000) as u32
     }
 
-    /// Writes these bytes behind the code.
+    /// Writes these bytes after the code.
     pub fn emit(&mut self, bytes: &[u8]) -> Result<(), AllocError>
         ensures code { OnOk result (self.new ≡ self.old ++ bytes.now) }
         ensures kept { OnErr result (self.new ≡ self.old) }
@@ -60,7 +60,7 @@ impl Emitter {
         self.bytes.extend_from_slice(bytes)
     }
 
-    /// Writes these bytes and four zeros behind them, which are a target that is still open.
+    /// Writes these bytes and four zeros after them, which are a target that is still open.
     pub fn hole(&mut self, head: &[u8]) -> Result<Hole, AllocError>
         ensures code { OnOk result (self.new ≡ self.old ++ (head.now ++ u32 0)) }
         ensures place { IfOk result (λ hole. hole ≡ length self.old + length head.now) }

@@ -45,7 +45,7 @@ fn is_extended(bytes: &[u8]) -> bool
     u16_at(bytes, 4) == 2 && bytes.len() >= EXTENDED_HEADER_LENGTH
 }
 
-/// The zero behind the version.
+/// The zero after the version.
 pub fn header_zero(bytes: &[u8]) -> u16
     requires { header_length ≤ length bytes.now }
     ensures { result ≡ header_zero bytes.now }
@@ -145,7 +145,7 @@ pub fn array_count(bytes: &[u8]) -> u16
     }
 }
 
-/// The zero behind the count of arrays.
+/// The zero after the count of arrays.
 pub fn extension_zero(bytes: &[u8]) -> u16
     requires { header_length ≤ length bytes.now }
     ensures { result ≡ extension_zero bytes.now }

@@ -70,7 +70,7 @@ pub fn openings_are_states()
         (opening (record { sort = context.sort; code = code }) context.slots values) }
 {}
 
-/// A running state of a valid unit has a step, and what it comes to is a state again.
+/// A running state of a valid unit has a step, and what it results in is a state again.
 pub fn steps_keep_the_state()
     ensures { (context : Context) (env : Environment) (s : State)
         → IsValidUnit context s.unit.code → IsState context env s → s.status ≡ Running
@@ -150,7 +150,7 @@ pub fn readings_are_unique()
 {}
 
 /// A machine that comes along with the source agrees with it on all runs: where for every number of
-/// turns it comes to the same within that many steps or more, what one of them comes to when it is
+/// turns it comes to the same within that many steps or more, what one of them results in when it is
 /// over the other comes to as well.
 pub fn followed_runs_agree()
     ensures { (string_numbered : StrNo → Option Words) (types : List VariableType)

@@ -1,4 +1,4 @@
-//! Where the sections start. The variable rows stand behind the header, and each section behind the
+//! Where the sections start. The variable rows come after the header, and each section after the
 //! one before it.
 
 ghost use Rattle.std.specs.Prelude.{◌≡◌, ◌≤◌, ◌<◌, ◌+◌, ◌*◌, ◌^◌, length};
@@ -101,7 +101,7 @@ pub fn string_bytes_start(bytes: &[u8]) -> usize
     name_bytes_start(bytes) + names_length(bytes) as usize
 }
 
-/// The place behind the last section.
+/// The place after the last section.
 #[tactic(auto, unfolding(crate::specs::Fields::sections_end))]
 pub fn sections_end(bytes: &[u8]) -> usize
     requires { header_length ≤ length bytes.now }

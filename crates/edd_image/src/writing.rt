@@ -16,7 +16,7 @@ use std::alloc::{AllocError, Global};
 pub enum WriteFault {
     /// 41: more than 16,777,216 bytes of code.
     CodeTooLong,
-    /// 50: want of memory.
+    /// 50: out of memory.
     Memory,
 }
 

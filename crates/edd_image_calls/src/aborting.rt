@@ -84,7 +84,7 @@ const ABORTED_TURNS: [(u64, Turn); 4] = [
     (14, Turn::Aborted),
 ];
 
-// The turn behind so many instructions.
+// The turn after so many instructions.
 fn turn_at(taken: u64) -> Turn {
     for (count, turn) in ABORTED_TURNS {
         if count == taken {

@@ -92,13 +92,13 @@ fn faults_come_in_order(rt: HostRuntime) -> Result<(), Fail> {
     let named = edited(alloc, &LOOP, 85, 0x20)?;
     let both = edited(alloc, &named, 80, 0xff)?;
     assert_eq!(rt; refusal(alloc, &both), Some(LoadFault::Name));
-    // A jump between instructions behind what takes an operand that isn't there.
+    // A jump between instructions after what takes an operand that isn't there.
     let image = with_code(alloc, 0, &[0x06, 0x30, 0, 0, 0, 3])?;
     assert_eq!(rt; refusal(alloc, &image), Some(LoadFault::Jump));
     Ok(())
 }
 
-// Where an answer is counted: behind the images each fault by its number.
+// Where an answer is counted: after the images each fault by its number.
 fn count_of(fault: LoadFault) -> usize {
     match fault {
         LoadFault::Short => 1,

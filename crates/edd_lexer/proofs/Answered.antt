@@ -46,7 +46,7 @@ answer_no_tokens text (Err e) a = go (fault_of e) a
     go None h = h
     go (Some fault) h = λ lexemes are. no_list text lexemes fault are h
 
--- a refusal without a fault is want of memory
+-- a refusal without a fault is out of memory
 memory_is : (e : LexFault) → fault_of e ≡ None → e ≡ refused.Memory
 memory_is refused.TooLong f = cc
 memory_is (refused.NotUtf8 line) f = cc

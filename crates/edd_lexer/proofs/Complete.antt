@@ -79,7 +79,7 @@ digits_begin [] rest some all = absurd (some refl)
 digits_begin (b ∷ digits) rest some all =
     rw ((both (is_ascii_digit b) (list_all is_ascii_digit digits) all).0) refl
 
--- digits with no `x` behind them are no hexadecimal number
+-- digits with no `x` after them are no hexadecimal number
 no_hex : (digits rest : List ℕ) → list_all is_ascii_digit digits ≡ true → begins is_hex_letter rest
     ≡ false → digits ≢ [] → is_hex (digits ++ rest) ≡ false
 no_hex [] rest all free some = absurd (some refl)
@@ -104,7 +104,7 @@ no_exponent : (here : List ℕ) → begins is_exponent_letter here ≡ false →
 unfolding exponent_end
 no_exponent here e = rw e refl
 
--- ---- numbers by the digits that they begin with, and what stands behind these
+-- ---- numbers by the digits that they begin with, and what comes after these
 
 number_by : (here whole rest : List ℕ) → is_hex here ≡ false → front is_ascii_digit here ≡ whole
     → behind is_ascii_digit here ≡ rest → number_at here ≡ number_from whole rest

@@ -1,4 +1,4 @@
--- What a gap or a token takes of the text: some bytes in front of what is behind it.
+-- What a gap or a token takes of the text: some bytes in front of what is after it.
 use Rattle.std.proofs.Common.{◌≡◌, ℕ, Bool, true, false, ◌&&◌, ◌==◌, List, [], ◌∷◌, ◌++◌, drop, Option, Some, refl, sym, ap, ◌∙◌, append_assoc}
 use Rattle.edd_syntax.specs.Token.{Token}
 use Rattle.edd_lexer.specs.Bytes.{begins, front, in_line}
@@ -9,7 +9,7 @@ use Rattle.edd_lexer.specs.Tokens.{Stands, word, integer, decimal, string, sign}
 use Rattle.edd_lexer.proofs.Runs.{both, front_behind}
 use Rattle.edd_lexer.proofs.ByteTests.{next_here}
 
--- behind the end of a comment stands the end of it
+-- after the end of a comment stands the end of it
 close_cut : (body rest : List ℕ) → behind_close body ≡ Some rest
     → (bytes : List ℕ) × (body ≡ bytes ++ rest)
 close_cut [] rest e = absurd cc

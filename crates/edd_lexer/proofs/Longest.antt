@@ -30,7 +30,7 @@ alone here rest t (string inside raw whole closed good is) =
 alone here rest t (sign s whole free is) =
     (symbol_bytes s, whole, sign s (sym (append-nil (symbol_bytes s))) refl is)
 
--- a token stands as well where the text ends sooner behind it
+-- a token stands as well where the text ends sooner after it
 shorter : (here : List ℕ) (t : Token) (rest : List ℕ) (stands : Stands here t rest) (c : ℕ)
     (more behind : List ℕ) → rest ≡ c ∷ (more ++ behind)
     → Stands ((token_cut here t rest stands).0 ++ c ∷ more) t (c ∷ more)
@@ -48,7 +48,7 @@ shorter here t rest (string inside raw whole closed good is) c more behind e =
 shorter here t rest (sign s whole free is) c more behind e =
     sign s refl (sym (ap (begins (lengthens s)) e) ∙ free) is
 
--- of two beginnings of a text the second is no longer than the first, or goes on behind it
+-- of two beginnings of a text the second is no longer than the first, or goes on after it
 parted : (a x b y : List ℕ) → a ++ x ≡ b ++ y
     → (length x ≤ length y) ⊎ ((c : ℕ) × (more : List ℕ) × (b ≡ a ++ c ∷ more)
     × (x ≡ c ∷ (more ++ y)))

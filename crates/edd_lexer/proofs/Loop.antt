@@ -19,9 +19,9 @@ use Rattle.edd_lexer.proofs.SoundSigns.{step_right}
 use Rattle.edd_lexer.proofs.Whole.{token_shortens, gap_shortens, tokens_from, tokens_step, tokens_end}
 use Rattle.edd_lexer.proofs.Texts.{tokens_of_is, mark_le}
 
--- ---- what stands behind a step is the end of what stands here
+-- ---- what comes after a step is the end of what stands here
 
--- what is left behind some bytes
+-- what is left after some bytes
 left : (here bytes rest : List ℕ) → here ≡ bytes ++ rest
     → rest ≡ drop (length here - length rest) here
 left here bytes rest whole =

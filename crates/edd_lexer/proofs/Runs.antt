@@ -1,4 +1,4 @@
--- A run at the front and what stands behind it make the whole.
+-- A run at the front and what comes after it make the whole.
 use Rattle.std.proofs.Common.{◌≡◌, ◌≢◌, ℕ, ◌+◌, ◌-◌, Bool, true, false, ◌&&◌, List, [], ◌∷◌, ◌++◌, take, length, refl, ap, sym, ◌∙◌, arith}
 use Rattle.std.specs.Char.{is_ascii_digit, is_ascii_hexdigit}
 use Rattle.std.specs.List.{list_all}
@@ -52,7 +52,7 @@ module _ (test : ℕ → Bool) where
       at_first true e h = rw e h
       at_first false e h = rw (e, e) refl
 
-  -- a run that passes, with something behind it that doesn't, is the longest
+  -- a run that passes, with something after it that doesn't, is the longest
   pub run_again : (bytes rest : List ℕ) → list_all test bytes ≡ true → begins test rest ≡ false
       → (front test (bytes ++ rest) ≡ bytes) × (behind test (bytes ++ rest) ≡ rest)
   run_again [] [] e stop = (refl, refl)

@@ -125,7 +125,7 @@ decimal_right fresh here bytes rest begin whole is =
     right_if fresh here (begins goes_on_number rest) _ _ (λ _. bad_number begin)
     (λ free. decimal bytes whole is free refl)
 
--- a run that was found, with what stands behind it
+-- a run that was found, with what comes after it
 pub record Front (P : List ℕ → Type 0) (here rest : List ℕ) : Type 0 where
   pub bytes : List ℕ
   pub whole : here ≡ bytes ++ rest
@@ -197,7 +197,7 @@ exponent_front here = go (begins is_exponent_letter here) refl
     go true e = behind_letter here (signed_end (drop 1 here)) e (signed_front (drop 1 here))
     go false e = tt
 
--- behind a fraction an exponent, or none
+-- after a fraction an exponent, or none
 fraction_right : (fresh : Bool) (here bytes rest : List ℕ) → begins_number here ≡ true
     → here ≡ bytes ++ rest → IsFraction bytes → Right fresh here (fraction_to rest)
 unfolding FrontOf
@@ -212,7 +212,7 @@ fraction_right fresh here bytes rest begin whole is = go (exponent_end rest) (ex
         ∙ sym (append_assoc bytes found.bytes end)))
         (inr (bytes, found.bytes, refl, inl is, found.holds))
 
--- behind digits an exponent, or none
+-- after digits an exponent, or none
 whole_right : (fresh : Bool) (here digits rest : List ℕ) → begins_number here ≡ true
     → here ≡ digits ++ rest → IsDigits digits
     → Right fresh here (decimal_or (plain_integer digits rest) (exponent_end rest))

@@ -19,7 +19,7 @@ use Rattle.edd_lexer.specs.Reading.{Step, token, next_is, followed, assigned, op
 use Rattle.edd_lexer.proofs.ByteTests.{and_false, or_parts, same_byte, next_here, neither, never}
 use Rattle.edd_lexer.proofs.Sound.{Right, right_if, word_right, number_right, string_right, hash_right, block_comment_right}
 
--- this sign, with nothing behind it that makes it longer
+-- this sign, with nothing after it that makes it longer
 sign_right : (fresh : Bool) (here : List ℕ) (s : Symbol) (rest : List ℕ) → here ≡ symbol_bytes s
     ++ rest → begins (lengthens s) rest ≡ false → Right fresh here (token (Sign s) rest)
 sign_right fresh here s rest whole free = sign s whole free refl

@@ -98,7 +98,7 @@ mutual
       string_again (good && is_escape b) raw rest e ∙ ap (λ (t : Bool). Some (t, rest))
       (and_assoc good (is_escape b) (has_escapes raw))
 
--- what is found as the end of a string, or of a string behind a backslash
+-- what is found as the end of a string, or of a string after a backslash
 pub record Ends (inside : List ℕ → Bool) (escapes : List ℕ → Bool) (good : Bool) (here : List ℕ)
     (end : Bool × List ℕ) : Type 0 where
   pub raw : List ℕ

@@ -23,7 +23,7 @@ use Rattle.edd_lexer.proofs.Sound.{Right}
 use Rattle.edd_lexer.proofs.SoundSigns.{step_right}
 use Rattle.edd_lexer.proofs.CompleteSigns.{token_again, gap_again}
 
--- ---- what stands behind a step is shorter
+-- ---- what comes after a step is shorter
 
 behind_le : (test : ℕ → Bool) (here : List ℕ) → length (behind test here) ≤ length here
 behind_le test here = omega (arith, front_length test here)
@@ -132,7 +132,7 @@ token_shortens here t rest (string inside raw whole closed good is) =
 token_shortens here t rest (sign s whole free is) = shorter here (symbol_bytes s) rest whole
     (symbol_some s)
 
--- what stands behind a step is shorter
+-- what comes after a step is shorter
 abbrev pub Shortens : ℕ → Step → Type 0
 Shortens n (token t rest) = length rest < n
 Shortens n (gap fresh rest) = length rest < n

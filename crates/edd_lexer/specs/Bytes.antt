@@ -31,7 +31,7 @@ abbrev pub front : (ℕ → Bool) → List ℕ → List ℕ
 front test [] = []
 front test (b ∷ bytes) = if test b then b ∷ front test bytes else []
 
--- what stands behind that run
+-- what comes after that run
 abbrev pub behind : (ℕ → Bool) → List ℕ → List ℕ
 behind test [] = []
 behind test (b ∷ bytes) = if test b then behind test bytes else b ∷ bytes

@@ -35,13 +35,13 @@ begins_directive fresh here = fresh && begins (λ b. b == 35) here
 pub data FaultHere (fresh : Bool) (here : List ℕ) : Fault → Type 0 where
   -- `/*` without an end
   open_comment : begins_comment here ≡ true → FaultHere fresh here OpenComment
-  -- a quote behind which no other closes the string
+  -- a quote after which no other closes the string
   open_string : (inside : List ℕ) → here ≡ quote ∷ inside
       → ((raw rest : List ℕ) → ¬ (Closed inside raw rest)) → FaultHere fresh here OpenString
   -- a string with an end, and with a backslash that begins none of the escapes
   bad_escape : (inside raw rest : List ℕ) → here ≡ quote ∷ inside → Closed inside raw rest
       → has_escapes raw ≡ false → FaultHere fresh here BadEscape
-  -- an integer that is too large, or a number with something directly behind it
+  -- an integer that is too large, or a number with something directly after it
   bad_number : begins_number here ≡ true → FaultHere fresh here BadNumber
   directive : begins_directive fresh here ≡ true → FaultHere fresh here Directive
   bad_character : here ≢ [] → begins_comment here ≡ false → begins_string here ≡ false

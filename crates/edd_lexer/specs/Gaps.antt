@@ -3,7 +3,7 @@ use Rattle.std.specs.Prelude.{◌≡◌, ℕ, ◌==◌, Bool, true, false, ◌||
 use Rattle.std.specs.Char.{is_ascii_digit}
 use Rattle.edd_lexer.specs.Bytes.{is_blank, is_line_end, in_line, is_line_blank, begins, behind}
 
--- what stands behind the first `*/`
+-- what comes after the first `*/`
 abbrev pub behind_close : List ℕ → Option (List ℕ)
 behind_close [] = None
 behind_close (b ∷ rest) = elim (b == 42 && begins (λ c. c == 47) rest) [
@@ -20,7 +20,7 @@ ends_word (b ∷ rest) = is_blank b
 abbrev pub begins_line_word : List ℕ → Bool
 begins_line_word here = bytes_eq (take 4 here) (codes "line") && ends_word (drop 4 here)
 
--- behind a `#`: past blanks of the line a digit or the word `line`
+-- after a `#`: past blanks of the line a digit or the word `line`
 abbrev pub makes_mark : List ℕ → Bool
 makes_mark here = begins is_ascii_digit (behind is_line_blank here)
     || begins_line_word (behind is_line_blank here)
@@ -34,7 +34,7 @@ pub data Gap : (fresh : Bool) → (here : List ℕ) → (next : Bool) → (rest 
   -- `//` up to the line's end
   line_comment : {fresh : Bool} {body : List ℕ}
       → Gap fresh (47 ∷ 47 ∷ body) false (behind in_line body)
-  -- `/*` up to the first `*/` behind it
+  -- `/*` up to the first `*/` after it
   block_comment : {fresh : Bool} {body rest : List ℕ} → behind_close body ≡ Some rest
       → Gap fresh (47 ∷ 42 ∷ body) false rest
   -- `#` up to the line's end

@@ -8,7 +8,7 @@ use Rattle.edd_lexer.specs.Bytes.{begins}
 abbrev pub digit_value : ℕ → ℕ
 digit_value b = if nat_lt b 58 then b - 48 else (if nat_lt b 71 then b - 55 else b - 87)
 
--- the number that digits stand for, behind the ones that stand for n
+-- the number that digits stand for, after the ones that stand for n
 abbrev pub number : (base n : ℕ) → List ℕ → ℕ
 number base n [] = n
 number base n (b ∷ digits) = number base (base * n + digit_value b) digits

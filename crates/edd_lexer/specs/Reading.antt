@@ -17,7 +17,7 @@ use Rattle.edd_lexer.specs.Gaps.{behind_close, makes_mark}
 use Rattle.edd_lexer.specs.Tokens.{Lexeme, behind_byte_order_mark}
 use Rattle.edd_lexer.specs.Faults.{Fault, BadCharacter, OpenComment, OpenString, BadEscape, BadNumber, Directive}
 
--- what begins at a place: a token or a gap, with what stands behind it, or a fault
+-- what begins at a place: a token or a gap, with what comes after it, or a fault
 pub data Step : Type 0 where
   token : Token → (rest : List ℕ) → Step
   gap : (fresh : Bool) → (rest : List ℕ) → Step
@@ -33,7 +33,7 @@ word_at here =
 
 -- ---- numbers
 
--- a number with these digits, and what stands behind it
+-- a number with these digits, and what comes after it
 unfoldable pub integer_of : (base : ℕ) → (digits rest : List ℕ) → Step
 integer_of base digits rest =
     if begins goes_on_number rest then wrong BadNumber
@@ -41,7 +41,7 @@ integer_of base digits rest =
     rest
     else wrong BadNumber
 
--- a `0` with more behind it
+-- a `0` with more after it
 abbrev pub has_leading_zero : List ℕ → Bool
 has_leading_zero [] = false
 has_leading_zero (b ∷ []) = false
@@ -68,7 +68,7 @@ digits_end here = if begins is_ascii_digit here then Some (behind is_ascii_digit
 abbrev pub signed_end : List ℕ → Option (List ℕ)
 signed_end here = if begins is_sign here then digits_end (drop 1 here) else digits_end here
 
--- what stands behind an exponent
+-- what comes after an exponent
 unfoldable pub exponent_end : List ℕ → Option (List ℕ)
 exponent_end here = if begins is_exponent_letter here then signed_end (drop 1 here) else None
 
@@ -77,7 +77,7 @@ abbrev pub decimal_or : (other : Step) → Option (List ℕ) → Step
 decimal_or other None = other
 decimal_or other (Some end) = decimal_to end
 
--- behind a fraction an exponent or none
+-- after a fraction an exponent or none
 abbrev pub fraction_to : List ℕ → Step
 fraction_to here = decimal_or (decimal_to here) (exponent_end here)
 
@@ -93,7 +93,7 @@ number_at here = if is_hex here then hex_integer (drop 2 here) else number_from
 
 -- ---- strings
 
--- what stands behind the quote that closes a string, and whether each escape up to there is one
+-- what comes after the quote that closes a string, and whether each escape up to there is one
 unfoldable mutual
   pub string_end : (good : Bool) → List ℕ → Option (Bool × List ℕ)
   string_end good [] = None
@@ -147,7 +147,7 @@ followed byte longer other here = if next_is byte here then token (Sign longer) 
 abbrev pub assigned : Operator → List ℕ → Step
 assigned o here = followed 61 (symbol.CompoundAssign o) (token (Sign (symbol.Operator o)) here) here
 
--- the shift if this byte is next, or its assignment; else the comparison with `=` behind it, or
+-- the shift if this byte is next, or its assignment; else the comparison with `=` after it, or
 -- without
 abbrev pub shifted : (byte : ℕ) → (shift : Operator) → (with_equals alone : Comparison) → List ℕ
     → Step
@@ -222,7 +222,7 @@ abbrev pub with_first : Lexeme → Result (List Lexeme) Fault → Result (List L
 with_first lexeme (Err fault) = Err fault
 with_first lexeme (Ok more) = Ok (lexeme ∷ more)
 
--- what a step adds to what is read from behind it; `left` bytes of `total` begin with it
+-- what a step adds to what is read from after it; `left` bytes of `total` begin with it
 abbrev pub after_step : (total left : ℕ) → Step → (Bool → List ℕ → Result (List Lexeme) Fault)
     → Result (List Lexeme) Fault
 after_step total left (wrong fault) go = Err fault

@@ -6,7 +6,7 @@ use Rattle.edd_syntax.specs.Words.{backslash}
 abbrev pub quote : ℕ
 quote = 34
 
--- a backslash takes the byte behind it along, whatever it is; no other byte is a quote
+-- a backslash takes the byte after it along, whatever it is; no other byte is a quote
 abbrev mutual
   pub is_inside : List ℕ → Bool
   is_inside [] = true
@@ -19,7 +19,7 @@ abbrev mutual
   is_taken_along [] = false
   is_taken_along (b ∷ rest) = is_inside rest
 
--- Behind an opening quote stand the inside of a string, the quote that closes it, and `rest`.
+-- After an opening quote stand the inside of a string, the quote that closes it, and `rest`.
 pub record Closed (here raw rest : List ℕ) : Type 0 where
   pub whole : here ≡ raw ++ quote ∷ rest
   pub inside : is_inside raw ≡ true

@@ -27,7 +27,7 @@ lexeme_of text t = record {
   end = t.end;
 }
 
--- the fault of a refusal, without its line; want of memory is none
+-- the fault of a refusal, without its line; out of memory is none
 abbrev pub fault_of : LexFault → Option Fault
 fault_of refused.TooLong = Some TooLong
 fault_of (refused.NotUtf8 line) = Some NotUtf8

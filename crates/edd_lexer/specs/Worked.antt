@@ -14,7 +14,7 @@ HexExample =
     ∷ record { token = token.Integer 31; start = 2; end = 6 }
     ∷ [])
 
--- digits behind a leading `0`, and a bad escape behind them
+-- digits after a leading `0`, and a bad escape after them
 abbrev pub NumberExample : Type 0
 NumberExample = LexicalFault (codes "x 08 \"\\q\"") BadNumber
 
@@ -22,7 +22,7 @@ NumberExample = LexicalFault (codes "x 08 \"\\q\"") BadNumber
 abbrev pub EscapeExample : Type 0
 EscapeExample = LexicalFault (codes "1.5e3 \"a\\\"\\q\" .") BadEscape
 
--- behind an LF and blanks a `#` that makes no mark
+-- after an LF and blanks a `#` that makes no mark
 abbrev pub DirectiveExample : Type 0
 DirectiveExample = LexicalFault (codes "# 1 \"a\"" ++ 10 ∷ codes " #include \"a\"") Directive
 

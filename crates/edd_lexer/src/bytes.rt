@@ -38,7 +38,7 @@ pub fn goes_on_number(b: u8) -> bool
     goes_on_name(b) || b == b'.'
 }
 
-/// What stands behind the first byte.
+/// What comes after the first byte.
 pub fn behind_byte(text: &[u8]) -> &[u8]
     requires { 0 < length text.now }
     ensures { result.now ≡ drop 1 text.now }
@@ -46,7 +46,7 @@ pub fn behind_byte(text: &[u8]) -> &[u8]
     &text[1..]
 }
 
-/// What stands behind the name at the front.
+/// What comes after the name at the front.
 pub fn behind_name(text: &[u8]) -> &[u8]
     ensures rest { result.now ≡ behind names.goes_on_name text.now }
     ensures shorter { length result.now ≤ length text.now }
@@ -61,7 +61,7 @@ pub fn behind_name(text: &[u8]) -> &[u8]
     rest
 }
 
-/// What stands behind the digits at the front.
+/// What comes after the digits at the front.
 pub fn behind_digits(text: &[u8]) -> &[u8]
     ensures rest { result.now ≡ behind is_ascii_digit text.now }
     ensures shorter { length result.now ≤ length text.now }
@@ -76,7 +76,7 @@ pub fn behind_digits(text: &[u8]) -> &[u8]
     rest
 }
 
-/// What stands behind the hexadecimal digits at the front.
+/// What comes after the hexadecimal digits at the front.
 pub fn behind_hex_digits(text: &[u8]) -> &[u8]
     ensures rest { result.now ≡ behind is_ascii_hexdigit text.now }
     ensures shorter { length result.now ≤ length text.now }
@@ -91,7 +91,7 @@ pub fn behind_hex_digits(text: &[u8]) -> &[u8]
     rest
 }
 
-/// What stands behind the blanks of this line.
+/// What comes after the blanks of this line.
 pub fn behind_line_blanks(text: &[u8]) -> &[u8]
     ensures rest { result.now ≡ behind bytes.is_line_blank text.now }
     ensures shorter { length result.now ≤ length text.now }

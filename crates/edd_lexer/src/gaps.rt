@@ -6,7 +6,7 @@ ghost use Rattle.edd_lexer.specs.Parts.{close_of};
 
 use crate::bytes::{begins_digit, behind_line_blanks, is_blank, lines_after, next_is};
 
-/// What stands behind the `*/` that closes the comment whose opening stands before this text, if it
+/// What comes after the `*/` that closes the comment whose opening stands before this text, if it
 /// has one, and how many lines end before that.
 pub fn behind_close(body: &[u8]) -> Option<(u32, &[u8])>
     ensures { close_of result ≡ gaps.behind_close body.now }
@@ -33,7 +33,7 @@ fn ends_word(text: &[u8]) -> bool
     }
 }
 
-// The word `line` with a blank or the line's end behind it.
+// The word `line` with a blank or the line's end after it.
 #[tactic(auto, using(crate::proofs::LineWord::short_no_line))]
 fn begins_line_word(text: &[u8]) -> bool
     ensures { result ≡ gaps.begins_line_word text.now }

@@ -27,12 +27,12 @@ use crate::symbols::{slash, symbol_at};
 use crate::token::{Token, TokenKind};
 use std::alloc::Global;
 
-// What begins at a place: a token or a gap, with how many lines end in it and what stands behind
+// What begins at a place: a token or a gap, with how many lines end in it and what comes after
 // it, or a fault.
 #[derive(Clone, Copy)]
 enum Step<'a> {
     Token(TokenKind, u32, &'a [u8]),
-    /// `true` says that only blanks stand behind it on its last line so far.
+    /// `true` says that only blanks come after it on its last line so far.
     Gap(bool, u32, &'a [u8]),
     Wrong(Fault),
 }
@@ -139,7 +139,7 @@ fn symbol_step<'a>(text: &[u8], first: u8, rest: &'a [u8]) -> Step<'a>
     }
 }
 
-// A number begins with this byte and what stands behind it.
+// A number begins with this byte and what comes after it.
 fn begins_number(first: u8, rest: &[u8]) -> bool
     ensures { result ≡ spelled.begins_number (first ∷ rest.now) }
 {
@@ -170,7 +170,7 @@ fn step_here(fresh: bool, text: &[u8]) -> Step
     }
 }
 
-// The same, with the fact that what stands behind it is an end of what stands here.
+// The same, with the fact that what comes after it is an end of what stands here.
 #[tactic(auto, using(crate::proofs::Loop::step_leads))]
 fn next_step(fresh: bool, text: &[u8]) -> Step
     requires { begins bytes.is_blank text.now ≡ false }
@@ -196,7 +196,7 @@ fn refusal(fault: Fault, line: u32) -> LexFault
     }
 }
 
-// Behind this blank only blanks stand before the place on its line.
+// After this blank only blanks stand before the place on its line.
 fn fresh_behind(fresh: bool, blank: u8) -> bool
     ensures { result ≡ (fresh || bytes.is_line_end blank) }
 {

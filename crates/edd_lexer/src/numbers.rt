@@ -11,7 +11,7 @@ ghost use Rattle.edd_lexer.specs.Parts.{rest_of, number_of};
 
 use crate::bytes::{begins_digit, behind_digits, behind_hex_digits, goes_on_number, next_is};
 
-/// A number, with what stands behind it.
+/// A number, with what comes after it.
 #[derive(Clone, Copy)]
 pub enum Number<'a> {
     Integer(u32, &'a [u8]),
@@ -126,7 +126,7 @@ fn hex_integer(text: &[u8]) -> Number
     integer(16, &text[..text.len() - rest.len()], rest)
 }
 
-// What stands behind digits, if there are some.
+// What comes after digits, if there are some.
 fn digits_end(text: &[u8]) -> Option<&[u8]>
     ensures { rest_of result ≡ reading.digits_end text.now }
 {
@@ -137,7 +137,7 @@ fn digits_end(text: &[u8]) -> Option<&[u8]>
     }
 }
 
-// What stands behind digits that may have a sign before them.
+// What comes after digits that may have a sign before them.
 fn signed_end(text: &[u8]) -> Option<&[u8]>
     ensures { rest_of result ≡ reading.signed_end text.now }
 {
@@ -148,7 +148,7 @@ fn signed_end(text: &[u8]) -> Option<&[u8]>
     }
 }
 
-// What stands behind an exponent, if there is one.
+// What comes after an exponent, if there is one.
 #[tactic(auto, unfolding(crate::specs::Reading::exponent_end))]
 fn exponent_end(text: &[u8]) -> Option<&[u8]>
     ensures { rest_of result ≡ reading.exponent_end text.now }
@@ -172,7 +172,7 @@ fn decimal_to(rest: &[u8]) -> Number
     }
 }
 
-// A decimal behind whose fraction this stands.
+// A decimal after whose fraction this stands.
 fn fraction_to(text: &[u8]) -> Number
     ensures { number_of result ≡ reading.fraction_to text.now }
 {

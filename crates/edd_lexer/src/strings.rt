@@ -7,7 +7,7 @@ ghost use Rattle.edd_lexer.specs.Parts.{end_of};
 
 use crate::bytes::lines_after;
 
-/// The end of a string: what stands behind its closing quote, whether each escape before that is
+/// The end of a string: what comes after its closing quote, whether each escape before that is
 /// one, and how many lines end before it.
 #[derive(Clone, Copy)]
 pub struct StringEnd<'a> {

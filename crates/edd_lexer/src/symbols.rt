@@ -47,7 +47,7 @@ fn doubled(byte: u8, twice: Symbol, operator: Operator, rest: &[u8]) -> (Symbol,
     }
 }
 
-// The shift if this byte is next, or its assignment; else the comparison with `=` behind it, or
+// The shift if this byte is next, or its assignment; else the comparison with `=` after it, or
 // without.
 fn shifted(
     byte: u8,
@@ -134,7 +134,7 @@ fn single_symbol(first: u8) -> Option<Symbol>
     }
 }
 
-/// The sign that begins with this byte, and what stands behind it.
+/// The sign that begins with this byte, and what comes after it.
 #[tactic(auto, unfolding(crate::specs::Reading::symbol_at))]
 pub fn symbol_at(first: u8, rest: &[u8]) -> Option<(Symbol, &[u8])>
     ensures { sign_of result ≡ reading.symbol_at first rest.now }
@@ -145,7 +145,7 @@ pub fn symbol_at(first: u8, rest: &[u8]) -> Option<(Symbol, &[u8])>
     }
 }
 
-/// The sign that begins with a slash, and what stands behind it.
+/// The sign that begins with a slash, and what comes after it.
 pub fn slash(rest: &[u8]) -> (Symbol, &[u8])
     ensures { sign_of (Some result) ≡ reading.assigned operator.Divide rest.now }
 {

@@ -184,7 +184,7 @@ fn narrowed(text: &[u8], span: Span, fault: &LexFault) -> Span {
     }
 }
 
-// Whether it is known where the text goes on behind a fault.
+// Whether it is known where the text goes on after a fault.
 fn has_end(fault: &LexFault) -> bool {
     match fault {
         LexFault::BadCharacter { .. } | LexFault::BadEscape { .. } | LexFault::BadNumber { .. } =>

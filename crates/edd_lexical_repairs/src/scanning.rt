@@ -87,7 +87,7 @@ fn piece_of(shape: Shape, length: usize) -> First {
     First { shape, length }
 }
 
-// What begins with `/*` or `"`, from the first byte behind that.
+// What begins with `/*` or `"`, from the first byte after that.
 fn closed(shape: Shape, open: Shape, before: usize, length: Option<usize>) -> First {
     match length {
         Some(length) => piece_of(shape, before.saturating_add(length)),

@@ -161,7 +161,7 @@ image_rises b valid are i j lt inside =
     keys_rise c.elements (contents_fit b are) rise i j _ _ lt (row_stands b i (omega arith))
     (row_stands b j inside)
 
--- ---- what the search comes to
+-- ---- what the search results in
 
 -- the element is that of the array and the number
 abbrev is_sought : ArrNo → ℤ → Element → Bool

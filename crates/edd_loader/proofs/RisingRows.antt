@@ -259,7 +259,7 @@ row_between kind attribute item x y small_attribute small_item small small_too l
     let three : x.item ≡ item = omega (arith, pair, joined) in
     rw (eq-eqb x.kind kind one, eq-eqb x.attribute attribute two, eq-eqb x.item item three) refl
 
--- ---- what the search for the row of an attribute comes to
+-- ---- what the search for the row of an attribute results in
 
 abbrev of_attribute : AttrRef → AttributeFields → Bool
 of_attribute ref r = is_row_of ref.item ref.attr r && nat_eq r.sub ref.sub
@@ -345,7 +345,7 @@ module _ (b : List ℕ) (ref : AttrRef) (first : ℕ) (s : AttributeSearch b ref
       ∙ sym (first_found b (of_attribute ref) s.key first sought (omega (arith, inside, s.end))
       passes)
 
--- ---- what the search for the row of a body comes to, whatever its slots
+-- ---- what the search for the row of a body results in, whatever its slots
 
 pub record BodySearch (b : List ℕ) (m : MethNo) (first : ℕ) : Type 0 where
   pub rows : are_rows (contents_in b) ≡ true

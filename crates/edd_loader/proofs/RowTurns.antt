@@ -7,7 +7,7 @@ use Rattle.edd_image.specs.Validity.{fills, rise}
 use Rattle.edd_loader.specs.Rows.{rises_next}
 use Rattle.edd_loader.specs.Sections.{lies_within}
 
--- the rows from the one on that stands behind i others
+-- the rows from the one on that comes after i others
 abbrev pub rows_on : {A : Type 0} → (read : ℕ → A) → (size count start i : ℕ) → List A
 rows_on read size count start i = rows_from read size (count - i) (start + size * i)
 
@@ -21,7 +21,7 @@ pub no_row : {A : Type 0} (read : ℕ → A) (size n place : ℕ) → n ≡ 0 �
 unfolding rows_from
 no_row read size n place e = rw e refl
 
--- a row stands behind i others, and then the rows behind i + 1
+-- a row comes after i others, and then the rows after i + 1
 pub row_at : {A : Type 0} (read : ℕ → A) (size count start i : ℕ) → i < count
     → rows_on read size count start i ≡ read (start + size * i) ∷ rows_on read size count start
     (i + 1)
@@ -31,7 +31,7 @@ row_at read size count start i inside =
     next_row read size (count - i) (count - (i + 1)) (start + size * i) (start + size * (i + 1))
     (omega arith) further
 
--- the rows behind a row, from its end on
+-- the rows after a row, from its end on
 pub rows_behind : {A : Type 0} (read : ℕ → A) (size count start i : ℕ)
     → rows_from read size ((count - i) - 1) ((start + size * i) + size)
     ≡ rows_on read size count start (i + 1)
@@ -78,7 +78,7 @@ part_tested p bytes found start size span test result tested is e f so =
     let same : found ≡ part span bytes = is ∙ rw (e, f) refl in
     sym (ap p same) ∙ sym tested ∙ so
 
--- ---- spans that stand one behind the other
+-- ---- spans that are one after the other
 
 pub fill_goes : (rows rest : List Span) (r : Span) (place end start size : ℕ) (total : Bool)
     → rows ≡ r ∷ rest → start ≡ r.start → size ≡ r.size → start ≡ place

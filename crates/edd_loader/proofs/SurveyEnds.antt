@@ -1,4 +1,4 @@
--- What a walk that goes on behind breaches has seen at the end.
+-- What a walk that goes on after breaches has seen at the end.
 use Rattle.std.proofs.Common.{◌≡◌, IsTrue, ℕ, true, false, List, sym, ap, ◌∙◌}
 use Rattle.std.specs.Prelude.{is_some}
 use Rattle.edd_image.specs.declared.unit.Context.{Context}

@@ -43,7 +43,7 @@ not_here : (v : Variant) (code : List ℕ) (o : Option (List Variant)) → bytes
 not_here v code None other = refl
 not_here v code (Some ws) other = rw other refl
 
--- the variant that is read is valid, and so are those behind it
+-- the variant that is read is valid, and so are those after it
 pub front_valid : (rest behind : List ℕ) (v : Variant) (n : ℕ)
     → variant_from rest ≡ Some (v, behind) → length behind < length rest → length rest ≤ n
     → all_variants n rest ≡ true → is_variant v ≡ true

@@ -6,7 +6,7 @@ use Rattle.edd_image.specs.declared.rules.Rule.TheVariants as rule
 use Rattle.edd_loader.specs.declared.fault.LoadFault.{LoadFault}
 use Rattle.edd_loader.specs.declared.fault.LoadFault.TheVariants as fault
 
--- want of memory stands for none
+-- out of memory stands for none
 abbrev pub rule_of : LoadFault → Option Rule
 rule_of fault.Short = Some rule.Short
 rule_of fault.Magic = Some rule.Magic

@@ -3,7 +3,7 @@ use Rattle.std.specs.Prelude.{◌≡◌, ℕ, ◌+◌, ◌≤◌, Bool, List, le
 use Rattle.edd_image.specs.Contents.{Span}
 use Rattle.edd_image.specs.Fields.{header_length, sections_end}
 
--- the bytes have a header, and the sections behind it fill them
+-- the bytes have a header, and the sections after it fill them
 pub record AreSectionsOf (b : List ℕ) : Type 0 where
   pub header : header_length ≤ length b
   pub filled : sections_end b ≡ length b

@@ -7,7 +7,7 @@ use Rattle.edd_image.specs.Decoding.{◌>>=◌}
 use Rattle.edd_image.specs.Strings.{variants_from, as_words, is_words, is_variant}
 use Rattle.edd_loader.specs.declared.words.Piece.{Piece}
 
--- the variant and the bytes behind it
+-- the variant and the bytes after it
 abbrev pub piece_of : Piece → Variant × List ℕ
 piece_of p = (record { code = p.code.now; text = p.text.now }, p.behind.now)
 

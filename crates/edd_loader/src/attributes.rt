@@ -76,7 +76,7 @@ fn rises(bytes: &[u8], row: usize, next: usize) -> bool
     attribute_sub(bytes, row) < attribute_sub(bytes, next) && attribute != DEFINITION
 }
 
-// Whether a row rises to the next, where `left` rows stand behind it.
+// Whether a row rises to the next, where `left` rows come after it.
 #[tactic(auto, unfolding(edd_image::specs::Contents::rows_from))]
 fn rises_next(bytes: &[u8], row: usize, left: usize) -> bool
     requires { row + ATTRIBUTE_ROW + ATTRIBUTE_ROW * left ≤ length bytes.now }
@@ -87,7 +87,7 @@ fn rises_next(bytes: &[u8], row: usize, left: usize) -> bool
 }
 
 /// Whether `count` attribute rows, the first of which stands at `start`, hold what they may hold
-/// and rise, and their units stand one behind the other and fill `end` bytes.
+/// and rise, and their units are one after the other and fill `end` bytes.
 pub fn are_attribute_rows(
     bytes: &[u8],
     counts: Counts,

@@ -39,7 +39,7 @@ fn is_element_before(bytes: &[u8], row: usize, next: usize) -> bool
     element_number(bytes, row) < element_number(bytes, next)
 }
 
-// Whether a row rises to the next, where `left` rows stand behind it.
+// Whether a row rises to the next, where `left` rows come after it.
 #[tactic(auto, unfolding(edd_image::specs::Contents::rows_from))]
 fn is_before_next(bytes: &[u8], row: usize, left: usize) -> bool
     requires { row + ELEMENT_ROW + ELEMENT_ROW * left ≤ length bytes.now }

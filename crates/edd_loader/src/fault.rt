@@ -8,7 +8,7 @@ use edd_image::{Rule, UnitRule};
 use std::alloc::{AllocError, AllocFailed};
 use thiserror::Error;
 
-/// The first rule of an image that is broken, or want of memory. Each fault but `Memory` prints its
+/// The first rule of an image that is broken, or out of memory. Each fault but `Memory` prints its
 /// number and its kind.
 #[derive(Clone, Copy, Debug, PartialEq, Eq, Error)]
 pub enum LoadFault {

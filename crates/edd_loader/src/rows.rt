@@ -37,7 +37,7 @@ pub fn are_variable_rows(bytes: &[u8], start: usize, count: usize) -> bool
 }
 
 /// Whether each of `count` name rows, the first of which stands at `start`, has a zero, and the
-/// names stand one behind the other and fill `end` bytes.
+/// names are one after the other and fill `end` bytes.
 pub fn are_name_rows(bytes: &[u8], start: usize, count: usize, end: usize) -> bool
     requires { start + NAME_ROW * count ≤ length bytes.now }
     ensures { result ≡ (list_all (λ r. r.padding == 0)
@@ -59,7 +59,7 @@ pub fn are_name_rows(bytes: &[u8], start: usize, count: usize, end: usize) -> bo
 }
 
 /// Whether the strings of `count` string rows, the first of which stands at `start`, stand one
-/// behind the other and fill `end` bytes.
+/// after the other and fill `end` bytes.
 pub fn are_string_rows(bytes: &[u8], start: usize, count: usize, end: usize) -> bool
     requires { start + STRING_ROW * count ≤ length bytes.now }
     ensures { result ≡ fills 0 (rows_from (string_fields bytes.now) 8 count start) end }

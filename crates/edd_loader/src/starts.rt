@@ -9,7 +9,7 @@ use edd_image::{
     string_bytes_start, string_rows_start,
 };
 
-/// Where the sections of an image start behind its variable rows, as places among its bytes. Each
+/// Where the sections of an image start after its variable rows, as places among its bytes. Each
 /// ends where the next one starts, and the last at the end.
 #[derive(Clone, Copy, PartialEq, Eq, Debug)]
 pub struct Starts {

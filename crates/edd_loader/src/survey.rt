@@ -1,4 +1,4 @@
-//! A walk over the instructions of a unit that goes on behind a breach.
+//! A walk over the instructions of a unit that goes on after a breach.
 
 ghost use Rattle.std.specs.Prelude.{◌≡◌, ◌+◌, ◌-◌, ◌<◌, ◌≤◌, ◌&&◌, IfSome, IsTrue, is_some, option_map, nat_le, slice_set, true, false, vec_len, if◌then◌else◌, Some, None};
 ghost use Rattle.std.specs.Option.{option_map_or};

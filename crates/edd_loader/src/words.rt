@@ -11,7 +11,7 @@ ghost use Rattle.edd_loader.specs.Variants.{are_variants, piece_of};
 use crate::codes::is_code;
 use crate::names::is_name;
 
-/// A variant of a string, and the bytes behind it.
+/// A variant of a string, and the bytes after it.
 #[derive(Clone, Copy)]
 pub struct Piece<'a> {
     pub code: &'a [u8],
@@ -43,7 +43,7 @@ fn u32_from(bytes: &[u8]) -> Option<(u32, &[u8])>
     Some((number, rest))
 }
 
-// The first bytes and those behind them, where there are so many.
+// The first bytes and those after them, where there are so many.
 fn front_of(bytes: &[u8], size: usize) -> Option<(&[u8], &[u8])>
     ensures value { option_map (λ x. (x.0.now, x.1.now)) result ≡ front_of size bytes.now }
     ensures no_longer { IfSome result (λ x. length x.1.now ≤ length bytes.now) }

@@ -66,7 +66,7 @@ module _ (types : List VariableType) (numbers : List ℤ) (i : ℕ) (inside : i 
   abbrev set : Change
   set = record { variable = record { 0 = i }; value = number }
 
-  -- it is the value of its variable, and so are those behind it
+  -- it is the value of its variable, and so are those after it
   pub set_goes : set_fault types set ≡ None
       → (AreDeviceValues (drop (i + 1) types) (drop (i + 1) numbers)
       → AreDeviceValues (drop i types) (drop i numbers))

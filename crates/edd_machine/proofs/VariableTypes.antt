@@ -39,7 +39,7 @@ both_from types numbers i t e inside =
     let there = drop_at numbers i _ (slice_get-get_or numbers i (pos 0) inside) in
     rw (drop_at types i t e, there) refl
 
--- a value in its range, and the values behind it
+-- a value in its range, and the values after it
 pub value_goes : (types : List VariableType) (numbers : List ℤ) (i : ℕ) (t : VariableType)
     → slice_get types i ≡ Some t → i < length numbers → is_in_range t (get_or numbers i (pos 0))
     ≡ true

@@ -15,7 +15,7 @@ use Rattle.edd_machine.specs.declared.fault.SetFault as in_code
 use Rattle.edd_machine.specs.declared.fault.SetFault.TheVariants as named
 use Rattle.edd_machine.specs.Types.{types_in}
 
--- what a fault says of the numbers; for want of memory nothing is wrong with them
+-- what a fault says of the numbers; for lack of memory nothing is wrong with them
 abbrev pub IsValuesFault : ValuesFault → List VariableType → List ℤ → Type 0
 IsValuesFault values_fault.Count types numbers = length numbers ≢ length types
 IsValuesFault values_fault.Range types numbers = (length numbers ≡ length types)

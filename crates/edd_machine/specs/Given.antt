@@ -12,7 +12,7 @@ use Rattle.edd_machine.specs.declared.fault.ReadFault.TheVariants as read_fault
 abbrev pub Gives : Environment → State → Result (List Record) Trap → Type 0
 Gives env s r = (n : ℕ) × (given_within n env s ≡ Some r)
 
--- the fault is the trap that the steps from the state on come to, or want of memory
+-- the fault is the trap that the steps from the state on end in, or out of memory
 abbrev pub GivesFault : Environment → State → ReadFault → Type 0
 GivesFault env s read_fault.NoItem = ⊥
 GivesFault env s read_fault.WrongValues = ⊥

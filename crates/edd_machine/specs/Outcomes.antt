@@ -1,4 +1,4 @@
--- What the instructions come to that units of both sorts have.
+-- What the instructions result in that units of both sorts have.
 use Rattle.std.specs.Prelude.{◌≡◌, ℕ, ℤ, true, List, [], Some}
 use Rattle.edd_syntax.specs.declared.numbers.Element.{Element}
 use Rattle.edd_image.specs.declared.instruction.Instruction.{Instruction}

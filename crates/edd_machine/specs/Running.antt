@@ -78,7 +78,7 @@ pub record IsEffect (o : Option Effect) (b : List ℕ) (m : Machine) : Type 0 wh
 abbrev pub StepsTo : List ℕ → Machine → Machine → Type 0
 StepsTo b m n = IsEffect (step_in (contents_in b) (state_of b m)) b n
 
--- the instruction, behind which the place `next` lies, makes the second of the first machine
+-- the instruction, after which the place `next` lies, makes the second of the first machine
 abbrev pub ActsTo : List ℕ → Instruction → ℕ → Machine → Machine → Type 0
 ActsTo b i next m n = IsEffect (act (environment_of (contents_in b)) i next (state_of b m)) b n
 

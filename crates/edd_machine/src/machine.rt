@@ -309,7 +309,7 @@ impl Machine {
     }
 
     /// Goes on from where a step or an answer has led: the abort of a run that isn't aborting yet
-    /// starts the first of its abort methods, and the end of one starts the next. Behind the last
+    /// starts the first of its abort methods, and the end of one starts the next. After the last
     /// the run is aborted. Else nothing follows. It is no step, and takes no memory.
     #[inline(always)]
     pub fn follow(&mut self, image: &Image<'_>)

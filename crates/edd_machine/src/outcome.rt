@@ -22,7 +22,7 @@ use edd_syntax::answer::Trap;
 use edd_syntax::numbers::{ArrNo, VarNo};
 use edd_syntax::operators::{Comparison, Operator};
 
-/// What an instruction comes to.
+/// What an instruction results in.
 #[derive(Clone, Copy, PartialEq, Eq, Debug)]
 pub enum Outcome {
     /// The run goes on at a place.
@@ -259,7 +259,7 @@ fn read_element(
     }
 }
 
-/// What an instruction that attributes may have comes to.
+/// What an instruction that attributes may have results in.
 #[inline(always)]
 #[tactic(auto, unfolding(edd_image::specs::Steps::act))]
 pub fn perform(

@@ -131,7 +131,7 @@ pub fn attribute_of_device(
     }
 }
 
-// What a read comes to under values that are not those of a device of this description.
+// What a read results in under values that are not those of a device of this description.
 fn fault_of_values(image: &Image<'_>, attr: AttrRef) -> ReadFault
     ensures { (values : List ℤ) → (¬ AreDeviceValues (types_in image.now) values)
         → IsReadFault image.now attr values result }

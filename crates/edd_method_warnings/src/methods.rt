@@ -14,7 +14,7 @@ use std::alloc::{AllocError, Global};
 use std::collections::BTreeSet;
 
 // The names of the locals of a method in the order of their declarators, which is that of their
-// slots. A name is declared behind `int` or `long`, and behind a comma of that declaration that
+// slots. A name is declared after `int` or `long`, and after a comma of that declaration that
 // stands in no parentheses.
 fn locals_of<'a>(
     alloc: Global,

@@ -12,10 +12,10 @@ use edd_syntax::stmt::{Declarator, Part, Stmt};
 use edd_syntax::symbols::Keyword;
 use std::alloc::AllocError;
 
-/// How a method goes on behind a statement.
+/// How a method goes on after a statement.
 #[derive(Clone, Copy)]
 pub struct Flow<'a> {
-    /// Where the statement never goes on behind itself: the place of what sees to that.
+    /// Where the statement never goes on after itself: the place of what sees to that.
     ends: Option<Mark<'a>>,
     /// Whether a `break` in it leaves the loop or the `switch` around it.
     breaks: bool,
@@ -151,7 +151,7 @@ fn check_loop<'a>(
     })
 }
 
-// Whether a statement that is never reached is worth a warning. A `break` behind a `return` is a
+// Whether a statement that is never reached is worth a warning. A `break` after a `return` is a
 // habit.
 fn counts(s: &Stmt<Target>) -> bool {
     match s {

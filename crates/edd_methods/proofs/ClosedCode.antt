@@ -46,7 +46,7 @@ code_longer c0 c1 out back c is = ap length is
 pub longer : (c0 c1 part : List ℕ) → c1 ≡ c0 ++ part → length c1 ≡ length c0 + length part
 longer c0 c1 part is = ap length is ∙ length-append c0 part
 
--- ---- blocks, and one piece of code behind another
+-- ---- blocks, and one piece of code after another
 
 pub plain_is : (p out back : ℕ) (b : Block) → bytes_at p out back (Plain b) ≡ blocks.bytes_at p b
 unfolding emitted

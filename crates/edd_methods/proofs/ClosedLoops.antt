@@ -220,7 +220,7 @@ default_is k n (Statement first rest) = default_is (k + size first) n rest
 default_is k n (Case label rest) = default_is k n rest
 default_is k n (Default rest) = refl
 
--- the bytes of the pieces behind the value, with the targets of the two jumps in front
+-- the bytes of the pieces after the value, with the targets of the two jumps in front
 abbrev switch_bytes : (t u : ℕ) (x e y d : List ℕ) → List ℕ
 switch_bytes t u x e y d = spelling (instruction.Jump t)
     ++ (spelling (instruction.Jump u) ++ (x ++ (e ++ (y ++ (spelling instruction.Pop ++ d)))))

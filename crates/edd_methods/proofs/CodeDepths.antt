@@ -11,7 +11,7 @@ use Rattle.edd_methods.specs.CodeFlow.{Rests, Gives, FitsPart, Fits, FitArms}
 
 -- ---- one number for each place
 
--- in a part of a loop: one operand at the test behind it
+-- in a part of a loop: one operand at the test after it
 abbrev pub part_depth : Part → (p x : ℕ) → ℕ
 part_depth Missing p x = 0
 part_depth (Step b) p x = depth_in b p 0 x

@@ -112,7 +112,7 @@ module _ (text : StrNo → Option Words) (env : Environment) (code : List ℕ) w
   unfolding execute execute_following
   out_of_steps p s = over_now text s (at code p [] s) s.answers OutOfSteps
 
-  -- a part of a loop: the loop is left at `out`, or goes on behind it
+  -- a part of a loop: the loop is left at `out`, or goes on after it
   part_does : (part : Part) (n p q out : ℕ) (to : Exits) (s : State) (rest : Action Completion)
       → IsWholePart text env part → PartIn (IsRead code) p out part → p + part_size part ≡ q
       → CanBeTaken env s.answers → ((t : State) → Leads text env code out to.end [] [] t t)

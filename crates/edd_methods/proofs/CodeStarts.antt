@@ -1,4 +1,4 @@
--- Statements' code begins with the start of an instruction, where one starts behind it.
+-- Statements' code begins with the start of an instruction, where one starts after it.
 use Rattle.std.proofs.Common.{◌≡◌, ap, ◌∙◌, ℕ, ◌+◌, true, List, arith}
 use Rattle.std.specs.List.{AllByRecursion}
 use Rattle.edd_image.specs.declared.instruction.Instruction.TheVariants as instruction

@@ -31,7 +31,7 @@ module _ (xs : List Placed) (depth : ℕ → ℕ) where
   value_sound p b runs has exit start inside = block_is_sound Two Method xs depth p 0 b runs.0 has
       (exit ∙ sym runs.1) start inside (λ f. refl)
 
-  -- something leads to the place behind a value
+  -- something leads to the place after a value
   value_leads : (p : ℕ) (b : Block) → Gives b → Inside xs p b → IsFresh xs (p + blocks.size b) → ⊥
   value_leads p b runs inside fresh =
       absurd (omega (arith, runs.1, exit_fresh Two Method xs p 0 b runs.0 inside (λ f. refl) fresh))

@@ -157,7 +157,7 @@ module _ (text : StrNo → Option Words) (env : Environment) (code : List ℕ) w
   then_does n p m operands to s (Stopped why t) rest d h =
       record { answers = d.answers; comes = d.comes }
 
-  -- a jump behind a statement
+  -- a jump after a statement
   pub then_jumps : (n p m q out back : ℕ) (operands : List ℤ) (s : State)
       (o : source.Outcome Completion) → ((t : State) → Leads text env code m q [] [] t t)
       → Does text env code n p operands (record { end = m; out = out; back = back }) s o
@@ -177,7 +177,7 @@ module _ (text : StrNo → Option Words) (env : Environment) (code : List ℕ) w
   then_jumps n p m q out back operands s (Stopped why t) leads d =
       record { answers = d.answers; comes = d.comes }
 
-  -- The body of a loop: a jump behind it leads back, where more of the loop follows, and one at
+  -- The body of a loop: a jump after it leads back, where more of the loop follows, and one at
   -- `out` leads to the end.
   pub turn_does : (n p m out back : ℕ) (to : Exits) (s : State) (o : source.Outcome Completion)
       (more : Action Completion) → ((t : State) → Leads text env code m back [] [] t t)
@@ -214,7 +214,7 @@ module _ (text : StrNo → Option Words) (env : Environment) (code : List ℕ) w
   turn_does n p m out back to s (Stopped why t) more turns leaves d h =
       record { answers = d.answers; comes = d.comes }
 
-  -- the statements of a switch: a jump behind them leads to `out`, and one there to the end
+  -- the statements of a switch: a jump after them leads to `out`, and one there to the end
   pub left_does : (n p m out : ℕ) (operands : List ℤ) (to : Exits) (s : State)
       (o : source.Outcome Completion) → ((t : State) → Leads text env code m out [] [] t t)
       → ((t : State) → Leads text env code out to.end [] [] t t)

@@ -62,7 +62,7 @@ breaks_inside unit none m = of_method Inside refl unit m (inside_in (attributes_
 -- ---- so the places to which `break` and `continue` would lead make no difference
 
 -- in a loop the place of its next turn is the same, and in a loop or a switch so is the place
--- behind it
+-- after it
 module _ (given : Blocks) where
   abbrev Alike : (in_loop in_switch : Bool) → (out out' back back' : ℕ) → Type 0
   Alike in_loop in_switch out out' back back' = (in_loop ≡ true → back ≡ back')

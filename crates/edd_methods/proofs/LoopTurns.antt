@@ -26,7 +26,7 @@ turn_same f g e Breaks s = refl
 turn_same f g e Continues s = e s
 turn_same f g e Returns s = refl
 
--- a part that goes on behind its action
+-- a part that goes on after its action
 goes_on : (o : Outcome ℤ) (last : Action ℤ) (f g : Action Completion) (s : State)
     → o ≡ always last s → Same f g → and_then o (unless_zero f) ≡ (last >> g) s
 goes_on o last f g s e h = ap (λ x. and_then x (unless_zero f)) e ∙ rest (last s)

@@ -145,7 +145,7 @@ pub refused_within : (why : LowerFault) (old : List Words) (ts us : List Text) (
     → Within ts us → Refused why old ts new → Refused why old us new
 refused_within why old ts us new within h = (h.0, λ e. overflows_within old ts us within (h.1 e))
 
--- behind a part that is written, the next one is refused
+-- after a part that is written, the next one is refused
 pub refused_behind : {old mid : List Words} {ts : List Text} {P : Said} (why : LowerFault)
     (us : List Text) (new : List Words) → Numbered old ts P mid → Refused why mid us new
     → Refused why old (ts ++ us) new
@@ -160,7 +160,7 @@ pub no_memory : (why : LowerFault) (old : List Words) (texts : List Text) → wh
     → Refused why old texts old
 no_memory why old texts is = (no_growth old, λ e. absurd (cc (e, is)))
 
--- behind a part that is written
+-- after a part that is written
 pub no_memory_behind : {old new : List Words} {ts : List Text} {P : Said} (why : LowerFault)
     (texts : List Text) → why ≡ Memory → Numbered old ts P new → Refused why old texts new
 no_memory_behind {old} {new} {ts} {P} why texts is w = (growth w.table, λ e. absurd (cc (e, is)))
@@ -188,7 +188,7 @@ all_parts p (x ∷ xs) ys h =
 
 -- ---- a loop over a list, each of whose elements is written in turn
 
--- `left number s rest` is what there will be once the rest is written behind what there is now
+-- `left number s rest` is what there will be once the rest is written after what there is now
 module _ {X Y S T : Type 0} (view : X → Y) (texts : List Y → List Text)
     (splits : (y : Y) (ys : List Y) → texts (y ∷ ys) ≡ texts (y ∷ []) ++ texts ys)
     (left : (Words → StrNo) → S → List Y → T) where

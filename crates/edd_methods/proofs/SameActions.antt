@@ -16,7 +16,7 @@ next_same f g h Breaks s = refl
 next_same f g h Continues s = refl
 next_same f g h Returns s = refl
 
--- a step, and a statement behind it
+-- a step, and a statement after it
 pub step_then : {A : Type 0} (o : Outcome ℤ) (o' : Outcome A) (f g : Action Completion)
     → o ≡ and_then o' (λ _. pure (pos 1)) → Same f g
     → and_then (and_then o (λ _. pure Normal)) (next f) ≡ and_then o' (λ _. g)

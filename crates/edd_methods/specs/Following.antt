@@ -11,14 +11,14 @@ use Rattle.edd_code.specs.MethodEffects.{CanBeTaken, stopped}
 
 -- where code goes on
 pub record Exits : Type 0 where
-  -- behind it
+  -- after it
   pub end : ℕ
   -- the target of `break`
   pub out : ℕ
   -- the target of `continue`
   pub back : ℕ
 
--- how many steps a run takes at least, with k behind the outcome: one more where it jumped back,
+-- how many steps a run takes at least, with k after the outcome: one more where it jumped back,
 -- and n where it is over
 abbrev pub least : (n k : ℕ) → Outcome Completion → ℕ
 least n k (Done Normal s) = k
@@ -33,7 +33,7 @@ StayTaken env (Done x s) = CanBeTaken env s.answers
 StayTaken env (Stopped why s) = Unit {0}
 
 module _ (text : StrNo → Option Words) (env : Environment) (code : List ℕ) where
-  -- what is reported of a run that comes to an outcome and takes k steps more
+  -- what is reported of a run that results in an outcome and takes k steps more
   abbrev pub reached : (k : ℕ) → Exits → Outcome Completion → Report
   reached k to (Done Normal s) = report text env code k to.end [] s
   reached k to (Done Breaks s) = report text env code k to.out [] s
@@ -42,7 +42,7 @@ module _ (text : StrNo → Option Words) (env : Environment) (code : List ℕ) w
   reached k to (Stopped why s) = stopped why s
 
   -- From a place with these operands the run comes to the outcome, whatever number of steps is
-  -- behind it.
+  -- after it.
   pub record Does (n place : ℕ) (operands : List ℤ) (to : Exits) (s : State)
       (o : Outcome Completion) : Type 0 where
     pub answers : StayTaken env o

@@ -26,7 +26,7 @@ abbrev pub or_else : Option ℕ → Option ℕ → Option ℕ
 or_else (Some place) other = Some place
 or_else None other = other
 
--- the statements of a switch are written behind the code, and its labels are noted behind the
+-- the statements of a switch are written after the code, and its labels are noted after the
 -- others
 pub record NotesArms (before : List ℕ) (old : Labels) (out back : ℕ) (arms : Arms) (after : List ℕ)
     (new : Labels) : Type 0 where

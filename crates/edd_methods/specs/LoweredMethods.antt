@@ -1,4 +1,4 @@
--- What lowering a method's body comes to.
+-- What lowering a method's body results in.
 use Rattle.std.specs.Prelude.{◌≡◌, ℕ, List, ◌++◌, Option, Some, None}
 use Rattle.std.specs.List.{Contains}
 use Rattle.edd_syntax.specs.declared.numbers.MethNo.{MethNo}
@@ -25,7 +25,7 @@ abbrev pub strings_of_method : Description Target → MethNo → List Words
 strings_of_method unit m = strings_of_texts (body_texts (body_of unit m))
 
 -- The table grew by the body's strings alone and holds them, and the code is the body's with an end
--- behind it, whose statements jump to no place outside; strings have their numbers in the new table
+-- after it, whose statements jump to no place outside; strings have their numbers in the new table
 -- and in any that begins with it.
 pub record LowersBody (old : List Words) (body : Body Target) (new : List Words)
     (code : List ℕ) : Type 0 where

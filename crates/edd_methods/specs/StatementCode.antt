@@ -20,11 +20,11 @@ use Rattle.edd_methods.specs.TreeExpressions.{is_abort_call}
 
 -- block_of e is to leave the value of e
 module _ (block_of : Expr Target → Block) where
-  -- an expression and POP behind it
+  -- an expression and POP after it
   abbrev pub popped : Expr Target → Block
   popped e = Then (block_of e) (Straight instruction.Pop)
 
-  -- An expression as a statement leaves no value. Nothing stands behind an abort, which doesn't go
+  -- An expression as a statement leaves no value. Nothing comes after an abort, which doesn't go
   -- on.
   abbrev pub alone_block : Expr Target → Block
   alone_block e = elim (is_abort_call e) [ true ↦ Straight instruction.Abort | false ↦ popped e ]

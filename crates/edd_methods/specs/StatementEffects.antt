@@ -54,7 +54,7 @@ NoOperand Stuck = ⊥
 abbrev pub unless_zero : Action Completion → ℤ → Action Completion
 unless_zero rest a = elim (is_zero a) [ true ↦ pure Normal | false ↦ rest ]
 
--- the action, behind which a loop goes on
+-- the action, after which a loop goes on
 abbrev pub always : Action ℤ → Action ℤ
 always last = last >> pure (pos 1)
 
@@ -78,7 +78,7 @@ module _ (text : StrNo → Option Words) (env : Environment) where
   abbrev pub step_of : Block → Action ℤ
   step_of b = λ s. no_operand s (does text env b [] s)
 
-  -- a loop goes on behind a part that is missing or leaves no operand
+  -- a loop goes on after a part that is missing or leaves no operand
   abbrev pub part_of : Part → Action ℤ
   part_of Missing = pure (pos 1)
   part_of (Step b) = step_of b

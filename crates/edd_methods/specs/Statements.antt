@@ -8,7 +8,7 @@ use Rattle.edd_image.specs.Spelling.{spelling}
 use Rattle.edd_code.specs.Blocks.{Block, target, bytes_of}
 use Rattle.edd_code.specs.Flow.{AreSpelled}
 
--- a part of a loop, in front of its turns or behind them
+-- a part of a loop, in front of its turns or after them
 pub data Part : Type 0 where
   Missing : Part
   -- it leaves no operand
@@ -16,12 +16,12 @@ pub data Part : Type 0 where
   -- it leaves one operand, and where that is 0, the loop is left
   Test : Block → Part
 
--- code of statements; no operands stand before it, nor behind it
+-- code of statements; no operands stand before it, nor after it
 mutual
   pub data Code : Type 0 where
     -- it leaves no operand
     Plain : Block → Code
-    -- one behind the other
+    -- one after the other
     Then : (first second : Code) → Code
     -- the first follows where the one operand of the test isn't 0, else the other
     Branch : (test : Block) → (first otherwise : Code) → Code
@@ -99,7 +99,7 @@ default_place p out (Case label rest) = default_place p out rest
 default_place p out (Default rest) = p
 
 -- The instructions at a place, where `break` jumps to `out` and `continue` to `back`. Inside a loop
--- and a switch these are places that are already behind:
+-- and a switch these are places that are already passed:
 -- Loop: jump to entry; out: jump to end; back: the back; entry: the front; the body; jump to back;
 -- end:
 -- Switch: on; jump to tests; out: jump to end; the statements; jump to out; tests: a case for each
@@ -151,7 +151,7 @@ unfoldable mutual
 abbrev pub bytes_at : (place out back : ℕ) → Code → List ℕ
 bytes_at p out back c = bytes_of (emitted p out back c)
 
--- the unit of code, which begins at 0: an end is behind it, to which every jump out of it leads
+-- the unit of code, which begins at 0: an end is after it, to which every jump out of it leads
 abbrev pub unit_code : Code → List ℕ
 unit_code c = bytes_at 0 (size c) (size c) c ++ spelling instruction.End
 

@@ -1,4 +1,4 @@
--- What writing the code of statements comes to.
+-- What writing the code of statements results in.
 use Rattle.std.specs.Prelude.{◌≡◌, ℕ, ◌+◌, ℤ, List, [], ◌∷◌, ◌++◌, Option, Some, None, Result, Ok, Err}
 use Rattle.std.specs.List.{Contains, flat_map}
 use Rattle.edd_syntax.specs.declared.numbers.StrNo.{StrNo}
@@ -42,7 +42,7 @@ optional_texts (Some e) = expr_texts e
 abbrev pub declared_texts : List (Declarator Target) → List source.Text
 declared_texts ds = placed_texts (flat_map (λ d. optional_part d.value) ds)
 
--- ---- what a part of the code comes to
+-- ---- what a part of the code results in
 
 -- The table grew by the strings of these texts alone and holds them, and `is` says what the code
 -- is, by the numbers of strings in the new table and in any that begins with it.

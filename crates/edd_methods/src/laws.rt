@@ -63,7 +63,7 @@ pub fn loops_are_turns()
 {}
 
 /// Wherever the bytes of whole code stand in a method, the machine goes on from their first as the
-/// code performs: to the place behind them, to the end of the loop, to its next turn, or to the end
+/// code performs: to the place after them, to the end of the loop, to its next turn, or to the end
 /// or the stop of the method.
 pub fn code_does_what_it_performs()
     ensures { (text : StrNo → Option Words) (env : Environment) (before after : List ℕ) (c : Code)

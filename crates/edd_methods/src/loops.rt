@@ -1,4 +1,4 @@
-//! The parts of a loop in front of its turns and behind them.
+//! The parts of a loop in front of its turns and after them.
 
 ghost use Rattle.std.specs.Prelude.{◌≡◌, ◌++◌, length, option_map, IsTrue};
 ghost use Rattle.std.specs.List.{list_all};

@@ -1,5 +1,5 @@
 //! The code of statements. Each jump in it leads to a place that is known by then, or is closed
-//! when the place behind is known.
+//! when the place after them is known.
 
 ghost use Rattle.std.specs.Prelude.{◌≡◌, ℕ, ◌∷◌, [], ◌++◌, length, map, IsErrOf, IsTrue, OnOk};
 ghost use Rattle.std.specs.List.{flat_map, list_all};

@@ -47,7 +47,7 @@ module _ {X Y M : Type 0} (view : X → Y) (gives : Y → List M) (test : M → 
       split (z ∷ ys) y = ap (λ ms. gives (view z) ++ ms) (split ys y)
           ∙ sym (append_assoc (gives (view z)) (flat_map gives (map view ys)) (gives (view y)))
 
-  -- a is what was found before the loop, now what is found before the i-th element, and next behind
+  -- a is what was found before the loop, now what is found before the i-th element, and next after
   -- it
   pub gathered_more : (a now next : Option M) (i : ℕ) (xs : List X) (x : X) → i < length xs
       → x ≡ get_or xs i x → next ≡ option_or now (find test (gives (view x)))

@@ -19,7 +19,7 @@ use Rattle.edd_syntax.specs.Resolution.{along}
 
 module _ (unit : Description Path) (allowed : List Kind) (all : List Refusal)
     (meant : Option ItemNo) (p : PathStep) where
-  -- behind the last member nothing is found where the kind is allowed
+  -- after the last member nothing is found where the kind is allowed
   no_fault : (i : Option ItemNo) → is_kind_among allowed p.kind ≡ true
       → faults_along unit allowed p.name.now p.kind i [] ≡ all → None ≡ first_of all
   no_fault (Some i) is faults = ap (λ b. first_of (refused_if (not b) (WrongKind p.name.now)))

@@ -95,7 +95,7 @@ fn one_collection<'a>(
     })
 }
 
-// An item that is a collection goes behind the others.
+// An item that is a collection goes after the others.
 fn add_collection<'a>(
     all: &mut Vec<Collection<'a>>,
     item: &'a Item<Path>,

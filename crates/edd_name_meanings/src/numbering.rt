@@ -94,7 +94,7 @@ pub fn put_first<'a, V: Copy>(
     Ok(())
 }
 
-// The number of one more item, and the counts behind it.
+// The number of one more item, and the counts after it.
 fn number_item<'a>(
     item: &'a Item<Path>,
     numbers: &mut IndexMap<&'a str, ItemNo>,

@@ -51,7 +51,7 @@ pub is_old : {X S : Type 0} (before : List Name) (name : Name) (x : X)
     → HasSeen before m → name ∷ [] ≡ repeated before (name ∷ [])
 is_old before name x m is h = ap (λ t. if t then name ∷ [] else []) (ap is_some is ∙ h name)
 
--- ---- lists that stand one behind the other
+-- ---- lists that are one after the other
 
 pub found_any : (r o : Option Refusal) → Agrees r None → Agrees r o
 found_any (Some why) o h = absurd (none_is_not_some why h)

@@ -1,4 +1,4 @@
--- The rules one behind the other.
+-- The rules one after the other.
 use Rattle.std.proofs.Common.{◌≡◌, refl, List, [], ◌∷◌, ◌++◌, None, map}
 use Rattle.std.specs.Prelude.{option_map}
 use Rattle.edd_syntax.specs.Refusal.{Refusal, first_of}

@@ -78,7 +78,7 @@ module _ {X Y : Type 0} (size : List Y → ℕ) (view : X → Y) (splits : (y : 
       at_drop_more (λ ys. spent left (size (map view ys))) xs i x h ∙ ap (spent left) (splits _ _)
       ∙ ap (λ y. spent left (size (view y ∷ []) + size (map view (drop (i + 1) xs)))) (sym is)
 
-  -- behind an element for which the nodes were enough
+  -- after an element for which the nodes were enough
   pub goes_on : (left rest i : ℕ) (xs : List X) (x : X) (all : Option ℕ) → i < length xs
       → x ≡ get_or xs i x → Some rest ≡ spent left (size (view x ∷ [])) → spent_from left i xs ≡ all
       → spent_from rest (i + 1) xs ≡ all

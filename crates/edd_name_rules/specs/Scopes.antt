@@ -28,6 +28,6 @@ abbrev pub names_of_attribute : Attribute Path → List Name
 names_of_attribute (Members members) = map (λ m. m.name) members
 names_of_attribute _ = []
 
--- in an item behind items with the names b
+-- in an item after items with the names b
 abbrev pub item_repeats : (b : List Name) → Item Path → List Name
 item_repeats b i = repeated b (i.name ∷ []) ++ repeated_in_attributes [] i.attributes

@@ -26,7 +26,7 @@ abbrev pub is_transaction : {R : Type 0} → Attribute R → Bool
 is_transaction (Transaction number parts) = true
 is_transaction _ = false
 
--- the repeated words of one attribute behind others
+-- the repeated words of one attribute after others
 abbrev pub repeated_here : {R : Type 0} → (before : List Name) → Attribute R → List Name
 repeated_here before a = (if is_transaction a then [] else repeated before (attribute_word a ∷ []))
     ++ repeated_words_inside a

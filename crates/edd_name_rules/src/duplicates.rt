@@ -93,7 +93,7 @@ fn check_part<'a>(
     }
 }
 
-// The members of a collection or the locals of a method, behind members that were seen.
+// The members of a collection or the locals of a method, after members that were seen.
 fn check_attribute<'a>(
     attribute: &'a Attribute<Path>,
     members: &mut Seen<'a>,

@@ -90,7 +90,7 @@ pub fn check_attributes(items: &[Item<Path>], alloc: Global) -> Result<(), RuleF
     }
 }
 
-/// No rule on counts, names and attributes is broken; the rules on uses of names come behind these.
+/// No rule on counts, names and attributes is broken; the rules on uses of names come after these.
 #[tactic(auto, using(crate::proofs::RuleLaws::rules_in_order))]
 pub fn check_rules(items: &[Item<Path>], alloc: Global) -> Result<(), RuleFault>
     ensures counted { OnOk result (None ≡ first_of (too_many (described (named_items items.now)))) }

@@ -56,7 +56,7 @@ few_locals items h =
     (not_refused (list_any (λ k. nat_lt item_limit (count_of k items)) kinds)
     (TooMany limit.Items) _ h).1).1).0
 
--- ---- the rules one behind the other
+-- ---- the rules one after the other
 
 pub rule_first : (f : RuleFault) (all : List Refusal) → rules.IsFirst f all
     → IsFirst (of_rule f) all

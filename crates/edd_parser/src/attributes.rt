@@ -71,7 +71,7 @@ fn response_class(cursor: &mut Cursor) -> Result<ResponseClass, ParseFault>
     }
 }
 
-// Behind a semicolon or a comma, if one is next.
+// After a semicolon or a comma, if one is next.
 fn skip_response_end(cursor: &mut Cursor)
     ensures { cursor.new ≡ reading.behind_response cursor.old }
 {
@@ -229,7 +229,7 @@ impl RowElement for TransactionPart<Path> {
     }
 }
 
-// Behind TRANSACTION.
+// After TRANSACTION.
 #[tactic(auto, unfolding(edd_grammar::specs::AttributeReading::transaction_at))]
 fn transaction(cursor: &mut Cursor, height_left: u32) -> Result<Attribute<Path>, ParseFault>
     requires { height_left ≤ 100 }
@@ -241,7 +241,7 @@ fn transaction(cursor: &mut Cursor, height_left: u32) -> Result<Attribute<Path>,
     Ok(Attribute::Transaction { number, parts })
 }
 
-// The further names of a class, each behind `&`, behind those that were read.
+// The further names of a class, each after `&`, after those that were read.
 #[tactic(auto, using(crate::proofs::ClassNames::one_more_name))]
 fn more_names(cursor: &mut Cursor, before: Vec<String>) -> Result<Vec<String>, ParseFault>
     ensures { Gives (λ v. map string_bytes v.items) result cursor.new
@@ -254,7 +254,7 @@ fn more_names(cursor: &mut Cursor, before: Vec<String>) -> Result<Vec<String>, P
     Ok(names)
 }
 
-// Behind CLASS.
+// After CLASS.
 #[tactic(auto, unfolding(edd_grammar::specs::AttributeReading::class_words_at, edd_grammar::specs::WordReading::names_at))]
 fn class_words(cursor: &mut Cursor) -> Result<Attribute<Path>, ParseFault>
     ensures { Gives attribute_view result cursor.new (reading.class_words_at cursor.old) }
@@ -269,7 +269,7 @@ fn class_words(cursor: &mut Cursor) -> Result<Attribute<Path>, ParseFault>
     Ok(Attribute::Class(names))
 }
 
-// Behind NUMBER.
+// After NUMBER.
 #[tactic(auto, unfolding(edd_grammar::specs::AttributeReading::command_number_at))]
 fn command_number(cursor: &mut Cursor) -> Result<Attribute<Path>, ParseFault>
     ensures { Gives attribute_view result cursor.new (reading.command_number_at cursor.old) }
@@ -279,7 +279,7 @@ fn command_number(cursor: &mut Cursor) -> Result<Attribute<Path>, ParseFault>
     Ok(Attribute::Number(number))
 }
 
-// Behind OPERATION.
+// After OPERATION.
 #[tactic(auto, unfolding(edd_grammar::specs::AttributeReading::command_operation_at))]
 fn command_operation(cursor: &mut Cursor) -> Result<Attribute<Path>, ParseFault>
     ensures { Gives attribute_view result cursor.new (reading.command_operation_at cursor.old) }
@@ -373,7 +373,7 @@ fn list_attribute(cursor: &mut Cursor, height_left: u32) -> Result<Attribute<Pat
     Err(cursor.syntax())
 }
 
-/// An attribute that this kind of item may have, and any number of semicolons behind it.
+/// An attribute that this kind of item may have, and any number of semicolons after it.
 #[tactic(auto, unfolding(edd_grammar::specs::AttributeReading::own_attribute_at, edd_grammar::specs::WordReading::closed))]
 pub fn own_attribute(
     cursor: &mut Cursor,

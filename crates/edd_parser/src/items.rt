@@ -86,7 +86,7 @@ fn item_kind(cursor: &mut Cursor) -> Result<Kind, ParseFault>
     }
 }
 
-// The kind of a collection's members, behind OF.
+// The kind of a collection's members, after OF.
 fn member_kind(cursor: &mut Cursor) -> Result<Kind, ParseFault>
     ensures { Gives (λ k. k) result cursor.new (reading.kind_at cursor.old) }
 {
@@ -96,7 +96,7 @@ fn member_kind(cursor: &mut Cursor) -> Result<Kind, ParseFault>
     }
 }
 
-// VARIABLE behind ARRAY OF: there are arrays of no other kind.
+// VARIABLE after ARRAY OF: there are arrays of no other kind.
 #[tactic(auto, unfolding(edd_grammar::specs::Reading::expect_word))]
 fn expect_variable(cursor: &mut Cursor) -> Result<(), ParseFault>
     ensures { Leaves result cursor.new (expect_word word.Variable cursor.old) }
@@ -107,7 +107,7 @@ fn expect_variable(cursor: &mut Cursor) -> Result<(), ParseFault>
     Ok(())
 }
 
-// Behind COLLECTION: OF and the kind of its members; behind ARRAY: OF VARIABLE.
+// After COLLECTION: OF and the kind of its members; after ARRAY: OF VARIABLE.
 #[tactic(auto, unfolding(edd_grammar::specs::UnitReading::sort_behind))]
 fn sort_behind(cursor: &mut Cursor, kind_read: Kind) -> Result<Sort, ParseFault>
     ensures { Gives sort_view result cursor.new (reading.sort_behind kind_read cursor.old) }
@@ -209,7 +209,7 @@ fn one_item(cursor: &mut Cursor, height_left: u32) -> Result<Item<Path>, ParseFa
     Ok(item_of(sort, name, attributes))
 }
 
-// An item and any number of semicolons behind it.
+// An item and any number of semicolons after it.
 #[tactic(auto, unfolding(edd_grammar::specs::WordReading::closed))]
 fn closed_item(cursor: &mut Cursor) -> Result<Item<Path>, ParseFault>
     ensures { Gives item_view result cursor.new (closed (reading.item_at 100) cursor.old) }
@@ -240,7 +240,7 @@ fn numbered(cursor: &mut Cursor, word: Keyword) -> Result<u32, ParseFault>
     integer(cursor)
 }
 
-/// The four numbers, with a comma behind each or none.
+/// The four numbers, with a comma after each or none.
 #[tactic(auto, unfolding(edd_grammar::specs::UnitReading::identification_at))]
 pub fn identification(cursor: &mut Cursor) -> Result<Identification, ParseFault>
     ensures { Gives identification_of result cursor.new (reading.identification_at cursor.old) }

@@ -120,7 +120,7 @@ fn type_parts(cursor: &mut Cursor, height_left: u32) -> Result<Vec<TypePart<Path
     braced_row(cursor, height_left)
 }
 
-// Behind the brace that closes an open one.
+// After the brace that closes an open one.
 #[tactic(auto, using(crate::proofs::TypeEnds::braces))]
 fn close_braces(cursor: &mut Cursor) -> Result<(), ParseFault>
     ensures { Leaves result cursor.new (behind_braces 1 cursor.old) }
@@ -142,7 +142,7 @@ fn close_braces(cursor: &mut Cursor) -> Result<(), ParseFault>
     Ok(())
 }
 
-// Behind a type of another word: behind its first semicolon, or the brace that closes its first
+// After a type of another word: after its first semicolon, or the brace that closes its first
 // brace.
 #[tactic(auto, using(crate::proofs::TypeEnds::others))]
 fn other_end(cursor: &mut Cursor) -> Result<(), ParseFault>
@@ -193,7 +193,7 @@ fn other_type(cursor: &mut Cursor, name: &str) -> Result<WrittenType, ParseFault
     })
 }
 
-/// A type behind TYPE.
+/// A type after TYPE.
 #[tactic(auto, unfolding(edd_grammar::specs::TypeReading::type_at))]
 pub fn written_type(cursor: &mut Cursor, height_left: u32) -> Result<WrittenType, ParseFault>
     requires { height_left ≤ 100 }

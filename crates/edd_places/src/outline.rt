@@ -58,7 +58,7 @@ impl Outline {
         Ok(Outline { opened, items })
     }
 
-    /// The token that opened the innermost braces around a token; behind the last one those that are
+    /// The token that opened the innermost braces around a token; after the last one those that are
     /// still open.
     pub fn opened(&self, tokens: &[Token], number: usize) -> Option<usize> {
         match self.opened.get(number) {

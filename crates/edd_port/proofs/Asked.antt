@@ -26,7 +26,7 @@ use Rattle.edd_port.proofs.Outcomes.{without_steps, at_rest, steps_on, gets_stuc
 
 -- ---- one step
 
--- what the effect emits is the request that stands behind it
+-- what the effect emits is the request that comes after it
 abbrev Emits : Option Effect → Type 0
 Emits o = IfSome o (λ e. request_in e.emitted ≡ standing e.state.status)
 

@@ -24,7 +24,7 @@ by_running status.Ended running others = others status.Ended (λ e. cc)
 by_running status.Aborted running others = others status.Aborted (λ e. cc)
 by_running (status.Trapped why) running others = others (status.Trapped why) (λ e. cc)
 
--- behind one step an outcome follows as behind the rest of the steps
+-- after one step an outcome follows as after the rest of the steps
 behind_step : (e : Effect) (o rest : Outcome)
     → stepped (preceded (request_in e.emitted) e.changes (followed o rest))
     ≡ followed (stepped (preceded (request_in e.emitted) e.changes o)) rest

@@ -126,7 +126,7 @@ none_asked : (s : State) (answer : Answer) → standing (answered s answer).stat
 none_asked s (Go code sets) = refl
 none_asked s Abort = refl
 
--- behind an answer and what follows it no request stands
+-- after an answer and what follows it no request stands
 pub none_stands : (c : Contents) (s : State) (answer : Answer)
     → standing (answered_in c s answer).state.status ≡ []
 none_stands c s answer = follows_standing (start_in c) (answered s answer).state

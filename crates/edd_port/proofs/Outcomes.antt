@@ -46,7 +46,7 @@ halted s ending = record {
   steps = 0;
 }
 
--- behind nothing an outcome is as it is
+-- after nothing an outcome is as it is
 pub behind_nothing : (s : State) (ending : Ending) (rest : Outcome)
     → followed (halted s ending) rest ≡ rest
 behind_nothing s ending rest = same_outcome refl refl (zero-add rest.steps)

@@ -71,7 +71,7 @@ bad_ends c n s q answer rest fault asks bad =
 -- ---- turns
 
 -- With so many instructions left of these steps the session came to where it is now, so many
--- answers were taken on the way, and these requests were made, behind which the one that stands now
+-- answers were taken on the way, and these requests were made, after which the one that stands now
 -- is the last.
 pub record Playing (first : Run) (steps left : ℕ) (now : Run) (all : List Answer) (next : ℕ)
     (requests : List Request) : Type 0 where
@@ -113,7 +113,7 @@ executed first steps left fewer now after all next requests is to =
           (stands_here first.image left fewer now after to is.image);
     }
 
--- the answers from this one on are this one and those behind it
+-- the answers from this one on are this one and those after it
 pub one_answer : (all : List Answer) (next : ℕ) (answer : Answer) → next < length all
     → answer ≡ get_or all next answer → drop next all ≡ answer ∷ drop (next + 1) all
 one_answer all next answer more is =
@@ -157,7 +157,7 @@ answers_one first steps left now after all next requests q answer is asks more h
 
 -- ---- ends
 
--- what the run comes to, where these requests were noted
+-- what the run results in, where these requests were noted
 pub record Played (first : Run) (steps : ℕ) (all : List Answer) (now : Run)
     (requests : List Request) : Type 0 where
   pub requests_made : standing first.state.status ++ (under first steps all).requests ≡ requests
@@ -228,7 +228,7 @@ is_bad first steps left now all next requests q answer fault is asks here bad =
     ∙ bad_ends (contents_in first.image) left now.state q answer (drop (next + 1) all) fault asks
     bad
 
--- an answer that is taken leaves less to do: no request stands behind it
+-- an answer that is taken leaves less to do: no request comes after it
 pub answer_falls : (left : ℕ) (now after : Run) (q : Request) (answer : Answer)
     → now.state.status ≡ status.Asking q
     → after.state ≡ (answered_in (contents_in now.image) now.state answer).state

@@ -56,7 +56,7 @@ sets_exist types (set ∷ rest) n count none = by_fault (λ h. sets_exist types 
 
 module _ (numbers : List ℤ) (sets : List (VarNo × ℤ)) (i : ℕ) (d : VarNo × ℤ)
     (more : i < length sets) where
-  -- the sets from this one on are this one and those behind it
+  -- the sets from this one on are this one and those after it
   one_set : map change_of (drop i sets) ≡ change_of (get_or sets i d)
       ∷ map change_of (drop (i + 1) sets)
   one_set = ap (λ (xs : List (VarNo × ℤ)). map change_of xs) (drop-cons sets i d more)

@@ -66,7 +66,7 @@ of_refused fault refused (Some f) ending e g bad = of_set fault f ending (e ∙ 
 
 -- ---- answers by number
 
--- the items from a number on are that one and those behind it
+-- the items from a number on are that one and those after it
 pub one_mapped : {A B : Type 0} (f : A → B) (xs : List A) (n : ℕ) (x : A) → n < length xs
     → x ≡ get_or xs n x → drop n (map f xs) ≡ f x ∷ drop (n + 1) (map f xs)
 one_mapped f xs n x more is =

@@ -33,7 +33,7 @@ accepted Waiting pairs = pairs
 accepted (Refused fault) pairs = take (length pairs - 1) pairs
 accepted HostFailed pairs = pairs
 
--- what a run comes to within so many steps under the answers of these pairs
+-- what a run results in within so many steps under the answers of these pairs
 abbrev pub driven : Run → (steps : ℕ) → List Pair → Outcome
 driven r steps pairs =
     execute_in (contents_in r.image) steps r.state (map (λ p. p.answer) pairs)
@@ -47,7 +47,7 @@ standing status.Aborted = []
 standing (status.Trapped why) = []
 
 -- These requests were met: the one that stood at the start and those that were made are these, and
--- behind them the one that still stands at the end.
+-- after them the one that still stands at the end.
 abbrev pub AreMet : State → Outcome → List Request → Type 0
 AreMet s o met = standing s.status ++ o.requests ≡ met ++ standing o.state.status
 

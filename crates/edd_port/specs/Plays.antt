@@ -16,11 +16,11 @@ use Rattle.edd_port.specs.declared.playing.Ending.{Ending}
 use Rattle.edd_port.specs.declared.playing.Ending.TheVariants.{Ended, Aborted, Trapped, Waiting, Spent}
 use Rattle.edd_port.specs.Runs.{Run}
 
--- what a run comes to within so many steps under these answers
+-- what a run results in within so many steps under these answers
 abbrev pub under : Run → (steps : ℕ) → List Answer → Outcome
 under r steps given = execute_in (contents_in r.image) steps r.state given
 
--- what the method comes to from its start, where it has a body
+-- what the method results in from its start, where it has a body
 abbrev pub played : List ℕ → MethNo → (values : List ℤ) → (steps : ℕ) → List Answer → Option Outcome
 played b method values steps given =
     option_map (λ row. execute_in (contents_in b) steps (opening_of (contents_in b) row values)
@@ -47,7 +47,7 @@ abbrev pub CanStart : List ℕ → MethNo → (values : List ℤ) → Type 0
 CanStart b method values = (body_of (contents_in b) method ≢ None) × AreDeviceValues (types_in b)
     values
 
--- what a fault says of a play; for want of memory nothing is wrong with the method and the values
+-- what a fault says of a play; for lack of memory nothing is wrong with the method and the values
 abbrev pub IsPlayFault : List ℕ → MethNo → (values : List ℤ) → (steps : ℕ) → List Answer → PlayFault
     → Type 0
 IsPlayFault b method values steps given play_fault.NoItem = body_of (contents_in b) method ≡ None

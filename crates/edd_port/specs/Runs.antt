@@ -31,7 +31,7 @@ pub record IsRun (b : List ℕ) (s : State) : Type 0 where
   pub unit : CodeUnit
   pub state : IsStateIn b unit s
 
--- what at most so many instructions come to from where a run is, while no request is answered
+-- what at most so many instructions result in from where a run is, while no request is answered
 abbrev pub advanced : Run → (budget : ℕ) → Outcome
 advanced r budget = execute_in (contents_in r.image) budget r.state []
 

@@ -6,7 +6,7 @@ use edd_syntax::operators::{Comparison, Operator};
 use edd_syntax::symbols::{Keyword, Symbol};
 use std::alloc::{AllocError, Global};
 
-/// The signs that may be missing behind a token, and before one.
+/// The signs that may be missing after a token, and before one.
 pub const BEHIND: [&str; 7] = [";", ",", ")", "}", "]", ">", "&"];
 
 pub const BEFORE: [&str; 4] = ["(", "{", "[", ":"];
@@ -110,7 +110,7 @@ const BEFORE_STATEMENT: &[Missing] = &[BODY];
 
 const BEFORE_OTHER: &[Missing] = &[VALUE, TEXT];
 
-// What may be missing behind a token, whatever comes.
+// What may be missing after a token, whatever comes.
 fn missing_after(before: Option<TokenKind>) -> Option<&'static [Missing]> {
     match before {
         Some(TokenKind::Keyword(Keyword::Collection)) => Some(AFTER_COLLECTION),

@@ -1,6 +1,6 @@
-//! The faults of the items behind the first fault of a text.
+//! The faults of the items after the first fault of a text.
 //!
-//! Each item is read by itself, behind an identification of one line, so that what is wrong with it
+//! Each item is read by itself, after an identification of one line, so that what is wrong with it
 //! says nothing of the others. Names and counts are not judged, since a broken item may declare what
 //! is used.
 
@@ -16,7 +16,7 @@ use std::alloc::{AllocError, Global};
 /// What stands before an item that is read by itself.
 const HEAD: &str = "MANUFACTURER 1, DEVICE_TYPE 2, DEVICE_REVISION 3, DD_REVISION 4\n";
 
-/// The line of an item's first byte behind that.
+/// The line of an item's first byte after that.
 const FIRST: u32 = 2;
 
 /// The fault of an item that is read by itself.
@@ -29,7 +29,7 @@ pub struct LaterFault {
     line: u32,
 }
 
-// A part of a text behind the identification.
+// A part of a text after the identification.
 fn alone(alloc: Global, text: &[u8], read: Span) -> Result<Vec<u8>, AllocError> {
     let mut made = Vec::from_slice(alloc, HEAD.as_bytes())?;
     if read.start <= read.end && read.end <= text.len() {
@@ -99,7 +99,7 @@ fn is_left_out(fault: &TextFault) -> bool {
     matches!(fault, TextFault::Parse(ParseFault::Unsupported { .. }))
 }
 
-/// The faults of the items that begin at a place or behind it, of which `first` is the text's own.
+/// The faults of the items that begin at a place or after it, of which `first` is the text's own.
 pub fn later_faults<G: Grammar>(
     alloc: Global,
     text: &[u8],

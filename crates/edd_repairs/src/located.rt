@@ -18,7 +18,7 @@ pub fn line_of(fault: &TextFault) -> Option<u32> {
     }
 }
 
-/// The tokens of a line, by the number of the first and the number behind the last.
+/// The tokens of a line, by the number of the first and the number after the last.
 #[derive(Clone, Copy)]
 pub struct LineTokens {
     pub line: u32,

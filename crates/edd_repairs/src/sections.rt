@@ -1,7 +1,7 @@
-//! Where items begin behind a fault.
+//! Where items begin after a fault.
 //!
-//! An item begins at its word in column 1, wherever the braces seem to be, or behind the `}` of the
-//! item before. Behind a fault the braces may be off: those that are still open where an item begins
+//! An item begins at its word in column 1, wherever the braces seem to be, or after the `}` of the
+//! item before. After a fault the braces may be off: those that are still open where an item begins
 //! miss their closing ones, and as many closing ones that come later are taken for these.
 
 use edd_lexical_repairs::scanning::{Scanned, Shape, byte_at, piece_at};
@@ -9,7 +9,7 @@ use edd_places::words::{kind_word, text_in};
 use edd_syntax::numbers::KINDS;
 use std::alloc::{AllocError, Global};
 
-/// An item, with what stands behind it up to the next one.
+/// An item, with what comes after it up to the next one.
 #[derive(Clone, Copy)]
 pub struct Section {
     pub start: usize,
@@ -138,7 +138,7 @@ impl<'a> Scan<'a> {
         Ok(())
     }
 
-    // A closing brace where none is open closes one that was missed, and no item goes on behind it.
+    // A closing brace where none is open closes one that was missed, and no item goes on after it.
     fn close(&mut self, place: usize) {
         if self.depth == 0 && 0 < self.missed {
             self.missed = self.missed.saturating_sub(1);
@@ -191,7 +191,7 @@ impl<'a> Scan<'a> {
     }
 }
 
-/// The items that begin at a place or behind it. Where a word that is left out is refused there, its
+/// The items that begin at a place or after it. Where a word that is left out is refused there, its
 /// braces are passed as they are.
 pub fn sections(
     alloc: Global,

@@ -28,7 +28,7 @@ fn short<'a>(text: &'a [u8], token: &Token) -> &'a str {
     "a long word or string"
 }
 
-// The place behind the last token.
+// The place after the last token.
 fn end_of(tokens: &[Token]) -> Option<Span> {
     let end = tokens.last()?.end as usize;
     Some(Span { start: end, end })
@@ -174,7 +174,7 @@ fn is_operator(token: &Token, operator: Operator) -> bool {
     token.kind == TokenKind::Symbol(Symbol::Operator(operator))
 }
 
-// Whether a star and what is right behind it are `*/`.
+// Whether a star and what is right after it are `*/`.
 fn ends_comment(text: &[u8], star: &Token) -> bool {
     byte_at(text, star.end as usize) == b'/'
 }
@@ -333,7 +333,7 @@ fn place_left_out<G: Grammar>(
     Ok(places.get(low).map(|token| span_of(*token)))
 }
 
-// The word of a kind of item is left out behind ARRAY OF alone.
+// The word of a kind of item is left out after ARRAY OF alone.
 fn help_left_out(alloc: Global, word: &str, found: &mut Diagnostic) -> Result<(), AllocError> {
     if is_item_word(word) {
         let help = "this profile of EDDL has arrays of VARIABLE alone";

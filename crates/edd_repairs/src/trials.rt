@@ -13,7 +13,7 @@ use std::alloc::{AllocError, Global};
 /// What an edit does.
 #[derive(Clone, Copy)]
 pub enum Change<'a> {
-    /// The sign stands before the token, behind the one before it.
+    /// The sign stands before the token, after the one before it.
     Behind(&'static str),
     /// The sign stands before the token.
     Before(&'static str),
@@ -27,7 +27,7 @@ pub enum Change<'a> {
     Renamed,
 }
 
-/// Behind all lines of a text.
+/// After all lines of a text.
 const PAST: u32 = u32::MAX - 1;
 
 /// A text, its tokens, and the token of a line that does not fit.
@@ -70,7 +70,7 @@ impl<'a> Misfit<'a> {
         self.line.line.saturating_add(behind)
     }
 
-    // Whether the token or the one behind is this word.
+    // Whether the token or the one after it is this word.
     fn is_near(&self, word: &str) -> bool {
         for token in self.tokens.iter().skip(self.number).take(2) {
             if word_of(self.text, token) == word {
@@ -93,7 +93,7 @@ impl<'a> Misfit<'a> {
         Ok(line)
     }
 
-    // Tries a change, which has to lead past the token behind.
+    // Tries a change, which has to lead past the token after it.
     fn attempt<G: Grammar>(
         &self,
         alloc: Global,
@@ -180,7 +180,7 @@ impl<'a> Misfit<'a> {
         }
     }
 
-    /// The change with which the text gets farthest, if one leads past the token behind. Of changes
+    /// The change with which the text gets farthest, if one leads past the token after it. Of changes
     /// that get as far it is the first one.
     pub fn best_change<G: Grammar>(&self, alloc: Global) -> Result<Option<Change<'a>>, AllocError> {
         let mut best = Best {
@@ -238,7 +238,7 @@ impl<'a> Misfit<'a> {
         Some(Misfit { number, ..*self })
     }
 
-    /// The word or the sign that is meant by the token, if it leads past the token behind.
+    /// The word or the sign that is meant by the token, if it leads past the token after it.
     pub fn best_word<G: Grammar>(&self, alloc: Global) -> Result<Option<Change<'a>>, AllocError> {
         let mut best = Best {
             change: None,

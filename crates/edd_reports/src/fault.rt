@@ -23,7 +23,7 @@ impl<T: Drop> From<AllocFailed<T>> for ReportFault {
     }
 }
 
-// A String that is written to fails for want of memory alone.
+// A String that is written to fails for lack of memory alone.
 impl From<fmt::Error> for ReportFault {
     fn from(_error: fmt::Error) -> ReportFault {
         ReportFault::Memory

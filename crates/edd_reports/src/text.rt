@@ -68,7 +68,7 @@ fn print_help<W: Write>(
     print(line, out)
 }
 
-// What stands behind the place.
+// What comes after the place.
 fn push_finding(line: &mut String, finding: &Finding) -> Result<(), ReportFault> {
     match finding {
         Finding::Refused(refusal) => write!(line, ": refused {refusal}")?,

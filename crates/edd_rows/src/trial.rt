@@ -24,7 +24,7 @@ pub enum Trial {
 pub enum Verdict {
     /// What the row says, or what a failing call is to bring.
     AsWritten,
-    /// Want of memory, as it is to be answered.
+    /// Out of memory, as it is to be answered.
     Refused,
     Other(Printed),
 }

@@ -155,7 +155,7 @@ fn each_alternative_is_read(rt: HostRuntime) -> Result<(), Fail> {
     Ok(())
 }
 
-// What stands before a statement and behind it.
+// What stands before a statement and after it.
 const AROUND: [(&str, &str); 9] = [
     ("", ""),
     ("{ ", " }"),
@@ -321,7 +321,7 @@ fn else_belongs_to_the_nearest_if(rt: HostRuntime) -> Result<(), Fail> {
     Ok(())
 }
 
-// How many entries a menu's list has, and how many stand behind its first ELSE.
+// How many entries a menu's list has, and how many come after its first ELSE.
 fn entries(unit: &Unit) -> Option<(usize, usize)> {
     let Some(Attribute::Items(entries)) = attributes(unit).first() else {
         return None;
@@ -344,7 +344,7 @@ fn is_last(unit: &Unit, name: &str) -> bool {
     }
 }
 
-// The list of a menu that ends with c, how many entries it has, and how many stand behind its first
+// The list of a menu that ends with c, how many entries it has, and how many come after its first
 // ELSE.
 const LISTS: [(&str, usize, usize); 6] = [
     ("c", 1, 0),

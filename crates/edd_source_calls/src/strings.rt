@@ -48,7 +48,7 @@ const SPLITS: [(&str, &str); 15] = [
     // Bars that open no code.
     ("a |b", "en=a |b"),
     ("|EN|a|e|b|12|c|eng|d|de", "en=|EN|a|e|b|12|c|eng|d|de"),
-    // A backslash and the character behind it are passed together.
+    // A backslash and the character after it are passed together.
     ("x\\|de|y", "en=x|de|y"),
     ("\\\\|de|x", "en=\\;de=x"),
     ("\\\"\\n\\t|de|\\|", "en=\"\n\t;de=|"),

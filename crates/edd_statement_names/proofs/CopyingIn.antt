@@ -17,7 +17,7 @@ module _ {S X Y Z W C : Type 0} (unit : Description Path) (view : X → Y) (show
     (joined : (s : S) (y : Y) (ys : List Y) (w : W) (ws : List W) → one s y ≡ Some w
     → resolved (next s y) ys ≡ Some (join ws) → resolved s (y ∷ ys) ≡ Some (join (w ∷ ws)))
     (start : S) where
-  -- the copies zs are those of the first i elements, behind which the state is s, and no fault was
+  -- the copies zs are those of the first i elements, after which the state is s, and no fault was
   -- found
   pub record Copied (s : S) (i : ℕ) (xs : List X) (zs : List Z) : Type 0 where
     pub none : NoFault unit (uses s (map view (drop i xs)))

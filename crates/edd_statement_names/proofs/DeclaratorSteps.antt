@@ -45,7 +45,7 @@ module _ (unit : Description Path) where
       >>= (λ zs. Some (z ∷ zs)))
       ∙ bound (meant_here s d) (meant_from (behind s d) ds) (λ z zs. z ∷ zs) w ws e f
 
--- the scope behind all of them
+-- the scope after all of them
 pub declared_more : {X : Type 0} (view : X → Declarator Path) (s t : State) (i : ℕ) (xs : List X)
     (x : X) (all : Scope) → i < length xs → x ≡ get_or xs i x → t ≡ behind s (view x)
     → all_declared s.0 s.1 (map view (drop i xs)) ≡ all

@@ -34,14 +34,14 @@ resolved_part unit scope next (Statement s) = do
 resolved_part unit scope next (CaseLabel label) = Some (CaseLabel label)
 resolved_part unit scope next DefaultLabel = Some DefaultLabel
 
--- the locals that can be used behind it
+-- the locals that can be used after it
 abbrev pub scope_behind : Scope → (next : ℕ) → Part Path → Scope
 scope_behind scope next (Declare declarators) = all_declared scope next declarators
 scope_behind scope next (Statement s) = scope
 scope_behind scope next (CaseLabel label) = scope
 scope_behind scope next DefaultLabel = scope
 
--- the next slot behind it
+-- the next slot after it
 abbrev pub next_behind : (next : ℕ) → Part Path → ℕ
 next_behind next (Declare declarators) = next + length declarators
 next_behind next (Statement s) = next + slots_of s

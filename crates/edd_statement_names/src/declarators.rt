@@ -82,7 +82,7 @@ fn copy_declarator(
 }
 
 // One more declarator: its value is copied in the scope before it, and its local stands in the
-// scope behind it.
+// scope after it.
 #[tactic(auto, using(edd_expression_names::proofs::UseLaws::faults))]
 fn add_declarator<'a>(
     declarator: &'a Declarator<Path>,
@@ -116,7 +116,7 @@ fn add_declarator<'a>(
 }
 
 /// Declarators with the meaning of the names in their values, and the scope and the next slot
-/// behind them.
+/// after them.
 #[tactic(auto, using(edd_expression_names::proofs::UseLaws::faults))]
 pub fn add_declarators<'a>(
     declarators: &'a [Declarator<Path>],

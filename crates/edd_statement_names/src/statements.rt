@@ -199,7 +199,7 @@ fn copy_choice<'a>(
     made_of!(copy_boxed(otherwise, names, scope, next), otherwise => (condition, first, otherwise))
 }
 
-// A statement, and the condition behind it.
+// A statement, and the condition after it.
 #[cycle(statements)]
 #[tactic(auto, using(edd_expression_names::proofs::UseLaws::faults))]
 fn copy_repeated<'a>(
@@ -235,7 +235,7 @@ type Head = (
     Option<Expr<Target>>,
 );
 
-// They stand before the body, so that its faults come behind theirs.
+// They stand before the body, so that its faults come after theirs.
 #[tactic(auto, using(edd_expression_names::proofs::UseLaws::faults))]
 fn copy_head(
     initial: &Option<Expr<Path>>,
@@ -402,7 +402,7 @@ fn add_parts<'a>(
     Ok(())
 }
 
-// A part of a block, with the scope and the next slot behind it.
+// A part of a block, with the scope and the next slot after it.
 #[cycle(statements)]
 #[tactic(auto, using(edd_expression_names::proofs::UseLaws::faults), unfolding(edd_name_meanings::specs::Meanings::Means, edd_syntax::specs::Statement::slots_of))]
 fn copy_part<'a>(

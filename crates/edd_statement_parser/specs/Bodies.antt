@@ -65,7 +65,7 @@ for_head_at height_left here = do
 
 -- ---- conditions with what stands around them
 
--- the condition behind the body of a `do`
+-- the condition after the body of a `do`
 unfoldable pub do_end_at : ℕ → List Token → Read (Expr Path)
 do_end_at height_left here = do
   test ← expect_word word.While here
@@ -73,7 +73,7 @@ do_end_at height_left here = do
   rest ← expect sign.Semicolon from
   Some (condition, rest)
 
--- what a `switch` is on, and the brace behind it
+-- what a `switch` is on, and the brace after it
 unfoldable pub switch_head_at : ℕ → List Token → Read (Expr Path)
 switch_head_at height_left here = do
   (on, brace) ← condition_at InMethod height_left here

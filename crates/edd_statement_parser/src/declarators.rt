@@ -17,7 +17,7 @@ use edd_token_reader::cursor::Cursor;
 use edd_token_reader::fault::ParseFault;
 use edd_token_reader::operators::Place;
 
-// A value behind `=`, or none.
+// A value after `=`, or none.
 #[tactic(auto, unfolding(edd_grammar::specs::DeclarationReading::value_at))]
 fn initial_value(cursor: &mut Cursor, height_left: u32) -> Result<Option<Expr<Path>>, ParseFault>
     requires { height_left ≤ 100 }
@@ -71,7 +71,7 @@ pub fn is_at_local_type(cursor: &Cursor) -> bool
     cursor.at_word(Keyword::Int) || cursor.at_word(Keyword::Long)
 }
 
-/// A declaration of at most this height behind its type. Its declarators are one level below the
+/// A declaration of at most this height after its type. Its declarators are one level below the
 /// type's word.
 #[tactic(auto, using(crate::proofs::BodyLoops::declarations))]
 pub fn declaration(

@@ -23,7 +23,7 @@ use edd_token_reader::left_out::left_out_reserved;
 use edd_token_reader::operators::Place;
 use std::alloc::Global;
 
-// A label and the colon behind it.
+// A label and the colon after it.
 #[tactic(auto, unfolding(edd_grammar::specs::StatementReading::case_label_at))]
 fn case_label(cursor: &mut Cursor) -> Result<i64, ParseFault>
     ensures { Gives (λ z. z) result cursor.new (reading.case_label_at cursor.old) }
@@ -82,7 +82,7 @@ fn for_head(cursor: &mut Cursor, height_left: u32) -> Result<ForHead, ParseFault
     })
 }
 
-// The condition behind the body of a `do`.
+// The condition after the body of a `do`.
 #[tactic(auto, unfolding(crate::specs::Bodies::do_end_at))]
 fn do_end(cursor: &mut Cursor, height_left: u32) -> Result<Expr<Path>, ParseFault>
     requires { height_left ≤ 100 }
@@ -94,7 +94,7 @@ fn do_end(cursor: &mut Cursor, height_left: u32) -> Result<Expr<Path>, ParseFaul
     Ok(condition)
 }
 
-// What a `switch` is on, and the brace behind it.
+// What a `switch` is on, and the brace after it.
 #[tactic(auto, unfolding(crate::specs::Bodies::switch_head_at))]
 fn switch_head(cursor: &mut Cursor, height_left: u32) -> Result<Expr<Path>, ParseFault>
     requires { height_left ≤ 100 }
@@ -209,7 +209,7 @@ fn layer(cursor: &mut Cursor, height_left: u32) -> Result<Stmt<Path>, ParseFault
     simple(cursor, height_left)
 }
 
-// A body behind its opening brace, with the closing one.
+// A body after its opening brace, with the closing one.
 #[cycle(statement)]
 #[tactic(auto, unfolding(edd_grammar::specs::StatementReading::body_at))]
 fn body(cursor: &mut Cursor, height_left: u32, labels: bool) -> Result<Vec<Part<Path>>, ParseFault>
@@ -264,7 +264,7 @@ fn part(cursor: &mut Cursor, height_left: u32, labels: bool) -> Result<Part<Path
     Ok(Part::Statement(statement(cursor, height_left)?))
 }
 
-// Behind `if`.
+// After `if`.
 #[cycle(statement)]
 #[tactic(auto, unfolding(edd_grammar::specs::StatementReading::method_if_at))]
 fn if_behind(cursor: &mut Cursor, height_left: u32) -> Result<Stmt<Path>, ParseFault>
@@ -298,7 +298,7 @@ fn else_behind(
     Ok(if_else(condition, first, otherwise))
 }
 
-// Behind `while`.
+// After `while`.
 #[cycle(statement)]
 #[tactic(auto, unfolding(edd_grammar::specs::StatementReading::while_at))]
 fn while_behind(cursor: &mut Cursor, height_left: u32) -> Result<Stmt<Path>, ParseFault>
@@ -311,7 +311,7 @@ fn while_behind(cursor: &mut Cursor, height_left: u32) -> Result<Stmt<Path>, Par
     Ok(while_loop(condition, body))
 }
 
-// Behind `do`.
+// After `do`.
 #[cycle(statement)]
 #[tactic(auto, unfolding(edd_grammar::specs::StatementReading::do_at, crate::specs::Bodies::do_end_at))]
 fn do_behind(cursor: &mut Cursor, height_left: u32) -> Result<Stmt<Path>, ParseFault>
@@ -324,7 +324,7 @@ fn do_behind(cursor: &mut Cursor, height_left: u32) -> Result<Stmt<Path>, ParseF
     Ok(do_loop(body, condition))
 }
 
-// Behind `for`.
+// After `for`.
 #[cycle(statement)]
 #[tactic(auto, unfolding(edd_grammar::specs::StatementReading::for_at, crate::specs::Bodies::for_head_at))]
 fn for_behind(cursor: &mut Cursor, height_left: u32) -> Result<Stmt<Path>, ParseFault>
@@ -337,7 +337,7 @@ fn for_behind(cursor: &mut Cursor, height_left: u32) -> Result<Stmt<Path>, Parse
     Ok(for_loop(head, body))
 }
 
-// Behind `switch`.
+// After `switch`.
 #[cycle(statement)]
 #[tactic(auto, unfolding(edd_grammar::specs::StatementReading::switch_at, crate::specs::Bodies::switch_head_at))]
 fn switch_behind(cursor: &mut Cursor, height_left: u32) -> Result<Stmt<Path>, ParseFault>
@@ -350,7 +350,7 @@ fn switch_behind(cursor: &mut Cursor, height_left: u32) -> Result<Stmt<Path>, Pa
     Ok(switch(on, parts))
 }
 
-/// The body of a method of at most this height, behind its opening brace, with the closing one.
+/// The body of a method of at most this height, after its opening brace, with the closing one.
 #[tactic(auto, unfolding(edd_grammar::specs::StatementReading::definition_at))]
 pub fn definition(cursor: &mut Cursor, height_left: u32) -> Result<Vec<Part<Path>>, ParseFault>
     requires { height_left ≤ 100 }

@@ -105,7 +105,7 @@ read_code raw at len here code behind inside is_bar is_here opened closed is_cod
     ∙ ap (λ t. with_code (take len here) (pieces 0 t)) rest
     ∙ ap (λ t. with_code t (pieces 0 behind)) (sym is_code)
 
--- a text may be cut behind a bar
+-- a text may be cut after a bar
 pub IsCharBoundary-after_bar : (here rest : List ℕ) (len : ℕ) → IsUtf8 here → len < length here
     → get_or here len 0 ≡ 124 → rest ≡ drop len here → IsCharBoundary rest 1
 IsCharBoundary-after_bar here rest len text closed is_bar is_rest =

@@ -1,5 +1,5 @@
 -- Escapes of a text that is read in pieces: what stands before a backslash, and the character
--- behind it.
+-- after it.
 use Rattle.std.proofs.Common.{◌≡◌, ◌≢◌, eqb, false, ℕ, suc, ◌<◌, ◌≤◌, List, [], ◌∷◌, ◌++◌, length, get_or, refl, sym, ap, ◌∙◌, arith, inl, inr, append_assoc, append-nil}
 use Rattle.std.proofs.lemmas.Bool.{cases_lt, ne_eqb}
 use Rattle.std.proofs.lemmas.Bool.Decides.{nat_tests}
@@ -68,7 +68,7 @@ ascii_char c rest small =
     let ascii : escaped c < 128 = grind (arith, nat_tests) in
     rw (encode_ascii c small, encode_ascii (escaped c) ascii) refl
 
--- a character behind a backslash stands for one character
+-- a character after a backslash stands for one character
 pub after_backslash-char : (c : ℕ) (rest : List ℕ) → after_backslash (encode_utf8 c ++ rest)
     ≡ encode_utf8 (escaped c) ++ unescape rest
 after_backslash-char c rest =
@@ -92,7 +92,7 @@ unescape-step done before after rest text parts plain so_far =
     ∙ ap (λ t. before ++ t) (unescape-backslash after) in
     append_assoc done before (after_backslash after) ∙ sym (ap (λ t. done ++ t) unescaped) ∙ so_far
 
--- the character behind the backslash has been read too
+-- the character after the backslash has been read too
 pub unescape-char : (done before after rest text : List ℕ) (c : ℕ) → after ≡ encode_utf8 c ++ rest
     → (done ++ before) ++ after_backslash after ≡ text
     → ((done ++ before) ++ encode_utf8 (escaped c)) ++ unescape rest ≡ text
@@ -102,7 +102,7 @@ unescape-char done before after rest text c parts so_far =
     append_assoc (done ++ before) (encode_utf8 (escaped c)) (unescape rest)
     ∙ sym (ap (λ t. (done ++ before) ++ t) char) ∙ so_far
 
--- nothing stands behind the backslash
+-- nothing comes after the backslash
 pub unescape-end : (done before after rest text : List ℕ) → length after ≡ 0 → rest ≡ after
     → (done ++ before) ++ after_backslash after ≡ text → (done ++ before) ++ unescape rest ≡ text
 unescape-end done before [] rest text none same so_far =

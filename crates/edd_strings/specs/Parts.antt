@@ -4,7 +4,7 @@ use Rattle.edd_syntax.specs.Words.{Pieces, Variant, pieces, with_code, with_text
 use Rattle.edd_strings.specs.declared.parts.Opened.{Opened}
 use Rattle.edd_strings.specs.declared.parts.Part.{Part}
 
--- a code, and the pieces of what stands behind it
+-- a code, and the pieces of what comes after it
 abbrev pub pieces_from : Option Opened → Pieces
 pieces_from None = record { before = []; variants = [] }
 pieces_from (Some opened) = with_code opened.code.now (pieces 0 opened.behind.now)

@@ -1,9 +1,9 @@
-//! A raw text is a text, and then codes with the texts behind them.
+//! A raw text is a text, and then codes with the texts after them.
 
 ghost use Rattle.std.specs.Prelude.{IsTrue};
 ghost use Rattle.edd_syntax.specs.Words.{is_code};
 
-// A code that opens a variant, and what stands behind the bar that closes it.
+// A code that opens a variant, and what comes after the bar that closes it.
 #[derive(Clone, Copy)]
 pub struct Opened<'a> {
     pub code: &'a str,

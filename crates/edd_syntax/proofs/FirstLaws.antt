@@ -1,4 +1,4 @@
--- The first breach in lists that stand one behind the other.
+-- The first breach in lists that are one after the other.
 use Rattle.std.proofs.Common.{◌≡◌, refl, sym, ap, ◌∙◌, ℕ, ◌+◌, ◌<◌, ◌≤◌, List, [], ◌∷◌, ◌++◌, length, get_or, drop, map, Option, Some, None, arith}
 use Rattle.std.proofs.lemmas.Grind.{common_steps}
 use Rattle.std.specs.List.{flat_map}
@@ -33,7 +33,7 @@ module _ {X Y A : Type 0} (breaches : List Y → List A) (view : X → Y)
       ∙ ap (λ y. first_of (breaches (view y ∷ []) ++ breaches (map view (drop (i + 1) xs))))
       (sym is)
 
-  -- behind an element without a breach
+  -- after an element without a breach
   pub goes_on : (i : ℕ) (xs : List X) (x : X) → i < length xs → x ≡ get_or xs i x
       → None ≡ first_of (breaches (view x ∷ [])) → first_from i xs ≡ first_from 0 xs
       → first_from (i + 1) xs ≡ first_from 0 xs
@@ -47,7 +47,7 @@ module _ {X Y A : Type 0} (breaches : List Y → List A) (view : X → Y)
   stops_at i xs x why h is some invariant = sym (first_of-append_some _ _ why some)
       ∙ sym (next_breach i xs x h is) ∙ invariant
 
-  -- behind the last element
+  -- after the last element
   pub at_the_end : breaches [] ≡ [] → (i : ℕ) (xs : List X) → length xs ≤ i
       → first_from i xs ≡ first_from 0 xs → None ≡ first_from 0 xs
   at_the_end none i xs h invariant = sym (ap first_of none)

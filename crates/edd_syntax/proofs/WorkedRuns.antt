@@ -98,7 +98,7 @@ int4 = of_one (record { type = var_type.Integer; size = 4 })
 abbrev unsigned1 : Environment
 unsigned1 = of_one (record { type = var_type.UnsignedInteger; size = 1 })
 
--- what a run that changes no variable comes to
+-- what a run that changes no variable results in
 abbrev quiet : List Request → List ℤ → Ending → Transcript
 quiet requests values ending = record {
   requests = requests;

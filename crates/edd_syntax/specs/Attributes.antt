@@ -194,7 +194,7 @@ or_default attr.Handling [] = Number (pos 3) ∷ []
 or_default attr.Validity [] = Number (pos 1) ∷ []
 or_default _ rs = rs
 
--- what a read of an attribute comes to
+-- what a read of an attribute results in
 pub data Reading : Type 0 where
   -- there is no such item, it can't have the attribute, or it has no such transaction
   NoItem : Reading

@@ -27,7 +27,7 @@ referred _ = None
 
 module _ (env : Environment) where
   -- `++` and `--` store 1 more or 1 less; before the reference their value is what is read back,
-  -- behind it what was read before
+  -- after it what was read before
   abbrev pub increment : IncrementOperator → Target → Action ℤ
   increment PreIncrement to = do
     old ← read to

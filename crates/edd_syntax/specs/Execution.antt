@@ -199,7 +199,7 @@ body_of unit m = elim (item_at unit (item_no.Method m)) [
 
 -- ---- abort methods
 
--- the state in which an abort method starts: all slots 0, and those behind it left
+-- the state in which an abort method starts: all slots 0, and those after it left
 abbrev pub aborting : (slots : ℕ) → (rest : List MethNo) → State → State
 aborting slots rest s =
     record s { slots = replicate slots (pos 0); abort_methods = rest; is_aborting = true }
@@ -213,7 +213,7 @@ run_listed n unit (m ∷ rest) = λ s.
     and_then (execute_all (environment unit) body n (aborting (slots_in body) rest s))
     (λ completion. run_listed n unit rest)
 
--- what a method's body comes to, after an abort with its abort methods
+-- what a method's body results in, after an abort with its abort methods
 abbrev pub after_body : ℕ → Description Target → Outcome Completion → Outcome Completion
 after_body n unit (Done completion s) = Done completion s
 after_body n unit (Stopped (stops.Trapped why) s) = Stopped (stops.Trapped why) s

@@ -1,5 +1,5 @@
 -- The grammar of texts and expressions, as a relation between a tree, the tokens from where it
--- begins (`here`) and those behind it (`rest`). The lists of tokens that are named in between are
+-- begins (`here`) and those after it (`rest`). The lists of tokens that are named in between are
 -- the tokens from a place on.
 use Rattle.std.specs.Prelude.{◌≡◌, ℕ, suc, ◌≤◌, ◌⊎◌, List, [], ◌∷◌, ◌++◌}
 use Rattle.edd_syntax.specs.declared.operators.Operator.{Operator}
@@ -195,7 +195,7 @@ abbrev mutual
   ArgumentsHere p (Cons (Text text) others) here rest =
       (behind : List Token) × TextHere text here behind × MoreArgumentsHere p others behind rest
 
-  -- behind the first argument each further one has a comma before it
+  -- after the first argument each further one has a comma before it
   pub MoreArgumentsHere : Place → Arguments Path → List Token → List Token → Type 0
   MoreArgumentsHere p Nil here rest = here ≡ rest
   MoreArgumentsHere p (Cons (Value e) others) here rest =

@@ -54,7 +54,7 @@ TimesHere zero s here rest = here ≡ rest
 TimesHere (suc n) s here rest = (behind : List Token) × NextSign s here behind
     × TimesHere n s behind rest
 
--- any number of things, each with any number of semicolons behind it
+-- any number of things, each with any number of semicolons after it
 abbrev pub ClosedHere : {A : Type 0} → (A → List Token → List Token → Type 0) → List A → List Token
     → List Token → Type 0
 ClosedHere Here [] here rest = here ≡ rest
@@ -62,7 +62,7 @@ ClosedHere Here (x ∷ xs) here rest =
     (behind from : List Token) × Here x here behind × (n : ℕ) × TimesHere n sign.Semicolon behind
     from × ClosedHere Here xs from rest
 
--- one or more names, each further one behind a sign
+-- one or more names, each further one after a sign
 abbrev pub MoreNamesHere : Symbol → List Name → List Token → List Token → Type 0
 MoreNamesHere s [] here rest = here ≡ rest
 MoreNamesHere s (n ∷ more) here rest =
@@ -192,7 +192,7 @@ ResponseCodeHere r here rest =
     ∷ from)
     × TextHere r.text from behind × ResponseEndHere behind rest
 
--- `, label` and `, label, help`; a help stands behind a label alone
+-- `, label` and `, label, help`; a help comes after a label alone
 abbrev pub MemberTextsHere : (label help : Option texts.Text) → List Token → List Token → Type 0
 MemberTextsHere None None here rest = here ≡ rest
 MemberTextsHere None (Some help) here rest = ⊥
@@ -260,7 +260,7 @@ is_inside_type (Sign sign.OpenBrace) = false
 is_inside_type (Sign sign.CloseBrace) = false
 is_inside_type _ = true
 
--- what stands behind the brace that closes the outermost of `depth` open braces
+-- what comes after the brace that closes the outermost of `depth` open braces
 abbrev pub behind_braces : (depth : ℕ) → List Token → Option (List Token)
 behind_braces zero here = Some here
 behind_braces (suc depth) [] = None
@@ -268,7 +268,7 @@ behind_braces (suc depth) (Sign sign.OpenBrace ∷ rest) = behind_braces (suc (s
 behind_braces (suc depth) (Sign sign.CloseBrace ∷ rest) = behind_braces depth rest
 behind_braces (suc depth) (_ ∷ rest) = behind_braces (suc depth) rest
 
--- what stands behind another word: it ends at its first semicolon, or at the brace that closes a
+-- what comes after another word: it ends at its first semicolon, or at the brace that closes a
 -- brace before one
 abbrev pub OtherEndHere : List Token → List Token → Type 0
 OtherEndHere here rest =
@@ -392,7 +392,7 @@ ItemHere i here rest =
 abbrev pub NumberedWordHere : Keyword → ℕ → List Token → List Token → Type 0
 NumberedWordHere k n here rest = here ≡ Reserved k ∷ Integer n ∷ rest
 
--- the four numbers, with a comma between two of them or none; behind the last a comma may stand too
+-- the four numbers, with a comma between two of them or none; after the last a comma may stand too
 abbrev pub IdentificationHere : Identification → List Token → List Token → Type 0
 IdentificationHere i here rest =
     (a b c d e f g : List Token)

@@ -48,7 +48,7 @@ pub data Stop : Type 0 where
   Waiting : Stop
   OutOfTurns : Stop
 
--- what an action comes to: a result of the type A, or a stop, each with its state
+-- what an action results in: a result of the type A, or a stop, each with its state
 pub data Outcome (A : Type 0) : Type 0 where
   Done : A → State → Outcome A
   Stopped : Stop → State → Outcome A

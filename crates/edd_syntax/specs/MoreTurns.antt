@@ -1,4 +1,4 @@
--- The law of more turns: an outcome that isn't for want of turns is the same where loops have more
+-- The law of more turns: an outcome that isn't for lack of turns is the same where loops have more
 -- turns.
 use Rattle.std.specs.Prelude.{◌≡◌, ◌≢◌, ℕ, ◌≤◌, ℤ, List}
 use Rattle.edd_syntax.specs.declared.numbers.MethNo.{MethNo}
@@ -11,7 +11,7 @@ use Rattle.edd_syntax.specs.MethodState.{State, Outcome, Done, Stopped, Trapped,
 use Rattle.edd_syntax.specs.Execution as ending
 use Rattle.edd_syntax.specs.Execution.{execute, run_body, run}
 
--- the outcome isn't for want of turns
+-- the outcome isn't for lack of turns
 abbrev pub IsOver : {A : Type 0} → Outcome A → Type 0
 IsOver (Done x s) = Unit {0}
 IsOver (Stopped (Trapped why) s) = Unit {0}
@@ -23,18 +23,18 @@ IsOver (Stopped OutOfTurns s) = ⊥
 abbrev pub Extends : {A : Type 0} → Action A → Action A → Type 0
 Extends first second = (s : State) → IsOver (first s) → second s ≡ first s
 
--- what a statement comes to, other than for want of turns, stays where each loop has more turns
+-- what a statement results in, other than for lack of turns, stays where each loop has more turns
 abbrev pub StatementsStay : Type 0
 StatementsStay = (env : Environment) (statement : Stmt Target) (n m : ℕ) → n ≤ m
     → Extends (execute env statement n) (execute env statement m)
 
--- so does what the run of a body comes to, from any state
+-- so does what the run of a body results in, from any state
 abbrev pub BodiesStay : Type 0
 BodiesStay = (env : Environment) (body : Body Target) (n m : ℕ) → n ≤ m → (s : State)
     → (run_body n env body s).ending ≢ ending.OutOfTurns → run_body m env body s
     ≡ run_body n env body s
 
--- so does what the run of a method comes to, under the same values and answers
+-- so does what the run of a method results in, under the same values and answers
 abbrev pub RunsStay : Type 0
 RunsStay = (unit : Description Target) (method : MethNo) (n m : ℕ) → n ≤ m
     → (values : List ℤ) (answers : List Answer)

@@ -189,7 +189,7 @@ missing_attributes unit = flat_map (λ i. map (MissingAttribute i.name) (missing
 abbrev pub is_kind_among : List Kind → Kind → Bool
 is_kind_among allowed k = list_any (same_kind k) allowed
 
--- Behind the name of something of kind k, which is the item i where that is known. A member has the
+-- After the name of something of kind k, which is the item i where that is known. A member has the
 -- kind after OF; what it names is judged where the member stands, and not here.
 abbrev pub faults_along : Description Path → (allowed : List Kind) → Name → Kind → Option ItemNo
     → (members : List Name) → List Refusal

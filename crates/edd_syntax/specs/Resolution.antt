@@ -28,7 +28,7 @@ look_up name all = option_map (λ entry. entry.1) (find (λ entry. bytes_eq entr
 abbrev pub count_of : {R : Type 0} → Kind → List (item.Item R) → ℕ
 count_of k items = length (filter (λ i. same_kind (kind_of_item i.sort) k) items)
 
--- the names and numbers of items behind those in `before`
+-- the names and numbers of items after those in `before`
 abbrev pub numbered_names : {R : Type 0} → (before items : List (item.Item R))
     → List (Name × ItemNo)
 numbered_names before [] = []
@@ -195,11 +195,11 @@ member_kinds ArrayItem = []
 
 -- ---- locals
 
--- the locals behind a declarator, whose slot is `next`
+-- the locals after a declarator, whose slot is `next`
 abbrev pub declared : Path → (next : ℕ) → Scope → Scope
 declared place next scope = (place.base, next) ∷ scope
 
--- the locals behind a declaration
+-- the locals after a declaration
 abbrev pub all_declared : Scope → (next : ℕ) → List (Declarator Path) → Scope
 all_declared scope next [] = scope
 all_declared scope next (d ∷ rest) = all_declared (declared d.place next scope) (next + 1) rest

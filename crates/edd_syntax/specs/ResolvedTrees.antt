@@ -150,7 +150,7 @@ module _ (unit : Description Path) where
     array = array_meant unit scope;
   }
 
-  -- a local can be used behind its own declarator
+  -- a local can be used after its own declarator
   abbrev pub resolved_declarators : Scope → (next : ℕ) → List (Declarator Path)
       → Option (List (Declarator Target))
   resolved_declarators scope next [] = Some []

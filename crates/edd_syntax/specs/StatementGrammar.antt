@@ -41,7 +41,7 @@ abbrev pub NoElse : List Token → List Token → Type 0
 NoElse here rest = (here ≡ rest) × ¬ BeginsWord word.Else rest
 
 module _ {V : Type 0} (Here : V → List Token → List Token → Type 0) where
-  -- ---- a single value: one in each branch, and a semicolon behind it
+  -- ---- a single value: one in each branch, and a semicolon after it
 
   abbrev mutual
     pub OneHere : Cond Path V → List Token → List Token → Type 0
@@ -63,7 +63,7 @@ module _ {V : Type 0} (Here : V → List Token → List Token → Type 0) where
     OnlyHere (cond.Cons c cond.Nil) here rest = OneHere c here rest
     OnlyHere (cond.Cons c (cond.Cons d more)) here rest = ⊥
 
-    -- ELSE belongs to the nearest IF, and has braces or another IF behind it
+    -- ELSE belongs to the nearest IF, and has braces or another IF after it
     pub ElseHere : Conds Path V → List Token → List Token → Type 0
     ElseHere cond.Nil here rest = NoElse here rest
     ElseHere (cond.Cons c cond.Nil) here rest =
@@ -83,7 +83,7 @@ module _ {V : Type 0} (Here : V → List Token → List Token → Type 0) where
         × OnlyHere body from behind
         × OneArmsHere arms behind rest
 
-  -- ---- a list: any number of elements, each with a comma behind it or none
+  -- ---- a list: any number of elements, each with a comma after it or none
 
   abbrev mutual
     pub ListHere : Conds Path V → List Token → List Token → Type 0
@@ -110,7 +110,7 @@ module _ {V : Type 0} (Here : V → List Token → List Token → Type 0) where
         × NextSign sign.OpenBrace brace inside
         × ListArmsHere arms inside (Sign sign.CloseBrace ∷ rest)
 
-    -- the IF behind an ELSE, which has no comma of its own
+    -- the IF after an ELSE, which has no comma of its own
     pub ElseIfHere : Conds Path V → List Token → List Token → Type 0
     ElseIfHere cond.Nil here rest = ⊥
     ElseIfHere (cond.Cons c cond.Nil) here rest = IsIf c × ElementHere c here rest

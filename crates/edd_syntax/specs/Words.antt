@@ -76,8 +76,8 @@ with_code code p = record {
       ∷ p.variants;
 }
 
--- The pieces of the characters behind the first `read`, which belong to what was read before. A
--- backslash and the character after it are passed together, so neither opens a code. Behind a code
+-- The pieces of the characters after the first `read`, which belong to what was read before. A
+-- backslash and the character after it are passed together, so neither opens a code. After a code
 -- reading goes on after the bar that closes it.
 unfoldable pub pieces : (read : ℕ) → List ℕ → Pieces
 pieces read [] = record { before = []; variants = [] }

@@ -3,12 +3,12 @@
 ghost use Rattle.edd_syntax.specs.MoreTurns.{StatementsStay, BodiesStay, RunsStay};
 ghost use Rattle.edd_syntax.specs.WrappingLaw.{WrappingKeepsTheNumber};
 
-/// What a statement comes to, other than for want of turns, stays where each loop has more turns.
+/// What a statement results in, other than for lack of turns, stays where each loop has more turns.
 pub fn statements_stay()
     ensures { StatementsStay }
 {}
 
-/// What a whole run comes to, other than for want of turns, stays where each loop has more turns:
+/// What a whole run results in, other than for lack of turns, stays where each loop has more turns:
 /// the requests, the changes, the values, the answers that are left, and the ending.
 pub fn runs_stay()
     ensures bodies { BodiesStay }

@@ -159,6 +159,6 @@ pub enum Symbol {
     Decrement,
     Operator(Operator),
     Comparison(Comparison),
-    /// An operator and `=` behind it.
+    /// An operator and `=` after it.
     CompoundAssign(Operator),
 }

@@ -24,7 +24,7 @@ pub struct NewFile<F: Drop> {
 }
 
 /// The system's files. The name `/dev/stdout` is the standard output, which is written as it
-/// stands: what comes after the bytes is then behind them.
+/// stands: what comes after the bytes is then after them.
 #[derive(Clone, Copy)]
 pub struct SystemDisk<'a, R> {
     pub rt: &'a R,

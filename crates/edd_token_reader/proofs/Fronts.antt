@@ -4,7 +4,7 @@ use Rattle.std.proofs.Common.{◌≡◌, List, [], ◌∷◌, ◌++◌, map, Som
 use Rattle.edd_syntax.specs.Token.{Token}
 use Rattle.edd_grammar.specs.Reading.{◌>>=◌, Read}
 
--- what reads on from the same thing in two ways reads the same if each way does behind that thing
+-- what reads on from the same thing in two ways reads the same if each way does after that thing
 pub bind_same : {A B : Type 0} (found : Read A) (f g : A × List Token → Read B)
     → ((x : A × List Token) → found ≡ Some x → f x ≡ g x) → (found >>= f) ≡ (found >>= g)
 bind_same None f g same = refl

@@ -54,7 +54,7 @@ module _ (allowed : List Name) where
       >>= λ o. Some (q.0 ∷ o.0, o.1))
       (same_names n m (skip_comma q.1) (omega arith) (omega arith)))
 
-  -- behind the opening parenthesis
+  -- after the opening parenthesis
   pub names_opened : (here : List Token) → at OpenParenthesis here ≡ true
       → some_qualifiers allowed (length here) (drop 1 here) ≡ names_here (drop 1 here)
   names_opened here e =

@@ -93,13 +93,13 @@ name_text (c ∷ rest) e =
     IsUtf8-from_ascii (c ∷ rest) (one_more_ascii c rest (part_small c (begins_goes_on c g.0))
     (parts_ascii rest g.1))
 
--- ---- where tokens stand: behind some bytes of the text
+-- ---- where tokens stand: after some bytes of the text
 
 -- `here` is an end of the text
 abbrev Ends : List ℕ → List ℕ → Type 0
 Ends text here = (before : List ℕ) × (text ≡ before ++ here)
 
--- behind some bytes more
+-- after some bytes more
 behind_more : (text here bytes rest : List ℕ) → Ends text here → here ≡ bytes ++ rest
     → Ends text rest
 behind_more text here bytes rest ends e = (

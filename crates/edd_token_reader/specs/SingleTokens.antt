@@ -10,12 +10,12 @@ abbrev pub string_at : List Token → Read (List ℕ)
 string_at (String s ∷ rest) = Some (s, rest)
 string_at _ = None
 
--- a dot, and the name behind it
+-- a dot, and the name after it
 abbrev pub member_at : List Token → Read Name
 member_at (Sign sign.Dot ∷ Identifier m ∷ rest) = Some (m, rest)
 member_at _ = None
 
--- `&`, and the name behind it
+-- `&`, and the name after it
 abbrev pub further_name_at : List Token → Read Name
 further_name_at (Sign (sign.Operator operator.And) ∷ Identifier n ∷ rest) = Some (n, rest)
 further_name_at _ = None

@@ -103,7 +103,7 @@ impl<'a> Cursor<'a> {
         self.line_of(self.taken())
     }
 
-    /// The fault where the next token fits nothing. LIKE behind a name would change another item,
+    /// The fault where the next token fits nothing. LIKE after a name would change another item,
     /// and is refused by its name.
     pub fn syntax(&self) -> ParseFault {
         if self.has_taken_name() && self.at_name("LIKE") {
@@ -131,7 +131,7 @@ impl<'a> Cursor<'a> {
         }
     }
 
-    /// The number of places before, between and behind the tokens.
+    /// The number of places before, between and after the tokens.
     pub fn places(&self) -> usize
         ensures { result ≡ length self.now + 1 }
     {
@@ -214,7 +214,7 @@ impl<'a> Cursor<'a> {
         }
     }
 
-    /// The name behind the next token.
+    /// The name after the next token.
     pub fn peek_second_name(&self) -> Option<&'a str> {
         match self.rest {
             [
@@ -239,7 +239,7 @@ impl<'a> Cursor<'a> {
         }
     }
 
-    /// Behind this name, which has to be next.
+    /// After this name, which has to be next.
     #[tactic(auto, unfolding(edd_grammar::specs::WordReading::expect_name))]
     pub fn expect_name(&mut self, name: &str) -> Result<(), ParseFault>
         ensures { Leaves result self.new (expect_name name.now self.old) }
@@ -250,7 +250,7 @@ impl<'a> Cursor<'a> {
         Ok(())
     }
 
-    /// Behind the next token, if there is one.
+    /// After the next token, if there is one.
     pub fn bump(&mut self)
         ensures { self.new ≡ drop 1 self.old }
     {
@@ -295,7 +295,7 @@ impl<'a> Cursor<'a> {
         next
     }
 
-    /// Behind this sign, which has to be next.
+    /// After this sign, which has to be next.
     #[tactic(auto, unfolding(edd_grammar::specs::Reading::expect))]
     pub fn expect(&mut self, sign: Symbol) -> Result<(), ParseFault>
         ensures { Leaves result self.new (reading.expect sign self.old) }
@@ -306,7 +306,7 @@ impl<'a> Cursor<'a> {
         Ok(())
     }
 
-    /// Behind this word, which has to be next.
+    /// After this word, which has to be next.
     #[tactic(auto, unfolding(edd_grammar::specs::Reading::expect_word))]
     pub fn expect_word(&mut self, word: Keyword) -> Result<(), ParseFault>
         ensures { Leaves result self.new (reading.expect_word word self.old) }
@@ -356,7 +356,7 @@ impl<'a> Cursor<'a> {
         Some(n)
     }
 
-    /// The name of a member behind a dot.
+    /// The name of a member after a dot.
     pub fn member(&mut self) -> Option<&'a str>
         ensures { Takes (λ n. n.now) result self.old self.new (member_at self.old) }
     {
@@ -379,7 +379,7 @@ impl<'a> Cursor<'a> {
         }
     }
 
-    /// The name behind `&`.
+    /// The name after `&`.
     pub fn further_name(&mut self) -> Option<&'a str>
         ensures { Takes (λ n. n.now) result self.old self.new (further_name_at self.old) }
     {

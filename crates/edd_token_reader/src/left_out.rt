@@ -38,7 +38,7 @@ const WORDS: [&str; 25] = [
     "WRITE_AS_ONE",
 ];
 
-// A word with a number directly behind it, as of one range of several.
+// A word with a number directly after it, as of one range of several.
 fn is_numbered(word: &str, range: &str) -> bool {
     match word.as_bytes().strip_prefix(range.as_bytes()) {
         Some(digits) => !digits.is_empty() && digits.iter().all(|d| d.is_ascii_digit()),
@@ -117,7 +117,7 @@ fn is_of_items(word: Keyword) -> bool {
     )
 }
 
-/// The fault behind ARRAY OF, where there are arrays of variables alone.
+/// The fault after ARRAY OF, where there are arrays of variables alone.
 pub fn misfit_array(cursor: &Cursor) -> ParseFault {
     match cursor.peek() {
         Some(TokenKind::Keyword(word)) if is_of_items(word) => {
@@ -136,7 +136,7 @@ pub fn misfit_without_codes(cursor: &Cursor) -> ParseFault {
     misfit(cursor)
 }
 
-/// The fault where an item may begin, where LIKE may stand behind a name.
+/// The fault where an item may begin, where LIKE may come after a name.
 pub fn misfit_item(cursor: &Cursor) -> ParseFault {
     if let (Some(_), Some("LIKE")) = (cursor.peek_name(), cursor.peek_second_name()) {
         return ParseFault::unsupported(cursor.alloc(), "LIKE");

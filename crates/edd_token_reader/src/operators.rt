@@ -25,7 +25,7 @@ pub enum Infix {
     Either,
 }
 
-/// `=`, or an operator and `=` behind it.
+/// `=`, or an operator and `=` after it.
 #[derive(Clone, Copy)]
 pub enum Assignment {
     Simple,
@@ -126,7 +126,7 @@ pub fn before_of(sign: Symbol) -> Option<IncrementOperator>
     }
 }
 
-/// The step behind a reference that a sign is.
+/// The step after a reference that a sign is.
 pub fn behind_of(sign: Symbol) -> Option<IncrementOperator>
     ensures { result ≡ signs.behind_of sign }
 {

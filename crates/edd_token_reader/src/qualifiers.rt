@@ -48,7 +48,7 @@ fn allowed<'a>(cursor: &mut Cursor<'a>, kind: Qualified) -> Result<&'a str, Pars
     Ok(name)
 }
 
-// One or more names, and the parenthesis behind them.
+// One or more names, and the parenthesis after them.
 #[tactic(auto, using(crate::proofs::QualifierLoops::names_read))]
 fn some_qualifiers<'a>(cursor: &mut Cursor<'a>, kind: Qualified) -> Result<Vec<&'a str>, ParseFault>
     ensures { Gives (λ v. texts_of v.items) result cursor.new

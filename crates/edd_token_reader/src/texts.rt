@@ -12,7 +12,7 @@ use edd_syntax::reference::Path;
 use edd_syntax::symbols::Symbol;
 use edd_syntax::text::Text;
 
-// The members behind a path's first name.
+// The members after a path's first name.
 fn members(cursor: &mut Cursor) -> Result<Vec<String>, ParseFault>
     ensures { Gives (λ v. map string_bytes v.items) result cursor.new
         (Some (members_at cursor.old)) }

@@ -18,7 +18,7 @@ use edd_syntax::symbols::{Keyword, Symbol};
 use edd_syntax::text::Text;
 use edd_syntax::types::{Handling, Operation};
 
-// Behind one of READ and WRITE, where the other one may follow `&`.
+// After one of READ and WRITE, where the other one may follow `&`.
 #[tactic(auto, unfolding(edd_grammar::specs::ValueReading::handling_behind))]
 fn handling_behind(cursor: &mut Cursor, one: Handling, other: &str) -> Result<Handling, ParseFault>
     ensures { Gives (λ h. h) result cursor.new (reading.handling_behind one other.now cursor.old) }
@@ -86,7 +86,7 @@ pub fn some_text(cursor: &mut Cursor) -> Result<Text, ParseFault>
     text(cursor)
 }
 
-/// A text behind a comma, or none.
+/// A text after a comma, or none.
 #[tactic(auto, unfolding(edd_grammar::specs::ValueReading::optional_text_at))]
 pub fn optional_text(cursor: &mut Cursor) -> Result<Option<Text>, ParseFault>
     ensures { Gives (option_map text_of) result cursor.new (reading.optional_text_at cursor.old) }
@@ -115,14 +115,14 @@ pub fn number(cursor: &mut Cursor) -> Result<Option<u32>, ParseFault>
     Ok(cursor.integer())
 }
 
-/// Behind the semicolons that are next.
+/// After the semicolons that are next.
 pub fn skip_semicolons(cursor: &mut Cursor)
     ensures { cursor.new ≡ words.skip_semicolons cursor.old }
 {
     while cursor.eat(Symbol::Semicolon) {}
 }
 
-/// Behind a comma, if one is next.
+/// After a comma, if one is next.
 pub fn skip_comma(cursor: &mut Cursor)
     ensures { cursor.new ≡ conditionals.skip_comma cursor.old }
 {

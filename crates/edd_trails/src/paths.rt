@@ -13,7 +13,7 @@ pub enum Meaning<'a> {
     Item(Kind),
     /// What a member names that has a fault of its own.
     Unjudged,
-    /// It breaks a rule, at its first name (0) or behind so many dots.
+    /// It breaks a rule, at its first name (0) or after so many dots.
     Broken(Rule<'a>, usize),
 }
 
@@ -35,7 +35,7 @@ fn item_of(directory: &Directory<'_>, member: &Member<Path>, kind: Kind) -> Opti
     }
 }
 
-// The next point, behind a member's name.
+// The next point, after a member's name.
 fn step<'a>(
     directory: &Directory<'_>,
     from: Point<'a>,

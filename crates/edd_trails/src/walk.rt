@@ -12,7 +12,7 @@ use std::alloc::{AllocError, Global};
 /// Where variables may stand.
 pub const VARIABLES: [Kind; 1] = [Kind::Variable];
 
-/// What an index may stand behind.
+/// What an index may come after.
 const ARRAYS: [Kind; 1] = [Kind::Array];
 
 /// What a menu shows.

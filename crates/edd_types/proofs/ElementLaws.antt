@@ -9,7 +9,7 @@ use Rattle.edd_syntax.specs.Refusal.{Refusal, DuplicateElement, refused_if}
 abbrev pub repeats : List ℕ → ArrayElement Target → List Refusal
 repeats before e = refused_if (is_number_in before e.number) DuplicateElement
 
--- the numbers behind an element
+-- the numbers after an element
 abbrev pub behind : List ℕ → ArrayElement Target → List ℕ
 behind before e = e.number ∷ before
 

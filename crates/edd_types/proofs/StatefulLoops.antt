@@ -20,7 +20,7 @@ module _ {S X Y : Type 0} (breaches : S → List Y → List Refusal) (one : S �
       ∙ ap (λ y. first_of (one s (view y)
       ++ breaches (next s (view y)) (map view (drop (i + 1) xs)))) (sym is)
 
-  -- behind an element without a breach
+  -- after an element without a breach
   pub goes_on : (s : S) (i : ℕ) (xs : List X) (x : X) (all : Option Refusal) → i < length xs
       → x ≡ get_or xs i x → None ≡ first_of (one s (view x)) → first_from s i xs ≡ all
       → first_from (next s (view x)) (i + 1) xs ≡ all
@@ -34,7 +34,7 @@ module _ {S X Y : Type 0} (breaches : S → List Y → List Refusal) (one : S �
   stops_at s i xs x why all h is some invariant = sym (first_of-append_some _ _ why some)
       ∙ sym (next_breach s i xs x h is) ∙ invariant
 
-  -- behind the last element
+  -- after the last element
   pub at_the_end : (s : S) → breaches s [] ≡ [] → (i : ℕ) (xs : List X) (all : Option Refusal)
       → length xs ≤ i → first_from s i xs ≡ all → None ≡ all
   at_the_end s none i xs all h invariant = sym (ap first_of none)

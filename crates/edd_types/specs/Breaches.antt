@@ -66,7 +66,7 @@ in_default breach.Decimal had = []
 in_default breach.Constant had = []
 in_default breach.Default had = refused_if had DuplicateCase
 
--- whether the SELECT has its DEFAULT behind this arm
+-- whether the SELECT has its DEFAULT after this arm
 abbrev pub has_default : {V : Type 0} → (had : Bool) → Arm Target V → Bool
 has_default had (Case label body) = had
 has_default had (Default body) = true

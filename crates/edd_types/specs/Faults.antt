@@ -5,7 +5,7 @@ use Rattle.edd_syntax.specs.Refusal.{Refusal, first_of}
 use Rattle.edd_types.specs.declared.fault.TypeFault.{TypeFault}
 use Rattle.edd_types.specs.declared.fault.TypeFault.TheVariants as fault
 
--- the rule that is broken, with its names; want of memory is none
+-- the rule that is broken, with its names; out of memory is none
 abbrev pub refusal_of_fault : TypeFault → Option Refusal
 refusal_of_fault (fault.FloatVariable variable) =
     Some (refusal.FloatVariable (string_bytes variable))
@@ -20,6 +20,6 @@ refusal_of_fault (fault.DuplicateCase line) = Some refusal.DuplicateCase
 refusal_of_fault (fault.DuplicateElement line) = Some refusal.DuplicateElement
 refusal_of_fault fault.Memory = None
 
--- the fault is the first of the breaches, unless it is want of memory
+-- the fault is the first of the breaches, unless it is out of memory
 abbrev pub IsFirstOf : List Refusal → TypeFault → Type 0
 IsFirstOf breaches fault = IfSome (refusal_of_fault fault) (λ why. first_of breaches ≡ Some why)

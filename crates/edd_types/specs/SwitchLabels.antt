@@ -24,7 +24,7 @@ repeats so_far (CaseLabel label) = refused_if (is_label_in so_far.cases (wrap 32
     DuplicateCase
 repeats so_far DefaultLabel = refused_if so_far.has_default DuplicateCase
 
--- the labels behind a part
+-- the labels after a part
 abbrev pub behind : rules.Labels → Part Target → rules.Labels
 behind so_far (Declare declarators) = so_far
 behind so_far (Statement first) = so_far

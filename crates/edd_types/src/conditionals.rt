@@ -83,7 +83,7 @@ fn check_arm<V: CheckValue>(arm: &Arm<Target, V>, breach: Breach, had: bool) -> 
     }
 }
 
-// Whether the SELECT has its DEFAULT behind this arm.
+// Whether the SELECT has its DEFAULT after this arm.
 #[tactic(auto, using(crate::proofs::UnderConditions::walks))]
 fn has_default<V>(arm: &Arm<Target, V>, had: bool) -> bool
     ensures { result ≡ has_default had (numbered_arm (λ v. v) arm.now) }

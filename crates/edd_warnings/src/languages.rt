@@ -94,7 +94,7 @@ fn code_text(alloc: Global, code: &[u8]) -> Result<String, AllocError> {
     String::from_str(alloc, str::from_utf8(code).unwrap_or("en"))
 }
 
-// The languages of a text. A backslash and the byte behind it are passed together.
+// The languages of a text. A backslash and the byte after it are passed together.
 fn languages_of(alloc: Global, raw: &[u8]) -> Result<Languages, AllocError> {
     let mut codes = BTreeSet::new(alloc);
     let mut has_stray_bar = false;

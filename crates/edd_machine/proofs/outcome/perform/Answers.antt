@@ -1,4 +1,4 @@
--- Each function says what its instruction comes to.
+-- Each function says what its instruction results in.
 use Rattle.std.proofs.Common.{w64, rules, FitsSigned}
 use Rattle.std.proofs.lemmas.Int.{to_z-of_z}
 use Rattle.edd_machine.proofs.outcome.perform.Goals as goal

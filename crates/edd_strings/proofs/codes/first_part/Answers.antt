@@ -1,4 +1,4 @@
--- Each turn reads a backslash with the byte behind it, or one byte that opens no code.
+-- Each turn reads a backslash with the byte after it, or one byte that opens no code.
 use Rattle.std.proofs.Common.{◌≡◌, ◌≢◌, ◌<◌, ◌≤◌, get_or, length, sym, ap, ◌∙◌, arith}
 use Rattle.edd_strings.proofs.Pieces.{IsReadTo, read_all, read_bar, read_escape, read_other}
 use Rattle.edd_strings.proofs.codes.first_part.Goals as goal

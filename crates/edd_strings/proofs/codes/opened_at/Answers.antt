@@ -1,4 +1,4 @@
--- The code that a bar opens: a bar is ASCII, so the text may be cut behind it.
+-- The code that a bar opens: a bar is ASCII, so the text may be cut after it.
 use Rattle.std.proofs.Common.{◌≡◌, ◌<◌, drop, take, length, get_or, arith, sym, ap, ◌∙◌}
 use Rattle.std.proofs.lemmas.Str.{IsCharBoundary-after_ascii}
 use Rattle.edd_strings.proofs.Pieces.{IsCharBoundary-after_bar, read_code}

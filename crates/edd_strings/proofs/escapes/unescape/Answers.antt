@@ -1,4 +1,4 @@
--- Each turn reads the text up to a backslash and the character behind it.
+-- Each turn reads the text up to a backslash and the character after it.
 use Rattle.std.proofs.Common.{◌≡◌, ◌++◌, length, Some, None, string_bytes, lit<, ap, sym, ◌∙◌}
 use Rattle.std.proofs.lemmas.Str.Pattern.{split_parts}
 use Rattle.std.specs.Char.{encode_utf8}

@@ -3,7 +3,7 @@ use Rattle.std.proofs.lemmas.List.Elements.{All-drop, All-take}
 use Rattle.edd_token_reader.specs.TokenTexts.{IsReadable}
 use Rattle.edd_token_reader.proofs.cursor.Cursor.member.Goals as goal
 
--- the tokens behind the two that were taken
+-- the tokens after the two that were taken
 pub invariant_of-self : goal.invariant_of-self
 invariant_of-self c =
     let text = c.self.inside.text.now in
