@@ -1,10 +1,10 @@
 -- The rows of elements rise, and what is found among them.
-use Rattle.std.proofs.Common.{◌≡◌, ℕ, zero, suc, ◌+◌, ◌*◌, ◌<◌, ◌≤◌, ℤ, pos, Bool, true, false, cond, ◌&&◌, nat_eq, nat_lt, List, [], ◌∷◌, length, take, drop, get_or, Option, Some, None, refl, sym, ap, subst, ◌∙◌, arith, inl, inr}
-use Rattle.std.specs.Prelude.{find, option_map, IfSome}
+use Rattle.std.proofs.Common.{◌≡◌, ℕ, zero, suc, ◌+◌, ◌-◌, ◌*◌, ◌/◌, ◌<◌, ◌≤◌, ℤ, pos, Bool, true, false, cond, ◌&&◌, nat_eq, nat_lt, List, [], ◌∷◌, length, take, drop, get_or, Option, Some, None, refl, sym, ap, subst, ◌∙◌, arith, inl, inr}
+use Rattle.std.specs.Prelude.{◌≢◌, find, option_map, IfSome}
 use Rattle.std.specs.Int.{w16, w32}
 use Rattle.std.specs.List.{AllByRecursion, list_all, slice_get}
 use Rattle.std.specs.Ordering.{int_eq}
-use Rattle.std.proofs.lemmas.Bool.{and_parts, and_left, or_cases, cases_eq, cases_lt, ltb-true, eqb-true, eq-eqb, ne_eqb}
+use Rattle.std.proofs.lemmas.Bool.{and_parts, or_cases, cases_lt, ltb-true, eqb-true, eq-eqb}
 use Rattle.std.proofs.lemmas.List.{get_or-take, get_or-drop}
 use Rattle.std.proofs.lemmas.Bool.Decides.{Decides-int_eq}
 use Rattle.edd_syntax.specs.declared.numbers.ArrNo.{ArrNo}
@@ -14,7 +14,7 @@ use Rattle.edd_image.specs.declared.parts.Counts.{Counts}
 use Rattle.edd_image.specs.declared.rules.Rule.TheVariants as rule
 use Rattle.edd_image.specs.Contents.{rows_from, element_fields, contents_in}
 use Rattle.edd_image.specs.Fields as fields
-use Rattle.edd_image.specs.Fields.{number_at, counts_in, element_count, element_rows_start}
+use Rattle.edd_image.specs.Fields.{number_at, counts_in, code_start, element_count, element_rows_start}
 use Rattle.edd_image.specs.References.{array_exists, variable_exists}
 use Rattle.edd_image.specs.Spelling.{AreBytes}
 use Rattle.edd_syntax.specs.Elements.{element_variable}
@@ -167,17 +167,13 @@ image_rises b valid are i j lt inside =
 abbrev is_sought : ArrNo → ℤ → Element → Bool
 is_sought array number e = nat_eq e.array.0 array.0 && int_eq (pos e.number) number
 
--- the search, as the code has it
-pub record ElementSearch (b : List ℕ) (array : ArrNo) (number start first : ℕ) : Type 0 where
+-- what is sought, as the code has it
+pub record ElementSearch (b : List ℕ) (array : ArrNo) (number start : ℕ) : Type 0 where
   pub valid : IsValid b
   pub are : AreBytes b
   pub start_is : start ≡ element_rows_start b
   pub key : ℕ
   pub key_is : key ≡ element_key array.0 number
-  pub end : first ≤ element_count b
-  pub below : (i : ℕ) → i < first → key_of (element_fields b (start + 8 * i)) < key
-  pub above : (i : ℕ) → first ≤ i → i < element_count b
-      → key ≤ key_of (element_fields b (start + 8 * i))
 
 sought_number : (array : ArrNo) (number : ℕ) (e : Element) → is_sought array (pos number) e ≡ true
     → e.number ≡ number
@@ -194,93 +190,51 @@ sought_key array number e h =
     (and_parts (nat_eq e.array.0 array.0) _ h).0 in
     rw (at, sought_number array number e h) refl
 
-module _ (b : List ℕ) (array : ArrNo) (number start first : ℕ)
-    (s : ElementSearch b array number start first) where
+module _ (b : List ℕ) (array : ArrNo) (number start : ℕ)
+    (s : ElementSearch b array number start) where
   at_start : (i : ℕ) → element_fields b (start + 8 * i) ≡ row_at b i
   at_start i = ap (λ (k : ℕ). element_fields b (k + 8 * i)) s.start_is
 
-  below_fails : (i : ℕ) (y : Element) → i < first → slice_get (contents_in b).elements i ≡ Some y
-      → is_sought array (pos number) y ≡ false
-  below_fails i y lt e =
-      let low : key_of y < s.key = subst (λ (r : Element). key_of r < s.key)
-      (at_start i ∙ (row_is b i y e).1) (s.below i lt) in
-      fails (is_sought array (pos number)) y
-      (λ passes. omega (arith, low, s.key_is, sought_key array number y passes))
-
-  above_fails : (i : ℕ) (y : Element) → first < i → slice_get (contents_in b).elements i ≡ Some y
-      → is_sought array (pos number) y ≡ false
-  above_fails i y lt e =
-      let here = row_is b i y e in
-      let least : s.key ≤ key_of (row_at b first) = subst (λ (r : Element). s.key ≤ key_of r)
-      (at_start first) (s.above first (omega arith) (omega (arith, lt, here.0))) in
-      let more : key_of (row_at b first) < key_of y =
-      subst (λ (r : Element). key_of (row_at b first) < key_of r) here.1
-      (image_rises b s.valid s.are first i lt here.0) in
-      fails (is_sought array (pos number)) y
-      (λ passes. omega (arith, least, more, s.key_is, sought_key array number y passes))
-
-  pub element_past : first ≡ element_count b
+  -- no row has the key
+  pub element_missing : ((i : ℕ) → i < element_count b
+      → key_of (element_fields b (start + 8 * i)) ≢ s.key)
       → element_variable (contents_in b).elements array (pos number) ≡ None
-  element_past e = ap (option_map (λ (x : Element). x.var))
-      (none_found (is_sought array (pos number)) (contents_in b).elements
-      (λ i y f. below_fails i y (omega (arith, e, (row_is b i y f).0)) f))
-
-  none_there : is_sought array (pos number) (row_at b first) ≡ false
-      → element_variable (contents_in b).elements array (pos number) ≡ None
-  none_there failed = ap (option_map (λ (x : Element). x.var))
+  element_missing never = ap (option_map (λ (x : Element). x.var))
       (none_found (is_sought array (pos number)) (contents_in b).elements (λ i y e.
-      elim (cases_lt i first) [
-        | inl before ↦ below_fails i y before e
-        | inr behind ↦ elim (cases_eq first i) [
-          | inl same ↦ subst (λ (r : Element). is_sought array (pos number) r ≡ false)
-              (subst (λ (k : ℕ). row_at b k ≡ y) (sym same) (row_is b i y e).1) failed
-          | inr other ↦ above_fails i y (omega (arith, other, behind)) e
-        ]
-      ]))
+      let here = row_is b i y e in
+      fails (is_sought array (pos number)) y (λ passes. never i here.0
+      (ap key_of (at_start i ∙ here.1) ∙ sought_key array number y passes ∙ sym s.key_is))))
 
-  -- its row is another array's
-  pub element_of_another : (there : ℕ) → there ≡ fields.element_array b (start + 8 * first)
-      → (there ≡ array.0 → ⊥)
-      → element_variable (contents_in b).elements array (pos number) ≡ None
-  element_of_another there is other =
-      let differs : nat_eq (row_at b first).array.0 array.0 ≡ false =
-      ne_eqb (row_at b first).array.0 array.0
-      (λ e. other (is ∙ ap (λ (r : Element). r.array.0) (at_start first) ∙ e)) in
-      none_there (and_left (nat_eq (row_at b first).array.0 array.0) _ differs)
-
-  -- its row has another number
-  pub element_elsewhere : (there : ℕ) → there ≡ fields.element_number b (start + 8 * first)
-      → (there ≡ number → ⊥)
-      → element_variable (contents_in b).elements array (pos number) ≡ None
-  element_elsewhere there is other =
-      none_there (fails (is_sought array (pos number)) (row_at b first)
-      (λ passes. other (is ∙ ap (λ (r : Element). r.number) (at_start first)
-      ∙ sought_number array number (row_at b first) passes)))
-
-  pub element_there : (its_array its_number variable : ℕ) → (first ≡ element_count b → ⊥)
-      → its_array ≡ fields.element_array b (start + 8 * first) → its_array ≡ array.0
-      → its_number ≡ fields.element_number b (start + 8 * first) → its_number ≡ number
-      → variable ≡ fields.element_variable b (start + 8 * first)
+  -- the row at i has the key
+  pub element_there : (i variable : ℕ) → i < element_count b → number < 4294967296
+      → key_of (element_fields b (start + 8 * i)) ≡ s.key
+      → variable ≡ fields.element_variable b (start + 8 * i)
       → Some (record { 0 = variable }) ≡ element_variable (contents_in b).elements array (pos number)
-  element_there its_array its_number variable inside a array_is n number_is v =
-      let same_array : nat_eq (row_at b first).array.0 array.0 ≡ true =
-      eq-eqb (row_at b first).array.0 array.0
-      (sym (ap (λ (r : Element). r.array.0) (at_start first)) ∙ sym a ∙ array_is) in
-      let same_number : (row_at b first).number ≡ number =
-      sym (ap (λ (r : Element). r.number) (at_start first)) ∙ sym n ∙ number_is in
-      let passes : is_sought array (pos number) (row_at b first) ≡ true =
+  element_there i variable inside small same v =
+      let its : key_of (row_at b i) ≡ element_key array.0 number =
+      sym (ap key_of (at_start i)) ∙ same ∙ s.key_is in
+      let its_number = number_below b ((element_rows_start b + 8 * i) + 4) s.are in
+      let same_array : nat_eq (row_at b i).array.0 array.0 ≡ true =
+      eq-eqb (row_at b i).array.0 array.0 (omega (arith, its, its_number, small)) in
+      let same_number : (row_at b i).number ≡ number = omega (arith, its, its_number, small) in
+      let passes : is_sought array (pos number) (row_at b i) ≡ true =
       rw (
         same_array,
-        (Decides-int_eq (pos (row_at b first).number) (pos number)).1
-            (ap pos same_number),
+        (Decides-int_eq (pos (row_at b i).number) (pos number)).1 (ap pos same_number),
       ) refl in
-      let found = found_at (is_sought array (pos number)) (contents_in b).elements first
-      (row_at b first) (row_stands b first (omega (arith, inside, s.end))) passes below_fails in
-      let its_variable : variable ≡ (row_at b first).var.0 =
-      v ∙ ap (λ (r : Element). r.var.0) (at_start first) in
+      let found = found_at (is_sought array (pos number)) (contents_in b).elements i (row_at b i)
+      (row_stands b i inside) passes (λ j y lt e.
+      let less : key_of y < key_of (row_at b i) =
+      subst (λ (r : Element). key_of r < key_of (row_at b i)) (row_is b j y e).1
+      (image_rises b s.valid s.are j i lt inside) in
+      fails (is_sought array (pos number)) y
+      (λ passed. omega (arith, less, its, sought_key array number y passed))) in
+      let its_variable : variable ≡ (row_at b i).var.0 =
+      v ∙ ap (λ (r : Element). r.var.0) (at_start i) in
       let given : VarNo = record { 0 = variable } in
-      let same : given ≡ (row_at b first).var = ap (λ (k : ℕ). record { 0 = k }) its_variable in
-      ap Some same ∙ sym (ap (option_map (λ (x : Element). x.var)) found)
+      let same_variable : given ≡ (row_at b i).var =
+      ap (λ (k : ℕ). record { 0 = k }) its_variable in
+      ap Some same_variable ∙ sym (ap (option_map (λ (x : Element). x.var)) found)
 
 -- no row has a number that doesn't fit
 pub no_element : (b : List ℕ) (array : ArrNo) (number : ℤ) → AreBytes b
@@ -324,9 +278,14 @@ variable_there b array number o valid e =
     (there_is c.counts (find (is_sought array number) c.elements)
     (found_passes (is_sought array number) (is_element_row c.counts) c.elements rows))
 
+-- the number of rows, by where they start and where the code starts
+pub rows_counted : (b : List ℕ) (start code : ℕ) → start ≡ element_rows_start b → code ≡ code_start b
+    → (start ≤ code) × ((code - start) / 8 ≡ element_count b)
+unfolding code_start
+rows_counted b start code s c = (omega (arith, s, c), omega (arith, s, c))
+
 -- a row of the bytes ends inside them
-pub row_inside : (b : List ℕ) (row start first : ℕ) → IsValid b → start ≡ element_rows_start b
-    → first ≤ element_count b → (first ≡ element_count b → ⊥) → row ≡ start + 8 * first
-    → row + 8 ≤ length b
-row_inside b row start first valid s le other r =
-    omega (arith, s, le, other, r, (rooms b (valid_sections b valid)).elements)
+pub row_inside : (b : List ℕ) (row start i : ℕ) → IsValid b → start ≡ element_rows_start b
+    → i < element_count b → row ≡ start + 8 * i → row + 8 ≤ length b
+row_inside b row start i valid s lt r =
+    omega (arith, s, lt, r, (rooms b (valid_sections b valid)).elements)

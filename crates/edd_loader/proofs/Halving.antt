@@ -54,3 +54,8 @@ above_middle f count middle key rising high i le inside = elim (cases_eq middle 
   | inl same ↦ subst (λ (k : ℕ). key ≤ f k) same high
   | inr other ↦ omega (arith, rising middle i (omega (arith, other, le)) inside, high)
 ]
+
+pub past_middle : (f : ℕ → ℕ) (count middle key : ℕ) → ((i j : ℕ) → i < j → j < count → f i < f j)
+    → key < f middle → (i : ℕ) → middle ≤ i → i < count → key < f i
+past_middle f count middle key rising high i le inside =
+    omega (arith, above_middle f count middle (key + 1) rising (omega (arith, high)) i le inside)

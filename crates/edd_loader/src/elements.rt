@@ -1,6 +1,6 @@
 //! The rule on element rows, and the search for an element among them.
 
-ghost use Rattle.std.specs.Prelude.{◌≡◌, ℕ, ◌+◌, ◌*◌, ◌<◌, ◌≤◌, ◌&&◌, length, pos};
+ghost use Rattle.std.specs.Prelude.{◌≡◌, ◌≢◌, ℕ, ◌+◌, ◌*◌, ◌<◌, ◌≤◌, ◌&&◌, IfNone, IfSome, length, pos};
 ghost use Rattle.std.specs.List.{list_all};
 ghost use Rattle.edd_image.specs.Contents.{rows_from, element_fields, contents_in};
 ghost use Rattle.edd_syntax.specs.Elements.{element_variable};
@@ -10,9 +10,7 @@ ghost use Rattle.edd_loader.specs.Rows.{is_before_next};
 ghost use Rattle.edd_loader.specs.Starts.{starts_in};
 
 use crate::starts::Starts;
-use edd_image::{
-    Counts, ELEMENT_ROW, element_array, element_count, element_number, element_variable,
-};
+use edd_image::{Counts, ELEMENT_ROW, element_array, element_number, element_variable};
 use edd_syntax::numbers::{ArrNo, VarNo};
 
 // Whether the array and the variable exist.
@@ -97,29 +95,37 @@ fn key_at(bytes: &[u8], row: usize) -> u64
     whole / 281_474_976_710_656 * 281_474_976_710_656 + whole % 4_294_967_296
 }
 
-// The number of the first of `count` rows, the first of which stands at `start`, whose key is not
-// below this one.
-fn first_from(bytes: &[u8], start: usize, count: usize, key: u64) -> usize
+// The number of the row with this key among `count` rows, the first of which is at `start`. Where an
+// array has each number between those of two rows, the rows are as far apart as their numbers: so
+// each turn tries the row that is as far from the middle one.
+fn row_with(bytes: &[u8], start: usize, count: usize, key: u64) -> Option<usize>
     requires room { start + ELEMENT_ROW * count ≤ length bytes.now }
     requires rising { (i j : ℕ) → i < j → j < count
         → key_of (element_fields bytes.now (start + 8 * i))
         < key_of (element_fields bytes.now (start + 8 * j)) }
-    ensures end { result ≤ count }
-    ensures below { (i : ℕ) → i < result → key_of (element_fields bytes.now (start + 8 * i)) < key }
-    ensures above { (i : ℕ) → result ≤ i → i < count
-        → key ≤ key_of (element_fields bytes.now (start + 8 * i)) }
+    ensures inside { IfSome result (λ i. i < count) }
+    ensures sound { IfSome result (λ i. key_of (element_fields bytes.now (start + 8 * i)) ≡ key) }
+    ensures complete { IfNone result ((i : ℕ) → i < count
+        → key_of (element_fields bytes.now (start + 8 * i)) ≢ key) }
 {
     let mut low = 0;
     let mut high = count;
     while low < high {
         let middle = (low + high) / 2;
-        if key_at(bytes, start + ELEMENT_ROW * middle) < key {
+        let there = key_at(bytes, start + ELEMENT_ROW * middle);
+        let guess = middle.wrapping_add(key.wrapping_sub(there) as usize);
+        if guess < high && key_at(bytes, start + ELEMENT_ROW * guess) == key {
+            return Some(guess);
+        }
+        if there < key {
             low = middle + 1;
-        } else {
+        } else if key < there {
             high = middle;
+        } else {
+            return Some(middle);
         }
     }
-    low
+    None
 }
 
 // The variable of the element of a number that a row may have.
@@ -128,19 +134,10 @@ fn element_numbered(bytes: &[u8], starts: Starts, array: ArrNo, number: u32) -> 
     requires starts { starts ≡ starts_in bytes.now }
     ensures { result ≡ element_variable (contents_in bytes.now).elements array (pos number) }
 {
-    let count = element_count(bytes) as usize;
+    let count = (starts.code - starts.element_rows) / ELEMENT_ROW;
     let key = element_key(array.0, number);
-    let first = first_from(bytes, starts.element_rows, count, key);
-    if first == count {
-        return None;
-    }
-    let row = starts.element_rows + ELEMENT_ROW * first;
-    if element_array(bytes, row) != array.0 {
-        return None;
-    }
-    if element_number(bytes, row) != number {
-        return None;
-    }
+    let found = row_with(bytes, starts.element_rows, count, key)?;
+    let row = starts.element_rows + ELEMENT_ROW * found;
     Some(VarNo(element_variable(bytes, row)))
 }
 

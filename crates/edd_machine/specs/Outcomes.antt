@@ -1,7 +1,8 @@
 -- What the instructions result in that units of both sorts have.
-use Rattle.std.specs.Prelude.{◌≡◌, ℕ, ℤ, true, List, [], Some}
+use Rattle.std.specs.Prelude.{◌≡◌, ℕ, ℤ, Bool, true, false, List, [], Some}
 use Rattle.edd_syntax.specs.declared.numbers.Element.{Element}
 use Rattle.edd_image.specs.declared.instruction.Instruction.{Instruction}
+use Rattle.edd_image.specs.declared.instruction.Instruction.TheVariants as instructions
 use Rattle.edd_image.specs.declared.records.Status.TheVariants as status
 use Rattle.edd_image.specs.declared.records.Emitted.TheVariants as emitted
 use Rattle.edd_image.specs.declared.unit.Sort.{Sort}
@@ -15,6 +16,18 @@ use Rattle.edd_machine.specs.declared.outcome.Outcome.TheVariants.{GoesOn, Gives
 -- attributes may have the instruction, in some version
 abbrev pub IsShared : Instruction → Type 0
 IsShared i = (version : Version) × (is_allowed version Attribute i ≡ true)
+
+-- the instruction gives the record that it has with it, and does nothing else
+abbrev pub gives_record : Instruction → Bool
+gives_record (instructions.Text s) = true
+gives_record (instructions.Item item quals) = true
+gives_record (instructions.DataConst n) = true
+gives_record (instructions.DataVar v mask quals) = true
+gives_record (instructions.Enumerator n text help) = true
+gives_record (instructions.Response n class text) = true
+gives_record (instructions.Member name item label help) = true
+gives_record (instructions.Element n v label help) = true
+gives_record _ = false
 
 -- a state in a unit of this sort with these operands and values
 abbrev pub over : Sort → (operands values : List ℤ) → State → State

@@ -10,7 +10,7 @@ ghost use Rattle.edd_image.specs.Fields.{counts_in};
 ghost use Rattle.edd_image.specs.Steps.{Fits, width_of};
 ghost use Rattle.edd_syntax.specs.Elements.{element_value};
 ghost use Rattle.edd_image.specs.Units.{takes, leaves};
-ghost use Rattle.edd_machine.specs.Outcomes.{IsShared, Performs, PerformsWith};
+ghost use Rattle.edd_machine.specs.Outcomes.{IsShared, Performs, PerformsWith, gives_record};
 
 use crate::arithmetic::{
     compare, complement, logical_not, negate, operate, wrapped, wrapped_constant,
@@ -259,48 +259,15 @@ fn read_element(
     }
 }
 
-/// What an instruction that attributes may have results in.
+// The record that an instruction has with it. The operands stay.
 #[inline(always)]
 #[tactic(auto, unfolding(edd_image::specs::Steps::act))]
-pub fn perform(
-    operands: &mut Operands,
-    image: &Image<'_>,
-    sort: Sort,
-    values: &[i64],
-    instruction: Instruction,
-    next: usize,
-) -> Outcome
-    requires enough { takes instruction ≤ length operands.old }
-    requires full { length operands.old ≤ 128 }
-    requires room { IfSome (leaves instruction) (λ n. length operands.old - takes instruction + n
-        ≤ 128) }
-    requires shared { IsShared instruction }
-    requires exists { (v : VarNo) → instruction ≡ instructions.Variable v
-        → v.0 < length values.now }
-    requires counted { length values.now ≡ (counts_in image.now).variables }
-    requires fit { AllByRecursion (Fits sort) operands.old }
-    ensures { PerformsWith (contents_in image.now).elements sort values.now operands.old operands.new
-        instruction next result }
+fn give(instruction: Instruction, next: usize) -> Outcome
+    requires { gives_record instruction ≡ true }
+    ensures { (sort : Sort) (values operands : List ℤ)
+        → Performs sort values operands operands instruction next result }
 {
     match instruction {
-        Instruction::End => Outcome::Ends,
-        Instruction::Push(number) => push(operands, sort, number, next),
-        Instruction::Variable(variable) => push_variable(operands, sort, values, variable, next),
-        Instruction::Pop => pop(operands, next),
-        Instruction::Duplicate => duplicate(operands, next),
-        Instruction::ReadElement(array) => {
-            read_element(operands, image, sort, values, array, next)
-        }
-        Instruction::Operate(operator) => operate_two(operands, sort, operator, next),
-        Instruction::Compare(comparison) => compare_two(operands, comparison, next),
-        Instruction::Negate => negate_top(operands, sort, next),
-        Instruction::Not => not_top(operands, next),
-        Instruction::Complement => complement_top(operands, next),
-        Instruction::Jump(target) => Outcome::GoesOn(target as usize),
-        Instruction::JumpIfZero(target) => jump_if_zero(operands, target, next),
-        Instruction::JumpIfNotZero(target) => jump_if_not_zero(operands, target, next),
-        Instruction::Case { label, target } => case(operands, label, target, next),
-        Instruction::Number => give_number(operands, next),
         Instruction::Text(text) => Outcome::Gives(next, Record::Words(text)),
         Instruction::Item { item, quals } => Outcome::Gives(next, Record::Entry { item, quals }),
         Instruction::DataConst(number) => Outcome::Gives(next, Record::DataConst(number)),
@@ -350,6 +317,60 @@ pub fn perform(
                 help,
             },
         ),
+        _ => unreachable!(),
+    }
+}
+
+/// What an instruction that attributes may have results in.
+#[inline(always)]
+#[tactic(auto, unfolding(edd_image::specs::Steps::act))]
+pub fn perform(
+    operands: &mut Operands,
+    image: &Image<'_>,
+    sort: Sort,
+    values: &[i64],
+    instruction: Instruction,
+    next: usize,
+) -> Outcome
+    requires enough { takes instruction ≤ length operands.old }
+    requires full { length operands.old ≤ 128 }
+    requires room { IfSome (leaves instruction) (λ n. length operands.old - takes instruction + n
+        ≤ 128) }
+    requires shared { IsShared instruction }
+    requires exists { (v : VarNo) → instruction ≡ instructions.Variable v
+        → v.0 < length values.now }
+    requires counted { length values.now ≡ (counts_in image.now).variables }
+    requires fit { AllByRecursion (Fits sort) operands.old }
+    ensures { PerformsWith (contents_in image.now).elements sort values.now operands.old operands.new
+        instruction next result }
+{
+    match instruction {
+        Instruction::End => Outcome::Ends,
+        Instruction::Push(number) => push(operands, sort, number, next),
+        Instruction::Variable(variable) => push_variable(operands, sort, values, variable, next),
+        Instruction::Pop => pop(operands, next),
+        Instruction::Duplicate => duplicate(operands, next),
+        Instruction::ReadElement(array) => {
+            read_element(operands, image, sort, values, array, next)
+        }
+        Instruction::Operate(operator) => operate_two(operands, sort, operator, next),
+        Instruction::Compare(comparison) => compare_two(operands, comparison, next),
+        Instruction::Negate => negate_top(operands, sort, next),
+        Instruction::Not => not_top(operands, next),
+        Instruction::Complement => complement_top(operands, next),
+        Instruction::Jump(target) => Outcome::GoesOn(target as usize),
+        Instruction::JumpIfZero(target) => jump_if_zero(operands, target, next),
+        Instruction::JumpIfNotZero(target) => jump_if_not_zero(operands, target, next),
+        Instruction::Case { label, target } => case(operands, label, target, next),
+        Instruction::Number => give_number(operands, next),
+        Instruction::Text(_)
+        | Instruction::Item { .. }
+        | Instruction::DataConst(_)
+        | Instruction::DataVar { .. }
+        | Instruction::Enumerator { .. }
+        | Instruction::Response { .. }
+        | Instruction::Member { .. }
+        | Instruction::Element { .. } => give(instruction, next),
         Instruction::Store(_)
         | Instruction::GetLocal(_)
         | Instruction::SetLocal(_)

@@ -214,6 +214,22 @@ pub fn check_parts<'a>(
     Ok(flow)
 }
 
+// An expression as a statement: an abort ends what comes after it.
+fn check_evaluated<'a>(
+    e: &Expr<Target>,
+    walk: &mut Walk<'a>,
+    findings: &mut Findings,
+) -> Result<Flow<'a>, AllocError> {
+    let asks = check_value(e, true, walk, findings)?;
+    let ends = abort_of(e);
+    let leaves = asks || ends.is_some();
+    Ok(Flow {
+        ends,
+        breaks: false,
+        leaves,
+    })
+}
+
 // An `if`, with its two branches.
 fn joined<'a>(at: Mark<'a>, asks: bool, first: Flow<'a>, second: Flow<'a>) -> Flow<'a> {
     let both = first.ends.is_some() && second.ends.is_some();
@@ -222,6 +238,41 @@ fn joined<'a>(at: Mark<'a>, asks: bool, first: Flow<'a>, second: Flow<'a>) -> Fl
         breaks: first.breaks || second.breaks,
         leaves: asks || first.leaves || second.leaves,
     }
+}
+
+// What leads on from a loop to another place: its end with `break`, or its next turn.
+fn leaving(line: u32, word: Keyword, breaks: bool) -> Flow<'static> {
+    Flow {
+        ends: Some(first_on(line, word.spelling())),
+        breaks,
+        leaves: false,
+    }
+}
+
+#[cycle(statements)]
+fn check_if<'a>(
+    first: &Stmt<Target>,
+    condition: &Expr<Target>,
+    walk: &mut Walk<'a>,
+    findings: &mut Findings,
+) -> Result<Flow<'a>, AllocError> {
+    let at = walk.places.to_word(Keyword::MethodIf);
+    let asks = check_test(condition, at, walk, findings)?;
+    let first = check_statement(first, walk, findings)?;
+    Ok(joined(at, asks, first, GOES_ON))
+}
+
+#[cycle(statements)]
+fn check_while<'a>(
+    body: &Stmt<Target>,
+    condition: &Expr<Target>,
+    walk: &mut Walk<'a>,
+    findings: &mut Findings,
+) -> Result<Flow<'a>, AllocError> {
+    let at = walk.places.to_word(Keyword::While);
+    let asks = check_loop_test(condition, at, walk, findings)?;
+    let flow = check_statement(body, walk, findings)?;
+    check_loop(at, always_holds(Some(condition)), asks, flow, findings)
 }
 
 #[cycle(statements)]
@@ -239,6 +290,44 @@ fn check_do<'a>(
 }
 
 #[cycle(statements)]
+fn check_for<'a>(
+    initial: &Option<Expr<Target>>,
+    condition: &Option<Expr<Target>>,
+    update: &Option<Expr<Target>>,
+    body: &Stmt<Target>,
+    walk: &mut Walk<'a>,
+    findings: &mut Findings,
+) -> Result<Flow<'a>, AllocError> {
+    let at = walk.places.to_word(Keyword::For);
+    check_optional(initial, walk, findings)?;
+    let tests = match condition {
+        Some(e) => check_loop_test(e, at, walk, findings)?,
+        None => false,
+    };
+    let updates = check_optional(update, walk, findings)?;
+    let flow = check_statement(body, walk, findings)?;
+    let endless = always_holds(condition.as_ref());
+    check_loop(at, endless, tests || updates, flow, findings)
+}
+
+#[cycle(statements)]
+fn check_switch<'a>(
+    parts: &[Part<Target>],
+    on: &Expr<Target>,
+    walk: &mut Walk<'a>,
+    findings: &mut Findings,
+) -> Result<Flow<'a>, AllocError> {
+    let at = walk.places.to_word(Keyword::Switch);
+    let asks = check_test(on, at, walk, findings)?;
+    let flow = check_parts(parts, walk, findings)?;
+    Ok(Flow {
+        ends: None,
+        breaks: false,
+        leaves: asks || flow.leaves,
+    })
+}
+
+#[cycle(statements)]
 fn check_statement<'a>(
     s: &Stmt<Target>,
     walk: &mut Walk<'a>,
@@ -246,23 +335,9 @@ fn check_statement<'a>(
 ) -> Result<Flow<'a>, AllocError> {
     match s {
         Stmt::Empty => Ok(GOES_ON),
-        Stmt::Evaluate(e) => {
-            let asks = check_value(e, true, walk, findings)?;
-            let ends = abort_of(e);
-            let leaves = asks || ends.is_some();
-            Ok(Flow {
-                ends,
-                breaks: false,
-                leaves,
-            })
-        }
+        Stmt::Evaluate(e) => check_evaluated(e, walk, findings),
         Stmt::Block(parts) => check_parts(parts, walk, findings),
-        Stmt::If(condition, first) => {
-            let at = walk.places.to_word(Keyword::MethodIf);
-            let asks = check_test(condition, at, walk, findings)?;
-            let first = check_statement(first, walk, findings)?;
-            Ok(joined(at, asks, first, GOES_ON))
-        }
+        Stmt::If(condition, first) => check_if(first, condition, walk, findings),
         Stmt::IfElse(condition, first, otherwise) => {
             let at = walk.places.to_word(Keyword::MethodIf);
             let asks = check_test(condition, at, walk, findings)?;
@@ -270,50 +345,17 @@ fn check_statement<'a>(
             let second = check_statement(otherwise, walk, findings)?;
             Ok(joined(at, asks, first, second))
         }
-        Stmt::While(condition, body) => {
-            let at = walk.places.to_word(Keyword::While);
-            let asks = check_loop_test(condition, at, walk, findings)?;
-            let flow = check_statement(body, walk, findings)?;
-            check_loop(at, always_holds(Some(condition)), asks, flow, findings)
-        }
+        Stmt::While(condition, body) => check_while(body, condition, walk, findings),
         Stmt::Do(body, condition) => check_do(body, condition, walk, findings),
         Stmt::For {
             initial,
             condition,
             update,
             body,
-        } => {
-            let at = walk.places.to_word(Keyword::For);
-            check_optional(initial, walk, findings)?;
-            let tests = match condition {
-                Some(e) => check_loop_test(e, at, walk, findings)?,
-                None => false,
-            };
-            let updates = check_optional(update, walk, findings)?;
-            let flow = check_statement(body, walk, findings)?;
-            let endless = always_holds(condition.as_ref());
-            check_loop(at, endless, tests || updates, flow, findings)
-        }
-        Stmt::Switch(on, parts) => {
-            let at = walk.places.to_word(Keyword::Switch);
-            let asks = check_test(on, at, walk, findings)?;
-            let flow = check_parts(parts, walk, findings)?;
-            Ok(Flow {
-                ends: None,
-                breaks: false,
-                leaves: asks || flow.leaves,
-            })
-        }
-        Stmt::Break { line } => Ok(Flow {
-            ends: Some(first_on(*line, Keyword::Break.spelling())),
-            breaks: true,
-            leaves: false,
-        }),
-        Stmt::Continue { line } => Ok(Flow {
-            ends: Some(first_on(*line, Keyword::Continue.spelling())),
-            breaks: false,
-            leaves: false,
-        }),
+        } => check_for(initial, condition, update, body, walk, findings),
+        Stmt::Switch(on, parts) => check_switch(parts, on, walk, findings),
+        Stmt::Break { line } => Ok(leaving(*line, Keyword::Break, true)),
+        Stmt::Continue { line } => Ok(leaving(*line, Keyword::Continue, false)),
         Stmt::Return => Ok(Flow {
             ends: Some(walk.places.to_word(Keyword::Return)),
             breaks: false,

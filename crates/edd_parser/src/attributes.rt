@@ -107,7 +107,7 @@ impl RowElement for ResponseCode {
 
     ghost shortens = { lengths.response_code_shortens };
 
-    fn read_thing(cursor: &mut Cursor, _high: u32) -> Result<ResponseCode, ParseFault> {
+    fn read_element(cursor: &mut Cursor, _height_left: u32) -> Result<ResponseCode, ParseFault> {
         response_code(cursor)
     }
 }
@@ -146,7 +146,7 @@ impl RowElement for Member<Path> {
 
     ghost shortens = { lengths.member_shortens };
 
-    fn read_thing(cursor: &mut Cursor, _high: u32) -> Result<Member<Path>, ParseFault> {
+    fn read_element(cursor: &mut Cursor, _height_left: u32) -> Result<Member<Path>, ParseFault> {
         member(cursor)
     }
 }
@@ -185,7 +185,10 @@ impl RowElement for ArrayElement<Path> {
 
     ghost shortens = { lengths.array_element_shortens };
 
-    fn read_thing(cursor: &mut Cursor, _high: u32) -> Result<ArrayElement<Path>, ParseFault> {
+    fn read_element(
+        cursor: &mut Cursor,
+        _height_left: u32,
+    ) -> Result<ArrayElement<Path>, ParseFault> {
         array_element(cursor)
     }
 }
@@ -219,7 +222,7 @@ impl RowElement for TransactionPart<Path> {
     ghost shortens = { lengths.closed_part_shortens };
 
     #[tactic(auto, unfolding(edd_grammar::specs::WordReading::closed))]
-    fn read_thing(
+    fn read_element(
         cursor: &mut Cursor,
         height_left: u32,
     ) -> Result<TransactionPart<Path>, ParseFault> {

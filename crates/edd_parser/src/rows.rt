@@ -1,4 +1,4 @@
-//! Things that stand one after the other in braces.
+//! Rows: elements one after the other in braces.
 
 ghost use Rattle.std.specs.Prelude.{◌≡◌, ◌≤◌, ℕ, List, map};
 ghost use Rattle.edd_syntax.specs.Token.{Token};
@@ -20,7 +20,7 @@ pub trait RowElement: Sized + Drop {
     ghost read: { ℕ → List Token → Read Pure };
 
     /// One of them, of at most this height.
-    fn read_thing(cursor: &mut Cursor, height_left: u32) -> Result<Self, ParseFault>
+    fn read_element(cursor: &mut Cursor, height_left: u32) -> Result<Self, ParseFault>
         requires { height_left ≤ 100 }
         ensures { Gives view result cursor.new (read height_left cursor.old) };
 
@@ -28,7 +28,7 @@ pub trait RowElement: Sized + Drop {
     ghost shortens: { (height_left : ℕ) → Shortens (read height_left) };
 }
 
-// The things up to the closing brace.
+// The elements up to the closing brace.
 #[tactic(auto, unfolding(edd_grammar::specs::WordReading::row_inside), using(crate::proofs::RowLoops::things_read))]
 fn row<T: RowElement>(cursor: &mut Cursor, height_left: u32) -> Result<Vec<T>, ParseFault>
     requires { height_left ≤ 100 }
@@ -37,12 +37,12 @@ fn row<T: RowElement>(cursor: &mut Cursor, height_left: u32) -> Result<Vec<T>, P
 {
     let mut all = Vec::new(cursor.alloc());
     while !cursor.at(Symbol::CloseBrace) {
-        all.push(T::read_thing(cursor, height_left)?)?;
+        all.push(T::read_element(cursor, height_left)?)?;
     }
     Ok(all)
 }
 
-/// Things in braces, each of at most this height.
+/// Elements in braces, each of at most this height.
 #[tactic(auto, unfolding(edd_grammar::specs::WordReading::braced))]
 pub fn braced_row<T: RowElement>(
     cursor: &mut Cursor,

@@ -102,7 +102,7 @@ impl RowElement for TypePart<Path> {
 
     ghost shortens = { lengths.type_part_shortens };
 
-    fn read_thing(cursor: &mut Cursor, height_left: u32) -> Result<TypePart<Path>, ParseFault> {
+    fn read_element(cursor: &mut Cursor, height_left: u32) -> Result<TypePart<Path>, ParseFault> {
         type_part(cursor, height_left)
     }
 }
@@ -125,6 +125,7 @@ fn type_parts(cursor: &mut Cursor, height_left: u32) -> Result<Vec<TypePart<Path
 fn close_braces(cursor: &mut Cursor) -> Result<(), ParseFault>
     ensures { Leaves result cursor.new (behind_braces 1 cursor.old) }
 {
+    // No text opens more braces than it has places: so the proof knows that the depth fits.
     let places = cursor.places();
     let mut depth: usize = 1;
     while depth > 0 {
