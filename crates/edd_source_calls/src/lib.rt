@@ -2,10 +2,16 @@
 #![tactic(auto)]
 
 #[cfg(test)]
+mod alternatives;
+#[cfg(test)]
 mod lexer;
 #[cfg(test)]
-mod parser;
+mod refusals;
+#[cfg(test)]
+mod shapes;
 #[cfg(test)]
 mod strings;
+#[cfg(test)]
+mod texts;
 #[cfg(test)]
 mod wrapping;
