@@ -1,6 +1,6 @@
 //! Which row breaks the rule on rows.
 
-use crate::header::{SECOND_ZERO, ZERO};
+use crate::fields::{SECOND_ZERO, ZERO};
 use crate::sections::{RowFields, Sections, Span};
 use crate::spots::Spot;
 use edd_image::{HEADER_LENGTH, extension_zero, header_zero};

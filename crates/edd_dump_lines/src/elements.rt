@@ -1,7 +1,7 @@
 //! The lines of the elements of arrays.
 
-use crate::sections::Sections;
 use edd_display::{ShowFault, print};
+use edd_fault_places::sections::Sections;
 use edd_syntax::numbers::{Element, ItemNo};
 use std::alloc::Global;
 use std::fmt::Write as _;

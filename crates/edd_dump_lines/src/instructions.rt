@@ -1,8 +1,8 @@
 //! The words of an instruction.
 
 use crate::excerpts::Excerpts;
-use crate::sections::Sections;
 use edd_display::{DATA_QUALIFIERS, MENU_QUALIFIERS, ShowFault, class_word, push_qualifiers};
+use edd_fault_places::sections::Sections;
 use edd_image::{Ask, Instruction};
 use edd_syntax::numbers::{ItemNo, StrNo, VarNo};
 use edd_syntax::operators::{Builtin, Comparison, Operator};

@@ -1,15 +1,12 @@
-//! The lines of the header and of the sections.
+//! The fields of the header, and where the sections start.
 
 ghost use Rattle.std.specs.Prelude.{◌≡◌, ◌≤◌, length};
 
-use edd_display::{ShowFault, print};
 use edd_image::{
     HEADER_LENGTH, attribute_rows_start, code_start, element_rows_start, name_bytes_start,
     name_rows_start, sections_end, string_bytes_start, string_rows_start, u16_at, u32_at,
     variable_rows_start,
 };
-use std::alloc::Global;
-use std::io::Write;
 
 /// How many bytes a field of the header has.
 #[derive(Clone, Copy, PartialEq, Eq)]
@@ -166,17 +163,6 @@ pub enum Section {
     StringBytes,
 }
 
-const SECTIONS: [(Section, &str); 8] = [
-    (Section::VariableRows, "variable_rows"),
-    (Section::NameRows, "name_rows"),
-    (Section::AttributeRows, "attribute_rows"),
-    (Section::ElementRows, "element_rows"),
-    (Section::Code, "code"),
-    (Section::StringRows, "string_rows"),
-    (Section::NameBytes, "name_bytes"),
-    (Section::StringBytes, "string_bytes"),
-];
-
 /// Where a section starts, and where it ends. Without a whole header that is 0.
 pub fn bounds(bytes: &[u8], section: Section) -> (usize, usize) {
     if bytes.len() < HEADER_LENGTH {
@@ -194,8 +180,8 @@ pub fn bounds(bytes: &[u8], section: Section) -> (usize, usize) {
     }
 }
 
-// Whether the header is that of the second version.
-fn is_second(bytes: &[u8]) -> bool {
+/// Whether the header is that of the second version.
+pub fn is_second(bytes: &[u8]) -> bool {
     6 <= bytes.len() && u16_at(bytes, 4) == 2
 }
 
@@ -217,8 +203,8 @@ pub fn whole_fields(bytes: &[u8]) -> usize {
         .count()
 }
 
-// The number in a field, where the bytes reach so far.
-fn number_of(bytes: &[u8], field: Field) -> Option<u32> {
+/// The number in a field, where the bytes reach so far.
+pub fn number_of(bytes: &[u8], field: Field) -> Option<u32> {
     let width = match field.width {
         Width::Two => 2,
         Width::Four => 4,
@@ -231,56 +217,4 @@ fn number_of(bytes: &[u8], field: Field) -> Option<u32> {
         Width::Two => Some(u32::from(u16_at(bytes, field.place))),
         Width::Four => Some(u32_at(bytes, field.place)),
     }
-}
-
-// The first field has characters, and is shown as its bytes.
-fn print_field<W: Write>(
-    alloc: Global,
-    field: Field,
-    number: u32,
-    out: &mut W,
-) -> Result<(), ShowFault> {
-    let name = field.name;
-    if field.place == 0 {
-        let [a, b, c, d] = number.to_be_bytes();
-        return print(
-            alloc,
-            out,
-            format_args!("header {name} {a:02X} {b:02X} {c:02X} {d:02X}"),
-        );
-    }
-    print(alloc, out, format_args!("header {name} {number}"))
-}
-
-/// Prints the first fields of the header, as many as are asked for and are there.
-pub fn print_header<W: Write>(
-    alloc: Global,
-    bytes: &[u8],
-    count: usize,
-    out: &mut W,
-) -> Result<(), ShowFault> {
-    for field in FIELDS.iter().take(count.min(field_count(bytes))) {
-        if let Some(number) = number_of(bytes, *field) {
-            print_field(alloc, *field, number, out)?;
-        }
-    }
-    Ok(())
-}
-
-// The first version has no element rows.
-fn has_section(bytes: &[u8], section: Section) -> bool {
-    section != Section::ElementRows || is_second(bytes)
-}
-
-/// Prints where each section starts and how many bytes it has.
-pub fn print_sections<W: Write>(alloc: Global, bytes: &[u8], out: &mut W) -> Result<(), ShowFault> {
-    for (section, name) in SECTIONS {
-        if !has_section(bytes, section) {
-            continue;
-        }
-        let (start, end) = bounds(bytes, section);
-        let length = end.saturating_sub(start);
-        print(alloc, out, format_args!("section {name} {start} {length}"))?;
-    }
-    Ok(())
 }

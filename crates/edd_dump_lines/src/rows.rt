@@ -2,9 +2,9 @@
 
 use crate::excerpts::Excerpts;
 use crate::instructions::Page;
-use crate::sections::{RowFields, Sections, part};
 use crate::units::print_unit;
 use edd_display::{ShowFault, print};
+use edd_fault_places::sections::{RowFields, Sections, part};
 use edd_syntax::numbers::Attr;
 use std::alloc::Global;
 use std::fmt::Write as _;

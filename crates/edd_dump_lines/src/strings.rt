@@ -1,44 +1,11 @@
 //! The lines of the strings: a key, or a text for each language.
 
-ghost use Rattle.std.specs.Prelude.{◌≡◌, IfSome, length};
-
-use crate::sections::Sections;
 use edd_display::{ShowFault, print, push_quoted};
+use edd_fault_places::sections::Sections;
+use edd_fault_places::variants::first_variant;
 use std::alloc::Global;
 use std::fmt::Write as _;
 use std::io::Write;
-
-/// A variant of a string, and the bytes after it.
-#[derive(Clone, Copy)]
-pub struct Variant<'a> {
-    pub code: &'a str,
-    pub text: &'a str,
-    pub behind: &'a [u8],
-}
-
-// The first bytes and those after them, where there are so many.
-fn front(bytes: &[u8], size: usize) -> Option<(&[u8], &[u8])>
-    ensures { IfSome result (λ found. length found.0.now ≡ size) }
-{
-    if bytes.len() < size {
-        return None;
-    }
-    Some(bytes.split_at(size))
-}
-
-/// The variant at the front of the bytes, where a readable one stands there.
-pub fn first_variant(bytes: &[u8]) -> Option<Variant<'_>> {
-    let (code_size, rest) = front(bytes, 1)?;
-    let (code, rest) = front(rest, usize::from(*code_size.first()?))?;
-    let (text_size, rest) = front(rest, 4)?;
-    let text_size = edd_image::u32_at(text_size, 0);
-    let (text, behind) = front(rest, text_size as usize)?;
-    Some(Variant {
-        code: str::from_utf8(code).ok()?,
-        text: str::from_utf8(text).ok()?,
-        behind,
-    })
-}
 
 fn push_variants(line: &mut String, bytes: &[u8]) -> Result<(), ShowFault> {
     let mut rest = bytes;

@@ -1,8 +1,8 @@
 //! The beginnings of the strings, which are shown where an instruction names one.
 
-use crate::sections::Sections;
-use crate::strings::first_variant;
 use edd_display::{ShowFault, push_quoted};
+use edd_fault_places::sections::Sections;
+use edd_fault_places::variants::first_variant;
 use edd_syntax::numbers::StrNo;
 use std::alloc::{AllocError, Global};
 use std::fmt::Write as _;

@@ -1,5 +1,5 @@
 use Rattle.std.proofs.Common.{◌-◌, ◌≤◌}
-use Rattle.edd_dump.proofs.sections.Sections.has_body.Given as goal
+use Rattle.edd_fault_places.proofs.sections.Sections.has_body.Given as goal
 
 abbrev pub invariant-loop-low : goal.invariant-loop-low
 invariant-loop-low l = l.low ≤ l.high

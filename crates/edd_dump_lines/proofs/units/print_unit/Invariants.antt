@@ -1,5 +1,5 @@
 use Rattle.std.proofs.Common.{◌-◌, ◌≤◌, length}
-use Rattle.edd_dump.proofs.units.print_unit.Given as goal
+use Rattle.edd_dump_lines.proofs.units.print_unit.Given as goal
 
 abbrev pub invariant-loop-place : goal.invariant-loop-place
 invariant-loop-place g l = l.place ≤ length l.code

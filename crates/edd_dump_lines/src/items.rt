@@ -1,7 +1,7 @@
 //! The lines of the items.
 
-use crate::sections::Sections;
 use edd_display::{ShowFault, print, type_word};
+use edd_fault_places::sections::Sections;
 use edd_syntax::numbers::{ItemNo, KINDS, Kind};
 use std::alloc::Global;
 use std::io::Write;

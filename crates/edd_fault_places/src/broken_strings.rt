@@ -2,7 +2,7 @@
 
 use crate::sections::{Sections, part};
 use crate::spots::Spot;
-use crate::strings::first_variant;
+use crate::variants::first_variant;
 
 fn goes_on_name(byte: u8) -> bool {
     byte.is_ascii_alphanumeric() || byte == b'_'
