@@ -32,20 +32,20 @@ fn add_texts(alloc: Global, table: &mut Table, e: &Expr<Target>) -> Result<(), L
         Expr::Literal(_) | Expr::Decimal { .. } | Expr::Reference(_) | Expr::Increment(_, _) => {
             Ok(())
         }
-        Expr::Indexed(_, index) => add_texts(alloc, table, index),
-        Expr::Parentheses(inner) => add_texts(alloc, table, inner),
-        Expr::Unary(_, operand) => add_texts(alloc, table, operand),
-        Expr::Binary(_, left, right) => add_both(alloc, table, left, right),
-        Expr::Compare(_, left, right) => add_both(alloc, table, left, right),
-        Expr::LogicalAnd(left, right) => add_both(alloc, table, left, right),
-        Expr::LogicalOr(left, right) => add_both(alloc, table, left, right),
+        Expr::Indexed(_, inner)
+        | Expr::Parentheses(inner)
+        | Expr::Unary(_, inner)
+        | Expr::Assign(_, inner)
+        | Expr::CompoundAssign(_, _, inner) => add_texts(alloc, table, inner),
+        Expr::Binary(_, left, right)
+        | Expr::Compare(_, left, right)
+        | Expr::LogicalAnd(left, right)
+        | Expr::LogicalOr(left, right) => add_both(alloc, table, left, right),
         Expr::Conditional(test, first, second) => {
             add_texts(alloc, table, test)?;
             add_both(alloc, table, first, second)?;
             Ok(())
         }
-        Expr::Assign(_, value) => add_texts(alloc, table, value),
-        Expr::CompoundAssign(_, _, value) => add_texts(alloc, table, value),
         Expr::Call { arguments, .. } => add_argument_texts(alloc, table, arguments),
     }
 }

@@ -40,12 +40,10 @@ fn slots_of(x: &Stmt<Target>) -> u16
 {
     match x {
         Stmt::Block(parts) => slots_in(parts),
-        Stmt::If(_, first) => slots_of(first),
-        Stmt::IfElse(_, first, otherwise) => slots_of(first) + slots_of(otherwise),
-        Stmt::While(_, body) => slots_of(body),
-        Stmt::Do(body, _) => slots_of(body),
-        Stmt::For { body, .. } => slots_of(body),
         Stmt::Switch(_, parts) => slots_in(parts),
+        Stmt::If(_, body) | Stmt::While(_, body) | Stmt::Do(body, _) | Stmt::For { body, .. } =>
+            slots_of(body),
+        Stmt::IfElse(_, first, otherwise) => slots_of(first) + slots_of(otherwise),
         Stmt::Empty
         | Stmt::Evaluate(_)
         | Stmt::Break { .. }

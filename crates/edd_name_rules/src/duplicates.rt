@@ -33,15 +33,13 @@ pub fn check_inside(s: &Stmt<Path>, alloc: Global) -> Result<(), RuleFault>
         | Stmt::Continue { .. }
         | Stmt::Return => Ok(()),
         Stmt::Block(parts) => check_block(parts, alloc),
-        Stmt::If(_, first) => check_inside(first, alloc),
+        Stmt::Switch(_, parts) => check_block(parts, alloc),
+        Stmt::If(_, body) | Stmt::While(_, body) | Stmt::Do(body, _) | Stmt::For { body, .. } =>
+            check_inside(body, alloc),
         Stmt::IfElse(_, first, otherwise) => {
             check_inside(first, alloc)?;
             check_inside(otherwise, alloc)
         }
-        Stmt::While(_, body) => check_inside(body, alloc),
-        Stmt::Do(body, _) => check_inside(body, alloc),
-        Stmt::For { body, .. } => check_inside(body, alloc),
-        Stmt::Switch(_, parts) => check_block(parts, alloc),
     }
 }
 

@@ -28,16 +28,16 @@ pub fn spend(e: &Expr<Path>, budget: u32) -> Option<u32>
     match e {
         Expr::Literal(_) | Expr::Decimal { .. } | Expr::Reference(_) | Expr::Increment(_, _) =>
             Some(left),
-        Expr::Indexed(_, index) => spend(index, left),
-        Expr::Parentheses(inner) => spend(inner, left),
-        Expr::Unary(_, inner) => spend(inner, left),
-        Expr::Binary(_, a, b) => spend(b, spend(a, left)?),
-        Expr::Compare(_, a, b) => spend(b, spend(a, left)?),
-        Expr::LogicalAnd(a, b) => spend(b, spend(a, left)?),
-        Expr::LogicalOr(a, b) => spend(b, spend(a, left)?),
+        Expr::Indexed(_, inner)
+        | Expr::Parentheses(inner)
+        | Expr::Unary(_, inner)
+        | Expr::Assign(_, inner)
+        | Expr::CompoundAssign(_, _, inner) => spend(inner, left),
+        Expr::Binary(_, a, b)
+        | Expr::Compare(_, a, b)
+        | Expr::LogicalAnd(a, b)
+        | Expr::LogicalOr(a, b) => spend(b, spend(a, left)?),
         Expr::Conditional(test, a, b) => spend(b, spend(a, spend(test, left)?)?),
-        Expr::Assign(_, value) => spend(value, left),
-        Expr::CompoundAssign(_, _, value) => spend(value, left),
         Expr::Call { arguments, .. } => spend_arguments(arguments, left),
     }
 }

@@ -20,11 +20,12 @@ fn spend_type_part(part: &TypePart<Path>, budget: u32) -> Option<u32>
     ensures { result ≡ spent budget (type_part_nodes (type_part_of path_of part.now)) }
 {
     match part {
-        TypePart::DefaultValue { value, .. } => spend_value(value, budget.checked_sub(1)?),
-        TypePart::MinValue { value, .. } => spend_value(value, budget.checked_sub(1)?),
-        TypePart::MaxValue { value, .. } => spend_value(value, budget.checked_sub(1)?),
-        TypePart::DisplayFormat { format, .. } => spend_text(format, budget.checked_sub(1)?),
-        TypePart::EditFormat { format, .. } => spend_text(format, budget.checked_sub(1)?),
+        TypePart::DefaultValue { value, .. }
+        | TypePart::MinValue { value, .. }
+        | TypePart::MaxValue { value, .. } => spend_value(value, budget.checked_sub(1)?),
+        TypePart::DisplayFormat { format, .. } | TypePart::EditFormat { format, .. } => {
+            spend_text(format, budget.checked_sub(1)?)
+        }
         TypePart::Element(element) => spend_enumerator(element, budget),
     }
 }
@@ -75,8 +76,7 @@ fn spend_transaction_part(part: &TransactionPart<Path>, budget: u32) -> Option<u
 {
     let left = budget.checked_sub(1)?;
     match part {
-        TransactionPart::Request(all) => spend_data(all, left),
-        TransactionPart::Reply(all) => spend_data(all, left),
+        TransactionPart::Request(all) | TransactionPart::Reply(all) => spend_data(all, left),
     }
 }
 

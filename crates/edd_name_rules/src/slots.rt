@@ -26,12 +26,10 @@ pub fn spend_slots(s: &Stmt<Path>, left: u32) -> Option<u32>
         | Stmt::Continue { .. }
         | Stmt::Return => Some(left),
         Stmt::Block(parts) => spend_slots_in(parts, left),
-        Stmt::If(_, first) => spend_slots(first, left),
-        Stmt::IfElse(_, first, otherwise) => spend_slots(otherwise, spend_slots(first, left)?),
-        Stmt::While(_, body) => spend_slots(body, left),
-        Stmt::Do(body, _) => spend_slots(body, left),
-        Stmt::For { body, .. } => spend_slots(body, left),
         Stmt::Switch(_, parts) => spend_slots_in(parts, left),
+        Stmt::If(_, body) | Stmt::While(_, body) | Stmt::Do(body, _) | Stmt::For { body, .. } =>
+            spend_slots(body, left),
+        Stmt::IfElse(_, first, otherwise) => spend_slots(otherwise, spend_slots(first, left)?),
     }
 }
 

@@ -51,16 +51,16 @@ fn in_expr(e: &Expr<Target>) -> bool
         Expr::Literal(_) | Expr::Decimal { .. } | Expr::Reference(_) | Expr::Increment(_, _) => {
             false
         }
-        Expr::Indexed(_, index) => in_expr(index),
-        Expr::Parentheses(inner) => in_expr(inner),
-        Expr::Unary(_, inner) => in_expr(inner),
-        Expr::Binary(_, a, b) => in_expr(a) || in_expr(b),
-        Expr::Compare(_, a, b) => in_expr(a) || in_expr(b),
-        Expr::LogicalAnd(a, b) => in_expr(a) || in_expr(b),
-        Expr::LogicalOr(a, b) => in_expr(a) || in_expr(b),
+        Expr::Indexed(_, inner)
+        | Expr::Parentheses(inner)
+        | Expr::Unary(_, inner)
+        | Expr::Assign(_, inner)
+        | Expr::CompoundAssign(_, _, inner) => in_expr(inner),
+        Expr::Binary(_, a, b)
+        | Expr::Compare(_, a, b)
+        | Expr::LogicalAnd(a, b)
+        | Expr::LogicalOr(a, b) => in_expr(a) || in_expr(b),
         Expr::Conditional(test, a, b) => in_expr(test) || in_expr(a) || in_expr(b),
-        Expr::Assign(_, value) => in_expr(value),
-        Expr::CompoundAssign(_, _, value) => in_expr(value),
         Expr::Call {
             function,
             arguments,

@@ -25,9 +25,9 @@ pub fn check_breaks(s: &Stmt<Target>, in_loop: bool, in_switch: bool) -> Result<
             check_breaks(first, in_loop, in_switch)?;
             check_breaks(otherwise, in_loop, in_switch)
         }
-        Stmt::While(_, body) => check_breaks(body, true, in_switch),
-        Stmt::Do(body, _) => check_breaks(body, true, in_switch),
-        Stmt::For { body, .. } => check_breaks(body, true, in_switch),
+        Stmt::While(_, body) | Stmt::Do(body, _) | Stmt::For { body, .. } => {
+            check_breaks(body, true, in_switch)
+        }
         Stmt::Switch(_, parts) => check_parts(parts, in_loop, true),
         Stmt::Break { line } => {
             if in_loop || in_switch {

@@ -124,22 +124,15 @@ pub fn check_calls(e: &Expr<Target>, is_statement: bool) -> Result<(), u32>
         Expr::Literal(_) | Expr::Decimal { .. } | Expr::Reference(_) | Expr::Increment(_, _) => {
             Ok(())
         }
-        Expr::Indexed(_, index) => check_calls(index, false),
-        Expr::Parentheses(inner) => check_calls(inner, false),
-        Expr::Unary(_, inner) => check_calls(inner, false),
-        Expr::Binary(_, a, b) => {
-            check_calls(a, false)?;
-            check_calls(b, false)
-        }
-        Expr::Compare(_, a, b) => {
-            check_calls(a, false)?;
-            check_calls(b, false)
-        }
-        Expr::LogicalAnd(a, b) => {
-            check_calls(a, false)?;
-            check_calls(b, false)
-        }
-        Expr::LogicalOr(a, b) => {
+        Expr::Indexed(_, inner)
+        | Expr::Parentheses(inner)
+        | Expr::Unary(_, inner)
+        | Expr::Assign(_, inner)
+        | Expr::CompoundAssign(_, _, inner) => check_calls(inner, false),
+        Expr::Binary(_, a, b)
+        | Expr::Compare(_, a, b)
+        | Expr::LogicalAnd(a, b)
+        | Expr::LogicalOr(a, b) => {
             check_calls(a, false)?;
             check_calls(b, false)
         }
@@ -148,8 +141,6 @@ pub fn check_calls(e: &Expr<Target>, is_statement: bool) -> Result<(), u32>
             check_calls(a, false)?;
             check_calls(b, false)
         }
-        Expr::Assign(_, value) => check_calls(value, false),
-        Expr::CompoundAssign(_, _, value) => check_calls(value, false),
         Expr::Call {
             line,
             function,

@@ -19,22 +19,15 @@ pub fn check_decimals(e: &Expr<Target>) -> Result<(), u32>
     match e {
         Expr::Literal(_) | Expr::Reference(_) | Expr::Increment(_, _) => Ok(()),
         Expr::Decimal { line } => Err(*line),
-        Expr::Indexed(_, index) => check_decimals(index),
-        Expr::Parentheses(inner) => check_decimals(inner),
-        Expr::Unary(_, inner) => check_decimals(inner),
-        Expr::Binary(_, a, b) => {
-            check_decimals(a)?;
-            check_decimals(b)
-        }
-        Expr::Compare(_, a, b) => {
-            check_decimals(a)?;
-            check_decimals(b)
-        }
-        Expr::LogicalAnd(a, b) => {
-            check_decimals(a)?;
-            check_decimals(b)
-        }
-        Expr::LogicalOr(a, b) => {
+        Expr::Indexed(_, inner)
+        | Expr::Parentheses(inner)
+        | Expr::Unary(_, inner)
+        | Expr::Assign(_, inner)
+        | Expr::CompoundAssign(_, _, inner) => check_decimals(inner),
+        Expr::Binary(_, a, b)
+        | Expr::Compare(_, a, b)
+        | Expr::LogicalAnd(a, b)
+        | Expr::LogicalOr(a, b) => {
             check_decimals(a)?;
             check_decimals(b)
         }
@@ -43,8 +36,6 @@ pub fn check_decimals(e: &Expr<Target>) -> Result<(), u32>
             check_decimals(a)?;
             check_decimals(b)
         }
-        Expr::Assign(_, value) => check_decimals(value),
-        Expr::CompoundAssign(_, _, value) => check_decimals(value),
         Expr::Call { arguments, .. } => check_arguments(arguments),
     }
 }

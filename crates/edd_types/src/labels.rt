@@ -84,17 +84,15 @@ fn check_inside(s: &Stmt<Target>, alloc: Global) -> Result<Option<u32>, AllocErr
 {
     match s {
         Stmt::Block(parts) => check_labels(parts, alloc),
-        Stmt::If(_, first) => check_inside(first, alloc),
+        Stmt::Switch(_, parts) => check_labels(parts, alloc),
+        Stmt::If(_, body) | Stmt::While(_, body) | Stmt::Do(body, _) | Stmt::For { body, .. } =>
+            check_inside(body, alloc),
         Stmt::IfElse(_, first, otherwise) => {
             if let Some(line) = check_inside(first, alloc)? {
                 return Ok(Some(line));
             }
             check_inside(otherwise, alloc)
         }
-        Stmt::While(_, body) => check_inside(body, alloc),
-        Stmt::Do(body, _) => check_inside(body, alloc),
-        Stmt::For { body, .. } => check_inside(body, alloc),
-        Stmt::Switch(_, parts) => check_labels(parts, alloc),
         Stmt::Empty
         | Stmt::Evaluate(_)
         | Stmt::Break { .. }

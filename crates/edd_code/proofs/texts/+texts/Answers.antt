@@ -104,11 +104,11 @@ add_texts-returns-in-Call-clause-refused t c h =
 pub add_texts-returns-in_err-add_both-in-Conditional-clause-refused :
     goal.add_texts-returns-in_err-add_both-in-Conditional-clause-refused
 add_texts-returns-in_err-add_both-in-Conditional-clause-refused t c h =
-    let test = expr_texts (numbered_expr c.deref-in-Conditional.result.now) in
-    let rest = expr_texts (numbered_expr c.deref-in-Conditional-2.result.now)
-    ++ expr_texts (numbered_expr c.deref-in-Conditional-3.result.now) in
+    let test = expr_texts (numbered_expr c.deref.result.now) in
+    let rest = expr_texts (numbered_expr c.deref-in-Conditional.result.now)
+    ++ expr_texts (numbered_expr c.deref-in-Conditional-2.result.now) in
     let is : expr_texts (numbered_expr c.args.e.now) ≡ test ++ rest = grind (arith, common_steps) in
-    let over : Overflows c.add_texts-in-Conditional.new.table (strings_of_texts rest) =
+    let over : Overflows c.add_texts.new.table (strings_of_texts rest) =
     grind (arith, common_steps) in
     subst (λ (ts : List texts.Text). Overflows c.args.table.now (strings_of_texts ts)) (sym is)
     (texts_overflow_second test rest c.in_ok-add_texts-in-Conditional.ensures.sound over)
@@ -116,11 +116,11 @@ add_texts-returns-in_err-add_both-in-Conditional-clause-refused t c h =
 pub add_texts-returns-in_ok-add_both-in-Conditional-clause-sound :
     goal.add_texts-returns-in_ok-add_both-in-Conditional-clause-sound
 add_texts-returns-in_ok-add_both-in-Conditional-clause-sound t c =
-    let test = expr_texts (numbered_expr c.deref-in-Conditional.result.now) in
-    let rest = expr_texts (numbered_expr c.deref-in-Conditional-2.result.now)
-    ++ expr_texts (numbered_expr c.deref-in-Conditional-3.result.now) in
+    let test = expr_texts (numbered_expr c.deref.result.now) in
+    let rest = expr_texts (numbered_expr c.deref-in-Conditional.result.now)
+    ++ expr_texts (numbered_expr c.deref-in-Conditional-2.result.now) in
     let is : expr_texts (numbered_expr c.args.e.now) ≡ test ++ rest = grind (arith, common_steps) in
     subst (λ (ts : List texts.Text). HoldsTexts c.args.table.now ts
-    c.add_both-in-Conditional.new.table) (sym is)
+    c.add_both.new.table) (sym is)
     (both_held test rest c.in_ok-add_texts-in-Conditional.ensures.sound
     c.in_ok-add_both-in-Conditional.ensures.sound)
