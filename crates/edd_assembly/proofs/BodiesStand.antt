@@ -1,5 +1,5 @@
--- Each method of a checked description has a row with its body, so an instruction that adds an abort
--- method adds one with a body.
+-- Each method of a checked description has a row with its body, so an instruction that adds an
+-- abort method adds one with a body.
 use Rattle.std.proofs.Common.{◌≡◌, refl, sym, ap, ◌∙◌, ℕ, ◌+◌, true, List, [], ◌∷◌, length, map, Option, Some, None}
 use Rattle.std.specs.Prelude.{◌==◌, ◌||◌, nat_lt, slice_get, if◌then◌else◌}
 use Rattle.std.specs.List.{AllByRecursion, list_all, list_any}

@@ -279,7 +279,8 @@ module _ (unit : Description Target) (reads : Target → Bool) where
   pub member_fine : (m : item.Member Target) → good_member count reads m ≡ true
       → is_fine unit (member m) ≡ true
   member_fine m h = listed_there (item_of m.item)
-      (both_of (is_listed (item_of m.item) && is_item_of count (item_of m.item)) (kept_member m) h).0
+      (both_of (is_listed (item_of m.item) && is_item_of count (item_of m.item)) (kept_member m)
+      h).0
 
   pub array_element_fine : (e : item.ArrayElement Target) → good_array_element count reads e ≡ true
       → is_fine unit (element e) ≡ true

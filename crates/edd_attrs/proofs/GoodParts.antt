@@ -106,7 +106,8 @@ module _ (count : Kind → ℕ) (reads : Target → Bool) where
 
   abbrev pub good_entry : MenuEntry Target → Bool
   good_entry (item.Text text) = is_text text
-  good_entry (item.Reference to qualifiers) = is_listed (item_of to) && is_item_of count (item_of to)
+  good_entry (item.Reference to qualifiers) =
+      is_listed (item_of to) && is_item_of count (item_of to)
 
   abbrev pub good_member : item.Member Target → Bool
   good_member m = (is_listed (item_of m.item) && is_item_of count (item_of m.item))

@@ -173,7 +173,8 @@ module _ (unit : Description Path) (reads : Target → Bool)
       → resolved_data unit d ≡ Some f → good_data count reads f ≡ true
   data_good (item.Constant n) f h e = along_some (good_data count reads) (item.Constant n) f e refl
   data_good (item.Variable variable mask qualifiers) f h e =
-      let x = bind_some (item_among unit variable_kinds variable) (λ variable'. Some (item.Variable variable' mask qualifiers))
+      let x = bind_some (item_among unit variable_kinds variable)
+      (λ variable'. Some (item.Variable variable' mask qualifiers))
       f e in
       let i = meant_exists unit variable_kinds variable x.0 x.1 in
       along_some (good_data count reads) (item.Variable x.0 mask qualifiers) f x.2
@@ -197,7 +198,9 @@ module _ (unit : Description Path) (reads : Target → Bool)
       (both_true (both_true (ap (λ t. is_listed (item_of t)) i.1 ∙ listed i.0 i.3)
       (ap (λ t. is_item_of count (item_of t)) i.1 ∙ i.2)) (both_true labelled.1 helped.1))
 
-  array_element_good : nat_lt 0 (count kind.Array) ≡ true → (e : item.ArrayElement Path) (f : item.ArrayElement Target) → is_array_element is_path is_plain e ≡ true → resolved_element unit e ≡ Some f
+  array_element_good : nat_lt 0 (count kind.Array) ≡ true
+      → (e : item.ArrayElement Path) (f : item.ArrayElement Target)
+      → is_array_element is_path is_plain e ≡ true → resolved_element unit e ≡ Some f
       → good_array_element count reads f ≡ true
   array_element_good some e f h r =
       let x = bind_some (item_among unit variable_kinds e.variable)
@@ -339,12 +342,15 @@ module _ (unit : Description Path) (reads : Target → Bool)
       bind_some (resolved_cond at unchanged c) (λ c'. Some (item.OneText which c')) b
       e in along_some good_attribute (item.OneText which x.0) b x.2
       (alone (one_good is_text c x.0 h l x.1))
-  attribute_good sort may some (item.Class words) b belongs h l e = along_some good_attribute (item.Class words) b e
+  attribute_good sort may some (item.Class words) b belongs h l e =
+      along_some good_attribute (item.Class words) b e
       refl
-  attribute_good sort may some (item.Handling c) b belongs h l e = let x = bind_some (resolved_cond at unchanged c)
+  attribute_good sort may some (item.Handling c) b belongs h l e =
+      let x = bind_some (resolved_cond at unchanged c)
       (λ c'. Some (item.Handling c')) b e in along_some good_attribute (item.Handling x.0) b x.2
       (alone (one_good any_value c x.0 h l x.1))
-  attribute_good sort may some (item.Validity c) b belongs h l e = let x = bind_some (resolved_cond at unchanged c)
+  attribute_good sort may some (item.Validity c) b belongs h l e =
+      let x = bind_some (resolved_cond at unchanged c)
       (λ c'. Some (item.Validity c')) b e in along_some good_attribute (item.Validity x.0) b x.2
       (alone (one_good any_value c x.0 h l x.1))
   attribute_good sort may some (item.TypeOf word parts) b belongs h l e =
@@ -356,9 +362,11 @@ module _ (unit : Description Path) (reads : Target → Bool)
       (all_both (is_type_part is_path is_plain) (λ p. is_low (type_part_height p)) parts
       (type_parts word parts h) (all_low type_part_height parts l)) x.1) in
       along_some good_attribute (item.TypeOf word x.0) b x.2 (both_true both refl)
-  attribute_good sort may some (item.Number n) b belongs h l e = along_some good_attribute (item.Number n) b e
+  attribute_good sort may some (item.Number n) b belongs h l e =
+      along_some good_attribute (item.Number n) b e
       (alone h)
-  attribute_good sort may some (item.Operation o) b belongs h l e = along_some good_attribute (item.Operation o) b e
+  attribute_good sort may some (item.Operation o) b belongs h l e =
+      along_some good_attribute (item.Operation o) b e
       refl
   attribute_good sort may some (item.Transaction number parts) b belongs h l e =
       let x = bind_some (each (resolved_transaction_part unit) parts)
@@ -394,7 +402,8 @@ module _ (unit : Description Path) (reads : Target → Bool)
       (λ elements'. Some (item.Elements elements')) b e in
       along_some good_attribute (item.Elements x.0) b x.2
       (alone (each_all (resolved_element unit) (is_array_element is_path is_plain)
-      (good_array_element count reads) (array_element_good (counted count sort belongs some)) elements x.0
+      (good_array_element count reads) (array_element_good (counted count sort belongs some))
+      elements x.0
       h x.1))
   attribute_good sort may some (item.Definition body) b belongs h l e = let x =
       bind_some (resolved_body unit body [] 0) (λ body'. Some (item.Definition body')) b

@@ -79,7 +79,8 @@ module _ (at : Meanings) (reads : Target → Bool)
   unfolding resolved_by
   expr_height (Literal value) e' p h = stays height (Literal value) e' h
   expr_height Decimal e' p h = stays height Decimal e' h
-  expr_height (Reference from) e' p h = made height (at.reference from) Reference e' _ (λ x q. refl) h
+  expr_height (Reference from) e' p h =
+      made height (at.reference from) Reference e' _ (λ x q. refl) h
   expr_height (Indexed array index) e' p h =
       let parts = both_of (is_path array && is_plain array) (pure_before index) p in
       made_of_two height (at.array array) (resolved_expr at index) Indexed e' _

@@ -83,7 +83,8 @@ module _ (unit : Description Target) (strings : List Words) where
           ≡ true → Same (each f (chosen env d c)) b
       one_means c b is h =
           subst (λ t. Same t b) (given_are_chosen env d f c)
-          (cond_means (string_of_table strings) machine env d (means machine env same_elements d) reads Gives p
+          (cond_means (string_of_table strings) machine env d (means machine env same_elements d)
+          reads Gives p
           one_record value_means c b is
           (both_of (is_cond reads reads p c) (is_low (cond_height leaf c)) h).0)
 
@@ -91,12 +92,14 @@ module _ (unit : Description Target) (strings : List Words) where
           → are_conds reads reads p c ≡ true → Same (each f (all_chosen env d c)) b
       list_means c b is h =
           subst (λ t. Same t b) (all_are_chosen env d f c)
-          (conds_mean (string_of_table strings) machine env d (means machine env same_elements d) reads Gives p
+          (conds_mean (string_of_table strings) machine env d (means machine env same_elements d)
+          reads Gives p
           one_record value_means c b is h)
 
       in_line : (vs : List V) (b : Block) → IsLineBlock Gives vs b → list_all p vs ≡ true
           → Same (Ok (map f vs)) b
-      in_line vs b is h = line_means (string_of_table strings) machine env d (means machine env same_elements d)
+      in_line vs b is h =
+          line_means (string_of_table strings) machine env d (means machine env same_elements d)
           Gives p f value_means vs b is h
 
     expression_means : (e : Expr Target) (b : Block) → IsValueBlock e b
@@ -146,7 +149,8 @@ module _ (unit : Description Target) (strings : List Words) where
         let parts = both_of (is_cond reads reads (good_expression count reads) c)
         (is_low (cond_height height c)) tests.0 in
         subst (λ t. Same t b) (expression_is_chosen env d reads c tests.1)
-        (cond_means (string_of_table strings) machine env d (means machine env same_elements d) reads IsValueBlock
+        (cond_means (string_of_table strings) machine env d (means machine env same_elements d)
+        reads IsValueBlock
         (good_expression count reads) (expression_given env d) expression_means c b is parts.0)
     tree_means (trees.Enumerators parts) b h is =
         subst (λ (all : Conds Target item.Enumerator). Same (each enumerator (all_chosen env d all))

@@ -293,5 +293,6 @@ module _ (unit : Description Target) (few : (k : Kind) → count_of k unit.items
         (good (trees.Members members) h))
     tree_sound (trees.Elements all) b h is =
         sound_unit b _ _ (omega arith)
-        (line_sound element (good_array_element count reads) (array_element_fine unit reads) all b is
+        (line_sound element (good_array_element count reads) (array_element_fine unit reads) all
+        b is
         (good (trees.Elements all) h))

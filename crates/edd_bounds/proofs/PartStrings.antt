@@ -175,7 +175,8 @@ module _ (w : Words) where
             ]
       ]
   in_parts before (item.Element c ∷ ps) once h =
-      elim (either_text w (flat_map enumerator_texts (values_in c)) (flat_map type_part_texts ps) h) [
+      elim (either_text w (flat_map enumerator_texts (values_in c)) (flat_map type_part_texts ps)
+      h) [
         | inl e ↦ inl (
           refl,
           in_first_text w (flat_map enumerator_texts (values_in c))

@@ -1,5 +1,5 @@
-//! Why a text is refused, at each place, with what helps, and what is surely not meant in one that is
-//! accepted.
+//! Why a text is refused, at each place, with what helps, and what is surely not meant in one that
+//! is accepted.
 //!
 //! Whether a text is refused is what the compiler says, and its refusal is the first. Of places,
 //! helps, further faults and warnings nothing is proved but that they are found safely and in
@@ -49,8 +49,8 @@ fn print_all<W: Write>(
     Ok(())
 }
 
-/// Prints what is said of the text of the source of this name. Says whether it is refused, or a lint
-/// that is denied finds something.
+/// Prints what is said of the text of the source of this name. Says whether it is refused, or a
+/// lint that is denied finds something.
 pub fn check<W: Write>(
     alloc: Global,
     name: &str,

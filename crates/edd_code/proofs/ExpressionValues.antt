@@ -255,7 +255,8 @@ module _ (machine : Environment) (around : device.Environment)
   means (Reference from) operands = read_does machine d from operands
   means (Indexed array index) operands =
       with_value machine d (expression_block index) (element_block array) operands operands
-      (value around d index) (λ n. indexed_value around.elements 64 d array n) (means index operands)
+      (value around d index) (λ n. indexed_value around.elements 64 d array n)
+      (means index operands)
       (λ n. element_does machine d around.elements same array n operands)
   means (Parentheses inner) operands = means inner operands
   means (Unary op operand) operands =

@@ -1,5 +1,5 @@
--- What a block results in, in a method: the operands that it leaves and the state of the method, or a
--- stop.
+-- What a block results in, in a method: the operands that it leaves and the state of the method, or
+-- a stop.
 use Rattle.std.specs.Prelude.{◌≡◌, ℕ, ◌≤◌, ℤ, List, [], ◌∷◌, ◌++◌, Option, Some, None}
 use Rattle.std.specs.List.{AllByRecursion}
 use Rattle.edd_syntax.specs.declared.numbers.StrNo.{StrNo}

@@ -1,5 +1,5 @@
--- What a block results in, in an attribute: the records that it gives and the operands that it leaves,
--- or a trap.
+-- What a block results in, in an attribute: the records that it gives and the operands that it
+-- leaves, or a trap.
 use Rattle.std.specs.Prelude.{ℕ, true, false, ℤ, List, [], ◌∷◌, ◌++◌, Option, Some, None}
 use Rattle.std.specs.Ordering.{int_eq}
 use Rattle.edd_syntax.specs.declared.answer.Trap.{Trap}

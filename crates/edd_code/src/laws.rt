@@ -57,8 +57,8 @@ pub fn blocks_are_followed()
         values) ≡ Some (Err why)) }
 {}
 
-/// What a block results in, in an attribute is the general meaning of blocks, with the records so far
-/// carried along.
+/// What a block results in, in an attribute is the general meaning of blocks, with the records so
+/// far carried along.
 pub fn attributes_are_a_case()
     ensures { (env : Environment) (values : List ℤ) (b : Block) (operands : List ℤ)
         (given : List Record)

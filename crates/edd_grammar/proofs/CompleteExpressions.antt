@@ -239,7 +239,8 @@ module _ (p : Place) (inner : Inner) (height_left : ℕ) (complete : Complete p 
 
     named_again : (r : Path) (here rest behind : List Token) → (here ≡ Identifier r.base ∷ behind)
         → at sign.OpenParenthesis behind ≡ false → at sign.OpenBracket behind ≡ false
-        → operand_at p inner here ≡ postfix p (path_behind r.base behind).0 (path_behind r.base behind).1
+        → operand_at p inner here
+        ≡ postfix p (path_behind r.base behind).0 (path_behind r.base behind).1
     unfolding operand_at named_at
     named_again r here rest behind f closed plain = rw (f, closed, plain) refl
 
@@ -257,7 +258,8 @@ module _ (p : Place) (inner : Inner) (height_left : ℕ) (complete : Complete p 
     operand_again : (row level : ℕ) (e : Expr Path) (here rest : List Token) → IsOperand e
         → ExprHere p row e here rest → height e ≤ suc height_left → Stops level rest
         → operand_at p inner here ≡ Some (e, rest)
-    unfolding operand_at step_before signed_at named_at index_behind unary_behind parentheses_behind postfix
+    unfolding operand_at step_before signed_at named_at index_behind unary_behind parentheses_behind
+        postfix
     operand_again row level (tree.Literal n) here rest i h low s = rw h refl
     operand_again row level tree.Decimal here rest i h low s = rw h refl
     operand_again row level (tree.Reference r) here rest i h low s =

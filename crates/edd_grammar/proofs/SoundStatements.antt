@@ -152,7 +152,8 @@ module _ (height_left : ℕ) (inner : List Token → Read (Stmt Path))
             let m = bind_some (parts_at height_left inner labels n p.0.1) _ (b, rest) p.2 in
             let first = part_sound labels here p.0.0 p.0.1 p.1 in
             let more = parts_sound labels n p.0.1 m.0.0 m.0.1 m.1 in
-            as_read (λ b r. BodyHere labels b here r × (body_height b ≤ height_left)) _ b _ rest m.2 (
+            as_read (λ b r. BodyHere labels b here r × (body_height b ≤ height_left)) _ b _ rest
+            m.2 (
               body_cons labels p.0.0 m.0.0 here p.0.1 m.0.1 first.0 more.0,
               body_low height_left p.0.0 m.0.0 first.1 more.1,
             )

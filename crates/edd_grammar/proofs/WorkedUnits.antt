@@ -389,7 +389,8 @@ the_unit = record {
 -- the unit that some tokens spell
 unfoldable pub worked : List Token → Option (Description Path)
 unfolding expect expect_word path_at path_behind key_at text_at postfix step_before argument_at
-    some_arguments arguments_at index_behind named_at unary_behind parentheses_behind signed_at operand_at
+    some_arguments arguments_at index_behind named_at unary_behind parentheses_behind signed_at
+    operand_at
     joined_at chain choice_at assign_at layer expr_at condition_at braces_at else_at case_at
     default_at arms_at if_at select_at cond_layer ended only one_at text_value expr_value
     elements_at listed element_at list_at value_at declarator_at some_declarators declarators_at
@@ -400,8 +401,10 @@ unfolding expect expect_word path_at path_behind key_at text_at postfix step_bef
     qualifiers_at mask_at data_variable_at data_item_at menu_reference_at menu_entry_at
     handling_value truth_value enumerator_value data_item_value menu_entry_value size_at
     type_part_at type_parts_at behind_other known_type_at other_type_at type_at class_at
-    response_code_at member_at array_element_at transaction_part_at transaction_at class_words_at command_number_at
-    command_operation_at other_attribute_at attribute_at own_attribute_at kind_at item_kind_at sort_behind
+    response_code_at member_at array_element_at transaction_part_at transaction_at class_words_at
+    command_number_at
+    command_operation_at other_attribute_at attribute_at own_attribute_at kind_at item_kind_at
+    sort_behind
     attributes_at item_at numbered_at identification_at items_at unit_at
 worked tokens = unit_at tokens
 

@@ -16,7 +16,8 @@ use Rattle.edd_image.proofs.LayoutRows.{part_read, variables_read, names_read, a
 
 -- ---- the header
 
-same_counts : {a a' b b' c c' d d' e e' z z' f f' g g' h h' i i' j j' : ℕ} → a ≡ a' → b ≡ b' → c ≡ c'
+same_counts : {a a' b b' c c' d d' e e' z z' f f' g g' h h' i i' j j' : ℕ} → a ≡ a' → b ≡ b'
+    → c ≡ c'
     → d ≡ d' → e ≡ e' → z ≡ z' → f ≡ f' → g ≡ g' → h ≡ h' → i ≡ i' → j ≡ j'
     → ◌≡◌ {A = Counts} (record {
       variables = a;
@@ -402,7 +403,8 @@ module _ (s : Sections) (are : AreSections s) where
       let size_elements = elements_length_is s.elements in
       let size_strings = strings_length_is s.strings in
       let start = name_bytes_read s are in
-      part_read (layout s) _ _ (a ++ (b ++ (c ++ (d ++ (e ++ (f ++ g)))))) s.name_bytes s.string_bytes
+      part_read (layout s) _ _ (a ++ (b ++ (c ++ (d ++ (e ++ (f ++ g)))))) s.name_bytes
+      s.string_bytes
       (split_7 a b c d e f g _)
       (omega (
         arith,
@@ -450,9 +452,11 @@ module _ (s : Sections) (are : AreSections s) where
 -- ---- together
 
 same_contents : {v v' : Version} {p p' : ℕ} {c c' : Counts} {vs vs' : List VariableFields}
-    {ns ns' : List NameFields} {rs rs' : List AttributeFields} {es es' : List Element} {xs xs' : List ℕ}
+    {ns ns' : List NameFields} {rs rs' : List AttributeFields} {es es' : List Element}
+    {xs xs' : List ℕ}
     {ss ss' : List Span} {nb nb' sb sb' : List ℕ}
-    → v ≡ v' → p ≡ p' → c ≡ c' → vs ≡ vs' → ns ≡ ns' → rs ≡ rs' → es ≡ es' → xs ≡ xs' → ss ≡ ss' → nb ≡ nb'
+    → v ≡ v' → p ≡ p' → c ≡ c' → vs ≡ vs' → ns ≡ ns' → rs ≡ rs' → es ≡ es' → xs ≡ xs' → ss ≡ ss'
+    → nb ≡ nb'
     → sb ≡ sb'
     → ◌≡◌ {A = Contents} (record {
       version = v;
@@ -494,5 +498,6 @@ version_read s = version_read_by s s.version
 pub contents_are : (s : Sections) → AreSections s → contents_in (layout s) ≡ contents_of s
 unfolding contents_in
 contents_are s are = same_contents (version_read s) (zero_read s) (counts_read s are)
-    (variables_are s are) (names_are s are) (attributes_are s are) (elements_are s are) (code_is s are)
+    (variables_are s are) (names_are s are) (attributes_are s are) (elements_are s are)
+    (code_is s are)
     (strings_are s are) (name_bytes_are s are) (string_bytes_are s are)

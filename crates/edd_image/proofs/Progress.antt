@@ -267,7 +267,8 @@ module _ (env : Environment) (s : State) (running : s.status ≡ Running)
       (λ a below e fa fb. go_acts _ next 2 _ refl (omega (arith, e)) (fa, (fa, fb)))
   instruction_acts (instruction.ReadElement array) next fit le = top_acts _ next s.operands _ fit le
       (λ number below e fa fb. push_acts _ next below
-      (element_value env.elements (width_of s.unit.sort) s.values array number) refl (omega (arith, e)) fb
+      (element_value env.elements (width_of s.unit.sort) s.values array number) refl
+      (omega (arith, e)) fb
       (λ z r. value_fits s.unit.sort s.values (element_variable env.elements array number) z r))
   instruction_acts (instruction.Operate op) next fit le = two_act _ next s.operands _ fit le
       (λ a b below e fa fb fc. push_acts _ next below (operate (width_of s.unit.sort) op a b) refl

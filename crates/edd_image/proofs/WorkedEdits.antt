@@ -21,7 +21,8 @@ reached_not : false ≡ true → ⊥
 reached_not e = cc
 
 pub first_55_short : BreaksFirst (take 55 loop_image) rule.Short
-unfolding contents_in rows_from number_at variable_rows_start name_rows_start attribute_rows_start element_rows_start code_start
+unfolding contents_in rows_from number_at variable_rows_start name_rows_start attribute_rows_start
+    element_rows_start code_start
     string_rows_start name_bytes_start string_bytes_start sections_end string_in variants_from
     is_utf8 chars encode_utf8 instructions instructions_from instruction_at instruction_from
     basic_from unary_of jump_from record_from entry_from byte_from number_from signed_from item_from
@@ -41,7 +42,8 @@ first_55_short = (earlier, λ h. cc)
     earlier (rule.Unit unit_rule.Reference) h = absurd (omega arith)
 
 pub first_85_length : BreaksFirst (take 85 loop_image) rule.Length
-unfolding contents_in rows_from number_at variable_rows_start name_rows_start attribute_rows_start element_rows_start code_start
+unfolding contents_in rows_from number_at variable_rows_start name_rows_start attribute_rows_start
+    element_rows_start code_start
     string_rows_start name_bytes_start string_bytes_start sections_end string_in variants_from
     is_utf8 chars encode_utf8 instructions instructions_from instruction_at instruction_from
     basic_from unary_of jump_from record_from entry_from byte_from number_from signed_from item_from
@@ -61,7 +63,8 @@ first_85_length = (earlier, λ h. cc)
     earlier (rule.Unit unit_rule.Reference) h = absurd (omega arith)
 
 pub other_magic : BreaksFirst (slice_set loop_image 0 0x00) rule.Magic
-unfolding contents_in rows_from number_at variable_rows_start name_rows_start attribute_rows_start element_rows_start code_start
+unfolding contents_in rows_from number_at variable_rows_start name_rows_start attribute_rows_start
+    element_rows_start code_start
     string_rows_start name_bytes_start string_bytes_start sections_end string_in variants_from
     is_utf8 chars encode_utf8 instructions instructions_from instruction_at instruction_from
     basic_from unary_of jump_from record_from entry_from byte_from number_from signed_from item_from
@@ -81,7 +84,8 @@ other_magic = (earlier, λ h. cc)
     earlier (rule.Unit unit_rule.Reference) h = absurd (omega arith)
 
 pub other_version : BreaksFirst (slice_set loop_image 5 0x03) rule.Version
-unfolding contents_in rows_from number_at variable_rows_start name_rows_start attribute_rows_start element_rows_start code_start
+unfolding contents_in rows_from number_at variable_rows_start name_rows_start attribute_rows_start
+    element_rows_start code_start
     string_rows_start name_bytes_start string_bytes_start sections_end string_in variants_from
     is_utf8 chars encode_utf8 instructions instructions_from instruction_at instruction_from
     basic_from unary_of jump_from record_from entry_from byte_from number_from signed_from item_from
@@ -101,7 +105,8 @@ other_version = (earlier, λ h. cc)
     earlier (rule.Unit unit_rule.Reference) h = absurd (omega arith)
 
 pub unknown_kind : BreaksFirst (slice_set loop_image 64 0x09) rule.Row
-unfolding contents_in rows_from number_at variable_rows_start name_rows_start attribute_rows_start element_rows_start code_start
+unfolding contents_in rows_from number_at variable_rows_start name_rows_start attribute_rows_start
+    element_rows_start code_start
     string_rows_start name_bytes_start string_bytes_start sections_end string_in variants_from
     is_utf8 chars encode_utf8 instructions instructions_from instruction_at instruction_from
     basic_from unary_of jump_from record_from entry_from byte_from number_from signed_from item_from
@@ -121,7 +126,8 @@ unknown_kind = (earlier, λ h. cc)
     earlier (rule.Unit unit_rule.Reference) h = absurd (omega arith)
 
 pub blank_name : BreaksFirst (slice_set loop_image 85 0x20) rule.Name
-unfolding contents_in rows_from number_at variable_rows_start name_rows_start attribute_rows_start element_rows_start code_start
+unfolding contents_in rows_from number_at variable_rows_start name_rows_start attribute_rows_start
+    element_rows_start code_start
     string_rows_start name_bytes_start string_bytes_start sections_end string_in variants_from
     is_utf8 chars encode_utf8 instructions instructions_from instruction_at instruction_from
     basic_from unary_of jump_from record_from entry_from byte_from number_from signed_from item_from
@@ -141,7 +147,8 @@ blank_name = (earlier, λ h. cc)
     earlier (rule.Unit unit_rule.Reference) h = absurd (omega arith)
 
 pub unknown_tag : BreaksFirst (slice_set label_image 97 0x02) rule.Text
-unfolding contents_in rows_from number_at variable_rows_start name_rows_start attribute_rows_start element_rows_start code_start
+unfolding contents_in rows_from number_at variable_rows_start name_rows_start attribute_rows_start
+    element_rows_start code_start
     string_rows_start name_bytes_start string_bytes_start sections_end string_in variants_from
     is_utf8 chars encode_utf8 instructions instructions_from instruction_at instruction_from
     basic_from unary_of jump_from record_from entry_from byte_from number_from signed_from item_from
@@ -161,7 +168,8 @@ unknown_tag = (earlier, λ h. cc)
     earlier (rule.Unit unit_rule.Reference) h = absurd (omega arith)
 
 pub unknown_instruction : BreaksFirst (slice_set loop_image 80 0xff) (rule.Unit unit_rule.Chain)
-unfolding contents_in rows_from number_at variable_rows_start name_rows_start attribute_rows_start element_rows_start code_start
+unfolding contents_in rows_from number_at variable_rows_start name_rows_start attribute_rows_start
+    element_rows_start code_start
     string_rows_start name_bytes_start string_bytes_start sections_end string_in variants_from
     is_utf8 chars encode_utf8 instructions instructions_from instruction_at instruction_from
     basic_from unary_of jump_from record_from entry_from byte_from number_from signed_from item_from
@@ -181,7 +189,8 @@ unknown_instruction = (earlier, λ h. reached_not h.0)
     earlier (rule.Unit unit_rule.Reference) h = absurd (omega arith)
 
 pub jump_between : BreaksFirst (slice_set loop_image 84 0x01) (rule.Unit unit_rule.Jump)
-unfolding contents_in rows_from number_at variable_rows_start name_rows_start attribute_rows_start element_rows_start code_start
+unfolding contents_in rows_from number_at variable_rows_start name_rows_start attribute_rows_start
+    element_rows_start code_start
     string_rows_start name_bytes_start string_bytes_start sections_end string_in variants_from
     is_utf8 chars encode_utf8 instructions instructions_from instruction_at instruction_from
     basic_from unary_of jump_from record_from entry_from byte_from number_from signed_from item_from
@@ -201,7 +210,8 @@ jump_between = (earlier, λ h. reached_not h.0)
     earlier (rule.Unit unit_rule.Reference) h = absurd (omega arith)
 
 pub attribute_loops : BreaksFirst (slice_set loop_image 65 0x06) (rule.Unit unit_rule.Jump)
-unfolding contents_in rows_from number_at variable_rows_start name_rows_start attribute_rows_start element_rows_start code_start
+unfolding contents_in rows_from number_at variable_rows_start name_rows_start attribute_rows_start
+    element_rows_start code_start
     string_rows_start name_bytes_start string_bytes_start sections_end string_in variants_from
     is_utf8 chars encode_utf8 instructions instructions_from instruction_at instruction_from
     basic_from unary_of jump_from record_from entry_from byte_from number_from signed_from item_from
@@ -221,7 +231,8 @@ attribute_loops = (earlier, λ h. reached_not h.0)
     earlier (rule.Unit unit_rule.Reference) h = absurd (omega arith)
 
 pub pop_of_nothing : BreaksFirst (with_code 0x06 0x00 0x00 0x00 0x00) (rule.Unit unit_rule.Depth)
-unfolding contents_in rows_from number_at variable_rows_start name_rows_start attribute_rows_start element_rows_start code_start
+unfolding contents_in rows_from number_at variable_rows_start name_rows_start attribute_rows_start
+    element_rows_start code_start
     string_rows_start name_bytes_start string_bytes_start sections_end string_in variants_from
     is_utf8 chars encode_utf8 instructions instructions_from instruction_at instruction_from
     basic_from unary_of jump_from record_from entry_from byte_from number_from signed_from item_from
@@ -253,7 +264,8 @@ pop_of_nothing = (
 
 pub duplicate_of_nothing : BreaksFirst (with_code 0x07 0x00 0x00 0x00 0x00)
     (rule.Unit unit_rule.Depth)
-unfolding contents_in rows_from number_at variable_rows_start name_rows_start attribute_rows_start element_rows_start code_start
+unfolding contents_in rows_from number_at variable_rows_start name_rows_start attribute_rows_start
+    element_rows_start code_start
     string_rows_start name_bytes_start string_bytes_start sections_end string_in variants_from
     is_utf8 chars encode_utf8 instructions instructions_from instruction_at instruction_from
     basic_from unary_of jump_from record_from entry_from byte_from number_from signed_from item_from
@@ -285,7 +297,8 @@ duplicate_of_nothing = (
 
 pub variable_missing : BreaksFirst (with_code 0x02 0x00 0x00 0x06 0x00)
     (rule.Unit unit_rule.Reference)
-unfolding contents_in rows_from number_at variable_rows_start name_rows_start attribute_rows_start element_rows_start code_start
+unfolding contents_in rows_from number_at variable_rows_start name_rows_start attribute_rows_start
+    element_rows_start code_start
     string_rows_start name_bytes_start string_bytes_start sections_end string_in variants_from
     is_utf8 chars encode_utf8 instructions instructions_from instruction_at instruction_from
     basic_from unary_of jump_from record_from entry_from byte_from number_from signed_from item_from

@@ -29,7 +29,8 @@ unfolding layout header magic identification counts lengths extension
 label_layout = refl
 
 pub empty_valid : IsValid empty_image
-unfolding contents_in rows_from number_at variable_rows_start name_rows_start attribute_rows_start element_rows_start code_start
+unfolding contents_in rows_from number_at variable_rows_start name_rows_start attribute_rows_start
+    element_rows_start code_start
     string_rows_start name_bytes_start string_bytes_start sections_end string_in variants_from
     is_utf8 chars encode_utf8 instructions instructions_from instruction_at instruction_from
     basic_from unary_of jump_from record_from entry_from byte_from number_from signed_from item_from
@@ -46,7 +47,8 @@ empty_valid (rule.Unit unit_rule.Depth) = tt
 empty_valid (rule.Unit unit_rule.Reference) = (tt, refl)
 
 pub loop_valid : IsValid loop_image
-unfolding contents_in rows_from number_at variable_rows_start name_rows_start attribute_rows_start element_rows_start code_start
+unfolding contents_in rows_from number_at variable_rows_start name_rows_start attribute_rows_start
+    element_rows_start code_start
     string_rows_start name_bytes_start string_bytes_start sections_end string_in variants_from
     is_utf8 chars encode_utf8 instructions instructions_from instruction_at instruction_from
     basic_from unary_of jump_from record_from entry_from byte_from number_from signed_from item_from
@@ -74,7 +76,8 @@ loop_valid (rule.Unit unit_rule.Depth) = (
 loop_valid (rule.Unit unit_rule.Reference) = ((refl, tt), refl)
 
 pub label_valid : IsValid label_image
-unfolding contents_in rows_from number_at variable_rows_start name_rows_start attribute_rows_start element_rows_start code_start
+unfolding contents_in rows_from number_at variable_rows_start name_rows_start attribute_rows_start
+    element_rows_start code_start
     string_rows_start name_bytes_start string_bytes_start sections_end string_in variants_from
     is_utf8 chars encode_utf8 instructions instructions_from instruction_at instruction_from
     basic_from unary_of jump_from record_from entry_from byte_from number_from signed_from item_from
@@ -106,20 +109,23 @@ label_valid (rule.Unit unit_rule.Reference) = ((refl, tt), refl)
 
 pub label_read : IsReading label_image (label_of 0) (pos 0 ∷ [])
     (Records (records.Words (record { 0 = 0 }) ∷ []))
-unfolding contents_in rows_from number_at variable_rows_start name_rows_start attribute_rows_start element_rows_start code_start
+unfolding contents_in rows_from number_at variable_rows_start name_rows_start attribute_rows_start
+    element_rows_start code_start
     string_rows_start name_bytes_start string_bytes_start sections_end instruction_at
     instruction_from basic_from record_from number_from act step given_within
 label_read = (2, refl)
 
 pub handling_read : IsReading label_image (handling_of 0) (pos 0 ∷ [])
     (Records (records.Number (pos 3) ∷ []))
-unfolding contents_in rows_from number_at variable_rows_start name_rows_start attribute_rows_start element_rows_start code_start
+unfolding contents_in rows_from number_at variable_rows_start name_rows_start attribute_rows_start
+    element_rows_start code_start
     string_rows_start name_bytes_start string_bytes_start sections_end instruction_at
     instruction_from basic_from record_from number_from act step given_within
 handling_read = (2, refl)
 
 pub missing_read : IsReading label_image (label_of 1) (pos 0 ∷ []) NoItem
-unfolding contents_in rows_from number_at variable_rows_start name_rows_start attribute_rows_start element_rows_start code_start
+unfolding contents_in rows_from number_at variable_rows_start name_rows_start attribute_rows_start
+    element_rows_start code_start
     string_rows_start name_bytes_start string_bytes_start sections_end instruction_at
     instruction_from basic_from record_from number_from act step given_within
 missing_read = (2, refl)

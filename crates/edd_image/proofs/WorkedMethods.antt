@@ -97,13 +97,15 @@ body = record {
 }
 
 loop_found : reading.body_of (contents_in loop_image) first ≡ Some body
-unfolding contents_in rows_from number_at variable_rows_start name_rows_start attribute_rows_start element_rows_start code_start
+unfolding contents_in rows_from number_at variable_rows_start name_rows_start attribute_rows_start
+    element_rows_start code_start
     string_rows_start name_bytes_start string_bytes_start sections_end
 loop_found = refl
 
 loop_opens : (values : List ℤ) → reading.opening_of (contents_in loop_image) body values
     ≡ looping values
-unfolding contents_in rows_from number_at variable_rows_start name_rows_start attribute_rows_start element_rows_start code_start
+unfolding contents_in rows_from number_at variable_rows_start name_rows_start attribute_rows_start
+    element_rows_start code_start
     string_rows_start name_bytes_start string_bytes_start sections_end
 loop_opens values = refl
 
@@ -145,10 +147,18 @@ loop_agrees = record {
         (subst (λ (o : Outcome). SameOutcome (string_numbered (contents_in loop_image))
         (in_turns values answers) o)
         (sym (goes_on_so n values answers))
-        (record { requests = tt; changes = refl; values = refl; abort_methods = refl; answers = refl; ending = refl }))
+        (record {
+          requests = tt;
+          changes = refl;
+          values = refl;
+          abort_methods = refl;
+          answers = refl;
+          ending = refl;
+        }))
 
 one_method : (contents_in loop_image).counts.methods ≡ 1
-unfolding contents_in rows_from number_at variable_rows_start name_rows_start attribute_rows_start element_rows_start code_start
+unfolding contents_in rows_from number_at variable_rows_start name_rows_start attribute_rows_start
+    element_rows_start code_start
     string_rows_start name_bytes_start string_bytes_start sections_end
 one_method = refl
 
@@ -164,19 +174,22 @@ methods_agree method there =
 -- ---- an end doesn't
 
 end_found : reading.body_of (contents_in end_image) first ≡ Some body
-unfolding contents_in rows_from number_at variable_rows_start name_rows_start attribute_rows_start element_rows_start code_start
+unfolding contents_in rows_from number_at variable_rows_start name_rows_start attribute_rows_start
+    element_rows_start code_start
     string_rows_start name_bytes_start string_bytes_start sections_end
 end_found = refl
 
 ends : (execute_in (contents_in end_image) 1
     (reading.opening_of (contents_in end_image) body []) []).ending ≡ Ended
 unfolding image.execute_following step act instruction_at instruction_from basic_from
-    contents_in rows_from number_at variable_rows_start name_rows_start attribute_rows_start element_rows_start code_start
+    contents_in rows_from number_at variable_rows_start name_rows_start attribute_rows_start
+    element_rows_start code_start
     string_rows_start name_bytes_start string_bytes_start sections_end
 ends = refl
 
 one_method_ends : (contents_in end_image).counts.methods ≡ 1
-unfolding contents_in rows_from number_at variable_rows_start name_rows_start attribute_rows_start element_rows_start code_start
+unfolding contents_in rows_from number_at variable_rows_start name_rows_start attribute_rows_start
+    element_rows_start code_start
     string_rows_start name_bytes_start string_bytes_start sections_end
 one_method_ends = refl
 

@@ -150,8 +150,8 @@ pub fn readings_are_unique()
 {}
 
 /// A machine that comes along with the source agrees with it on all runs: where for every number of
-/// turns it comes to the same within that many steps or more, what one of them results in when it is
-/// over the other comes to as well.
+/// turns it comes to the same within that many steps or more, what one of them results in when it
+/// is over the other comes to as well.
 pub fn followed_runs_agree()
     ensures { (string_numbered : StrNo → Option Words) (types : List VariableType)
         (source : (turns : ℕ) → List ℤ → List Answer → Transcript) (follow : State → State)

@@ -241,9 +241,9 @@ fn put_strings(out: &mut Vec<u8>, rows: &[StringRow]) -> Result<(), AllocError>
 // The header and the rows before the code.
 fn put_front(out: &mut Vec<u8>, parts: &Parts) -> Result<(), AllocError>
     ensures bytes { let s = sections_of parts.now in
-        OnOk result (out.new.items ≡ out.old.items ++ (header s ++ (flat_map variable_row s.variables
-        ++ (flat_map name_row s.names ++ (flat_map attribute_row s.attributes
-        ++ flat_map element_row s.elements))))) }
+        OnOk result (out.new.items ≡ out.old.items ++ (header s
+        ++ (flat_map variable_row s.variables ++ (flat_map name_row s.names
+        ++ (flat_map attribute_row s.attributes ++ flat_map element_row s.elements))))) }
     ensures counts_fit { OnOk result (CountsFit parts.now.counts) }
     ensures names_fit { OnOk result (AllByRecursion NameFits parts.now.names.items) }
     ensures attributes_fit { OnOk result (AllByRecursion AttributeFits

@@ -9,7 +9,8 @@ use Rattle.edd_syntax.specs.Token.{Token, Reserved, Identifier, keywords, spelli
 use Rattle.edd_lexer.specs.Keywords.{only, of_two, of_three, of_four, of_five, of_six, of_seven, of_eight, of_nine, of_ten, of_eleven, of_twelve, of_thirteen, of_fourteen, of_fifteen, keyword_by_length}
 
 spelling_read : (k : Keyword) → keyword_by_length (spelling k) ≡ Some k
-unfolding only keyword_by_length of_two of_three of_four of_five of_six of_seven of_eight of_nine of_ten of_eleven of_twelve of_thirteen of_fourteen of_fifteen
+unfolding only keyword_by_length of_two of_three of_four of_five of_six of_seven of_eight of_nine
+    of_ten of_eleven of_twelve of_thirteen of_fourteen of_fifteen
 spelling_read keyword.Manufacturer = refl
 spelling_read keyword.DeviceType = refl
 spelling_read keyword.DeviceRevision = refl
@@ -137,7 +138,8 @@ Spelled : List ℕ → Option Keyword → Type 0
 Spelled word None = Unit {0}
 Spelled word (Some k) = word ≡ spelling k
 
-spelled_if : (word : List ℕ) (t : Bool) (x y : Option Keyword) → Spelled word x → Spelled word y → Spelled word (cond t x y)
+spelled_if : (word : List ℕ) (t : Bool) (x y : Option Keyword) → Spelled word x → Spelled word y
+    → Spelled word (cond t x y)
 spelled_if word true x y a b = a
 spelled_if word false x y a b = b
 
@@ -173,7 +175,9 @@ of_four_spelled first word =
     (spelled_if word (first == 67) _ _ (only_spelled word keyword.Case)
     (spelled_if word (first == 108) _ _ (only_spelled word keyword.Long)
     (spelled_if word (first == 101) _ _ (only_spelled word keyword.MethodElse)
-    (spelled_if word (first == 99) _ _ (spelled_if word (slice_index word 2 == 115) _ _ (only_spelled word keyword.MethodCase) (only_spelled word keyword.Char))
+    (spelled_if word (first == 99) _ _
+    (spelled_if word (slice_index word 2 == 115) _ _ (only_spelled word keyword.MethodCase)
+    (only_spelled word keyword.Char))
     (spelled_if word (first == 103) _ _ (only_spelled word keyword.Goto) tt))))))))
 
 of_five_spelled : (first : ℕ) (word : List ℕ) → Spelled word (of_five first word)
@@ -195,7 +199,9 @@ of_six_spelled first word =
     spelled_if word (first == 77) _ _ (only_spelled word keyword.Method)
     (spelled_if word (first == 78) _ _ (only_spelled word keyword.Number)
     (spelled_if word (first == 83) _ _ (only_spelled word keyword.Select)
-    (spelled_if word (first == 115) _ _ (spelled_if word (slice_index word 2 == 105) _ _ (only_spelled word keyword.Switch) (only_spelled word keyword.Signed))
+    (spelled_if word (first == 115) _ _
+    (spelled_if word (slice_index word 2 == 105) _ _ (only_spelled word keyword.Switch)
+    (only_spelled word keyword.Signed))
     (spelled_if word (first == 114) _ _ (only_spelled word keyword.Return)
     (spelled_if word (first == 100) _ _ (only_spelled word keyword.Double) tt)))))
 
@@ -211,7 +217,9 @@ of_seven_spelled first word =
 of_eight_spelled : (first : ℕ) (word : List ℕ) → Spelled word (of_eight first word)
 unfolding Spelled of_eight
 of_eight_spelled first word =
-    spelled_if word (first == 86) _ _ (spelled_if word (slice_index word 2 == 82) _ _ (only_spelled word keyword.Variable) (only_spelled word keyword.Validity))
+    spelled_if word (first == 86) _ _
+    (spelled_if word (slice_index word 2 == 82) _ _ (only_spelled word keyword.Variable)
+    (only_spelled word keyword.Validity))
     (spelled_if word (first == 72) _ _ (only_spelled word keyword.Handling)
     (spelled_if word (first == 99) _ _ (only_spelled word keyword.Continue)
     (spelled_if word (first == 117) _ _ (only_spelled word keyword.Unsigned)
@@ -221,7 +229,9 @@ of_nine_spelled : (first : ℕ) (word : List ℕ) → Spelled word (of_nine firs
 unfolding Spelled of_nine
 of_nine_spelled first word =
     spelled_if word (first == 79) _ _ (only_spelled word keyword.Operation)
-    (spelled_if word (first == 77) _ _ (spelled_if word (slice_index word 2 == 78) _ _ (only_spelled word keyword.MinValue) (only_spelled word keyword.MaxValue)) tt)
+    (spelled_if word (first == 77) _ _
+    (spelled_if word (slice_index word 2 == 78) _ _ (only_spelled word keyword.MinValue)
+    (only_spelled word keyword.MaxValue)) tt)
 
 of_ten_spelled : (first : ℕ) (word : List ℕ) → Spelled word (of_ten first word)
 unfolding Spelled of_ten
@@ -232,7 +242,9 @@ of_ten_spelled first word =
 of_eleven_spelled : (first : ℕ) (word : List ℕ) → Spelled word (of_eleven first word)
 unfolding Spelled of_eleven
 of_eleven_spelled first word =
-    spelled_if word (first == 68) _ _ (spelled_if word (slice_index word 2 == 86) _ _ (only_spelled word keyword.DeviceType) (only_spelled word keyword.DdRevision))
+    spelled_if word (first == 68) _ _
+    (spelled_if word (slice_index word 2 == 86) _ _ (only_spelled word keyword.DeviceType)
+    (only_spelled word keyword.DdRevision))
     (spelled_if word (first == 84) _ _ (only_spelled word keyword.Transaction)
     (spelled_if word (first == 69) _ _ (only_spelled word keyword.EditFormat) tt))
 
@@ -274,7 +286,8 @@ by_length_spelled word =
     (spelled_if word (length word == 12) _ _ (of_twelve_spelled (slice_index word 0) word)
     (spelled_if word (length word == 13) _ _ (of_thirteen_spelled (slice_index word 0) word)
     (spelled_if word (length word == 14) _ _ (of_fourteen_spelled (slice_index word 0) word)
-    (spelled_if word (length word == 15) _ _ (of_fifteen_spelled (slice_index word 0) word) tt)))))))))))))
+    (spelled_if word (length word == 15) _ _ (of_fifteen_spelled (slice_index word 0) word)
+    tt)))))))))))))
 
 -- each word of the table is spelled so
 AllSpelled : List (Name × Keyword) → Type 0
@@ -293,12 +306,14 @@ of_found word (Some e) = Reserved e.1
 abbrev pub Tokened : List ℕ → Token → Type 0
 Tokened word t = ((k : Keyword) × (t ≡ Reserved k) × (word ≡ spelling k)) ⊎ (t ≡ Identifier word)
 
-tokened : (word : List ℕ) (table : List (Name × Keyword)) → AllSpelled table → Tokened word (of_found word (find (λ e. bytes_eq e.0 word) table))
+tokened : (word : List ℕ) (table : List (Name × Keyword)) → AllSpelled table
+    → Tokened word (of_found word (find (λ e. bytes_eq e.0 word) table))
 unfolding AllSpelled
 tokened word [] all = inr refl
 tokened word (e ∷ table) all = go (bytes_eq e.0 word) refl (tokened word table all.1)
   where
-    go : (t : Bool) → bytes_eq e.0 word ≡ t → Tokened word (of_found word (find (λ x. bytes_eq x.0 word) table))
+    go : (t : Bool) → bytes_eq e.0 word ≡ t
+        → Tokened word (of_found word (find (λ x. bytes_eq x.0 word) table))
         → Tokened word (of_found word (cond t (Some e) (find (λ x. bytes_eq x.0 word) table)))
     go true f more = inl (e.1, refl, sym (same_bytes e.0 word f) ∙ all.0)
     go false f more = more
@@ -316,7 +331,10 @@ pub token_by_length : (word : List ℕ) → of_keyword word (keyword_by_length w
 unfolding Spelled
 token_by_length word = go (keyword_by_length word) refl (by_length_spelled word) (word_tokened word)
   where
-    go : (o : Option Keyword) → keyword_by_length word ≡ o → Spelled word o → Tokened word (word_token word) → of_keyword word o ≡ word_token word
+    go : (o : Option Keyword) → keyword_by_length word ≡ o → Spelled word o
+        → Tokened word (word_token word) → of_keyword word o ≡ word_token word
     go (Some k) e spelled table = sym (ap word_token spelled ∙ spelling_token k)
     go None e spelled (inr name) = sym name
-    go None e spelled (inl (k, token_is, same)) = absurd (let f : ◌≡◌ {A = Option Keyword} None (Some k) = sym e ∙ (ap keyword_by_length same ∙ spelling_read k) in cc)
+    go None e spelled (inl (k, token_is, same)) =
+        absurd (let f : ◌≡◌ {A = Option Keyword} None (Some k) = sym e
+        ∙ (ap keyword_by_length same ∙ spelling_read k) in cc)

@@ -4,8 +4,8 @@ use crate::lint::Lint;
 use crate::places::Mark;
 use std::alloc::{AllocError, Global};
 
-/// A token by its line, counted from 1, its text and the byte at which it begins. Without a byte it is
-/// the first token of the line with this text, without a text the first of the line.
+/// A token by its line, counted from 1, its text and the byte at which it begins. Without a byte it
+/// is the first token of the line with this text, without a text the first of the line.
 #[derive(Drop)]
 pub struct Spot {
     pub line: u32,

@@ -209,7 +209,8 @@ module _ (b : List ℕ) (array : ArrNo) (number start : ℕ)
   pub element_there : (i variable : ℕ) → i < element_count b → number < 4294967296
       → key_of (element_fields b (start + 8 * i)) ≡ s.key
       → variable ≡ fields.element_variable b (start + 8 * i)
-      → Some (record { 0 = variable }) ≡ element_variable (contents_in b).elements array (pos number)
+      → Some (record { 0 = variable })
+      ≡ element_variable (contents_in b).elements array (pos number)
   element_there i variable inside small same v =
       let its : key_of (row_at b i) ≡ element_key array.0 number =
       sym (ap key_of (at_start i)) ∙ same ∙ s.key_is in
@@ -279,7 +280,8 @@ variable_there b array number o valid e =
     (found_passes (is_sought array number) (is_element_row c.counts) c.elements rows))
 
 -- the number of rows, by where they start and where the code starts
-pub rows_counted : (b : List ℕ) (start code : ℕ) → start ≡ element_rows_start b → code ≡ code_start b
+pub rows_counted : (b : List ℕ) (start code : ℕ) → start ≡ element_rows_start b
+    → code ≡ code_start b
     → (start ≤ code) × ((code - start) / 8 ≡ element_count b)
 unfolding code_start
 rows_counted b start code s c = (omega (arith, s, c), omega (arith, s, c))

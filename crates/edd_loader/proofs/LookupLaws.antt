@@ -243,9 +243,11 @@ first_named b item name place at before other named =
 -- ---- variables by number
 
 pub variable_row_at : (b : List ℕ) (n : ℕ) → n < (counts_in b).variables
-    → slice_get (contents_in b).variables n ≡ Some (variable_fields b (variable_rows_start b + 4 * n))
+    → slice_get (contents_in b).variables n
+    ≡ Some (variable_fields b (variable_rows_start b + 4 * n))
 unfolding contents_in
-variable_row_at b n h = row_get (variable_fields b) 4 (counts_in b).variables (variable_rows_start b) n h
+variable_row_at b n h =
+    row_get (variable_fields b) 4 (counts_in b).variables (variable_rows_start b) n h
 
 variable_row_valid : (b : List ℕ) (n : ℕ) → IsValid b → n < (counts_in b).variables
     → is_variable_row (variable_fields b (variable_rows_start b + 4 * n)) ≡ true

@@ -369,16 +369,17 @@ room_left false new_agreed rest next left after u a b =
 room_left true new_agreed rest next None after u a b =
     ap (λ (p : Bool). cond p (carry after next u) None) a ∙ ap (λ (o : Option ℕ). carry o next u)
     (b a)
-room_left true new_agreed rest next (Some n) after u a b = elim (cases_Bool (nat_le (rest + n) 128)) [
-  | inl fit ↦
-      let agreed : new_agreed ≡ true = a ∙ ap (λ (p : Bool). p && true) fit in
-      ap (λ (p : Bool). cond p (carry after next u) None) agreed
-      ∙ ap (λ (o : Option ℕ). carry o next u) (b agreed)
-  | inr full ↦
-      let not_agreed : new_agreed ≡ false = a ∙ ap (λ (p : Bool). p && true) full in
-      ap (λ (p : Bool). cond p (carry after next u) None) not_agreed
-      ∙ sym (no_entry u next (rest + n) (leb-false (rest + n) 128 full))
-]
+room_left true new_agreed rest next (Some n) after u a b =
+    elim (cases_Bool (nat_le (rest + n) 128)) [
+      | inl fit ↦
+          let agreed : new_agreed ≡ true = a ∙ ap (λ (p : Bool). p && true) fit in
+          ap (λ (p : Bool). cond p (carry after next u) None) agreed
+          ∙ ap (λ (o : Option ℕ). carry o next u) (b agreed)
+      | inr full ↦
+          let not_agreed : new_agreed ≡ false = a ∙ ap (λ (p : Bool). p && true) full in
+          ap (λ (p : Bool). cond p (carry after next u) None) not_agreed
+          ∙ sym (no_entry u next (rest + n) (leb-false (rest + n) 128 full))
+    ]
 
 -- the visit of an instruction for which there are enough operands
 visited : (sort : Sort) (size depth : ℕ) (marks : List Mark) (x : Placed) → size ≡ length marks

@@ -95,9 +95,9 @@ fn key_at(bytes: &[u8], row: usize) -> u64
     whole / 281_474_976_710_656 * 281_474_976_710_656 + whole % 4_294_967_296
 }
 
-// The number of the row with this key among `count` rows, the first of which is at `start`. Where an
-// array has each number between those of two rows, the rows are as far apart as their numbers: so
-// each turn tries the row that is as far from the middle one.
+// The number of the row with this key among `count` rows, the first of which is at `start`. Where
+// an array has each number between those of two rows, the rows are as far apart as their numbers:
+// so each turn tries the row that is as far from the middle one.
 fn row_with(bytes: &[u8], start: usize, count: usize, key: u64) -> Option<usize>
     requires room { start + ELEMENT_ROW * count ≤ length bytes.now }
     requires rising { (i j : ℕ) → i < j → j < count

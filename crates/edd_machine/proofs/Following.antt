@@ -166,7 +166,8 @@ module _ (b : List ℕ) (u : CodeUnit) (values : List ℤ) (place : ℕ) (operan
     pub next_inside : next ≤ length (code_at b u)
     next_inside = (instruction_inside (code_at b u) place (i, next) there).1
 
-    module _ (o : Outcome) (left : List ℤ) (performed : PerformsWith (contents_in b).elements u.sort values operands left i next
+    module _ (o : Outcome) (left : List ℤ)
+        (performed : PerformsWith (contents_in b).elements u.sort values operands left i next
         o) where
       stepped : step (environment_of (contents_in b)) (at_place b u values place operands)
           ≡ Some (comes_to o left (at_place b u values place operands))
@@ -190,21 +191,24 @@ module _ (b : List ℕ) (u : CodeUnit) (values : List ℤ) (place : ℕ) (operan
         (stepped (GoesOn to) left performed) refl
 
     pub state_behind : (to : ℕ) (r : Record) (left : List ℤ)
-        → PerformsWith (contents_in b).elements u.sort values operands left i next (GivesRecord to r)
+        → PerformsWith (contents_in b).elements u.sort values operands left i next
+        (GivesRecord to r)
         → IsStateIn b u (at_place b u values to left)
     state_behind to r left performed = state_again b u (at_place b u values place operands) valid is
         refl (comes_to (GivesRecord to r) left (at_place b u values place operands))
         (stepped (GivesRecord to r) left performed) refl
 
     pub ahead_behind : (to : ℕ) (r : Record) (left : List ℤ)
-        → PerformsWith (contents_in b).elements u.sort values operands left i next (GivesRecord to r) → place < to
+        → PerformsWith (contents_in b).elements u.sort values operands left i next
+        (GivesRecord to r) → place < to
     ahead_behind to r left performed =
         goes_forward b u (at_place b u values place operands) valid is refl
         (is_attribute b u is.unit attribute) (i, next)
         (comes_to (GivesRecord to r) left (at_place b u values place operands)) there
         (performed (environment_of (contents_in b)) (at_place b u values place operands) refl) refl
 
-    pub ahead : (to : ℕ) (left : List ℤ) → PerformsWith (contents_in b).elements u.sort values operands left i next (GoesOn to)
+    pub ahead : (to : ℕ) (left : List ℤ)
+        → PerformsWith (contents_in b).elements u.sort values operands left i next (GoesOn to)
         → place < to
     ahead to left performed =
         goes_forward b u (at_place b u values place operands) valid is refl
@@ -212,7 +216,8 @@ module _ (b : List ℕ) (u : CodeUnit) (values : List ℤ) (place : ℕ) (operan
         (comes_to (GoesOn to) left (at_place b u values place operands)) there
         (performed (environment_of (contents_in b)) (at_place b u values place operands) refl) refl
 
-    pub ends_there : (left : List ℤ) → PerformsWith (contents_in b).elements u.sort values operands left i next Ends
+    pub ends_there : (left : List ℤ)
+        → PerformsWith (contents_in b).elements u.sort values operands left i next Ends
         → Gives (environment_of (contents_in b)) (at_place b u values place operands) (Ok [])
     ends_there left performed = given_on Ends left performed (Ok [])
         (gives_end (environment_of (contents_in b)) _ (Ok []) refl)

@@ -244,8 +244,8 @@ fn read_element(
 ) -> Outcome
     requires enough { 1 ≤ length operands.old }
     requires counted { length values.now ≡ (counts_in image.now).variables }
-    ensures { PerformsWith (contents_in image.now).elements sort values.now operands.old operands.new
-        (instructions.ReadElement array) next result }
+    ensures { PerformsWith (contents_in image.now).elements sort values.now operands.old
+        operands.new (instructions.ReadElement array) next result }
 {
     match element_value(image, sort, values, array, operands.top()) {
         Ok(value) => {
@@ -341,8 +341,8 @@ pub fn perform(
         → v.0 < length values.now }
     requires counted { length values.now ≡ (counts_in image.now).variables }
     requires fit { AllByRecursion (Fits sort) operands.old }
-    ensures { PerformsWith (contents_in image.now).elements sort values.now operands.old operands.new
-        instruction next result }
+    ensures { PerformsWith (contents_in image.now).elements sort values.now operands.old
+        operands.new instruction next result }
 {
     match instruction {
         Instruction::End => Outcome::Ends,

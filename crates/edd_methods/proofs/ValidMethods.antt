@@ -57,9 +57,12 @@ module _ (d : Description Target) (m : MethNo) (is : BodyFacts d m) (strings : L
         let there = all_there version counts slots number (body_expressions body) is.fit is.low
         (expressions_stand d m is strings few number known) in
         let fit : Fits R V code =
-        body_fits (blocks_by (method_block number)) (slots_in body) (IsThere version counts slots number) R V
-        (λ e h. h) (effect_there version counts slots number) (declares_there version counts slots number [] tt tt)
-        (declares_there version counts slots number) body is.slots (listed (IsThere version counts slots number) there) in
+        body_fits (blocks_by (method_block number)) (slots_in body)
+        (IsThere version counts slots number) R V
+        (λ e h. h) (effect_there version counts slots number)
+        (declares_there version counts slots number [] tt tt)
+        (declares_there version counts slots number) body is.slots
+        (listed (IsThere version counts slots number) there) in
         let fits = fits_weaker R V Rests Gives (λ b h. h.0) (λ b h. h.0) code fit in
         let stands : Passes (may_stand context) code =
         fits_weaker R V (λ b. all_straight (may_stand context) b ≡ true)

@@ -124,7 +124,8 @@ module _ (text : StrNo → Option Words) (env : Environment) where
     performs_default (Case label rest) n = performs_default rest n
     performs_default (Default rest) n = performs_all rest n
 
-  -- ---- whole code: from every state a test leaves one operand and any other block none, or they stop
+  -- ---- whole code: from every state a test leaves one operand and any other block none, or they
+  -- stop
 
   -- from every state the block leaves one operand or stops
   abbrev pub LeavesOne : Block → Type 0

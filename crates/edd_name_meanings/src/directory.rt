@@ -29,6 +29,6 @@ pub struct Names<'a> {
         → at q numbers ≡ look_up q (numbered_names [] (named_items items.now)) },
     pub ghost collected: { (n : ℕ) (q : Name)
         → option_and_then (λ c. found_in c q) (slice_get collections.items n)
-        ≡ option_and_then (λ i. member_in i q) (slice_get
-        (filter (λ i. same_kind (kind_of_item i.sort) kind.Collection) (named_items items.now)) n) },
+        ≡ option_and_then (λ i. member_in i q) (slice_get (filter
+        (λ i. same_kind (kind_of_item i.sort) kind.Collection) (named_items items.now)) n) },
 }

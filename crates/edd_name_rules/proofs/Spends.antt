@@ -64,7 +64,8 @@ spent_then_none left a b h = grind (arith, nat_tests)
 
 pub ruleset spends = (spent_then, spent_then_none)
 
--- ---- a loop over a slice, where the nodes of a list are those of its first element and those of the others
+-- ---- a loop over a slice, where the nodes of a list are those of its first element and those of
+-- the others
 
 module _ {X Y : Type 0} (size : List Y → ℕ) (view : X → Y) (splits : (y : Y) (ys : List Y)
     → size (y ∷ ys) ≡ size (y ∷ []) + size ys) where

@@ -35,7 +35,10 @@ fn copy_type_part(type_part: &TypePart<Path>, names: &Names) -> Result<TypePart<
 {
     match type_part {
         TypePart::DefaultValue { line, value } => {
-            made_of!(copy_cond(value, names), value => TypePart::DefaultValue { line: *line, value })
+            made_of!(
+                copy_cond(value, names),
+                value => TypePart::DefaultValue { line: *line, value }
+            )
         }
         TypePart::MinValue { line, value } => {
             made_of!(copy_cond(value, names), value => TypePart::MinValue { line: *line, value })
@@ -44,10 +47,16 @@ fn copy_type_part(type_part: &TypePart<Path>, names: &Names) -> Result<TypePart<
             made_of!(copy_cond(value, names), value => TypePart::MaxValue { line: *line, value })
         }
         TypePart::DisplayFormat { line, format } => {
-            made_of!(copy_cond(format, names), format => TypePart::DisplayFormat { line: *line, format })
+            made_of!(
+                copy_cond(format, names),
+                format => TypePart::DisplayFormat { line: *line, format }
+            )
         }
         TypePart::EditFormat { line, format } => {
-            made_of!(copy_cond(format, names), format => TypePart::EditFormat { line: *line, format })
+            made_of!(
+                copy_cond(format, names),
+                format => TypePart::EditFormat { line: *line, format }
+            )
         }
         TypePart::Element(element) => {
             made_of!(copy_cond(element, names), element => TypePart::Element(element))

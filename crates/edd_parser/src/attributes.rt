@@ -217,7 +217,8 @@ impl RowElement for TransactionPart<Path> {
 
     ghost view = { λ p. transaction_part_of path_of p };
 
-    ghost read = { λ height_left here. words.closed (reading.transaction_part_at height_left) here };
+    ghost read = { λ height_left here.
+        words.closed (reading.transaction_part_at height_left) here };
 
     ghost shortens = { lengths.closed_part_shortens };
 

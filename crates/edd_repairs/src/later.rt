@@ -1,8 +1,8 @@
 //! The faults of the items after the first fault of a text.
 //!
 //! Each item is read by itself, after an identification of one line, so that what is wrong with it
-//! says nothing of the others. Names and counts are not judged, since a broken item may declare what
-//! is used.
+//! says nothing of the others. Names and counts are not judged, since a broken item may declare
+//! what is used.
 
 use crate::found_in;
 use crate::grammar::{Grammar, TextFault};

@@ -1,5 +1,6 @@
-//! What is said of a text that has no tokens, or whose tokens spell no unit: the place of its fault,
-//! what helps, and the faults of the items after it. Proved is that all of it is safe and ends.
+//! What is said of a text that has no tokens, or whose tokens spell no unit: the place of its
+//! fault, what helps, and the faults of the items after it. Proved is that all of it is safe and
+//! ends.
 #![tactic(auto)]
 
 mod candidates;

@@ -358,7 +358,8 @@ fn start_of(tokens: &[Token], number: usize) -> Option<usize> {
     Some(token.start as usize)
 }
 
-// What is said where a token does not fit, and where it begins. Of a line alone nothing more is known.
+// What is said where a token does not fit, and where it begins. Of a line alone nothing more is
+// known.
 fn syntax<G: Grammar>(
     alloc: Global,
     text: &[u8],

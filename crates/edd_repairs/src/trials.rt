@@ -180,8 +180,8 @@ impl<'a> Misfit<'a> {
         }
     }
 
-    /// The change with which the text gets farthest, if one leads past the token after it. Of changes
-    /// that get as far it is the first one.
+    /// The change with which the text gets farthest, if one leads past the token after it. Of
+    /// changes that get as far it is the first one.
     pub fn best_change<G: Grammar>(&self, alloc: Global) -> Result<Option<Change<'a>>, AllocError> {
         let mut best = Best {
             change: None,

@@ -1,4 +1,5 @@
-//! Runs of rows whose files are damaged. Each has to end as an ordinary run does: with status 0, or with a numbered refusal.
+//! Runs of rows whose files are damaged. Each has to end as an ordinary run does: with status 0, or
+//! with a numbered refusal.
 
 use crate::damage::{Dice, damage};
 use crate::memory::{MemoryFiles, Passes};
@@ -11,7 +12,8 @@ const TIMES: u32 = 12;
 
 const ANSWERS: &str = "answer 0\nanswer 1\nanswer 0\nabort\n";
 
-/// How many damaged files were tried, how many of them were shown or run, and whether a run ended as it may not.
+/// How many damaged files were tried, how many of them were shown or run, and whether a run ended
+/// as it may not.
 #[derive(Drop)]
 pub struct Tried {
     pub files: u32,

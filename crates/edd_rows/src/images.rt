@@ -7,7 +7,8 @@ use std::alloc::{AllocError, Global};
 /// How many bytes stand on a line.
 const LINE: usize = 32;
 
-/// The bytes of the image of the file `s`, as lines of digits to the base 16; none where that is no source that is compiled.
+/// The bytes of the image of the file `s`, as lines of digits to the base 16; none where that is no
+/// source that is compiled.
 pub fn digits_of_image(alloc: Global, row: &Row<'_>) -> Result<String, Fault> {
     for file in &row.files {
         if file.name == "s" {

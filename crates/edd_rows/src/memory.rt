@@ -5,7 +5,8 @@ use std::cell::Cell;
 use std::io;
 use std::io::{Read, Write};
 
-/// How many further calls pass before one fails, whether that one has failed, and whether another was made after it.
+/// How many further calls pass before one fails, whether that one has failed, and whether another
+/// was made after it.
 #[derive(Drop)]
 pub struct Passes {
     left: Cell<u32>,

@@ -1,4 +1,5 @@
-//! A row of the table: a command line, a name, files, the status, the lines that are printed and the image that is written.
+//! A row of the table: a command line, a name, files, the status, the lines that are printed and
+//! the image that is written.
 
 use std::alloc::{AllocError, Global};
 
@@ -116,8 +117,9 @@ impl<'a> Row<'a> {
         Ok(())
     }
 
-    /// Reads a row: the words, `@name NAME`, a part `@file NAME` or `@hex NAME` for each file, which `@more TEXT`, `@times COUNT TEXT`,
-    /// `@numbered COUNT TEXT` and `@fill LENGTH` make longer, `@status N` with the printed lines, and perhaps `@image`.
+    /// Reads a row: the words, `@name NAME`, a part `@file NAME` or `@hex NAME` for each file,
+    /// which `@more TEXT`, `@times COUNT TEXT`, `@numbered COUNT TEXT` and `@fill LENGTH` make
+    /// longer, `@status N` with the printed lines, and perhaps `@image`.
     pub fn parse(alloc: Global, text: &'a str) -> Result<Row<'a>, AllocError> {
         let (words, rest) = text.split_once('\n').unwrap_or((text, ""));
         let mut row = Row::new(alloc, words);

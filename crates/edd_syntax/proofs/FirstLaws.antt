@@ -18,7 +18,8 @@ first_of-append_some (y ∷ xs) ys x is = sym is
 
 pub ruleset firsts = (first_of-append_none, first_of-append_some)
 
--- ---- a loop over a slice, where the breaches of a list are those of its first element and those of the others
+-- ---- a loop over a slice, where the breaches of a list are those of its first element and those
+-- of the others
 
 module _ {X Y A : Type 0} (breaches : List Y → List A) (view : X → Y)
     (splits : (y : Y) (ys : List Y) → breaches (y ∷ ys) ≡ breaches (y ∷ []) ++ breaches ys) where

@@ -1,4 +1,5 @@
--- A list that is sorted by a number, and in which elements of one number keep an order, is one only.
+-- A list that is sorted by a number, and in which elements of one number keep an order, is one
+-- only.
 use Rattle.std.proofs.Common.{◌≡◌, refl, sym, ap, ◌∙◌, ℕ, ◌≤◌, Bool, true, false, List, [], ◌∷◌, length, filter, nat_le, IsTrue, arith, if◌then◌else◌}
 use Rattle.std.proofs.lemmas.Grind.{common_steps}
 use Rattle.std.proofs.lemmas.Bool.{leb-true, and_parts}
@@ -75,8 +76,10 @@ module _ {X : Type 0} (n : X → ℕ) where
   numbers_alike x y xs ys above above' h =
       omega (
         arith,
-        not_below (n y) x x (y ∷ ys) (filter (tie x) xs) above' (sym (h x) ∙ kept x x xs true (tied x x refl)),
-        not_below (n x) y y (x ∷ xs) (filter (tie y) ys) above (h y ∙ kept y y ys true (tied y y refl)),
+        not_below (n y) x x (y ∷ ys) (filter (tie x) xs) above'
+            (sym (h x) ∙ kept x x xs true (tied x x refl)),
+        not_below (n x) y y (x ∷ xs) (filter (tie y) ys) above
+            (h y ∙ kept y y ys true (tied y y refl)),
       )
 
   from_own : (x : X) (xs : List X) → IsTrue (all_from (n x) xs) → IsTrue (all_from (n x) (x ∷ xs))

@@ -188,7 +188,8 @@ module _ (d : Description Target) (checked : IsChecked d) where
   pub few_transactions : IsTrue (list_all (λ i. nat_le (transaction_count i) 4096) d.items)
   few_transactions =
       let u = checked.is_resolved.unit in
-      same_transactions u d.items (items_meant d checked.is_resolved) ∙ none_over transaction_count u.items
+      same_transactions u d.items (items_meant d checked.is_resolved)
+      ∙ none_over transaction_count u.items
       (no_refusal _ _ (no_front _ _ (no_rest _ _ none_too_many)))
 
 -- the facts as they stand in a checked description

@@ -178,7 +178,8 @@ else_gives_its_branch : read_attribute own_validity the_validity (pos 0 ∷ [])
 unfolding read_attribute chosen value wrap compare
 else_gives_its_branch = refl
 
--- ---- `NUMBER 1; OPERATION READ; TRANSACTION { REQUEST { } REPLY { response_code, device_status, 254, v <0x80>, i (INDEX) } }`
+-- ---- `NUMBER 1; OPERATION READ; TRANSACTION { REQUEST { } REPLY { response_code, device_status,
+-- 254, v <0x80>, i (INDEX) } }`
 
 abbrev no_qualifiers : DataQualifiers
 no_qualifiers = record { info = false; index = false }
@@ -232,7 +233,8 @@ no_second_transaction : read_attribute replies (command attr.Reply 1) values ≡
 unfolding read_attribute
 no_second_transaction = refl
 
--- ---- `TRANSACTION 5 { REQUEST { 1 } REPLY { 2 } } TRANSACTION { REPLY { x } } RESPONSE_CODES { 0, SUCCESS, "ok"; 8, MISC_WARNING, "late" }`
+-- ---- `TRANSACTION 5 { REQUEST { 1 } REPLY { 2 } } TRANSACTION { REPLY { x } } RESPONSE_CODES { 0,
+-- SUCCESS, "ok"; 8, MISC_WARNING, "late" }`
 
 abbrev says : List ℕ → Words
 says t = Variants (record { code = english; text = t }) []
@@ -270,7 +272,8 @@ response_codes : read_attribute transactions (command attr.ResponseCodes 0) (pos
 unfolding read_attribute words_of pieces unescape
 response_codes = refl
 
--- ---- `VARIABLE s { LABEL "|en|A|de|B"; HELP "|en|A|de|C"; TYPE ENUMERATED { { 0, "Off" }, { 1, [on] } } }`
+-- ---- `VARIABLE s { LABEL "|en|A|de|B"; HELP "|en|A|de|C"; TYPE ENUMERATED { { 0, "Off" }, { 1,
+-- [on] } } }`
 
 abbrev enumerated : Description Target
 enumerated = of_items (record {

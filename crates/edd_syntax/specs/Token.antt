@@ -82,23 +82,17 @@ spelling keyword.Goto = codes "goto"
 abbrev pub all_keywords : List Keyword
 all_keywords =
     keyword.Manufacturer ∷ keyword.DeviceType ∷ keyword.DeviceRevision ∷ keyword.DdRevision
-    ∷ keyword.Variable ∷
-    keyword.Command ∷ keyword.Menu ∷ keyword.Collection ∷ keyword.Method ∷ keyword.Array ∷ keyword.Of
-    ∷ keyword.Label ∷ keyword.Help ∷
-    keyword.Class ∷ keyword.Handling ∷ keyword.ConstantUnit ∷ keyword.Validity ∷ keyword.Type
-    ∷ keyword.Number ∷
-    keyword.Operation ∷ keyword.Transaction ∷ keyword.ResponseCodes ∷ keyword.Request
-    ∷ keyword.Reply ∷ keyword.Items ∷
-    keyword.Members ∷ keyword.Definition ∷ keyword.Elements ∷ keyword.If ∷ keyword.Else ∷ keyword.Select ∷ keyword.Case
-    ∷ keyword.Default ∷
-    keyword.DefaultValue ∷ keyword.MinValue ∷ keyword.MaxValue ∷ keyword.DisplayFormat
-    ∷ keyword.EditFormat ∷ keyword.Int ∷
-    keyword.Long ∷ keyword.MethodIf ∷ keyword.MethodElse ∷ keyword.While ∷ keyword.Do ∷ keyword.For
-    ∷ keyword.Switch ∷
-    keyword.MethodCase ∷ keyword.MethodDefault ∷ keyword.Break ∷ keyword.Continue ∷ keyword.Return
-    ∷ keyword.Char ∷
-    keyword.Short ∷ keyword.Unsigned ∷ keyword.Signed ∷ keyword.Float ∷ keyword.Double
-    ∷ keyword.Goto ∷ []
+    ∷ keyword.Variable ∷ keyword.Command ∷ keyword.Menu ∷ keyword.Collection ∷ keyword.Method
+    ∷ keyword.Array ∷ keyword.Of ∷ keyword.Label ∷ keyword.Help ∷ keyword.Class ∷ keyword.Handling
+    ∷ keyword.ConstantUnit ∷ keyword.Validity ∷ keyword.Type ∷ keyword.Number ∷ keyword.Operation
+    ∷ keyword.Transaction ∷ keyword.ResponseCodes ∷ keyword.Request ∷ keyword.Reply ∷ keyword.Items
+    ∷ keyword.Members ∷ keyword.Definition ∷ keyword.Elements ∷ keyword.If ∷ keyword.Else
+    ∷ keyword.Select ∷ keyword.Case ∷ keyword.Default ∷ keyword.DefaultValue ∷ keyword.MinValue
+    ∷ keyword.MaxValue ∷ keyword.DisplayFormat ∷ keyword.EditFormat ∷ keyword.Int ∷ keyword.Long
+    ∷ keyword.MethodIf ∷ keyword.MethodElse ∷ keyword.While ∷ keyword.Do ∷ keyword.For
+    ∷ keyword.Switch ∷ keyword.MethodCase ∷ keyword.MethodDefault ∷ keyword.Break ∷ keyword.Continue
+    ∷ keyword.Return ∷ keyword.Char ∷ keyword.Short ∷ keyword.Unsigned ∷ keyword.Signed
+    ∷ keyword.Float ∷ keyword.Double ∷ keyword.Goto ∷ []
 
 abbrev pub keywords : List (Name × Keyword)
 keywords = map (λ k. (spelling k, k)) all_keywords

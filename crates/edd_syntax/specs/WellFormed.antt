@@ -1,5 +1,6 @@
 -- What the trees of a unit keep. `good` tests a reference, and `plain` a reference that has to be a
--- plain name: that of a called function, of a declared local, of an array, and of the item of a member or an element.
+-- plain name: that of a called function, of a declared local, of an array, and of the item of a
+-- member or an element.
 use Rattle.std.specs.Prelude.{ℕ, ◌^◌, Bool, true, false, not, ◌&&◌, nat_le, nat_lt, ℤ, unsigned_abs, List, [], ◌∷◌, Option, Some, None}
 use Rattle.std.specs.List.{list_all}
 use Rattle.edd_syntax.specs.declared.numbers.Kind.{Kind}

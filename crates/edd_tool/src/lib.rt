@@ -1,4 +1,5 @@
-//! The program `edd` over given words, files and output, and the call of the compiler that it makes.
+//! The program `edd` over given words, files and output, and the call of the compiler that it
+//! makes.
 #![tactic(auto)]
 
 ghost use Rattle.std.specs.Prelude.{◌≤◌};
@@ -27,12 +28,12 @@ const FILE: u8 = 3;
 
 const MEMORY: u8 = 4;
 
-/// How many bytes of lines are held back. What most commands print is one write then, so that a reader that closes early, as
-/// `head`, doesn't change how the program ends.
+/// How many bytes of lines are held back. What most commands print is one write then, so that a
+/// reader that closes early, as `head`, doesn't change how the program ends.
 const HELD_BACK: usize = 65_536;
 
-/// Runs the program `edd` on the words of its command line, the program's name first. Prints to `out`, and answers the exit
-/// status.
+/// Runs the program `edd` on the words of its command line, the program's name first. Prints to
+/// `out`, and answers the exit status.
 pub fn run<F: Files, W: Write>(alloc: Global, words: &[String], files: &mut F, out: &mut W) -> u8
     ensures { result ≤ 4 }
 {

@@ -272,7 +272,8 @@ fn print_explanation<'a, W: Write>(
     Ok(())
 }
 
-/// Does what the words of the command line ask for. All files are read before anything else is done.
+/// Does what the words of the command line ask for. All files are read before anything else is
+/// done.
 pub fn answer<'a, F: Files, W: Write>(
     alloc: Global,
     words: &'a [String],

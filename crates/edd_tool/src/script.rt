@@ -131,7 +131,8 @@ fn parse_line(alloc: Global, image: &Image<'_>, bytes: &[u8]) -> Result<Option<L
     }
 }
 
-/// What a script says: the values of all variables by their numbers, 0 where it sets none, and the answers in their order.
+/// What a script says: the values of all variables by their numbers, 0 where it sets none, and the
+/// answers in their order.
 #[derive(Drop)]
 pub struct Script {
     pub values: Vec<i64>,

@@ -819,11 +819,13 @@ pub write_value-returns-in-Parentheses-clause-sound :
     goal.write_value-returns-in-Parentheses-clause-sound
 unfolding method_block
 write_value-returns-in-Parentheses-clause-sound t c =
-    let is : (numbered_expr c.args.e.now) ≡ pure.Parentheses (numbered_expr c.deref-in-Parentheses.result.now) =
+    let is : (numbered_expr c.args.e.now)
+    ≡ pure.Parentheses (numbered_expr c.deref-in-Parentheses.result.now) =
     grind (arith, common_steps) in
     carried c.write_value-in-Parentheses.result
     (expression_part (numbered_expr c.args.e.now)
-    (pure.Parentheses (numbered_expr c.deref-in-Parentheses.result.now)) is) c.write_value-in-Parentheses.ensures.sound
+    (pure.Parentheses (numbered_expr c.deref-in-Parentheses.result.now)) is)
+    c.write_value-in-Parentheses.ensures.sound
 
 pub write_value-returns-in-Binary-clause-sound : goal.write_value-returns-in-Binary-clause-sound
 unfolding method_block

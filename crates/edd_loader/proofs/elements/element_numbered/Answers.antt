@@ -39,7 +39,9 @@ returns-in_err-found c =
     let counted = (rows_counted c.args.bytes.now _ _
     (ap (λ (s : Starts). s.element_rows) c.requires.starts)
     (ap (λ (s : Starts). s.code) c.requires.starts)).1 in
-    c.from_residual.ensures ∙ sym (element_missing c.args.bytes.now c.args.array c.args.number c.args.starts.element_rows
+    c.from_residual.ensures
+    ∙ sym (element_missing c.args.bytes.now c.args.array c.args.number
+    c.args.starts.element_rows
     (record {
       valid = c.requires.valid;
       are = record { below = λ i. (c.type_inv.bytes i).fits };

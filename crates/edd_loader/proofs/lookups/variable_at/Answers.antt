@@ -34,7 +34,8 @@ returns-in_err-var_type-clause-exists c =
 
 pub returns-clause-row : goal.returns-clause-row
 returns-clause-row c = kind_is _ _ _ _ _ _ c.requires (omega (arith, c.variable_count.ensures))
-    c.variable_rows_start.ensures.start c.variable_type.ensures (sym c.type_of.ensures ∙ c.in_ok-var_type.was)
+    c.variable_rows_start.ensures.start c.variable_type.ensures (sym c.type_of.ensures
+    ∙ c.in_ok-var_type.was)
     c.variable_size-size.ensures
 
 pub returns-then-number-variable_count-clause-sound :

@@ -17,7 +17,8 @@ returns-in-Duplicate c =
     λ env s same. rw c.in-Duplicate.is (c.duplicate.ensures c.args.sort c.args.values.now env s)
 
 pub returns-in-Operate : goal.returns-in-Operate
-returns-in-Operate c = λ env s same. rw c.in-Operate.is (c.operate_two.ensures c.args.values.now env s)
+returns-in-Operate c =
+    λ env s same. rw c.in-Operate.is (c.operate_two.ensures c.args.values.now env s)
 
 pub returns-in-Compare : goal.returns-in-Compare
 returns-in-Compare c = λ env s same. rw c.in-Compare.is
@@ -27,11 +28,13 @@ pub returns-in-Negate : goal.returns-in-Negate
 returns-in-Negate c = λ env s same. rw c.in-Negate.is (c.negate_top.ensures c.args.values.now env s)
 
 pub returns-in-Not : goal.returns-in-Not
-returns-in-Not c = λ env s same. rw c.in-Not.is (c.not_top.ensures c.args.sort c.args.values.now env s)
+returns-in-Not c =
+    λ env s same. rw c.in-Not.is (c.not_top.ensures c.args.sort c.args.values.now env s)
 
 pub returns-in-Complement : goal.returns-in-Complement
 returns-in-Complement c =
-    λ env s same. rw c.in-Complement.is (c.complement_top.ensures c.args.sort c.args.values.now env s)
+    λ env s same. rw c.in-Complement.is
+    (c.complement_top.ensures c.args.sort c.args.values.now env s)
 
 pub returns-in-JumpIfZero : goal.returns-in-JumpIfZero
 returns-in-JumpIfZero c =

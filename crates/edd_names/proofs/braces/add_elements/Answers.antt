@@ -15,7 +15,8 @@ use Rattle.edd_expression_names.proofs.UseLaws.{no_use}
 use Rattle.edd_names.proofs.braces.add_elements.Goals as goal
 
 pub loop-element-init : goal.loop-element-init
-loop-element-init c = at_start (description_of c.args.names.now) (array_element_of path_of) numbered_array_element
+loop-element-init c =
+    at_start (description_of c.args.names.now) (array_element_of path_of) numbered_array_element
     (flat_map element_uses) (flat_split element_uses)
     (resolved_element (description_of c.args.names.now))
     (each (resolved_element (description_of c.args.names.now))) (λ ws. ws)

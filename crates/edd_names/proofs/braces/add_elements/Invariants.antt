@@ -11,7 +11,8 @@ use Rattle.edd_names.proofs.braces.add_elements.Given as goal
 
 -- those so far are copied
 abbrev pub invariant-loop-element : goal.invariant-loop-element
-invariant-loop-element l = Copied (description_of l.fn.names) (array_element_of path_of) numbered_array_element
+invariant-loop-element l =
+    Copied (description_of l.fn.names) (array_element_of path_of) numbered_array_element
     (flat_map element_uses) (flat_split element_uses)
     (resolved_element (description_of l.fn.names))
     (each (resolved_element (description_of l.fn.names))) (λ ws. ws)

@@ -60,7 +60,8 @@ check_statement-returns-in_err-check_expression-in-If t c =
 pub check_statement-returns-in_err-check_expression-in-IfElse :
     goal.check_statement-returns-in_err-check_expression-in-IfElse
 check_statement-returns-in_err-check_expression-in-IfElse t c =
-    found_err (refusal_of c.args.breach) _ c.from_residual-in_err-check_expression-in-IfElse.ensures.0
+    found_err (refusal_of c.args.breach) _
+    c.from_residual-in_err-check_expression-in-IfElse.ensures.0
     ∙ sym (first_of-append_some (in_part c.args.breach (numbered_expr c.in-IfElse.condition)) _
     (refusal_of c.args.breach) c.in_err-check_expression-in-IfElse.ensures)
     ∙ ap first_of (sym (ap (in_statement c.args.breach)
@@ -69,7 +70,8 @@ check_statement-returns-in_err-check_expression-in-IfElse t c =
 pub check_statement-returns-in_err-check_expression-in-While :
     goal.check_statement-returns-in_err-check_expression-in-While
 check_statement-returns-in_err-check_expression-in-While t c =
-    found_err (refusal_of c.args.breach) _ c.from_residual-in_err-check_expression-in-While.ensures.0
+    found_err (refusal_of c.args.breach) _
+    c.from_residual-in_err-check_expression-in-While.ensures.0
     ∙ sym (first_of-append_some (in_part c.args.breach (numbered_expr c.in-While.condition)) _
     (refusal_of c.args.breach) c.in_err-check_expression-in-While.ensures)
     ∙ ap first_of (sym (ap (in_statement c.args.breach)
@@ -78,7 +80,8 @@ check_statement-returns-in_err-check_expression-in-While t c =
 pub check_statement-returns-in_err-check_expression-in-Switch :
     goal.check_statement-returns-in_err-check_expression-in-Switch
 check_statement-returns-in_err-check_expression-in-Switch t c =
-    found_err (refusal_of c.args.breach) _ c.from_residual-in_err-check_expression-in-Switch.ensures.0
+    found_err (refusal_of c.args.breach) _
+    c.from_residual-in_err-check_expression-in-Switch.ensures.0
     ∙ sym (first_of-append_some (in_part c.args.breach (numbered_expr c.in-Switch.on)) _
     (refusal_of c.args.breach) c.in_err-check_expression-in-Switch.ensures)
     ∙ ap first_of (sym (ap (in_statement c.args.breach)
