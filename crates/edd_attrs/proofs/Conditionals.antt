@@ -1,5 +1,5 @@
 -- The code of conditionals, put together from that of their parts.
-use Rattle.std.proofs.Common.{◌≡◌, refl, sym, ap, subst, ◌∙◌, ℕ, ◌+◌, List, ◌∷◌, ◌++◌, length, arith, ◌≤◌, length-append}
+use Rattle.std.proofs.Common.{◌≡◌, refl, sym, ap, subst, ◌∙◌, ℕ, ◌+◌, List, ◌++◌, length, arith, ◌≤◌, length-append}
 use Rattle.std.specs.Prelude.{Option, Some, None}
 use Rattle.std.proofs.lemmas.Grind.{flat_map-append}
 use Rattle.edd_syntax.specs.declared.numbers.StrNo.{StrNo}

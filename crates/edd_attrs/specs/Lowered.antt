@@ -1,9 +1,8 @@
 -- What lowering an attribute results in.
-use Rattle.std.specs.Prelude.{◌≡◌, ℕ, List, ◌++◌, length, Option}
-use Rattle.edd_syntax.specs.declared.numbers.StrNo.{StrNo}
+use Rattle.std.specs.Prelude.{◌≡◌, ℕ, List, ◌++◌, Option}
 use Rattle.edd_syntax.specs.Words.{Words}
 use Rattle.edd_image.specs.Agreement.{string_of_table}
-use Rattle.edd_code.specs.Blocks.{Block, bytes_at, unit_code}
+use Rattle.edd_code.specs.Blocks.{Block, unit_code}
 use Rattle.edd_code.specs.Tables.{GrowsBy, Overflows}
 use Rattle.edd_attrs.specs.Sizes.{strings_of_tree}
 use Rattle.edd_attrs.specs.Trees.{Tree}

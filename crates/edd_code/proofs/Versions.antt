@@ -1,6 +1,6 @@
 -- In the version of an image an element may be read where there is an array, and in the second
 -- version an abort method may be listed.
-use Rattle.std.proofs.Common.{◌≡◌, refl, ap, ◌∙◌, ℕ, ◌-◌, Bool, true, arith}
+use Rattle.std.proofs.Common.{◌≡◌, refl, ap, ℕ, ◌-◌, Bool, true, arith}
 use Rattle.std.specs.Prelude.{◌&&◌, nat_lt, if◌then◌else◌}
 use Rattle.std.proofs.lemmas.Bool.{and_parts, and_from, lt-ltb, ltb-true, or_left}
 use Rattle.std.specs.List.{list_any}

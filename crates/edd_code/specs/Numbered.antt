@@ -1,5 +1,5 @@
 -- The numbers of the texts in an expression of a method.
-use Rattle.std.specs.Prelude.{◌≡◌, [], Option, Some}
+use Rattle.std.specs.Prelude.{◌≡◌, Option, Some}
 use Rattle.std.specs.List.{AllByRecursion}
 use Rattle.edd_syntax.specs.declared.numbers.StrNo.{StrNo}
 use Rattle.edd_syntax.specs.declared.reference.Target.{Target}

@@ -13,7 +13,6 @@ use Rattle.edd_syntax.specs.declared.reference.Target.{Target}
 use Rattle.edd_syntax.specs.declared.reference.Target.TheVariants.{Local, Item, Function}
 use Rattle.edd_syntax.specs.Execution.{body_of}
 use Rattle.edd_syntax.specs.Item.{Description}
-use Rattle.edd_syntax.specs.NameRules.{item_limit}
 use Rattle.edd_syntax.specs.Resolution.{count_of}
 use Rattle.edd_syntax.specs.Resolved.{IsChecked}
 use Rattle.edd_syntax.specs.Size.{height_limit}

@@ -1,5 +1,5 @@
 -- A method's body has no more nodes than its description, which has few when it is checked.
-use Rattle.std.proofs.Common.{◌≡◌, refl, sym, ap, ◌∙◌, ℕ, ◌+◌, ◌≤◌, List, [], ◌∷◌, ◌++◌, map, arith}
+use Rattle.std.proofs.Common.{ℕ, ◌≤◌, List, [], ◌∷◌, ◌++◌, map, arith}
 use Rattle.std.specs.Prelude.{sum}
 use Rattle.std.specs.List.{AllByRecursion, flat_map}
 use Rattle.std.proofs.lemmas.List.Sums.{sum_by-cons}
@@ -9,9 +9,8 @@ use Rattle.edd_syntax.specs.Execution.{body_of}
 use Rattle.edd_syntax.specs.Item as item
 use Rattle.edd_syntax.specs.Item.{Attribute, Item, Description}
 use Rattle.edd_syntax.specs.Resolved.{IsChecked}
-use Rattle.edd_syntax.specs.Size.{attribute_nodes, body_nodes, item_nodes, unit_nodes}
+use Rattle.edd_syntax.specs.Size.{attribute_nodes, body_nodes, item_nodes}
 use Rattle.edd_syntax.specs.Statement.{Body}
-use Rattle.edd_syntax.specs.SubsetRules.{attributes_of}
 use Rattle.edd_code.proofs.FewNodes.{few_nodes}
 use Rattle.edd_methods.proofs.CheckedBodies.{OfBody, of_method}
 

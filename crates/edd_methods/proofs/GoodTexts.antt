@@ -1,5 +1,5 @@
 -- In the texts of expressions that keep the rules of trees each backslash begins an escape.
-use Rattle.std.proofs.Common.{◌≡◌, refl, Bool, true, false, List, [], ◌∷◌, ◌++◌}
+use Rattle.std.proofs.Common.{◌≡◌, refl, Bool, true, List, [], ◌∷◌, ◌++◌}
 use Rattle.std.specs.Prelude.{◌&&◌}
 use Rattle.std.specs.List.{AllByRecursion, flat_map, list_all}
 use Rattle.edd_syntax.specs.Expression as expr

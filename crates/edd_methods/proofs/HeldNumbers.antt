@@ -1,5 +1,5 @@
 -- The texts of a body have their numbers in a table that holds them.
-use Rattle.std.proofs.Common.{◌≡◌, refl, sym, ap, ◌∙◌, ℕ, zero, suc, ◌+◌, ◌<◌, Bool, true, false, cond, List, [], ◌∷◌, ◌++◌, length, map, Some, arith}
+use Rattle.std.proofs.Common.{◌≡◌, refl, ap, zero, suc, Bool, true, false, cond, List, [], ◌∷◌, Some, arith}
 use Rattle.std.specs.List.{AllByRecursion, Contains, flat_map, slice_get}
 use Rattle.edd_syntax.specs.declared.reference.Target.{Target}
 use Rattle.edd_syntax.specs.Strings.{expr_texts, same_words, strings_of_texts}

@@ -1,8 +1,7 @@
 -- What was lowered of a method of a checked description is the method's code.
-use Rattle.std.proofs.Common.{◌≡◌, refl, sym, ap, subst, ◌∙◌, ℕ, ◌+◌, ◌*◌, ◌^◌, ◌<◌, ◌≤◌, ◌⊎◌, inl, inr, true, List, [], ◌++◌, length, Option, Some, None, arith, length-append}
+use Rattle.std.proofs.Common.{◌≡◌, refl, sym, ap, subst, ◌∙◌, ℕ, ◌+◌, ◌*◌, ◌<◌, ◌≤◌, ◌⊎◌, inl, inr, true, List, [], ◌++◌, length, Option, Some, None, arith, length-append}
 use Rattle.std.specs.Prelude.{◌↔◌, IsErrOf, option_map, slice_get, Result, Ok, Err}
 use Rattle.std.specs.List.{AllByRecursion, Contains, list_all}
-use Rattle.std.proofs.lemmas.List.{append-nil}
 use Rattle.std.proofs.lemmas.List.Elements.{Contains-append_left, Contains-append_cases}
 use Rattle.std.proofs.lemmas.Option.{slice_get-map}
 use Rattle.edd_syntax.specs.declared.numbers.Kind.TheVariants as kinds
@@ -15,7 +14,7 @@ use Rattle.edd_syntax.specs.Resolved.{IsChecked}
 use Rattle.edd_syntax.specs.Rows.{of_kind}
 use Rattle.edd_syntax.specs.Size.{body_nodes}
 use Rattle.edd_syntax.specs.Statement.{Body, Nil, slots_in}
-use Rattle.edd_syntax.specs.Strings.{different, strings_of_texts}
+use Rattle.edd_syntax.specs.Strings.{different}
 use Rattle.edd_syntax.specs.SubsetRules.{body_expressions}
 use Rattle.edd_syntax.specs.WellFormed.{is_text}
 use Rattle.edd_syntax.specs.Words.{Words}

@@ -1,5 +1,5 @@
 -- The numbers of an array's elements, one element after another.
-use Rattle.std.proofs.Common.{◌≡◌, ℕ, List, [], ◌∷◌, ◌++◌, refl}
+use Rattle.std.proofs.Common.{◌≡◌, ℕ, List, ◌∷◌, ◌++◌, refl}
 use Rattle.edd_syntax.specs.declared.reference.Target.{Target}
 use Rattle.edd_syntax.specs.Item.{ArrayElement}
 use Rattle.edd_syntax.specs.SubsetRules.{is_number_in, repeated_numbers}

@@ -1,8 +1,5 @@
 use Rattle.std.proofs.Common.{◌≡◌, map}
 use Rattle.edd_syntax.specs.ItemView.{numbered_attribute}
-use Rattle.edd_syntax.specs.Statement.{body_from}
-use Rattle.edd_syntax.specs.TreeView.{part_of}
-use Rattle.std.specs.Borrow.{Bor}
 use Rattle.edd_syntax.specs.Execution.{body_in}
 use Rattle.std.proofs.Common.{drop}
 use Rattle.edd_methods.proofs.method.body_among.Given as goal

@@ -1,17 +1,17 @@
-use Rattle.std.proofs.Common.{◌≡◌, sym, ap, subst, ◌∙◌, ◌≤◌, ◌<◌, List, ◌++◌, length, map, ℕ}
+use Rattle.std.proofs.Common.{◌≡◌, sym, ap, subst, ◌∙◌, ◌≤◌, ◌++◌, map, ℕ}
 use Rattle.std.specs.Prelude.{IsTrue}
 use Rattle.std.specs.List.{list_all}
 use Rattle.edd_syntax.specs.declared.reference.Target.{Target}
 use Rattle.edd_syntax.specs.Execution.{body_of}
 use Rattle.edd_syntax.specs.Statement.{Body, body_from, slots_in}
-use Rattle.edd_syntax.specs.Strings.{different, strings_of_texts}
+use Rattle.edd_syntax.specs.Strings.{strings_of_texts}
 use Rattle.edd_syntax.specs.TreeView.{numbered_part}
 use Rattle.edd_syntax.specs.WellFormed.{is_text}
 use Rattle.edd_image.specs.MethodAgreement.{IsMethodCode}
 use Rattle.edd_code.specs.declared.fault.LowerFault.TheVariants.{TooMany}
 use Rattle.edd_code.specs.Tables.{Overflows}
 use Rattle.edd_code.specs.Units.{description_of}
-use Rattle.edd_methods.specs.LoweredMethods.{LowersBody, found_body, strings_of_method}
+use Rattle.edd_methods.specs.LoweredMethods.{LowersBody, found_body}
 use Rattle.edd_methods.specs.Writing.{body_texts}
 use Rattle.edd_methods.proofs.LoweredMethods.{body_is_found, fault_again, few_slots, lowered_is_code, lowered_is_short, lowered_strings, overflowing, texts_when_checked}
 use Rattle.edd_methods.proofs.method.lower_found.Goals as goal

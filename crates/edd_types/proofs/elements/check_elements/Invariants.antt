@@ -1,4 +1,4 @@
-use Rattle.std.proofs.Common.{◌≡◌, ℕ, List, [], ◌∷◌, map}
+use Rattle.std.proofs.Common.{◌≡◌, ℕ, List, [], map}
 use Rattle.edd_syntax.specs.ItemView.{numbered_array_element}
 use Rattle.edd_syntax.specs.SubsetRules.{repeated_numbers}
 use Rattle.edd_syntax.specs.Refusal.{first_of}

@@ -1,4 +1,4 @@
-use Rattle.std.proofs.Common.{subst, arith, ap, ◌∙◌, List, ◌++◌, Option}
+use Rattle.std.proofs.Common.{arith, ap, ◌∙◌, List, ◌++◌, Option}
 use Rattle.std.specs.Prelude.{option_map}
 use Rattle.std.specs.Option.{option_to_list}
 use Rattle.std.proofs.lemmas.Grind.{common_steps}
@@ -10,7 +10,7 @@ use Rattle.edd_syntax.specs.WordsView.{text_of}
 use Rattle.edd_image.specs.declared.instruction.Instruction.TheVariants as instruction
 use Rattle.edd_image.specs.Spelling.{spelling}
 use Rattle.edd_code.specs.Tables.{Overflows}
-use Rattle.edd_code.proofs.Growing.{grows_on, overflows_first, overflows_second}
+use Rattle.edd_code.proofs.Growing.{overflows_first, overflows_second}
 use Rattle.edd_attrs.proofs.Written.{array_element_written}
 use Rattle.edd_attrs.proofs.elements.ArrayElementTargetElement.write.Goals as goal
 
