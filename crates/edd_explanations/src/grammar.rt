@@ -6,7 +6,7 @@ pub const EXPLANATIONS: [Explanation; 3] = [
     Explanation {
         number: 10,
         name: "SYNTAX",
-        text: r#"What stands at the line fits nothing that may stand there. It is often the end of
+        text: r#"What is at the line fits nothing that may be there. It is often the end of
 something before it that is missing: a semicolon, a brace, a quote. At the end of the text
 the line is the last. An element of an array is only read: nothing is stored to it, and no
 menu entry and no message has one.

@@ -72,7 +72,7 @@ Right:
     Explanation {
         number: 6,
         name: "BAD_ESCAPE",
-        text: r#"In a string stands a backslash with something after it that makes no escape. The line is
+        text: r#"A string contains a backslash with something after it that makes no escape. The line is
 that where the string begins. The escapes are \" \\ \n \t and \|.
 
 Wrong:
