@@ -23,7 +23,7 @@ Right:
     Explanation {
         number: 11,
         name: "TOO_DEEP",
-        text: r#"More than 100 levels stand inside one another at the line: parentheses, operators,
+        text: r#"More than 100 levels are inside one another at the line: parentheses, operators,
 statements, IF and SELECT. A chain of operators that group to the left has a level for
 each.
 

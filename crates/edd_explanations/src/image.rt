@@ -52,8 +52,8 @@ Or a zero of the header is not zero.
     Explanation {
         number: 108,
         name: "INSTRUCTION",
-        text: r#"The code of an attribute or a method is not a row of whole instructions that may stand in
-it. Those of arrays and of abort methods may stand in version 2 alone.
+        text: r#"The code of an attribute or a method is not a row of whole instructions that may be in
+it. Those of arrays and of abort methods may be in version 2 alone.
 "#,
     },
     Explanation {

@@ -39,7 +39,7 @@ Right:
     Explanation {
         number: 22,
         name: "WRONG_KIND",
-        text: r#"What has this name may not stand there: an expression, a data item and an element of an
+        text: r#"What has this name may not be there: an expression, a data item and an element of an
 array want a variable, a member an item of the kind after OF, a menu entry anything but a
 command and an array, add_abort_method a method. A point may follow only a collection, and
 an index in brackets only an array, which a local of its name hides.
@@ -59,7 +59,7 @@ Right:
         number: 23,
         name: "DUPLICATE_ATTRIBUTE",
         text: r#"An item, a transaction or the braces of a type have this attribute twice. Only TRANSACTION
-may stand more than once.
+may be there more than once.
 
 Wrong:
 
@@ -133,7 +133,7 @@ Right:
     Explanation {
         number: 33,
         name: "MISMATCH",
-        text: r#"At the line something stands that does not fit its place: arguments that the function does
+        text: r#"At the line is something that does not fit its place: arguments that the function does
 not take, as an element of an array for a variable of the device, abort inside an
 expression, an enumerator in INTEGER or UNSIGNED_INTEGER, MIN_VALUE or another option but
 DEFAULT_VALUE in an enumerated type.
@@ -150,7 +150,7 @@ Right:
     Explanation {
         number: 34,
         name: "FLOAT_VALUE",
-        text: r#"A decimal stands in an expression. This profile is in integers.
+        text: r#"A decimal is in an expression. This profile is in integers.
 
 Wrong:
 
@@ -164,7 +164,7 @@ Right:
     Explanation {
         number: 35,
         name: "BREAK_OUTSIDE",
-        text: r#"A break stands outside all loops and switches, or a continue outside all loops.
+        text: r#"A break is outside all loops and switches, or a continue outside all loops.
 
 Wrong:
 

@@ -23,7 +23,7 @@ what is not used, or divide the device's description.
     Explanation {
         number: 3,
         name: "BAD_CHARACTER",
-        text: r#"A character stands where no token begins with it: a letter past ASCII outside strings and
+        text: r#"A character is where no token begins with it: a letter past ASCII outside strings and
 comments, a control character, @, $, ' or a backslash, a # that is not the first sign of
 its line, or a word of more than 255 bytes.
 
@@ -105,7 +105,7 @@ Right:
         name: "DIRECTIVE",
         text: r#"A line begins with a directive of a preprocessor. The source is one text that was
 preprocessed before: of all directives only the marks that a preprocessor leaves behind
-may stand in it, as # 12 "file" and #line 12.
+may be in it, as # 12 "file" and #line 12.
 
 Wrong:
 
