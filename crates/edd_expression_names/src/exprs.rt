@@ -14,8 +14,8 @@ ghost use Rattle.edd_expression_names.specs.ResolvedParts.{resolved_argument};
 ghost use Rattle.edd_name_meanings.specs.Meanings.{Means, scope_of};
 ghost use Rattle.edd_expression_names.specs.Copies.{Accepts, Copies, Refuses};
 
-use crate::made_of;
 use crate::texts::copy_text;
+use crate::{both_of, made_of};
 use edd_name_meanings::directory::Names;
 use edd_name_meanings::fault::NameFault;
 use edd_name_meanings::references::{Local, argument_kinds, refer, refer_array, refer_function};
@@ -74,10 +74,7 @@ fn copy_among(
             made_of!(refer(names, scope, kinds, from), from => Expr::Reference(from))
         }
         Expr::Indexed(array, index) => {
-            made_of!(
-                copy_indexed(index, array, names, scope),
-                (array, index) => Expr::Indexed(array, index)
-            )
+            both_of!(copy_indexed(index, array, names, scope), Expr::Indexed)
         }
         Expr::Parentheses(inner) => {
             made_of!(copy_boxed(inner, names, scope), inner => Expr::Parentheses(inner))
@@ -85,44 +82,20 @@ fn copy_among(
         Expr::Unary(op, operand) => {
             made_of!(copy_boxed(operand, names, scope), operand => Expr::Unary(*op, operand))
         }
-        Expr::Binary(op, left, right) => {
-            made_of!(
-                copy_pair(left, right, names, scope),
-                (left, right) => Expr::Binary(*op, left, right)
-            )
-        }
-        Expr::Compare(by, left, right) => {
-            made_of!(
-                copy_pair(left, right, names, scope),
-                (left, right) => Expr::Compare(*by, left, right)
-            )
-        }
-        Expr::LogicalAnd(left, right) => {
-            made_of!(
-                copy_pair(left, right, names, scope),
-                (left, right) => Expr::LogicalAnd(left, right)
-            )
-        }
-        Expr::LogicalOr(left, right) => {
-            made_of!(
-                copy_pair(left, right, names, scope),
-                (left, right) => Expr::LogicalOr(left, right)
-            )
-        }
-        Expr::Conditional(test, first, second) => {
+        Expr::Binary(op, a, b) => both_of!(copy_pair(a, b, names, scope), Expr::Binary, *op),
+        Expr::Compare(by, a, b) => both_of!(copy_pair(a, b, names, scope), Expr::Compare, *by),
+        Expr::LogicalAnd(a, b) => both_of!(copy_pair(a, b, names, scope), Expr::LogicalAnd),
+        Expr::LogicalOr(a, b) => both_of!(copy_pair(a, b, names, scope), Expr::LogicalOr),
+        Expr::Conditional(test, a, b) => {
             let test = copy_boxed(test, names, scope)?;
-            made_of!(
-                copy_pair(first, second, names, scope),
-                (first, second) => Expr::Conditional(test, first, second)
-            )
+            both_of!(copy_pair(a, b, names, scope), Expr::Conditional, test)
         }
-        Expr::Assign(to, value) => {
-            made_of!(copy_assigned(value, to, names, scope), (to, value) => Expr::Assign(to, value))
-        }
+        Expr::Assign(to, value) => both_of!(copy_assigned(value, to, names, scope), Expr::Assign),
         Expr::CompoundAssign(op, to, value) => {
-            made_of!(
+            both_of!(
                 copy_assigned(value, to, names, scope),
-                (to, value) => Expr::CompoundAssign(*op, to, value)
+                Expr::CompoundAssign,
+                *op
             )
         }
         Expr::Increment(by, to) => {

@@ -11,3 +11,15 @@ macro_rules! made_of {
         }
     };
 }
+
+/// The variant whose last two parts are those of a copy, or the fault in its place. What it has
+/// before them is given after its name.
+#[macro_export]
+macro_rules! both_of {
+    ($copy:expr, $variant:path $(, $before:expr)*) => {
+        match $copy {
+            Ok((first, second)) => Ok($variant($($before,)* first, second)),
+            Err(fault) => Err(fault),
+        }
+    };
+}

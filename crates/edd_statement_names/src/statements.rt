@@ -15,7 +15,7 @@ ghost use Rattle.edd_expression_names.specs.Copies.{Accepts, Copies, Refuses};
 
 use crate::declarators::{add_declarators, copy_optional};
 use edd_expression_names::exprs::copy_expr;
-use edd_expression_names::made_of;
+use edd_expression_names::{both_of, made_of};
 use edd_name_meanings::directory::Names;
 use edd_name_meanings::fault::NameFault;
 use edd_name_meanings::references::Local;
@@ -55,30 +55,17 @@ fn copy_stmt<'a>(
         Stmt::Empty => Ok(Stmt::Empty),
         Stmt::Evaluate(e) => made_of!(copy_expr(e, names, scope), e => Stmt::Evaluate(e)),
         Stmt::Block(parts) => Ok(Stmt::Block(copy_body(parts, names, scope, next)?)),
-        Stmt::If(condition, first) => {
-            made_of!(
-                copy_guarded(condition, first, names, scope, next),
-                (condition, first) => Stmt::If(condition, first)
-            )
-        }
+        Stmt::If(test, body) => both_of!(copy_guarded(test, body, names, scope, next), Stmt::If),
         Stmt::IfElse(condition, first, otherwise) => {
             made_of!(
                 copy_choice(condition, first, otherwise, names, scope, next),
                 (condition, first, otherwise) => Stmt::IfElse(condition, first, otherwise)
             )
         }
-        Stmt::While(condition, body) => {
-            made_of!(
-                copy_guarded(condition, body, names, scope, next),
-                (condition, body) => Stmt::While(condition, body)
-            )
+        Stmt::While(test, body) => {
+            both_of!(copy_guarded(test, body, names, scope, next), Stmt::While)
         }
-        Stmt::Do(body, condition) => {
-            made_of!(
-                copy_repeated(body, condition, names, scope, next),
-                (body, condition) => Stmt::Do(body, condition)
-            )
-        }
+        Stmt::Do(body, test) => both_of!(copy_repeated(body, test, names, scope, next), Stmt::Do),
         Stmt::For {
             initial,
             condition,
