@@ -1,4 +1,4 @@
-//! The pages of a dump: a whole image, or what stands before a fault.
+//! The pages of a dump: a whole image, or what comes before a fault.
 
 use crate::elements::print_elements;
 use crate::faults::print_spot;
@@ -27,7 +27,7 @@ pub fn print_whole<W: Write>(alloc: Global, bytes: &[u8], out: &mut W) -> Result
     print_units(alloc, &sections, out)
 }
 
-/// Prints what stands before the fault of bytes that are no image, and where that is.
+/// Prints what comes before the fault of bytes that are no image, and where that is.
 pub fn print_refused<W: Write>(
     alloc: Global,
     bytes: &[u8],

@@ -1,4 +1,4 @@
-//! Where the fault of bytes is that are no image.
+//! Where bytes that are no image have their fault.
 
 use crate::broken_rows::broken_row;
 use crate::broken_strings::{broken_name, broken_string};

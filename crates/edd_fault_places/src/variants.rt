@@ -20,7 +20,7 @@ fn front(bytes: &[u8], size: usize) -> Option<(&[u8], &[u8])>
     Some(bytes.split_at(size))
 }
 
-/// The variant at the front of the bytes, where a readable one stands there.
+/// The variant at the front of the bytes, where there is a readable one.
 pub fn first_variant(bytes: &[u8]) -> Option<Variant<'_>> {
     let (code_size, rest) = front(bytes, 1)?;
     let (code, rest) = front(rest, usize::from(*code_size.first()?))?;
