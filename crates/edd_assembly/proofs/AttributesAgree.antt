@@ -35,7 +35,7 @@ use Rattle.edd_image.specs.Agreement.{machine_of, SameReading, SameRun, IsAttrib
 use Rattle.edd_assembly.specs.Assembly.{Lowered, assembled}
 use Rattle.edd_assembly.specs.LoweredUnits.{IsBodyCode, IsUnitOf, AreUnitsOf}
 use Rattle.edd_assembly.proofs.Cutting.{code_of, code_cut}
-use Rattle.edd_assembly.proofs.KnownByNumber.{same_kinds}
+use Rattle.edd_syntax.proofs.KnownByNumber.{same_kinds}
 use Rattle.edd_image.specs.Decoding as decoding
 use Rattle.edd_assembly.proofs.RecordsAgree.{string_missing, string_read, default_same, reading_agrees}
 use Rattle.edd_assembly.proofs.RowsAmong.{same_ref, among_rows}

@@ -21,7 +21,7 @@ use Rattle.edd_syntax.specs.Resolved.{IsChecked}
 use Rattle.edd_syntax.proofs.WithinLimits.{each_keeps, items_meant, same_count}
 use Rattle.edd_syntax.proofs.Existing.{exists_in, meant_exists}
 use Rattle.edd_syntax.proofs.Made.{bind_some}
-use Rattle.edd_assembly.proofs.ItemForms.{at_some, all_mapped, made}
+use Rattle.edd_syntax.proofs.ItemForms.{at_some, all_mapped, made}
 
 -- ---- lists
 

@@ -20,7 +20,7 @@ use Rattle.edd_syntax.specs.SubsetRules.{wrong_types, mismatches, float_values, 
 use Rattle.edd_syntax.specs.Resolved.{IsChecked}
 use Rattle.edd_syntax.proofs.WithinLimits.{not_empty, no_front, no_rest}
 use Rattle.edd_syntax.proofs.Repeats.{is_empty, empty_is_none, has_each_once, once_when_checked}
-use Rattle.edd_assembly.proofs.ItemForms.{all_weaker}
+use Rattle.edd_syntax.proofs.ItemForms.{all_weaker}
 
 -- ---- an item writes its elements in one attribute
 

@@ -32,7 +32,7 @@ use Rattle.edd_syntax.specs.Words.{Words}
 use Rattle.edd_syntax.specs.Text.{Name}
 use Rattle.edd_assembly.specs.LoweredUnits.{IsBodyCode}
 use Rattle.edd_syntax.proofs.Made.{bind_some}
-use Rattle.edd_assembly.proofs.ItemForms.{at_some, all_mapped}
+use Rattle.edd_syntax.proofs.ItemForms.{at_some, all_mapped}
 use Rattle.edd_assembly.proofs.WrittenBodies.{of_picked}
 
 -- ---- the meaning of names leaves the number of locals

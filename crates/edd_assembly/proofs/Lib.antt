@@ -14,8 +14,6 @@ pub mod SoundRows
 pub mod Rising
 pub mod RowsRise
 pub mod BlocksRise
-pub mod KnownByNumber
-pub mod ItemForms
 pub mod RowsPlaced
 pub mod SoundNames
 pub mod SoundStrings

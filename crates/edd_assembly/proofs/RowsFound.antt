@@ -15,7 +15,7 @@ use Rattle.edd_image.specs.Reading.{is_row_of}
 use Rattle.edd_assembly.specs.Assembly.{Lowered, attribute_row_at, attribute_rows}
 use Rattle.edd_assembly.specs.LoweredUnits.{plain_row}
 use Rattle.edd_assembly.proofs.Cutting.{first_or, behind_first, code_of}
-use Rattle.edd_assembly.proofs.KnownByNumber.{same_attrs, item_again}
+use Rattle.edd_syntax.proofs.KnownByNumber.{same_attrs, item_again}
 use Rattle.edd_assembly.proofs.RowsAmong.{same_ref}
 use Rattle.edd_assembly.proofs.RowsRise.{key}
 

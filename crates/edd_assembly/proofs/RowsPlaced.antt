@@ -23,128 +23,14 @@ use Rattle.edd_syntax.specs.WellFormed.{belongs_to}
 use Rattle.edd_image.specs.declared.parts.Counts.{Counts}
 use Rattle.edd_image.specs.References.{item_exists}
 use Rattle.edd_image.specs.Agreement.{counts_of}
-use Rattle.edd_assembly.proofs.ItemForms.{is_formed, all_weaker}
-use Rattle.edd_assembly.proofs.KnownByNumber.{same_kinds, same_attrs, numbered_kind}
+use Rattle.edd_syntax.proofs.Belonging.{Belong, all_belong, fits_at, positions_fit}
+use Rattle.edd_syntax.proofs.ItemForms.{is_formed, all_weaker, own_when_formed}
+use Rattle.edd_syntax.proofs.KnownByNumber.{same_kinds, same_attrs, numbered_kind}
 
 -- the item exists and may have the attribute, which stands at 0 where it is not of a transaction
 abbrev pub is_placed : Counts → AttrRef → Bool
 is_placed counts r = item_exists counts r.item
     && (has_attr (kind_of r.item) r.attr && (is_of_transaction r.attr || r.sub == 0))
-
-or_nothing : (b : Bool) → (b || false) ≡ true → b ≡ true
-or_nothing true h = refl
-or_nothing false h = h
-
--- ---- what is written belongs to its item
-
-module _ (k : Kind) (a : Attr) where
-  same : (b : Attr) → has_attr k b ≡ true → list_any (same_attr a) (b ∷ []) ≡ true
-      → has_attr k a ≡ true
-  same b h is = ap (has_attr k) (same_attrs a b (or_nothing (same_attr a b) is)) ∙ h
-
-  part_has : (p : TypePart Target) → same_kind k kind.Variable ≡ true → has_attr k (part_attr p)
-      ≡ true
-  part_has (item.DefaultValue c) h = or_left (same_kind k kind.Variable) false h
-  part_has (item.MinValue c) h = or_left (same_kind k kind.Variable) false h
-  part_has (item.MaxValue c) h = or_left (same_kind k kind.Variable) false h
-  part_has (item.DisplayFormat c) h = or_left (same_kind k kind.Variable) false h
-  part_has (item.EditFormat c) h = or_left (same_kind k kind.Variable) false h
-  part_has (item.Element c) h = or_left (same_kind k kind.Variable) false h
-
-  parts_have : (parts : List (TypePart Target)) → same_kind k kind.Variable ≡ true
-      → list_any (same_attr a) (map part_attr parts) ≡ true → has_attr k a ≡ true
-  parts_have [] h is = absurd (false≢true is)
-  parts_have (p ∷ rest) h is = ⊎_elim (λ e. ap (has_attr k) (same_attrs a (part_attr p) e)
-      ∙ part_has p h) (parts_have rest h)
-      (or_cases (same_attr a (part_attr p)) (list_any (same_attr a) (map part_attr rest)) is)
-
-  written_has : (w : Attribute Target) → belongs_to k w ≡ true → stands_for a w ≡ true
-      → has_attr k a ≡ true
-  unfolding stands_for
-  written_has (item.OneText which c) h is = same (text_attr which) h is
-  written_has (item.Class words) h is = same attr.Class h is
-  written_has (item.Handling c) h is = same attr.Handling h is
-  written_has (item.Validity c) h is = same attr.Validity h is
-  written_has (item.TypeOf word parts) h is = parts_have parts h is
-  written_has (item.Number n) h is = same attr.Number h is
-  written_has (item.Operation o) h is = same attr.Operation h is
-  written_has (item.Transaction number parts) h is = absurd (false≢true is)
-  written_has (item.ResponseCodes responses) h is = same attr.ResponseCodes h is
-  written_has (item.Items entries) h is = same attr.Items h is
-  written_has (item.Members members) h is = same attr.Members h is
-  written_has (item.Elements elements) h is = same attr.Elements h is
-  written_has (item.Definition body) h is = same attr.Definition h is
-
-  any_written_has : (ws : List (Attribute Target)) → list_all (belongs_to k) ws ≡ true
-      → is_written a ws ≡ true → has_attr k a ≡ true
-  any_written_has [] h is = absurd (false≢true is)
-  any_written_has (w ∷ ws) h is =
-      let parts = and_parts (belongs_to k w) (list_all (belongs_to k) ws) h in
-      ⊎_elim (written_has w parts.0) (any_written_has ws parts.1)
-      (or_cases (stands_for a w) (is_written a ws) is)
-
-  -- a position that the attribute may have
-  abbrev fits_at : ℕ → Bool
-  fits_at s = has_attr k a && (is_of_transaction a || s == 0)
-
-  of_any_transaction : has_attr k attr.Transaction ≡ true → is_of_transaction a ≡ true
-      → has_attr k a ≡ true
-  of_any_transaction h of = from a of
-    where
-      from : (b : Attr) → is_of_transaction b ≡ true → has_attr k b ≡ true
-      from attr.Transaction t = h
-      from attr.Request t = h
-      from attr.Reply t = h
-      from b t = absurd (false≢true t)
-
-  transactions_fit : is_of_transaction a ≡ true → (next : ℕ) (ws : List (Attribute Target))
-      → list_all (belongs_to k) ws ≡ true → list_all fits_at (transaction_positions next ws) ≡ true
-  transactions_fit of next [] h = refl
-  transactions_fit of next (item.Transaction number parts ∷ rest) h =
-      let both = and_parts (has_attr k attr.Transaction) (list_all (belongs_to k) rest) h in
-      and_from (fits_at next) (list_all fits_at (transaction_positions (suc next) rest))
-      (and_from (has_attr k a) (is_of_transaction a || next == 0) (of_any_transaction both.0 of)
-      (or_left (is_of_transaction a) (next == 0) of))
-      (transactions_fit of (suc next) rest both.1)
-  transactions_fit of next (w ∷ rest) h =
-      transactions_fit of next rest (and_parts (belongs_to k w) (list_all (belongs_to k) rest) h).1
-
-  positions_fit : (ws : List (Attribute Target)) → list_all (belongs_to k) ws ≡ true
-      → list_all fits_at (positions a ws) ≡ true
-  positions_fit ws h = pick (is_of_transaction a) (is_written a ws) refl refl
-    where
-      pick : (b c : Bool) → is_of_transaction a ≡ b → is_written a ws ≡ c
-          → list_all fits_at (if b then transaction_positions 0 ws else (if c then 0 ∷ [] else []))
-          ≡ true
-      pick true c of written = transactions_fit of 0 ws h
-      pick false true of written =
-          and_from (fits_at 0) true (and_from (has_attr k a) (is_of_transaction a || 0 == 0)
-          (any_written_has ws h written) (or_right (is_of_transaction a) (0 == 0) refl)) refl
-      pick false false of written = refl
-
--- ---- the items of a kind
-
-abbrev Belong : Kind → List (Item Target) → Type 0
-Belong k xs = AllByRecursion (λ i. list_all (belongs_to k) i.attributes ≡ true) xs
-
-one_belongs : (k : Kind) (i : Item Target) (rest : List (Item Target)) → is_formed i ≡ true
-    → Belong k rest → (b : Bool) → same_kind (kind_of_item i.sort) k ≡ b
-    → Belong k (if b then i ∷ rest else rest)
-one_belongs k i rest form others true is = (
-  ap (λ j. list_all (belongs_to j) i.attributes) (sym (same_kinds (kind_of_item i.sort) k is))
-      ∙ (and_parts (is_name i.name) (list_all (belongs_to (kind_of_item i.sort)) i.attributes)
-      form).1,
-  others,
-)
-one_belongs k i rest form others false is = others
-
-all_belong : (k : Kind) (items : List (Item Target)) → list_all is_formed items ≡ true
-    → Belong k (of_kind k items)
-all_belong k [] h = record {}
-all_belong k (i ∷ rest) h =
-    let both = and_parts (is_formed i) (list_all is_formed rest) h in
-    one_belongs k i (of_kind k rest) both.0 (all_belong k rest both.1)
-    (same_kind (kind_of_item i.sort) k) refl
 
 -- ---- all rows
 
@@ -196,7 +82,8 @@ module _ (identification : Identification) (items : List (Item Target)) (strings
         (items_placed (suc n) rest h.1 (omega (arith, within)))
 
     attribute_placed : list_all (is_placed counts) (rows_of_attr items k a) ≡ true
-    attribute_placed = items_placed 0 (of_kind k items) (all_belong k items formed) (omega arith)
+    attribute_placed = items_placed 0 (of_kind k items) (all_belong k items
+        (own_when_formed items formed)) (omega arith)
 
   kind_placed : (k : Kind) → list_all (is_placed counts) (rows_of_kind items k) ≡ true
   unfolding rows_of_kind

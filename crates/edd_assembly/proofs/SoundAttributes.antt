@@ -17,7 +17,7 @@ use Rattle.edd_image.specs.References.{item_exists}
 use Rattle.edd_image.specs.Validity.{has_attribute, is_attribute_row, rises, rise}
 use Rattle.edd_assembly.specs.Assembly.{Lowered, attribute_row_at, attribute_rows}
 use Rattle.edd_assembly.specs.LoweredUnits.{plain_row}
-use Rattle.edd_assembly.proofs.KnownByNumber.{attr_again, item_again}
+use Rattle.edd_syntax.proofs.KnownByNumber.{attr_again, item_again}
 use Rattle.edd_assembly.proofs.RowsPlaced.{is_placed}
 use Rattle.edd_assembly.proofs.RowsRise.{key, keys, rows_rise}
 

@@ -15,7 +15,7 @@ use Rattle.edd_syntax.specs.WellFormed.{belongs_to}
 use Rattle.edd_image.specs.Contents.{part, NameFields, fields_of_name}
 use Rattle.edd_assembly.specs.Assembly.{name_rows, names_of_kind, names_of}
 use Rattle.edd_assembly.proofs.Cutting.{names_cut}
-use Rattle.edd_assembly.proofs.ItemForms.{is_formed, all_weaker}
+use Rattle.edd_syntax.proofs.ItemForms.{is_formed, all_weaker}
 use Rattle.edd_assembly.proofs.RowsPlaced.{all_blocks}
 
 kept_pass : {X : Type 0} (p q : X → Bool) (xs : List X) → list_all p xs ≡ true

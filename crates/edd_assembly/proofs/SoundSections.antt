@@ -25,7 +25,7 @@ use Rattle.edd_assembly.specs.LoweredUnits.{plain_row, IsBodyCode, IsUnitOf, Are
 use Rattle.edd_assembly.proofs.BodiesStand.{units_add}
 use Rattle.edd_assembly.proofs.Cutting.{first_or, behind_first, code_of, code_cut}
 use Rattle.edd_assembly.proofs.Filling.{names_fill, strings_fill, code_fills, no_name_padding}
-use Rattle.edd_assembly.proofs.ItemForms.{is_formed, formed_when_checked}
+use Rattle.edd_syntax.proofs.ItemForms.{is_formed, formed_when_checked}
 use Rattle.edd_assembly.proofs.RowsPlaced.{is_placed, rows_placed}
 use Rattle.edd_assembly.proofs.SmallVariables.{small_when_checked}
 use Rattle.edd_assembly.proofs.SoundAttributes.{HasFewSlots, rows_sound, attributes_rise}

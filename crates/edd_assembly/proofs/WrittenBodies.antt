@@ -27,7 +27,7 @@ use Rattle.edd_syntax.proofs.EveryAttribute.{every_text}
 use Rattle.edd_syntax.proofs.WithinLimits.{each_keeps, not_empty, no_front, no_rest}
 use Rattle.edd_syntax.proofs.Repeats.{none_mapped}
 use Rattle.edd_syntax.proofs.Made.{bind_some}
-use Rattle.edd_assembly.proofs.ItemForms.{at_some, all_mapped, made}
+use Rattle.edd_syntax.proofs.ItemForms.{at_some, all_mapped, made}
 use Rattle.edd_assembly.proofs.RowsAmong.{any_mapped}
 
 -- a body is written, if it is a method

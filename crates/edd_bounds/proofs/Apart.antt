@@ -18,7 +18,7 @@ use Rattle.edd_syntax.specs.NameRules.{is_transaction, attribute_word, repeated_
 use Rattle.edd_syntax.specs.Rows.{part_attr, written_attrs, stands_for, is_written}
 use Rattle.edd_syntax.proofs.EveryAttribute.{every_text}
 use Rattle.edd_attrs.specs.Trees.{Tree, Named, trees_of_parts, trees_of_attribute, trees_of, first_tree}
-use Rattle.edd_assembly.proofs.KnownByNumber.{same_attrs}
+use Rattle.edd_syntax.proofs.KnownByNumber.{same_attrs}
 use Rattle.edd_syntax.proofs.WithinLimits.{no_front, no_rest}
 
 -- the word under which an attribute is written

@@ -18,7 +18,7 @@ use Rattle.edd_syntax.proofs.EveryAttribute.{every_text}
 use Rattle.edd_attrs.specs.Trees as trees
 use Rattle.edd_attrs.specs.Trees.{Tree, Named, trees_of_part, trees_of_parts, trees_of_attribute, trees_of, tree_of_transaction_part, transaction_trees, first_tree, tree_in}
 use Rattle.edd_attrs.specs.Sizes.{element_nodes, tree_nodes, length_limit}
-use Rattle.edd_assembly.proofs.KnownByNumber.{same_attrs}
+use Rattle.edd_syntax.proofs.KnownByNumber.{same_attrs}
 use Rattle.edd_bounds.proofs.Totals.{total, sum_is_total, total-append, total_le, total_plus}
 use Rattle.edd_bounds.proofs.FirstCosts.{cost_of, weight_of, weight, first_cost, first_costs}
 

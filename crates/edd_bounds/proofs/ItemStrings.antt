@@ -24,7 +24,7 @@ use Rattle.edd_syntax.specs.Rows.{stands_for, is_written}
 use Rattle.edd_attrs.specs.Trees.{trees_of_parts, trees_of, first_tree}
 use Rattle.edd_attrs.specs.Sizes.{tree_strings, strings_of_tree}
 use Rattle.edd_code.proofs.Different.{has}
-use Rattle.edd_assembly.proofs.KnownByNumber.{same_attrs}
+use Rattle.edd_syntax.proofs.KnownByNumber.{same_attrs}
 use Rattle.edd_syntax.proofs.WithinLimits.{no_front, no_rest}
 use Rattle.edd_bounds.proofs.Apart.{word_of, not_before, tree_passes}
 use Rattle.edd_bounds.proofs.PartStrings.{either, first_stays, InParts, in_parts}

@@ -16,7 +16,7 @@ use Rattle.edd_syntax.specs.Size.{attribute_nodes, item_nodes, unit_nodes}
 use Rattle.edd_syntax.specs.Statement.{Nil}
 use Rattle.edd_attrs.specs.Trees.{Tree, tree_in, tree_at}
 use Rattle.edd_attrs.specs.Sizes.{length_limit}
-use Rattle.edd_assembly.proofs.KnownByNumber.{numbered_kind, numbered_index}
+use Rattle.edd_syntax.proofs.KnownByNumber.{numbered_kind, numbered_index}
 use Rattle.edd_bounds.specs.RowContents.{limit_of_row}
 use Rattle.edd_bounds.proofs.Totals.{total, sum_is_total, total-append, total-map, total-flat_map, total_times, total_same, total_le, total_swap}
 use Rattle.edd_bounds.proofs.ItemLimits.{limit_in, rows_limit, item_limit}

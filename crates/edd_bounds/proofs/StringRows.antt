@@ -23,7 +23,7 @@ use Rattle.edd_syntax.specs.Strings.{attribute_strings, unit_strings}
 use Rattle.edd_attrs.specs.Trees.{Tree, trees_of, transaction_trees, first_tree, tree_in, tree_at}
 use Rattle.edd_attrs.specs.Sizes.{strings_of_tree}
 use Rattle.edd_code.proofs.Different.{has, Contains-has, has-Contains}
-use Rattle.edd_assembly.proofs.KnownByNumber.{numbered_kind, numbered_index}
+use Rattle.edd_syntax.proofs.KnownByNumber.{numbered_kind, numbered_index}
 use Rattle.edd_assembly.proofs.RowsAmong.{same_ref, among_rows}
 use Rattle.edd_assembly.proofs.RowsFound.{same_refs}
 use Rattle.edd_bounds.specs.RowContents.{strings_of_row}

@@ -1,12 +1,15 @@
 pub mod Appending
 pub mod ArrayLaws
+pub mod Belonging
 pub mod Bits
 pub mod CondRows
 pub mod ElementSort
 pub mod ElementRows
 pub mod EveryAttribute
 pub mod FirstLaws
+pub mod ItemForms
 pub mod KeptItems
+pub mod KnownByNumber
 pub mod Made
 pub mod VersionLaws
 pub mod WithinLimits

@@ -67,6 +67,10 @@ belongs_to k (item.Members members) = has_attr k attr.Members
 belongs_to k (item.Elements elements) = has_attr k attr.Elements
 belongs_to k (item.Definition body) = has_attr k attr.Definition
 
+-- each attribute of an item is one that its kind may have
+abbrev pub has_own_attributes : {R : Type 0} → Item R → Bool
+has_own_attributes i = list_all (belongs_to (kind_of_item i.sort)) i.attributes
+
 -- no member of a collection is an array
 abbrev pub may_list : ItemKind → Bool
 may_list (CollectionItem of) = not (same_kind of kind.Array)

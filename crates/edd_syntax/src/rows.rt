@@ -8,6 +8,7 @@ ghost use Rattle.edd_syntax.specs.ItemView.{numbered_items, numbered_attribute, 
 ghost use Rattle.edd_syntax.specs.NameRules as rules;
 ghost use Rattle.edd_syntax.specs.Resolution.{count_of};
 ghost use Rattle.edd_syntax.specs.Rows as order;
+ghost use Rattle.edd_syntax.specs.WellFormed.{has_own_attributes};
 
 use crate::checked::Checked;
 use crate::item::{Attribute, Item, TypePart};
@@ -162,12 +163,15 @@ fn push_attributes(
     requires few { count_of kind (map numbered_item items.now) ≤ 4096 }
     requires transactions { IsTrue (list_all (λ i. nat_le (rules.transaction_count i) 4096)
         (map numbered_item items.now)) }
+    requires own { IsTrue (list_all has_own_attributes (map numbered_item items.now)) }
     ensures { OnOk result (rows.new.items
         ≡ rows.old.items ++ flat_map (order.rows_of_attr (map numbered_item items.now) kind)
         attrs.now) }
 {
     for attr in attrs {
-        push_items(rows, items, kind, *attr)?;
+        if attr.may_belong_to(kind) {
+            push_items(rows, items, kind, *attr)?;
+        }
     }
     Ok(())
 }
@@ -181,6 +185,7 @@ fn push_kinds(
     requires few { (k : Kind) → count_of k (map numbered_item items.now) ≤ 4096 }
     requires transactions { IsTrue (list_all (λ i. nat_le (rules.transaction_count i) 4096)
         (map numbered_item items.now)) }
+    requires own { IsTrue (list_all has_own_attributes (map numbered_item items.now)) }
     ensures { OnOk result (rows.new.items
         ≡ rows.old.items ++ flat_map (order.rows_of_kind (map numbered_item items.now)) kinds.now) }
 {

@@ -1,17 +1,30 @@
-use Rattle.std.proofs.Common.{arith, map}
-use Rattle.std.proofs.lemmas.List.{get_or_default}
+use Rattle.std.proofs.Common.{◌∙◌, ap, sym, ◌++◌, arith, map}
+use Rattle.std.proofs.lemmas.List.{append-nil, get_or_default}
 use Rattle.edd_syntax.specs.ItemView.{numbered_item}
 use Rattle.edd_syntax.specs.Rows.{rows_of_attr}
+use Rattle.edd_syntax.proofs.Belonging.{no_rows}
 use Rattle.edd_syntax.proofs.RowLaws.{each_appended, each_done}
 use Rattle.edd_syntax.proofs.rows.push_attributes.Goals as goal
+use Rattle.edd_syntax.proofs.rows.push_attributes.Goals.{then-may_belong_to+in_ok-push_items, else-may_belong_to}
 
 pub loop-attr-preserved : goal.loop-attr-preserved
-loop-attr-preserved c =
-    each_appended (rows_of_attr (map numbered_item c.args.items.now) c.args.kind)
-    c.loop-attr.rows.items c.push_items.new.rows.items _ c.loop-attr.attr-index c.args.attrs.now
-    _ (omega arith)
-    (get_or_default c.args.attrs.now c.loop-attr.attr-index _ _ (omega arith))
-    c.in_ok-push_items.ensures c.loop-attr.invariant
+loop-attr-preserved c = elim c.if-may_belong_to.branch [
+  | then-may_belong_to+in_ok-push_items w ↦ each_appended
+      (rows_of_attr (map numbered_item c.args.items.now) c.args.kind)
+      c.loop-attr.rows.items c.if-may_belong_to.rows.items _ c.loop-attr.attr-index
+      c.args.attrs.now _ (omega arith)
+      (get_or_default c.args.attrs.now c.loop-attr.attr-index _ _ (omega arith))
+      (ap (λ v. v.items) w.rows-is ∙ w.in_ok-push_items.ensures) c.loop-attr.invariant
+  | else-may_belong_to w ↦ each_appended
+      (rows_of_attr (map numbered_item c.args.items.now) c.args.kind)
+      c.loop-attr.rows.items c.if-may_belong_to.rows.items _ c.loop-attr.attr-index
+      c.args.attrs.now _ (omega arith)
+      (get_or_default c.args.attrs.now c.loop-attr.attr-index _ _ (omega arith))
+      (ap (λ v. v.items) w.rows-is ∙ sym (append-nil c.loop-attr.rows.items)
+      ∙ ap (λ xs. c.loop-attr.rows.items ++ xs) (sym (no_rows c.args.kind _
+      (sym c.may_belong_to.ensures ∙ w.if-may_belong_to.false) (map numbered_item c.args.items.now)
+      c.requires.own))) c.loop-attr.invariant
+]
 
 pub returns : goal.returns
 returns c = each_done (rows_of_attr (map numbered_item c.args.items.now) c.args.kind)

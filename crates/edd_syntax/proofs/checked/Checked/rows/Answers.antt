@@ -6,6 +6,8 @@ use Rattle.edd_syntax.specs.ItemView.{identification_of, numbered_items, numbere
 use Rattle.edd_syntax.specs.NameRules.{transaction_count}
 use Rattle.edd_syntax.specs.Resolution.{count_of}
 use Rattle.edd_syntax.specs.Resolved.{description}
+use Rattle.edd_syntax.specs.WellFormed.{has_own_attributes}
+use Rattle.edd_syntax.proofs.ItemForms.{formed_when_checked, own_when_formed}
 use Rattle.edd_syntax.proofs.WithinLimits.{few_when_checked, few_transactions_when_checked}
 use Rattle.edd_syntax.proofs.checked.Checked.rows.Goals as goal
 
@@ -23,3 +25,12 @@ push_kinds-requires-clause-transactions c =
     (sym (c.deref-2.ensures.value ∙ ap (λ v. v.items) c.deref.ensures))
     (few_transactions_when_checked (description (identification_of c.args.self.now.identification)
     (numbered_items c.args.self.now.items.value.items)) c.args.self.now.checked)
+
+pub push_kinds-requires-clause-own : goal.push_kinds-requires-clause-own
+push_kinds-requires-clause-own c =
+    subst (λ (items : List (Item Target)). IsTrue (list_all has_own_attributes
+    (map numbered_item items)))
+    (sym (c.deref-2.ensures.value ∙ ap (λ v. v.items) c.deref.ensures))
+    (own_when_formed (numbered_items c.args.self.now.items.value.items)
+    (formed_when_checked (description (identification_of c.args.self.now.identification)
+    (numbered_items c.args.self.now.items.value.items)) c.args.self.now.checked))

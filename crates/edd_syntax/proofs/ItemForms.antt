@@ -18,14 +18,14 @@ use Rattle.edd_syntax.specs.Names.{is_name}
 use Rattle.edd_syntax.specs.Numbers.{has_attr, same_kind, text_attr}
 use Rattle.edd_syntax.specs.Resolution.{member_kinds}
 use Rattle.edd_syntax.specs.ResolvedTrees.{◌>>=◌, each, unchanged, resolved_cond, resolved_conds, resolved_body, at_attribute, resolved_entry, resolved_member, resolved_element, resolved_type_part, resolved_transaction_part, resolved_attribute, resolved_item, resolved_unit}
-use Rattle.edd_syntax.specs.WellFormed.{are_items, is_item, is_path, is_plain, may_list, belongs_to, stands_in, is_attribute}
+use Rattle.edd_syntax.specs.WellFormed.{are_items, is_item, is_path, is_plain, may_list, belongs_to, has_own_attributes, stands_in, is_attribute}
 use Rattle.edd_syntax.specs.Resolved.{IsChecked}
 use Rattle.edd_syntax.proofs.Made.{bind_some}
 use Rattle.edd_syntax.proofs.WithinLimits.{each_keeps}
 
 -- its name is one, and its attributes belong to its kind
 abbrev pub is_formed : {R : Type 0} → Item R → Bool
-is_formed i = is_name i.name && list_all (belongs_to (kind_of_item i.sort)) i.attributes
+is_formed i = is_name i.name && has_own_attributes i
 
 -- what a function gives of the value that is there
 pub at_some : {A C : Type 0} (f : A → C) (d : C) (x y : A) → Some x ≡ Some y → f x ≡ f y
@@ -141,3 +141,8 @@ formed d checked =
 pub formed_when_checked : (d : Description Target) → ∥ IsChecked d ∥₁ → list_all is_formed d.items
     ≡ true
 formed_when_checked d checked = ∥∥₁_elim checked (Bool-set _ _) (formed d)
+
+pub own_when_formed : (items : List (Item Target)) → list_all is_formed items ≡ true
+    → list_all has_own_attributes items ≡ true
+own_when_formed items = all_weaker is_formed has_own_attributes
+    (λ i form. (and_parts (is_name i.name) (has_own_attributes i) form).1) items
