@@ -7,7 +7,7 @@ use Rattle.edd_syntax.specs.declared.reference.Path as path
 use Rattle.edd_syntax.specs.Token.{Token}
 use Rattle.edd_syntax.specs.Reference.{Path}
 use Rattle.edd_syntax.specs.Expression.{Expr, Argument, Text, Value, Arguments, Nil, Cons}
-use Rattle.edd_syntax.specs.Grammar.{Place, loosest}
+use Rattle.edd_syntax.specs.Grammar.{Site, loosest}
 use Rattle.edd_grammar.specs.Signs.{Infix}
 use Rattle.edd_grammar.specs.Reading.{◌>>=◌, on_option, Read, at, expect, is_text, text_at}
 use Rattle.edd_grammar.specs.ExpressionReading.{Inner, operator_at, argument_at, closing, some_arguments, joined_at, chain, layer, expr_at}
@@ -20,47 +20,47 @@ use Rattle.edd_expression_parser.specs.Expressions.{listed, argument_view}
 
 -- ---- the height
 
-pub expr_none : (p : Place) (height_left row : ℕ) (here : List Token) → height_left ≡ 0
-    → expr_at p height_left row here ≡ None
+pub expr_none : (p : Site) (height_left precedence : ℕ) (here : List Token) → height_left ≡ 0
+    → expr_at p height_left precedence here ≡ None
 unfolding expr_at
-expr_none p zero row here e = refl
-expr_none p (suc height_left) row here e = absurd (omega arith)
+expr_none p zero precedence here e = refl
+expr_none p (suc height_left) precedence here e = absurd (omega arith)
 
-pub expr_layer : (p : Place) (height_left row : ℕ) (here : List Token) → 0 < height_left
-    → expr_at p height_left row here ≡ layer p (expr_at p (height_left - 1)) (height_left - 1) row
+pub expr_layer : (p : Site) (height_left precedence : ℕ) (here : List Token) → 0 < height_left
+    → expr_at p height_left precedence here ≡ layer p (expr_at p (height_left - 1)) (height_left - 1) precedence
     here
 unfolding expr_at
-expr_layer p zero row here e = absurd (omega arith)
-expr_layer p (suc height_left) row here e = let same : suc height_left - 1 ≡ height_left =
+expr_layer p zero precedence here e = absurd (omega arith)
+expr_layer p (suc height_left) precedence here e = let same : suc height_left - 1 ≡ height_left =
     omega arith in rw same refl
 
 -- ---- a chain of operators
 
-module _ (p : Place) (inner : Inner) (height_left row : ℕ) where
-  pub chain_ends : (n : ℕ) (left : Expr Path) (here : List Token) → operator_at row here ≡ None
-      → chain p inner height_left row n left here ≡ Some (left, here)
+module _ (p : Site) (inner : Inner) (height_left precedence : ℕ) where
+  pub chain_ends : (n : ℕ) (left : Expr Path) (here : List Token) → operator_at precedence here ≡ None
+      → chain p inner height_left precedence n left here ≡ Some (left, here)
   unfolding chain
   chain_ends zero left here e = rw e refl
   chain_ends (suc n) left here e = rw e refl
 
   pub chain_spent : (n : ℕ) (left : Expr Path) (here : List Token) → n ≡ 0
-      → chain p inner height_left row n left here ≡ on_option (operator_at row here)
+      → chain p inner height_left precedence n left here ≡ on_option (operator_at precedence here)
       (Some (left, here)) (λ o. None)
   unfolding chain
   chain_spent zero left here z = refl
   chain_spent (suc n) left here z = absurd (omega arith)
 
   pub chain_fails : (n i : ℕ) (left : Expr Path) (here behind : List Token) (op : Infix) → i < n
-      → operator_at row here ≡ Some (op, behind) → joined_at p inner height_left op left behind
-      ≡ None → chain p inner height_left row (n - i) left here ≡ None
+      → operator_at precedence here ≡ Some (op, behind) → joined_at p inner height_left op left behind
+      ≡ None → chain p inner height_left precedence (n - i) left here ≡ None
   unfolding chain
   chain_fails n i left here behind op lt e fails = let more : n - i ≡ suc (n - (i + 1)) =
       omega arith in rw (more, e, fails) refl
 
   pub chain_goes_on : (n i : ℕ) (left whole : Expr Path) (here behind rest : List Token)
-      (op : Infix) → i < n → operator_at row here ≡ Some (op, behind)
+      (op : Infix) → i < n → operator_at precedence here ≡ Some (op, behind)
       → joined_at p inner height_left op left behind ≡ Some (whole, rest)
-      → chain p inner height_left row (n - i) left here ≡ chain p inner height_left row
+      → chain p inner height_left precedence (n - i) left here ≡ chain p inner height_left precedence
       (n - (i + 1)) whole rest
   unfolding chain
   chain_goes_on n i left whole here behind rest op lt e read = let more : n - i
@@ -94,7 +94,7 @@ regroup : (front : List (code.Argument path.Path)) (a : code.Argument path.Path)
 regroup front a None = refl
 regroup front a (Some o) = ap (λ (x : Arguments Path). Some (x, o.1)) (behind_more front a o.0)
 
-module _ (p : Place) (height_left : ℕ) where
+module _ (p : Site) (height_left : ℕ) where
   pub argument_shortens : (here : List Token) (a : Argument Path) (rest : List Token)
       → argument_at p (expr_at p height_left) here ≡ Some (a, rest) → length rest < length here
   unfolding argument_at

@@ -5,7 +5,7 @@ use Rattle.edd_syntax.specs.declared.expr.Argument as argument
 use Rattle.edd_syntax.specs.declared.reference.Path as path
 use Rattle.edd_syntax.specs.declared.symbols.Symbol.{Symbol}
 use Rattle.edd_syntax.specs.Token.{Token}
-use Rattle.edd_syntax.specs.Grammar.{Place, loosest}
+use Rattle.edd_syntax.specs.Grammar.{Site, loosest}
 use Rattle.edd_syntax.specs.Reference.{Path}
 use Rattle.edd_syntax.specs.Expression as pure_tree
 use Rattle.edd_syntax.specs.Size.{argument_height}
@@ -28,7 +28,7 @@ abbrev pub argument_levels : argument.Argument path.Path → ℕ
 argument_levels a = argument_height (pure_tree.Cons (argument_view a) pure_tree.Nil)
 
 -- an expression up to this sign, with the sign
-unfoldable pub up_to_at : Place → ℕ → Symbol → List Token → Read (pure_tree.Expr Path)
+unfoldable pub up_to_at : Site → ℕ → Symbol → List Token → Read (pure_tree.Expr Path)
 up_to_at p height_left s here = do
   (e, behind) ← expr_at p height_left (loosest p) here
   rest ← expect s behind

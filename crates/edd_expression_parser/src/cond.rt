@@ -10,7 +10,7 @@ ghost use Rattle.edd_expression_parser.specs.declared.cond.Form.TheVariants.{Man
 ghost use Rattle.edd_expression_parser.specs.Conditionals as conditionals;
 ghost use Rattle.edd_expression_parser.specs.Conditionals.{cond_view, conds_view, arm_view, arms_view, cond_at, value_in, branch_in};
 ghost use Rattle.edd_expression_parser.specs.Shortening.{Shortens};
-ghost use Rattle.edd_token_reader.specs.Views.{place_view, Gives};
+ghost use Rattle.edd_token_reader.specs.Views.{site_view, Gives};
 ghost use Rattle.edd_expression_parser.specs.Expressions.{expr_view};
 
 use crate::expr::expr;
@@ -21,7 +21,7 @@ use edd_syntax::reference::Path;
 use edd_syntax::symbols::{Keyword, Symbol};
 use edd_token_reader::cursor::Cursor;
 use edd_token_reader::fault::ParseFault;
-use edd_token_reader::operators::{Place, loosest};
+use edd_token_reader::operators::{Site, loosest};
 use edd_token_reader::words::skip_comma;
 use std::alloc::{AllocError, Global};
 
@@ -76,15 +76,15 @@ pub fn label(cursor: &mut Cursor) -> Result<i64, ParseFault>
 #[tactic(auto, unfolding(edd_grammar::specs::ConditionalReading::condition_at))]
 pub fn condition(
     cursor: &mut Cursor,
-    place: Place,
+    site: Site,
     height_left: u32,
 ) -> Result<Expr<Path>, ParseFault>
     requires { height_left ≤ 100 }
-    ensures { Gives expr_view result cursor.new (reading.condition_at (place_view place) height_left
+    ensures { Gives expr_view result cursor.new (reading.condition_at (site_view site) height_left
         cursor.old) }
 {
     cursor.expect(Symbol::OpenParenthesis)?;
-    let inside = expr(cursor, place, height_left, loosest(place))?;
+    let inside = expr(cursor, site, height_left, loosest(site))?;
     cursor.expect(Symbol::CloseParenthesis)?;
     Ok(inside.expr)
 }
@@ -95,7 +95,7 @@ fn select_head(cursor: &mut Cursor, height_left: u32) -> Result<Expr<Path>, Pars
     requires { height_left ≤ 100 }
     ensures { Gives expr_view result cursor.new (conditionals.select_head height_left cursor.old) }
 {
-    let on = condition(cursor, Place::Attribute, height_left)?;
+    let on = condition(cursor, Site::Attribute, height_left)?;
     cursor.expect(Symbol::OpenBrace)?;
     Ok(on)
 }
@@ -188,7 +188,7 @@ fn if_behind<V: ParseValue>(
     ensures { Gives (cond_view V.view) result cursor.new
         (conditionals.if_behind form V.read height_left cursor.old) }
 {
-    let condition = condition(cursor, Place::Attribute, height_left)?;
+    let condition = condition(cursor, Site::Attribute, height_left)?;
     let first = braces(cursor, form, height_left)?;
     let otherwise = otherwise(cursor, form, height_left)?;
     Ok(Cond::If {

@@ -8,7 +8,7 @@ ghost use Rattle.edd_syntax.specs.declared.symbols.Symbol.TheVariants as sign;
 ghost use Rattle.edd_grammar.specs.Reading.{expect, on_option};
 ghost use Rattle.edd_grammar.specs.ExpressionReading as reading;
 ghost use Rattle.edd_grammar.specs.ExpressionReading.{expr_at, operator_at};
-ghost use Rattle.edd_token_reader.specs.Views.{place_view, infix_view, assignment_view, Gives};
+ghost use Rattle.edd_token_reader.specs.Views.{site_view, infix_view, assignment_view, Gives};
 ghost use Rattle.edd_expression_parser.specs.Expressions.{expr_view, argument_view, argument_levels, listed, up_to_at};
 
 use crate::trees::{
@@ -24,21 +24,21 @@ use edd_syntax::symbols::Symbol;
 use edd_token_reader::cursor::Cursor;
 use edd_token_reader::fault::ParseFault;
 use edd_token_reader::operators::{
-    Assignment, Infix, Place, before_of, in_method, loosest, row_of, unary_of,
+    Assignment, Infix, Site, before_of, in_method, loosest, precedence_of, unary_of,
 };
 use edd_token_reader::texts::{at_text, path, path_from, text};
 
 // A reference, and a step after it.
 #[tactic(auto, unfolding(edd_grammar::specs::ExpressionReading::postfix))]
-fn stepped(cursor: &mut Cursor, place: Place, to: Path) -> Result<Measured, ParseFault>
+fn stepped(cursor: &mut Cursor, site: Site, to: Path) -> Result<Measured, ParseFault>
     ensures read { Gives (λ t. expr_view t.expr) result cursor.new
-        (reading.postfix (place_view place) (path_of to) cursor.old) }
+        (reading.postfix (site_view site) (path_of to) cursor.old) }
     ensures low { IfOk result (λ t. t.levels ≤ 1) }
 {
     let Some(op) = cursor.step() else {
         return Ok(leaf(Expr::Reference(to)));
     };
-    if !in_method(place) {
+    if !in_method(site) {
         return Err(cursor.syntax_taken());
     }
     Ok(leaf(Expr::Increment(op, to)))
@@ -48,14 +48,14 @@ fn stepped(cursor: &mut Cursor, place: Place, to: Path) -> Result<Measured, Pars
 #[tactic(auto, unfolding(edd_grammar::specs::ExpressionReading::step_before))]
 fn step_before(
     cursor: &mut Cursor,
-    place: Place,
+    site: Site,
     op: IncrementOperator,
 ) -> Result<Measured, ParseFault>
     ensures read { Gives (λ t. expr_view t.expr) result cursor.new
-        (reading.step_before (place_view place) op cursor.old) }
+        (reading.step_before (site_view site) op cursor.old) }
     ensures low { IfOk result (λ t. t.levels ≤ 1) }
 {
-    if !in_method(place) {
+    if !in_method(site) {
         return Err(cursor.syntax_taken());
     }
     let to = path(cursor)?;
@@ -101,24 +101,24 @@ fn tested(cursor: &mut Cursor, height_left: u32, test: Measured) -> Result<Child
     Ok(boxed(cursor.alloc(), test)?)
 }
 
-/// An expression of at most this height, in a place for this row or a tighter one.
+/// An expression of at most this height, in a place for this precedence or a tighter one.
 #[cycle(expr)]
 #[tactic(auto, using(crate::proofs::Loops::levels))]
 pub fn expr(
     cursor: &mut Cursor,
-    place: Place,
+    site: Site,
     height_left: u32,
-    row: u32,
+    precedence: u32,
 ) -> Result<Measured, ParseFault>
     requires { height_left ≤ 100 }
     ensures read { Gives (λ t. expr_view t.expr) result cursor.new
-        (expr_at (place_view place) height_left row cursor.old) }
+        (expr_at (site_view site) height_left precedence cursor.old) }
     ensures low { IfOk result (λ t. t.levels ≤ height_left) }
 {
     if height_left == 0 {
         return Err(cursor.too_deep());
     }
-    layer(cursor, place, height_left - 1, row)
+    layer(cursor, site, height_left - 1, precedence)
 }
 
 // An expression whose children are of at most this height.
@@ -126,31 +126,31 @@ pub fn expr(
 #[tactic(auto, unfolding(edd_grammar::specs::ExpressionReading::layer))]
 fn layer(
     cursor: &mut Cursor,
-    place: Place,
+    site: Site,
     height_left: u32,
-    row: u32,
+    precedence: u32,
 ) -> Result<Measured, ParseFault>
     requires { height_left < 100 }
     ensures read { Gives (λ t. expr_view t.expr) result cursor.new
-        (reading.layer (place_view place) (expr_at (place_view place) height_left) height_left row
+        (reading.layer (site_view site) (expr_at (site_view site) height_left) height_left precedence
         cursor.old) }
     ensures low { IfOk result (λ t. t.levels ≤ height_left + 1) }
 {
-    let first = operand(cursor, place, height_left)?;
-    let left = chain(cursor, place, height_left, row, first)?;
-    let whole = choice(cursor, place, height_left, row, left)?;
-    assignment(cursor, place, height_left, row, whole)
+    let first = operand(cursor, site, height_left)?;
+    let left = chain(cursor, site, height_left, precedence, first)?;
+    let whole = choice(cursor, site, height_left, precedence, left)?;
+    assignment(cursor, site, height_left, precedence, whole)
 }
 
 // An expression inside another one.
 #[cycle(expr)]
-fn child(cursor: &mut Cursor, place: Place, height_left: u32, row: u32) -> Result<Child, ParseFault>
+fn child(cursor: &mut Cursor, site: Site, height_left: u32, precedence: u32) -> Result<Child, ParseFault>
     requires { height_left ≤ 100 }
     ensures read { Gives (λ c. expr_view c.expr.value) result cursor.new
-        (expr_at (place_view place) height_left row cursor.old) }
+        (expr_at (site_view site) height_left precedence cursor.old) }
     ensures low { IfOk result (λ c. c.levels ≤ height_left) }
 {
-    let inner = expr(cursor, place, height_left, row)?;
+    let inner = expr(cursor, site, height_left, precedence)?;
     Ok(boxed(cursor.alloc(), inner)?)
 }
 
@@ -159,16 +159,16 @@ fn child(cursor: &mut Cursor, place: Place, height_left: u32, row: u32) -> Resul
 #[tactic(auto, unfolding(crate::specs::Expressions::up_to_at))]
 fn up_to(
     cursor: &mut Cursor,
-    place: Place,
+    site: Site,
     height_left: u32,
     sign: Symbol,
 ) -> Result<Child, ParseFault>
     requires { height_left ≤ 100 }
     ensures read { Gives (λ c. expr_view c.expr.value) result cursor.new
-        (up_to_at (place_view place) height_left sign cursor.old) }
+        (up_to_at (site_view site) height_left sign cursor.old) }
     ensures low { IfOk result (λ c. c.levels ≤ height_left) }
 {
-    let inner = child(cursor, place, height_left, loosest(place))?;
+    let inner = child(cursor, site, height_left, loosest(site))?;
     cursor.expect(sign)?;
     Ok(inner)
 }
@@ -176,22 +176,22 @@ fn up_to(
 // Rows 13 to 15.
 #[cycle(expr)]
 #[tactic(auto, unfolding(edd_grammar::specs::ExpressionReading::operand_at))]
-fn operand(cursor: &mut Cursor, place: Place, height_left: u32) -> Result<Measured, ParseFault>
+fn operand(cursor: &mut Cursor, site: Site, height_left: u32) -> Result<Measured, ParseFault>
     requires { height_left < 100 }
     ensures read { Gives (λ t. expr_view t.expr) result cursor.new
-        (reading.operand_at (place_view place) (expr_at (place_view place) height_left)
+        (reading.operand_at (site_view site) (expr_at (site_view site) height_left)
         cursor.old) }
     ensures low { IfOk result (λ t. t.levels ≤ height_left + 1) }
 {
     let line = cursor.line();
     if let Some(name) = cursor.name() {
-        return named(cursor, place, height_left, line, name);
+        return named(cursor, site, height_left, line, name);
     }
     match cursor.next() {
         None => Err(cursor.syntax()),
         Some(TokenKind::Integer(value)) => Ok(leaf(Expr::Literal(value))),
         Some(TokenKind::Decimal) => Ok(leaf(Expr::Decimal { line })),
-        Some(TokenKind::Symbol(sign)) => signed(cursor, place, height_left, sign),
+        Some(TokenKind::Symbol(sign)) => signed(cursor, site, height_left, sign),
         Some(TokenKind::Name | TokenKind::String | TokenKind::Keyword(_)) => {
             Err(ParseFault::Syntax { line })
         }
@@ -203,30 +203,30 @@ fn operand(cursor: &mut Cursor, place: Place, height_left: u32) -> Result<Measur
 #[tactic(auto, unfolding(edd_grammar::specs::ExpressionReading::named_at))]
 fn named(
     cursor: &mut Cursor,
-    place: Place,
+    site: Site,
     height_left: u32,
     line: u32,
     name: &str,
 ) -> Result<Measured, ParseFault>
     requires { height_left < 100 }
     ensures read { Gives (λ t. expr_view t.expr) result cursor.new
-        (reading.named_at (place_view place) (expr_at (place_view place) height_left) name.now
+        (reading.named_at (site_view site) (expr_at (site_view site) height_left) name.now
         cursor.old) }
     ensures low { IfOk result (λ t. t.levels ≤ height_left + 1) }
 {
     if cursor.at(Symbol::OpenParenthesis) {
-        if !in_method(place) {
+        if !in_method(site) {
             return Err(cursor.syntax());
         }
         cursor.bump();
-        let arguments = arguments(cursor, place, height_left)?;
+        let arguments = arguments(cursor, site, height_left)?;
         return Ok(call(cursor.alloc(), line, name, arguments)?);
     }
     if cursor.eat(Symbol::OpenBracket) {
-        return indexed(cursor, place, height_left, name);
+        return indexed(cursor, site, height_left, name);
     }
     let to = path_from(cursor, name)?;
-    stepped(cursor, place, to)
+    stepped(cursor, site, to)
 }
 
 // After the name of an array and its bracket.
@@ -234,17 +234,17 @@ fn named(
 #[tactic(auto, unfolding(edd_grammar::specs::ExpressionReading::index_behind, crate::specs::Expressions::up_to_at))]
 fn indexed(
     cursor: &mut Cursor,
-    place: Place,
+    site: Site,
     height_left: u32,
     name: &str,
 ) -> Result<Measured, ParseFault>
     requires { height_left < 100 }
     ensures read { Gives (λ t. expr_view t.expr) result cursor.new
-        (reading.index_behind (place_view place) (expr_at (place_view place) height_left) name.now
+        (reading.index_behind (site_view site) (expr_at (site_view site) height_left) name.now
         cursor.old) }
     ensures low { IfOk result (λ t. t.levels ≤ height_left + 1) }
 {
-    let index = up_to(cursor, place, height_left, Symbol::CloseBracket)?;
+    let index = up_to(cursor, site, height_left, Symbol::CloseBracket)?;
     Ok(indexed_by(cursor.alloc(), name, index)?)
 }
 
@@ -253,17 +253,17 @@ fn indexed(
 #[tactic(auto, unfolding(edd_grammar::specs::ExpressionReading::unary_behind))]
 fn unary(
     cursor: &mut Cursor,
-    place: Place,
+    site: Site,
     height_left: u32,
     op: UnaryOperator,
 ) -> Result<Measured, ParseFault>
     requires { height_left < 100 }
     ensures read { Gives (λ t. expr_view t.expr) result cursor.new
-        (reading.unary_behind (place_view place) (expr_at (place_view place) height_left) op
+        (reading.unary_behind (site_view site) (expr_at (site_view site) height_left) op
         cursor.old) }
     ensures low { IfOk result (λ t. t.levels ≤ height_left + 1) }
 {
-    let operand = child(cursor, place, height_left, 13)?;
+    let operand = child(cursor, site, height_left, 13)?;
     Ok(unary_over(op, operand))
 }
 
@@ -272,39 +272,39 @@ fn unary(
 #[tactic(auto, unfolding(edd_grammar::specs::ExpressionReading::signed_at, edd_grammar::specs::ExpressionReading::parentheses_behind, crate::specs::Expressions::up_to_at))]
 fn signed(
     cursor: &mut Cursor,
-    place: Place,
+    site: Site,
     height_left: u32,
     sign: Symbol,
 ) -> Result<Measured, ParseFault>
     requires { height_left < 100 }
     ensures read { Gives (λ t. expr_view t.expr) result cursor.new
-        (reading.signed_at (place_view place) (expr_at (place_view place) height_left) sign
+        (reading.signed_at (site_view site) (expr_at (site_view site) height_left) sign
         cursor.old) }
     ensures low { IfOk result (λ t. t.levels ≤ height_left + 1) }
 {
     if sign == Symbol::OpenParenthesis {
-        let inner = up_to(cursor, place, height_left, Symbol::CloseParenthesis)?;
+        let inner = up_to(cursor, site, height_left, Symbol::CloseParenthesis)?;
         return Ok(parentheses(inner));
     }
     if let Some(op) = unary_of(sign) {
-        return unary(cursor, place, height_left, op);
+        return unary(cursor, site, height_left, op);
     }
     let Some(op) = before_of(sign) else {
         return Err(cursor.syntax_taken());
     };
-    step_before(cursor, place, op)
+    step_before(cursor, site, op)
 }
 
 #[cycle(expr)]
 #[tactic(auto, unfolding(edd_grammar::specs::ExpressionReading::argument_at))]
 fn argument(
     cursor: &mut Cursor,
-    place: Place,
+    site: Site,
     height_left: u32,
 ) -> Result<MeasuredArgument, ParseFault>
     requires { height_left < 100 }
     ensures read { Gives (λ a. argument_view a.argument) result cursor.new
-        (reading.argument_at (place_view place) (expr_at (place_view place) height_left)
+        (reading.argument_at (site_view site) (expr_at (site_view site) height_left)
         cursor.old) }
     ensures low { IfOk result (λ a. a.levels ≤ height_left) }
 {
@@ -314,7 +314,7 @@ fn argument(
             levels: 0,
         });
     }
-    let value = expr(cursor, place, height_left, loosest(place))?;
+    let value = expr(cursor, site, height_left, loosest(site))?;
     Ok(MeasuredArgument {
         argument: Argument::Value(value.expr),
         levels: value.levels,
@@ -326,19 +326,19 @@ fn argument(
 #[tactic(auto, unfolding(edd_grammar::specs::ExpressionReading::arguments_at))]
 fn arguments(
     cursor: &mut Cursor,
-    place: Place,
+    site: Site,
     height_left: u32,
 ) -> Result<MeasuredArguments, ParseFault>
     requires { height_left < 100 }
     ensures read { Gives (λ a. listed a.arguments.items) result cursor.new
-        (reading.arguments_at (place_view place) (expr_at (place_view place) height_left)
+        (reading.arguments_at (site_view site) (expr_at (site_view site) height_left)
         cursor.old) }
     ensures low { IfOk result (λ a. a.levels ≤ height_left) }
 {
     if cursor.eat(Symbol::CloseParenthesis) {
         return Ok(no_arguments(cursor.alloc()));
     }
-    some_arguments(cursor, place, height_left)
+    some_arguments(cursor, site, height_left)
 }
 
 // One argument at least.
@@ -346,18 +346,18 @@ fn arguments(
 #[tactic(auto, using(crate::proofs::Loops::lists))]
 fn some_arguments(
     cursor: &mut Cursor,
-    place: Place,
+    site: Site,
     height_left: u32,
 ) -> Result<MeasuredArguments, ParseFault>
     requires { height_left < 100 }
     ensures read { Gives (λ a. listed a.arguments.items) result cursor.new
-        (reading.some_arguments (place_view place) (expr_at (place_view place) height_left)
+        (reading.some_arguments (site_view site) (expr_at (site_view site) height_left)
         (length cursor.old) cursor.old) }
     ensures low { IfOk result (λ a. a.levels ≤ height_left) }
 {
     let mut all = no_arguments(cursor.alloc());
     loop {
-        let next = argument(cursor, place, height_left)?;
+        let next = argument(cursor, site, height_left)?;
         all = with_argument(all, next)?;
         if !cursor.eat(Symbol::Comma) {
             return close(cursor, all);
@@ -370,62 +370,62 @@ fn some_arguments(
 #[tactic(auto, unfolding(edd_grammar::specs::ExpressionReading::joined_at))]
 fn joined(
     cursor: &mut Cursor,
-    place: Place,
+    site: Site,
     height_left: u32,
     op: Infix,
     left: Measured,
 ) -> Result<Measured, ParseFault>
     requires { height_left < 100 }
     ensures read { Gives (λ t. expr_view t.expr) result cursor.new
-        (reading.joined_at (place_view place) (expr_at (place_view place) height_left) height_left
+        (reading.joined_at (site_view site) (expr_at (site_view site) height_left) height_left
         (infix_view op) (expr_view left.expr) cursor.old) }
     ensures low { IfOk result (λ t. t.levels ≤ height_left + 1) }
 {
     let left = left_side(cursor, height_left, left)?;
-    let right = child(cursor, place, height_left, row_of(op) + 1)?;
+    let right = child(cursor, site, height_left, precedence_of(op) + 1)?;
     Ok(binary(op, left, right))
 }
 
-// The left side, if no operator of this row or a tighter one follows: with it the tree would be too
+// The left side, if no operator of this precedence or a tighter one follows: with it the tree would be too
 // high.
-fn last(cursor: &mut Cursor, row: u32, left: Measured) -> Result<Measured, ParseFault>
+fn last(cursor: &mut Cursor, precedence: u32, left: Measured) -> Result<Measured, ParseFault>
     ensures read { Gives (λ t. expr_view t.expr) result cursor.new
-        (on_option (operator_at row cursor.old) (Some (expr_view left.expr, cursor.old))
+        (on_option (operator_at precedence cursor.old) (Some (expr_view left.expr, cursor.old))
         (λ o. None)) }
     ensures same { IfOk result (λ t. t.levels ≡ left.levels) }
 {
     let line = cursor.line();
-    match cursor.operator(row) {
+    match cursor.operator(precedence) {
         None => Ok(left),
         Some(_) => Err(ParseFault::TooDeep { line }),
     }
 }
 
-// The operators of this row and of tighter ones that follow the first operand.
+// The operators of this precedence and of tighter ones that follow the first operand.
 #[cycle(expr)]
 #[tactic(auto, using(crate::proofs::Loops::chains))]
 fn chain(
     cursor: &mut Cursor,
-    place: Place,
+    site: Site,
     height_left: u32,
-    row: u32,
+    precedence: u32,
     first: Measured,
 ) -> Result<Measured, ParseFault>
     requires low { height_left < 100 }
     requires first_low { first.levels ≤ height_left + 1 }
     ensures read { Gives (λ t. expr_view t.expr) result cursor.new
-        (reading.chain (place_view place) (expr_at (place_view place) height_left) height_left row
+        (reading.chain (site_view site) (expr_at (site_view site) height_left) height_left precedence
         (height_left + 1) (expr_view first.expr) cursor.old) }
     ensures low { IfOk result (λ t. t.levels ≤ height_left + 1) }
 {
     let mut left = first;
     for _ in 0..height_left + 1 {
-        let Some(op) = cursor.operator(row) else {
+        let Some(op) = cursor.operator(precedence) else {
             return Ok(left);
         };
-        left = joined(cursor, place, height_left, op, left)?;
+        left = joined(cursor, site, height_left, op, left)?;
     }
-    last(cursor, row, left)
+    last(cursor, precedence, left)
 }
 
 // Row 2, after its condition.
@@ -433,24 +433,24 @@ fn chain(
 #[tactic(auto, unfolding(edd_grammar::specs::ExpressionReading::choice_at, crate::specs::Expressions::up_to_at))]
 fn choice(
     cursor: &mut Cursor,
-    place: Place,
+    site: Site,
     height_left: u32,
-    row: u32,
+    precedence: u32,
     test: Measured,
 ) -> Result<Measured, ParseFault>
     requires low { height_left < 100 }
     requires test_low { test.levels ≤ height_left + 1 }
     ensures read { Gives (λ t. expr_view t.expr) result cursor.new
-        (reading.choice_at (place_view place) (expr_at (place_view place) height_left) height_left
-        row (expr_view test.expr) cursor.old) }
+        (reading.choice_at (site_view site) (expr_at (site_view site) height_left) height_left
+        precedence (expr_view test.expr) cursor.old) }
     ensures low { IfOk result (λ t. t.levels ≤ height_left + 1) }
 {
-    if row > 2 || !cursor.at(Symbol::Question) {
+    if precedence > 2 || !cursor.at(Symbol::Question) {
         return Ok(test);
     }
     let test = tested(cursor, height_left, test)?;
-    let first = up_to(cursor, place, height_left, Symbol::Colon)?;
-    let second = child(cursor, place, height_left, 2)?;
+    let first = up_to(cursor, site, height_left, Symbol::Colon)?;
+    let second = child(cursor, site, height_left, 2)?;
     Ok(choice_between(test, first, second))
 }
 
@@ -459,19 +459,19 @@ fn choice(
 #[tactic(auto, unfolding(edd_grammar::specs::ExpressionReading::assign_at))]
 fn assignment(
     cursor: &mut Cursor,
-    place: Place,
+    site: Site,
     height_left: u32,
-    row: u32,
+    precedence: u32,
     whole: Measured,
 ) -> Result<Measured, ParseFault>
     requires low { height_left < 100 }
     requires whole_low { whole.levels ≤ height_left + 1 }
     ensures read { Gives (λ t. expr_view t.expr) result cursor.new
-        (reading.assign_at (place_view place) (expr_at (place_view place) height_left) row
+        (reading.assign_at (site_view site) (expr_at (site_view site) height_left) precedence
         (expr_view whole.expr) cursor.old) }
     ensures low { IfOk result (λ t. t.levels ≤ height_left + 1) }
 {
-    if row > 1 || !in_method(place) {
+    if precedence > 1 || !in_method(site) {
         return Ok(whole);
     }
     let levels = whole.levels;
@@ -482,6 +482,6 @@ fn assignment(
     let Some(op) = cursor.assignment() else {
         return Ok(leaf(Expr::Reference(to)));
     };
-    let value = child(cursor, place, height_left, 1)?;
+    let value = child(cursor, site, height_left, 1)?;
     Ok(assigned(op, to, value))
 }

@@ -26,7 +26,7 @@ use edd_syntax::types::Handling;
 use edd_token_reader::cursor::Cursor;
 use edd_token_reader::fault::ParseFault;
 use edd_token_reader::left_out::expect_brace;
-use edd_token_reader::operators::Place;
+use edd_token_reader::operators::Site;
 use edd_token_reader::qualifiers::{data_qualifiers, menu_qualifiers};
 use edd_token_reader::texts::{at_text, path, text};
 use edd_token_reader::words::{handling, integer, optional_text, some_text, truth};
@@ -60,7 +60,7 @@ impl ParseValue for Expr<Path> {
 
     #[tactic(auto, unfolding(edd_grammar::specs::ConditionalReading::expr_value))]
     fn read_value(cursor: &mut Cursor, height_left: u32) -> Result<Expr<Path>, ParseFault> {
-        let value = expr(cursor, Place::Attribute, height_left, 2)?;
+        let value = expr(cursor, Site::Attribute, height_left, 2)?;
         Ok(value.expr)
     }
 }

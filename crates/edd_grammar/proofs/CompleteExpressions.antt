@@ -12,9 +12,9 @@ use Rattle.edd_syntax.specs.Token.{Token, Identifier, Sign}
 use Rattle.edd_syntax.specs.Reference.{Path}
 use Rattle.edd_syntax.specs.Expression as tree
 use Rattle.edd_syntax.specs.Expression.{Expr, Argument, Text, Value, Arguments}
-use Rattle.edd_syntax.specs.Grammar.{Place, loosest, IsMethod, row_of, comparison_row, unary_sign, MembersHere, TextHere, ExprHere, ArgumentsHere, MoreArgumentsHere}
+use Rattle.edd_syntax.specs.Grammar.{Site, loosest, IsMethod, precedence_of, comparison_precedence, unary_sign, MembersHere, TextHere, ExprHere, ArgumentsHere, MoreArgumentsHere}
 use Rattle.edd_syntax.specs.Size.{height, argument_height}
-use Rattle.edd_grammar.specs.Signs.{Infix, Plain, Comparing, Both, Either, infix_row, infix_sign, infix_tree, Assignment, Simple, Compound, assignment_sign, assignment_tree}
+use Rattle.edd_grammar.specs.Signs.{Infix, Plain, Comparing, Both, Either, infix_precedence, infix_sign, infix_tree, Assignment, Simple, Compound, assignment_sign, assignment_tree}
 use Rattle.edd_grammar.specs.Reading.{◌>>=◌, on_option, Read, at, path_behind}
 use Rattle.edd_grammar.specs.ExpressionReading.{step_before, operator_at, assignment_at, Inner, argument_at, some_arguments, arguments_at, postfix, index_behind, named_at, unary_behind, parentheses_behind, signed_at, operand_at, joined_at, chain, choice_at, assigned, assign_at, layer, expr_at}
 use Rattle.edd_grammar.specs.Following.{Stops}
@@ -60,10 +60,10 @@ less_again : (a b : ℕ) → nat_le a b ≡ true → a ≤ b
 less_again a b h = grind arith
 
 -- Whatever is spelled so, is read so.
-abbrev pub Complete : Place → ℕ → Inner → Type 0
-Complete p height_left inner = (row : ℕ) (e : Expr Path) (here rest : List Token) → row ≤ 13
-    → ExprHere p row e here rest → height e ≤ height_left → Stops row rest
-    → inner row here ≡ Some (e, rest)
+abbrev pub Complete : Site → ℕ → Inner → Type 0
+Complete p height_left inner = (precedence : ℕ) (e : Expr Path) (here rest : List Token) → precedence ≤ 13
+    → ExprHere p precedence e here rest → height e ≤ height_left → Stops precedence rest
+    → inner precedence here ≡ Some (e, rest)
 
 le_again : (a b : ℕ) → a ≤ b → nat_le a b ≡ true
 le_again a b h = grind arith
@@ -78,7 +78,7 @@ nat_le_cases a b = elim (nat_le a b) as (λ t. (t ≡ true) ⊎ (t ≡ false)) [
   | false ↦ inr refl
 ]
 
-count_more : (p : Place) (args : Arguments Path) (here rest : List Token)
+count_more : (p : Site) (args : Arguments Path) (here rest : List Token)
     → MoreArgumentsHere p args here rest → count args + length rest ≤ length here
 count_more p tree.Nil here rest h = omega (arith, ap length h)
 count_more p (tree.Cons (Value e) others) here rest h =
@@ -92,7 +92,7 @@ count_more p (tree.Cons (Text w) others) here rest h =
     omega (arith, ap length h.2, text_shorter w h.0 h.1 h.3, count_more p others h.1 rest h.4)
 
 -- there are no more arguments than tokens
-count_le : (p : Place) (args : Arguments Path) (here rest : List Token)
+count_le : (p : Site) (args : Arguments Path) (here rest : List Token)
     → ArgumentsHere p args here rest → count args ≤ length here
 count_le p tree.Nil here rest h = omega arith
 count_le p (tree.Cons (Value e) others) here rest h =
@@ -100,9 +100,9 @@ count_le p (tree.Cons (Value e) others) here rest h =
 count_le p (tree.Cons (Text w) others) here rest h =
     omega (arith, text_shorter w here h.0 h.1, count_more p others h.0 rest h.2)
 
-operator_again : (row : ℕ) (op : Infix) (behind : List Token) → row ≤ infix_row op
-    → operator_at row (Sign (infix_sign op) ∷ behind) ≡ Some (op, behind)
-operator_again row op behind le = rw (infix_again op, le_again row (infix_row op) le) refl
+operator_again : (precedence : ℕ) (op : Infix) (behind : List Token) → precedence ≤ infix_precedence op
+    → operator_at precedence (Sign (infix_sign op) ∷ behind) ≡ Some (op, behind)
+operator_again precedence op behind le = rw (infix_again op, le_again precedence (infix_precedence op) le) refl
 
 assignment_again : (op : Assignment) (behind : List Token)
     → assignment_at (Sign (assignment_sign op) ∷ behind) ≡ Some (op, behind)
@@ -114,10 +114,10 @@ assignment_stops : (op : Assignment) (behind : List Token)
 assignment_stops Simple behind = omega arith
 assignment_stops (Compound op) behind = omega arith
 
-assignment_no_operator : (row : ℕ) (op : Assignment) (behind : List Token)
-    → operator_at row (Sign (assignment_sign op) ∷ behind) ≡ None
-assignment_no_operator row Simple behind = refl
-assignment_no_operator row (Compound op) behind = refl
+assignment_no_operator : (precedence : ℕ) (op : Assignment) (behind : List Token)
+    → operator_at precedence (Sign (assignment_sign op) ∷ behind) ≡ None
+assignment_no_operator precedence Simple behind = refl
+assignment_no_operator precedence (Compound op) behind = refl
 
 assignment_no_question : (op : Assignment) (behind : List Token)
     → at sign.Question (Sign (assignment_sign op) ∷ behind) ≡ false
@@ -134,7 +134,7 @@ no_paren_behind : (ms : List (List ℕ)) (behind rest : List Token) → at sign.
 no_paren_behind [] behind rest f h = rw h f
 no_paren_behind (m ∷ ms) behind rest f h = ap (at sign.OpenParenthesis) h.1
 
-module _ (p : Place) (inner : Inner) (height_left : ℕ) (complete : Complete p height_left inner)
+module _ (p : Site) (inner : Inner) (height_left : ℕ) (complete : Complete p height_left inner)
   where
     value_again : (e : Expr Path) (here rest : List Token) → Stops (loosest p) rest
         → ExprHere p (loosest p) e here rest → height e ≤ height_left → argument_at p inner here
@@ -255,20 +255,20 @@ module _ (p : Place) (inner : Inner) (height_left : ℕ) (complete : Complete p 
     IsOperand (tree.CompoundAssign op r e) = ⊥
     IsOperand _ = Unit {0}
 
-    operand_again : (row level : ℕ) (e : Expr Path) (here rest : List Token) → IsOperand e
-        → ExprHere p row e here rest → height e ≤ suc height_left → Stops level rest
+    operand_again : (precedence level : ℕ) (e : Expr Path) (here rest : List Token) → IsOperand e
+        → ExprHere p precedence e here rest → height e ≤ suc height_left → Stops level rest
         → operand_at p inner here ≡ Some (e, rest)
     unfolding operand_at step_before signed_at named_at index_behind unary_behind parentheses_behind
         postfix
-    operand_again row level (tree.Literal n) here rest i h low s = rw h refl
-    operand_again row level tree.Decimal here rest i h low s = rw h refl
-    operand_again row level (tree.Reference r) here rest i h low s =
+    operand_again precedence level (tree.Literal n) here rest i h low s = rw h refl
+    operand_again precedence level tree.Decimal here rest i h low s = rw h refl
+    operand_again precedence level (tree.Reference r) here rest i h low s =
         named_again r here rest h.0 h.1
         (no_paren_behind r.members h.0 rest (stops_parenthesis level rest s) h.2)
         (no_bracket_behind r.members h.0 rest (stops_bracket level rest s) h.2)
         ∙ rw (path_behind_again r h.0 rest (stops_dot level rest s) h.2)
         (stops_postfix p level r rest s)
-    operand_again row level (tree.Indexed a e) here rest i h low s =
+    operand_again precedence level (tree.Indexed a e) here rest i h low s =
         let read = complete (loosest p) e h.1 (Sign sign.CloseBracket ∷ rest)
         (omega (arith, loosest_le p)) h.4 (omega arith) tt in
         rw (h.2.1, h.3, read, expect_again sign.CloseBracket rest)
@@ -277,47 +277,47 @@ module _ (p : Place) (inner : Inner) (height_left : ℕ) (complete : Complete p 
           rest,
         ))
         (sym h.2.0))
-    operand_again row level (tree.Parentheses e) here rest i h low s =
+    operand_again precedence level (tree.Parentheses e) here rest i h low s =
         let read = complete (loosest p) e h.0 (Sign sign.CloseParenthesis ∷ rest)
         (omega (arith, loosest_le p)) h.2 (omega arith) tt in
         rw (h.1, read, expect_again sign.CloseParenthesis rest) refl
-    operand_again row level (tree.Call f args) here rest i h low s =
+    operand_again precedence level (tree.Call f args) here rest i h low s =
         rw (h.3.1, h.4, method_again p h.0, arguments_again args h.2 rest (omega arith) h.5)
         (ap (λ (ms : List Name). Some (
           tree.Call (record { base = f.base; members = ms }) args,
           rest,
         ))
         (sym h.3.0))
-    operand_again row level (tree.Increment PreIncrement r) here rest i h low s =
+    operand_again precedence level (tree.Increment PreIncrement r) here rest i h low s =
         rw (h.3, method_again p h.0, path_again r h.2 rest (stops_dot level rest s) h.4) refl
-    operand_again row level (tree.Increment PreDecrement r) here rest i h low s =
+    operand_again precedence level (tree.Increment PreDecrement r) here rest i h low s =
         rw (h.3, method_again p h.0, path_again r h.2 rest (stops_dot level rest s) h.4) refl
-    operand_again row level (tree.Increment PostIncrement r) here rest i h low s =
+    operand_again precedence level (tree.Increment PostIncrement r) here rest i h low s =
         let read = path_behind_again r h.2.0 (Sign sign.Increment ∷ rest) refl h.2.2 in
         named_again r here rest h.2.0 h.2.1 (no_paren_behind r.members h.2.0 _ refl h.2.2)
         (no_bracket_behind r.members h.2.0 _ refl h.2.2)
         ∙ ap (λ (x : Path × List Token). postfix p x.0 x.1) read ∙ rw (method_again p h.0) refl
-    operand_again row level (tree.Increment PostDecrement r) here rest i h low s =
+    operand_again precedence level (tree.Increment PostDecrement r) here rest i h low s =
         let read = path_behind_again r h.2.0 (Sign sign.Decrement ∷ rest) refl h.2.2 in
         named_again r here rest h.2.0 h.2.1 (no_paren_behind r.members h.2.0 _ refl h.2.2)
         (no_bracket_behind r.members h.2.0 _ refl h.2.2)
         ∙ ap (λ (x : Path × List Token). postfix p x.0 x.1) read ∙ rw (method_again p h.0) refl
-    operand_again row level (tree.Unary op e) here rest i h low s =
+    operand_again precedence level (tree.Unary op e) here rest i h low s =
         let read = complete 13 e h.1 rest (omega arith) h.3 (omega arith)
         (stops_tight level 13 rest (omega arith) s) in
         unary_again op e here h.1 rest h.2 (rw read refl)
-    operand_again row level _ here rest i h low s = absurd i
+    operand_again precedence level _ here rest i h low s = absurd i
 
     -- ---- chains of operators
 
     joined_then : (op : Infix) (left : Expr Path) (here : List Token) (f : Expr Path → List Token
         → Read (Expr Path))
         → (joined_at p inner height_left op left here >>= λ x. f x.0 x.1)
-        ≡ cond (nat_le (height left) height_left) (inner (suc (infix_row op)) here
+        ≡ cond (nat_le (height left) height_left) (inner (suc (infix_precedence op)) here
         >>= λ right. f (infix_tree op left right.0) right.1) None
     unfolding joined_at
     joined_then op left here f = go (nat_le (height left) height_left)
-        (inner (suc (infix_row op)) here)
+        (inner (suc (infix_precedence op)) here)
       where
         go : (b : Bool) (o : Read (Expr Path))
             → (let made : Read (Expr Path) = cond b
@@ -328,231 +328,231 @@ module _ (p : Place) (inner : Inner) (height_left : ℕ) (complete : Complete p 
         go true None = refl
         go true (Some x) = refl
 
-    chain_fuel : (row n m : ℕ) (left : Expr Path) (here : List Token)
+    chain_fuel : (precedence n m : ℕ) (left : Expr Path) (here : List Token)
         → height_left < n + height left
-        → height_left < m + height left → chain p inner height_left row n left here
-        ≡ chain p inner height_left row m left here
+        → height_left < m + height left → chain p inner height_left precedence n left here
+        ≡ chain p inner height_left precedence m left here
     unfolding chain
-    chain_fuel row zero zero left here a b = refl
-    chain_fuel row zero (suc m) left here a b = on_same (operator_at row here) _ _ _
+    chain_fuel precedence zero zero left here a b = refl
+    chain_fuel precedence zero (suc m) left here a b = on_same (operator_at precedence here) _ _ _
         (λ o. rw (
-          joined_then o.0 left o.1 (λ x t. chain p inner height_left row m x t),
+          joined_then o.0 left o.1 (λ x t. chain p inner height_left precedence m x t),
           greater_again (height left) height_left (omega arith),
         ) refl)
-    chain_fuel row (suc n) zero left here a b = on_same (operator_at row here) _ _ _
+    chain_fuel precedence (suc n) zero left here a b = on_same (operator_at precedence here) _ _ _
         (λ o. rw (
-          joined_then o.0 left o.1 (λ x t. chain p inner height_left row n x t),
+          joined_then o.0 left o.1 (λ x t. chain p inner height_left precedence n x t),
           greater_again (height left) height_left (omega arith),
         ) refl)
-    chain_fuel row (suc n) (suc m) left here a b =
-        on_same (operator_at row here) _ _ _
+    chain_fuel precedence (suc n) (suc m) left here a b =
+        on_same (operator_at precedence here) _ _ _
         (λ o. rw (
-          joined_then o.0 left o.1 (λ x t. chain p inner height_left row n x t),
-          joined_then o.0 left o.1 (λ x t. chain p inner height_left row m x t),
+          joined_then o.0 left o.1 (λ x t. chain p inner height_left precedence n x t),
+          joined_then o.0 left o.1 (λ x t. chain p inner height_left precedence m x t),
         )
         (guard_same (nat_le (height left) height_left) _ _ (λ low.
-        bind_same (inner (suc (infix_row o.0)) o.1) _ _
+        bind_same (inner (suc (infix_precedence o.0)) o.1) _ _
         (λ right. let l = less_again (height left) height_left low in
         let taller = infix_height o.0 left right.0 in
-        chain_fuel row n m (infix_tree o.0 left right.0) right.1 (omega arith) (omega arith)))))
+        chain_fuel precedence n m (infix_tree o.0 left right.0) right.1 (omega arith) (omega arith)))))
 
     -- a left side that the first operand and the operators after it make
     abbrev from_operand : ℕ → List Token → Read (Expr Path)
-    from_operand row here = operand_at p inner here >>= λ first. chain p inner height_left row
+    from_operand precedence here = operand_at p inner here >>= λ first. chain p inner height_left precedence
         (suc height_left) first.0 first.1
 
-    -- where the operator of this row stands next
-    chain_takes : (row : ℕ) (op : Infix) (a b : Expr Path) (behind rest : List Token)
-        → row ≤ infix_row op → height a ≤ height_left
-        → inner (suc (infix_row op)) behind ≡ Some (b, rest)
-        → chain p inner height_left row (suc height_left) a (Sign (infix_sign op) ∷ behind)
-        ≡ chain p inner height_left row (suc height_left) (infix_tree op a b) rest
+    -- where the operator of this precedence stands next
+    chain_takes : (precedence : ℕ) (op : Infix) (a b : Expr Path) (behind rest : List Token)
+        → precedence ≤ infix_precedence op → height a ≤ height_left
+        → inner (suc (infix_precedence op)) behind ≡ Some (b, rest)
+        → chain p inner height_left precedence (suc height_left) a (Sign (infix_sign op) ∷ behind)
+        ≡ chain p inner height_left precedence (suc height_left) (infix_tree op a b) rest
     unfolding chain joined_at
-    chain_takes row op a b behind rest le low read =
+    chain_takes precedence op a b behind rest le low read =
         let lowers = le_again (height a) height_left low in
-        let next = operator_again row op behind le in
+        let next = operator_again precedence op behind le in
         let taller = infix_height op a b in
-        rw (next, lowers, read) (chain_fuel row height_left (suc height_left) (infix_tree op a b)
+        rw (next, lowers, read) (chain_fuel precedence height_left (suc height_left) (infix_tree op a b)
         rest
         (omega arith) (omega arith))
 
     -- the left side is read, and the right side after its operator
-    chain_joins : (row level : ℕ) (op : Infix) (a b : Expr Path) (here rest : List Token)
-        → row ≤ level → (h : InfixHere p level op a b here rest) → height (infix_tree op a b)
+    chain_joins : (precedence level : ℕ) (op : Infix) (a b : Expr Path) (here rest : List Token)
+        → precedence ≤ level → (h : InfixHere p level op a b here rest) → height (infix_tree op a b)
         ≤ suc height_left → Stops (suc level) rest
-        → from_operand row here ≡ chain p inner height_left row (suc height_left) a
-        (Sign (infix_sign op) ∷ h.1) → from_operand row here ≡ chain p inner height_left row
+        → from_operand precedence here ≡ chain p inner height_left precedence (suc height_left) a
+        (Sign (infix_sign op) ∷ h.1) → from_operand precedence here ≡ chain p inner height_left precedence
         (suc height_left) (infix_tree op a b) rest
-    chain_joins row level op a b here rest le h low s first =
+    chain_joins precedence level op a b here rest le h low s first =
         let taller = infix_height op a b in
-        let read = complete (suc (infix_row op)) b h.1 rest (omega (arith, row_to op)) h.3
-        (omega arith) (stops_mono (suc level) (suc (infix_row op)) rest (omega (arith, h.0)) s) in
-        first ∙ chain_takes row op a b h.1 rest (omega (arith, h.0)) (omega arith) read
+        let read = complete (suc (infix_precedence op)) b h.1 rest (omega (arith, row_to op)) h.3
+        (omega arith) (stops_mono (suc level) (suc (infix_precedence op)) rest (omega (arith, h.0)) s) in
+        first ∙ chain_takes precedence op a b h.1 rest (omega (arith, h.0)) (omega arith) read
 
-    chain_again : (row level : ℕ) (e : Expr Path) (here rest : List Token) → row ≤ level → 3 ≤ level
+    chain_again : (precedence level : ℕ) (e : Expr Path) (here rest : List Token) → precedence ≤ level → 3 ≤ level
         → level ≤ 13 → ExprHere p level e here rest → height e ≤ suc height_left
         → Stops (suc level) rest
-        → from_operand row here ≡ chain p inner height_left row (suc height_left) e rest
-    chain_again row level (tree.Binary op a b) here rest le three most h low s =
-        chain_joins row level (Plain op) a b here rest le h low s
-        (chain_again row (row_of op) a here (Sign (sign.Operator op) ∷ h.1) (omega (arith, h.0))
+        → from_operand precedence here ≡ chain p inner height_left precedence (suc height_left) e rest
+    chain_again precedence level (tree.Binary op a b) here rest le three most h low s =
+        chain_joins precedence level (Plain op) a b here rest le h low s
+        (chain_again precedence (precedence_of op) a here (Sign (sign.Operator op) ∷ h.1) (omega (arith, h.0))
         (row_from (Plain op)) (omega (arith, row_to (Plain op))) h.2 (omega arith) (omega arith))
-    chain_again row level (tree.Compare op a b) here rest le three most h low s =
-        chain_joins row level (Comparing op) a b here rest le h low s
-        (chain_again row (comparison_row op) a here (Sign (sign.Comparison op) ∷ h.1)
+    chain_again precedence level (tree.Compare op a b) here rest le three most h low s =
+        chain_joins precedence level (Comparing op) a b here rest le h low s
+        (chain_again precedence (comparison_precedence op) a here (Sign (sign.Comparison op) ∷ h.1)
         (omega (arith, h.0)) (row_from (Comparing op)) (omega (arith, row_to (Comparing op))) h.2
         (omega arith) (omega arith))
-    chain_again row level (tree.LogicalAnd a b) here rest le three most h low s =
-        chain_joins row level Both a b here rest le h low s
-        (chain_again row 4 a here (Sign sign.LogicalAnd ∷ h.1) (omega (arith, h.0)) (row_from Both)
+    chain_again precedence level (tree.LogicalAnd a b) here rest le three most h low s =
+        chain_joins precedence level Both a b here rest le h low s
+        (chain_again precedence 4 a here (Sign sign.LogicalAnd ∷ h.1) (omega (arith, h.0)) (row_from Both)
         (omega (arith, row_to Both)) h.2 (omega arith) (omega arith))
-    chain_again row level (tree.LogicalOr a b) here rest le three most h low s =
-        chain_joins row level Either a b here rest le h low s
-        (chain_again row 3 a here (Sign sign.LogicalOr ∷ h.1) (omega (arith, h.0)) (row_from Either)
+    chain_again precedence level (tree.LogicalOr a b) here rest le three most h low s =
+        chain_joins precedence level Either a b here rest le h low s
+        (chain_again precedence 3 a here (Sign sign.LogicalOr ∷ h.1) (omega (arith, h.0)) (row_from Either)
         (omega (arith, row_to Either)) h.2 (omega arith) (omega arith))
-    chain_again row level (tree.Conditional c a b) here rest le three most h low s =
+    chain_again precedence level (tree.Conditional c a b) here rest le three most h low s =
         absurd (omega (arith, h.0))
-    chain_again row level (tree.Assign r e) here rest le three most h low s =
+    chain_again precedence level (tree.Assign r e) here rest le three most h low s =
         absurd (omega (arith, h.1))
-    chain_again row level (tree.CompoundAssign op r e) here rest le three most h low s =
+    chain_again precedence level (tree.CompoundAssign op r e) here rest le three most h low s =
         absurd (omega (arith, h.1))
-    chain_again row level e here rest le three most h low s =
+    chain_again precedence level e here rest le three most h low s =
         rw (operand_again level (suc level) e here rest tt h low s) refl
 
     -- ---- the rows above the operators
 
-    chain_stops : (row : ℕ) (e : Expr Path) (rest : List Token) → operator_at row rest ≡ None
-        → chain p inner height_left row (suc height_left) e rest ≡ Some (e, rest)
+    chain_stops : (precedence : ℕ) (e : Expr Path) (rest : List Token) → operator_at precedence rest ≡ None
+        → chain p inner height_left precedence (suc height_left) e rest ≡ Some (e, rest)
     unfolding chain
-    chain_stops row e rest h = rw h refl
+    chain_stops precedence e rest h = rw h refl
 
-    assign_stops : (row : ℕ) (e : Expr Path) (rest : List Token) → Stops row rest
-        → assign_at p inner row e rest ≡ Some (e, rest)
+    assign_stops : (precedence : ℕ) (e : Expr Path) (rest : List Token) → Stops precedence rest
+        → assign_at p inner precedence e rest ≡ Some (e, rest)
     unfolding assign_at
-    assign_stops row e rest s =
-        elim (nat_le_cases row 1) [
-          | inl le ↦ rw (stops_assignment row rest (less_again row 1 le) s)
-              (either_way (assigned p row e) (Some (e, rest)))
+    assign_stops precedence e rest s =
+        elim (nat_le_cases precedence 1) [
+          | inl le ↦ rw (stops_assignment precedence rest (less_again precedence 1 le) s)
+              (either_way (assigned p precedence e) (Some (e, rest)))
           | inr gt ↦ rw gt refl
         ]
 
-    layer_is : (row : ℕ) (here : List Token) → layer p inner height_left row here
-        ≡ (from_operand row here >>= λ left. choice_at p inner height_left row left.0 left.1
-        >>= λ whole. assign_at p inner row whole.0 whole.1)
+    layer_is : (precedence : ℕ) (here : List Token) → layer p inner height_left precedence here
+        ≡ (from_operand precedence here >>= λ left. choice_at p inner height_left precedence left.0 left.1
+        >>= λ whole. assign_at p inner precedence whole.0 whole.1)
     unfolding layer
-    layer_is row here = sym (bind_assoc (operand_at p inner here) _ _)
+    layer_is precedence here = sym (bind_assoc (operand_at p inner here) _ _)
 
     -- where nothing of the rows 1 and 2 follows
-    layer_stops : (row : ℕ) (e : Expr Path) (here rest : List Token) → Stops row rest
-        → from_operand row here ≡ chain p inner height_left row (suc height_left) e rest
-        → layer p inner height_left row here ≡ Some (e, rest)
+    layer_stops : (precedence : ℕ) (e : Expr Path) (here rest : List Token) → Stops precedence rest
+        → from_operand precedence here ≡ chain p inner height_left precedence (suc height_left) e rest
+        → layer p inner height_left precedence here ≡ Some (e, rest)
     unfolding choice_at
-    layer_stops row e here rest s h =
-        layer_is row here ∙ rw (
+    layer_stops precedence e here rest s h =
+        layer_is precedence here ∙ rw (
           h,
-          chain_stops row e rest (stops_operator row rest s),
-          stops_question row rest s,
-        ) (assign_stops row e rest s)
+          chain_stops precedence e rest (stops_operator precedence rest s),
+          stops_question precedence rest s,
+        ) (assign_stops precedence e rest s)
 
-    choice_skips : (row : ℕ) (e : Expr Path) (here : List Token) → at sign.Question here ≡ false
-        → choice_at p inner height_left row e here ≡ Some (e, here)
+    choice_skips : (precedence : ℕ) (e : Expr Path) (here : List Token) → at sign.Question here ≡ false
+        → choice_at p inner height_left precedence e here ≡ Some (e, here)
     unfolding choice_at
-    choice_skips row e here n =
-        rw n (elim (nat_le_cases row 2) [ inl le ↦ rw le refl | inr gt ↦ rw gt refl ])
+    choice_skips precedence e here n =
+        rw n (elim (nat_le_cases precedence 2) [ inl le ↦ rw le refl | inr gt ↦ rw gt refl ])
 
-    assign_takes : (row : ℕ) (op : Assignment) (r : Path) (e : Expr Path) (behind rest : List Token)
-        → IsMethod p → row ≤ 1 → inner 1 behind ≡ Some (e, rest)
-        → assign_at p inner row (tree.Reference r) (Sign (assignment_sign op) ∷ behind)
+    assign_takes : (precedence : ℕ) (op : Assignment) (r : Path) (e : Expr Path) (behind rest : List Token)
+        → IsMethod p → precedence ≤ 1 → inner 1 behind ≡ Some (e, rest)
+        → assign_at p inner precedence (tree.Reference r) (Sign (assignment_sign op) ∷ behind)
         ≡ Some (assignment_tree op r e, rest)
     unfolding assign_at
-    assign_takes row op r e behind rest m le read =
-        rw (le_again row 1 le, method_again p m, assignment_again op behind, read) refl
+    assign_takes precedence op r e behind rest m le read =
+        rw (le_again precedence 1 le, method_again p m, assignment_again op behind, read) refl
 
-    assignment_read : (row : ℕ) (op : Assignment) (r : Path) (e : Expr Path)
+    assignment_read : (precedence : ℕ) (op : Assignment) (r : Path) (e : Expr Path)
         (here rest : List Token)
-        → AssignmentHere p row op r e here rest → height e ≤ height_left → Stops row rest
-        → layer p inner height_left row here ≡ Some (assignment_tree op r e, rest)
-    assignment_read row op r e here rest h low s =
-        let left = operand_again row 14 (tree.Reference r) here (Sign (assignment_sign op) ∷ h.2) tt
+        → AssignmentHere p precedence op r e here rest → height e ≤ height_left → Stops precedence rest
+        → layer p inner height_left precedence here ≡ Some (assignment_tree op r e, rest)
+    assignment_read precedence op r e here rest h low s =
+        let left = operand_again precedence 14 (tree.Reference r) here (Sign (assignment_sign op) ∷ h.2) tt
         h.3 (omega arith) (assignment_stops op h.2) in
-        let value = complete 1 e h.2 rest (omega arith) h.4 low (stops_mono row 1 rest h.1 s) in
-        layer_is row here
+        let value = complete 1 e h.2 rest (omega arith) h.4 low (stops_mono precedence 1 rest h.1 s) in
+        layer_is precedence here
         ∙ rw (
           left,
-          chain_stops row (tree.Reference r) (Sign (assignment_sign op) ∷ h.2)
-              (assignment_no_operator row op h.2),
-          choice_skips row (tree.Reference r)
+          chain_stops precedence (tree.Reference r) (Sign (assignment_sign op) ∷ h.2)
+              (assignment_no_operator precedence op h.2),
+          choice_skips precedence (tree.Reference r)
               (Sign (assignment_sign op) ∷ h.2) (assignment_no_question op h.2),
         )
-        (assign_takes row op r e h.2 rest h.0 h.1 value)
+        (assign_takes precedence op r e h.2 rest h.0 h.1 value)
 
     layer_again : Complete p (suc height_left) (layer p inner height_left)
     unfolding choice_at assign_at
-    layer_again row (tree.Binary op a b) here rest le h low s =
-        layer_stops row _ here rest s (chain_again row (row_of op) (tree.Binary op a b) here rest
+    layer_again precedence (tree.Binary op a b) here rest le h low s =
+        layer_stops precedence _ here rest s (chain_again precedence (precedence_of op) (tree.Binary op a b) here rest
         (omega (arith, h.0)) (row_from (Plain op)) (omega (arith, row_to (Plain op)))
         (omega arith, h.1, h.2, h.3) low
-        (stops_mono row (suc (row_of op)) rest (omega (arith, h.0)) s))
-    layer_again row (tree.Compare op a b) here rest le h low s =
-        layer_stops row _ here rest s (chain_again row (comparison_row op) (tree.Compare op a b)
+        (stops_mono precedence (suc (precedence_of op)) rest (omega (arith, h.0)) s))
+    layer_again precedence (tree.Compare op a b) here rest le h low s =
+        layer_stops precedence _ here rest s (chain_again precedence (comparison_precedence op) (tree.Compare op a b)
         here
         rest (omega (arith, h.0)) (row_from (Comparing op)) (omega (arith, row_to (Comparing op)))
         (omega arith, h.1, h.2, h.3) low
-        (stops_mono row (suc (comparison_row op)) rest (omega (arith, h.0)) s))
-    layer_again row (tree.LogicalAnd a b) here rest le h low s =
-        layer_stops row _ here rest s (chain_again row 4 (tree.LogicalAnd a b) here rest
+        (stops_mono precedence (suc (comparison_precedence op)) rest (omega (arith, h.0)) s))
+    layer_again precedence (tree.LogicalAnd a b) here rest le h low s =
+        layer_stops precedence _ here rest s (chain_again precedence 4 (tree.LogicalAnd a b) here rest
         (omega (arith, h.0)) (row_from Both) (omega (arith, row_to Both)) (
           omega arith,
           h.1,
           h.2,
           h.3,
-        ) low (stops_mono row (suc 4) rest (omega (arith, h.0)) s))
-    layer_again row (tree.LogicalOr a b) here rest le h low s =
-        layer_stops row _ here rest s
-        (chain_again row 3 (tree.LogicalOr a b) here rest (omega (arith, h.0)) (row_from Either)
+        ) low (stops_mono precedence (suc 4) rest (omega (arith, h.0)) s))
+    layer_again precedence (tree.LogicalOr a b) here rest le h low s =
+        layer_stops precedence _ here rest s
+        (chain_again precedence 3 (tree.LogicalOr a b) here rest (omega (arith, h.0)) (row_from Either)
         (omega (arith, row_to Either)) (omega arith, h.1, h.2, h.3) low
-        (stops_mono row (suc 3) rest (omega (arith, h.0)) s))
-    layer_again row (tree.Conditional c a b) here rest le h low s =
-        let condition = chain_again row 3 c here (Sign sign.Question ∷ h.1) (omega (arith, h.0))
+        (stops_mono precedence (suc 3) rest (omega (arith, h.0)) s))
+    layer_again precedence (tree.Conditional c a b) here rest le h low s =
+        let condition = chain_again precedence 3 c here (Sign sign.Question ∷ h.1) (omega (arith, h.0))
         (omega arith) (omega arith) h.3 (omega arith) (omega arith) in
         let first = complete (loosest p) a h.1 (Sign sign.Colon ∷ h.2) (omega (arith, loosest_le p))
         h.4 (omega arith) tt in
         let second = complete 2 b h.2 rest (omega arith) h.5 (omega arith)
-        (stops_mono row 2 rest h.0 s) in
-        let loose = le_again row 2 h.0 in
+        (stops_mono precedence 2 rest h.0 s) in
+        let loose = le_again precedence 2 h.0 in
         let lowers = le_again (height c) height_left (omega arith) in
-        layer_is row here ∙ rw (
+        layer_is precedence here ∙ rw (
           condition,
-          chain_stops row c (Sign sign.Question ∷ h.1) refl,
+          chain_stops precedence c (Sign sign.Question ∷ h.1) refl,
           loose,
           lowers,
           first,
           expect_again sign.Colon h.2,
           second,
         )
-        (assign_stops row (tree.Conditional c a b) rest s)
-    layer_again row (tree.Assign r e) here rest le h low s = assignment_read row Simple r e here
+        (assign_stops precedence (tree.Conditional c a b) rest s)
+    layer_again precedence (tree.Assign r e) here rest le h low s = assignment_read precedence Simple r e here
         rest
         h (omega arith) s
-    layer_again row (tree.CompoundAssign op r e) here rest le h low s =
-        assignment_read row (Compound op) r e here rest h (omega arith) s
-    layer_again row e here rest le h low s =
-        layer_stops row e here rest s (rw (operand_again row row e here rest tt h low s) refl)
+    layer_again precedence (tree.CompoundAssign op r e) here rest le h low s =
+        assignment_read precedence (Compound op) r e here rest h (omega arith) s
+    layer_again precedence e here rest le h low s =
+        layer_stops precedence e here rest s (rw (operand_again precedence precedence e here rest tt h low s) refl)
 
 -- What an expression is spelled by is read as that expression, where what follows can't go on with
 -- it.
-pub expr_again : (p : Place) (height_left : ℕ) → Complete p height_left (expr_at p height_left)
+pub expr_again : (p : Site) (height_left : ℕ) → Complete p height_left (expr_at p height_left)
 unfolding expr_at
-expr_again p zero row e here rest le h low s = absurd (let some = some_height e in omega arith)
-expr_again p (suc height_left) row e here rest le h low s = layer_again p (expr_at p height_left)
-    height_left (expr_again p height_left) row e here rest le h low s
+expr_again p zero precedence e here rest le h low s = absurd (let some = some_height e in omega arith)
+expr_again p (suc height_left) precedence e here rest le h low s = layer_again p (expr_at p height_left)
+    height_left (expr_again p height_left) precedence e here rest le h low s
 
 -- One list of tokens spells one expression at most.
-pub expr_unique : (p : Place) (row : ℕ) (e f : Expr Path) (here rest behind : List Token) → row ≤ 13
-    → Stops row rest → Stops row behind
-    → ExprHere p row e here rest → ExprHere p row f here behind → (e ≡ f) × (rest ≡ behind)
-expr_unique p row e f here rest behind le s t h k =
+pub expr_unique : (p : Site) (precedence : ℕ) (e f : Expr Path) (here rest behind : List Token) → precedence ≤ 13
+    → Stops precedence rest → Stops precedence behind
+    → ExprHere p precedence e here rest → ExprHere p precedence f here behind → (e ≡ f) × (rest ≡ behind)
+expr_unique p precedence e f here rest behind le s t h k =
     let height_left = max (height e) (height f) in
-    let one = expr_again p height_left row e here rest le h (omega arith) s in
-    let two = expr_again p height_left row f here behind le k (omega arith) t in
+    let one = expr_again p height_left precedence e here rest le h (omega arith) s in
+    let two = expr_again p height_left precedence f here behind le k (omega arith) t in
     some_pair_parts e f rest behind (sym one ∙ two)

@@ -13,7 +13,7 @@ use Rattle.edd_syntax.specs.Reference.{Path}
 use Rattle.edd_syntax.specs.Expression as tree
 use Rattle.edd_syntax.specs.Expression.{Expr, Text, Value, Arguments}
 use Rattle.edd_syntax.specs.WellFormed.{is_text, is_not_empty, is_path, is_plain, is_expr, are_arguments, is_pure_expr}
-use Rattle.edd_syntax.specs.Grammar.{Place, InAttribute, loosest, row_of, comparison_row, unary_sign, joined, MembersHere, PathHere, PlainHere, StringsHere, TextHere, ExprHere, ArgumentsHere, MoreArgumentsHere, ConditionHere}
+use Rattle.edd_syntax.specs.Grammar.{Site, InAttribute, loosest, precedence_of, comparison_precedence, unary_sign, joined, MembersHere, PathHere, PlainHere, StringsHere, TextHere, ExprHere, ArgumentsHere, MoreArgumentsHere, ConditionHere}
 use Rattle.edd_grammar.specs.KeptTokens.{is_kept_token, Kept}
 use Rattle.edd_grammar.proofs.Steps.{both_true}
 
@@ -118,72 +118,72 @@ plain_path p h = here p.members h
     here (m ∷ ms) h = absurd (cc ((both_true (is_name p.base) false h).1))
 
 mutual
-  pub expr_kept : (p : Place) (row : ℕ) (e : Expr Path) (here rest : List Token)
-      → ExprHere p row e here rest → Kept here → Both (is_expr is_path is_plain e) rest
-  expr_kept p row (tree.Literal n) here rest h k = kept_next (Integer n) here rest h k
-  expr_kept p row tree.Decimal here rest h k = kept_next token.Decimal here rest h k
-  expr_kept p row (tree.Reference from) here rest h k = path_kept from here rest h k
-  expr_kept p row (tree.Indexed array index) here rest h k =
+  pub expr_kept : (p : Site) (precedence : ℕ) (e : Expr Path) (here rest : List Token)
+      → ExprHere p precedence e here rest → Kept here → Both (is_expr is_path is_plain e) rest
+  expr_kept p precedence (tree.Literal n) here rest h k = kept_next (Integer n) here rest h k
+  expr_kept p precedence tree.Decimal here rest h k = kept_next token.Decimal here rest h k
+  expr_kept p precedence (tree.Reference from) here rest h k = path_kept from here rest h k
+  expr_kept p precedence (tree.Indexed array index) here rest h k =
       let name = plain_kept array here h.0 h.2 k in
       let inside = expr_kept p (loosest p) index h.1 _ h.4
       (kept_next (Sign sign.OpenBracket) h.0 h.1 h.3 name.1).1 in (
         rw (plain_path array name.0, name.0, inside.0) refl,
         kept_tail (Sign sign.CloseBracket) rest inside.1,
       )
-  expr_kept p row (tree.Parentheses inner) here rest h k =
+  expr_kept p precedence (tree.Parentheses inner) here rest h k =
       let inside = expr_kept p (loosest p) inner h.0 _ h.2
       (kept_next (Sign sign.OpenParenthesis) here h.0 h.1 k).1 in
       (inside.0, kept_tail (Sign sign.CloseParenthesis) rest inside.1)
-  expr_kept p row (tree.Call function arguments) here rest h k =
+  expr_kept p precedence (tree.Call function arguments) here rest h k =
       let name = plain_kept function here h.1 h.3 k in
       let all = arguments_kept p arguments h.2 _ h.5
       (kept_next (Sign sign.OpenParenthesis) h.1 h.2 h.4 name.1).1 in
       (rw (name.0, all.0) refl, kept_tail (Sign sign.CloseParenthesis) rest all.1)
-  expr_kept p row (tree.Increment PreIncrement to) here rest h k =
+  expr_kept p precedence (tree.Increment PreIncrement to) here rest h k =
       path_kept to h.2 rest h.4 (kept_next (Sign sign.Increment) here h.2 h.3 k).1
-  expr_kept p row (tree.Increment PreDecrement to) here rest h k =
+  expr_kept p precedence (tree.Increment PreDecrement to) here rest h k =
       path_kept to h.2 rest h.4 (kept_next (Sign sign.Decrement) here h.2 h.3 k).1
-  expr_kept p row (tree.Increment PostIncrement to) here rest h k = let name =
+  expr_kept p precedence (tree.Increment PostIncrement to) here rest h k = let name =
       path_kept to here _ h.2 k in (name.0, kept_tail (Sign sign.Increment) rest name.1)
-  expr_kept p row (tree.Increment PostDecrement to) here rest h k = let name =
+  expr_kept p precedence (tree.Increment PostDecrement to) here rest h k = let name =
       path_kept to here _ h.2 k in (name.0, kept_tail (Sign sign.Decrement) rest name.1)
-  expr_kept p row (tree.Unary op operand) here rest h k = expr_kept p 13 operand h.1 rest h.3
+  expr_kept p precedence (tree.Unary op operand) here rest h k = expr_kept p 13 operand h.1 rest h.3
       (kept_next (Sign (unary_sign op)) here h.1 h.2 k).1
-  expr_kept p row (tree.Binary op left right) here rest h k =
-      let first = expr_kept p (row_of op) left here _ h.2 k in
-      let second = expr_kept p (suc (row_of op)) right h.1 rest h.3
+  expr_kept p precedence (tree.Binary op left right) here rest h k =
+      let first = expr_kept p (precedence_of op) left here _ h.2 k in
+      let second = expr_kept p (suc (precedence_of op)) right h.1 rest h.3
       (kept_tail (Sign (sign.Operator op)) h.1 first.1) in
       (rw (first.0, second.0) refl, second.1)
-  expr_kept p row (tree.Compare by left right) here rest h k =
-      let first = expr_kept p (comparison_row by) left here _ h.2 k in
-      let second = expr_kept p (suc (comparison_row by)) right h.1 rest h.3
+  expr_kept p precedence (tree.Compare by left right) here rest h k =
+      let first = expr_kept p (comparison_precedence by) left here _ h.2 k in
+      let second = expr_kept p (suc (comparison_precedence by)) right h.1 rest h.3
       (kept_tail (Sign (sign.Comparison by)) h.1 first.1) in
       (rw (first.0, second.0) refl, second.1)
-  expr_kept p row (tree.LogicalAnd left right) here rest h k =
+  expr_kept p precedence (tree.LogicalAnd left right) here rest h k =
       let first = expr_kept p 4 left here _ h.2 k in
       let second = expr_kept p 5 right h.1 rest h.3 (kept_tail (Sign sign.LogicalAnd) h.1 first.1)
       in
       (rw (first.0, second.0) refl, second.1)
-  expr_kept p row (tree.LogicalOr left right) here rest h k =
+  expr_kept p precedence (tree.LogicalOr left right) here rest h k =
       let first = expr_kept p 3 left here _ h.2 k in
       let second = expr_kept p 4 right h.1 rest h.3 (kept_tail (Sign sign.LogicalOr) h.1 first.1) in
       (rw (first.0, second.0) refl, second.1)
-  expr_kept p row (tree.Conditional test first second) here rest h k =
+  expr_kept p precedence (tree.Conditional test first second) here rest h k =
       let a = expr_kept p 3 test here _ h.3 k in
       let b = expr_kept p (loosest p) first h.1 _ h.4 (kept_tail (Sign sign.Question) h.1 a.1) in
       let c = expr_kept p 2 second h.2 rest h.5 (kept_tail (Sign sign.Colon) h.2 b.1) in
       (rw (a.0, b.0, c.0) refl, c.1)
-  expr_kept p row (tree.Assign to value) here rest h k =
+  expr_kept p precedence (tree.Assign to value) here rest h k =
       let name = path_kept to here _ h.3 k in
       let by = expr_kept p 1 value h.2 rest h.4 (kept_tail (Sign sign.Equals) h.2 name.1) in
       (rw (name.0, by.0) refl, by.1)
-  expr_kept p row (tree.CompoundAssign op to value) here rest h k =
+  expr_kept p precedence (tree.CompoundAssign op to value) here rest h k =
       let name = path_kept to here _ h.3 k in
       let by = expr_kept p 1 value h.2 rest h.4
       (kept_tail (Sign (sign.CompoundAssign op)) h.2 name.1) in
       (rw (name.0, by.0) refl, by.1)
 
-  arguments_kept : (p : Place) (arguments : Arguments Path) (here rest : List Token)
+  arguments_kept : (p : Site) (arguments : Arguments Path) (here rest : List Token)
       → ArgumentsHere p arguments here rest → Kept here
       → Both (are_arguments is_path is_plain arguments) rest
   arguments_kept p tree.Nil here rest h k = (refl, kept_same here rest h k)
@@ -196,7 +196,7 @@ mutual
       let more = more_kept p others h.0 rest h.2 first.1 in
       (rw (first.0, more.0) refl, more.1)
 
-  more_kept : (p : Place) (arguments : Arguments Path) (here rest : List Token)
+  more_kept : (p : Site) (arguments : Arguments Path) (here rest : List Token)
       → MoreArgumentsHere p arguments here rest → Kept here
       → Both (are_arguments is_path is_plain arguments) rest
   more_kept p tree.Nil here rest h k = (refl, kept_same here rest h k)
@@ -211,44 +211,44 @@ mutual
       (rw (first.0, more.0) refl, more.1)
 
 -- an expression of an attribute has no assignment, increment or call
-pure_expr : (row : ℕ) (e : Expr Path) (here rest : List Token)
-    → ExprHere InAttribute row e here rest → is_expr is_path is_plain e ≡ true
+pure_expr : (precedence : ℕ) (e : Expr Path) (here rest : List Token)
+    → ExprHere InAttribute precedence e here rest → is_expr is_path is_plain e ≡ true
     → is_pure_expr is_path is_plain e ≡ true
-pure_expr row (tree.Literal n) here rest h e = e
-pure_expr row tree.Decimal here rest h e = e
-pure_expr row (tree.Reference from) here rest h e = e
-pure_expr row (tree.Indexed array index) here rest h e =
+pure_expr precedence (tree.Literal n) here rest h e = e
+pure_expr precedence tree.Decimal here rest h e = e
+pure_expr precedence (tree.Reference from) here rest h e = e
+pure_expr precedence (tree.Indexed array index) here rest h e =
     let parts = both_true (is_path array && is_plain array) (is_expr is_path is_plain index) e in
     rw (parts.0, pure_expr (loosest InAttribute) index h.1 _ h.4 parts.1) refl
-pure_expr row (tree.Parentheses inner) here rest h e = pure_expr (loosest InAttribute) inner h.0 _
+pure_expr precedence (tree.Parentheses inner) here rest h e = pure_expr (loosest InAttribute) inner h.0 _
     h.2 e
-pure_expr row (tree.Call function arguments) here rest h e = absurd h.0
-pure_expr row (tree.Increment PreIncrement to) here rest h e = absurd h.0
-pure_expr row (tree.Increment PreDecrement to) here rest h e = absurd h.0
-pure_expr row (tree.Increment PostIncrement to) here rest h e = absurd h.0
-pure_expr row (tree.Increment PostDecrement to) here rest h e = absurd h.0
-pure_expr row (tree.Unary op operand) here rest h e = pure_expr 13 operand h.1 rest h.3 e
-pure_expr row (tree.Binary op left right) here rest h e =
+pure_expr precedence (tree.Call function arguments) here rest h e = absurd h.0
+pure_expr precedence (tree.Increment PreIncrement to) here rest h e = absurd h.0
+pure_expr precedence (tree.Increment PreDecrement to) here rest h e = absurd h.0
+pure_expr precedence (tree.Increment PostIncrement to) here rest h e = absurd h.0
+pure_expr precedence (tree.Increment PostDecrement to) here rest h e = absurd h.0
+pure_expr precedence (tree.Unary op operand) here rest h e = pure_expr 13 operand h.1 rest h.3 e
+pure_expr precedence (tree.Binary op left right) here rest h e =
     let parts = both_true (is_expr is_path is_plain left) (is_expr is_path is_plain right) e in
     rw (
-      pure_expr (row_of op) left here _ h.2 parts.0,
-      pure_expr (suc (row_of op)) right h.1 rest
+      pure_expr (precedence_of op) left here _ h.2 parts.0,
+      pure_expr (suc (precedence_of op)) right h.1 rest
           h.3 parts.1,
     ) refl
-pure_expr row (tree.Compare by left right) here rest h e =
+pure_expr precedence (tree.Compare by left right) here rest h e =
     let parts = both_true (is_expr is_path is_plain left) (is_expr is_path is_plain right) e in
     rw (
-      pure_expr (comparison_row by) left here _ h.2 parts.0,
-      pure_expr (suc (comparison_row by))
+      pure_expr (comparison_precedence by) left here _ h.2 parts.0,
+      pure_expr (suc (comparison_precedence by))
           right h.1 rest h.3 parts.1,
     ) refl
-pure_expr row (tree.LogicalAnd left right) here rest h e =
+pure_expr precedence (tree.LogicalAnd left right) here rest h e =
     let parts = both_true (is_expr is_path is_plain left) (is_expr is_path is_plain right) e in
     rw (pure_expr 4 left here _ h.2 parts.0, pure_expr 5 right h.1 rest h.3 parts.1) refl
-pure_expr row (tree.LogicalOr left right) here rest h e =
+pure_expr precedence (tree.LogicalOr left right) here rest h e =
     let parts = both_true (is_expr is_path is_plain left) (is_expr is_path is_plain right) e in
     rw (pure_expr 3 left here _ h.2 parts.0, pure_expr 4 right h.1 rest h.3 parts.1) refl
-pure_expr row (tree.Conditional test first second) here rest h e =
+pure_expr precedence (tree.Conditional test first second) here rest h e =
     let parts = three_true (is_expr is_path is_plain test) (is_expr is_path is_plain first)
     (is_expr is_path is_plain second) e in
     rw (
@@ -257,15 +257,15 @@ pure_expr row (tree.Conditional test first second) here rest h e =
           parts.1,
       pure_expr 2 second h.2 rest h.5 parts.2,
     ) refl
-pure_expr row (tree.Assign to value) here rest h e = absurd h.0
-pure_expr row (tree.CompoundAssign op to value) here rest h e = absurd h.0
+pure_expr precedence (tree.Assign to value) here rest h e = absurd h.0
+pure_expr precedence (tree.CompoundAssign op to value) here rest h e = absurd h.0
 
-pub pure_kept : (row : ℕ) (e : Expr Path) (here rest : List Token)
-    → ExprHere InAttribute row e here rest → Kept here → Both (is_pure_expr is_path is_plain e) rest
-pure_kept row e here rest h k = let all = expr_kept InAttribute row e here rest h
-    k in (pure_expr row e here rest h all.0, all.1)
+pub pure_kept : (precedence : ℕ) (e : Expr Path) (here rest : List Token)
+    → ExprHere InAttribute precedence e here rest → Kept here → Both (is_pure_expr is_path is_plain e) rest
+pure_kept precedence e here rest h k = let all = expr_kept InAttribute precedence e here rest h
+    k in (pure_expr precedence e here rest h all.0, all.1)
 
-pub condition_kept : (p : Place) (e : Expr Path) (here rest : List Token)
+pub condition_kept : (p : Site) (e : Expr Path) (here rest : List Token)
     → ConditionHere p e here rest → Kept here → Both (is_expr is_path is_plain e) rest
 condition_kept p e here rest h k =
     let inside = expr_kept p (loosest p) e h.0 _ h.2

@@ -7,7 +7,7 @@ use Rattle.edd_syntax.specs.Token.{Token, Reserved, Identifier, Integer, String,
 use Rattle.edd_syntax.specs.Token as token
 use Rattle.edd_syntax.specs.Reference.{Path}
 use Rattle.edd_syntax.specs.Expression.{Expr}
-use Rattle.edd_syntax.specs.Grammar.{Place, loosest, ExprHere, ConditionHere}
+use Rattle.edd_syntax.specs.Grammar.{Site, loosest, ExprHere, ConditionHere}
 use Rattle.edd_syntax.specs.StatementGrammar.{LabelHere}
 use Rattle.edd_syntax.specs.Size.{height}
 use Rattle.edd_grammar.specs.Signs.{same_sign}
@@ -66,7 +66,7 @@ label_shorter z here rest (inr h) = omega (arith, ap length h.2)
 
 -- ---- conditions
 
-pub condition_sound : (p : Place) (height_left : ℕ) (here : List Token) (e : Expr Path)
+pub condition_sound : (p : Site) (height_left : ℕ) (here : List Token) (e : Expr Path)
     (rest : List Token) → condition_at p height_left here ≡ Some (e, rest)
     → ConditionHere p e here rest × (height e ≤ height_left)
 unfolding condition_at
@@ -86,7 +86,7 @@ condition_sound p height_left here e rest x =
       s.0.low,
     )
 
-pub condition_again : (p : Place) (height_left : ℕ) (e : Expr Path) (here rest : List Token)
+pub condition_again : (p : Site) (height_left : ℕ) (e : Expr Path) (here rest : List Token)
     → ConditionHere p e here rest → height e ≤ height_left → condition_at p height_left here
     ≡ Some (e, rest)
 unfolding condition_at
@@ -96,7 +96,7 @@ condition_again p height_left e here rest h low =
     rw (h.1, expect_again sign.OpenParenthesis h.0, read, expect_again sign.CloseParenthesis rest)
     refl
 
-pub condition_shorter : (p : Place) (e : Expr Path) (here rest : List Token)
+pub condition_shorter : (p : Site) (e : Expr Path) (here rest : List Token)
     → ConditionHere p e here rest → length rest < length here
 condition_shorter p e here rest h =
     omega (arith, ap length h.1, expr_shorter p (loosest p) e h.0 _ h.2)

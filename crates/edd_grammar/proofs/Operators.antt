@@ -16,18 +16,18 @@ use Rattle.edd_syntax.specs.Token as token
 use Rattle.edd_syntax.specs.Reference.{Path}
 use Rattle.edd_syntax.specs.Expression as tree
 use Rattle.edd_syntax.specs.Expression.{Expr}
-use Rattle.edd_syntax.specs.Grammar.{Place, InAttribute, InMethod, IsMethod, row_of, comparison_row, unary_sign, PathHere, ExprHere}
+use Rattle.edd_syntax.specs.Grammar.{Site, InAttribute, InMethod, IsMethod, precedence_of, comparison_precedence, unary_sign, PathHere, ExprHere}
 use Rattle.edd_syntax.specs.Size.{height}
-use Rattle.edd_grammar.specs.Signs.{Infix, Plain, Comparing, Both, Either, infix_row, infix_sign, infix_tree, infix_of, unary_of, before_of, behind_of, Assignment, Simple, Compound, assignment_sign, assignment_tree, assignment_of}
+use Rattle.edd_grammar.specs.Signs.{Infix, Plain, Comparing, Both, Either, infix_precedence, infix_sign, infix_tree, infix_of, unary_of, before_of, behind_of, Assignment, Simple, Compound, assignment_sign, assignment_tree, assignment_of}
 use Rattle.edd_grammar.specs.Reading.{◌>>=◌, Read}
 use Rattle.edd_grammar.specs.ExpressionReading.{is_method, operator_at, assignment_at}
 use Rattle.edd_grammar.proofs.Steps.{bind_some, guard_some, as_read, le_is}
 
-pub method_is : (p : Place) → is_method p ≡ true → IsMethod p
+pub method_is : (p : Site) → is_method p ≡ true → IsMethod p
 method_is InAttribute e = absurd cc
 method_is InMethod e = tt
 
-pub method_again : (p : Place) → IsMethod p → is_method p ≡ true
+pub method_again : (p : Site) → IsMethod p → is_method p ≡ true
 method_again InMethod m = refl
 method_again InAttribute m = absurd m
 
@@ -46,48 +46,48 @@ infix_again (Comparing o) = refl
 infix_again Both = refl
 infix_again Either = refl
 
-operator_from : (op : Operator) → 3 ≤ row_of op
+operator_from : (op : Operator) → 3 ≤ precedence_of op
 operator_from operator.Add = lit≤ tt
 operator_from _ = lit≤ tt
 
-operator_to : (op : Operator) → row_of op ≤ 12
+operator_to : (op : Operator) → precedence_of op ≤ 12
 operator_to operator.Add = lit≤ tt
 operator_to _ = lit≤ tt
 
-comparison_from : (by : Comparison) → 3 ≤ comparison_row by
+comparison_from : (by : Comparison) → 3 ≤ comparison_precedence by
 comparison_from comparison.Equal = lit≤ tt
 comparison_from _ = lit≤ tt
 
-comparison_to : (by : Comparison) → comparison_row by ≤ 12
+comparison_to : (by : Comparison) → comparison_precedence by ≤ 12
 comparison_to comparison.Equal = lit≤ tt
 comparison_to _ = lit≤ tt
 
-pub row_from : (op : Infix) → 3 ≤ infix_row op
+pub row_from : (op : Infix) → 3 ≤ infix_precedence op
 row_from (Plain o) = operator_from o
 row_from (Comparing o) = comparison_from o
 row_from Both = lit≤ tt
 row_from Either = lit≤ tt
 
-pub row_to : (op : Infix) → infix_row op ≤ 12
+pub row_to : (op : Infix) → infix_precedence op ≤ 12
 row_to (Plain o) = operator_to o
 row_to (Comparing o) = comparison_to o
 row_to Both = lit≤ tt
 row_to Either = lit≤ tt
 
 -- what it is for an operator to stand between these operands
-abbrev pub InfixHere : Place → ℕ → Infix → Expr Path → Expr Path → List Token → List Token → Type 0
-InfixHere p row op left right here rest =
-    (row ≤ infix_row op) × (behind : List Token)
-    × ExprHere p (infix_row op) left here (Sign (infix_sign op) ∷ behind)
-    × ExprHere p (suc (infix_row op)) right behind rest
+abbrev pub InfixHere : Site → ℕ → Infix → Expr Path → Expr Path → List Token → List Token → Type 0
+InfixHere p precedence op left right here rest =
+    (precedence ≤ infix_precedence op) × (behind : List Token)
+    × ExprHere p (infix_precedence op) left here (Sign (infix_sign op) ∷ behind)
+    × ExprHere p (suc (infix_precedence op)) right behind rest
 
-pub infix_spelled : (p : Place) (row : ℕ) (op : Infix) (left right : Expr Path)
+pub infix_spelled : (p : Site) (precedence : ℕ) (op : Infix) (left right : Expr Path)
     (here rest : List Token)
-    → InfixHere p row op left right here rest → ExprHere p row (infix_tree op left right) here rest
-infix_spelled p row (Plain o) left right here rest h = h
-infix_spelled p row (Comparing o) left right here rest h = h
-infix_spelled p row Both left right here rest h = h
-infix_spelled p row Either left right here rest h = h
+    → InfixHere p precedence op left right here rest → ExprHere p precedence (infix_tree op left right) here rest
+infix_spelled p precedence (Plain o) left right here rest h = h
+infix_spelled p precedence (Comparing o) left right here rest h = h
+infix_spelled p precedence Both left right here rest h = h
+infix_spelled p precedence Either left right here rest h = h
 
 pub infix_height : (op : Infix) (left right : Expr Path) → height (infix_tree op left right)
     ≡ suc (max (height left) (height right))
@@ -96,21 +96,21 @@ infix_height (Comparing o) left right = omega arith
 infix_height Both left right = omega arith
 infix_height Either left right = omega arith
 
-pub operator_is : (row : ℕ) (here : List Token) (op : Infix) (rest : List Token)
-    → operator_at row here ≡ Some (op, rest) → (here ≡ Sign (infix_sign op) ∷ rest)
-    × (row ≤ infix_row op)
-operator_is row [] op rest e = absurd cc
-operator_is row (Sign s ∷ behind) op rest e =
+pub operator_is : (precedence : ℕ) (here : List Token) (op : Infix) (rest : List Token)
+    → operator_at precedence here ≡ Some (op, rest) → (here ≡ Sign (infix_sign op) ∷ rest)
+    × (precedence ≤ infix_precedence op)
+operator_is precedence [] op rest e = absurd cc
+operator_is precedence (Sign s ∷ behind) op rest e =
     let o = bind_some (infix_of s) _ (op, rest) e in
-    let g = guard_some (nat_le row (infix_row o.0)) (Some (o.0, behind)) (op, rest) o.2 in
-    as_read (λ k t. (Sign s ∷ behind ≡ Sign (infix_sign k) ∷ t) × (row ≤ infix_row k)) o.0 op behind
+    let g = guard_some (nat_le precedence (infix_precedence o.0)) (Some (o.0, behind)) (op, rest) o.2 in
+    as_read (λ k t. (Sign s ∷ behind ≡ Sign (infix_sign k) ∷ t) × (precedence ≤ infix_precedence k)) o.0 op behind
     rest g.1
-    (ap (λ k. Sign k ∷ behind) (infix_is s o.0 o.1), le_is row (infix_row o.0) g.0)
-operator_is row (Reserved m ∷ behind) op rest e = absurd cc
-operator_is row (Identifier m ∷ behind) op rest e = absurd cc
-operator_is row (Integer m ∷ behind) op rest e = absurd cc
-operator_is row (token.Decimal ∷ behind) op rest e = absurd cc
-operator_is row (String m ∷ behind) op rest e = absurd cc
+    (ap (λ k. Sign k ∷ behind) (infix_is s o.0 o.1), le_is precedence (infix_precedence o.0) g.0)
+operator_is precedence (Reserved m ∷ behind) op rest e = absurd cc
+operator_is precedence (Identifier m ∷ behind) op rest e = absurd cc
+operator_is precedence (Integer m ∷ behind) op rest e = absurd cc
+operator_is precedence (token.Decimal ∷ behind) op rest e = absurd cc
+operator_is precedence (String m ∷ behind) op rest e = absurd cc
 
 -- ---- operators before an operand
 
@@ -131,25 +131,25 @@ unary_again unary_operator.Complement = refl
 
 -- ---- `++` and `--`
 
-pub before_spelled : (p : Place) (row : ℕ) (s : Symbol) (op : IncrementOperator) (to : Path)
+pub before_spelled : (p : Site) (precedence : ℕ) (s : Symbol) (op : IncrementOperator) (to : Path)
     (here rest : List Token)
-    → before_of s ≡ Some op → IsMethod p → row ≤ 14 → PathHere to here rest
-    → ExprHere p row (tree.Increment op to) (Sign s ∷ here) rest
-before_spelled p row sign.Increment op to here rest e m le h =
+    → before_of s ≡ Some op → IsMethod p → precedence ≤ 14 → PathHere to here rest
+    → ExprHere p precedence (tree.Increment op to) (Sign s ∷ here) rest
+before_spelled p precedence sign.Increment op to here rest e m le h =
     let same : PreIncrement ≡ op = cc in rw (sym same) (m, le, here, refl, h)
-before_spelled p row sign.Decrement op to here rest e m le h =
+before_spelled p precedence sign.Decrement op to here rest e m le h =
     let same : PreDecrement ≡ op = cc in rw (sym same) (m, le, here, refl, h)
-before_spelled p row _ op to here rest e m le h = absurd cc
+before_spelled p precedence _ op to here rest e m le h = absurd cc
 
-pub behind_spelled : (p : Place) (row : ℕ) (s : Symbol) (op : IncrementOperator) (to : Path)
+pub behind_spelled : (p : Site) (precedence : ℕ) (s : Symbol) (op : IncrementOperator) (to : Path)
     (here rest : List Token)
-    → behind_of s ≡ Some op → IsMethod p → row ≤ 14 → PathHere to here (Sign s ∷ rest)
-    → ExprHere p row (tree.Increment op to) here rest
-behind_spelled p row sign.Increment op to here rest e m le h =
+    → behind_of s ≡ Some op → IsMethod p → precedence ≤ 14 → PathHere to here (Sign s ∷ rest)
+    → ExprHere p precedence (tree.Increment op to) here rest
+behind_spelled p precedence sign.Increment op to here rest e m le h =
     let same : PostIncrement ≡ op = cc in rw (sym same) (m, le, h)
-behind_spelled p row sign.Decrement op to here rest e m le h =
+behind_spelled p precedence sign.Decrement op to here rest e m le h =
     let same : PostDecrement ≡ op = cc in rw (sym same) (m, le, h)
-behind_spelled p row _ op to here rest e m le h = absurd cc
+behind_spelled p precedence _ op to here rest e m le h = absurd cc
 
 -- ---- assignments
 
@@ -174,18 +174,18 @@ assignment_is (token.Decimal ∷ behind) op rest e = absurd cc
 assignment_is (String m ∷ behind) op rest e = absurd cc
 
 -- what it is for an assignment to stand there
-abbrev pub AssignmentHere : Place → ℕ → Assignment → Path → Expr Path → List Token → List Token
+abbrev pub AssignmentHere : Site → ℕ → Assignment → Path → Expr Path → List Token → List Token
     → Type 0
-AssignmentHere p row op to value here rest =
-    IsMethod p × (row ≤ 1) × (behind : List Token)
+AssignmentHere p precedence op to value here rest =
+    IsMethod p × (precedence ≤ 1) × (behind : List Token)
     × PathHere to here (Sign (assignment_sign op) ∷ behind) × ExprHere p 1 value behind rest
 
-pub assignment_spelled : (p : Place) (row : ℕ) (op : Assignment) (to : Path) (value : Expr Path)
+pub assignment_spelled : (p : Site) (precedence : ℕ) (op : Assignment) (to : Path) (value : Expr Path)
     (here rest : List Token)
-    → AssignmentHere p row op to value here rest
-    → ExprHere p row (assignment_tree op to value) here rest
-assignment_spelled p row Simple to value here rest h = h
-assignment_spelled p row (Compound o) to value here rest h = h
+    → AssignmentHere p precedence op to value here rest
+    → ExprHere p precedence (assignment_tree op to value) here rest
+assignment_spelled p precedence Simple to value here rest h = h
+assignment_spelled p precedence (Compound o) to value here rest h = h
 
 pub assignment_height : (op : Assignment) (to : Path) (value : Expr Path)
     → height (assignment_tree op to value) ≡ suc (height value)
@@ -194,52 +194,52 @@ assignment_height (Compound o) to value = omega arith
 
 -- ---- what follows an expression
 
--- no operator of this row or a tighter one is next
+-- no operator of this precedence or a tighter one is next
 abbrev pub Ends : ℕ → List Token → Type 0
-Ends row here = operator_at row here ≡ None
+Ends precedence here = operator_at precedence here ≡ None
 
-pub ends_before : (row : ℕ) (op : Infix) (here : List Token)
-    → Ends row (Sign (infix_sign op) ∷ here) → infix_row op < row
-ends_before row (Plain o) here e = grind arith
-ends_before row (Comparing o) here e = grind arith
-ends_before row Both here e = grind arith
-ends_before row Either here e = grind arith
+pub ends_before : (precedence : ℕ) (op : Infix) (here : List Token)
+    → Ends precedence (Sign (infix_sign op) ∷ here) → infix_precedence op < precedence
+ends_before precedence (Plain o) here e = grind arith
+ends_before precedence (Comparing o) here e = grind arith
+ends_before precedence Both here e = grind arith
+ends_before precedence Either here e = grind arith
 
--- the operator, where it stands in this row or a tighter one
+-- the operator, where it stands in this precedence or a tighter one
 abbrev in_row : ℕ → List Token → Infix → Read Infix
-in_row row rest op = cond (nat_le row (infix_row op)) (Some (op, rest)) None
+in_row precedence rest op = cond (nat_le precedence (infix_precedence op)) (Some (op, rest)) None
 
--- without any operator, or with one in a row that is looser than this one
-found_cases : (found : Option Infix) (row : ℕ) (rest : List Token)
-    → ((op : Infix) → found ≡ Some op → nat_le row (infix_row op) ≡ false)
-    → (found >>= in_row row rest) ≡ None
-found_cases None row rest h = refl
-found_cases (Some op) row rest h = rw (h op refl) refl
+-- without any operator, or with one in a precedence that is looser than this one
+found_cases : (found : Option Infix) (precedence : ℕ) (rest : List Token)
+    → ((op : Infix) → found ≡ Some op → nat_le precedence (infix_precedence op) ≡ false)
+    → (found >>= in_row precedence rest) ≡ None
+found_cases None precedence rest h = refl
+found_cases (Some op) precedence rest h = rw (h op refl) refl
 
-not_in : (row : ℕ) (op : Infix) → infix_row op < row → nat_le row (infix_row op) ≡ false
-not_in row op lt = grind arith
+not_in : (precedence : ℕ) (op : Infix) → infix_precedence op < precedence → nat_le precedence (infix_precedence op) ≡ false
+not_in precedence op lt = grind arith
 
--- where no operator of row 3 or a looser one is next, there is none at all
-pub ends_all : (row row' : ℕ) (here : List Token) → row' ≤ 3 → Ends row' here → Ends row here
-ends_all row row' (Sign s ∷ here) le e =
-    found_cases (infix_of s) row here
-    (λ op some. absurd (let f = ends_before row' op here
-    (ap (λ t. operator_at row' (Sign t ∷ here)) (sym (infix_is s op some)) ∙ e) in let g =
+-- where no operator of precedence 3 or a looser one is next, there is none at all
+pub ends_all : (precedence precedence' : ℕ) (here : List Token) → precedence' ≤ 3 → Ends precedence' here → Ends precedence here
+ends_all precedence precedence' (Sign s ∷ here) le e =
+    found_cases (infix_of s) precedence here
+    (λ op some. absurd (let f = ends_before precedence' op here
+    (ap (λ t. operator_at precedence' (Sign t ∷ here)) (sym (infix_is s op some)) ∙ e) in let g =
     row_from op in omega arith))
-ends_all row row' [] le e = refl
-ends_all row row' (Identifier n ∷ here) le e = refl
-ends_all row row' (Reserved n ∷ here) le e = refl
-ends_all row row' (Integer n ∷ here) le e = refl
-ends_all row row' (token.Decimal ∷ here) le e = refl
-ends_all row row' (String n ∷ here) le e = refl
+ends_all precedence precedence' [] le e = refl
+ends_all precedence precedence' (Identifier n ∷ here) le e = refl
+ends_all precedence precedence' (Reserved n ∷ here) le e = refl
+ends_all precedence precedence' (Integer n ∷ here) le e = refl
+ends_all precedence precedence' (token.Decimal ∷ here) le e = refl
+ends_all precedence precedence' (String n ∷ here) le e = refl
 
--- no operator is in row 13 or a tighter one
-pub ends_tight : (row : ℕ) (here : List Token) → 13 ≤ row → Ends row here
-ends_tight row (Sign s ∷ here) le = found_cases (infix_of s) row here
-    (λ op some. not_in row op (let g = row_to op in omega arith))
-ends_tight row [] le = refl
-ends_tight row (Identifier n ∷ here) le = refl
-ends_tight row (Reserved n ∷ here) le = refl
-ends_tight row (Integer n ∷ here) le = refl
-ends_tight row (token.Decimal ∷ here) le = refl
-ends_tight row (String n ∷ here) le = refl
+-- no operator is in precedence 13 or a tighter one
+pub ends_tight : (precedence : ℕ) (here : List Token) → 13 ≤ precedence → Ends precedence here
+ends_tight precedence (Sign s ∷ here) le = found_cases (infix_of s) precedence here
+    (λ op some. not_in precedence op (let g = row_to op in omega arith))
+ends_tight precedence [] le = refl
+ends_tight precedence (Identifier n ∷ here) le = refl
+ends_tight precedence (Reserved n ∷ here) le = refl
+ends_tight precedence (Integer n ∷ here) le = refl
+ends_tight precedence (token.Decimal ∷ here) le = refl
+ends_tight precedence (String n ∷ here) le = refl

@@ -12,7 +12,7 @@ use Rattle.edd_syntax.specs.Token as token
 use Rattle.edd_syntax.specs.Reference.{Path}
 use Rattle.edd_syntax.specs.Expression as tree
 use Rattle.edd_syntax.specs.Expression.{Expr, Argument, Text, Value, Arguments}
-use Rattle.edd_syntax.specs.Grammar.{Place, loosest, row_of, comparison_row, unary_sign, MembersHere, PathHere, StringsHere, TextHere, ExprHere, ArgumentsHere, MoreArgumentsHere}
+use Rattle.edd_syntax.specs.Grammar.{Site, loosest, precedence_of, comparison_precedence, unary_sign, MembersHere, PathHere, StringsHere, TextHere, ExprHere, ArgumentsHere, MoreArgumentsHere}
 use Rattle.edd_grammar.specs.Reading.{at, is_text}
 
 members_shorter : (ms : List Name) (here rest : List Token) → MembersHere ms here rest
@@ -36,62 +36,62 @@ text_shorter (Quoted raw) here rest h =
 text_shorter (Key k) here rest h = omega (arith, ap length h)
 
 mutual
-  pub expr_shorter : (p : Place) (row : ℕ) (e : Expr Path) (here rest : List Token)
-      → ExprHere p row e here rest → length rest < length here
-  expr_shorter p row (tree.Literal n) here rest h = omega (arith, ap length h)
-  expr_shorter p row tree.Decimal here rest h = omega (arith, ap length h)
-  expr_shorter p row (tree.Reference r) here rest h = path_shorter r here rest h
-  expr_shorter p row (tree.Indexed a e) here rest h =
+  pub expr_shorter : (p : Site) (precedence : ℕ) (e : Expr Path) (here rest : List Token)
+      → ExprHere p precedence e here rest → length rest < length here
+  expr_shorter p precedence (tree.Literal n) here rest h = omega (arith, ap length h)
+  expr_shorter p precedence tree.Decimal here rest h = omega (arith, ap length h)
+  expr_shorter p precedence (tree.Reference r) here rest h = path_shorter r here rest h
+  expr_shorter p precedence (tree.Indexed a e) here rest h =
       omega (
         arith,
         ap length h.2.1,
         ap length h.3,
         expr_shorter p (loosest p) e h.1 _ h.4,
       )
-  expr_shorter p row (tree.Parentheses e) here rest h =
+  expr_shorter p precedence (tree.Parentheses e) here rest h =
       omega (arith, ap length h.1, expr_shorter p (loosest p) e h.0 _ h.2)
-  expr_shorter p row (tree.Call f args) here rest h =
+  expr_shorter p precedence (tree.Call f args) here rest h =
       omega (arith, ap length h.3.1, ap length h.4, arguments_shorter p args h.2 _ h.5)
-  expr_shorter p row (tree.Increment PreIncrement r) here rest h =
+  expr_shorter p precedence (tree.Increment PreIncrement r) here rest h =
       omega (arith, ap length h.3, path_shorter r h.2 rest h.4)
-  expr_shorter p row (tree.Increment PreDecrement r) here rest h =
+  expr_shorter p precedence (tree.Increment PreDecrement r) here rest h =
       omega (arith, ap length h.3, path_shorter r h.2 rest h.4)
-  expr_shorter p row (tree.Increment PostIncrement r) here rest h =
+  expr_shorter p precedence (tree.Increment PostIncrement r) here rest h =
       omega (arith, path_shorter r here _ h.2)
-  expr_shorter p row (tree.Increment PostDecrement r) here rest h =
+  expr_shorter p precedence (tree.Increment PostDecrement r) here rest h =
       omega (arith, path_shorter r here _ h.2)
-  expr_shorter p row (tree.Unary op e) here rest h =
+  expr_shorter p precedence (tree.Unary op e) here rest h =
       omega (arith, ap length h.2, expr_shorter p 13 e h.1 rest h.3)
-  expr_shorter p row (tree.Binary op a b) here rest h =
+  expr_shorter p precedence (tree.Binary op a b) here rest h =
       omega (
         arith,
-        expr_shorter p (row_of op) a here _ h.2,
-        expr_shorter p (suc (row_of op)) b h.1
+        expr_shorter p (precedence_of op) a here _ h.2,
+        expr_shorter p (suc (precedence_of op)) b h.1
             rest h.3,
       )
-  expr_shorter p row (tree.Compare op a b) here rest h =
+  expr_shorter p precedence (tree.Compare op a b) here rest h =
       omega (
         arith,
-        expr_shorter p (comparison_row op) a here _ h.2,
-        expr_shorter p (suc (comparison_row op)) b h.1 rest h.3,
+        expr_shorter p (comparison_precedence op) a here _ h.2,
+        expr_shorter p (suc (comparison_precedence op)) b h.1 rest h.3,
       )
-  expr_shorter p row (tree.LogicalAnd a b) here rest h =
+  expr_shorter p precedence (tree.LogicalAnd a b) here rest h =
       omega (arith, expr_shorter p 4 a here _ h.2, expr_shorter p 5 b h.1 rest h.3)
-  expr_shorter p row (tree.LogicalOr a b) here rest h =
+  expr_shorter p precedence (tree.LogicalOr a b) here rest h =
       omega (arith, expr_shorter p 3 a here _ h.2, expr_shorter p 4 b h.1 rest h.3)
-  expr_shorter p row (tree.Conditional c a b) here rest h =
+  expr_shorter p precedence (tree.Conditional c a b) here rest h =
       omega (
         arith,
         expr_shorter p 3 c here _ h.3,
         expr_shorter p (loosest p) a h.1 _ h.4,
         expr_shorter p 2 b h.2 rest h.5,
       )
-  expr_shorter p row (tree.Assign r e) here rest h =
+  expr_shorter p precedence (tree.Assign r e) here rest h =
       omega (arith, path_shorter r here _ h.3, expr_shorter p 1 e h.2 rest h.4)
-  expr_shorter p row (tree.CompoundAssign op r e) here rest h =
+  expr_shorter p precedence (tree.CompoundAssign op r e) here rest h =
       omega (arith, path_shorter r here _ h.3, expr_shorter p 1 e h.2 rest h.4)
 
-  pub arguments_shorter : (p : Place) (args : Arguments Path) (here rest : List Token)
+  pub arguments_shorter : (p : Site) (args : Arguments Path) (here rest : List Token)
       → ArgumentsHere p args here rest → length rest ≤ length here
   arguments_shorter p tree.Nil here rest h = omega (arith, ap length h)
   arguments_shorter p (tree.Cons (Value e) others) here rest h =
@@ -99,7 +99,7 @@ mutual
   arguments_shorter p (tree.Cons (Text w) others) here rest h =
       omega (arith, text_shorter w here h.0 h.1, more_shorter p others h.0 rest h.2)
 
-  pub more_shorter : (p : Place) (args : Arguments Path) (here rest : List Token)
+  pub more_shorter : (p : Site) (args : Arguments Path) (here rest : List Token)
       → MoreArgumentsHere p args here rest → length rest ≤ length here
   more_shorter p tree.Nil here rest h = omega (arith, ap length h)
   more_shorter p (tree.Cons (Value e) others) here rest h =
@@ -129,27 +129,27 @@ pub data Begins : List Token → Type 0 where
 pub path_begins : (r : Path) (here rest : List Token) → PathHere r here rest → Begins here
 path_begins r here rest h = rw h.1 (WithName r.base h.0)
 
-pub begins : (p : Place) (row : ℕ) (e : Expr Path) (here rest : List Token)
-    → ExprHere p row e here rest → Begins here
-begins p row (tree.Literal n) here rest h = rw h (WithNumber n rest)
-begins p row tree.Decimal here rest h = rw h (WithDecimal rest)
-begins p row (tree.Reference r) here rest h = path_begins r here rest h
-begins p row (tree.Indexed a e) here rest h = rw h.2.1 (WithName a.base h.0)
-begins p row (tree.Parentheses e) here rest h =
+pub begins : (p : Site) (precedence : ℕ) (e : Expr Path) (here rest : List Token)
+    → ExprHere p precedence e here rest → Begins here
+begins p precedence (tree.Literal n) here rest h = rw h (WithNumber n rest)
+begins p precedence tree.Decimal here rest h = rw h (WithDecimal rest)
+begins p precedence (tree.Reference r) here rest h = path_begins r here rest h
+begins p precedence (tree.Indexed a e) here rest h = rw h.2.1 (WithName a.base h.0)
+begins p precedence (tree.Parentheses e) here rest h =
     rw h.1 (WithSign sign.OpenParenthesis Parenthesis h.0)
-begins p row (tree.Call f args) here rest h = rw h.3.1 (WithName f.base h.1)
-begins p row (tree.Increment PreIncrement r) here rest h = rw h.3 (WithSign sign.Increment Up h.2)
-begins p row (tree.Increment PreDecrement r) here rest h = rw h.3 (WithSign sign.Decrement Down h.2)
-begins p row (tree.Increment PostIncrement r) here rest h = path_begins r here _ h.2
-begins p row (tree.Increment PostDecrement r) here rest h = path_begins r here _ h.2
-begins p row (tree.Unary op e) here rest h = rw h.2 (WithSign (unary_sign op) (Before op) h.1)
-begins p row (tree.Binary op a b) here rest h = begins p (row_of op) a here _ h.2
-begins p row (tree.Compare op a b) here rest h = begins p (comparison_row op) a here _ h.2
-begins p row (tree.LogicalAnd a b) here rest h = begins p 4 a here _ h.2
-begins p row (tree.LogicalOr a b) here rest h = begins p 3 a here _ h.2
-begins p row (tree.Conditional c a b) here rest h = begins p 3 c here _ h.3
-begins p row (tree.Assign r e) here rest h = path_begins r here _ h.3
-begins p row (tree.CompoundAssign op r e) here rest h = path_begins r here _ h.3
+begins p precedence (tree.Call f args) here rest h = rw h.3.1 (WithName f.base h.1)
+begins p precedence (tree.Increment PreIncrement r) here rest h = rw h.3 (WithSign sign.Increment Up h.2)
+begins p precedence (tree.Increment PreDecrement r) here rest h = rw h.3 (WithSign sign.Decrement Down h.2)
+begins p precedence (tree.Increment PostIncrement r) here rest h = path_begins r here _ h.2
+begins p precedence (tree.Increment PostDecrement r) here rest h = path_begins r here _ h.2
+begins p precedence (tree.Unary op e) here rest h = rw h.2 (WithSign (unary_sign op) (Before op) h.1)
+begins p precedence (tree.Binary op a b) here rest h = begins p (precedence_of op) a here _ h.2
+begins p precedence (tree.Compare op a b) here rest h = begins p (comparison_precedence op) a here _ h.2
+begins p precedence (tree.LogicalAnd a b) here rest h = begins p 4 a here _ h.2
+begins p precedence (tree.LogicalOr a b) here rest h = begins p 3 a here _ h.2
+begins p precedence (tree.Conditional c a b) here rest h = begins p 3 c here _ h.3
+begins p precedence (tree.Assign r e) here rest h = path_begins r here _ h.3
+begins p precedence (tree.CompoundAssign op r e) here rest h = path_begins r here _ h.3
 
 opening_no_text : (s : Symbol) → Opening s → (rest : List Token) → is_text (Sign s ∷ rest) ≡ false
 opening_no_text s Parenthesis rest = refl

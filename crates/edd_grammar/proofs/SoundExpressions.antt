@@ -13,9 +13,9 @@ use Rattle.edd_syntax.specs.Token as token
 use Rattle.edd_syntax.specs.Reference.{Path}
 use Rattle.edd_syntax.specs.Expression as tree
 use Rattle.edd_syntax.specs.Expression.{Expr, Argument, Text, Value, Arguments}
-use Rattle.edd_syntax.specs.Grammar.{Place, InAttribute, InMethod, loosest, IsMethod, unary_sign, PathHere, ExprHere, ArgumentsHere, MoreArgumentsHere}
+use Rattle.edd_syntax.specs.Grammar.{Site, InAttribute, InMethod, loosest, IsMethod, unary_sign, PathHere, ExprHere, ArgumentsHere, MoreArgumentsHere}
 use Rattle.edd_syntax.specs.Size.{height, argument_height}
-use Rattle.edd_grammar.specs.Signs.{infix_row, infix_tree, unary_of, before_of, behind_of, same_sign}
+use Rattle.edd_grammar.specs.Signs.{infix_precedence, infix_tree, unary_of, before_of, behind_of, same_sign}
 use Rattle.edd_grammar.specs.Reading.{at, expect, path_at, is_text, text_at}
 use Rattle.edd_grammar.specs.ExpressionReading.{closing, step_before, is_method, operator_at, assignment_at, increment_at, Inner, argument_at, some_arguments, arguments_at, postfix, index_behind, named_at, unary_behind, parentheses_behind, signed_at, operand_at, joined_at, chain, choice_at, assigned, as_path, assign_at, layer, expr_at}
 use Rattle.edd_grammar.proofs.SameSigns.{same_sign_is}
@@ -23,41 +23,41 @@ use Rattle.edd_grammar.proofs.Steps.{option_cases, bind_some, guard_some, chosen
 use Rattle.edd_grammar.proofs.Operators.{method_is, infix_spelled, infix_height, operator_is, row_from, row_to, unary_is, before_spelled, behind_spelled, assignment_is, assignment_spelled, assignment_height, Ends, ends_before, ends_all, ends_tight}
 use Rattle.edd_grammar.proofs.Texts.{path_behind_sound, path_sound, text_sound}
 
--- where a row may stand, a tighter one may
-pub looser : (p : Place) (row row' : ℕ) (e : Expr Path) (here rest : List Token) → row ≤ row'
-    → ExprHere p row' e here rest → ExprHere p row e here rest
-looser p row row' (tree.Literal n) here rest le h = h
-looser p row row' tree.Decimal here rest le h = h
-looser p row row' (tree.Reference n) here rest le h = h
-looser p row row' (tree.Indexed a e) here rest le h = h
-looser p row row' (tree.Parentheses e) here rest le h = h
-looser p row row' (tree.Call f args) here rest le h = h
-looser p row row' (tree.Increment PreIncrement r) here rest le h = (h.0, omega arith, h.2, h.3, h.4)
-looser p row row' (tree.Increment PreDecrement r) here rest le h = (h.0, omega arith, h.2, h.3, h.4)
-looser p row row' (tree.Increment PostIncrement r) here rest le h = (h.0, omega arith, h.2)
-looser p row row' (tree.Increment PostDecrement r) here rest le h = (h.0, omega arith, h.2)
-looser p row row' (tree.Unary op e) here rest le h = (omega arith, h.1, h.2, h.3)
-looser p row row' (tree.Binary op a b) here rest le h = (omega arith, h.1, h.2, h.3)
-looser p row row' (tree.Compare op a b) here rest le h = (omega arith, h.1, h.2, h.3)
-looser p row row' (tree.LogicalAnd a b) here rest le h = (omega arith, h.1, h.2, h.3)
-looser p row row' (tree.LogicalOr a b) here rest le h = (omega arith, h.1, h.2, h.3)
-looser p row row' (tree.Conditional c a b) here rest le h = (omega arith, h.1, h.2, h.3, h.4, h.5)
-looser p row row' (tree.Assign r e) here rest le h = (h.0, omega arith, h.2, h.3, h.4)
-looser p row row' (tree.CompoundAssign op r e) here rest le h = (h.0, omega arith, h.2, h.3, h.4)
+-- where a precedence may stand, a tighter one may
+pub looser : (p : Site) (precedence precedence' : ℕ) (e : Expr Path) (here rest : List Token) → precedence ≤ precedence'
+    → ExprHere p precedence' e here rest → ExprHere p precedence e here rest
+looser p precedence precedence' (tree.Literal n) here rest le h = h
+looser p precedence precedence' tree.Decimal here rest le h = h
+looser p precedence precedence' (tree.Reference n) here rest le h = h
+looser p precedence precedence' (tree.Indexed a e) here rest le h = h
+looser p precedence precedence' (tree.Parentheses e) here rest le h = h
+looser p precedence precedence' (tree.Call f args) here rest le h = h
+looser p precedence precedence' (tree.Increment PreIncrement r) here rest le h = (h.0, omega arith, h.2, h.3, h.4)
+looser p precedence precedence' (tree.Increment PreDecrement r) here rest le h = (h.0, omega arith, h.2, h.3, h.4)
+looser p precedence precedence' (tree.Increment PostIncrement r) here rest le h = (h.0, omega arith, h.2)
+looser p precedence precedence' (tree.Increment PostDecrement r) here rest le h = (h.0, omega arith, h.2)
+looser p precedence precedence' (tree.Unary op e) here rest le h = (omega arith, h.1, h.2, h.3)
+looser p precedence precedence' (tree.Binary op a b) here rest le h = (omega arith, h.1, h.2, h.3)
+looser p precedence precedence' (tree.Compare op a b) here rest le h = (omega arith, h.1, h.2, h.3)
+looser p precedence precedence' (tree.LogicalAnd a b) here rest le h = (omega arith, h.1, h.2, h.3)
+looser p precedence precedence' (tree.LogicalOr a b) here rest le h = (omega arith, h.1, h.2, h.3)
+looser p precedence precedence' (tree.Conditional c a b) here rest le h = (omega arith, h.1, h.2, h.3, h.4, h.5)
+looser p precedence precedence' (tree.Assign r e) here rest le h = (h.0, omega arith, h.2, h.3, h.4)
+looser p precedence precedence' (tree.CompoundAssign op r e) here rest le h = (h.0, omega arith, h.2, h.3, h.4)
 
 -- an expression as it stands here, of at most this height
-pub record Stands (p : Place) (height_left row : ℕ) (here : List Token) (e : Expr Path)
+pub record Stands (p : Site) (height_left precedence : ℕ) (here : List Token) (e : Expr Path)
     (rest : List Token) : Type 0 where
-  pub spelled : ExprHere p row e here rest
+  pub spelled : ExprHere p precedence e here rest
   pub low : height e ≤ height_left
 
 -- What this reads stands so.
-abbrev pub Sound : Place → ℕ → Inner → Type 0
-Sound p height_left inner = (row : ℕ) (here : List Token) (e : Expr Path) (rest : List Token)
-    → row ≤ 13 → inner row here ≡ Some (e, rest) → Stands p height_left row here e rest
-    × Ends row rest
+abbrev pub Sound : Site → ℕ → Inner → Type 0
+Sound p height_left inner = (precedence : ℕ) (here : List Token) (e : Expr Path) (rest : List Token)
+    → precedence ≤ 13 → inner precedence here ≡ Some (e, rest) → Stands p height_left precedence here e rest
+    × Ends precedence rest
 
-pub loosest_le : (p : Place) → loosest p ≤ 2
+pub loosest_le : (p : Site) → loosest p ≤ 2
 loosest_le InAttribute = omega arith
 loosest_le InMethod = omega arith
 
@@ -67,7 +67,7 @@ closing_is all args None rest e = absurd cc
 closing_is all args (Some t) rest e = let parts =
     some_pair_parts all args t rest e in (ap Some parts.1, parts.0)
 
-module _ (p : Place) (inner : Inner) (height_left : ℕ) (sound : Sound p height_left inner) where
+module _ (p : Site) (inner : Inner) (height_left : ℕ) (sound : Sound p height_left inner) where
   record ArgumentsStand (here : List Token) (args : Arguments Path) (rest : List Token) : Type 0
     where
       pub first : ArgumentsHere p args here (Sign sign.CloseParenthesis ∷ rest)
@@ -301,72 +301,72 @@ module _ (p : Place) (inner : Inner) (height_left : ℕ) (sound : Sound p height
 
   -- an expression of a layer, with nothing after it that it should have taken
   abbrev Whole : ℕ → List Token → Expr Path → List Token → Type 0
-  Whole row from e rest = Stands p (suc height_left) row from e rest × Ends row rest
+  Whole precedence from e rest = Stands p (suc height_left) precedence from e rest × Ends precedence rest
 
-  -- the same after a chain of operators, where nothing of row 1 or 2 was read yet
-  record Chained (row : ℕ) (from : List Token) (e : Expr Path) (rest : List Token) : Type 0 where
+  -- the same after a chain of operators, where nothing of precedence 1 or 2 was read yet
+  record Chained (precedence : ℕ) (from : List Token) (e : Expr Path) (rest : List Token) : Type 0 where
     pub level : ℕ
-    pub tighter : row ≤ level
+    pub tighter : precedence ≤ level
     pub operator : 3 ≤ level
     pub stands : Stands p (suc height_left) level from e rest
-    pub ends : Ends row rest
+    pub ends : Ends precedence rest
 
-  chain_sound : (row level n : ℕ) (from : List Token) (left : Expr Path) (here : List Token)
+  chain_sound : (precedence level n : ℕ) (from : List Token) (left : Expr Path) (here : List Token)
       (e : Expr Path) (rest : List Token)
-      → row ≤ level → 3 ≤ level → Stands p (suc height_left) level from left here
-      → Ends (suc level) here → chain p inner height_left row n left here ≡ Some (e, rest)
-      → Chained row from e rest
+      → precedence ≤ level → 3 ≤ level → Stands p (suc height_left) level from left here
+      → Ends (suc level) here → chain p inner height_left precedence n left here ≡ Some (e, rest)
+      → Chained precedence from e rest
   unfolding chain joined_at
-  chain_sound row level zero from left here e rest le three s ends x =
-      elim (option_cases (operator_at row here) _ _ _ x) [
-        | inl (none, y) ↦ as_read (Chained row from) _ e _ rest y
+  chain_sound precedence level zero from left here e rest le three s ends x =
+      elim (option_cases (operator_at precedence here) _ _ _ x) [
+        | inl (none, y) ↦ as_read (Chained precedence from) _ e _ rest y
             (record { level = level; tighter = le; operator = three; stands = s; ends = none })
         | inr (o, some, y) ↦ absurd cc
       ]
-  chain_sound row level (suc n) from left here e rest le three s ends x =
-      elim (option_cases (operator_at row here) _ _ _ x) [
-        | inl (none, y) ↦ as_read (Chained row from) _ e _ rest y
+  chain_sound precedence level (suc n) from left here e rest le three s ends x =
+      elim (option_cases (operator_at precedence here) _ _ _ x) [
+        | inl (none, y) ↦ as_read (Chained precedence from) _ e _ rest y
             (record { level = level; tighter = le; operator = three; stands = s; ends = none })
         | inr (o, some, y) ↦
             let j = bind_some (joined_at p inner height_left o.0 left o.1) _ (e, rest) y in
             let g = guard_some (nat_le (height left) height_left) _ _ j.1 in
-            let b = bind_some (inner (suc (infix_row o.0)) o.1) _ j.0 g.1 in
+            let b = bind_some (inner (suc (infix_precedence o.0)) o.1) _ j.0 g.1 in
             let joins : (infix_tree o.0 left b.0.0 ≡ j.0.0) × (b.0.1 ≡ j.0.1) =
             some_pair_parts _ _ _ _ b.2 in
-            let here-is = operator_is row here o.0 o.1 some in
-            let right = sound (suc (infix_row o.0)) o.1 b.0.0 b.0.1 (omega (arith, row_to o.0))
+            let here-is = operator_is precedence here o.0 o.1 some in
+            let right = sound (suc (infix_precedence o.0)) o.1 b.0.0 b.0.1 (omega (arith, row_to o.0))
             b.1 in
             let before = ends_before (suc level) o.0 o.1
             (subst (λ t. Ends (suc level) t) here-is.0 ends) in
-            let tighter : infix_row o.0 ≤ level = omega arith in
+            let tighter : infix_precedence o.0 ≤ level = omega arith in
             let left-low = le_is (height left) height_left g.0 in
-            let left-is = subst (λ t. ExprHere p (infix_row o.0) left from t) here-is.0
-            (looser p (infix_row o.0) level left from here tighter s.spelled) in
-            let stands : Stands p (suc height_left) (infix_row o.0) from (infix_tree o.0 left b.0.0)
+            let left-is = subst (λ t. ExprHere p (infix_precedence o.0) left from t) here-is.0
+            (looser p (infix_precedence o.0) level left from here tighter s.spelled) in
+            let stands : Stands p (suc height_left) (infix_precedence o.0) from (infix_tree o.0 left b.0.0)
             b.0.1 =
             record {
-              spelled = infix_spelled p (infix_row o.0) o.0 left b.0.0 from b.0.1
+              spelled = infix_spelled p (infix_precedence o.0) o.0 left b.0.0 from b.0.1
                   (omega arith, o.1, left-is, right.0.spelled);
               low =
                   (let r = right.0.low in omega (arith, infix_height o.0 left b.0.0));
             } in
-            chain_sound row (infix_row o.0) n from j.0.0 j.0.1 e rest here-is.1 (row_from o.0)
-            (subst (λ t. Stands p (suc height_left) (infix_row o.0) from j.0.0 t) joins.1
-            (subst (λ x. Stands p (suc height_left) (infix_row o.0) from x b.0.1) joins.0
+            chain_sound precedence (infix_precedence o.0) n from j.0.0 j.0.1 e rest here-is.1 (row_from o.0)
+            (subst (λ t. Stands p (suc height_left) (infix_precedence o.0) from j.0.0 t) joins.1
+            (subst (λ x. Stands p (suc height_left) (infix_precedence o.0) from x b.0.1) joins.0
             stands))
-            (subst (λ t. Ends (suc (infix_row o.0)) t) joins.1 right.1) j.2
+            (subst (λ t. Ends (suc (infix_precedence o.0)) t) joins.1 right.1) j.2
       ]
 
-  choice_sound : (row : ℕ) (from : List Token) (c : Expr Path) (here : List Token) (e : Expr Path)
+  choice_sound : (precedence : ℕ) (from : List Token) (c : Expr Path) (here : List Token) (e : Expr Path)
       (rest : List Token)
-      → Chained row from c here → choice_at p inner height_left row c here ≡ Some (e, rest)
-      → Whole row from e rest
+      → Chained precedence from c here → choice_at p inner height_left precedence c here ≡ Some (e, rest)
+      → Whole precedence from e rest
   unfolding choice_at
-  choice_sound row from c here e rest s x =
-      elim (chosen (nat_le row 2 && at sign.Question here) _ _ _ x) [
+  choice_sound precedence from c here e rest s x =
+      elim (chosen (nat_le precedence 2 && at sign.Question here) _ _ _ x) [
         | inl (t, y) ↦
-            let both = both_true (nat_le row 2) (at sign.Question here) t in
-            let two = le_is row 2 both.0 in
+            let both = both_true (nat_le precedence 2) (at sign.Question here) t in
+            let two = le_is precedence 2 both.0 in
             let g = guard_some (nat_le (height c) height_left) _ _ y in
             let c-low = le_is (height c) height_left g.0 in
             let a = bind_some (inner (loosest p) (drop 1 here)) _ (e, rest) g.1 in
@@ -379,16 +379,16 @@ module _ (p : Place) (inner : Inner) (height_left : ℕ) (sound : Sound p height
             (looser p 3 s.level c from here s.operator s.stands.spelled) in
             let first-is = subst (λ u. ExprHere p (loosest p) a.0.0 (drop 1 here) u)
             (expect_is sign.Colon a.0.1 m.0 m.1) first.0.spelled in
-            as_read (Whole row from) _ e _ rest b.2 (
+            as_read (Whole precedence from) _ e _ rest b.2 (
               record {
                 spelled = (two, drop 1 here, m.0, c-is, first-is, second.0.spelled);
                 low = (let i = first.0.low in let j = second.0.low in omega arith);
               },
-              ends_all row 2 b.0.1 (omega arith) second.1,
+              ends_all precedence 2 b.0.1 (omega arith) second.1,
             )
-        | inr (f, y) ↦ as_read (Whole row from) _ e _ rest y (
+        | inr (f, y) ↦ as_read (Whole precedence from) _ e _ rest y (
           record {
-            spelled = looser p row s.level c from here s.tighter s.stands.spelled;
+            spelled = looser p precedence s.level c from here s.tighter s.stands.spelled;
             low = s.stands.low;
           },
           s.ends,
@@ -399,32 +399,32 @@ module _ (p : Place) (inner : Inner) (height_left : ℕ) (sound : Sound p height
   as_path_is (tree.Reference s) r x = let same : s ≡ r = cc in ap tree.Reference same
   as_path_is _ r x = absurd cc
 
-  assigned_is : (row : ℕ) (e : Expr Path) (r : Path) → assigned p row e ≡ Some r
-      → (e ≡ tree.Reference r) × (row ≤ 1) × IsMethod p
-  assigned_is row e r x =
-      let g = guard_some (nat_le row 1 && is_method p) (as_path e) r x in
-      let b = both_true (nat_le row 1) (is_method p) g.0 in
-      (as_path_is e r g.1, le_is row 1 b.0, method_is p b.1)
+  assigned_is : (precedence : ℕ) (e : Expr Path) (r : Path) → assigned p precedence e ≡ Some r
+      → (e ≡ tree.Reference r) × (precedence ≤ 1) × IsMethod p
+  assigned_is precedence e r x =
+      let g = guard_some (nat_le precedence 1 && is_method p) (as_path e) r x in
+      let b = both_true (nat_le precedence 1) (is_method p) g.0 in
+      (as_path_is e r g.1, le_is precedence 1 b.0, method_is p b.1)
 
-  assign_sound : (row : ℕ) (from : List Token) (c : Expr Path) (here : List Token) (e : Expr Path)
+  assign_sound : (precedence : ℕ) (from : List Token) (c : Expr Path) (here : List Token) (e : Expr Path)
       (rest : List Token)
-      → Whole row from c here → assign_at p inner row c here ≡ Some (e, rest)
-      → Whole row from e rest
+      → Whole precedence from c here → assign_at p inner precedence c here ≡ Some (e, rest)
+      → Whole precedence from e rest
   unfolding assign_at
-  assign_sound row from c here e rest s x =
-      elim (option_cases (assigned p row c) _ _ _ x) [
-        | inl (none, y) ↦ as_read (Whole row from) _ e _ rest y s
+  assign_sound precedence from c here e rest s x =
+      elim (option_cases (assigned p precedence c) _ _ _ x) [
+        | inl (none, y) ↦ as_read (Whole precedence from) _ e _ rest y s
         | inr (r, some, y) ↦ elim (option_cases (assignment_at here) _ _ _ y) [
-          | inl (none, z) ↦ as_read (Whole row from) _ e _ rest z s
+          | inl (none, z) ↦ as_read (Whole precedence from) _ e _ rest z s
           | inr (o, equals, z) ↦
               let b = bind_some (inner 1 o.1) _ (e, rest) z in
               let value = sound 1 o.1 b.0.0 b.0.1 (omega arith) b.1 in
-              let a = assigned_is row c r some in
-              let left : PathHere r from here = subst (λ u. ExprHere p row u from here) a.0
+              let a = assigned_is precedence c r some in
+              let left : PathHere r from here = subst (λ u. ExprHere p precedence u from here) a.0
               s.0.spelled in
-              as_read (Whole row from) _ e _ rest b.2 (
+              as_read (Whole precedence from) _ e _ rest b.2 (
                 record {
-                  spelled = assignment_spelled p row o.0 r b.0.0 from b.0.1 (
+                  spelled = assignment_spelled p precedence o.0 r b.0.0 from b.0.1 (
                     a.2,
                     a.1,
                     o.1,
@@ -434,28 +434,28 @@ module _ (p : Place) (inner : Inner) (height_left : ℕ) (sound : Sound p height
                   );
                   low = (let i = value.0.low in omega (arith, assignment_height o.0 r b.0.0));
                 },
-                ends_all row 1 b.0.1 (omega arith) value.1,
+                ends_all precedence 1 b.0.1 (omega arith) value.1,
               )
         ]
       ]
 
   layer_sound : Sound p (suc height_left) (layer p inner height_left)
   unfolding layer
-  layer_sound row here e rest le x =
+  layer_sound precedence here e rest le x =
       let a = bind_some (operand_at p inner here) _ (e, rest) x in
-      let b = bind_some (chain p inner height_left row (suc height_left) a.0.0 a.0.1) _ (e, rest)
+      let b = bind_some (chain p inner height_left precedence (suc height_left) a.0.0 a.0.1) _ (e, rest)
       a.2 in
-      let c = bind_some (choice_at p inner height_left row b.0.0 b.0.1) _ (e, rest) b.2 in
+      let c = bind_some (choice_at p inner height_left precedence b.0.0 b.0.1) _ (e, rest) b.2 in
       let first = operand_sound here a.0.0 a.0.1 a.1 in
-      let left = chain_sound row 13 (suc height_left) here a.0.0 a.0.1 b.0.0 b.0.1 le (omega arith)
+      let left = chain_sound precedence 13 (suc height_left) here a.0.0 a.0.1 b.0.0 b.0.1 le (omega arith)
       first (ends_tight 14 a.0.1 (omega arith)) b.1 in
-      let whole = choice_sound row here b.0.0 b.0.1 c.0.0 c.0.1 left c.1 in
-      assign_sound row here c.0.0 c.0.1 e rest whole c.2
+      let whole = choice_sound precedence here b.0.0 b.0.1 c.0.0 c.0.1 left c.1 in
+      assign_sound precedence here c.0.0 c.0.1 e rest whole c.2
 
 -- What an expression is read as is spelled by the tokens that were taken, and is no higher than the
 -- bound.
-pub expr_sound : (p : Place) (height_left : ℕ) → Sound p height_left (expr_at p height_left)
+pub expr_sound : (p : Site) (height_left : ℕ) → Sound p height_left (expr_at p height_left)
 unfolding expr_at
-expr_sound p zero row here e rest le x = absurd cc
-expr_sound p (suc height_left) row here e rest le x = layer_sound p (expr_at p height_left)
-    height_left (expr_sound p height_left) row here e rest le x
+expr_sound p zero precedence here e rest le x = absurd cc
+expr_sound p (suc height_left) precedence here e rest le x = layer_sound p (expr_at p height_left)
+    height_left (expr_sound p height_left) precedence here e rest le x

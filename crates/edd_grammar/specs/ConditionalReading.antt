@@ -9,7 +9,7 @@ use Rattle.edd_syntax.specs.Reference.{Path}
 use Rattle.edd_syntax.specs.Expression.{Expr}
 use Rattle.edd_syntax.specs.Conditional as cond
 use Rattle.edd_syntax.specs.Conditional.{Cond, Value, Select, Conds, Arms, NoArms, ConsArm, Case, Default}
-use Rattle.edd_syntax.specs.Grammar.{Place, InAttribute, loosest}
+use Rattle.edd_syntax.specs.Grammar.{Site, InAttribute, loosest}
 use Rattle.edd_grammar.specs.Signs.{same_sign}
 use Rattle.edd_grammar.specs.Reading.{◌>>=◌, Read, at, expect, at_word, is_text, text_at}
 use Rattle.edd_grammar.specs.ExpressionReading.{expr_at}
@@ -27,7 +27,7 @@ label_at (Sign s ∷ rest) = if same_sign s (sign.Operator operator.Subtract) th
 label_at _ = None
 
 -- `( e )`
-unfoldable pub condition_at : Place → ℕ → List Token → Read (Expr Path)
+unfoldable pub condition_at : Site → ℕ → List Token → Read (Expr Path)
 condition_at p height_left here = do
   inside ← expect sign.OpenParenthesis here
   (e, behind) ← expr_at p height_left (loosest p) inside

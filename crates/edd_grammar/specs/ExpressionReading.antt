@@ -10,20 +10,20 @@ use Rattle.edd_syntax.specs.Token as token
 use Rattle.edd_syntax.specs.Reference.{Path}
 use Rattle.edd_syntax.specs.Expression as tree
 use Rattle.edd_syntax.specs.Expression.{Expr, Argument, Text, Value, Arguments}
-use Rattle.edd_syntax.specs.Grammar.{Place, InAttribute, InMethod, loosest}
+use Rattle.edd_syntax.specs.Grammar.{Site, InAttribute, InMethod, loosest}
 use Rattle.edd_syntax.specs.Size.{height}
-use Rattle.edd_grammar.specs.Signs.{Infix, infix_row, infix_tree, infix_of, unary_of, before_of, behind_of, same_sign, Assignment, assignment_tree, assignment_of}
+use Rattle.edd_grammar.specs.Signs.{Infix, infix_precedence, infix_tree, infix_of, unary_of, before_of, behind_of, same_sign, Assignment, assignment_tree, assignment_of}
 use Rattle.edd_grammar.specs.Reading.{◌>>=◌, on_option, Read, at, expect, path_behind, path_at, is_text, text_at}
 
-abbrev pub is_method : Place → Bool
+abbrev pub is_method : Site → Bool
 is_method InAttribute = false
 is_method InMethod = true
 
--- the operator that is next, where it stands in this row or a tighter one
+-- the operator that is next, where it stands in this precedence or a tighter one
 abbrev pub operator_at : ℕ → List Token → Read Infix
-operator_at row (Sign s ∷ rest) = infix_of s >>= λ op. if nat_le row (infix_row op) then Some
+operator_at precedence (Sign s ∷ rest) = infix_of s >>= λ op. if nat_le precedence (infix_precedence op) then Some
     (op, rest) else None
-operator_at row _ = None
+operator_at precedence _ = None
 
 abbrev pub assignment_at : List Token → Read Assignment
 assignment_at (Sign s ∷ rest) = assignment_of s >>= λ op. Some (op, rest)
@@ -35,12 +35,12 @@ increment_at (Sign s ∷ rest) = behind_of s >>= λ op. Some (op, rest)
 increment_at _ = None
 
 -- after a path
-unfoldable pub postfix : Place → Path → List Token → Read (Expr Path)
+unfoldable pub postfix : Site → Path → List Token → Read (Expr Path)
 postfix p r here =
     on_option (increment_at here) (Some (tree.Reference r, here))
     (λ o. if is_method p then Some (tree.Increment o.0 r, o.1) else None)
 
--- Reads an expression inside another one, in a place for this row or a tighter one.
+-- Reads an expression inside another one, in a place for this precedence or a tighter one.
 abbrev pub Inner : Type 0
 Inner = ℕ → List Token → Read (Expr Path)
 
@@ -48,9 +48,9 @@ abbrev pub as_path : Expr Path → Option Path
 as_path (tree.Reference r) = Some r
 as_path _ = None
 
--- the left side of an assignment, where one may stand in this row
-abbrev pub assigned : Place → ℕ → Expr Path → Option Path
-assigned p row e = if nat_le row 1 && is_method p then as_path e else None
+-- the left side of an assignment, where one may stand in this precedence
+abbrev pub assigned : Site → ℕ → Expr Path → Option Path
+assigned p precedence e = if nat_le precedence 1 && is_method p then as_path e else None
 
 -- these arguments, if the tokens after the closing parenthesis are there
 abbrev pub closing : Arguments Path → Option (List Token) → Read (Arguments Path)
@@ -58,11 +58,11 @@ closing all None = None
 closing all (Some rest) = Some (all, rest)
 
 -- a path after `++` or `--`
-unfoldable pub step_before : Place → IncrementOperator → List Token → Read (Expr Path)
+unfoldable pub step_before : Site → IncrementOperator → List Token → Read (Expr Path)
 step_before p op here = if is_method p then
     (path_at here >>= λ r. Some (tree.Increment op r.0, r.1)) else None
 
-module _ (p : Place) (inner : Inner) where
+module _ (p : Site) (inner : Inner) where
   unfoldable pub argument_at : List Token → Read (Argument Path)
   argument_at here =
       if is_text here
@@ -129,22 +129,22 @@ module _ (p : Place) (inner : Inner) where
   -- The right side of an operator, joined with its left side.
   unfoldable pub joined_at : ℕ → Infix → Expr Path → List Token → Read (Expr Path)
   joined_at height_left op left here =
-      if nat_le (height left) height_left then (inner (suc (infix_row op)) here
+      if nat_le (height left) height_left then (inner (suc (infix_precedence op)) here
       >>= λ right. Some (infix_tree op left right.0, right.1)) else None
 
-  -- The operators of this row and of tighter ones that follow a left side, where operands have at
+  -- The operators of this precedence and of tighter ones that follow a left side, where operands have at
   -- most this height. The number bounds how many there are.
   unfoldable pub chain : ℕ → ℕ → ℕ → Expr Path → List Token → Read (Expr Path)
-  chain height_left row zero left here = on_option (operator_at row here) (Some (left, here))
+  chain height_left precedence zero left here = on_option (operator_at precedence here) (Some (left, here))
       (λ o. None)
-  chain height_left row (suc n) left here =
-      on_option (operator_at row here) (Some (left, here))
-      (λ o. joined_at height_left o.0 left o.1 >>= λ whole. chain height_left row n whole.0 whole.1)
+  chain height_left precedence (suc n) left here =
+      on_option (operator_at precedence here) (Some (left, here))
+      (λ o. joined_at height_left o.0 left o.1 >>= λ whole. chain height_left precedence n whole.0 whole.1)
 
-  -- row 2, after its condition
+  -- precedence 2, after its condition
   unfoldable pub choice_at : ℕ → ℕ → Expr Path → List Token → Read (Expr Path)
-  choice_at height_left row c here =
-      if nat_le row 2 && at sign.Question here
+  choice_at height_left precedence c here =
+      if nat_le precedence 2 && at sign.Question here
       then (if nat_le (height c) height_left then (do
         (first, behind) ← inner (loosest p) (drop 1 here)
         from ← expect sign.Colon behind
@@ -153,19 +153,19 @@ module _ (p : Place) (inner : Inner) where
       else Some (c, here)
 
   unfoldable pub assign_at : ℕ → Expr Path → List Token → Read (Expr Path)
-  assign_at row e here =
-      on_option (assigned p row e) (Some (e, here))
+  assign_at precedence e here =
+      on_option (assigned p precedence e) (Some (e, here))
       (λ r. on_option (assignment_at here) (Some (e, here))
       (λ o. inner 1 o.1 >>= λ v. Some (assignment_tree o.0 r v.0, v.1)))
 
   unfoldable pub layer : ℕ → Inner
-  layer height_left row here = do
+  layer height_left precedence here = do
     (first, behind) ← operand_at here
-    (left, from) ← chain height_left row (suc height_left) first behind
-    (whole, to) ← choice_at height_left row left from
-    assign_at row whole to
+    (left, from) ← chain height_left precedence (suc height_left) first behind
+    (whole, to) ← choice_at height_left precedence left from
+    assign_at precedence whole to
 
 -- An expression of at most this height.
-unfoldable pub expr_at : Place → ℕ → Inner
-expr_at p zero row here = None
-expr_at p (suc height_left) row here = layer p (expr_at p height_left) height_left row here
+unfoldable pub expr_at : Site → ℕ → Inner
+expr_at p zero precedence here = None
+expr_at p (suc height_left) precedence here = layer p (expr_at p height_left) height_left precedence here

@@ -4,30 +4,30 @@ use Rattle.edd_syntax.specs.declared.symbols.Keyword.TheVariants as word
 use Rattle.edd_syntax.specs.declared.symbols.Symbol.{Symbol}
 use Rattle.edd_syntax.specs.declared.symbols.Symbol.TheVariants as sign
 use Rattle.edd_syntax.specs.Token.{Token, Reserved, Sign}
-use Rattle.edd_syntax.specs.Grammar.{row_of, comparison_row}
+use Rattle.edd_syntax.specs.Grammar.{precedence_of, comparison_precedence}
 use Rattle.edd_grammar.specs.Reading.{Read, at, at_word}
 use Rattle.edd_grammar.specs.ConditionalReading.{list_ends}
 
--- this sign can't go on with an expression of this row
+-- this sign can't go on with an expression of this precedence
 abbrev pub SignStops : ℕ → Symbol → Type 0
-SignStops row (sign.Operator op) = row_of op < row
-SignStops row (sign.Comparison by) = comparison_row by < row
-SignStops row sign.LogicalAnd = 4 < row
-SignStops row sign.LogicalOr = 3 < row
-SignStops row sign.Increment = ⊥
-SignStops row sign.Decrement = ⊥
-SignStops row (sign.CompoundAssign op) = 2 ≤ row
-SignStops row sign.Equals = 2 ≤ row
-SignStops row sign.Dot = ⊥
-SignStops row sign.OpenParenthesis = ⊥
-SignStops row sign.OpenBracket = ⊥
-SignStops row sign.Question = 3 ≤ row
-SignStops row _ = Unit {0}
+SignStops precedence (sign.Operator op) = precedence_of op < precedence
+SignStops precedence (sign.Comparison by) = comparison_precedence by < precedence
+SignStops precedence sign.LogicalAnd = 4 < precedence
+SignStops precedence sign.LogicalOr = 3 < precedence
+SignStops precedence sign.Increment = ⊥
+SignStops precedence sign.Decrement = ⊥
+SignStops precedence (sign.CompoundAssign op) = 2 ≤ precedence
+SignStops precedence sign.Equals = 2 ≤ precedence
+SignStops precedence sign.Dot = ⊥
+SignStops precedence sign.OpenParenthesis = ⊥
+SignStops precedence sign.OpenBracket = ⊥
+SignStops precedence sign.Question = 3 ≤ precedence
+SignStops precedence _ = Unit {0}
 
--- the next token can't go on with an expression of this row
+-- the next token can't go on with an expression of this precedence
 abbrev pub Stops : ℕ → List Token → Type 0
-Stops row (Sign s ∷ rest) = SignStops row s
-Stops row _ = Unit {0}
+Stops precedence (Sign s ∷ rest) = SignStops precedence s
+Stops precedence _ = Unit {0}
 
 -- What is asked of the values of conditionals, which have the height that `of` says: a value is
 -- read where a semicolon follows, begins with neither IF nor SELECT, and takes a token at least.

@@ -14,7 +14,7 @@ use Rattle.edd_syntax.specs.declared.symbols.Symbol.TheVariants as sign
 use Rattle.edd_syntax.specs.contracts.symbols.SymbolPartialEq.TheImpl as symbol_eq
 use Rattle.edd_syntax.specs.Reference.{Path}
 use Rattle.edd_syntax.specs.Expression.{Expr, Binary, Compare, LogicalAnd, LogicalOr, Assign, CompoundAssign}
-use Rattle.edd_syntax.specs.Grammar.{row_of, comparison_row}
+use Rattle.edd_syntax.specs.Grammar.{precedence_of, comparison_precedence}
 
 -- ---- comparing
 
@@ -35,11 +35,11 @@ pub data Infix : Type 0 where
   Both : Infix
   Either : Infix
 
-abbrev pub infix_row : Infix → ℕ
-infix_row (Plain op) = row_of op
-infix_row (Comparing by) = comparison_row by
-infix_row Both = 4
-infix_row Either = 3
+abbrev pub infix_precedence : Infix → ℕ
+infix_precedence (Plain op) = precedence_of op
+infix_precedence (Comparing by) = comparison_precedence by
+infix_precedence Both = 4
+infix_precedence Either = 3
 
 abbrev pub infix_sign : Infix → Symbol
 infix_sign (Plain op) = sign.Operator op

@@ -14,7 +14,7 @@ ghost use Rattle.edd_syntax.specs.Item.{Item, Description};
 ghost use Rattle.edd_syntax.specs.ItemGrammar.{Spells};
 ghost use Rattle.edd_syntax.specs.Reference.{Path};
 ghost use Rattle.edd_syntax.specs.Expression.{Expr};
-ghost use Rattle.edd_syntax.specs.Grammar.{Place, InAttribute, PathHere, TextHere, ExprHere};
+ghost use Rattle.edd_syntax.specs.Grammar.{Site, InAttribute, PathHere, TextHere, ExprHere};
 ghost use Rattle.edd_syntax.specs.Size.{height_limit, height, leaf, cond_height, conds_height, declarator_height, statement_height, body_height};
 ghost use Rattle.edd_syntax.specs.Conditional.{Cond, Conds};
 ghost use Rattle.edd_syntax.specs.StatementGrammar.{OneHere, ListHere, DeclaratorsHere, StmtHere, BodyHere};
@@ -47,29 +47,29 @@ pub fn spelled_texts_are_read()
         → (is_text here ≡ true) × (text_at here ≡ Some (text, rest)) }
 {}
 
-/// An expression that is read in a place for a row is spelled there by the tokens that were
+/// An expression that is read in a place for a precedence is spelled there by the tokens that were
 /// taken, and is no higher than the limit it was read with.
 pub fn read_expressions_are_spelled()
-    ensures { (p : Place) (height_left row : ℕ) (here : List Token) (e : Expr Path)
+    ensures { (p : Site) (height_left precedence : ℕ) (here : List Token) (e : Expr Path)
         (rest : List Token)
-        → row ≤ 13 → expr_at p height_left row here ≡ Some (e, rest)
-        → ExprHere p row e here rest × (height e ≤ height_left) }
+        → precedence ≤ 13 → expr_at p height_left precedence here ≡ Some (e, rest)
+        → ExprHere p precedence e here rest × (height e ≤ height_left) }
 {}
 
-/// An expression that is spelled in a place for a row, no higher than the limit, is read, where
+/// An expression that is spelled in a place for a precedence, no higher than the limit, is read, where
 /// what follows can't go on with it.
 pub fn spelled_expressions_are_read()
-    ensures { (p : Place) (height_left row : ℕ) (e : Expr Path) (here rest : List Token)
-        → row ≤ 13 → ExprHere p row e here rest → height e ≤ height_left → Stops row rest
-        → expr_at p height_left row here ≡ Some (e, rest) }
+    ensures { (p : Site) (height_left precedence : ℕ) (e : Expr Path) (here rest : List Token)
+        → precedence ≤ 13 → ExprHere p precedence e here rest → height e ≤ height_left → Stops precedence rest
+        → expr_at p height_left precedence here ≡ Some (e, rest) }
 {}
 
 /// From one place on, tokens spell one expression at most, and it ends in one place, where what
 /// follows can't go on with it.
 pub fn one_expression()
-    ensures { (p : Place) (row : ℕ) (e f : Expr Path) (here rest behind : List Token) → row ≤ 13
-        → Stops row rest → Stops row behind → ExprHere p row e here rest
-        → ExprHere p row f here behind → (e ≡ f) × (rest ≡ behind) }
+    ensures { (p : Site) (precedence : ℕ) (e f : Expr Path) (here rest behind : List Token) → precedence ≤ 13
+        → Stops precedence rest → Stops precedence behind → ExprHere p precedence e here rest
+        → ExprHere p precedence f here behind → (e ≡ f) × (rest ≡ behind) }
 {}
 
 /// A single conditional text that is read is spelled by the tokens that were taken, and is no

@@ -19,7 +19,7 @@ use Rattle.edd_lexer.specs.Strings.{Closed, quote}
 use Rattle.edd_lexer.specs.Gaps.{Gap}
 use Rattle.edd_lexer.specs.Tokens.{Stands, behind_byte_order_mark, text_limit}
 
--- ---- what stands at a place where nothing begins
+-- ---- what is at a place where nothing begins
 
 abbrev pub begins_comment : List ℕ → Bool
 begins_comment [] = false
@@ -28,7 +28,7 @@ begins_comment (b ∷ rest) = b == 47 && begins (λ c. c == 42) rest
 abbrev pub begins_string : List ℕ → Bool
 begins_string here = begins (λ b. b == quote) here
 
--- a `#` before which only blanks stand on its line
+-- a `#` before which only blanks are on its line
 abbrev pub begins_directive : Bool → List ℕ → Bool
 begins_directive fresh here = fresh && begins (λ b. b == 35) here
 

@@ -1,4 +1,4 @@
--- What may stand between tokens: blanks, comments and marks.
+-- What may be between tokens: blanks, comments and marks.
 use Rattle.std.specs.Prelude.{◌≡◌, ℕ, ◌==◌, Bool, true, false, ◌||◌, ◌&&◌, List, [], ◌∷◌, take, drop, bytes_eq, codes, Option, Some, None}
 use Rattle.std.specs.Char.{is_ascii_digit}
 use Rattle.edd_lexer.specs.Bytes.{is_blank, is_line_end, in_line, is_line_blank, begins, behind}
@@ -25,8 +25,8 @@ abbrev pub makes_mark : List ℕ → Bool
 makes_mark here = begins is_ascii_digit (behind is_line_blank here)
     || begins_line_word (behind is_line_blank here)
 
--- One blank, comment or mark stands from the first list up to the second. The flags say of either
--- place whether only blanks stand before it on its line: a mark needs that, an LF brings it, and a
+-- From the first list up to the second is one blank, comment or mark. The flags say of either
+-- place whether only blanks are before it on its line: a mark needs that, an LF brings it, and a
 -- comment ends it, one with an LF inside too.
 pub data Gap : (fresh : Bool) → (here : List ℕ) → (next : Bool) → (rest : List ℕ) → Type 0 where
   blank : {fresh : Bool} {b : ℕ} {rest : List ℕ} → is_blank b ≡ true

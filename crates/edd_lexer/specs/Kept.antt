@@ -15,7 +15,7 @@ IsKept Decimal size = Unit {0}
 IsKept (String raw) size = (has_escapes raw ≡ true) × (length raw + 2 ≡ size)
 IsKept (Sign s) size = Unit {0}
 
--- a token that stands in the text
+-- a token that is in the text
 pub record IsLexeme (text : List ℕ) (lexeme : Lexeme) : Type 0 where
   pub not_empty : lexeme.start < lexeme.end
   pub within : lexeme.end ≤ length text

@@ -12,7 +12,7 @@ abbrev pub TokensStandAlone : Type 0
 TokensStandAlone = (here rest : List ℕ) (t : Token) → Stands here t rest
     → (bytes : List ℕ) × (here ≡ bytes ++ rest) × IsAlone bytes t
 
--- what else is a token by itself and begins where a token stands leaves at least as much after it
+-- what else is a token by itself and begins where a token is leaves at least as much after it
 abbrev pub TokensAreLongest : Type 0
 TokensAreLongest = (here rest : List ℕ) (t : Token) → Stands here t rest
     → (bytes behind : List ℕ) (other : Token) → here ≡ bytes ++ behind → IsAlone bytes other

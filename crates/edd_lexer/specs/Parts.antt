@@ -45,7 +45,7 @@ pub record Follows (here rest : List ℕ) : Type 0 where
   pub shorter : length rest < length here
   pub is_end : rest ≡ drop (length here - length rest) here
 
--- what comes after a step is a shorter end of what stands here
+-- what comes after a step is a shorter end of what is here
 abbrev pub Leads : List ℕ → reading.Step → Type 0
 Leads here (reading.token t rest) = Follows here rest
 Leads here (reading.gap fresh rest) = Follows here rest

@@ -107,7 +107,7 @@ unfoldable mutual
   escape_end good [] = None
   escape_end good (b ∷ rest) = string_end (good && is_escape b) rest
 
--- the inside of a string, without the quote that stands before `rest`
+-- the inside of a string, without the quote that is before `rest`
 abbrev pub inside_before : (here rest : List ℕ) → List ℕ
 inside_before here rest = take (length here - length rest - 1) here
 

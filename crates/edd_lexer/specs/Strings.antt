@@ -19,7 +19,7 @@ abbrev mutual
   is_taken_along [] = false
   is_taken_along (b ∷ rest) = is_inside rest
 
--- After an opening quote stand the inside of a string, the quote that closes it, and `rest`.
+-- After an opening quote are the inside of a string, the quote that closes it, and `rest`.
 pub record Closed (here raw rest : List ℕ) : Type 0 where
   pub whole : here ≡ raw ++ quote ∷ rest
   pub inside : is_inside raw ≡ true

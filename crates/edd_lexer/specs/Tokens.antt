@@ -11,7 +11,7 @@ use Rattle.edd_lexer.specs.Strings.{Closed, quote}
 use Rattle.edd_lexer.specs.Signs.{symbol_bytes, lengthens}
 use Rattle.edd_lexer.specs.Gaps.{Gap}
 
--- From `here` up to `rest` stands this token, and none that is longer: what would make it longer
+-- From `here` up to `rest` is this token, and none that is longer: what would make it longer
 -- doesn't follow.
 pub data Stands (here : List ℕ) (t : Token) (rest : List ℕ) : Type 0 where
   word : (bytes : List ℕ) → here ≡ bytes ++ rest → is_name bytes ≡ true → begins goes_on_name rest
@@ -32,7 +32,7 @@ pub record Lexeme : Type 0 where
   pub end : ℕ
 
 -- From `here` on, which is the end of a text of `total` bytes, these are the tokens.
--- `fresh` says whether only blanks stand before `here` on its line.
+-- `fresh` says whether only blanks are before `here` on its line.
 pub data TokensFrom (total : ℕ) : (fresh : Bool) → (here : List ℕ) → List Lexeme → Type 0 where
   nothing : {fresh : Bool} → TokensFrom total fresh [] []
   behind_gap : {fresh next : Bool} {here rest : List ℕ} {more : List Lexeme}

@@ -6,7 +6,7 @@ ghost use Rattle.edd_lexer.specs.Parts.{close_of};
 
 use crate::bytes::{begins_digit, behind_line_blanks, is_blank, lines_after, next_is};
 
-/// What comes after the `*/` that closes the comment whose opening stands before this text, if it
+/// What comes after the `*/` that closes the comment whose opening is before this text, if it
 /// has one, and how many lines end before that.
 pub fn behind_close(body: &[u8]) -> Option<(u32, &[u8])>
     ensures { close_of result ≡ gaps.behind_close body.now }
@@ -46,7 +46,7 @@ fn begins_line_word(text: &[u8]) -> bool
     }
 }
 
-/// A `#` before this text makes a mark, if only blanks stand before it on its line.
+/// A `#` before this text makes a mark, if only blanks are before it on its line.
 pub fn makes_mark(text: &[u8]) -> bool
     ensures { result ≡ gaps.makes_mark text.now }
 {

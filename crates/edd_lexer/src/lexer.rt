@@ -146,7 +146,7 @@ fn begins_number(first: u8, rest: &[u8]) -> bool
     first.is_ascii_digit() || (first == b'.' && begins_digit(rest))
 }
 
-// What begins at a place where no blank stands.
+// What begins at a place where there is no blank.
 #[tactic(auto, unfolding(crate::specs::Reading::step_at))]
 fn step_here(fresh: bool, text: &[u8]) -> Step
     requires { begins bytes.is_blank text.now ≡ false }
@@ -170,7 +170,7 @@ fn step_here(fresh: bool, text: &[u8]) -> Step
     }
 }
 
-// The same, with the fact that what comes after it is an end of what stands here.
+// The same, with the fact that what comes after it is an end of what is here.
 #[tactic(auto, using(crate::proofs::Loop::step_leads))]
 fn next_step(fresh: bool, text: &[u8]) -> Step
     requires { begins bytes.is_blank text.now ≡ false }
@@ -196,7 +196,7 @@ fn refusal(fault: Fault, line: u32) -> LexFault
     }
 }
 
-// After this blank only blanks stand before the place on its line.
+// After this blank only blanks are before the place on its line.
 fn fresh_behind(fresh: bool, blank: u8) -> bool
     ensures { result ≡ (fresh || bytes.is_line_end blank) }
 {

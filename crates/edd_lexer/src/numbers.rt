@@ -19,7 +19,7 @@ pub enum Number<'a> {
     Bad,
 }
 
-// Something stands here that no number may be directly followed by.
+// Here is something that no number may be directly followed by.
 fn begins_sticking(text: &[u8]) -> bool
     ensures { result ≡ begins bytes.goes_on_number text.now }
 {
@@ -172,7 +172,7 @@ fn decimal_to(rest: &[u8]) -> Number
     }
 }
 
-// A decimal after whose fraction this stands.
+// A decimal that has this after its fraction.
 fn fraction_to(text: &[u8]) -> Number
     ensures { number_of result ≡ reading.fraction_to text.now }
 {

@@ -22,7 +22,7 @@ fn is_escape(b: u8) -> bool
     matches!(b, b'"' | b'\\' | b'n' | b't' | b'|')
 }
 
-/// The end of the string whose opening quote stands before this text, if it has one.
+/// The end of the string whose opening quote is before this text, if it has one.
 #[tactic(auto, unfolding(crate::specs::Reading::string_end))]
 pub fn string_end(inside: &[u8]) -> Option<StringEnd>
     ensures { end_of result ≡ reading.string_end true inside.now }

@@ -2,7 +2,7 @@
 
 use edd_syntax::symbols::{Keyword, Symbol};
 
-/// What sort of token it is. The bytes of a name or a string stand in the text.
+/// What sort of token it is. The bytes of a name or a string are in the text.
 #[derive(Clone, Copy, PartialEq, Eq, Debug)]
 pub enum TokenKind {
     Keyword(Keyword),

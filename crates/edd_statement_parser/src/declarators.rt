@@ -15,7 +15,7 @@ use edd_syntax::stmt::Declarator;
 use edd_syntax::symbols::{Keyword, Symbol};
 use edd_token_reader::cursor::Cursor;
 use edd_token_reader::fault::ParseFault;
-use edd_token_reader::operators::Place;
+use edd_token_reader::operators::Site;
 
 // A value after `=`, or none.
 #[tactic(auto, unfolding(edd_grammar::specs::DeclarationReading::value_at))]
@@ -27,7 +27,7 @@ fn initial_value(cursor: &mut Cursor, height_left: u32) -> Result<Option<Expr<Pa
     if !cursor.eat(Symbol::Equals) {
         return Ok(None);
     }
-    let value = expr(cursor, Place::Method, height_left, 1)?;
+    let value = expr(cursor, Site::Method, height_left, 1)?;
     Ok(Some(value.expr))
 }
 

@@ -20,7 +20,7 @@ use edd_syntax::symbols::{Keyword, Symbol};
 use edd_token_reader::cursor::Cursor;
 use edd_token_reader::fault::ParseFault;
 use edd_token_reader::left_out::left_out_reserved;
-use edd_token_reader::operators::Place;
+use edd_token_reader::operators::Site;
 use std::alloc::Global;
 
 // A label and the colon after it.
@@ -47,7 +47,7 @@ fn optional(
     if cursor.eat(sign) {
         return Ok(None);
     }
-    let e = expr(cursor, Place::Method, height_left, 1)?;
+    let e = expr(cursor, Site::Method, height_left, 1)?;
     cursor.expect(sign)?;
     Ok(Some(e.expr))
 }
@@ -89,7 +89,7 @@ fn do_end(cursor: &mut Cursor, height_left: u32) -> Result<Expr<Path>, ParseFaul
     ensures { Gives expr_view result cursor.new (do_end_at height_left cursor.old) }
 {
     cursor.expect_word(Keyword::While)?;
-    let condition = condition(cursor, Place::Method, height_left)?;
+    let condition = condition(cursor, Site::Method, height_left)?;
     cursor.expect(Symbol::Semicolon)?;
     Ok(condition)
 }
@@ -100,7 +100,7 @@ fn switch_head(cursor: &mut Cursor, height_left: u32) -> Result<Expr<Path>, Pars
     requires { height_left ≤ 100 }
     ensures { Gives expr_view result cursor.new (switch_head_at height_left cursor.old) }
 {
-    let on = condition(cursor, Place::Method, height_left)?;
+    let on = condition(cursor, Site::Method, height_left)?;
     cursor.expect(Symbol::OpenBrace)?;
     Ok(on)
 }
@@ -122,7 +122,7 @@ fn evaluate(cursor: &mut Cursor, height_left: u32) -> Result<Stmt<Path>, ParseFa
         (reading.evaluate_at height_left (statement_at height_left) cursor.old) }
 {
     let word = left_out_reserved(cursor);
-    let e = match expr(cursor, Place::Method, height_left, 1) {
+    let e = match expr(cursor, Site::Method, height_left, 1) {
         Ok(e) => e.expr,
         Err(ParseFault::Syntax { line }) => return Err(wrong_word(cursor.alloc(), word, line)),
         Err(fault) => return Err(fault),
@@ -272,7 +272,7 @@ fn if_behind(cursor: &mut Cursor, height_left: u32) -> Result<Stmt<Path>, ParseF
     ensures { Gives stmt_view result cursor.new
         (reading.method_if_at height_left (statement_at height_left) cursor.old) }
 {
-    let condition = condition(cursor, Place::Method, height_left)?;
+    let condition = condition(cursor, Site::Method, height_left)?;
     let first = child(cursor, height_left)?;
     else_behind(cursor, height_left, condition, first)
 }
@@ -306,7 +306,7 @@ fn while_behind(cursor: &mut Cursor, height_left: u32) -> Result<Stmt<Path>, Par
     ensures { Gives stmt_view result cursor.new
         (reading.while_at height_left (statement_at height_left) cursor.old) }
 {
-    let condition = condition(cursor, Place::Method, height_left)?;
+    let condition = condition(cursor, Site::Method, height_left)?;
     let body = child(cursor, height_left)?;
     Ok(while_loop(condition, body))
 }

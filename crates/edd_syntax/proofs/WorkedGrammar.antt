@@ -194,7 +194,7 @@ assignment_in_the_middle = (
 -- an assignment is no condition of `?:`
 no_assignment_as_condition : ¬ ExprHere InMethod 1
     (Conditional (Assign (named (codes "x")) (Literal 1)) y_is_2 (Literal 3)) assigns []
-no_assignment_as_condition (_, _, _, (_, row, _, _, _), _, _) = omega (arith, row)
+no_assignment_as_condition (_, _, _, (_, precedence, _, _, _), _, _) = omega (arith, precedence)
 
 -- ---- rows of operators: `a - a - a` groups to the left
 
@@ -214,4 +214,4 @@ groups_to_the_left = (
 )
 
 not_to_the_right : ¬ ExprHere InMethod 1 (minus a (minus a a)) differences []
-not_to_the_right (_, _, _, (row, _, _, _)) = omega (arith, row)
+not_to_the_right (_, _, _, (precedence, _, _, _)) = omega (arith, precedence)

@@ -73,7 +73,7 @@ module _ (env : Environment) (d : List ℤ) where
   value (Conditional test first second) = do
     a ← value test
     elim (is_zero a) [ true ↦ value second | false ↦ value first ]
-  -- these stand in no attribute of a checked unit
+  -- no attribute of a checked unit has these
   value Decimal = Ok (pos 0)
   value (Assign to by) = Ok (pos 0)
   value (CompoundAssign op to by) = Ok (pos 0)
@@ -83,7 +83,7 @@ module _ (env : Environment) (d : List ℤ) where
   -- ---- conditionals: the values that apply
 
   unfoldable mutual
-    -- IF takes its first branch where the condition isn't 0, else what stands after ELSE
+    -- IF takes its first branch where the condition isn't 0, else what is after ELSE
     pub chosen : {V : Type 0} → Cond Target V → Trapping (List V)
     chosen (Value v) = Ok (v ∷ [])
     chosen (If condition first otherwise) = do
@@ -108,7 +108,7 @@ module _ (env : Environment) (d : List ℤ) where
         elim (int_eq a label) [ true ↦ all_chosen body | false ↦ case_chosen a rest otherwise ]
     case_chosen a (ConsArm (Default body) rest) otherwise = case_chosen a rest otherwise
 
-    -- of DEFAULT, wherever it stands
+    -- of DEFAULT, wherever it is
     pub default_chosen : {V : Type 0} → Arms Target V → Trapping (List V)
     default_chosen NoArms = Ok []
     default_chosen (ConsArm (Case label body) rest) = default_chosen rest

@@ -34,7 +34,7 @@ written_type (TypeOf (Known type size) parts ∷ rest) =
     record { type = type; size = unwrap_or size 1 }
 written_type (_ ∷ rest) = written_type rest
 
--- what expressions and statements have to know of the description that they stand in
+-- what expressions and statements have to know of the description that they are in
 pub record Environment : Type 0 where
   -- the types of the variables by number
   pub variables : List VariableType

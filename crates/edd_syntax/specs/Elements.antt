@@ -62,7 +62,7 @@ abbrev pub element_value : List Element → (width : ℕ) → (values : List ℤ
 element_value elements width values array number = value_or_trap width values
     (element_variable elements array number)
 
--- in a checked unit nothing but an array stands before an index
+-- in a checked unit nothing but an array is before an index
 abbrev pub item_element : List Element → (width : ℕ) → (values : List ℤ) → ItemNo → ℤ
     → Result ℤ Trap
 item_element elements width values (item_no.Array n) number =

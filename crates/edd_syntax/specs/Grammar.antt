@@ -31,7 +31,7 @@ NextSign s here rest = Next (Sign s) here rest
 abbrev pub NextWord : Keyword → List Token → List Token → Type 0
 NextWord k here rest = Next (Reserved k) here rest
 
--- a sign that may stand there
+-- a sign that may be there
 abbrev pub OptionalSign : Symbol → List Token → List Token → Type 0
 OptionalSign s here rest = (here ≡ rest) ⊎ NextSign s here rest
 
@@ -80,27 +80,27 @@ TextHere (Quoted raw) here rest =
 TextHere (Key name) here rest = here ≡ Sign sign.OpenBracket ∷ Identifier name
     ∷ Sign sign.CloseBracket ∷ rest
 
--- ---- rows of operators, from 1, the loosest, to 15
+-- ---- precedence of operators, from 1, the loosest, to 15
 
-abbrev pub row_of : Operator → ℕ
-row_of operator.Or = 5
-row_of operator.Xor = 6
-row_of operator.And = 7
-row_of operator.ShiftLeft = 10
-row_of operator.ShiftRight = 10
-row_of operator.Add = 11
-row_of operator.Subtract = 11
-row_of operator.Multiply = 12
-row_of operator.Divide = 12
-row_of operator.Remainder = 12
+abbrev pub precedence_of : Operator → ℕ
+precedence_of operator.Or = 5
+precedence_of operator.Xor = 6
+precedence_of operator.And = 7
+precedence_of operator.ShiftLeft = 10
+precedence_of operator.ShiftRight = 10
+precedence_of operator.Add = 11
+precedence_of operator.Subtract = 11
+precedence_of operator.Multiply = 12
+precedence_of operator.Divide = 12
+precedence_of operator.Remainder = 12
 
-abbrev pub comparison_row : Comparison → ℕ
-comparison_row comparison.Equal = 8
-comparison_row comparison.NotEqual = 8
-comparison_row comparison.Less = 9
-comparison_row comparison.LessOrEqual = 9
-comparison_row comparison.Greater = 9
-comparison_row comparison.GreaterOrEqual = 9
+abbrev pub comparison_precedence : Comparison → ℕ
+comparison_precedence comparison.Equal = 8
+comparison_precedence comparison.NotEqual = 8
+comparison_precedence comparison.Less = 9
+comparison_precedence comparison.LessOrEqual = 9
+comparison_precedence comparison.Greater = 9
+comparison_precedence comparison.GreaterOrEqual = 9
 
 abbrev pub unary_sign : UnaryOperator → Symbol
 unary_sign unary_operator.Plus = sign.Operator operator.Add
@@ -108,86 +108,86 @@ unary_sign unary_operator.Minus = sign.Operator operator.Subtract
 unary_sign unary_operator.Not = sign.Exclamation
 unary_sign unary_operator.Complement = sign.Tilde
 
--- where an expression stands
-pub data Place : Type 0 where
-  InAttribute : Place
-  InMethod : Place
+-- where an expression is: only in a method may it assign, step and call
+pub data Site : Type 0 where
+  InAttribute : Site
+  InMethod : Site
 
--- the loosest row of a place: attributes have no assignment
-abbrev pub loosest : Place → ℕ
+-- the loosest precedence of a site: attributes have no assignment
+abbrev pub loosest : Site → ℕ
 loosest InAttribute = 2
 loosest InMethod = 1
 
 -- what methods alone have
-abbrev pub IsMethod : Place → Type 0
+abbrev pub IsMethod : Site → Type 0
 IsMethod InAttribute = ⊥
 IsMethod InMethod = Unit {0}
 
--- ---- expressions, in a place where this row or a tighter one may stand
+-- ---- expressions, at a site for this precedence or a tighter one
 
 abbrev mutual
-  pub ExprHere : Place → (row : ℕ) → Expr Path → List Token → List Token → Type 0
-  -- row 15
-  ExprHere p row (Literal n) here rest = Next (Integer n) here rest
-  ExprHere p row Decimal here rest = Next token.Decimal here rest
-  ExprHere p row (Reference from) here rest = PathHere from here rest
-  ExprHere p row (Indexed array index) here rest =
+  pub ExprHere : Site → (precedence : ℕ) → Expr Path → List Token → List Token → Type 0
+  -- precedence 15
+  ExprHere p precedence (Literal n) here rest = Next (Integer n) here rest
+  ExprHere p precedence Decimal here rest = Next token.Decimal here rest
+  ExprHere p precedence (Reference from) here rest = PathHere from here rest
+  ExprHere p precedence (Indexed array index) here rest =
       (bracket inside : List Token) × PlainHere array here bracket
       × NextSign sign.OpenBracket bracket inside
       × ExprHere p (loosest p) index inside (Sign sign.CloseBracket ∷ rest)
-  ExprHere p row (Parentheses inner) here rest =
+  ExprHere p precedence (Parentheses inner) here rest =
       (inside : List Token) × NextSign sign.OpenParenthesis here inside
       × ExprHere p (loosest p) inner inside (Sign sign.CloseParenthesis ∷ rest)
-  ExprHere p row (Call function arguments) here rest =
+  ExprHere p precedence (Call function arguments) here rest =
       IsMethod p × (paren inside : List Token) × PlainHere function here paren
       × NextSign sign.OpenParenthesis paren inside
       × ArgumentsHere p arguments inside (Sign sign.CloseParenthesis ∷ rest)
-  -- row 14
-  ExprHere p row (Increment PreIncrement to) here rest =
-      IsMethod p × (row ≤ 14) × (behind : List Token) × NextSign sign.Increment here behind
+  -- precedence 14
+  ExprHere p precedence (Increment PreIncrement to) here rest =
+      IsMethod p × (precedence ≤ 14) × (behind : List Token) × NextSign sign.Increment here behind
       × PathHere to behind rest
-  ExprHere p row (Increment PreDecrement to) here rest =
-      IsMethod p × (row ≤ 14) × (behind : List Token) × NextSign sign.Decrement here behind
+  ExprHere p precedence (Increment PreDecrement to) here rest =
+      IsMethod p × (precedence ≤ 14) × (behind : List Token) × NextSign sign.Decrement here behind
       × PathHere to behind rest
-  ExprHere p row (Increment PostIncrement to) here rest =
-      IsMethod p × (row ≤ 14) × PathHere to here (Sign sign.Increment ∷ rest)
-  ExprHere p row (Increment PostDecrement to) here rest =
-      IsMethod p × (row ≤ 14) × PathHere to here (Sign sign.Decrement ∷ rest)
-  -- row 13 groups to the right
-  ExprHere p row (Unary op operand) here rest =
-      (row ≤ 13) × (behind : List Token) × NextSign (unary_sign op) here behind
+  ExprHere p precedence (Increment PostIncrement to) here rest =
+      IsMethod p × (precedence ≤ 14) × PathHere to here (Sign sign.Increment ∷ rest)
+  ExprHere p precedence (Increment PostDecrement to) here rest =
+      IsMethod p × (precedence ≤ 14) × PathHere to here (Sign sign.Decrement ∷ rest)
+  -- precedence 13 groups to the right
+  ExprHere p precedence (Unary op operand) here rest =
+      (precedence ≤ 13) × (behind : List Token) × NextSign (unary_sign op) here behind
       × ExprHere p 13 operand behind rest
-  -- rows 3 to 12 group to the left
-  ExprHere p row (Binary op left right) here rest =
-      (row ≤ row_of op) × (behind : List Token)
-      × ExprHere p (row_of op) left here (Sign (sign.Operator op) ∷ behind)
-      × ExprHere p (suc (row_of op)) right behind rest
-  ExprHere p row (Compare by left right) here rest =
-      (row ≤ comparison_row by) × (behind : List Token)
-      × ExprHere p (comparison_row by) left here (Sign (sign.Comparison by) ∷ behind)
-      × ExprHere p (suc (comparison_row by)) right behind rest
-  ExprHere p row (LogicalAnd left right) here rest =
-      (row ≤ 4) × (behind : List Token) × ExprHere p 4 left here (Sign sign.LogicalAnd ∷ behind)
+  -- precedences 3 to 12 group to the left
+  ExprHere p precedence (Binary op left right) here rest =
+      (precedence ≤ precedence_of op) × (behind : List Token)
+      × ExprHere p (precedence_of op) left here (Sign (sign.Operator op) ∷ behind)
+      × ExprHere p (suc (precedence_of op)) right behind rest
+  ExprHere p precedence (Compare by left right) here rest =
+      (precedence ≤ comparison_precedence by) × (behind : List Token)
+      × ExprHere p (comparison_precedence by) left here (Sign (sign.Comparison by) ∷ behind)
+      × ExprHere p (suc (comparison_precedence by)) right behind rest
+  ExprHere p precedence (LogicalAnd left right) here rest =
+      (precedence ≤ 4) × (behind : List Token) × ExprHere p 4 left here (Sign sign.LogicalAnd ∷ behind)
       × ExprHere p 5 right behind rest
-  ExprHere p row (LogicalOr left right) here rest =
-      (row ≤ 3) × (behind : List Token) × ExprHere p 3 left here (Sign sign.LogicalOr ∷ behind)
+  ExprHere p precedence (LogicalOr left right) here rest =
+      (precedence ≤ 3) × (behind : List Token) × ExprHere p 3 left here (Sign sign.LogicalOr ∷ behind)
       × ExprHere p 4 right behind rest
-  -- row 2 groups to the right, and any expression of the place may stand in its middle
-  ExprHere p row (Conditional test first second) here rest =
-      (row ≤ 2) × (middle last : List Token)
+  -- precedence 2 groups to the right, and any expression of the site may be in its middle
+  ExprHere p precedence (Conditional test first second) here rest =
+      (precedence ≤ 2) × (middle last : List Token)
       × ExprHere p 3 test here (Sign sign.Question ∷ middle)
       × ExprHere p (loosest p) first middle (Sign sign.Colon ∷ last)
       × ExprHere p 2 second last rest
-  -- row 1 groups to the right, and its left side is a reference
-  ExprHere p row (Assign to value) here rest =
-      IsMethod p × (row ≤ 1) × (behind : List Token)
+  -- precedence 1 groups to the right, and its left side is a reference
+  ExprHere p precedence (Assign to value) here rest =
+      IsMethod p × (precedence ≤ 1) × (behind : List Token)
       × PathHere to here (Sign sign.Equals ∷ behind) × ExprHere p 1 value behind rest
-  ExprHere p row (CompoundAssign op to value) here rest =
-      IsMethod p × (row ≤ 1) × (behind : List Token)
+  ExprHere p precedence (CompoundAssign op to value) here rest =
+      IsMethod p × (precedence ≤ 1) × (behind : List Token)
       × PathHere to here (Sign (sign.CompoundAssign op) ∷ behind) × ExprHere p 1 value behind rest
 
   -- none, or some parted by commas
-  pub ArgumentsHere : Place → Arguments Path → List Token → List Token → Type 0
+  pub ArgumentsHere : Site → Arguments Path → List Token → List Token → Type 0
   ArgumentsHere p Nil here rest = here ≡ rest
   ArgumentsHere p (Cons (Value e) others) here rest =
       (behind : List Token) × ExprHere p (loosest p) e here behind
@@ -196,7 +196,7 @@ abbrev mutual
       (behind : List Token) × TextHere text here behind × MoreArgumentsHere p others behind rest
 
   -- after the first argument each further one has a comma before it
-  pub MoreArgumentsHere : Place → Arguments Path → List Token → List Token → Type 0
+  pub MoreArgumentsHere : Site → Arguments Path → List Token → List Token → Type 0
   MoreArgumentsHere p Nil here rest = here ≡ rest
   MoreArgumentsHere p (Cons (Value e) others) here rest =
       (from behind : List Token) × NextSign sign.Comma here from
@@ -206,7 +206,7 @@ abbrev mutual
       × TextHere text from behind × MoreArgumentsHere p others behind rest
 
 -- `( e )`
-abbrev pub ConditionHere : Place → Expr Path → List Token → List Token → Type 0
+abbrev pub ConditionHere : Site → Expr Path → List Token → List Token → Type 0
 ConditionHere p e here rest =
     (inside : List Token) × NextSign sign.OpenParenthesis here inside
     × ExprHere p (loosest p) e inside (Sign sign.CloseParenthesis ∷ rest)

@@ -56,7 +56,7 @@ pub data TypeWord : Type 0 where
   Known : VarType → (size : Option ℕ) → TypeWord
   Other : (word : Name) → TypeWord
 
--- what stands in the braces of a type
+-- what is in the braces of a type
 pub data TypePart (R : Type 0) : Type 0 where
   DefaultValue : Cond R (Expr R) → TypePart R
   MinValue : Cond R (Expr R) → TypePart R
@@ -66,7 +66,7 @@ pub data TypePart (R : Type 0) : Type 0 where
   -- an element of the list of enumerators
   Element : Cond R Enumerator → TypePart R
 
--- what stands in the braces of a transaction
+-- what is in the braces of a transaction
 pub data TransactionPart (R : Type 0) : Type 0 where
   Request : Conds R (DataItem R) → TransactionPart R
   Reply : Conds R (DataItem R) → TransactionPart R

@@ -392,7 +392,7 @@ ItemHere i here rest =
 abbrev pub NumberedWordHere : Keyword → ℕ → List Token → List Token → Type 0
 NumberedWordHere k n here rest = here ≡ Reserved k ∷ Integer n ∷ rest
 
--- the four numbers, with a comma between two of them or none; after the last a comma may stand too
+-- the four numbers, with a comma between two of them or none, and perhaps one after the last
 abbrev pub IdentificationHere : Identification → List Token → List Token → Type 0
 IdentificationHere i here rest =
     (a b c d e f g : List Token)

@@ -117,7 +117,7 @@ repeated_in_items before (i ∷ rest) =
 abbrev pub duplicate_names : Description Path → List Refusal
 duplicate_names unit = map DuplicateName (repeated_in_items [] unit.items)
 
--- ---- an attribute of an item, of a transaction or of a type's braces that stands there already
+-- ---- an attribute of an item, of a transaction or of a type's braces that is there already
 
 abbrev pub attribute_word : {R : Type 0} → Attribute R → Name
 attribute_word (item.OneText which c) = attr_word (text_attr which)
@@ -154,7 +154,7 @@ repeated_words_inside (item.Transaction number parts) =
     repeated [] (map transaction_part_word parts)
 repeated_words_inside _ = []
 
--- a transaction may stand any number of times
+-- there may be any number of transactions
 abbrev pub repeated_words : {R : Type 0} → (before : List Name) → List (Attribute R) → List Name
 repeated_words before [] = []
 repeated_words before (a ∷ rest) =
@@ -184,13 +184,13 @@ missing_words i = filter (λ word. not (is_name_in (map attribute_word i.attribu
 abbrev pub missing_attributes : {R : Type 0} → Description R → List Refusal
 missing_attributes unit = flat_map (λ i. map (MissingAttribute i.name) (missing_words i)) unit.items
 
--- ---- a name that nothing has, or a thing of a kind that may not stand there
+-- ---- a name that nothing has, or an item of a kind that may not be there
 
 abbrev pub is_kind_among : List Kind → Kind → Bool
 is_kind_among allowed k = list_any (same_kind k) allowed
 
 -- After the name of something of kind k, which is the item i where that is known. A member has the
--- kind after OF; what it names is judged where the member stands, and not here.
+-- kind after OF; what it names is judged where the member is, and not here.
 abbrev pub faults_along : Description Path → (allowed : List Kind) → Name → Kind → Option ItemNo
     → (members : List Name) → List Refusal
 faults_along unit allowed name k i [] = refused_if (not (is_kind_among allowed k)) (WrongKind name)

@@ -14,7 +14,7 @@ use Rattle.edd_syntax.specs.Item.{ItemKind, TypePart, TransactionPart, Attribute
 use Rattle.edd_syntax.specs.Resolution.{Scope, variable_kinds, argument_kinds, entry_kinds, member_kinds, declared, all_declared}
 
 -- a use of a name: a reference, with the locals that can be used there and the kinds of items that
--- may stand there, an array before an index, or a call
+-- may be there, an array before an index, or a call
 pub data Use : Type 0 where
   OfItem : Scope → (kinds : List Kind) → Path → Use
   OfArray : Scope → Path → Use

@@ -129,7 +129,7 @@ attr_from_number n =
 abbrev pub same_attr : Attr → Attr → Bool
 same_attr a b = attr_number a == attr_number b
 
--- the reserved word of an attribute; ENUMERATORS is none, since a type's list stands without a word
+-- the reserved word of an attribute; ENUMERATORS is none, since a type's list has no word
 abbrev pub attr_word : Attr → Name
 attr_word attr.Label = spelling keyword.Label
 attr_word attr.Help = spelling keyword.Help

@@ -18,7 +18,7 @@ use Rattle.edd_syntax.specs.Item.{kind_of_item, ItemKind, VariableItem, CommandI
 use Rattle.edd_syntax.specs.Statement.{Declarator}
 use Rattle.edd_syntax.specs.Device.{item_at}
 
--- what stands under a name, the first of that name
+-- what is under a name, the first of that name
 abbrev pub look_up : {A : Type 0} → Name → List (Name × A) → Option A
 look_up name all = option_map (λ entry. entry.1) (find (λ entry. bytes_eq entry.0 name) all)
 
@@ -97,7 +97,7 @@ Scope = List (Name × ℕ)
 abbrev pub is_among : List Kind → ItemNo → Bool
 is_among kinds i = list_any (same_kind (kind_of i)) kinds
 
--- what stands before an index
+-- what is before an index
 abbrev pub array_kinds : List Kind
 array_kinds = kind.Array ∷ []
 
@@ -114,7 +114,7 @@ abbrev pub local_meant : (slot : ℕ) → (members : List Name) → Option Targe
 local_meant slot [] = Some (Local slot)
 local_meant slot (m ∷ rest) = None
 
--- what a reference means at a place where an item of these kinds may stand
+-- what a reference means at a place where an item of these kinds may be
 abbrev pub meaning : Description Path → Scope → (kinds : List Kind) → Path → Option Target
 meaning unit scope kinds path =
     elim (look_up path.base scope) [
@@ -164,7 +164,7 @@ builtins = map (λ f. (builtin_name f, f)) all_builtins
 abbrev pub function_meant : Path → Option Target
 function_meant path = option_map Function (look_up path.base builtins)
 
--- ---- where items of which kinds may stand
+-- ---- where items of which kinds may be
 
 -- expressions and data items refer to variables
 abbrev pub variable_kinds : List Kind

@@ -58,7 +58,7 @@ transaction_positions next (item.Transaction number parts ∷ rest) = next
     ∷ transaction_positions (suc next) rest
 transaction_positions next (_ ∷ rest) = transaction_positions next rest
 
--- each transaction has its three attributes, written or not; another attribute stands at 0 where it
+-- each transaction has its three attributes, written or not; another attribute is at 0 where it
 -- is written
 abbrev pub positions : {R : Type 0} → Attr → List (Attribute R) → List ℕ
 positions a attributes =

@@ -22,7 +22,7 @@ mutual
     Continue : Stmt R
     Return : Stmt R
 
-  -- what stands between braces; labels stand between those of a `switch` alone
+  -- what is between braces; labels are between those of a `switch` alone
   pub data Part (R : Type 0) : Type 0 where
     Declare : List (Declarator R) → Part R
     Statement : Stmt R → Part R

@@ -36,7 +36,7 @@ IsIf (Value v) = ⊥
 IsIf (cond.If condition first otherwise) = Unit {0}
 IsIf (Select on arms) = ⊥
 
--- no ELSE stands there
+-- there is no ELSE
 abbrev pub NoElse : List Token → List Token → Type 0
 NoElse here rest = (here ≡ rest) × ¬ BeginsWord word.Else rest
 
@@ -200,7 +200,7 @@ abbrev mutual
   StmtHere Continue here rest = here ≡ Reserved word.Continue ∷ Sign sign.Semicolon ∷ rest
   StmtHere Return here rest = here ≡ Reserved word.Return ∷ Sign sign.Semicolon ∷ rest
 
-  -- what stands between braces, with labels where it is the braces of a `switch`
+  -- what is between braces, with labels where it is the braces of a `switch`
   pub BodyHere : (labels : Bool) → Body Path → List Token → List Token → Type 0
   BodyHere labels Nil here rest = here ≡ rest
   BodyHere labels (Cons (Declare declarators) more) here rest =

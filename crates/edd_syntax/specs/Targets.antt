@@ -1,4 +1,4 @@
--- What a reference of a checked unit names in an attribute: there no other target stands.
+-- What a reference of a checked unit names in an attribute: there is no other target there.
 use Rattle.edd_syntax.specs.declared.numbers.ItemNo.{ItemNo}
 use Rattle.edd_syntax.specs.declared.numbers.ItemNo.TheVariants as item_no
 use Rattle.edd_syntax.specs.declared.numbers.VarNo.{VarNo}

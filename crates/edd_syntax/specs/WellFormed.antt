@@ -163,7 +163,7 @@ module _ {R : Type 0} (good plain : R → Bool) where
   abbrev pub is_declarator : Declarator R → Bool
   is_declarator d = plain d.place && if_some is_expr d.value
 
-  -- labels stand directly in a `switch` alone
+  -- labels are directly in a `switch` alone
   abbrev mutual
     pub is_stmt : Stmt R → Bool
     is_stmt s.Empty = true
@@ -253,7 +253,7 @@ module _ {R : Type 0} (good plain : R → Bool) where
   is_attribute (item.Elements elements) = list_all is_array_element elements
   is_attribute (item.Definition body) = is_body false body
 
-  -- an attribute that may stand in this kind of item, of a height within the limit
+  -- an attribute that may be in this kind of item, of a height within the limit
   abbrev pub stands_in : Kind → Attribute R → Bool
   stands_in k a = belongs_to k a && is_attribute a && nat_le (attribute_height a) height_limit
 

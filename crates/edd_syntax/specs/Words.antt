@@ -59,7 +59,7 @@ code_opened c here =
 
 -- ---- the raw text, read from left to right
 
--- what stands before the first code, and the variants that the codes open
+-- what is before the first code, and the variants that the codes open
 pub record Pieces : Type 0 where
   pub before : List ℕ
   pub variants : List Variant

@@ -17,7 +17,7 @@ use crate::numbers::{ArrNo, Element, ItemNo, Kind, VarNo};
 use crate::reference::Target;
 use std::alloc::{AllocError, Global};
 
-// No other reference stands in an array of a checked description.
+// An array of a checked description has no other reference.
 fn variable_of(target: Target) -> VarNo
     ensures { result ≡ targets.variable_of target }
 {

@@ -3,7 +3,7 @@
 use crate::operators::{Comparison, IncrementOperator, Operator, UnaryOperator};
 use crate::text::Text;
 
-/// An expression of an attribute or a method. Lines stand where a refusal may name them, and have
+/// An expression of an attribute or a method. Lines are where a refusal may name them, and have
 /// no meaning.
 #[cycle(expr)]
 #[derive(Drop)]

@@ -14,7 +14,7 @@ use crate::types::{Handling, Operation, ResponseClass, VarType};
 /// `{ value, text, help }`
 #[derive(Drop)]
 pub struct Enumerator {
-    /// Where its brace stands.
+    /// Where its brace is.
     pub line: u32,
     pub value: i64,
     pub text: Text,
@@ -93,7 +93,7 @@ pub enum TypeWord {
     Other(String),
 }
 
-/// What stands in the braces of a type.
+/// What is in the braces of a type.
 #[derive(Drop)]
 pub enum TypePart<R> {
     DefaultValue { line: u32, value: Cond<R, Expr<R>> },
@@ -105,7 +105,7 @@ pub enum TypePart<R> {
     Element(Cond<R, Enumerator>),
 }
 
-/// What stands in the braces of a transaction.
+/// What is in the braces of a transaction.
 #[derive(Drop)]
 pub enum TransactionPart<R> {
     Request(Vec<Cond<R, DataItem<R>>>),

@@ -29,7 +29,7 @@ pub enum Stmt<R> {
     Return,
 }
 
-/// What stands between braces. Labels stand between those of a `switch` alone.
+/// What is between braces. Labels are between those of a `switch` alone.
 #[cycle(stmt)]
 #[derive(Drop)]
 pub enum Part<R> {

@@ -1,4 +1,4 @@
-//! The tables of kinds, items, attributes and builtin functions. Each stands here once.
+//! The tables of kinds, items, attributes and builtin functions. Each of them is here and nowhere else.
 
 ghost use Rattle.std.specs.Prelude.{◌≡◌};
 ghost use Rattle.edd_syntax.specs.Attributes as attributes;
@@ -137,7 +137,7 @@ impl Attr {
     }
 
     /// The word of the attribute, as EDDL has it (IEC 61804-3). ENUMERATORS is a word of this
-    /// profile, since the list of a type stands without one.
+    /// profile, since the list of a type has none.
     pub fn word(self) -> &'static str
         ensures { result.now ≡ numbers.attr_word self }
     {

@@ -4,8 +4,8 @@ use Rattle.edd_syntax.specs.Token as pure
 use Rattle.edd_syntax.specs.Grammar as grammar
 use Rattle.edd_grammar.specs.Reading.{Read}
 use Rattle.edd_grammar.specs.Signs as signs
-use Rattle.edd_token_reader.specs.declared.operators.Place.{Place}
-use Rattle.edd_token_reader.specs.declared.operators.Place.TheVariants as place
+use Rattle.edd_token_reader.specs.declared.operators.Site.{Site}
+use Rattle.edd_token_reader.specs.declared.operators.Site.TheVariants as site
 use Rattle.edd_token_reader.specs.declared.operators.Infix.{Infix}
 use Rattle.edd_token_reader.specs.declared.operators.Infix.TheVariants as between
 use Rattle.edd_token_reader.specs.declared.operators.Assignment.{Assignment}
@@ -13,9 +13,9 @@ use Rattle.edd_token_reader.specs.declared.operators.Assignment.TheVariants as a
 use Rattle.edd_token_reader.specs.declared.fault.ParseFault.{ParseFault}
 use Rattle.edd_token_reader.specs.declared.fault.ParseFault.TheVariants as fault
 
-abbrev pub place_view : Place → grammar.Place
-place_view place.Attribute = grammar.InAttribute
-place_view place.Method = grammar.InMethod
+abbrev pub site_view : Site → grammar.Site
+site_view site.Attribute = grammar.InAttribute
+site_view site.Method = grammar.InMethod
 
 abbrev pub infix_view : Infix → signs.Infix
 infix_view (between.Plain op) = signs.Plain op

@@ -12,7 +12,7 @@ ghost use Rattle.edd_grammar.specs.AttributeReading.{begins_own, text_here};
 
 use crate::belongs::word_belongs;
 use crate::fault::ParseFault;
-use crate::operators::{Assignment, Infix, assignment_of, behind_of, infix_of, row_of};
+use crate::operators::{Assignment, Infix, assignment_of, behind_of, infix_of, precedence_of};
 use crate::token_text::{name_in, string_in};
 use edd_lexer::token::{Token, TokenKind};
 use edd_syntax::numbers::{Kind, TextAttribute};
@@ -432,12 +432,12 @@ impl<'a> Cursor<'a> {
         }
     }
 
-    /// The operator that is next, where it stands in this row or a tighter one.
-    pub fn operator(&mut self, row: u32) -> Option<Infix>
-        ensures { Takes infix_view result self.old self.new (operator_at row self.old) }
+    /// The operator that is next, where it stands in this precedence or a tighter one.
+    pub fn operator(&mut self, precedence: u32) -> Option<Infix>
+        ensures { Takes infix_view result self.old self.new (operator_at precedence self.old) }
     {
         let op = infix_of(self.peek_sign()?)?;
-        if row_of(op) < row {
+        if precedence_of(op) < precedence {
             return None;
         }
         self.bump();

@@ -4,14 +4,14 @@ ghost use Rattle.std.specs.Prelude.{◌≡◌, option_map};
 ghost use Rattle.edd_syntax.specs.Grammar as grammar;
 ghost use Rattle.edd_grammar.specs.Signs as signs;
 ghost use Rattle.edd_grammar.specs.ExpressionReading as reading;
-ghost use Rattle.edd_token_reader.specs.Views.{infix_view, assignment_view, place_view};
+ghost use Rattle.edd_token_reader.specs.Views.{infix_view, assignment_view, site_view};
 
 use edd_syntax::operators::{Comparison, IncrementOperator, Operator, UnaryOperator};
 use edd_syntax::symbols::Symbol;
 
 /// Where an expression stands: only in a method may it assign, step and call.
 #[derive(Clone, Copy)]
-pub enum Place {
+pub enum Site {
     Attribute,
     Method,
 }
@@ -32,23 +32,23 @@ pub enum Assignment {
     Compound(Operator),
 }
 
-/// The loosest row that may stand in a place.
-pub fn loosest(place: Place) -> u32
-    ensures { result ≡ grammar.loosest (place_view place) }
+/// The loosest precedence that may stand in a place.
+pub fn loosest(site: Site) -> u32
+    ensures { result ≡ grammar.loosest (site_view site) }
 {
-    match place {
-        Place::Attribute => 2,
-        Place::Method => 1,
+    match site {
+        Site::Attribute => 2,
+        Site::Method => 1,
     }
 }
 
 /// Whether an expression stands in a method.
-pub fn in_method(place: Place) -> bool
-    ensures { result ≡ reading.is_method (place_view place) }
+pub fn in_method(site: Site) -> bool
+    ensures { result ≡ reading.is_method (site_view site) }
 {
-    match place {
-        Place::Attribute => false,
-        Place::Method => true,
+    match site {
+        Site::Attribute => false,
+        Site::Method => true,
     }
 }
 
@@ -65,8 +65,8 @@ pub fn infix_of(sign: Symbol) -> Option<Infix>
     }
 }
 
-fn operator_row(op: Operator) -> u32
-    ensures { result ≡ grammar.row_of op }
+fn operator_precedence(op: Operator) -> u32
+    ensures { result ≡ grammar.precedence_of op }
 {
     match op {
         Operator::Or => 5,
@@ -78,8 +78,8 @@ fn operator_row(op: Operator) -> u32
     }
 }
 
-fn comparison_row(by: Comparison) -> u32
-    ensures { result ≡ grammar.comparison_row by }
+fn comparison_precedence(by: Comparison) -> u32
+    ensures { result ≡ grammar.comparison_precedence by }
 {
     match by {
         Comparison::Equal | Comparison::NotEqual => 8,
@@ -90,13 +90,13 @@ fn comparison_row(by: Comparison) -> u32
     }
 }
 
-/// The row of an operator, 3 to 12: the tighter it binds, the greater.
-pub fn row_of(op: Infix) -> u32
-    ensures { result ≡ signs.infix_row (infix_view op) }
+/// The precedence of an operator, 3 to 12: the tighter it binds, the greater.
+pub fn precedence_of(op: Infix) -> u32
+    ensures { result ≡ signs.infix_precedence (infix_view op) }
 {
     match op {
-        Infix::Plain(op) => operator_row(op),
-        Infix::Comparing(by) => comparison_row(by),
+        Infix::Plain(op) => operator_precedence(op),
+        Infix::Comparing(by) => comparison_precedence(by),
         Infix::Both => 4,
         Infix::Either => 3,
     }

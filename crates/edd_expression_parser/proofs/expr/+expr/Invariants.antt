@@ -3,7 +3,7 @@ use Rattle.edd_syntax.specs.Token.{Token}
 use Rattle.edd_syntax.specs.Reference.{Path}
 use Rattle.edd_syntax.specs.Expression.{Expr}
 use Rattle.edd_grammar.specs.ExpressionReading.{expr_at, chain}
-use Rattle.edd_token_reader.specs.Views.{place_view}
+use Rattle.edd_token_reader.specs.Views.{site_view}
 use Rattle.edd_expression_parser.specs.Expressions.{expr_view}
 use Rattle.edd_expression_parser.proofs.Loops.{with_front, arguments_here}
 use Rattle.edd_expression_parser.proofs.expr.+expr.Given as goal
@@ -58,15 +58,15 @@ decreases-joined l = 8 * l.height_left + 2
 
 abbrev pub invariant-chain-loop : goal.invariant-chain-loop
 invariant-chain-loop l =
-    let read = λ (n : ℕ) (left : Expr Path) (here : List Token). chain (place_view l.place)
-    (expr_at (place_view l.place) l.height_left) l.height_left l.row n left here in
+    let read = λ (n : ℕ) (left : Expr Path) (here : List Token). chain (site_view l.site)
+    (expr_at (site_view l.site) l.height_left) l.height_left l.precedence n left here in
     (l.left.levels ≤ l.height_left + 1)
     × (read (l.height_left + 1 - l.counter) (expr_view l.left.expr) l.cursor
     ≡ read (l.height_left + 1) (expr_view l.fn.first.expr) l.fn.cursor)
 
 abbrev pub invariant-some_arguments-loop-all : goal.invariant-some_arguments-loop-all
 invariant-some_arguments-loop-all l =
-    let read = arguments_here (place_view l.place) l.height_left in
+    let read = arguments_here (site_view l.site) l.height_left in
     (l.all.levels ≤ l.height_left) × (with_front l.all.arguments.items (read l.cursor)
     ≡ read l.fn.cursor)
 
