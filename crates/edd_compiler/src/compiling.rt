@@ -58,7 +58,7 @@ fn write_image(alloc: Global, checked: &Checked, lowering: &Lowering) -> Result<
 
 // The code of a description, unless it has more strings than a table holds.
 fn lower(alloc: Global, checked: &Checked) -> Result<Lowering, Fault>
-    ensures lowered { IfOk result
+    ensures sound { IfOk result
         (λ l. HasLowered (description_of checked.now) (rows (description_of checked.now).items)
         l.table
         (map lowered_of l.units.items)) }

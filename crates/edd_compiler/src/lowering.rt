@@ -164,7 +164,7 @@ impl Lowering {
 /// The code of these rows of a description.
 pub fn lower_rows(alloc: Global, checked: &Checked, rows: &[AttrRef]) -> Result<Lowering, Fault>
     requires { All IsPlain rows.now }
-    ensures lowered { IfOk result (λ l. HasLowered (description_of checked.now) rows.now l.table
+    ensures sound { IfOk result (λ l. HasLowered (description_of checked.now) rows.now l.table
         (map lowered_of l.units.items)) }
     ensures refused { IfErr result (IsOfLowering (HasTooMany (description_of checked.now))) }
 {

@@ -18,7 +18,7 @@ pub fn dump<W: Write>(
     bytes: &[u8],
     out: &mut W,
 ) -> Result<Option<LoadFault>, ShowFault>
-    ensures verdict { IfOk result (λ fault. MatchOption fault (IsValid bytes.now)
+    ensures sound { IfOk result (λ fault. MatchOption fault (IsValid bytes.now)
         (λ why. IfSome (rule_of why) (BreaksFirst bytes.now))) }
 {
     match load(alloc, bytes) {

@@ -272,7 +272,7 @@ fn put_sections(out: &mut Vec<u8>, parts: &Parts) -> Result<(), AllocError>
 /// The bytes of an image.
 pub fn write(alloc: Global, parts: &Parts) -> Result<Vec<u8>, WriteFault>
     ensures sound { IfOk result (λ bytes. bytes.items ≡ layout (sections_of parts.now)) }
-    ensures fit { OnOk result (AreSections (sections_of parts.now)) }
+    ensures accepted { OnOk result (AreSections (sections_of parts.now)) }
     ensures short { IsOk result → vec_len parts.now.code ≤ CODE_LIMIT }
     ensures refused { (result ≡ Err WriteFault.CodeTooLong)
         ↔ (CODE_LIMIT < vec_len parts.now.code) }

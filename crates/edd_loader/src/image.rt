@@ -53,7 +53,7 @@ impl<'b> Model for Image<'b> {
 /// numbers, over the whole image.
 pub fn load<'b>(alloc: Global, bytes: &'b [u8]) -> Result<Image<'b>, LoadFault>
     ensures sound { IfOk result (λ image. image ≡ bytes.now) }
-    ensures valid { OnOk result (IsValid bytes.now) }
+    ensures accepted { OnOk result (IsValid bytes.now) }
     ensures refused { IfErr result (λ fault. IfSome (rule_of fault) (BreaksFirst bytes.now)) }
 {
     if let Some(rule) = first_broken(alloc, bytes)? {

@@ -61,7 +61,7 @@ impl Walk {
     #[inline(always)]
     fn stop(&mut self, place: usize, depth: u8, fits: bool) -> bool
         requires { place < vec_len self.old.marks }
-        ensures unchanged { result ≡ false → self.new.marks.items ≡ self.old.marks.items }
+        ensures kept { result ≡ false → self.new.marks.items ≡ self.old.marks.items }
         ensures fits { IsTrue result → fits ≡ true }
         ensures marks { IsTrue result → self.new.marks.items ≡ slice_set self.old.marks.items place
             (Stands depth) }
@@ -84,7 +84,7 @@ impl Walk {
         requires place { place < vec_len self.old.marks }
         requires depth { depth ≤ 128 }
         requires leaves { leaves ≤ 2 }
-        ensures unchanged { result ≡ false → self.new.marks.items ≡ self.old.marks.items }
+        ensures kept { result ≡ false → self.new.marks.items ≡ self.old.marks.items }
         ensures fits { IsTrue result → fits ≡ true }
         ensures enough { IsTrue result → takes ≤ depth }
         ensures room { IsTrue result → depth - takes + leaves ≤ 128 }
@@ -121,9 +121,81 @@ impl Walk {
         true
     }
 
-    /// Takes on the instruction at a place where so many operands are, if it may stand there, has
-    /// its operands, and leads nowhere with another number of them. Else it leaves the marks as
-    /// they were.
+    // Takes on an instruction that only attributes have, or only methods. Another one it refuses.
+    #[inline(always)]
+    fn take_on_of_one_sort(
+        &mut self,
+        context: Context,
+        size: usize,
+        place: usize,
+        depth: u8,
+        instruction: Instruction,
+    ) -> bool
+        requires size { vec_len self.old.marks ≡ size }
+        requires place { place < size }
+        requires depth { depth ≤ 128 }
+        ensures kept { result ≡ false → self.new.marks.items ≡ self.old.marks.items }
+        ensures allowed { IsTrue result → is_allowed context.version context.sort instruction
+            ≡ true }
+        ensures names { IsTrue result → names_exist context instruction ≡ true }
+        ensures leads { IsTrue result → jumps_inside context.sort size place instruction ≡ true }
+        ensures fits { IsTrue result → fits depth instruction ≡ true }
+        ensures agrees { IsTrue result
+            → jump_agrees instruction (slice_set self.old.marks.items place (Stands depth))
+            (depth - takes instruction) ≡ true }
+        ensures brought { IsTrue result → brought self.new.goes_on self.new.depth
+            ≡ option_map (λ n. depth - takes instruction + n) (leaves instruction) }
+        ensures room { IsTrue result → self.new.depth ≤ 128 }
+        ensures nothing { IsTrue result → self.new.goes_on ≡ false → self.new.depth ≡ 0 }
+        ensures marks { IsTrue result → self.new.marks.items
+            ≡ jump_noted context.sort size place instruction
+            (slice_set self.old.marks.items place (Stands depth)) (depth - takes instruction) }
+        ensures len { vec_len self.new.marks ≡ vec_len self.old.marks }
+    {
+        let is_method = matches!(context.sort, Sort::Method);
+        let is_second = matches!(context.version, Version::Two);
+        let counts = context.counts;
+        match instruction {
+            Instruction::Store(v) => {
+                self.go_on(place, depth, is_method && counts.has_variable(v), 1, 1)
+            }
+            Instruction::GetLocal(slot) => {
+                self.go_on(place, depth, is_method && slot < context.slots, 0, 1)
+            }
+            Instruction::SetLocal(slot) => {
+                self.go_on(place, depth, is_method && slot < context.slots, 1, 1)
+            }
+            Instruction::Ask(_) => {
+                let fits = is_method && context.has_names(instruction);
+                self.go_on(place, depth, fits, instruction.takes(), 1)
+            }
+            Instruction::Abort => self.stop(place, depth, is_method),
+            Instruction::AddAbortMethod(method) => {
+                let fits = is_second && is_method && counts.has_method(method);
+                self.go_on(place, depth, fits, 0, 1)
+            }
+            Instruction::Text(_)
+            | Instruction::DataConst(_)
+            | Instruction::Item { .. }
+            | Instruction::DataVar { .. }
+            | Instruction::Enumerator { .. }
+            | Instruction::Response { .. }
+            | Instruction::Member { .. } => {
+                let fits = !is_method && context.has_names(instruction);
+                self.go_on(place, depth, fits, 0, 0)
+            }
+            Instruction::Element { .. } => {
+                let fits = is_second && !is_method && context.has_names(instruction);
+                self.go_on(place, depth, fits, 0, 0)
+            }
+            Instruction::Number => self.go_on(place, depth, !is_method, 1, 0),
+            _ => false,
+        }
+    }
+
+    /// Takes on the instruction at a place where so many operands are, if it may be there, has its
+    /// operands, and leads nowhere with another number of them. Else it leaves the marks as they
+    /// were.
     #[inline(always)]
     pub fn take_on(
         &mut self,
@@ -136,7 +208,7 @@ impl Walk {
         requires size { vec_len self.old.marks ≡ size }
         requires place { place < size }
         requires depth { depth ≤ 128 }
-        ensures unchanged { result ≡ false → self.new.marks.items ≡ self.old.marks.items }
+        ensures kept { result ≡ false → self.new.marks.items ≡ self.old.marks.items }
         ensures allowed { IsTrue result → is_allowed context.version context.sort instruction
             ≡ true }
         ensures names { IsTrue result → names_exist context instruction ≡ true }
@@ -155,22 +227,12 @@ impl Walk {
         ensures len { vec_len self.new.marks ≡ vec_len self.old.marks }
     {
         let sort = context.sort;
-        let is_method = matches!(sort, Sort::Method);
         let is_second = matches!(context.version, Version::Two);
         let counts = context.counts;
         match instruction {
             Instruction::End => self.stop(place, depth, true),
             Instruction::Push(_) => self.go_on(place, depth, true, 0, 1),
             Instruction::Variable(v) => self.go_on(place, depth, counts.has_variable(v), 0, 1),
-            Instruction::Store(v) => {
-                self.go_on(place, depth, is_method && counts.has_variable(v), 1, 1)
-            }
-            Instruction::GetLocal(slot) => {
-                self.go_on(place, depth, is_method && slot < context.slots, 0, 1)
-            }
-            Instruction::SetLocal(slot) => {
-                self.go_on(place, depth, is_method && slot < context.slots, 1, 1)
-            }
             Instruction::Pop => self.go_on(place, depth, true, 1, 0),
             Instruction::Duplicate => self.go_on(place, depth, true, 1, 2),
             Instruction::ReadElement(array) => {
@@ -199,34 +261,7 @@ impl Walk {
                     && self.go_on(place, depth, true, 1, 1)
                     && self.jump(rest, target)
             }
-            Instruction::Text(s) => {
-                self.go_on(place, depth, !is_method && counts.has_string(s), 0, 0)
-            }
-            Instruction::Number => self.go_on(place, depth, !is_method, 1, 0),
-            Instruction::DataConst(_) => self.go_on(place, depth, !is_method, 0, 0),
-            Instruction::Item { item, .. } => {
-                self.go_on(place, depth, !is_method && counts.has_item(item), 0, 0)
-            }
-            Instruction::DataVar { .. }
-            | Instruction::Enumerator { .. }
-            | Instruction::Response { .. }
-            | Instruction::Member { .. } => {
-                let fits = !is_method && context.has_names(instruction);
-                self.go_on(place, depth, fits, 0, 0)
-            }
-            Instruction::Element { .. } => {
-                let fits = is_second && !is_method && context.has_names(instruction);
-                self.go_on(place, depth, fits, 0, 0)
-            }
-            Instruction::Ask(_) => {
-                let fits = is_method && context.has_names(instruction);
-                self.go_on(place, depth, fits, instruction.takes(), 1)
-            }
-            Instruction::Abort => self.stop(place, depth, is_method),
-            Instruction::AddAbortMethod(method) => {
-                let fits = is_second && is_method && counts.has_method(method);
-                self.go_on(place, depth, fits, 0, 1)
-            }
+            _ => self.take_on_of_one_sort(context, size, place, depth, instruction),
         }
     }
 }

@@ -77,9 +77,9 @@ fn run(
     requires sort { unit.sort ≡ Attribute }
     requires values { AreDeviceValues (types_in image.now) values.now }
     ensures valid { IsValid image.now }
-    ensures records { IfOk result (λ records. Gives (environment_of (contents_in image.now))
+    ensures sound { IfOk result (λ records. Gives (environment_of (contents_in image.now))
         (opening (running_unit image.now unit) unit.slots values.now) (Ok records.items)) }
-    ensures fault { IfErr result (GivesFault (environment_of (contents_in image.now))
+    ensures refused { IfErr result (GivesFault (environment_of (contents_in image.now))
         (opening (running_unit image.now unit) unit.slots values.now)) }
 {
     let code = code_of(image.bytes(), unit);
@@ -114,9 +114,9 @@ pub fn attribute_of_device(
     values: &Values,
 ) -> Result<Vec<Record>, ReadFault>
     requires { AreDeviceValues (types_in image.now) values.now.numbers.items }
-    ensures records { IfOk result (λ records. IsReading image.now attr values.now.numbers.items
+    ensures sound { IfOk result (λ records. IsReading image.now attr values.now.numbers.items
         (Records records.items)) }
-    ensures fault { IfErr result (IsReadFault image.now attr values.now.numbers.items) }
+    ensures refused { IfErr result (IsReadFault image.now attr values.now.numbers.items) }
 {
     let unit = find_attribute(image, attr);
     if is_no_item(image.counts(), attr, unit.is_some()) {
@@ -154,10 +154,10 @@ pub fn attribute(
     attr: AttrRef,
     values: &Values,
 ) -> Result<Vec<Record>, ReadFault>
-    ensures records { IfOk result (λ records. IsReading image.now attr values.now.numbers.items
+    ensures sound { IfOk result (λ records. IsReading image.now attr values.now.numbers.items
         (Records records.items)) }
-    ensures values { OnOk result (AreDeviceValues (types_in image.now) values.now.numbers.items) }
-    ensures fault { IfErr result (IsReadFault image.now attr values.now.numbers.items) }
+    ensures accepted { OnOk result (AreDeviceValues (types_in image.now) values.now.numbers.items) }
+    ensures refused { IfErr result (IsReadFault image.now attr values.now.numbers.items) }
 {
     if !values.are_of(image) {
         return Err(fault_of_values(image, attr));

@@ -26,9 +26,9 @@ impl Values {
     /// The fault is `Count` where there are not as many numbers as variables, `Range` where one of
     /// as many is out of its range, and `Memory` where the copy is refused.
     pub fn new(alloc: Global, image: &Image<'_>, numbers: &[i64]) -> Result<Values, ValuesFault>
-        ensures numbers { IfOk result (λ values. values.numbers.items ≡ numbers.now) }
-        ensures values { OnOk result (AreDeviceValues (types_in image.now) numbers.now) }
-        ensures fault { IfErr result (λ fault. IsValuesFault fault (types_in image.now)
+        ensures sound { IfOk result (λ values. values.numbers.items ≡ numbers.now) }
+        ensures accepted { OnOk result (AreDeviceValues (types_in image.now) numbers.now) }
+        ensures refused { IfErr result (λ fault. IsValuesFault fault (types_in image.now)
             numbers.now) }
     {
         let bytes = image.bytes();

@@ -111,8 +111,8 @@ pub fn play(
         (λ t. option_map (λ o. o.ending) (played image.now method values.numbers.items steps
         (map answer_of answers.now))
         ≡ Some (ending_shown t.ending)) }
-    ensures started { OnOk result (AreDeviceValues (types_in image.now) values.numbers.items) }
-    ensures fault { IfErr result (IsPlayFault image.now method values.numbers.items steps
+    ensures accepted { OnOk result (AreDeviceValues (types_in image.now) values.numbers.items) }
+    ensures refused { IfErr result (IsPlayFault image.now method values.numbers.items steps
         (map answer_of answers.now)) }
 {
     let mut session = match Session::start(image, method, values) {

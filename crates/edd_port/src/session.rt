@@ -63,8 +63,8 @@ impl<'i, 'b> Session<'i, 'b> {
         ensures opens { IfOk result (λ session. OpensIn image.now method values.numbers.items
             session.state) }
         ensures taken { IfOk result (λ session. session.taken ≡ 0) }
-        ensures values { OnOk result (AreDeviceValues (types_in image.now) values.numbers.items) }
-        ensures fault { IfErr result (λ refused. IsStartFault image.now method values.numbers.items
+        ensures accepted { OnOk result (AreDeviceValues (types_in image.now) values.numbers.items) }
+        ensures refused { IfErr result (λ refused. IsStartFault image.now method values.numbers.items
             refused.0) }
         ensures kept { IfErr result (λ refused. refused.1 ≡ values) }
     {
@@ -128,7 +128,7 @@ impl<'i, 'b> Session<'i, 'b> {
         ensures sound { OnOk result
             (self.new.state ≡ (answered_in (contents_in self.old.image) self.old.state
             (answer_of answer.now)).state) }
-        ensures fault { option_map answer_fault_of (result_err result)
+        ensures refused { option_map answer_fault_of (result_err result)
             ≡ refusal (types_in self.old.image) self.old.state.status (answer_of answer.now) }
         ensures kept { OnErr result (self.new ≡ self.old) }
     {

@@ -18,8 +18,8 @@ use std::alloc::{AllocError, Global};
 
 /// The string of a text: the raw insides of adjacent strings, joined.
 pub fn split(alloc: Global, raw: &str) -> Result<Words, StringFault>
-    ensures value { IfOk result (λ words. string_of words ≡ words_of (Quoted raw.now)) }
-    ensures bad_escape { (result ≡ Err StringFault.BadEscape) ↔ (has_escapes raw.now ≡ false) }
+    ensures sound { IfOk result (λ words. string_of words ≡ words_of (Quoted raw.now)) }
+    ensures refused { (result ≡ Err StringFault.BadEscape) ↔ (has_escapes raw.now ≡ false) }
     ensures bounded { result ≢ Err StringFault.TooMany }
 {
     if !has_escapes(raw) {
@@ -31,8 +31,8 @@ pub fn split(alloc: Global, raw: &str) -> Result<Words, StringFault>
 /// The key of a name.
 pub fn key(alloc: Global, name: &str) -> Result<Words, StringFault>
     requires { IsTrue (is_name name.now) }
-    ensures value { IfOk result (λ words. string_of words ≡ strings.Key name.now) }
-    ensures memory { IfErr result (λ fault. fault ≡ StringFault.Memory) }
+    ensures sound { IfOk result (λ words. string_of words ≡ strings.Key name.now) }
+    ensures refused { IfErr result (λ fault. fault ≡ StringFault.Memory) }
 {
     let name = String::from_str(alloc, name)?;
     Ok(Words::Key(Key { name }))

@@ -31,7 +31,7 @@ fn save_beside<D: Disk>(disk: &mut D, place: &str, bytes: &[u8]) -> io::Result<(
 ///
 /// Where it fails, each plain file is as it was and no new one is left.
 pub fn save<D: Disk>(disk: &mut D, opened: &[Identity], name: &str, bytes: &[u8]) -> io::Result<()>
-    ensures saved { OnOk result
+    ensures sound { OnOk result
         (IfSome (D.files disk.old) (λ files. IfSome (D.standing disk.old) (λ standing.
         Saved opened.now name.now bytes.now standing files (D.files disk.new) (D.given disk.old)
         (D.given disk.new)))) }

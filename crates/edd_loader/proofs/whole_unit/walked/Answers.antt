@@ -53,7 +53,7 @@ returns-then-not-take_on c =
     (omega (arith, c.loop-place.invariant.walk.sized, c.loop-place-test.true))
     c.index.ensures in
     let unchanged : c.take_on.new.self.marks.items ≡ before.marks.items =
-    c.take_on.ensures.unchanged c.if-not-take_on.true in
+    c.take_on.ensures.kept c.if-not-take_on.true in
     record {
       walk = rw unchanged (walk_again c.args.context c.args.code.now before.marks.items
           (brought before.goes_on before.depth) place c.in-Some-decode.next c.in-Some.depth

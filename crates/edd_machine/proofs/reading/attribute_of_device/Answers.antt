@@ -9,8 +9,8 @@ use Rattle.edd_machine.specs.Running.{unit_at}
 use Rattle.edd_machine.proofs.AttributeReadings.{is_found, not_found, found_row, unit_found, counts_there, attribute_found, nothing_read, default_read, unit_read, fault_read, passed}
 use Rattle.edd_machine.proofs.reading.attribute_of_device.Goals as goal
 
-pub returns-then-is_no_item-clause-fault : goal.returns-then-is_no_item-clause-fault
-returns-then-is_no_item-clause-fault c =
+pub returns-then-is_no_item-clause-refused : goal.returns-then-is_no_item-clause-refused
+returns-then-is_no_item-clause-refused c =
     let has_row : is_some (row_of (contents_in c.args.image.now) c.args.attr) ≡ c.is_some.result =
     sym (c.is_some.ensures ∙ ap is_some c.find_attribute-unit.ensures
     ∙ found_row (unit_at c.args.image.now) (row_of (contents_in c.args.image.now) c.args.attr))
@@ -37,9 +37,9 @@ run-requires-clause-sort c =
     (is_found c.args.image.now c.args.attr c.in-Some.unit
     (sym c.in-Some.is ∙ c.find_attribute-unit.ensures)) (sym test ∙ c.if-is_no_item.false)
 
-pub returns-in_err-default_records-in-None-clause-fault :
-    goal.returns-in_err-default_records-in-None-clause-fault
-returns-in_err-default_records-in-None-clause-fault c =
+pub returns-in_err-default_records-in-None-clause-refused :
+    goal.returns-in_err-default_records-in-None-clause-refused
+returns-in_err-default_records-in-None-clause-refused c =
     let has_row : is_some (row_of (contents_in c.args.image.now) c.args.attr) ≡ c.is_some.result =
     sym (c.is_some.ensures ∙ ap is_some c.find_attribute-unit.ensures
     ∙ found_row (unit_at c.args.image.now) (row_of (contents_in c.args.image.now) c.args.attr))
@@ -52,8 +52,8 @@ returns-in_err-default_records-in-None-clause-fault c =
     (IsReadFault c.args.image.now c.args.attr c.args.values.now.numbers.items)
     c.from_residual.ensures.1 (item, c.requires)
 
-pub returns-in_err-records-in-Some-clause-fault : goal.returns-in_err-records-in-Some-clause-fault
-returns-in_err-records-in-Some-clause-fault c =
+pub returns-in_err-records-in-Some-clause-refused : goal.returns-in_err-records-in-Some-clause-refused
+returns-in_err-records-in-Some-clause-refused c =
     let has_row : is_some (row_of (contents_in c.args.image.now) c.args.attr) ≡ c.is_some.result =
     sym (c.is_some.ensures ∙ ap is_some c.find_attribute-unit.ensures
     ∙ found_row (unit_at c.args.image.now) (row_of (contents_in c.args.image.now) c.args.attr))
@@ -71,9 +71,9 @@ returns-in_err-records-in-Some-clause-fault c =
     (IsReadFault c.args.image.now c.args.attr c.args.values.now.numbers.items)
     c.from_residual-in_err-records-in-Some.ensures.1 fault
 
-pub returns-in_err-or_default-in-Some-clause-fault :
-    goal.returns-in_err-or_default-in-Some-clause-fault
-returns-in_err-or_default-in-Some-clause-fault c =
+pub returns-in_err-or_default-in-Some-clause-refused :
+    goal.returns-in_err-or_default-in-Some-clause-refused
+returns-in_err-or_default-in-Some-clause-refused c =
     let has_row : is_some (row_of (contents_in c.args.image.now) c.args.attr) ≡ c.is_some.result =
     sym (c.is_some.ensures ∙ ap is_some c.find_attribute-unit.ensures
     ∙ found_row (unit_at c.args.image.now) (row_of (contents_in c.args.image.now) c.args.attr))
@@ -86,9 +86,9 @@ returns-in_err-or_default-in-Some-clause-fault c =
     (IsReadFault c.args.image.now c.args.attr c.args.values.now.numbers.items)
     c.from_residual-in_err-or_default-in-Some.ensures.1 (item, c.requires)
 
-pub returns-in_ok-default_records-in-None-clause-records :
-    goal.returns-in_ok-default_records-in-None-clause-records
-returns-in_ok-default_records-in-None-clause-records c =
+pub returns-in_ok-default_records-in-None-clause-sound :
+    goal.returns-in_ok-default_records-in-None-clause-sound
+returns-in_ok-default_records-in-None-clause-sound c =
     let has_row : is_some (row_of (contents_in c.args.image.now) c.args.attr) ≡ c.is_some.result =
     sym (c.is_some.ensures ∙ ap is_some c.find_attribute-unit.ensures
     ∙ found_row (unit_at c.args.image.now) (row_of (contents_in c.args.image.now) c.args.attr))
@@ -105,9 +105,9 @@ returns-in_ok-default_records-in-None-clause-records c =
     (sym c.in_ok-default_records-in-None.ensures)
     (default_read c.args.image.now c.args.attr c.args.values.now.numbers.items item none)
 
-pub returns-in_ok-or_default-in-Some-clause-records :
-    goal.returns-in_ok-or_default-in-Some-clause-records
-returns-in_ok-or_default-in-Some-clause-records c =
+pub returns-in_ok-or_default-in-Some-clause-sound :
+    goal.returns-in_ok-or_default-in-Some-clause-sound
+returns-in_ok-or_default-in-Some-clause-sound c =
     let has_row : is_some (row_of (contents_in c.args.image.now) c.args.attr) ≡ c.is_some.result =
     sym (c.is_some.ensures ∙ ap is_some c.find_attribute-unit.ensures
     ∙ found_row (unit_at c.args.image.now) (row_of (contents_in c.args.image.now) c.args.attr))

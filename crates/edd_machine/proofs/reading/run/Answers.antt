@@ -192,8 +192,8 @@ loop-instruction-preserved c =
           c.in-Gives.ensures r g));
     }
 
-pub returns-in-Ends-clause-records : goal.returns-in-Ends-clause-records
-returns-in-Ends-clause-records c =
+pub returns-in-Ends-clause-sound : goal.returns-in-Ends-clause-sound
+returns-in-Ends-clause-sound c =
     let same : c.code_of-code.result.now ≡ code_at c.args.image.now c.args.unit =
     c.code_of-code.ensures ∙ ap (λ (b : List ℕ). code_at b c.args.unit) c.bytes.ensures.sound in
     let at : instruction_at (code_at c.args.image.now c.args.unit) c.loop-instruction.place
@@ -209,8 +209,8 @@ returns-in-Ends-clause-records c =
     (opening (running_unit c.args.image.now c.args.unit) c.args.unit.slots c.args.values.now)
     (Ok records)) (append-nil c.loop-instruction.records.items) g
 
-pub returns-in-Traps-clause-fault : goal.returns-in-Traps-clause-fault
-returns-in-Traps-clause-fault c =
+pub returns-in-Traps-clause-refused : goal.returns-in-Traps-clause-refused
+returns-in-Traps-clause-refused c =
     let same : c.code_of-code.result.now ≡ code_at c.args.image.now c.args.unit =
     c.code_of-code.ensures ∙ ap (λ (b : List ℕ). code_at b c.args.unit) c.bytes.ensures.sound in
     let at : instruction_at (code_at c.args.image.now c.args.unit) c.loop-instruction.place

@@ -7,16 +7,16 @@ use Rattle.edd_machine.proofs.values.Values.new.Goals as goal
 pub variable_count-requires : goal.variable_count-requires
 variable_count-requires c = has_header _ _ c.bytes-bytes.ensures.sound c.bytes-bytes.ensures.valid
 
-pub returns-then-numbers-variable_count-clause-fault :
-    goal.returns-then-numbers-variable_count-clause-fault
-returns-then-numbers-variable_count-clause-fault c =
+pub returns-then-numbers-variable_count-clause-refused :
+    goal.returns-then-numbers-variable_count-clause-refused
+returns-then-numbers-variable_count-clause-refused c =
     let counted = types_counted c.args.image.now c.bytes-bytes.ensures.valid in
     let count : c.variable_count.result ≡ (counts_in c.args.image.now).variables =
     c.variable_count.ensures ∙ ap (λ b. (counts_in b).variables) c.bytes-bytes.ensures.sound in
     λ e. c.if-numbers-variable_count.true (e ∙ counted ∙ sym count)
 
-pub returns-then-not-are_values-clause-fault : goal.returns-then-not-are_values-clause-fault
-returns-then-not-are_values-clause-fault c =
+pub returns-then-not-are_values-clause-refused : goal.returns-then-not-are_values-clause-refused
+returns-then-not-are_values-clause-refused c =
     let counted = types_counted c.args.image.now c.bytes-bytes.ensures.valid in
     let count : c.variable_count.result ≡ (counts_in c.args.image.now).variables =
     c.variable_count.ensures ∙ ap (λ b. (counts_in b).variables) c.bytes-bytes.ensures.sound in (
