@@ -25,8 +25,8 @@ before_none (x ∷ xs) = (record {}, before_none xs)
 next : (n : ℕ) → n < suc n
 next n = omega arith
 
--- `P n` is kept by the rows of a member with the number n, and rows of a smaller number stand
--- before those of a larger one
+-- `P n` is kept by the rows of a member with the number n, and rows of a smaller number come before
+-- those of a larger one
 module _ {A : Type 0} (number : A → ℕ) (P : ℕ → AttributeFields → Type 0)
     (in_order : (m n : ℕ) → m < n → (x y : AttributeFields) → P m x → P n y → rises x y ≡ true)
     (block : A → Rows) (kept : (a : A) → AllByRecursion (P (number a)) (block a))

@@ -10,7 +10,7 @@ use Rattle.edd_image.specs.Contents.{Span, part, NameFields, AttributeFields, fi
 use Rattle.edd_assembly.specs.Assembly.{Lowered, name_rows, string_rows, attribute_rows}
 
 module _ {Y : Type 0} (bytes : Y → List ℕ) where
-  -- where the bytes of elements stand that follow each other from a place on
+  -- where the bytes of elements lie that follow each other from a place on
   abbrev pub spans : ℕ → List Y → List Span
   spans s [] = []
   spans s (y ∷ ys) = (record { start = s; size = length (bytes y) }) ∷ spans (s + length (bytes y))

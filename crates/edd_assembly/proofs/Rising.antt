@@ -10,7 +10,7 @@ use Rattle.edd_image.specs.Validity.{rises, rise}
 abbrev Rows : Type 0
 Rows = List AttributeFields
 
--- each row of the first list stands before each row of the second
+-- each row of the first list comes before each row of the second
 abbrev pub AllBefore : Rows → Rows → Type 0
 AllBefore xs ys = AllByRecursion (λ x. AllByRecursion (λ y. rises x y ≡ true) ys) xs
 

@@ -1,4 +1,4 @@
--- A row of an item's attribute stands among the rows of a description at the positions of the
+-- A row of an item's attribute is among the rows of a description at the positions of the
 -- attribute, and nowhere else.
 use Rattle.std.proofs.Common.{◌≡◌, refl, sym, ap, ◌∙◌, ℕ, zero, suc, ◌+◌, ◌≤◌, Bool, true, false, List, [], ◌∷◌, map, Some, arith}
 use Rattle.std.specs.Prelude.{◌==◌, ◌&&◌, ◌||◌, slice_get}

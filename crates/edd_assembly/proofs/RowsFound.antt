@@ -127,7 +127,7 @@ module _ (test : Test) (whole : List ℕ) (P : Lowered → Type 0) where
           )
       pick false is others = others
 
--- ---- a row that is no body stands among the rows of the description
+-- ---- a row that is no body is among the rows of the description
 
 module _ (ref : AttrRef) (no_body : same_attr ref.attr attr.Definition ≡ false) where
   body_is_other : (r : AttrRef) → same_attr r.attr attr.Definition ≡ true → same_ref ref r ≡ false
@@ -153,7 +153,7 @@ module _ (ref : AttrRef) (no_body : same_attr ref.attr attr.Definition ≡ false
       (plain_alike l.row (same_attr l.row.attr attr.Definition) refl)
       ∙ ap (λ b. same_ref ref (plain_row l) || b) (among_plain ls)
 
--- ---- a body stands among the rows, where it stands at 0 in the description
+-- ---- a body is among the rows, where it is at 0 in the description
 
 module _ (m : MethNo) where
   abbrev pub body_ref : AttrRef

@@ -27,7 +27,7 @@ use Rattle.edd_syntax.proofs.Belonging.{Belong, all_belong, fits_at, positions_f
 use Rattle.edd_syntax.proofs.ItemForms.{is_formed, all_weaker, own_when_formed}
 use Rattle.edd_syntax.proofs.KnownByNumber.{same_kinds, same_attrs, numbered_kind}
 
--- the item exists and may have the attribute, which stands at 0 where it is not of a transaction
+-- the item exists and may have the attribute, which is at 0 where it is not of a transaction
 abbrev pub is_placed : Counts → AttrRef → Bool
 is_placed counts r = item_exists counts r.item
     && (has_attr (kind_of r.item) r.attr && (is_of_transaction r.attr || r.sub == 0))

@@ -59,7 +59,7 @@ not_body a h = absurd (false≢true h)
 abbrev IsOf : Kind → Attr → AttributeFields → Type 0
 IsOf k a f = (f.kind ≡ kind_number k) × (f.attribute ≡ attr_number a)
 
--- for a method's body `slots` says what stands in the place of a position
+-- for a method's body `slots` says what is in the place of a position
 module _ (slots : AttrRef → ℕ) where
   abbrev pub with_slots : AttrRef → AttrRef
   with_slots r = if same_attr r.attr attr.Definition then record r { sub = slots r } else r

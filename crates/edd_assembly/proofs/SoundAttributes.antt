@@ -78,7 +78,7 @@ abbrev fields : ℕ → Lowered → AttributeFields
 fields s l = fields_of_attribute (attribute_row_at s l)
 
 module _ (l m : Lowered) where
-  -- whether one row stands before the other, where this is said of their positions
+  -- whether one row comes before the other, where this is said of their positions
   abbrev by_last : Bool → Bool
   by_last b =
       nat_lt (kind_number (kind_of l.row.item)) (kind_number (kind_of m.row.item))

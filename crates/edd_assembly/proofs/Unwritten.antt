@@ -1,4 +1,4 @@
--- An attribute that is not written gives nothing, and a transaction stands at each position up to
+-- An attribute that is not written gives nothing, and there is a transaction at each position up to
 -- their number.
 use Rattle.std.proofs.Common.{◌≡◌, refl, sym, ap, ◌∙◌, ℕ, zero, suc, ◌+◌, Bool, true, false, List, [], ◌∷◌, ◌++◌, map, arith}
 use Rattle.std.specs.Prelude.{◌==◌, ◌||◌, slice_get, is_some, ℤ, pos, Ok}

@@ -16,7 +16,7 @@ use Rattle.edd_image.specs.Agreement.{IsAttributeCode}
 use Rattle.edd_image.specs.MethodAgreement.{method_context, IsMethodCode}
 use Rattle.edd_assembly.specs.Assembly.{Lowered}
 
--- the row as the description has it, in which a body stands at 0
+-- the row as the description has it, in which a body is at 0
 abbrev pub plain_row : Lowered → AttrRef
 plain_row l = if same_attr l.row.attr attr.Definition then record l.row { sub = 0 } else l.row
 

@@ -1,4 +1,4 @@
--- What may stand in an attribute still may when the table of strings grows.
+-- What may be in an attribute still may when the table of strings grows.
 use Rattle.std.proofs.Common.{◌≡◌, refl, Bool, true, List, ◌++◌, length, Option, Some, None, arith, length-append}
 use Rattle.std.specs.Prelude.{nat_lt}
 use Rattle.std.proofs.lemmas.Bool.{lt-ltb, ltb-true}

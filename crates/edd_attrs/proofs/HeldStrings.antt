@@ -1,4 +1,4 @@
--- The strings of all branches stand in the table, since their records are written.
+-- The strings of all branches are in the table, since their records are written.
 use Rattle.std.proofs.Common.{◌≡◌, refl, sym, ap, subst, ◌∙◌, Bool, true, false, List, [], ◌∷◌, ◌++◌, length, map, arith}
 use Rattle.std.specs.List.{Contains}
 use Rattle.std.proofs.lemmas.List.{map-append}

@@ -18,7 +18,7 @@ use Rattle.edd_attrs.proofs.Written.{both_blocks}
 pub later_on : (b c more later : List Words) → c ≡ b ++ more → c ++ later ≡ b ++ (more ++ later)
 later_on b c more later e = ap (λ (t : List Words). t ++ later) e ∙ append_assoc b more later
 
--- an element stands at its place when the elements are viewed
+-- an element is at its place when the elements are viewed
 pub viewed_at : {X Y : Type 0} (view : X → Y) (xs : List X) (i : ℕ) (x : X) → i < length xs
     → x ≡ get_or xs i x → view x ≡ get_or (map view xs) i (view x)
 viewed_at view [] i x h is = absurd (omega arith)
@@ -126,7 +126,7 @@ module _ {X : Type 0} (strings : X → List Words) (of : (StrNo → Option Words
         (sym (drop_all i xs h)) (none (string_of_table (b ++ later))));
   }
 
-  -- an element whose block stands in front of that of the rest
+  -- an element whose block is in front of that of the rest
   pub block_step : (x : X) (b c : List Words) (between after : List ℕ) (one : (StrNo → Option Words)
       → Block → Type 0) → WritesBlock b between (strings x) one c after
       → ((numbered : StrNo → Option Words) (rest : List X) (p q : Block) → one numbered p

@@ -1,4 +1,4 @@
--- The block of a conditional comes to what the conditional means.
+-- The block of a conditional results in what the conditional means.
 use Rattle.std.proofs.Common.{◌≡◌, refl, sym, ap, subst, ◌∙◌, Bool, true, false, ℤ, List, [], ◌∷◌, ◌++◌, map}
 use Rattle.std.specs.Prelude.{Ok, Err, Option}
 use Rattle.std.specs.List.{list_all}

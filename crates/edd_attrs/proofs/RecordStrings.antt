@@ -1,4 +1,4 @@
--- The strings of a record stand in the table that has them by number.
+-- The strings of a record are in the table that has them by number.
 use Rattle.std.proofs.Common.{◌≡◌, subst, ◌⊎◌, inl, inr, zero, suc, List, [], ◌∷◌, ◌++◌, Option, Some, None, arith}
 use Rattle.std.specs.List.{Contains}
 use Rattle.std.specs.Option.{option_to_list}

@@ -31,7 +31,7 @@ pub record ExpressionFacts (context : Context) (reads : Target → Bool) : Type 
       → all_straight (may_stand context) (expression_block e) ≡ true
 
 module _ (context : Context) where
-  -- a block that stands alone, of so many nodes
+  -- a block by itself, of so many nodes
   pub record IsSound (b : Block) (n : ℕ) : Type 0 where
     pub flows : Flows b 0
     pub even : depth_after b 0 ≡ 0

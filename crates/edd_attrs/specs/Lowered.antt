@@ -16,6 +16,6 @@ pub record LowersTree (old : List Words) (tree : Option Tree) (new : List Words)
   pub is_unit : code ≡ unit_code block
   pub is : (later : List Words) → IsBlockOf (string_of_table (new ++ later)) tree block
 
--- more than 65,535 different strings stand among those of the table and the tree's
+-- there are more than 65,535 different strings among those of the table and the tree's
 abbrev pub OverflowsTree : (old : List Words) → Option Tree → Type 0
 OverflowsTree old tree = Overflows old (strings_of_tree tree)

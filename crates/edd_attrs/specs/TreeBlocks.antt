@@ -52,7 +52,7 @@ module _ {V : Type 0} (of : V → Block → Type 0) where
         × IsArmsBlock otherwise rest y
     IsArmsBlock otherwise (ConsArm (Default body) rest) b = IsArmsBlock otherwise rest b
 
-    -- the first DEFAULT, wherever it stands
+    -- the first DEFAULT, wherever it is
     pub IsDefaultBlock : Arms Target V → Block → Type 0
     IsDefaultBlock NoArms b = b ≡ block.Nothing
     IsDefaultBlock (ConsArm (Case label body) rest) b = IsDefaultBlock rest b

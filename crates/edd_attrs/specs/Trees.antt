@@ -1,4 +1,4 @@
--- The tree of one attribute: what is written for it, wherever it stands in its item.
+-- The tree of one attribute: what is written for it, wherever it is in its item.
 use Rattle.std.specs.Prelude.{ℕ, Bool, true, false, List, [], ◌∷◌, ◌++◌, map, slice_get, Option, Some, None, if◌then◌else◌}
 use Rattle.edd_syntax.specs.declared.numbers.Attr.{Attr}
 use Rattle.edd_syntax.specs.declared.numbers.Attr.TheVariants as attr

@@ -55,7 +55,7 @@ header (Default body) = []
 abbrev pub headers : {V : Type 0} → List (Arm Target V) → List ℕ
 headers arms = flat_map header arms
 
--- the place of the open target of an arm whose header stands at a place
+-- the place of the open target of an arm whose header is at a place
 abbrev pub hole_of : {V : Type 0} → (place : ℕ) → Arm Target V → Option ℕ
 hole_of place (Case label body) = Some (place + 9)
 hole_of place (Default body) = None

@@ -193,7 +193,7 @@ fn default_among<'a, V: Element>(arms: &'a [Arm<Target, V>]) -> Option<&'a [Cond
     None
 }
 
-// What the first DEFAULT gives, wherever it stands.
+// What the first DEFAULT gives, wherever it is.
 #[cycle(conditions)]
 fn write_default<V: Element>(
     alloc: Global,

@@ -1,4 +1,4 @@
-//! The tree of an attribute: what is written for it, wherever it stands in its item.
+//! The tree of an attribute: what is written for it, wherever it is in its item.
 
 ghost use Rattle.std.specs.Prelude.{◌≡◌, map, option_map};
 ghost use Rattle.edd_syntax.specs.ItemView.{numbered_attribute, numbered_type_part};

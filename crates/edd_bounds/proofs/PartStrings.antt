@@ -73,7 +73,7 @@ module _ (w : Words) where
 
 -- ---- the formats
 
--- whether an option of the type stands in its braces
+-- whether an option of the type is in its braces
 abbrev pub has_part : Attr → List (TypePart Target) → Bool
 has_part b parts = list_any (same_attr b) (map part_attr parts)
 

@@ -1,4 +1,4 @@
--- What stands at the rows of a small description, worked out by hand.
+-- What the rows of a small description hold, worked out by hand.
 use Rattle.std.proofs.Common.{◌≡◌, refl, pos, List, [], ◌∷◌, map}
 use Rattle.std.specs.Prelude.{Some, None, codes}
 use Rattle.edd_syntax.specs.declared.numbers.TextAttribute.TheVariants as text_attribute

@@ -1,5 +1,5 @@
--- What stands at a row of a description: the strings of its attribute or body, and how long its
--- code may be.
+-- What a row of a description holds: the strings of its attribute or body, and how long its code
+-- may be.
 use Rattle.std.specs.Prelude.{ℕ, ◌*◌, List, if◌then◌else◌, Some, None}
 use Rattle.edd_syntax.specs.declared.numbers.Attr.TheVariants as attr
 use Rattle.edd_syntax.specs.declared.numbers.AttrRef.{AttrRef}

@@ -14,8 +14,8 @@ ghost use Rattle.edd_syntax.specs.Words.{Words};
 ghost use Rattle.edd_syntax.specs.Strings.{different, unit_strings};
 ghost use Rattle.edd_bounds.specs.RowContents.{limit_of_row, strings_of_row};
 
-/// Strings that all stand in a list come to no more different ones than the list has, and none is
-/// lost among different ones.
+/// Among strings that are all in a list there are no more different ones than the list has, and
+/// none is lost among different ones.
 pub fn different_strings_count()
     ensures within { (xs ys : List Words) → ((w : Words) → Contains xs w → Contains ys w)
         → length (different xs) ≤ length (different ys) }

@@ -156,7 +156,7 @@ fn walk_inside<'a>(
     }
 }
 
-/// Walks over an attribute of an item. A transaction may stand any number of times.
+/// Walks over an attribute of an item. There may be any number of transactions.
 pub fn walk_attribute<'a>(
     item: &'a Item<Path>,
     attribute: &'a Attribute<Path>,

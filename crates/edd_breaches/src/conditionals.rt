@@ -1,4 +1,4 @@
-//! Conditionals, and the values that stand under their conditions.
+//! Conditionals, and the values under their conditions.
 
 use crate::expressions::walk_expr;
 use edd_lexer::token::TokenKind;
@@ -14,7 +14,7 @@ use edd_trails::breach::Rule;
 use edd_trails::walk::{ENTRIES, VARIABLES, Walk};
 use std::alloc::AllocError;
 
-/// What may stand under a condition.
+/// What may be under a condition.
 pub trait WalkValue {
     fn walk_value<'a>(&'a self, walk: &mut Walk<'a>) -> Result<(), AllocError>;
 }

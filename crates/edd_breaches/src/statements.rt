@@ -11,7 +11,7 @@ use edd_trails::walk::Walk;
 use std::alloc::{AllocError, Global};
 use std::collections::BTreeMap;
 
-/// What stands around a statement.
+/// What is around a statement.
 #[derive(Clone, Copy)]
 pub struct Around {
     pub in_loop: bool,

@@ -1,4 +1,4 @@
-//! Types of variables, and what stands in their braces.
+//! Types of variables, and what is in their braces.
 
 use crate::conditionals::walk_cond;
 use edd_lexer::token::TokenKind;

@@ -167,7 +167,7 @@ fn requests_of(
     Ok(requests)
 }
 
-// Whether a run comes to that.
+// Whether a run results in that.
 fn comes_to(alloc: Global, run: Run) -> Result<bool, Fail> {
     let items = format!(in alloc; "{X} {}", run.items)?;
     let bytes = compiled(alloc, items.as_str())?;

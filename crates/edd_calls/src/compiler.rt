@@ -196,7 +196,8 @@ const EVERY_ATTRIBUTE: &str =
     COLLECTION OF VARIABLE k { MEMBERS { x, a; } }
     ARRAY OF VARIABLE r { LABEL \"R\"; HELP \"r\"; ELEMENTS { 7, b, \"B\", \"off\"; 2, a; } }";
 
-// What each row gives where each variable is 0. Strings are numbered as the rows come to name them.
+// What each row gives where each variable is 0. Strings are numbered in the order in which the rows
+// name them.
 const RECORDS: [&[Record]; 23] = [
     &[Record::Words(StrNo(0))],
     &[Record::Words(StrNo(1))],

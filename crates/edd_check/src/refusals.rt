@@ -47,7 +47,8 @@ fn of_text(
     }
 }
 
-// Shows breaches. The first refusal is the compiler's: where no breach is it, it stands by itself.
+// Shows breaches. The first refusal is the compiler's: where no breach is it, it is shown by
+// itself.
 fn show_breaches(
     alloc: Global,
     source: &Source<'_>,
@@ -82,7 +83,7 @@ fn is_refusal(found: &Diagnostic, refusal: &str) -> bool {
     }
 }
 
-// A refusal for which no token stands.
+// A refusal that belongs to no token.
 fn of_limit(alloc: Global, refusal: String) -> Result<Diagnostic, AllocError> {
     let mut found = Diagnostic::new(alloc, Finding::Refused(refusal));
     found.help(String::from_str(alloc, "`edd explain 40` has the limits")?)?;

@@ -108,7 +108,7 @@ module _ (P : Placed → Type 0) where
       let two = all_in (p + (13 + (size rest + 5))) body after one.1.1 in
       ((h.0, one.0, one.1.0, two.0), two.1)
 
--- ---- the instructions that are emitted stand there
+-- ---- the instructions that are emitted are there
 
 target_is : (place : ℕ) → place < 2 ^ 32 → target place ≡ place
 target_is place h = mod-eq_of_lt (omega (arith, h))

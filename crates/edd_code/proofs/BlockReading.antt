@@ -1,5 +1,5 @@
--- Instructions that are spelled are read where they stand; so a block is followed wherever its
--- bytes stand in a method.
+-- Instructions that are spelled are read where they are; so a block is followed wherever its
+-- bytes are in a method.
 use Rattle.std.proofs.Common.{◌≡◌, sym, ap, subst, ℕ, ◌+◌, ◌<◌, ◌^◌, ℤ, List, [], ◌∷◌, ◌++◌, length, Option, append_assoc, append-nil, length-append}
 use Rattle.std.specs.List.{AllByRecursion}
 use Rattle.edd_syntax.specs.declared.numbers.StrNo.{StrNo}
@@ -35,8 +35,8 @@ all_read front (i ∷ is) behind ok =
           (length-append front (spelling i)) (all_read (front ++ spelling i) is behind ok.1)),
     )
 
--- what holds of the instructions from a place on holds of those of the block that stands there, and
--- of those after it
+-- what holds of the instructions from a place on holds of those of the block that is there, and of
+-- those after it
 pub block_in : (P : Placed → Type 0) (p : ℕ) (b : Block) (after : List Instruction)
     → p + size b < 2 ^ 32 → AllByRecursion P (placed p (emitted p b ++ after))
     → AllIn P p b × AllByRecursion P (placed (p + size b) after)

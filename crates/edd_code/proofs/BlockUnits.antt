@@ -68,7 +68,7 @@ module _ (version : Version) (sort : Sort) where
   flows_allowed d (Match label body rest) h = and_from _ _ (flows_allowed (d - 1) body h.2)
       (flows_allowed d rest h.3)
 
--- jumps and the end may stand in each unit
+-- jumps and the end may be in each unit
 pub jumps_allowed : (version : Version) (sort : Sort) → HoldsOfJumps (is_allowed version sort)
 jumps_allowed version Attribute = record {
   jump = λ to. refl;

@@ -1,4 +1,4 @@
--- Different strings that all stand in a list are no more than its different strings.
+-- Different strings that are all in a list are no more than its different strings.
 use Rattle.std.proofs.Common.{◌≡◌, refl, sym, ap, subst, ◌∙◌, ℕ, zero, suc, ◌+◌, ◌≤◌, ◌⊎◌, inl, inr, Bool, true, false, cond, List, [], ◌∷◌, length, arith}
 use Rattle.std.specs.Prelude.{◌&&◌, ◌||◌}
 use Rattle.std.specs.Str.{bytes_eq}

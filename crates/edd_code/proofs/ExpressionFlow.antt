@@ -136,7 +136,7 @@ truth_runs : (d : ℕ) → suc d ≤ 128 → Runs truth_block (suc d) (suc d)
 truth_runs d few = then_runs (Straight instruction.Not) (Straight instruction.Not) (suc d) (suc d)
     (suc d) (unary_runs unary_operator.Not d few) (unary_runs unary_operator.Not d few)
 
--- a test of the topmost operand, after which it stands as before
+-- a test of the topmost operand, which is as before after it
 test_runs : (next : Block) (d : ℕ) → suc d ≤ 128 → Runs next (suc (suc d)) (suc d)
     → Runs (then_test next) (suc d) (suc d)
 test_runs next d few p = then_runs (Straight instruction.Duplicate) next (suc d) (suc (suc d))

@@ -1,4 +1,4 @@
--- The operands of an expression's block are in their ranges, and its instructions may stand in an
+-- The operands of an expression's block are in their ranges, and its instructions may be in an
 -- attribute: the variables and arrays that they name exist.
 use Rattle.std.proofs.Common.{◌≡◌, refl, ◌≤◌, ◌^◌, Bool, true, false, arith}
 use Rattle.std.specs.Prelude.{◌&&◌, nat_lt}
@@ -109,7 +109,7 @@ module _ (counts : Counts) (plain : Target → Bool) (few : counts.variables ≤
 
 module _ (version : Version) (counts : Counts) (plain : Target → Bool)
     (holds_arrays : nat_lt 0 counts.arrays ≡ true → version ≡ Two) where
-  -- where the unit of an attribute stands
+  -- the context of the unit of an attribute
   abbrev context : Context
   context = record { version = version; counts = counts; sort = Attribute; slots = 0 }
 

@@ -1,4 +1,4 @@
--- The block of an expression comes to the expression's value.
+-- The block of an expression results in the expression's value.
 use Rattle.std.proofs.Common.{◌≡◌, refl, ap, ◌∙◌, ℕ, ℤ, pos, Bool, true, false, not, List, [], ◌∷◌, Result, Ok, Err}
 use Rattle.std.proofs.lemmas.Bool.Decides.{Decides-int_eq}
 use Rattle.edd_syntax.specs.declared.answer.Trap.{Trap}
@@ -42,7 +42,7 @@ module _ (machine : Environment) (d : List ℤ) where
   then_does a b operands left goes = ap (λ o. and_then o (does machine d b)) goes
       ∙ nothing_in_front (does machine d b left)
 
-  -- a block that comes to a value, and one that goes on with it
+  -- a block that results in a value, and one that goes on with it
   with_value : (a b : Block) (operands under : List ℤ) (r : Result ℤ Trap) (f : ℤ → Result ℤ Trap)
       → does machine d a operands ≡ of_value r operands
       → ((z : ℤ) → does machine d b (z ∷ operands) ≡ of_value (f z) under)

@@ -1,5 +1,5 @@
--- Code that stands in a line: instructions one after the other, each of which leaves what the next
--- one takes, up to an end.
+-- Code in a line: instructions one after the other, each of which leaves what the next one takes,
+-- up to an end.
 use Rattle.std.proofs.Common.{◌≡◌, refl, sym, ap, ◌∙◌, ℕ, zero, suc, ◌+◌, ◌<◌, ◌≤◌, Bool, List, [], ◌∷◌, ◌++◌, length, None, arith, append_assoc, length-append}
 use Rattle.std.specs.Prelude.{◌&&◌}
 use Rattle.std.specs.List.{AllByRecursion, list_all}
@@ -12,7 +12,7 @@ use Rattle.edd_image.specs.Units.{Placed, instructions_from, instructions, end_o
 use Rattle.edd_image.proofs.Spelled.{stands_where_spelled}
 use Rattle.edd_code.specs.Blocks.{bytes_of}
 
--- ---- the instructions that are spelled are those that stand there
+-- ---- the instructions that are spelled are those that are there
 
 -- these instructions, from a place on
 abbrev pub placed : ℕ → List Instruction → List Placed

@@ -1,4 +1,4 @@
--- What the code of a block results in, in a method, followed from the place where it stands.
+-- What the code of a block results in, in a method, followed from the place where it is.
 use Rattle.std.proofs.Common.{◌≡◌, refl, subst, ◌∙◌, ℕ, suc, ◌+◌, Bool, true, false, ℤ, List, [], ◌∷◌, length, Some, arith, Option}
 use Rattle.std.specs.Prelude.{if◌then◌else◌}
 use Rattle.std.specs.Ordering.{int_eq}
@@ -22,7 +22,7 @@ use Rattle.edd_code.specs.MethodEffects.{Halted, does, CanBeTaken, Comes}
 use Rattle.edd_code.proofs.MethodSteps.{Leads, quiet_leads}
 use Rattle.edd_code.proofs.StraightRuns.{straight_comes}
 
--- an instruction is read where it is to stand
+-- an instruction is read where it is to be
 abbrev pub IsRead : (code : List ℕ) → Placed → Type 0
 IsRead code x = instruction_at code x.place ≡ Some (x.instruction, x.next)
 

@@ -50,7 +50,7 @@ module _ (version : Version) (counts : Counts) (slots : ℕ)
     (variables : counts.variables ≤ 65536) (arrays : counts.arrays ≤ 65536)
     (methods : counts.methods ≤ 65536)
     (strings : counts.strings ≤ 65536) (few_slots : slots ≤ 65536) where
-  -- where the unit of a method stands
+  -- the context of the unit of a method
   abbrev context : Context
   context = record { version = version; counts = counts; sort = Method; slots = slots }
 

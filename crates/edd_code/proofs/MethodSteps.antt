@@ -135,7 +135,7 @@ is_over env (suc k) t answers ending is =
     is
 
 module _ (text : StrNo → Option Words) (env : Environment) (code : List ℕ) where
-  -- an instruction stands at a place, with this effect
+  -- there is an instruction at a place, with this effect
   pub record Acts (p : ℕ) (operands : List ℤ) (s : source.State) (e : Effect) : Type 0 where
     pub instruction : Instruction
     pub next : ℕ

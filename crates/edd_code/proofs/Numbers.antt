@@ -45,7 +45,7 @@ pub number_stays : (table later : List Words) (w : Words) → Contains table w
     → number_in (table ++ later) w ≡ number_in table w
 number_stays table later w held = ap numbered (place_stays table later w held)
 
--- what stands at a place is held
+-- what is at a place is held
 pub held_at : (table : List Words) (w : Words) (n : ℕ) → slice_get table n ≡ Some w
     → Contains table w
 held_at [] w n h = absurd cc
@@ -53,7 +53,7 @@ held_at (v ∷ rest) w zero h = (0, omega arith, cc)
 held_at (v ∷ rest) w (suc n) h = let held =
     held_at rest w n h in (suc held.0, omega (arith, held.1), held.2)
 
--- no string stands twice, so a string's place is that of the first equal one
+-- no string is there twice, so a string's place is that of the first equal one
 pub place_is : (table : List Words) (w : Words) (n : ℕ) → AreDifferent table
     → slice_get table n ≡ Some w → place_in table w ≡ n
 place_is [] w n d h = absurd cc

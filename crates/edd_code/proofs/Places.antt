@@ -1,4 +1,4 @@
--- The places of the items of a kind, one more item at a time, and what stands there.
+-- The places of the items of a kind, one more item at a time, and what is there.
 use Rattle.std.proofs.Common.{◌≡◌, refl, sym, ap, ◌∙◌, ℕ, ◌+◌, ◌<◌, Bool, true, false, List, [], ◌∷◌, ◌++◌, length, map, take, get_or, Option, Some, None, cond, add-one, arith}
 use Rattle.std.specs.Prelude.{option_map, option_and_then, slice_get}
 use Rattle.std.proofs.Math.Seq.{take-suc}
@@ -92,7 +92,7 @@ module _ {X : Type 0} (view : X → Item Target) (k : Kind) (raw : List X) (i : 
       here false other = place_passed k items i (view x) inside
           (sym (get_or_from_slice_get items i (view x) (view x) viewed)) places other so_far
 
--- ---- what stands at a place
+-- ---- what is at a place
 
 both_none : {A B : Type 0} (f : A → Option B) (o : Option A) (q : Option B)
     → option_map f o ≡ option_map Some q → option_and_then f o ≡ q

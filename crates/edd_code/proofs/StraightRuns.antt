@@ -1,4 +1,4 @@
--- A straight instruction does where it stands what it does anywhere.
+-- A straight instruction does the same wherever it is.
 use Rattle.std.proofs.Common.{◌≡◌, refl, ap, ℕ, suc, ℤ, pos, negsuc, List, [], ◌∷◌, ◌++◌, Option, Some, None, Result, Ok, Err, arith}
 use Rattle.edd_syntax.specs.declared.numbers.MethNo.{MethNo}
 use Rattle.edd_syntax.specs.declared.numbers.StrNo.{StrNo}

@@ -114,7 +114,7 @@ pub all_held : {old new : List Words} (xs : List (Argument Target)) (i : ℕ) �
 all_held {old} {new} xs i h v =
     subst (λ (ys : List (Argument Target)). HoldsTexts old (texts_of ys) new) (take_all i xs h) v
 
--- an argument stands at its place when the arguments are viewed
+-- an argument is at its place when the arguments are viewed
 pub viewed_at : {X Y : Type 0} (view : X → Y) (xs : List X) (i : ℕ) (x : X) → i < length xs
     → x ≡ get_or xs i x → view x ≡ get_or (map view xs) i (view x)
 viewed_at view [] i x h is = absurd (omega arith)

@@ -20,7 +20,7 @@ use Rattle.edd_code.proofs.BlockPlaces.{all_in}
 use Rattle.edd_code.proofs.BlockUnits.{in_unit, the_end, listed_in, unit_is, unit_spelled, unit_listed}
 use Rattle.edd_code.proofs.BlockRuns.{with_all, with_all-ok, Comes, IsRead, end_step, block_comes}
 
--- spelled instructions are read where they stand
+-- spelled instructions are read where they are
 all_read : (front : List ℕ) (is : List Instruction) → AllSpelled is
     → AllByRecursion (λ x. instruction_at (front ++ bytes_of is) x.place
     ≡ Some (x.instruction, x.next)) (placed (length front) is)

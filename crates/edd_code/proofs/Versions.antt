@@ -59,7 +59,7 @@ pub abort_methods_allowed : (version : Version) (m : MethNo) → version ≡ Two
     → is_allowed version Method (instruction.AddAbortMethod m) ≡ true
 abort_methods_allowed version m is = rw is refl
 
--- ---- what flows in the newest version flows in one where its instructions may stand
+-- ---- what flows in the newest version flows in one where its instructions may be
 
 module _ (f g : Instruction → Bool) where
   abbrev Both : Block → Type 0
@@ -122,7 +122,7 @@ module _ (version : Version) (sort : Sort) where
         flows.5,
       )
 
--- so does a block whose instructions may stand in the context
+-- so does a block whose instructions may be in the context
 pub in_its_version : (context : Context) (b : Block) (d : ℕ) → FlowsIn Two context.sort b d
     → all_straight (may_stand context) b ≡ true → FlowsIn context.version context.sort b d
 in_its_version context b d flows h =

@@ -1,5 +1,5 @@
--- Code in blocks. A block stands from one place to another and its jumps stay inside, so it may
--- stand anywhere.
+-- Code in blocks. A block goes from one place to another and its jumps stay inside, so it may be
+-- anywhere.
 use Rattle.std.specs.Prelude.{ℕ, ◌+◌, ◌%◌, ◌^◌, ℤ, List, [], ◌∷◌, ◌++◌, length}
 use Rattle.std.specs.List.{flat_map}
 use Rattle.edd_image.specs.declared.instruction.Instruction.{Instruction}
@@ -36,7 +36,7 @@ size (Match label body rest) = 13 + (size rest + (5 + size body))
 abbrev pub target : ℕ → ℕ
 target place = place % 2 ^ 32
 
--- The instructions of a block that stands at a place. A jump leads over the part that isn't to
+-- The instructions of a block at a place. A jump leads over the part that isn't to
 -- follow.
 unfoldable pub emitted : (place : ℕ) → Block → List Instruction
 emitted p Nothing = []
@@ -59,10 +59,10 @@ emitted p (Match label body rest) =
 unfoldable pub bytes_of : List Instruction → List ℕ
 bytes_of is = flat_map spelling is
 
--- the bytes of a block that stands at a place
+-- the bytes of a block at a place
 abbrev pub bytes_at : (place : ℕ) → Block → List ℕ
 bytes_at p b = bytes_of (emitted p b)
 
--- the unit of a block: it stands at 0, and an end is after it
+-- the unit of a block: it is at 0, and an end is after it
 abbrev pub unit_code : Block → List ℕ
 unit_code b = bytes_at 0 b ++ spelling instruction.End

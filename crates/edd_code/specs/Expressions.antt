@@ -1,5 +1,5 @@
--- The block of an expression of an attribute, which leaves its value on top. What stands in methods
--- alone has the block of 0.
+-- The block of an expression of an attribute, which leaves its value on top. What is only in
+-- methods has the block of 0.
 use Rattle.edd_syntax.specs.declared.numbers.ItemNo.{ItemNo}
 use Rattle.edd_syntax.specs.declared.numbers.ItemNo.TheVariants as item_no
 use Rattle.edd_syntax.specs.declared.operators.UnaryOperator.{UnaryOperator}
@@ -30,7 +30,7 @@ read_block (Local slot) = no_value
 read_block (Function f) = no_value
 
 -- the value of an element, in place of its number on top; in a checked description nothing but an
--- array stands before an index
+-- array is before an index
 abbrev pub no_element : Block
 no_element = Then (Straight instruction.Pop) no_value
 
@@ -85,7 +85,7 @@ expression_block (LogicalOr left right) =
     (Then truth_block (then_test (WhenZero (instead (expression_block right)))))
 expression_block (Conditional test first second) =
     Then (expression_block test) (Either (expression_block first) (expression_block second))
--- these stand in no attribute of a checked description
+-- these are in no attribute of a checked description
 expression_block Decimal = no_value
 expression_block (Assign to by) = no_value
 expression_block (CompoundAssign op to by) = no_value

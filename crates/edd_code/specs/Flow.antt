@@ -29,7 +29,7 @@ depth_after (Either first otherwise) d = depth_after first (d - 1)
 depth_after (Match label body rest) d = depth_after body (d - 1)
 
 module _ (version : Version) (sort : Sort) where
-  -- an instruction that may stand in such a unit, and that goes on to the one after it and nowhere
+  -- an instruction that may be in such a unit, and that goes on to the one after it and nowhere
   -- else
   abbrev pub is_straight_in : Instruction → Bool
   is_straight_in i = is_allowed version sort i && (is_some (leaves i) && is_none (jump i))
@@ -56,11 +56,11 @@ module _ (version : Version) (sort : Sort) where
 abbrev pub is_straight : Instruction → Bool
 is_straight i = is_straight_in Two Attribute i
 
--- so the block may stand in an attribute
+-- so the block may be in an attribute
 abbrev pub Flows : Block → ℕ → Type 0
 Flows b d = FlowsIn Two Attribute b d
 
--- what may stand in a unit of the version and sort, and names only what exists
+-- what may be in a unit of the version and sort, and names only what exists
 abbrev pub may_stand : Context → Instruction → Bool
 may_stand context i = is_allowed context.version context.sort i && names_exist context i
 

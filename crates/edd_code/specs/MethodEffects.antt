@@ -75,7 +75,7 @@ module _ (text : StrNo → Option Words) (env : Environment) where
         abort_methods = e.state.abort_methods;
       }))
 
-  -- what a straight instruction results in does not depend on where it stands
+  -- what a straight instruction results in does not depend on where it is
   abbrev pub does_one : Instruction → List ℤ → State → Outcome State Halted
   does_one i operands s = unless_jump (jump i) (outcome_of s (act env i 0 (at [] 0 operands s)))
 
@@ -84,7 +84,7 @@ module _ (text : StrNo → Option Words) (env : Environment) where
   does b operands s = blocks.does does_one b operands s
 
   -- From a place with these operands the run goes on to another place, with the operands and the
-  -- state of the outcome, or comes to its stop: for any number of steps after it, from there at
+  -- state of the outcome, or reaches its stop: for any number of steps after it, from there at
   -- least as many.
   abbrev pub Comes : (code : List ℕ) → (from to : ℕ) → (operands : List ℤ) → State
       → Outcome State Halted → Type 0

@@ -70,7 +70,7 @@ ask_block a = Straight (instruction.Ask a)
 module _ (number : Words → StrNo) where
   -- The operands from left to right, and what is read before a right side is read in front of it. A
   -- call that aborts is ABORT and leaves nothing; in a checked description it is a whole statement,
-  -- after which no POP may stand.
+  -- after which there may be no POP.
   unfoldable mutual
     pub method_block : Expr Target → Block
     method_block (Literal value) = Straight (instruction.Push value)

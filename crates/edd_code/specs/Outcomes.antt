@@ -66,7 +66,7 @@ outcome_of None = Stuck
 outcome_of (Some e) = outcome_in e.state.status (records_of e.emitted) e.state.operands
 
 module _ (env : Environment) (values : List ℤ) where
-  -- what a straight instruction results in does not depend on where it stands
+  -- what a straight instruction results in does not depend on where it is
   abbrev pub does_one : Instruction → List ℤ → Outcome
   does_one i operands = outcome_of (act env i 0 (at [] 0 operands values))
 

@@ -1,5 +1,5 @@
 -- What a host sees of a method's run: by the machine that runs it, and by the state that the source
--- comes to.
+-- reaches.
 use Rattle.std.specs.Prelude.{ℕ, ℤ, List, ◌++◌, map, Option, Some, None, option_map}
 use Rattle.edd_syntax.specs.declared.numbers.MethNo.{MethNo}
 use Rattle.edd_syntax.specs.declared.numbers.StrNo.{StrNo}

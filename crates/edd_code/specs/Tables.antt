@@ -6,7 +6,7 @@ use Rattle.edd_syntax.specs.Strings.{same_words}
 use Rattle.edd_syntax.specs.Words.{Words}
 use Rattle.edd_image.specs.Agreement.{IsString, IsOptionalString, string_of_table}
 
--- no string stands twice
+-- no string is there twice
 abbrev pub AreDifferent : List Words → Type 0
 AreDifferent strings = AllPairs (λ s t. s ≢ t) strings
 
@@ -26,7 +26,7 @@ abbrev pub KeepsOptional : (table : List Words) → Option Words → Option StrN
 KeepsOptional table o n = (later : List Words) → IsOptionalString (string_of_table (table ++ later))
     o n
 
--- more than 65,535 different strings stand among those of the table and these
+-- there are more than 65,535 different strings among those of the table and these
 pub record Overflows (old strings : List Words) : Type 0 where
   pub held : AreDifferent old → (held : List Words) × AreDifferent held × (65535 < length held)
       × ((w : Words) → Contains held w → Contains (old ++ strings) w)

@@ -19,8 +19,8 @@ ghost use Rattle.edd_code.specs.Flow.{AreSpelled, Flows, all_straight, depth_aft
 ghost use Rattle.edd_code.specs.Outcomes.{does};
 ghost use Rattle.edd_code.specs.Reads.{reads_existing};
 
-/// The block of an expression leaves the expression's value on top of the operands, or comes to its
-/// trap.
+/// The block of an expression leaves the expression's value on top of the operands, or results in
+/// its trap.
 pub fn expressions_mean_their_values()
     ensures { (image_env : Environment) (env : device.Environment) (d : List ℤ) (e : Expr Target)
         (operands : List ℤ) → image_env.elements ≡ env.elements
@@ -41,7 +41,7 @@ pub fn expressions_are_short()
 {}
 
 /// The block of an expression of an attribute has its operands in their ranges, and its
-/// instructions may stand there: the variables and arrays that they name exist.
+/// instructions may be there: the variables and arrays that they name exist.
 pub fn expressions_are_spelled()
     ensures spelled { (counts : Counts) (plain : Target → Bool) (e : Expr Target)
         → counts.variables ≤ 65536 → counts.arrays ≤ 65536

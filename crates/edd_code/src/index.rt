@@ -1,4 +1,4 @@
-//! Where the items of each kind stand among all items, so that an item is found by its number at
+//! Where the items of each kind are among all items, so that an item is found by its number at
 //! once.
 
 ghost use Rattle.std.specs.Prelude.{◌≡◌, IfOk, OnOk, map, option_map, slice_get};

@@ -20,7 +20,7 @@ ghost use Rattle.edd_code.specs.AttributeEffects as attributes;
 ghost use Rattle.edd_code.specs.MethodEffects as methods;
 ghost use Rattle.edd_code.specs.MethodEffects.{CanBeTaken, Comes};
 
-/// A block has as many bytes as its size says, wherever it stands.
+/// A block has as many bytes as its size says, wherever it is.
 pub fn sizes_are_lengths()
     ensures { (place : ℕ) (b : Block) → length (bytes_at place b) ≡ size b }
 {}
@@ -35,7 +35,7 @@ pub fn blocks_are_valid()
 {}
 
 /// A block that finds its operands in a unit of the newest version finds them in the version of the
-/// context, where its instructions may stand there, and then the names in them exist.
+/// context, where its instructions may be there, and then the names in them exist.
 pub fn blocks_flow_in_their_version()
     ensures flows { (context : Context) (b : Block) (d : ℕ) → FlowsIn Two context.sort b d
         → all_straight (may_stand context) b ≡ true
@@ -66,7 +66,7 @@ pub fn attributes_are_a_case()
         ≡ attributes.behind given (does env values b operands) }
 {}
 
-/// Wherever the bytes of a block stand in a method, the machine goes on from their first to the
+/// Wherever the bytes of a block are in a method, the machine goes on from their first to the
 /// place after them, or to the stop, as the block does; for any number of steps after it, from
 /// its first byte in at least as many.
 pub fn blocks_come_to_their_outcomes()

@@ -1,5 +1,5 @@
 //! What the lowerings of attributes and methods share: code in blocks, the code of expressions, the
-//! strings that code names, and where items stand.
+//! strings that code names, and where items are.
 #![tactic(auto)]
 
 mod arguments;

@@ -32,7 +32,7 @@ ghost use Rattle.edd_image.specs.Agreement.{machine_of};
 ghost use Rattle.edd_code.specs.Numbered.{HasNumbers};
 
 /// The block of an expression of a method leaves the expression's value on top of the operands and
-/// the state that the expression leaves, or comes to its stop.
+/// the state that the expression leaves, or reaches its stop.
 pub fn method_expressions_mean_their_values()
     ensures { (text : StrNo → Option Words) (number : Words → StrNo) (env : device.Environment)
         (is_statement : Bool) (e : Expr Target)
@@ -61,7 +61,7 @@ pub fn method_expressions_are_short()
 {}
 
 /// The block of an expression of a method has its operands in their ranges, and its instructions
-/// may stand there: the variables, arrays, methods, slots and strings that they name exist, and the
+/// may be there: the variables, arrays, methods, slots and strings that they name exist, and the
 /// version is the second where it must be.
 pub fn method_expressions_are_spelled()
     ensures { (version : Version) (counts : Counts) (slots : ℕ) (number : Words → StrNo)

@@ -29,7 +29,7 @@ module _ (d : Description Target) (row : AttrRef) (no_body : same_attr row.attr 
   attribute_code table code means short =
       record { means = λ more few. rw (no_body, IsRowCode) (means more); short = rw no_body short }
 
--- the row of a method's body, whose slots stand in place of its position
+-- the row of a method's body, which has its slots in place of a position
 abbrev pub body_row : MethNo → (slots : ℕ) → AttrRef
 body_row m slots = record { item = items.Method m; attr = attr.Definition; sub = slots }
 

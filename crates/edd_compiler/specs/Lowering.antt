@@ -22,7 +22,7 @@ abbrev pub IsPlain : AttrRef → Type 0
 IsPlain row = same_attr row.attr attr.Definition ≡ true
     → (m : MethNo) × (row ≡ record { item = items.Method m; attr = attr.Definition; sub = 0 })
 
--- the code of an attribute, or that of a method, whose slots stand in place of its position
+-- the code of an attribute, or that of a method, whose row has its slots in place of a position
 abbrev pub IsRowCode : Description Target → (strings : List Words) → Lowered → Type 0
 IsRowCode d strings l = elim (same_attr l.row.attr attr.Definition) [
   | true ↦ (m : MethNo) × (l.row.item ≡ items.Method m) × IsMethodCode d strings m l.row.sub l.code
@@ -59,7 +59,7 @@ pub record AddsRow (d : Description Target) (row : AttrRef) (old : List Words)
   pub code : IsCodeOf d new unit
   pub strings : (w : Words) → Contains new w ↔ (Contains old w ⊎ Contains (strings_of_row d row) w)
 
--- more than 65,535 different strings stand in rows
+-- there are more than 65,535 different strings in rows
 abbrev pub HasTooMany : Description Target → Type 0
 HasTooMany d = (held : List Words) × (65535 < length (different held))
     × ((w : Words) → Contains held w → IsOfRow d w)

@@ -132,7 +132,7 @@ fn print_transactions<W: Write>(
     Ok(())
 }
 
-// The line of an attribute. Those of transactions stand together, at the place of TRANSACTION.
+// The line of an attribute. Those of transactions are together, at the place of TRANSACTION.
 fn print_attribute_of<W: Write>(
     alloc: Global,
     page: &Page<'_, '_>,

@@ -1,4 +1,4 @@
-//! Lines of the output. A line is printed whole or not at all, where memory is wanting.
+//! Lines of the output. A line is printed whole, or not at all where there is no memory.
 
 ghost use Rattle.std.specs.Prelude.{◌++◌, ◌∷◌, [], IfSome, OnOk};
 ghost use Rattle.std.specs.Io.KnownBytes.{Appends};

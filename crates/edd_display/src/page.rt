@@ -12,7 +12,7 @@ pub struct Page<'i, 'b> {
     pub language: &'i str,
 }
 
-/// The text between quotes, with an escape for each character that would not stand there as it is.
+/// The text between quotes, with an escape for each character that needs one.
 pub fn push_quoted(line: &mut String, text: &str) -> Result<(), AllocError> {
     line.push('"')?;
     for character in text.chars() {

@@ -1,5 +1,5 @@
 //! An image laid open: its header, items, elements of arrays, strings, attribute rows and
-//! instructions, and of bytes that are no image what stands before their fault, and where that is.
+//! instructions, and of bytes that are no image what comes before their fault, and where that is.
 #![tactic(auto)]
 
 ghost use Rattle.std.specs.Prelude.{IfOk, MatchOption, IfSome};

@@ -129,7 +129,7 @@ fn place_of(bytes: &[u8], sections: &Sections<'_>, spot: Spot) -> (usize, &'stat
     }
 }
 
-// The place in the unit, the number of operands, and the instruction, where one stands there.
+// The place in the unit, the number of operands, and the instruction, where one is there.
 fn push_instruction(
     alloc: Global,
     sections: &Sections<'_>,

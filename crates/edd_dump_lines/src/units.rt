@@ -22,7 +22,7 @@ fn print_instruction<W: Write>(
     print(alloc, out, line.as_str())
 }
 
-/// Prints the instructions of a unit, up to where none stands.
+/// Prints the instructions of a unit, up to a place where there is none.
 pub fn print_unit<W: Write>(
     alloc: Global,
     page: &Page<'_, '_>,

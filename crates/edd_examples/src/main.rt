@@ -1,6 +1,6 @@
 //! Runs the commands of the table on the standard input as the program `edd`, over the examples and
 //! the files that the table writes, and says for each whether it prints what the table has. What
-//! README.md and docs/ show of the examples stands there.
+//! README.md and docs/ show of the examples is in the table.
 #![tactic(auto)]
 
 mod table;

@@ -30,7 +30,7 @@ impl Printed {
         }
     }
 
-    // These lines stand together somewhere in it.
+    // These lines are somewhere in it, one after the other.
     fn has(&self, alloc: Global, lines: &str) -> io::Result<bool> {
         let whole = format!(in alloc; "\n{}", self.text)?;
         let part = format!(in alloc; "\n{lines}\n")?;
@@ -64,7 +64,7 @@ fn say(rt: HostRuntime, is_right: bool, printed: &Printed) -> io::Result<()> {
 
 /// Takes a part: `file NAME` writes its text to a file, `run WORDS` runs `edd`, `prints` says that
 /// these are the lines that it printed, `begins` that these are the first of them, and `shows` that
-/// these stand together among them. Any other part is a heading.
+/// these are among them, one after the other. Any other part is a heading.
 pub fn take(rt: HostRuntime, part: &str, printed: &mut Printed) -> io::Result<()> {
     let (head, below) = part.split_once('\n').unwrap_or((part, ""));
     let (kind, rest) = head.split_once(' ').unwrap_or((head, ""));

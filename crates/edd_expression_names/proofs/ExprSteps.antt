@@ -107,7 +107,7 @@ module _ (unit : Description Path) (x : code.Expr code_path.Path) (line : ℕ) (
       (λ f r. Call f r) t (arguments_from (map numbered_argument w.items)) (h known) (k known)
       ∙ ap (λ y. Some y) (sym (call_is (λ r. r) (e.Call line t w) line t w refl))
 
--- ---- what stands inside an expression has fewer nodes than it
+-- ---- what is inside an expression has fewer nodes than it
 
 -- how far a walk may still go down
 abbrev pub expr_depth : code.Expr code_path.Path → ℕ

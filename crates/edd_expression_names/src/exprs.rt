@@ -116,7 +116,7 @@ fn copy_among(
     }
 }
 
-// A part of an expression, in the box that it stands in.
+// A part of an expression, in its box.
 #[cycle(exprs)]
 #[tactic(auto, using(crate::proofs::UseLaws::faults))]
 fn copy_boxed(

@@ -1,4 +1,4 @@
-//! What stands under conditions, with the meaning of its names.
+//! What is under conditions, with the meaning of its names.
 
 ghost use Rattle.std.specs.Prelude.{Bool};
 ghost use Rattle.edd_syntax.specs.declared.reference.Target.{Target};

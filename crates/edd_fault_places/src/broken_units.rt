@@ -54,7 +54,7 @@ impl Places {
     }
 }
 
-// An instruction, where it stands, what is after it and how many operands are there.
+// An instruction, where it is, what is after it and how many operands are there.
 #[derive(Clone, Copy)]
 struct Standing {
     instruction: Instruction,

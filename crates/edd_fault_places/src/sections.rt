@@ -205,7 +205,7 @@ impl<'a> Sections<'a> {
         Some(VarKind { var_type, size })
     }
 
-    /// Where the name of the item at a place stands, by kind and number.
+    /// Where the name of the item at a place is, by kind and number.
     pub fn name_span(&self, place: usize) -> Option<Span> {
         Some(name_span(row_at(self.name_rows, NAME_ROW, place)?))
     }
@@ -228,7 +228,7 @@ impl<'a> Sections<'a> {
         self.name_at(self.place_of(item))
     }
 
-    // How many names stand before that of an item.
+    // How many names there are before that of an item.
     fn place_of(&self, item: ItemNo) -> usize {
         let commands = usize::from(self.counts.variables);
         let menus = commands + usize::from(self.counts.commands);
@@ -279,7 +279,7 @@ impl<'a> Sections<'a> {
         Some(element(row_at(self.element_rows, ELEMENT_ROW, number)?))
     }
 
-    /// Where a string stands.
+    /// Where a string is.
     pub fn string_span(&self, number: usize) -> Option<Span> {
         Some(string_span(row_at(self.string_rows, STRING_ROW, number)?))
     }

@@ -1,6 +1,6 @@
 //! Runs the steps of the table on the standard input over real files, in the folder where it runs,
 //! and prints each step and what it results in: a step that makes or changes files prints nothing
-//! more, `run` and `pipe` run the program `edd`, and `show` and `list` print what stands there.
+//! more, `run` and `pipe` run the program `edd`, and `show` and `list` print what is there.
 #![tactic(auto)]
 
 mod changes;

@@ -1,4 +1,4 @@
-//! Steps that print what stands under a name.
+//! Steps that print what is under a name.
 
 use std::io::ErrorKind;
 use std::os::unix::fs::PermissionsExt;
@@ -18,7 +18,7 @@ fn show_bytes(rt: HostRuntime, bytes: &[u8]) -> io::Result<()> {
     }
 }
 
-// The permissions of what stands there, and what it holds if it is a plain file.
+// The permissions of what is there, and what it holds if it is a plain file.
 fn show_found(rt: HostRuntime, name: &str, found: &fs::Metadata) -> io::Result<()> {
     if found.is_dir() {
         return println!(rt; "a folder");
@@ -30,7 +30,7 @@ fn show_found(rt: HostRuntime, name: &str, found: &fs::Metadata) -> io::Result<(
     show_bytes(rt, &fs::read(&rt, name)?)
 }
 
-/// Prints where the links of the name lead, if it is one, and what stands there.
+/// Prints where the links of the name lead, if it is one, and what is there.
 pub fn show(rt: HostRuntime, name: &str) -> io::Result<()> {
     if let Ok(target) = fs::read_link(&rt, name) {
         print!(rt; "link to {}: ", target.display())?;

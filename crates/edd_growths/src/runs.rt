@@ -77,8 +77,8 @@ fn print_play(rt: HostRuntime, image: &Image<'_>, set: i64) -> Result<(), Stop> 
     Ok(())
 }
 
-/// A session whose host has no memory at first: the request still stands, and the next call goes
-/// on from it.
+/// A session whose host has no memory at first: the request is still pending, and the next call
+/// goes on from it.
 pub fn print_drives(rt: HostRuntime) -> Result<(), Stop> {
     let image = load(rt.alloc(), &ADDING)?;
     let values = Values::new(rt.alloc(), &image, &[250])?;

@@ -6,7 +6,7 @@ use edd_lexer::lex;
 use edd_strings::{Table, split};
 use edd_syntax::words::{Variant, Words};
 
-/// Where the tokens of a text stand.
+/// Where the tokens of a text are.
 pub fn print_tokens(rt: HostRuntime) -> Result<(), Stop> {
     for token in &lex(rt.alloc(), b"x 0x1F")? {
         println!(rt; "lex: {} to {}", token.start, token.end)?;

@@ -54,7 +54,7 @@ runs_at status.Ended never e = absurd cc
 runs_at status.Aborted never e = absurd cc
 runs_at (status.Trapped why) never e = absurd cc
 
--- after an answer no request stands
+-- after an answer no request is pending
 pub none_stands : (s : State) (answer : Answer) (r : Request) → (answered s answer).state.status
     ≡ status.Asking r → ⊥
 none_stands s (Go code sets) r e = cc

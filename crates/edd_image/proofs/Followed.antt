@@ -1,4 +1,4 @@
--- A run in which something follows, cut where what ran alone comes to a rest.
+-- A run in which something follows, cut where what ran alone is at rest.
 use Rattle.std.proofs.Common.{◌≡◌, refl, sym, ap, subst, ◌∙◌, ℕ, zero, suc, ◌+◌, List, [], ◌∷◌, ◌++◌, Option, Some, None, append_assoc, append-nil, arith, zero-add}
 use Rattle.std.specs.Prelude.{unwrap_or}
 use Rattle.edd_syntax.specs.Answers.{Change, Answer, SetFault, answer_fault}
@@ -26,7 +26,7 @@ changes_first c t rest None (Some e) behind =
     same_outcome refl (append_assoc c e.changes (behind e).changes) refl
 
 module _ (follow : State → State) (quiet : AsksNothing follow) (env : Environment) where
-  -- a state in which no request stands meets none
+  -- a state in which no request is pending meets none
   meets_nothing : (st : Status) (t : State) (answers : List Answer)
       → ((r : Request) → st ≡ status.Asking r → ⊥)
       → meet_by follow env st t answers ≡ nothing_met t answers (over_at st)
@@ -53,7 +53,7 @@ module _ (follow : State → State) (quiet : AsksNothing follow) (env : Environm
     none_met = meets_nothing behind_it.status behind_it rest
         (λ q is. none_stands s x q (quiet (answered s x).state q is))
 
-    -- a request that stands is met by the next answer, and the run goes on from what follows
+    -- a pending request is met by the next answer, and the run goes on from what follows
     pub answer_met : (k : ℕ) → execute_following follow env k s (x ∷ rest)
         ≡ preceded [] (answered s x).changes (execute_following follow env k behind_it rest)
     unfolding execute_following
@@ -142,7 +142,7 @@ module _ (follow : State → State) (quiet : AsksNothing follow) (env : Environm
   is_out s answers runs = ap (λ (st : Status). let m = meet_by follow env st s answers in
       closed m (unwrap_or m.ending OutOfSteps)) runs
 
--- ---- the cut where what ran alone comes to a rest
+-- ---- the cut where what ran alone is at rest
 
 -- it runs, or asks
 abbrev pub IsLive : Status → Type 0
@@ -196,7 +196,7 @@ module _ (follow : State → State) (quiet : AsksNothing follow)
   Cut k = (j : ℕ) (s : State) (answers : List Answer) → IsLive s.status
       → Along j s answers (alone k s answers)
 
-  -- from where a step or an answer came to
+  -- from what a step or an answer resulted in
   behind : (k : ℕ) → Cut k → (j : ℕ) (t : State) (answers : List Answer) (st : Status)
       → t.status ≡ st → Along j (follow t) answers (alone k t answers)
   behind k cut j t answers status.Running is =
@@ -244,7 +244,7 @@ module _ (follow : State → State) (quiet : AsksNothing follow)
       (sym (is_out unchanged asks_itself env s answers runs))
       (at_once j s s answers OutOfSteps (live s (subst IsLive (sym runs) tt)))
 
-  -- a request that stands is met first
+  -- a pending request is met first
   asking : (k j : ℕ) (s : State) (r : Request) (answers : List Answer)
       → s.status ≡ status.Asking r
       → ((t : State) (rest : List Answer) → t.status ≡ status.Running

@@ -181,7 +181,7 @@ module _ (text : StrNo → Option Words) (unit : Description Target) (start_of :
   Comes n t before changes s answers =
       (k : ℕ) × (n ≤ k) × SameOutcome text t (preceded before changes (J k s answers))
 
-  -- it comes there where a run alone came to a rest, and from what follows goes on
+  -- it gets to where a run alone came to rest, and goes on from what follows
   after_alone : (n k1 k2 : ℕ) (s : State) (answers : List Answer) → IsLive s.status
       → (before : List Request) (changes : List Change) (t : Transcript)
       → n ≤ (alone k1 s answers).steps + k2

@@ -37,7 +37,7 @@ all_pass p (x ∷ xs) e =
     let parts = and_parts (p x) (list_all p xs) e in
     (parts.0, all_pass p xs parts.1)
 
--- each of the instructions stands where it is said to
+-- each of the instructions is where it is said to be
 abbrev pub StandsIn : List ℕ → Placed → Type 0
 StandsIn code x = instruction_at code x.place ≡ Some (x.instruction, x.next)
 

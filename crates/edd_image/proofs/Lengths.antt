@@ -228,7 +228,7 @@ pub found_inside : (code : List ℕ) (place : ℕ) (found : Option (Instruction 
 found_inside code place None e = tt
 found_inside code place (Some x) e = instruction_inside code place x (sym e)
 
--- no instruction stands past the end
+-- there is no instruction past the end
 pub nothing_past : (code : List ℕ) (place : ℕ) → length code ≤ place → instruction_at code place
     ≡ None
 nothing_past code place past = none_by (instruction_at code place) refl

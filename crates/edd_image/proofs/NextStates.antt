@@ -30,7 +30,7 @@ on_way P x w h (inr e) = if_some_at P (jump x.instruction) w
 
 -- ---- the next state
 
--- where a way leads, an instruction stands with the number of operands that belongs there
+-- where a way leads there is an instruction, with the number of operands that belongs there
 stands_again : (context : Context) (code : List ℕ) (depth : ℕ → ℕ)
     → AreDepths (instructions code) depth → (x : Placed) → Known context code depth x
     → (s t : State) (more : ℕ) → length s.operands ≡ depth x.place
@@ -125,7 +125,7 @@ next_state context env s valid is running = let next = next_in_unit context env 
 
 -- ---- the opening of a unit
 
--- the places rise, each instruction standing where the one before it ends
+-- the places rise, each instruction beginning where the one before it ends
 abbrev pub Rising : ℕ → List Placed → Type 0
 Rising place [] = Unit {0}
 Rising place (x ∷ xs) = (x.place ≡ place) × (place < x.next) × Rising x.next xs

@@ -1,4 +1,4 @@
--- One thing is read of an attribute.
+-- What is read of an attribute is always the same.
 use Rattle.std.proofs.Common.{◌≡◌, ℕ, zero, suc, Bool, true, false, ℤ, List, Option, Some, None, Result, refl, sym, ap, ◌∙◌}
 use Rattle.std.specs.Prelude.{option_map}
 use Rattle.edd_syntax.specs.declared.answer.Trap.{Trap}

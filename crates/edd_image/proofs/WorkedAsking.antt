@@ -505,7 +505,7 @@ asking_methods_agree method there =
 
 -- ---- the wrong images
 
--- what the method comes to where both variables are 0 and one answer is given
+-- what the method results in where both variables are 0 and one answer is given
 abbrev zeros : List ℤ
 zeros = pos 0 ∷ pos 0 ∷ []
 
@@ -539,7 +539,7 @@ other_run code row =
     execute_in (contents_in (image_with code)) 40
     (reading.opening_of (contents_in (image_with code)) row zeros) one_answer
 
--- an image that agrees comes to the same, where it ends
+-- an image that agrees results in the same, where it ends
 module _ (code : List ℕ) (found : reading.body_of (contents_in (image_with code)) first ≡ Some body)
     (there : (contents_in (image_with code)).counts.methods ≡ 1)
     (ended : (other_run code body).ending ≡ image.Ended) where

@@ -50,7 +50,7 @@ module _ (start_of : MethNo → Option Start) where
   next_at Aborted false s = start_listed s.abort_methods s
   next_at (Trapped why) is_aborting s = s
 
-  -- the state from which a run goes on after a step or an answer that came to s
+  -- the state from which a run goes on after a step or an answer that resulted in s
   abbrev pub next : State → State
   next s = next_at s.status s.is_aborting s
 

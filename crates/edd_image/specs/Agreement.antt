@@ -160,7 +160,7 @@ counts_of i items strings = record {
 abbrev pub version_for : Description Target → Version
 version_for unit = if needs_second_version unit then Two else One
 
--- where a unit stands in the image
+-- the context of a unit of the image
 abbrev pub unit_context : Description Target → (strings : List Words) → Sort → (slots : ℕ) → Context
 unit_context unit strings sort slots = record {
   version = version_for unit;
@@ -169,7 +169,7 @@ unit_context unit strings sort slots = record {
   slots = slots;
 }
 
--- where the unit of an attribute stands
+-- the context of the unit of an attribute
 abbrev pub attribute_context : Description Target → (strings : List Words) → Context
 attribute_context unit strings = unit_context unit strings Attribute 0
 
@@ -183,7 +183,7 @@ pub record IsAttributeCode (unit : Description Target) (strings : List Words) (r
 
 -- ---- names and strings of an image
 
--- the place of an item among all items, which stand by kind and number
+-- the place of an item among all items, which are in the order of kind and number
 abbrev pub place_of_item : Counts → ItemNo → ℕ
 place_of_item c (items.Variable n) = n.0
 place_of_item c (items.Command n) = c.variables + n.0

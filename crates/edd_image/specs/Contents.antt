@@ -12,7 +12,7 @@ use Rattle.edd_image.specs.declared.unit.Version.TheVariants.{One, Two}
 use Rattle.edd_image.specs.Layout.{Sections, type_code, item_count}
 use Rattle.edd_image.specs.Fields.{version_number, header_zero, extension_zero, counts_in, attribute_count, element_count, names_length, code_length, strings_length, variable_rows_start, name_rows_start, attribute_rows_start, element_rows_start, code_start, string_rows_start, name_bytes_start, string_bytes_start, variable_type, variable_size, variable_zero, name_start, name_length, name_zero, attribute_kind, attribute_number, attribute_item, attribute_sub, attribute_zero, attribute_start, attribute_length, element_array, element_variable, element_number, string_start, string_length}
 
--- where something stands in its section
+-- where something is in its section
 pub record Span : Type 0 where
   pub start : ℕ
   pub size : ℕ
@@ -21,7 +21,7 @@ pub record Span : Type 0 where
 abbrev pub part : Span → List ℕ → List ℕ
 part span bytes = take span.size (drop span.start bytes)
 
--- the rows, with their numbers as they stand
+-- the rows, with their numbers as they are in the bytes
 pub record VariableFields : Type 0 where
   pub type_number : ℕ
   pub size : ℕ
@@ -41,7 +41,7 @@ pub record AttributeFields : Type 0 where
 
 pub record Contents : Type 0 where
   pub version : Version
-  -- the sum of what stands where zeros are wanted in the header
+  -- the sum of what the header has where there should be zeros
   pub padding : ℕ
   pub counts : Counts
   pub variables : List VariableFields
@@ -92,7 +92,7 @@ element_fields b row = record {
 abbrev pub string_fields : List ℕ → ℕ → Span
 string_fields b row = record { start = string_start b row; size = string_length b row }
 
--- what is read of `count` rows of `size` bytes, the first of which stands at the place
+-- what is read of `count` rows of `size` bytes, the first of which is at the place
 unfoldable pub rows_from : {A : Type 0} → (read : ℕ → A) → (size count place : ℕ) → List A
 rows_from read size zero place = []
 rows_from read size (suc n) place = read place ∷ rows_from read size n (place + size)

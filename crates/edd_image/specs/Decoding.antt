@@ -1,4 +1,4 @@
--- The instruction whose bytes stand at a place of a unit.
+-- The instruction whose bytes are at a place of a unit.
 use Rattle.std.specs.Prelude.{ℕ, ℤ, ◌-◌, ◌==◌, List, [], ◌∷◌, length, take, drop, Option, Some, None, option_map, option_and_then, nat_lt, if◌then◌else◌}
 use Rattle.std.specs.Int.{Width, w16, w32, w64, byte_len, from_be_bytes, cast_signed}
 use Rattle.edd_syntax.specs.declared.numbers.VarNo.{VarNo}

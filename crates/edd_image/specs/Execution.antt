@@ -54,7 +54,7 @@ pub record Outcome : Type 0 where
   pub ending : Ending
   pub steps : ℕ
 
--- a state in which no request stands, or why there is none: it is over, or the request that stands
+-- a state in which no request is pending, or why there is none: it is over, or the pending request
 -- isn't answered
 pub record Meeting : Type 0 where
   pub changes : List Change
@@ -89,8 +89,8 @@ after_answer follow e rest = record {
   ending = over_at (follow e.state).status;
 }
 
--- the request that stands is met by the next answer; an answer that can't be taken stays the next,
--- and the request stands
+-- the pending request is met by the next answer; an answer that can't be taken stays the next,
+-- and the request stays pending
 abbrev pub meet_request : (follow : State → State) → Environment → State → List Answer → Meeting
 meet_request follow env s [] = nothing_met s [] (Some Waiting)
 meet_request follow env s (answer ∷ rest) = elim (answer_fault env.types answer) [
@@ -137,7 +137,7 @@ go_on m None None behind = closed m Stuck
 go_on m None (Some e) behind =
     stepped (preceded (request_in e.emitted) (m.changes ++ e.changes) (behind e))
 
--- At most n steps, each request met at once by the next answer, also one that stands at the start;
+-- At most n steps, each request met at once by the next answer, also one pending at the start;
 -- an answer counts no step. From the state after each step and each answer the run goes on at what
 -- `follow` makes of it.
 unfoldable pub execute_following : (follow : State → State) → Environment → (n : ℕ) → State

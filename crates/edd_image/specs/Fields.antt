@@ -4,7 +4,7 @@ use Rattle.std.specs.Int.{Width, w16, w32, byte_len, from_be_bytes}
 use Rattle.edd_image.specs.declared.parts.Counts.{Counts}
 use Rattle.edd_image.specs.Layout.{item_count}
 
--- the number whose bytes stand at the place
+-- the number whose bytes are at the place
 unfoldable pub number_at : Width → List ℕ → ℕ → ℕ
 number_at w bytes place = from_be_bytes w (take (byte_len w) (drop place bytes))
 
@@ -101,7 +101,7 @@ string_bytes_start b = name_bytes_start b + names_length b
 unfoldable pub sections_end : List ℕ → ℕ
 sections_end b = string_bytes_start b + strings_length b
 
--- ---- the fields of a row that stands at a place
+-- ---- the fields of a row at a place
 
 abbrev pub variable_type : List ℕ → ℕ → ℕ
 variable_type b row = slice_index b row

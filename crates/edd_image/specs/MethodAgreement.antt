@@ -95,11 +95,11 @@ module _ (string_numbered : StrNo → Option Words) where
 
 -- ---- the code of one method
 
--- where the unit of a method stands
+-- the context of the unit of a method
 abbrev pub method_context : Description Target → (strings : List Words) → (slots : ℕ) → Context
 method_context unit strings slots = unit_context unit strings sort.Method slots
 
--- the machine at the start of a unit, in the state that the source has come to
+-- the machine at the start of a unit, in the state that the source has reached
 abbrev pub started : RunningUnit → source.State → State
 started unit s = record {
   unit = unit;

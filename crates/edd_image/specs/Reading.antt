@@ -74,7 +74,7 @@ given_by None status behind = at_end status
 given_by (Some e) status behind = option_map (with_record e.emitted) (behind e)
 
 -- what at most n steps emit up to the end of the unit, or the trap that ends it; nothing where they
--- don't come to the end
+-- don't reach the end
 unfoldable pub given_within : (n : ℕ) → Environment → State → Option (Result (List Record) Trap)
 given_within zero env s = at_end s.status
 given_within (suc n) env s = given_by (step env s) s.status (λ e. given_within n env e.state)

@@ -104,7 +104,7 @@ jump_to jump.IfZero to = instruction.JumpIfZero to
 jump_to jump.IfNotZero to = instruction.JumpIfNotZero to
 jump_to (jump.IfLabel label) to = instruction.Case label to
 
--- how many bytes stand before its target
+-- how many bytes there are before its target
 abbrev pub head_length : Jump → ℕ
 head_length jump.Always = 1
 head_length jump.IfZero = 1

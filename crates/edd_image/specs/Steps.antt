@@ -235,14 +235,14 @@ abbrev pub Fits : Sort → ℤ → Type 0
 Fits Attribute z = FitsSigned w64 z
 Fits Method z = FitsSigned w32 z
 
--- an instruction stands at the place, and n is the number of operands that belongs there
+-- there is an instruction at the place, and n is the number of operands that belongs there
 pub record StandsWith (code : List ℕ) (place n : ℕ) : Type 0 where
   pub at_start : IsTrue (is_start (instructions code) place)
   pub depth : ℕ → ℕ
   pub depths : AreDepths (instructions code) depth
   pub operands : n ≡ depth place
 
--- a running state stands so; a state that asks will when the answer's code is pushed
+-- a running state has that; a state that asks will have it when the answer's code is pushed
 abbrev pub Stands : State → Status → Type 0
 Stands s Running = StandsWith s.unit.code s.place (length s.operands)
 Stands s (Asking r) = StandsWith s.unit.code s.place (suc (length s.operands))

@@ -19,7 +19,7 @@ use Rattle.edd_image.specs.References.{names_exist}
 
 -- ---- the instructions of a unit
 
--- an instruction, where it stands, and the place after it
+-- an instruction, where it is, and the place after it
 pub record Placed : Type 0 where
   pub place : ℕ
   pub instruction : Instruction
@@ -30,14 +30,13 @@ before place None others = []
 before place (Some found) others = record { place = place; instruction = found.0; next = found.1 }
     ∷ others found.1
 
--- at most n instructions that stand one after the other from a place on
+-- at most n instructions, one after the other from a place on
 unfoldable pub instructions_from : ℕ → List ℕ → ℕ → List Placed
 instructions_from zero code place = []
 instructions_from (suc n) code place = before place (instruction_at code place)
     (λ next. instructions_from n code next)
 
--- the instructions that stand one after the other from the first byte on, as far as whole ones
--- stand there
+-- the instructions, one after the other from the first byte on, as far as there are whole ones
 unfoldable pub instructions : List ℕ → List Placed
 instructions code = instructions_from (length code) code 0
 
@@ -168,7 +167,7 @@ ways x = option_to_list (onward x.instruction x.next) ++ option_to_list (jump x.
 
 -- ---- the first rule: whole instructions, each allowed in a unit of its sort
 
--- where an instruction may stand: by version, in attributes and in methods
+-- where an instruction may be: by version, in attributes and in methods
 pub record Allowed : Type 0 where
   pub in_attributes : Bool
   pub in_methods : Bool
@@ -234,7 +233,7 @@ is_chain context code = nat_lt 0 (length code)
 
 -- ---- the second rule: each way leads to an instruction
 
--- one of them stands at the place
+-- one of them is at the place
 abbrev pub is_start : List Placed → ℕ → Bool
 is_start xs place = list_any (λ x. x.place == place) xs
 

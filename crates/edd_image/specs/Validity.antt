@@ -134,7 +134,7 @@ are_strings c = list_all (λ span. is_string (part span c.string_bytes)) c.strin
 
 -- ---- units
 
--- the code of an attribute row, and where it stands
+-- the code of an attribute row, and where it is
 pub record PlacedUnit : Type 0 where
   pub context : Context
   pub code : List ℕ

@@ -350,7 +350,7 @@ fn ask_of(number: u8, s: u16, t: u16) -> Option<Ask>
     }
 }
 
-// It stands apart, since otherwise no instruction would be decoded inline.
+// A function of its own, since otherwise no instruction would be decoded inline.
 #[inline(never)]
 #[tactic(auto, unfolding(crate::specs::Decoding::ask_from))]
 fn ask_from(bytes: &[u8]) -> Option<(Instruction, &[u8])>
@@ -364,7 +364,7 @@ fn ask_from(bytes: &[u8]) -> Option<(Instruction, &[u8])>
     Some((Instruction::Ask(request), rest))
 }
 
-// It stands apart, as requests do: with it, decoding would be too large to be inline.
+// A function of its own, as for requests: with it, decoding would be too large to be inline.
 #[inline(never)]
 #[tactic(auto, unfolding(crate::specs::Decoding::abort_method_from))]
 fn abort_method_from(bytes: &[u8]) -> Option<(Instruction, &[u8])>
@@ -375,7 +375,7 @@ fn abort_method_from(bytes: &[u8]) -> Option<(Instruction, &[u8])>
     Some((Instruction::AddAbortMethod(MethNo(number)), rest))
 }
 
-// The longest instructions. They stand apart, as requests do.
+// The longest instructions. They have a function of their own, as requests do.
 #[inline(never)]
 fn long_from(number: u8, bytes: &[u8]) -> Option<(Instruction, &[u8])>
     ensures value { option_map (λ x. (x.0, x.1.now)) result ≡
@@ -408,7 +408,7 @@ fn placed(code: &[u8], found: Option<(Instruction, &[u8])>) -> Option<(Instructi
     Some((instruction, code.len() - rest.len()))
 }
 
-// The instruction of a number whose operands stand from a place on, and the place after them.
+// The instruction of a number whose operands begin at a place, and the place after them.
 //
 // Each arm takes the bytes of its operands by itself, so that an instruction of one byte costs no
 // slice.
@@ -463,7 +463,7 @@ fn numbered(number: u8, code: &[u8], next: usize) -> Option<(Instruction, usize)
     }
 }
 
-/// The instruction at a place and the place after it, where a whole instruction stands there.
+/// The instruction at a place and the place after it, where there is a whole instruction.
 #[inline(always)]
 #[tactic(auto, unfolding(crate::specs::Decoding::instruction_at))]
 pub fn decode(code: &[u8], place: usize) -> Option<(Instruction, usize)>

@@ -30,7 +30,7 @@ ghost use Rattle.edd_image.specs.Reading.{Reading, IsReading, body_of, opening_o
 ghost use Rattle.edd_image.specs.MethodAgreement.{SameOutcome, AgreesOnRuns, EachIsBody};
 ghost use Rattle.edd_image.specs.Spelling.{AreBytes, spelling, IsSpelled};
 
-/// An instruction that was spelled is read again, whatever stands around it.
+/// An instruction that was spelled is read again, whatever is around it.
 pub fn spelled_is_read()
     ensures { (before after : List ℕ) (i : Instruction) → IsSpelled i
         → instruction_at (before ++ (spelling i ++ after)) (length before)
@@ -98,7 +98,7 @@ pub fn runs_may_be_cut()
         → execute env (j + k) s answers ≡ resumed env k (execute env j s answers) }
 {}
 
-/// A request that stands is met by the next answer, whatever answers follow: the answer's sets are
+/// A pending request is met by the next answer, whatever answers follow: the answer's sets are
 /// changes, and the run goes on from the state after them and from what follows that. Without an
 /// answer the run waits.
 pub fn requests_are_met()
@@ -114,7 +114,7 @@ pub fn requests_are_met()
         → execute_following follow env k s [] ≡ closed (nothing_met s [] None) Waiting }
 {}
 
-/// A run that is over comes to the same within more steps.
+/// A run that is over results in the same within more steps.
 pub fn what_is_over_stays()
     ensures { (follow : State → State) (env : Environment) (m n : ℕ) → m ≤ n
         → (s : State) (answers : List Answer)
@@ -132,8 +132,8 @@ pub fn steps_are_counted()
         → (execute_following follow env n s answers).steps ≡ n }
 {}
 
-/// From a state of a valid unit, under valid answers, a run comes to a state of the same unit. It
-/// is never stuck, and no answer is bad.
+/// From a state of a valid unit, under valid answers, a run results in a state of the same unit.
+/// It is never stuck, and no answer is bad.
 pub fn runs_keep_the_state()
     ensures { (context : Context) (env : Environment) (n : ℕ) (s : State) (answers : List Answer)
         → IsValidUnit context s.unit.code → IsState context env s
@@ -143,15 +143,15 @@ pub fn runs_keep_the_state()
         × IsGoodEnding (execute env n s answers).ending }
 {}
 
-/// One thing is read of an attribute under the same values.
+/// What is read of an attribute under the same values is always the same.
 pub fn readings_are_unique()
     ensures { (b : List ℕ) (ref : AttrRef) (values : List ℤ) (r q : Reading)
         → IsReading b ref values r → IsReading b ref values q → r ≡ q }
 {}
 
 /// A machine that comes along with the source agrees with it on all runs: where for every number of
-/// turns it comes to the same within that many steps or more, what one of them results in when it
-/// is over the other comes to as well.
+/// turns it results in the same within that many steps or more, what one of them results in when
+/// it is over the other results in as well.
 pub fn followed_runs_agree()
     ensures { (string_numbered : StrNo → Option Words) (types : List VariableType)
         (source : (turns : ℕ) → List ℤ → List Answer → Transcript) (follow : State → State)

@@ -15,14 +15,14 @@ pub struct VarKind {
     pub size: u8,
 }
 
-/// Where an item's name stands among the name bytes.
+/// Where an item's name is among the name bytes.
 #[derive(Clone, Copy, PartialEq, Eq, Debug)]
 pub struct NameRow {
     pub start: u32,
     pub length: u16,
 }
 
-/// An attribute of an item, and where its unit stands in the code. `sub` is a transaction's
+/// An attribute of an item, and where its unit is in the code. `sub` is a transaction's
 /// position for TRANSACTION, REQUEST and REPLY, the number of slots for DEFINITION, and else 0.
 #[derive(Clone, Copy, PartialEq, Eq, Debug)]
 pub struct AttributeRow {
@@ -33,7 +33,7 @@ pub struct AttributeRow {
     pub length: u32,
 }
 
-/// Where a string stands among the string bytes.
+/// Where a string is among the string bytes.
 #[derive(Clone, Copy, PartialEq, Eq, Debug)]
 pub struct StringRow {
     pub start: u32,
@@ -56,8 +56,8 @@ pub struct Counts {
     pub dd_revision: u32,
 }
 
-/// The sections of an image in their order. Names stand by kind and number, elements by array and
-/// number. There are no arrays in the first version of the layout.
+/// The sections of an image in their order. Names are in the order of kind and number, elements in
+/// that of array and number. There are no arrays in the first version of the layout.
 #[derive(Debug, Drop)]
 pub struct Parts {
     pub version: Version,

@@ -47,8 +47,8 @@ pub enum Sort {
     Method,
 }
 
-/// Where a unit stands: the image's version and counts, the unit's sort and, for a method, its
-/// number of slots.
+/// Where a unit is: the image's version and counts, the unit's sort and, for a method, its number
+/// of slots.
 #[derive(Clone, Copy, PartialEq, Eq, Debug)]
 pub struct Context {
     pub version: Version,

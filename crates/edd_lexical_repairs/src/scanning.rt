@@ -62,7 +62,7 @@ fn string_length(text: &[u8]) -> Option<usize> {
     None
 }
 
-// Whether a byte may stand in a word, a number, or a character past ASCII.
+// Whether a byte may be in a word, a number, or a character past ASCII.
 fn is_of_word(byte: u8) -> bool {
     byte.is_ascii_alphanumeric() || byte == b'_' || byte == b'.' || 0x80 <= byte
 }

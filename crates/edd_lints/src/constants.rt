@@ -6,7 +6,7 @@ use edd_syntax::operators::{Comparison, Operator, UnaryOperator};
 use edd_syntax::reference::Target;
 use edd_syntax::wrap::wrap;
 
-/// Where an expression stands. In an attribute it is computed with 64 bits, in a method with 32.
+/// Where an expression is. In an attribute it is computed with 64 bits, in a method with 32.
 #[derive(Clone, Copy, PartialEq, Eq)]
 pub enum Width {
     Attribute,

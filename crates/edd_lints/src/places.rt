@@ -106,7 +106,7 @@ impl<'a> Places<'a> {
         self.to(TokenKind::Keyword(word))
     }
 
-    /// Passes the next token of this kind that stands on a line, and gives its place.
+    /// Passes the next token of this kind on a line, and gives its place.
     pub fn to_on(&mut self, line: u32, kind: TokenKind) -> Mark<'a> {
         let rest = self.rest;
         for (number, token) in rest.iter().enumerate() {

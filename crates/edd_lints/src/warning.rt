@@ -17,7 +17,7 @@ pub struct Spot {
 #[derive(Drop)]
 pub struct Warning {
     pub lint: Lint,
-    /// The line on which the token stands that the warning points at, counted from 1.
+    /// The line of the token that the warning points at, counted from 1.
     pub line: u32,
     /// The text of that token. Without one it is the first token of the line.
     pub word: Option<String>,

@@ -199,7 +199,7 @@ place_inside c (items.Collection n) h = omega (arith, ltb-true n.0 c.collections
 place_inside c (items.Method n) h = omega (arith, ltb-true n.0 c.methods h)
 place_inside c (items.Array n) h = omega (arith, ltb-true n.0 c.arrays h)
 
--- the name of an item stands in the row of its place, among the rows that there are
+-- the name of an item is in the row of its place, among the rows that there are
 pub name_in_place : (b : List ℕ) (item : ItemNo) (name : Name) → name_numbered (contents_in b) item
     ≡ Some name
     → (place_of_item (counts_in b) item < item_count (counts_in b))
@@ -227,7 +227,7 @@ pub no_name : (b : List ℕ) (item : ItemNo) → item_exists (counts_in b) item 
 unfolding contents_in
 no_name b item there = rw there refl
 
--- the item of a place before which the name doesn't stand
+-- the item of a place before which the name is not found
 pub first_named : (b : List ℕ) (item : ItemNo) (name : Name) (place : ℕ)
     → place_of_item (counts_in b) item ≡ place
     → ((k : ℕ) → k < place → name_in_row (contents_in b) k ≡ Some name → ⊥)

@@ -1,4 +1,4 @@
--- Marks as the numbers of operands that they tell, and as the places where instructions stand.
+-- Marks as the numbers of operands that they tell, and as the places where there are instructions.
 use Rattle.std.proofs.Common.{◌≡◌, ℕ, ◌<◌, ◌≤◌, true, false, List, [], ◌∷◌, length, get_or, set, replicate, zero, suc, Some, None, refl, sym, ap, ◌∙◌, arith}
 use Rattle.std.proofs.lemmas.Bool.{le-ltb}
 use Rattle.std.proofs.lemmas.List.{map-set}
@@ -23,7 +23,7 @@ settled_stands Unknown d s e = absurd cc
 settled_stands (Awaited n) d s e = absurd cc
 settled_stands (Stands n) d s e = refl
 
--- where all is settled, an instruction stands wherever a number is known
+-- where all is settled, there is an instruction wherever a number is known
 pub settled : (marks : List Mark) → ((q : ℕ) → is_settled (get_or marks q Unknown) ≡ true)
     → (q d : ℕ) → known (depths marks) q ≡ Some d → get_or (stood_on marks) q false ≡ true
 settled marks all q d e = stood_is marks q ∙ settled_stands (get_or marks q Unknown) d (all q)

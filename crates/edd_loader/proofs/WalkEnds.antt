@@ -65,14 +65,14 @@ led_forward Attribute size x e = ahead (jump x.instruction) e
 
 -- ---- ways that lead inside lead to instructions
 
--- an instruction stands where the one before it ends, unless all end there
+-- an instruction begins where the one before it ends, unless all end there
 next_starts : (size place : ℕ) (xs : List Placed) → Rising place xs → end_of place xs ≡ size
     → nat_lt place size ≡ true → is_start xs place ≡ true
 next_starts size place [] r ends lt = absurd (omega (arith, ends, ltb-true place size lt))
 next_starts size place (x ∷ xs) r ends lt = or_left (nat_eq x.place place) (is_start xs place)
     (eq-eqb x.place place r.0)
 
--- the way onward leads to an instruction if one stands at the next place
+-- the way onward leads to an instruction if there is one at the next place
 onward_lands : (size next : ℕ) (all : List Placed) (left : Option ℕ)
     → (nat_lt next size ≡ true → is_start all next ≡ true)
     → option_map_or (λ (w : Way). nat_lt w.to size)
@@ -82,14 +82,14 @@ onward_lands : (size next : ℕ) (all : List Placed) (left : Option ℕ)
 onward_lands size next all None there e = refl
 onward_lands size next all (Some n) there e = there e
 
--- a jump leads to an instruction if one stands at its target
+-- a jump leads to an instruction if there is one at its target
 jump_lands : (all : List Placed) (o : Option Way)
     → ((q : ℕ) → option_map_or (λ w. nat_eq w.to q) o false ≡ true → is_start all q ≡ true)
     → option_map_or (λ w. is_start all w.to) o true ≡ true
 jump_lands all None there = refl
 jump_lands all (Some w) there = there w.to (eq-eqb w.to w.to refl)
 
--- where the ways lead inside, and an instruction stands at each target, each way leads to an
+-- where the ways lead inside, and there is an instruction at each target, each way leads to an
 -- instruction
 land_from : (sort : Sort) (size : ℕ) (all ys : List Placed) (place : ℕ) → Rising place ys
     → end_of place ys ≡ size → list_all (leads_inside sort size) ys ≡ true
@@ -115,7 +115,7 @@ land_from sort size all (x ∷ xs) place r ends led targets starts =
     rw (led_forward sort size x both.1, led_to) (land_from sort size all xs x.next r.2 ends parts.1
     (λ q e. targets q (or_right (jumps_to q x) (list_any (jumps_to q) xs) e)) later)
 
--- a known place that is settled is stood on
+-- a known place that is settled has an instruction
 known_stands : (m : Mark) → is_settled m ≡ true → is_known m ≡ true → is_stood_on m ≡ true
 known_stands Unknown s k = absurd cc
 known_stands (Awaited n) s k = absurd cc
@@ -126,7 +126,7 @@ or_false : (b : Bool) → (b || false) ≡ b
 or_false true = refl
 or_false false = refl
 
--- at the end the places stood on are the starts
+-- at the end the places that have an instruction are the starts
 stood_at_end : (context : Context) (code : List ℕ) (marks : List Mark) (brought : Option ℕ)
     (place : ℕ) (leads agrees names : Bool) → IsWalk context code marks brought place leads agrees
     names → length code ≤ place
@@ -258,7 +258,7 @@ nothing_brought : (size place : ℕ) (brought : Option ℕ) → size ≤ place
 nothing_brought size place None past e = refl
 nothing_brought size place (Some n) past e = absurd (omega (arith, past, ltb-true place size e))
 
--- an instruction stands only where a place is settled
+-- there is an instruction only where a place is settled
 stands_settled : (m : Mark) → is_stood_on m ≡ true → is_settled m ≡ true
 stands_settled Unknown e = refl
 stands_settled (Awaited n) e = absurd cc

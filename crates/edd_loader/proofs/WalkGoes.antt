@@ -40,7 +40,7 @@ then_some : {A : Type 0} (o : Option A) → (o >>= (λ x. Some x)) ≡ o
 then_some None = refl
 then_some (Some x) = refl
 
--- The choice whether steps are made stands before all of them.
+-- The choice whether steps are made comes before all of them.
 choice_then : {A B : Type 0} (p : Bool) (o : Option A) (f : A → Option B) → cond p (o >>= f) None
     ≡ (cond p o None >>= f)
 choice_then true o f = refl
@@ -145,7 +145,7 @@ note_by_notes (Stands known) marks place rest small all e =
       awaits = λ q unsettled. inr unsettled;
     }
 
--- the same at the mark that stands there
+-- the same at the mark that is there
 note_notes : (marks : List Mark) (place rest : ℕ) → rest ≤ 128 → HaveRoom marks
     → Notes marks place (note_at marks place rest)
 note_notes marks place rest small all = note_by_notes (mark_at marks place) marks place rest small
@@ -256,7 +256,7 @@ jump_enters sort size place marks (Some to) rest small inside =
     ∙ ap (λ (n : ℕ). enter (depths marks) to n) none_left ∙ note_by_enters (mark_at marks to)
     marks to rest small refl)
 
--- What stood at its place before the visit doesn't matter.
+-- What was at its place before the visit doesn't matter.
 visit_twice : (t : Table) (x : Placed) (n depth : ℕ) → visit_at (set t x.place (Some n)) x depth
     ≡ visit_at t x depth
 unfolding visit_at
@@ -517,7 +517,7 @@ names_order true false others = refl
 names_order false true others = refl
 names_order false false others = refl
 
--- the places where instructions stand
+-- the places where there are instructions
 stands_on : (code : List ℕ) (place next : ℕ) (i : Instruction) (marks new : List Mark) (depth q : ℕ)
     (total : Bool) → instruction_at code place ≡ Some (i, next) → place < length marks
     → stood_on new ≡ stood_on (set marks place (Stands depth))

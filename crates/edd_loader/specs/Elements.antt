@@ -2,7 +2,7 @@
 use Rattle.std.specs.Prelude.{ℕ, ◌+◌, ◌*◌}
 use Rattle.edd_syntax.specs.declared.numbers.Element.{Element}
 
--- the array and the number, each where it stands among the bytes of a row
+-- the array and the number, each where it is among the bytes of a row
 abbrev pub element_key : (array number : ℕ) → ℕ
 element_key array number = array * 281474976710656 + number
 

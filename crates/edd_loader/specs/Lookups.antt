@@ -20,7 +20,7 @@ name_in_row c row = option_map (λ r. part r.span c.name_bytes) (slice_get c.nam
 abbrev pub string_in_row : Contents → ℕ → Option (List ℕ)
 string_in_row c row = option_map (λ span. part span c.string_bytes) (slice_get c.strings row)
 
--- no item of this name stands before that one, in the order of kinds and numbers
+-- no item of this name comes before that one, in the order of kinds and numbers
 abbrev pub IsFirstNamed : Contents → Name → ItemNo → Type 0
 IsFirstNamed c name item = (other : ItemNo) → name_numbered c other ≡ Some name
     → place_of_item c.counts item ≤ place_of_item c.counts other

@@ -10,13 +10,13 @@ depth_known Unknown = None
 depth_known (Awaited depth) = Some depth
 depth_known (Stands depth) = Some depth
 
--- an instruction stands there
+-- there is an instruction
 abbrev pub is_stood_on : Mark → Bool
 is_stood_on Unknown = false
 is_stood_on (Awaited depth) = false
 is_stood_on (Stands depth) = true
 
--- a jump does not lead there where no instruction stands
+-- no jump leads there, or there is an instruction
 abbrev pub is_settled : Mark → Bool
 is_settled Unknown = true
 is_settled (Awaited depth) = false

@@ -9,7 +9,7 @@ abbrev pub rises_next : AttributeFields → List AttributeFields → Bool
 rises_next r [] = true
 rises_next r (next ∷ rest) = rises r next
 
--- an element stands before the first of the elements after it
+-- an element comes before the first of the elements after it
 abbrev pub is_before_next : Element → List Element → Bool
 is_before_next e [] = true
 is_before_next e (next ∷ rest) = is_element_before e next

@@ -10,7 +10,7 @@ use Rattle.edd_image.specs.Contents.{AttributeFields, part}
 use Rattle.edd_image.specs.Units.{UnitKeeps}
 use Rattle.edd_image.specs.Validity.{fault_number, sort_of, slots_of}
 
--- where the unit of a row stands, in an image of this version with these counts
+-- the context of the unit of a row, in an image of this version with these counts
 abbrev pub context_of : Version → Counts → AttributeFields → Context
 context_of version counts r = record {
   version = version;

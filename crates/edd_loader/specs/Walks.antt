@@ -76,7 +76,7 @@ pub record IsWalk (context : Context) (code : List ℕ) (marks : List Mark) (bro
   pub targets : leads ≡ true → (q : ℕ) → list_any (jumps_to q) (from_place code 0) ≡ true
       → (is_known (mark_at marks q) || list_any (jumps_to q) (from_place code place)) ≡ true
 
--- a walk that has come to the place and has seen nothing wrong
+-- a walk that has reached the place and has seen nothing wrong
 pub record IsWalkAt (context : Context) (code : List ℕ) (w : Walk) (place : ℕ) : Type 0 where
   pub walk : IsWalk context code w.marks.items (brought w.goes_on w.depth) place true true true
   pub room : w.depth ≤ 128

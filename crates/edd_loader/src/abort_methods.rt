@@ -19,7 +19,7 @@ use edd_image::{
 };
 
 // Whether the method that an instruction adds, if it adds one, has a body. The rows of attributes
-// stand from `start` on.
+// begin at `start`.
 fn adds_with_body(bytes: &[u8], start: usize, instruction: Instruction) -> bool
     requires sections { AreSectionsOf bytes.now }
     requires rows { IsTrue (are_rows (contents_in bytes.now)) }

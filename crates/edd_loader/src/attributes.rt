@@ -86,7 +86,7 @@ fn rises_next(bytes: &[u8], row: usize, left: usize) -> bool
     left == 0 || rises(bytes, row, row + ATTRIBUTE_ROW)
 }
 
-/// Whether `count` attribute rows, the first of which stands at `start`, hold what they may hold
+/// Whether `count` attribute rows, the first of which is at `start`, hold what they may hold
 /// and rise, and their units are one after the other and fill `end` bytes.
 pub fn are_attribute_rows(
     bytes: &[u8],

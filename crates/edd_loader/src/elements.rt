@@ -47,7 +47,7 @@ fn is_before_next(bytes: &[u8], row: usize, left: usize) -> bool
     left == 0 || is_element_before(bytes, row, row + ELEMENT_ROW)
 }
 
-/// Whether `count` element rows, the first of which stands at `start`, name arrays and variables
+/// Whether `count` element rows, the first of which is at `start`, name arrays and variables
 /// that exist, and rise.
 pub fn are_element_rows(bytes: &[u8], counts: Counts, start: usize, count: usize) -> bool
     requires { start + ELEMENT_ROW * count ≤ length bytes.now }
@@ -75,7 +75,8 @@ fn element_key(array: u16, number: u32) -> u64
     u64::from(array) * 281_474_976_710_656 + u64::from(number)
 }
 
-// The key of a row. All of the row is read as one number, and what stands between the two left out.
+// The key of a row. All of the row is read as one number, and what lies between the two is left
+// out.
 #[inline(always)]
 #[tactic(auto, unfolding(edd_image::specs::Fields::number_at))]
 fn key_at(bytes: &[u8], row: usize) -> u64

@@ -24,7 +24,7 @@ use edd_image::{
 };
 use edd_syntax::numbers::{ArrNo, CmdNo, CollNo, ItemNo, MenuNo, MethNo, VarNo};
 
-/// How many names stand before that of an item.
+/// How many names there are before that of an item.
 pub fn place_of_item(counts: Counts, item: ItemNo) -> usize
     ensures { result ≡ place_of_item counts item }
 {
@@ -43,7 +43,7 @@ pub fn place_of_item(counts: Counts, item: ItemNo) -> usize
     }
 }
 
-/// The item whose name stands at a place.
+/// The item whose name is at a place.
 pub fn item_at(counts: Counts, place: usize) -> ItemNo
     requires { place < item_count counts }
     ensures exists { item_exists counts result ≡ true }
@@ -69,7 +69,7 @@ pub fn item_at(counts: Counts, place: usize) -> ItemNo
     }
 }
 
-/// The name that stands at a place.
+/// The name at a place.
 pub fn name_at(bytes: &[u8], starts: Starts, place: usize) -> &[u8]
     requires valid { IsValid bytes.now }
     requires starts { starts ≡ starts_in bytes.now }

@@ -10,7 +10,7 @@ pub enum Mark {
     Unknown,
     /// A jump leads here, with so many operands.
     Awaited(u8),
-    /// An instruction stands here, before which there are so many operands.
+    /// An instruction is here, before which there are so many operands.
     Stands(u8),
 }
 
@@ -57,7 +57,7 @@ pub fn note(marks: &mut Vec<Mark>, place: usize, depth: u8) -> bool
 }
 
 impl Mark {
-    // Whether no jump leads here where no instruction stands.
+    // Whether no jump leads here, or there is an instruction.
     #[inline(always)]
     fn is_settled(self) -> bool
         ensures { result ≡ is_settled self }
@@ -66,7 +66,7 @@ impl Mark {
     }
 }
 
-/// Whether an instruction stands at each place to which a jump leads.
+/// Whether there is an instruction at each place to which a jump leads.
 pub fn are_settled(marks: &[Mark]) -> bool
     ensures { IsTrue result ↔ ((q : ℕ) → is_settled (mark_at marks.now q) ≡ true) }
 {

@@ -35,8 +35,8 @@ fn rank_at(bytes: &[u8], row: usize) -> u64
     rank(kind, attribute, item, attribute_sub(bytes, row))
 }
 
-// The number of the first of `count` rows, the first of which stands at `start`, that does not
-// stand below the rank `key`.
+// The number of the first of `count` rows, the first of which is at `start`, that is not below the
+// rank `key`.
 fn first_from(bytes: &[u8], start: usize, count: usize, key: u64) -> usize
     requires room { start + ATTRIBUTE_ROW * count ≤ length bytes.now }
     requires rising { (i j : ℕ) → i < j → j < count
@@ -71,7 +71,7 @@ fn is_row_of(bytes: &[u8], row: usize, kind: u8, attribute: u8, item: u16) -> bo
         && attribute_item(bytes, row) == item
 }
 
-// The number of the first row of an image that does not stand below the rank.
+// The number of the first row of an image that is not below the rank.
 fn first_row(bytes: &[u8], start: usize, key: u64) -> usize
     requires sections { AreSectionsOf bytes.now }
     requires rows { IsTrue (are_rows (contents_in bytes.now)) }
@@ -85,7 +85,7 @@ fn first_row(bytes: &[u8], start: usize, key: u64) -> usize
     first_from(bytes, start, count, key)
 }
 
-/// Where the row of an attribute stands, if it has one. The rows stand from `start` on.
+/// Where the row of an attribute is, if it has one. The rows begin at `start`.
 pub fn attribute_row(bytes: &[u8], start: usize, attr: AttrRef) -> Option<usize>
     requires sections { AreSectionsOf bytes.now }
     requires rows { IsTrue (are_rows (contents_in bytes.now)) }
@@ -111,7 +111,7 @@ pub fn attribute_row(bytes: &[u8], start: usize, attr: AttrRef) -> Option<usize>
     Some(row)
 }
 
-/// Where the row of a method's body stands, if it has one. The rows stand from `start` on.
+/// Where the row of a method's body is, if it has one. The rows begin at `start`.
 pub fn body_row(bytes: &[u8], start: usize, method: MethNo) -> Option<usize>
     requires sections { AreSectionsOf bytes.now }
     requires rows { IsTrue (are_rows (contents_in bytes.now)) }

@@ -21,7 +21,7 @@ fn is_variable_row(bytes: &[u8], row: usize) -> bool
         && variable_zero(bytes, row) == 0
 }
 
-/// Whether each of `count` variable rows, the first of which stands at `start`, has a type, a size
+/// Whether each of `count` variable rows, the first of which is at `start`, has a type, a size
 /// of 1 to 4 octets and a zero.
 pub fn are_variable_rows(bytes: &[u8], start: usize, count: usize) -> bool
     requires { start + VARIABLE_ROW * count ≤ length bytes.now }
@@ -36,7 +36,7 @@ pub fn are_variable_rows(bytes: &[u8], start: usize, count: usize) -> bool
     true
 }
 
-/// Whether each of `count` name rows, the first of which stands at `start`, has a zero, and the
+/// Whether each of `count` name rows, the first of which is at `start`, has a zero, and the
 /// names are one after the other and fill `end` bytes.
 pub fn are_name_rows(bytes: &[u8], start: usize, count: usize, end: usize) -> bool
     requires { start + NAME_ROW * count ≤ length bytes.now }
@@ -58,8 +58,8 @@ pub fn are_name_rows(bytes: &[u8], start: usize, count: usize, end: usize) -> bo
     place == end
 }
 
-/// Whether the strings of `count` string rows, the first of which stands at `start`, stand one
-/// after the other and fill `end` bytes.
+/// Whether the strings of `count` string rows, the first of which is at `start`, lie one after the
+/// other and fill `end` bytes.
 pub fn are_string_rows(bytes: &[u8], start: usize, count: usize, end: usize) -> bool
     requires { start + STRING_ROW * count ≤ length bytes.now }
     ensures { result ≡ fills 0 (rows_from (string_fields bytes.now) 8 count start) end }

@@ -97,7 +97,7 @@ pub fn are_rows(bytes: &[u8]) -> bool
         && string_rows_keep(bytes)
 }
 
-// Whether each of `count` name rows, the first of which stands at `start`, names a name among these
+// Whether each of `count` name rows, the first of which is at `start`, names a name among these
 // bytes.
 fn all_names(bytes: &[u8], names: &[u8], start: usize, count: usize) -> bool
     requires room { start + NAME_ROW * count ≤ length bytes.now }
@@ -130,7 +130,7 @@ pub fn are_names(bytes: &[u8]) -> bool
     all_names(bytes, part(bytes, place, size), start, count)
 }
 
-// Whether each of `count` string rows, the first of which stands at `start`, gives a string among
+// Whether each of `count` string rows, the first of which is at `start`, gives a string among
 // these bytes.
 fn all_strings(bytes: &[u8], strings: &[u8], start: usize, count: usize) -> bool
     requires room { start + STRING_ROW * count ≤ length bytes.now }

@@ -20,7 +20,7 @@ use edd_image::{
 };
 use std::alloc::{AllocError, Global};
 
-// Where the unit of an attribute row stands.
+// The context of the unit of an attribute row.
 fn context_of(bytes: &[u8], version: Version, counts: Counts, row: usize) -> Context
     requires { row + ATTRIBUTE_ROW ≤ length bytes.now }
     ensures { result ≡ context_of version counts (attribute_fields bytes.now row) }
@@ -56,7 +56,7 @@ fn first_of(one: Option<UnitRule>, other: Option<UnitRule>) -> Option<UnitRule>
 }
 
 // The first of the rules that is broken by the unit of one of `count` attribute rows, the first of
-// which stands at `start`. It stands apart from its caller, so that what the walk needs stays in
+// which is at `start`. It is a function of its own, so that what the walk needs stays in
 // registers.
 #[inline(never)]
 fn broken_in_rows(

@@ -35,7 +35,7 @@ pub fn may_lead(sort: Sort, size: usize, place: usize, target: usize) -> bool
 }
 
 // Whether an instruction at a place where `depth` operands are may jump to a target with `rest` of
-// them. It stands apart, so that fewer values live in the walk.
+// them. It is a function of its own, so that fewer values live in the walk.
 #[inline(never)]
 fn may_jump(marks: &[Mark], sort: Sort, place: usize, depth: u8, rest: u8, target: u32) -> bool
     requires { place < length marks.now }

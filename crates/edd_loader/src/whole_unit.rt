@@ -11,7 +11,7 @@ use crate::walk::Walk;
 use edd_image::{Context, UnitRule, decode};
 use std::alloc::{AllocError, Global};
 
-// Walks over a unit as long as nothing is wrong, and gives the place that it has come to. None
+// Walks over a unit as long as nothing is wrong, and gives the place that it has reached. None
 // where the unit is no chain.
 #[inline(always)]
 fn walked(alloc: Global, context: Context, code: &[u8]) -> Result<Option<(Walk, usize)>, AllocError>

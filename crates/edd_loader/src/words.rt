@@ -54,7 +54,7 @@ fn front_of(bytes: &[u8], size: usize) -> Option<(&[u8], &[u8])>
     Some(bytes.split_at(size))
 }
 
-/// The variant at the front of the bytes, if a whole one stands there.
+/// The variant at the front of the bytes, if there is a whole one.
 pub fn variant_from(bytes: &[u8]) -> Option<Piece<'_>>
     ensures value { option_map piece_of result ≡ variant_from bytes.now }
     ensures shorter { IfSome result (λ p. length p.behind.now < length bytes.now) }

@@ -40,7 +40,7 @@ pub counts_are : (b : List ℕ) (r : AttributeFields) → (placed_unit (contents
 unfolding contents_in
 counts_are b r = refl
 
--- ---- where the code stands
+-- ---- where the code is
 
 row_lies : (b : List ℕ) (n : ℕ) (r : AttributeFields) → IsValid b
     → slice_get (contents_in b).attributes n ≡ Some r → r.span.start + r.span.size ≤ code_length b

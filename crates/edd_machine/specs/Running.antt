@@ -14,7 +14,7 @@ use Rattle.edd_image.specs.Reading.{environment_of}
 use Rattle.edd_machine.specs.declared.code_unit.CodeUnit.{CodeUnit}
 use Rattle.edd_machine.specs.declared.machine.Machine.{Machine}
 
--- the unit of a row, whose code stands among the bytes of the image
+-- the unit of a row, whose code is among the bytes of the image
 abbrev pub unit_at : List ℕ → AttributeFields → CodeUnit
 unit_at b r = record {
   sort = sort_of r;
@@ -82,7 +82,7 @@ StepsTo b m n = IsEffect (step_in (contents_in b) (state_of b m)) b n
 abbrev pub ActsTo : List ℕ → Instruction → ℕ → Machine → Machine → Type 0
 ActsTo b i next m n = IsEffect (act (environment_of (contents_in b)) i next (state_of b m)) b n
 
--- what the rules on a unit say of the instruction at which the state stands
+-- what the rules on a unit say of the instruction at which the state is
 pub record CanAct (b : List ℕ) (i : Instruction) (s : State) : Type 0 where
   pub context : Context
   pub counts : context.counts ≡ counts_in b

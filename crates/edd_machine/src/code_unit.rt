@@ -1,4 +1,4 @@
-//! Where the code of a unit stands.
+//! Where the code of a unit is.
 
 ghost use Rattle.std.specs.Prelude.{◌≡◌, ◌+◌, ◌≤◌, length};
 ghost use Rattle.edd_machine.specs.Running.{code_at};

@@ -253,7 +253,7 @@ impl Machine {
         self.emit_nothing();
     }
 
-    // The effect of an instruction that the rules on its unit let stand here.
+    // The effect of an instruction that the rules on its unit allow here.
     #[inline(always)]
     fn execute(&mut self, image: &Image<'_>, instruction: Instruction, next: usize)
         requires valid { IsValid image.now }

@@ -212,8 +212,8 @@ fn give_number(operands: &mut Operands, next: usize) -> Outcome
     Outcome::Gives(next, Record::Number(operands.pop()))
 }
 
-// The value of an element of an array, wrapped to the width, or the trap. It stands apart, so that
-// fewer values live in the step.
+// The value of an element of an array, wrapped to the width, or the trap. It is a function of its
+// own, so that fewer values live in the step.
 #[inline(never)]
 fn element_value(
     image: &Image<'_>,

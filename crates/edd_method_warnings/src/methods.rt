@@ -15,7 +15,7 @@ use std::collections::BTreeSet;
 
 // The names of the locals of a method in the order of their declarators, which is that of their
 // slots. A name is declared after `int` or `long`, and after a comma of that declaration that
-// stands in no parentheses.
+// is in no parentheses.
 fn locals_of<'a>(
     alloc: Global,
     text: &'a [u8],

@@ -193,7 +193,7 @@ fn check_next<'a>(
     })
 }
 
-/// What stands between braces.
+/// What is between braces.
 #[cycle(statements)]
 pub fn check_parts<'a>(
     parts: &[Part<Target>],

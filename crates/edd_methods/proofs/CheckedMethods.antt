@@ -60,7 +60,7 @@ strings_there context strings number long (t ∷ rest) h =
           number long rest h.1,
     )
 
--- the operands of a block are in their ranges, and its instructions may stand there
+-- the operands of a block are in their ranges, and its instructions may be there
 abbrev pub Stands : Context → (number : Words → StrNo) → Expr Target → Type 0
 Stands context number e = AreSpelled (method_block number e)
     × (all_straight (may_stand context) (method_block number e) ≡ true)

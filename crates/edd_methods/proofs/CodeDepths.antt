@@ -103,7 +103,7 @@ module _ (depth : ℕ → ℕ) where
     HasArms p (Case label rest) = HasArms p rest
     HasArms p (Default rest) = HasArms p rest
 
-  -- no operands stand in front of it
+  -- there are no operands in front of it
   pub part_front : (p : ℕ) (part : Part) → HasPart p part → depth p ≡ 0
   part_front p Missing has = has
   part_front p (Step b) has = at_front depth p 0 b has

@@ -13,7 +13,7 @@ use Rattle.edd_methods.specs.Statements.{Part, Missing, Step, Test, Code, Plain,
 use Rattle.edd_code.proofs.BlockReading.{block_in}
 use Rattle.edd_methods.proofs.CodePlaces.{PartIn, TestsIn, CodeIn, ArmsIn}
 
--- ---- instructions that stand in code
+-- ---- instructions in code
 
 pub default_small : (p out : ℕ) (arms : Arms) → p + arms_size arms < 2 ^ 32 → out < 2 ^ 32
     → default_place p out arms < 2 ^ 32
@@ -40,7 +40,7 @@ module _ (P : Placed → Type 0) where
   stands_at i p q m next here there h = subst (λ (x : ℕ). P (stand q i x)) there
       (subst (λ (x : ℕ). P (stand x i m)) here h)
 
-  -- an instruction with a target, where it stands
+  -- an instruction with a target, where it is
   jump_in : (i : ℕ → Instruction) (p q m next to : ℕ) → to < 2 ^ 32 → p ≡ q → m ≡ next
       → P (stand p (i (target to)) m) → P (stand q (i to) next)
   jump_in i p q m next to small here there h =

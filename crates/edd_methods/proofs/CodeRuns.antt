@@ -1,4 +1,4 @@
--- Code of statements does what it is to do, wherever it stands.
+-- Code of statements does what it is to do, wherever it is.
 use Rattle.std.proofs.Common.{◌≡◌, refl, sym, ap, ℕ, zero, suc, ◌+◌, ◌≤◌, Bool, true, false, ℤ, List, [], ◌∷◌, arith, Option}
 use Rattle.std.specs.Prelude.{if◌then◌else◌}
 use Rattle.std.specs.Ordering.{int_eq}

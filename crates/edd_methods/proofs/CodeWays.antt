@@ -17,7 +17,7 @@ use Rattle.edd_methods.proofs.CodeDepths.{HasPart, HasOne, HasCode, HasArms, par
 use Rattle.edd_methods.proofs.CodeStarts.{InsidePart, InsideTests, InsideCode, InsideArms, Starts, part_starts, tests_starts, code_starts, arms_starts}
 
 module _ (xs : List Placed) (depth : ℕ → ℕ) where
-  -- an instruction starts there, and no operands stand in front of it
+  -- an instruction starts there, and there are no operands in front of it
   abbrev pub IsBorder : ℕ → Type 0
   IsBorder p = (depth p ≡ 0) × Starts xs p
 

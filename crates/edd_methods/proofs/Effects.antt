@@ -1,4 +1,4 @@
--- Parts of a run that comes to the outcome of a statement.
+-- Parts of a run that results in the outcome of a statement.
 use Rattle.std.proofs.Common.{◌≡◌, refl, subst, ◌∙◌, ℕ, suc, ◌≤◌, Bool, true, false, ℤ, pos, List, [], ◌∷◌, arith, Option}
 use Rattle.std.specs.Prelude.{if◌then◌else◌}
 use Rattle.edd_syntax.specs.declared.numbers.StrNo.{StrNo}

@@ -12,7 +12,7 @@ use Rattle.edd_code.specs.Tables.{number_in, place_in}
 use Rattle.edd_code.proofs.Different.{words_refl, words_same}
 use Rattle.edd_methods.proofs.CheckedBodies.{flat_parts}
 
--- a string that a table holds stands at its place
+-- a string that a table holds is at its place
 pub found_at_place : (table : List Words) (w : Words) → Contains table w
     → slice_get table (place_in table w) ≡ Some w
 unfolding place_in

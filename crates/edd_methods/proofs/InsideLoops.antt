@@ -1,5 +1,5 @@
--- In a checked description no `break` or `continue` of a method stands outside a loop or a switch,
--- so its code jumps to no place outside.
+-- In a checked description no `break` or `continue` of a method is outside a loop or a switch, so
+-- its code jumps to no place outside.
 use Rattle.std.proofs.Common.{◌≡◌, refl, sym, ap, ◌∙◌, ℕ, ◌+◌, Bool, true, false, List, [], ◌∷◌, ◌++◌}
 use Rattle.std.specs.Prelude.{not, ◌||◌}
 use Rattle.std.specs.List.{AllByRecursion, flat_map}

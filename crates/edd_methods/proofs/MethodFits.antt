@@ -1,4 +1,4 @@
--- The blocks of a checked method's expressions find their operands, and may stand in it.
+-- The blocks of a checked method's expressions find their operands, and may be in it.
 use Rattle.std.proofs.Common.{◌≡◌, refl, ℕ, Bool, true, false, List, [], ◌∷◌, Option, Some, None, arith}
 use Rattle.std.specs.Prelude.{◌&&◌}
 use Rattle.std.specs.List.{AllByRecursion}

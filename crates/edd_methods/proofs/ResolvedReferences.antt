@@ -101,7 +101,7 @@ in_items (i ∷ rest) is =
 
 -- ---- bodies that mean something
 
--- where the unit of a method stands that has so many slots, in the newest version
+-- the context of the unit of a method that has so many slots, in the newest version
 abbrev pub around : Counts → (slots : ℕ) → Context
 around counts slots = record {
   version = Two;

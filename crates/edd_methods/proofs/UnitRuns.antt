@@ -27,7 +27,7 @@ use Rattle.edd_code.proofs.BlockReading.{all_read}
 use Rattle.edd_methods.proofs.CodeReading.{code_in}
 use Rattle.edd_methods.proofs.CodeRuns.{code_does}
 
--- ---- what stands between other bytes
+-- ---- what is between other bytes
 
 code_reads : (before after : List ℕ) (c : Code) (out back : ℕ) → IsSpelledCode c
     → length before + size c < 2 ^ 32 → out < 2 ^ 32 → back < 2 ^ 32

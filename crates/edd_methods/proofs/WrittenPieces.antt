@@ -146,7 +146,7 @@ declarator_written d old new c0 c1 c2 c3 value store pop =
     is (goes_on c1 c2 c3 (store_block d.place) (Then (Straight instruction.Pop) Nothing) store
     ends)) value)
 
--- a block in front of two that come to the same bytes
+-- a block in front of two that result in the same bytes
 in_front : (a x y r : Block) → ((q : ℕ) → bytes_at q x ≡ bytes_at q y ++ bytes_at (q + size y) r)
     → (p : ℕ) → bytes_at p (Then a x) ≡ bytes_at p (Then a y) ++ bytes_at (p + size (Then a y)) r
 in_front a x y r same p =

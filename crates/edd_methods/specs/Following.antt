@@ -41,7 +41,7 @@ module _ (text : StrNo → Option Words) (env : Environment) (code : List ℕ) w
   reached k to (Done Returns s) = told (transcript Ended s)
   reached k to (Stopped why s) = stopped why s
 
-  -- From a place with these operands the run comes to the outcome, whatever number of steps is
+  -- From a place with these operands the run results in the outcome, whatever number of steps is
   -- after it.
   pub record Does (n place : ℕ) (operands : List ℤ) (to : Exits) (s : State)
       (o : Outcome Completion) : Type 0 where
@@ -50,7 +50,8 @@ module _ (text : StrNo → Option Words) (env : Environment) (code : List ℕ) w
         × (report text env code m place operands s ≡ reached k to o)
 
   -- From every state, whatever its slots, and for each number of turns there is one of steps, no
-  -- lower, in which the unit reports what f comes to where each entry of a loop has so many turns.
+  -- lower, in which the unit reports what f results in where each entry of a loop has so many
+  -- turns.
   abbrev pub Follows : (f : ℕ → Action Completion) → Type 0
   Follows f = (s : State) → CanBeTaken env s.answers → (n : ℕ)
       → (k : ℕ) × (n ≤ k) × (report text env code k 0 [] s ≡ told (ended (f n s)))

@@ -99,7 +99,7 @@ module _ (text : StrNo → Option Words) (env : Environment) where
     performs Continue n = pure Continues
     performs Finish n = pure Returns
 
-    -- labels have no effect where a run comes to them
+    -- labels have no effect where a run reaches them
     pub performs_all : Arms → ℕ → Action Completion
     performs_all Nil n = pure Normal
     performs_all (Statement first rest) n = performs first n >>= next (performs_all rest n)

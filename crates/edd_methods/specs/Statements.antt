@@ -16,7 +16,7 @@ pub data Part : Type 0 where
   -- it leaves one operand, and where that is 0, the loop is left
   Test : Block → Part
 
--- code of statements; no operands stand before it, nor after it
+-- code of statements; there are no operands before it, nor after it
 mutual
   pub data Code : Type 0 where
     -- it leaves no operand

@@ -46,7 +46,7 @@ pub fn valid_answers_can_be_taken()
         → AllByRecursion (IsValidAnswer env.types) answers → CanBeTaken env answers }
 {}
 
-/// Code has as many bytes as its size says, wherever it stands.
+/// Code has as many bytes as its size says, wherever it is.
 pub fn code_sizes_are_lengths()
     ensures { (place out back : ℕ) (c : Code) → length (bytes_at place out back c) ≡ size c }
 {}
@@ -62,7 +62,7 @@ pub fn loops_are_turns()
         → Same (loop_turns n (pure (pos 1)) body back) (turns_of_do n turn test) }
 {}
 
-/// Wherever the bytes of whole code stand in a method, the machine goes on from their first as the
+/// Wherever the bytes of whole code are in a method, the machine goes on from their first as the
 /// code performs: to the place after them, to the end of the loop, to its next turn, or to the end
 /// or the stop of the method.
 pub fn code_does_what_it_performs()
@@ -214,7 +214,7 @@ pub fn valid_code_is_the_methods()
 
 /// In a checked description, in whose table of strings the texts of a method have their numbers,
 /// the operands in the blocks of the method's expressions are in their ranges, and their
-/// instructions may stand there: the variables, arrays, methods, slots and strings that they name
+/// instructions may be there: the variables, arrays, methods, slots and strings that they name
 /// exist.
 pub fn checked_expressions_are_spelled()
     ensures { (d : Description Target) → ∥ IsChecked d ∥₁ → (m : MethNo) → (strings : List Words)
@@ -242,7 +242,7 @@ pub fn checked_methods_have_their_code()
 {}
 
 /// The unit of code is valid in a method where its blocks find their operands and leave none, or
-/// one for a test, the operands of their instructions are in their ranges, and these may stand
+/// one for a test, the operands of their instructions are in their ranges, and these may be
 /// there: the variables, arrays, slots and strings that they name exist.
 pub fn flowing_code_is_valid()
     ensures { (context : Context) (c : Code) → context.sort ≡ Method

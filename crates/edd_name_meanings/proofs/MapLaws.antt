@@ -25,7 +25,7 @@ use Rattle.edd_name_meanings.specs.Numbering.{at, if_named}
 use Rattle.edd_name_rules.proofs.Counting.{one_item, items_split}
 use Rattle.edd_name_rules.proofs.Repeating.{map_append}
 
--- ---- a value that is put at a name unless one stands there
+-- ---- a value that is put at a name unless there is one
 
 kept : {X : Type 0} (o : Option X) (b : Bool) (v : X) → (b ≡ true → is_some o ≡ true)
     → o ≡ option_or o (if b then Some v else None)

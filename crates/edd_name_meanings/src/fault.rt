@@ -12,9 +12,9 @@ use thiserror::Error;
 ///
 /// TooMany: more than 4,096 items of a kind or transactions of a command, 64 locals of a method, or
 /// 524,288 nodes. DuplicateName: an item, a member of a collection or a local of a block with the
-/// name of an earlier one. DuplicateAttribute: an attribute that stands there already.
+/// name of an earlier one. DuplicateAttribute: an attribute that is there already.
 /// MissingAttribute: an item without an attribute that its kind needs. UnknownName: a name that
-/// nothing has. WrongKind: a thing of a kind that may not stand there.
+/// nothing has. WrongKind: an item of a kind that may not be there.
 ///
 /// It prints the rule's number and word, and the name or word at fault.
 #[derive(Debug, Drop, Error)]

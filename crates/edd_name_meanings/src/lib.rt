@@ -1,4 +1,4 @@
-//! What names mean, at a place where items of some kinds may stand.
+//! What names mean, at a place where items of some kinds may be.
 #![tactic(auto)]
 
 pub mod directory;

@@ -77,7 +77,7 @@ impl Counts {
     }
 }
 
-/// Puts a value at a name, unless one stands there already.
+/// Puts a value at a name, unless one is there already.
 pub fn put_first<'a, V: Copy>(
     map: &mut IndexMap<&'a str, V>,
     name: &'a str,

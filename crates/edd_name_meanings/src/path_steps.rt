@@ -31,7 +31,7 @@ pub fn unknown_name(alloc: Global, name: &str) -> NameFault
     }
 }
 
-/// That a thing of this name may not stand there, with a copy of the name.
+/// That an item of this name may not be there, with a copy of the name.
 #[tactic(auto, unfolding(crate::specs::Faults::IsFound))]
 pub fn wrong_kind(alloc: Global, name: &str) -> NameFault
     ensures { IsFound result (Some (WrongKind name.now)) }

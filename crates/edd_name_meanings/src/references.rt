@@ -70,7 +70,7 @@ fn refer_item(names: &Names, kinds: &[Kind], path: &Path) -> Result<Target, Name
     }
 }
 
-/// What a reference means at a place where items of some kinds may stand.
+/// What a reference means at a place where items of some kinds may be.
 #[tactic(auto, unfolding(crate::specs::Meanings::Means, crate::specs::Meanings::NoFault, crate::specs::Meanings::FirstFault, crate::specs::Meanings::faults_in))]
 pub fn refer(
     names: &Names,

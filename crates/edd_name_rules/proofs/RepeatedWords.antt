@@ -1,4 +1,4 @@
--- Words that stand twice, one attribute and one option after another.
+-- Words that are there twice, one attribute and one option after another.
 use Rattle.std.proofs.Common.{◌≡◌, refl, sym, ap, List, [], ◌∷◌, ◌++◌}
 use Rattle.std.specs.Prelude.{Bool, true, false, if◌then◌else◌}
 use Rattle.std.specs.List.{flat_map}

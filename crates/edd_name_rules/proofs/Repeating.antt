@@ -1,4 +1,4 @@
--- Names that stand twice, one after another.
+-- Names that are there twice, one after another.
 use Rattle.std.proofs.Common.{◌≡◌, refl, sym, ap, ◌∙◌, ℕ, ◌+◌, ◌<◌, List, [], ◌∷◌, ◌++◌, length, get_or, take, drop, map, Option, Some, add-one}
 use Rattle.std.specs.Prelude.{Bool, true, false, ◌||◌, reverse, if◌then◌else◌}
 use Rattle.std.specs.List.{list_any}

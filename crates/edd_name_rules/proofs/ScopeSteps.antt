@@ -1,4 +1,4 @@
--- The names that stand twice in a list: those of its first element, and those of the others.
+-- The names that are there twice in a list: those of its first element, and those of the others.
 use Rattle.std.proofs.Common.{◌≡◌, refl, sym, List, [], ◌∷◌, ◌++◌, append_assoc}
 use Rattle.edd_syntax.specs.Text.{Name}
 use Rattle.edd_syntax.specs.Reference.{Path}

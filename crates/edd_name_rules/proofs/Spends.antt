@@ -142,6 +142,6 @@ spent_switch f x on v items budget left rest r is same first second last =
     ∙ spent_then left rest _ _ second ∙ spent_then budget left 1 _ first
     ∙ ap (λ y. spent budget (statement_nodes y)) (sym (switch_is f x on v is))
 
--- the things are too many exactly if the limit is not enough for them
+-- they are too many exactly if the limit is not enough for them
 pub over_limit : (r : Option ℕ) (limit n : ℕ) → r ≡ spent limit n → is_none r ≡ nat_lt limit n
 over_limit r limit n h = rw h (grind (arith, nat_tests))

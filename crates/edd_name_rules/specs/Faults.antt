@@ -25,6 +25,6 @@ IsFound f found = Agrees (refusal_of f) found
 abbrev pub IsFirst : RuleFault → List Refusal → Type 0
 IsFirst f all = IsFound f (first_of all)
 
--- the fault is that the first of these names stands twice
+-- the fault is that the first of these names is there twice
 abbrev pub IsDuplicate : RuleFault → List Name → Type 0
 IsDuplicate f names = IsFound f (option_map DuplicateName (first_of names))

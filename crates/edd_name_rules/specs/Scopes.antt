@@ -7,7 +7,7 @@ use Rattle.edd_syntax.specs.Item.{Attribute, Members, Definition, Item}
 use Rattle.edd_syntax.specs.NameRules.{names_declared, repeated_inside, repeated_locals, repeated_in_attributes}
 use Rattle.edd_syntax.specs.Refusal.{repeated}
 
--- the names that stand twice in a part of a block with the locals b
+-- the names that are there twice in a part of a block with the locals b
 abbrev pub part_repeats : (b : List Name) → Part Path → List Name
 part_repeats b (Declare declarators) = repeated b (names_declared declarators)
 part_repeats b (Statement s) = repeated_inside s

@@ -1,4 +1,4 @@
--- A number of things that may be spent.
+-- How many nodes, transactions or locals are left to spend.
 use Rattle.std.specs.Prelude.{ℕ, ◌-◌, nat_le, if◌then◌else◌, List, [], Option, Some, None}
 use Rattle.edd_syntax.specs.Item.{CommandItem, MethodItem, Attribute}
 use Rattle.edd_syntax.specs.NameRules.{transaction_count, locals_of}

@@ -41,7 +41,7 @@ pub fn word_of(attribute: &Attribute<Path>) -> &'static str
     }
 }
 
-/// Whether an attribute of this word stands there.
+/// Whether an attribute of this word is there.
 pub fn has_word(attributes: &[Attribute<Path>], word: &str) -> bool
     ensures { result ≡ is_name_in (map attribute_word (map (attribute_of path_of) attributes.now))
         word.now }

@@ -15,7 +15,7 @@ use edd_syntax::reference::Path;
 use edd_syntax::text::Text;
 use edd_syntax::types::Handling;
 
-/// A value that may stand under a condition.
+/// A value that may be under a condition.
 pub trait Weighed {
     /// The nodes below the value's own.
     ghost below: { Self → ℕ };

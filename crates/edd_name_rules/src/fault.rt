@@ -9,7 +9,7 @@ use std::alloc::{AllocError, AllocFailed};
 ///
 /// TooMany: more than 4,096 items of a kind or transactions of a command, 64 locals of a method, or
 /// 524,288 nodes. DuplicateName: an item, a member of a collection or a local of a block with the
-/// name of an earlier one. DuplicateAttribute: an attribute that stands there already.
+/// name of an earlier one. DuplicateAttribute: an attribute that is there already.
 /// MissingAttribute: an item without an attribute that its kind needs.
 #[derive(Drop)]
 pub enum RuleFault {

@@ -1,5 +1,5 @@
 //! What the items of a description must keep before their names are looked up: there are not too
-//! many of anything, no name and no attribute stands twice, and no attribute is missing.
+//! many of anything, no name and no attribute is there twice, and no attribute is missing.
 #![tactic(auto)]
 
 mod attributes;

@@ -1,4 +1,4 @@
-//! Parts of a transaction and of a type's braces that stand twice.
+//! Parts of a transaction and of a type's braces that are there twice.
 
 ghost use Rattle.std.specs.Prelude.{◌≡◌, [], ◌∷◌, map, option_map};
 ghost use Rattle.std.specs.List.{cons_option, flat_map};
@@ -34,7 +34,7 @@ fn has_part(parts: &[TransactionPart<Path>], word: &str) -> bool
     false
 }
 
-/// The first word that stands twice in the braces of a transaction. It looks back at most three
+/// The first word that is there twice in the braces of a transaction. It looks back at most three
 /// times, since there are two words.
 pub fn repeated_part(parts: &[TransactionPart<Path>]) -> Option<&'static str>
     ensures { option_map (λ w. w.now) result
@@ -86,7 +86,7 @@ fn has_option(parts: &[TypePart<Path>], word: &str) -> bool
     false
 }
 
-// The word of an option that stands there already.
+// The word of an option that is there already.
 fn repeated_word_at(part: &TypePart<Path>, before: &[TypePart<Path>]) -> Option<&'static str>
     ensures { option_map (λ w. w.now) result
         ≡ first_of (repeated (flat_map type_part_words (map (type_part_of path_of) before.now))
@@ -98,8 +98,8 @@ fn repeated_word_at(part: &TypePart<Path>, before: &[TypePart<Path>]) -> Option<
     }
 }
 
-/// The first word of an option that stands twice in the braces of a type. It looks back for options
-/// alone, of which there are five.
+/// The first word of an option that is there twice in the braces of a type. It looks back only for
+/// options, of which there are five.
 pub fn repeated_option(parts: &[TypePart<Path>]) -> Option<&'static str>
     ensures { option_map (λ w. w.now) result
         ≡ first_of (repeated [] (flat_map type_part_words (map (type_part_of path_of) parts.now))) }
@@ -112,7 +112,7 @@ pub fn repeated_option(parts: &[TypePart<Path>]) -> Option<&'static str>
     None
 }
 
-// The first word inside the braces of an attribute that stands there twice.
+// The first word inside the braces of an attribute that is there twice.
 fn repeated_inside(attribute: &Attribute<Path>) -> Option<&'static str>
     ensures { option_map (λ w. w.now) result
         ≡ first_of (repeated_words_inside (attribute_of path_of attribute.now)) }
@@ -130,7 +130,7 @@ fn is_transaction(attribute: &Attribute<Path>) -> bool
     matches!(attribute, Attribute::Transaction { .. })
 }
 
-// The word of an attribute that stands there already, unless it is a transaction, or the first such
+// The word of an attribute that is there already, unless it is a transaction, or the first such
 // word inside it.
 #[tactic(auto, using(edd_syntax::proofs::FirstLaws::firsts))]
 fn repeated_at(attribute: &Attribute<Path>, before: &[Attribute<Path>]) -> Option<&'static str>
@@ -147,8 +147,8 @@ fn repeated_at(attribute: &Attribute<Path>, before: &[Attribute<Path>]) -> Optio
     repeated_inside(attribute)
 }
 
-/// The first word of an attribute that stands twice among these attributes or in the braces of one
-/// of them. It looks back for attributes other than transactions alone, of which there are
+/// The first word of an attribute that is there twice among these attributes or in the braces of
+/// one of them. It looks back only for attributes other than transactions, of which there are
 /// thirteen.
 pub fn repeated_attribute(attributes: &[Attribute<Path>]) -> Option<&'static str>
     ensures { option_map (λ w. w.now) result
@@ -169,7 +169,7 @@ fn repeated_in_item(item: &Item<Path>) -> Option<&'static str>
     repeated_attribute(item.attributes())
 }
 
-/// The first word of an attribute that stands twice in an item, a transaction or a type's braces.
+/// The first word of an attribute that is there twice in an item, a transaction or a type's braces.
 pub fn repeated_in_items(items: &[Item<Path>]) -> Option<&'static str>
     ensures { option_map (λ w. w.now) result
         ≡ first_of (flat_map (λ i. repeated_words [] i.attributes)

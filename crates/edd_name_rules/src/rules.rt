@@ -40,7 +40,7 @@ pub fn check_counts(items: &[Item<Path>]) -> Result<(), RuleFault>
     Ok(())
 }
 
-/// No name stands twice.
+/// No name is there twice.
 #[tactic(auto, using(crate::proofs::RuleLaws::rules_in_order), unfolding(crate::specs::Faults::IsFound))]
 pub fn check_duplicates(items: &[Item<Path>], alloc: Global) -> Result<(), RuleFault>
     ensures sound { OnOk result
@@ -51,7 +51,7 @@ pub fn check_duplicates(items: &[Item<Path>], alloc: Global) -> Result<(), RuleF
     check_names(items, alloc)
 }
 
-/// No attribute stands twice.
+/// No attribute is there twice.
 #[tactic(auto, using(crate::proofs::RuleLaws::rules_in_order), unfolding(crate::specs::Faults::IsFound))]
 pub fn check_repeats(items: &[Item<Path>]) -> Result<(), RuleFault>
     ensures sound { OnOk result

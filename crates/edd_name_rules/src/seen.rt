@@ -19,7 +19,7 @@ use std::alloc::Global;
 /// Names of one scope, which must differ.
 pub type Seen<'a> = IndexMap<&'a str, ()>;
 
-/// That a name stands twice, with a copy of it.
+/// That a name is there twice, with a copy of it.
 #[tactic(auto, unfolding(crate::specs::Faults::IsFound))]
 pub fn duplicate(alloc: Global, name: &str) -> RuleFault
     ensures { IsDuplicate result (name.now ∷ []) }
@@ -30,7 +30,7 @@ pub fn duplicate(alloc: Global, name: &str) -> RuleFault
     }
 }
 
-/// One more name of a scope, which must not stand there yet.
+/// One more name of a scope, which must not be there yet.
 #[tactic(auto, unfolding(crate::specs::Faults::IsFound))]
 pub fn note<'a>(seen: &mut Seen<'a>, name: &'a str, alloc: Global) -> Result<(), RuleFault>
     ensures sound { OnOk result ((before : List Name) → HasSeen before seen.old

@@ -58,7 +58,7 @@ fn spend_slots_of_part(part: &Part<Path>, left: u32) -> Option<u32>
     }
 }
 
-/// What is left after a number of things, if they are enough.
+/// What is left after so many, if there is enough.
 pub fn spend_count(count: usize, budget: u32) -> Option<u32>
     ensures { result ≡ spent budget count }
 {

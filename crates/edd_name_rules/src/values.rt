@@ -1,4 +1,4 @@
-//! The nodes of conditionals by what stands under their conditions.
+//! The nodes of conditionals, by the kind of value under their conditions.
 
 ghost use Rattle.std.specs.Prelude.{◌≡◌, map};
 ghost use Rattle.edd_syntax.specs.ItemView.{cond_of, conds_of, enumerator_of, entry_of, data_item_of};

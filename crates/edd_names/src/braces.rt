@@ -1,4 +1,4 @@
-//! What stands in the braces of types, transactions, collections and arrays, with the meaning of
+//! What is in the braces of types, transactions, collections and arrays, with the meaning of
 //! its names.
 
 ghost use Rattle.std.specs.Prelude.{◌≡◌, [], ◌∷◌, map};

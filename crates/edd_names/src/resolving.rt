@@ -42,8 +42,8 @@ fn resolve_uses(alloc: Global, names: &Names) -> Result<Resolved, NameFault>
 
 /// The unit with the meaning of each name in its place: the number of an item, the slot of a local,
 /// or the function of a call. An error other than refused memory is the first broken rule on counts
-/// (40), names that stand twice (20), attributes that stand twice (23), missing attributes (24),
-/// and on unknown names (21) and things of a wrong kind (22) in the order of the source.
+/// (40), names that are there twice (20), attributes that are there twice (23), missing attributes
+/// (24), and on unknown names (21) and items of a wrong kind (22) in the order of the source.
 pub fn resolve(alloc: Global, unit: &Unit) -> Result<Resolved, NameFault>
     ensures sound { IfOk result (λ r. resolved_unit (unit_view unit.now)
         ≡ Some (description (identification_of r.identification)

@@ -14,7 +14,7 @@ pub struct Place<'a> {
     pub column: usize,
     /// Nothing of a line that is long or no text.
     pub text: &'a str,
-    /// How many bytes of the line stand before the column.
+    /// How many bytes of the line are before the column.
     pub before: usize,
 }
 

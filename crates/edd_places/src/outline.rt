@@ -1,4 +1,4 @@
-//! Where the items of a text are declared, and which braces stand open.
+//! Where the items of a text are declared, and which braces are open.
 
 use crate::words::{is_sign, is_word, item_kind};
 use edd_lexer::token::{Token, TokenKind};
@@ -21,7 +21,7 @@ pub struct Outline {
     pub items: Vec<Declared>,
 }
 
-// The number of the first name from a token on, if one stands before the next brace.
+// The number of the first name from a token on, if there is one before the next brace.
 fn name_from(tokens: &[Token], number: usize) -> Option<usize> {
     for (index, token) in tokens.iter().enumerate().skip(number).take(4) {
         match token.kind {
@@ -75,7 +75,7 @@ impl Outline {
         self.opened.get(last).copied().unwrap_or(None)
     }
 
-    /// The kind of the item right inside whose braces a token stands.
+    /// The kind of the item in whose braces a token is, and in no inner ones.
     pub fn kind_around(&self, tokens: &[Token], number: usize) -> Option<Kind> {
         let brace = self.opened(tokens, number)?;
         if self.opened(tokens, brace).is_some() {
@@ -92,7 +92,7 @@ impl Outline {
     }
 }
 
-/// Whether a name declares something where it stands: an item, a member of a collection or a local.
+/// Whether a name declares something where it is: an item, a member of a collection or a local.
 pub fn declares(tokens: &[Token], outline: &Outline, number: usize) -> bool {
     let Some(before) = number.checked_sub(1) else {
         return false;

@@ -11,7 +11,7 @@ pub struct Span {
     pub end: usize,
 }
 
-/// What stands from a byte up to another one, where it is text.
+/// The bytes at a place, where they are text.
 pub fn text_in(text: &[u8], place: Span) -> &str {
     if place.end < place.start || text.len() < place.end {
         return "";

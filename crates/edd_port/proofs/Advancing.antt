@@ -10,8 +10,8 @@ use Rattle.edd_machine.specs.Running.{state_of, IsMachine, StepsTo}
 use Rattle.edd_port.specs.Turns.{turn_of, ending_of}
 use Rattle.edd_port.proofs.Outcomes.{halted, without_steps, at_rest, steps_on}
 
--- The machine that is now there, with so many instructions left, comes to what the first one comes
--- to within the budget.
+-- The machine that is now there, with so many instructions left, results in what the first one
+-- results in within the budget.
 pub record Advances (b : List ℕ) (budget left : ℕ) (first now : Machine) : Type 0 where
   pub fewer : left ≤ budget
   pub first_left : left ≡ budget → now.status ≡ first.status

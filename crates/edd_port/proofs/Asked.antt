@@ -46,7 +46,7 @@ either true x y h k = h
 either false x y h k = k
 
 module _ (s : State) (runs : s.status ≡ status.Running) where
-  -- nothing stands in a state that runs
+  -- no request is pending in a state that runs
   none : [] ≡ standing s.status
   none = ap standing (sym runs)
 
@@ -126,7 +126,7 @@ none_standing status.Ended never = refl
 none_standing status.Aborted never = refl
 none_standing (status.Trapped why) never = refl
 
--- no request stands where what follows leads that didn't stand before
+-- no request is pending where what follows leads that was not pending before
 pub follows_standing : (start_of : MethNo → Option Start) (s : State)
     → standing (next start_of s).status ≡ standing s.status
 follows_standing start_of s = by_status s.status refl
@@ -162,7 +162,7 @@ emits_what_stands c s runs e is = subst (λ (o : Option Effect). Emits o) is
 
 -- ---- a run without answers
 
--- the request that stands and those that are made come to the one that stands at the end
+-- the request pending at the start and those that are made are the one pending at the end
 abbrev Leaves : State → Outcome → Type 0
 Leaves s o = standing s.status ++ o.requests ≡ standing o.state.status
 

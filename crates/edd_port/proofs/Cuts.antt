@@ -128,7 +128,7 @@ module _ (c : Contents) where
 
 -- ---- an answer
 
--- a request that stands is met by an answer that can be taken
+-- a pending request is met by an answer that can be taken
 pub met : (c : Contents) (k : ℕ) (s : State) (r : Request) (answer : Answer) (rest : List Answer)
     → s.status ≡ status.Asking r → answer_fault (environment_of c).types answer ≡ None
     → execute_in c k s (answer ∷ rest) ≡ preceded [] (answered_in c s answer).changes

@@ -57,7 +57,7 @@ turns first steps left fewer now next before book new is (inr (still, (pair, tak
           (append_assoc before.pairs is.pairs (pair ∷ []));
     }
 
--- ---- turns come to an end
+-- ---- turns end
 
 few_stand : (st : Status) → length (standing st) ≤ 1
 few_stand status.Running = omega arith

@@ -23,9 +23,9 @@ answers_of pairs = map (λ p. p.answer) pairs
 abbrev pub requests_of : List Pair → List Request
 requests_of pairs = map (λ p. p.request) pairs
 
--- From the first run, with so many instructions left of these steps, the session came to where it
--- is now, and these pairs were accepted on the way: under their answers and any that follow, the
--- execution comes to what comes of where it is now.
+-- From the first run, with so many instructions left of these steps, the session got to where it is
+-- now, and these pairs were accepted on the way: under their answers and any that follow, the
+-- execution results in what results from where it is now.
 pub record Driving (first : Run) (steps left : ℕ) (now : Run) (pairs : List Pair) : Type 0 where
   pub done : Outcome
   pub image : now.image ≡ first.image
@@ -79,7 +79,7 @@ cut_here b left fewer now next to image answers =
     ∙ ap (λ (n : ℕ). followed o (execute_in c n o.state answers)) rest
     ∙ ap (λ (s : State). followed o (execute_in c fewer s answers)) there
 
--- and the requests that stood then and were made come to the one that stands
+-- and the request pending before and those made on the way are the one pending now
 pub stands_here : (b : List ℕ) (left fewer : ℕ) (now next : Run) (to : Executes left now fewer next)
     → now.image ≡ b
     → standing now.state.status ++ (execute_in (contents_in b) to.budget now.state []).requests
@@ -126,7 +126,7 @@ none_asked : (s : State) (answer : Answer) → standing (answered s answer).stat
 none_asked s (Go code sets) = refl
 none_asked s Abort = refl
 
--- after an answer and what follows it no request stands
+-- after an answer and what follows it no request is pending
 pub none_stands : (c : Contents) (s : State) (answer : Answer)
     → standing (answered_in c s answer).state.status ≡ []
 none_stands c s answer = follows_standing (start_in c) (answered s answer).state
@@ -174,7 +174,7 @@ given first steps left now next pairs pair is takes =
 
 -- ---- the end
 
--- the execution under the answers of the pairs comes to where the session is
+-- the execution under the answers of the pairs gets to where the session is
 pub record Driven (first : Run) (steps : ℕ) (pairs : List Pair) (now : Run) : Type 0 where
   pub image : now.image ≡ first.image
   pub state : now.state ≡ (driven first steps pairs).state

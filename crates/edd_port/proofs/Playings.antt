@@ -70,9 +70,8 @@ bad_ends c n s q answer rest fault asks bad =
 
 -- ---- turns
 
--- With so many instructions left of these steps the session came to where it is now, so many
--- answers were taken on the way, and these requests were made, after which the one that stands now
--- is the last.
+-- With so many instructions left of these steps the session got to where it is now, so many answers
+-- were taken on the way, and these requests were made, after which the one pending now is the last.
 pub record Playing (first : Run) (steps left : ℕ) (now : Run) (all : List Answer) (next : ℕ)
     (requests : List Request) : Type 0 where
   pub done : Outcome

@@ -38,7 +38,7 @@ abbrev pub driven : Run → (steps : ℕ) → List Pair → Outcome
 driven r steps pairs =
     execute_in (contents_in r.image) steps r.state (map (λ p. p.answer) pairs)
 
--- the request that stands, if one does
+-- the pending request, if there is one
 abbrev pub standing : Status → List Request
 standing status.Running = []
 standing (status.Asking r) = r ∷ []
@@ -46,8 +46,8 @@ standing status.Ended = []
 standing status.Aborted = []
 standing (status.Trapped why) = []
 
--- These requests were met: the one that stood at the start and those that were made are these, and
--- after them the one that still stands at the end.
+-- These requests were met: the one pending at the start and those that were made are these, and
+-- after them the one still pending at the end.
 abbrev pub AreMet : State → Outcome → List Request → Type 0
 AreMet s o met = standing s.status ++ o.requests ≡ met ++ standing o.state.status
 
@@ -63,8 +63,7 @@ EndsAs Waiting ending = ending ≡ execution.Waiting
 EndsAs (Refused fault) ending = ending ≡ execution.Waiting
 EndsAs HostFailed ending = ending ≡ execution.Waiting
 
--- what the session shows after a drive: the turn with which it is done, else a request, which
--- stands
+-- what the session shows after a drive: the turn with which it is done, else the pending request
 abbrev pub Shows : Drive → Turn → Type 0
 Shows (Done t) shown = shown ≡ t
 Shows Waiting shown = (r : Request) × (shown ≡ turn.Asks r)
@@ -84,7 +83,7 @@ failed_after Waiting n = n
 failed_after (Refused fault) n = n
 failed_after HostFailed n = counted (n + 1)
 
--- where an answer was refused, it is that of the last pair, which is of the request that stands,
+-- where an answer was refused, it is that of the last pair, which is of the pending request,
 -- and this is its fault
 abbrev pub RefusesLast : List VariableType → Drive → State → List Pair → Type 0
 RefusesLast types (Done t) s pairs = ⊤
@@ -106,7 +105,7 @@ pub record Executes (left : ℕ) (before : Run) (fewer : ℕ) (after : Run) : Ty
   pub counts : (advanced before budget).steps + fewer ≡ left
   pub some : fewer < left
 
--- the answer of this pair is taken for the request that stands
+-- the answer of this pair is taken for the pending request
 pub record Takes (before : Run) (pair : Pair) (after : Run) : Type 0 where
   pub asks : before.state.status ≡ status.Asking pair.request
   pub valid : answer_fault (environment before.image).types pair.answer ≡ None

@@ -7,7 +7,7 @@ use Rattle.edd_syntax.specs.DeviceValues.{VariableType}
 use Rattle.edd_image.specs.declared.records.Status.{Status}
 use Rattle.edd_image.specs.declared.records.Status.TheVariants as status
 
--- no request stands, or a set can't be made
+-- no request is pending, or a set can't be made
 pub data Refusal : Type 0 where
   NotAsking : Refusal
   BadSet : SetFault → Refusal

@@ -13,7 +13,7 @@ turn_of status.Ended = Ended
 turn_of status.Aborted = Aborted
 turn_of (status.Trapped why) = Trapped why
 
--- the ending that a turn shows: a request that stands waits for its answer
+-- the ending that a turn shows: a pending request waits for its answer
 abbrev pub ending_of : Turn → execution.Ending
 ending_of (Asks r) = execution.Waiting
 ending_of Ended = execution.Ended

@@ -13,7 +13,7 @@ use crate::session::Session;
 use crate::turn::{Drive, Turn};
 use edd_image::Request;
 
-// Puts the request that stands to the host, and goes on if it gives a good answer.
+// Puts the pending request to the host, and goes on if it gives a good answer.
 fn put<H: Host>(session: &mut Session<'_, '_>, host: &mut H, request: Request) -> Option<Drive>
     requires { session.old.state.status ≡ Asking request }
     ensures taken { IfNone result ((pair : Pair) × Takes session.old pair session.new
@@ -54,7 +54,7 @@ pub fn execute_some(session: &mut Session<'_, '_>, left: u64) -> u64
     left - u64::from(count)
 }
 
-// One turn: the request that stands is put to the host, or instructions are executed, or the drive
+// One turn: the pending request is put to the host, or instructions are executed, or the drive
 // ends.
 fn go_on<H: Host>(session: &mut Session<'_, '_>, host: &mut H, left: u64) -> Result<u64, Drive>
     ensures on { IfOk result (λ fewer. GoesOn left session.old (H.book host.old) fewer session.new
@@ -80,7 +80,7 @@ fn go_on<H: Host>(session: &mut Session<'_, '_>, host: &mut H, left: u64) -> Res
 }
 
 /// Runs the method for at most so many instructions, and puts each request to the host at once,
-/// first the one that stands.
+/// first the pending one.
 ///
 /// `Done(Spent)` comes where they were executed and the method goes on. After `Refused` no set of
 /// the host's last answer was made. It takes no memory.

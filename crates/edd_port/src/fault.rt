@@ -25,7 +25,7 @@ pub enum StartFault {
 /// Why an answer is not taken. Each fault prints its number and its kind.
 #[derive(Clone, Copy, Debug, PartialEq, Eq, Error)]
 pub enum AnswerFault {
-    /// No request stands.
+    /// No request is pending.
     #[error("205 NOT_ASKING")]
     NotAsking,
     /// A set names no variable.
@@ -91,7 +91,7 @@ pub fn fault_of_start(fault: StartFault) -> PlayFault
     }
 }
 
-/// The fault of a play with an answer that is refused where a request stands.
+/// The fault of a play with an answer that is refused where a request is pending.
 pub fn fault_of_refused(fault: AnswerFault) -> PlayFault
     requires { fault ≢ answer_fault.NotAsking }
     ensures { play_refusal result ≡ Some (answer_fault_of fault) }

@@ -14,7 +14,7 @@ pub enum Reply {
     Give,
     /// No answer yet.
     Nothing,
-    /// It failed, for one thing for lack of memory.
+    /// It failed, for example because it was out of memory.
     Failed,
 }
 

@@ -12,7 +12,7 @@ ghost use Rattle.edd_image.specs.Steps.{State};
 ghost use Rattle.edd_port.specs.Runs.{followed};
 
 /// Every cutting of a run into budgets gives the same run, and an answer may be handed in wherever
-/// a request stands.
+/// a request is pending.
 pub fn sessions_may_be_cut()
     ensures cut { (c : Contents) (j k : ℕ) (s : State) → (execute_in c j s []).ending ≢ Stuck
         → execute_in c (j + k) s []

@@ -117,11 +117,11 @@ impl<'i, 'b> Session<'i, 'b> {
         self.turn()
     }
 
-    /// Goes on after the request that stands: the variables are set, and the code is the request's
+    /// Goes on after the pending request: the variables are set, and the code is the request's
     /// value. An abort goes on with the abort methods, or ends the method.
     ///
-    /// The fault is `NotAsking` where no request stands, else that of the first set that can't be
-    /// made; then the session is as it was. It takes no memory.
+    /// The fault is `NotAsking` where no request is pending, else that of the first set that can't
+    /// be made; then the session is as it was. It takes no memory.
     pub fn answer(&mut self, answer: &Answer) -> Result<(), AnswerFault>
         ensures image { self.new.image ≡ self.old.image }
         ensures taken { self.new.taken ≡ self.old.taken }

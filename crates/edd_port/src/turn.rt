@@ -10,7 +10,7 @@ use edd_syntax::answer::Trap;
 /// Where a session is: it asks, it is over, or it would go on.
 #[derive(Clone, Copy, Debug, PartialEq, Eq)]
 pub enum Turn {
-    /// The request stands, and waits for its answer.
+    /// The request is pending, and waits for its answer.
     Asks(Request),
     Ended,
     Aborted,
@@ -24,11 +24,11 @@ pub enum Turn {
 pub enum Drive {
     /// The method is over, or as many instructions were executed as may be.
     Done(Turn),
-    /// The host had nothing for the request that stands.
+    /// The host had nothing for the pending request.
     Waiting,
-    /// The host's last answer was not taken, and the request still stands.
+    /// The host's last answer was not taken, and the request is still pending.
     Refused(AnswerFault),
-    /// The host failed, and the request still stands.
+    /// The host failed, and the request is still pending.
     HostFailed,
 }
 

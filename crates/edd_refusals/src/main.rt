@@ -13,7 +13,7 @@ const TITLE: &str = "# What each refusal means
 `./edd explain NUMBER` prints a section of this page.
 ";
 
-/// What stands on the page before the section of a number.
+/// What is on the page before the section of a number.
 const PARTS: [(u32, &str); 5] = [
     (1, "## A text that has no tokens\n"),
     (10, "## A text that the grammar has no tree for\n"),

@@ -292,7 +292,7 @@ pub fn nearest_word(alloc: Global, word: &str) -> Result<Option<&'static str>, A
     Ok(nearest.found)
 }
 
-/// What stands here for a word of another language; nothing stands for some.
+/// What EDDL has for a word of another language; for some it is nothing.
 pub fn word_for(word: &str) -> Option<&'static str> {
     match word {
         "and" | "AND" => Some("&&"),

@@ -13,7 +13,7 @@ use edd_places::words::Span;
 use edd_token_reader::fault::ParseFault;
 use std::alloc::{AllocError, Global};
 
-/// What stands before an item that is read by itself.
+/// What is put before an item that is read by itself.
 const HEAD: &str = "MANUFACTURER 1, DEVICE_TYPE 2, DEVICE_REVISION 3, DD_REVISION 4\n";
 
 /// The line of an item's first byte after that.

@@ -1,6 +1,6 @@
 //! At which token of a line a text is refused.
 //!
-//! A refusal says its line. In a second text each token of that line stands on a line of its own,
+//! A refusal says its line. In a second text each token of that line is on a line of its own,
 //! so that its refusal says the token. Nothing else is changed, so it is refused for the same.
 
 use crate::grammar::{Grammar, TextFault};
@@ -35,7 +35,7 @@ pub fn tokens_on(tokens: &[Token], line: u32) -> LineTokens {
     }
 }
 
-/// An edit of a token: what stands before it, and what stands in its place.
+/// An edit of a token: what is put before it, and what in its place.
 #[derive(Clone, Copy)]
 pub struct Edit<'a> {
     pub token: usize,
@@ -72,7 +72,7 @@ fn push_token(
     spread.extend_from_slice(b"\n")
 }
 
-/// The text in which each token of a line stands on a line of its own. A token of the line may be
+/// The text in which each token of a line is on a line of its own. A token of the line may be
 /// edited.
 pub fn spread(
     alloc: Global,

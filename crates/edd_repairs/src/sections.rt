@@ -20,7 +20,7 @@ pub struct Section {
     pub is_open: bool,
 }
 
-/// What stands before a piece.
+/// What is before a piece.
 #[derive(Clone, Copy, PartialEq, Eq)]
 enum Before {
     CloseBrace,

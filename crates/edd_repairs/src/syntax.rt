@@ -34,7 +34,7 @@ fn end_of(tokens: &[Token]) -> Option<Span> {
     Some(Span { start: end, end })
 }
 
-// Says which braces stand open, where that is of interest.
+// Says which braces are open, where that is of interest.
 fn help_open(
     alloc: Global,
     tokens: &[Token],
@@ -56,7 +56,7 @@ fn attribute_of(word: &str) -> Option<Attr> {
     ATTRIBUTES.iter().copied().find(|attr| attr.word() == word)
 }
 
-// Whether the word is that of an attribute that stands in the braces of TYPE.
+// Whether the word is that of an attribute in the braces of TYPE.
 fn is_option(attr: Attr) -> bool {
     matches!(
         attr,
@@ -81,7 +81,7 @@ fn push_kinds(line: &mut String, attr: Attr) -> Result<(), AllocError> {
     Ok(())
 }
 
-// Says of an attribute that it does not stand in this item, where that is so.
+// Says of an attribute that it does not belong in this item, where that is so.
 fn help_attribute(
     alloc: Global,
     kind: Kind,
@@ -148,7 +148,7 @@ fn help_change(
 const IDENTIFICATION: &str =
     "a description begins with MANUFACTURER .., DEVICE_TYPE .., DEVICE_REVISION .., DD_REVISION ..";
 
-// What is wrong about a token that does not fit, where what stands around it says so.
+// What is wrong about a token that does not fit, where what is around it says so.
 fn told_by_neighbours(at: Misfit<'_>, token: &Token) -> Option<&'static str> {
     let before = at.before()?;
     let is_word = matches!(token.kind, TokenKind::Name | TokenKind::Keyword(_));
@@ -305,7 +305,7 @@ fn places_of<'a>(
 
 // The place at which a word is refused that is left out: the first up to whose end the text is. Up
 // to an earlier one it ends too early, and up to a later one it is refused at this one, so the half
-// in which it stands is known from one look.
+// that holds it is known from one look.
 fn place_left_out<G: Grammar>(
     alloc: Global,
     text: &[u8],

@@ -13,11 +13,11 @@ use std::alloc::{AllocError, Global};
 /// What an edit does.
 #[derive(Clone, Copy)]
 pub enum Change<'a> {
-    /// The sign stands before the token, after the one before it.
+    /// The sign is put before the token, right after the one before it.
     Behind(&'static str),
-    /// The sign stands before the token.
+    /// The sign is put before the token.
     Before(&'static str),
-    /// Something that is no sign stands before the token.
+    /// Something that is no sign is put before the token.
     Missing(Missing),
     Instead(&'a str),
     LeaveOut,
@@ -201,7 +201,7 @@ impl<'a> Misfit<'a> {
         Ok(best.change)
     }
 
-    /// Whether a text fits where a name stands that does not.
+    /// Whether a text fits in place of a name that does not.
     pub fn wants_text<G: Grammar>(&self, alloc: Global) -> Result<bool, AllocError> {
         let mut best = Best {
             change: None,

@@ -51,7 +51,7 @@ pub fn print_diagnostic<W: Write>(
     }
 }
 
-/// Prints how many more things are wrong that are not shown.
+/// Prints how many more faults and warnings there are than are shown.
 pub fn print_more<W: Write>(
     alloc: Global,
     source: Source<'_>,

@@ -11,7 +11,7 @@ use std::io::Write;
 /// The most signs below a line.
 const MOST_CARETS: usize = 80;
 
-// As much room as the text takes: a TAB stays, so that the caret stands below its place.
+// As much room as the text takes: a TAB stays, so that the caret is below its place.
 fn push_room(line: &mut String, before: &str) -> Result<(), ReportFault> {
     for character in before.chars() {
         line.push(if character == '\t' { '\t' } else { ' ' })?;

@@ -4,7 +4,7 @@ use crate::rows::Row;
 use edd_tool::{Fault, compile};
 use std::alloc::{AllocError, Global};
 
-/// How many bytes stand on a line.
+/// How many bytes there are on a line.
 const LINE: usize = 32;
 
 /// The bytes of the image of the file `s`, as lines of digits to the base 16; none where that is no

@@ -89,7 +89,7 @@ impl<'a> Row<'a> {
         }
     }
 
-    // A part is its kind and its argument on a line, and what stands below.
+    // A part is its kind and its argument on a line, and the lines below.
     fn take(&mut self, alloc: Global, part: &'a str) -> Result<(), AllocError> {
         let (head, below) = part.split_once('\n').unwrap_or((part, ""));
         let (kind, name) = head.split_once(' ').unwrap_or((head, ""));

@@ -242,7 +242,7 @@ fn word_there<'a>(source: &Source<'a>, breach: &Breach<'_>) -> &'a str {
     }
 }
 
-// A help that depends on what stands there.
+// A help that depends on what is there.
 fn own_help(
     alloc: Global,
     source: &Source<'_>,

@@ -23,7 +23,7 @@ files_of d = record {
   beside = option_map (λ v. v.items) d.new;
 }
 
--- the file is a plain one, and streams stand at all other places
+-- the file is a plain one, and there are streams at all other places
 abbrev pub standing_at : List ℕ → Standing
 standing_at place = if bytes_eq place file_name then Plain (record { device = 1; number = 2 }) else
     Stream

@@ -1,5 +1,5 @@
 //! Writes a file by `edd_system::save` to a disk in memory, of which each call fails in turn, and
-//! prints what stands there then.
+//! prints what is there then.
 #![tactic(auto)]
 
 mod memory;

@@ -83,7 +83,7 @@ impl Disk for MemoryDisk {
         Ok(())
     }
 
-    // Where it fails, a part stands in the new file.
+    // Where it fails, the new file has a part of the bytes.
     fn fill(&mut self, _new: &mut (), bytes: &[u8]) -> io::Result<()> {
         self.new = Some(Vec::from_slice(self.alloc, &bytes[..bytes.len() / 2])?);
         self.pass()?;

@@ -105,7 +105,7 @@ fn each_alternative_is_read(rt: HostRuntime) -> Result<(), Fail> {
     Ok(())
 }
 
-// What stands before a statement and after it.
+// What is before a statement and after it.
 const AROUND: [(&str, &str); 9] = [
     ("", ""),
     ("{ ", " }"),

@@ -167,7 +167,7 @@ module _ (unit : Description Path) (x : code.Stmt code_path.Path)
         (k known)
         ∙ ap (λ t. Some t) (sym (switch_is (λ r. r) (s.Switch on' w) on' w refl))
 
--- ---- what stands inside a statement has fewer nodes than it
+-- ---- what is inside a statement has fewer nodes than it
 
 -- how far a walk may still go down; a list counts for a little more, since it may have one part
 abbrev pub stmt_depth : code.Stmt code_path.Path → ℕ

@@ -81,8 +81,8 @@ fn copy_declarator(
     })
 }
 
-// One more declarator: its value is copied in the scope before it, and its local stands in the
-// scope after it.
+// One more declarator: its value is copied in the scope before it, and its local is in the scope
+// after it.
 #[tactic(auto, using(edd_expression_names::proofs::UseLaws::faults))]
 fn add_declarator<'a>(
     declarator: &'a Declarator<Path>,

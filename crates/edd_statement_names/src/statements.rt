@@ -95,7 +95,7 @@ fn copy_stmt<'a>(
     }
 }
 
-// A part of a statement, in the box that it stands in.
+// A part of a statement, in its box.
 #[cycle(statements)]
 #[tactic(auto, using(edd_expression_names::proofs::UseLaws::faults))]
 fn copy_boxed<'a>(
@@ -117,7 +117,7 @@ fn copy_boxed<'a>(
     made_of!(copy_stmt(s, names, scope, next), copy => Box::new(names.alloc, copy)?)
 }
 
-// A condition, and the statement that stands under it.
+// A condition, and the statement under it.
 #[cycle(statements)]
 #[tactic(auto, using(edd_expression_names::proofs::UseLaws::faults))]
 fn copy_guarded<'a>(
@@ -222,7 +222,7 @@ type Head = (
     Option<Expr<Target>>,
 );
 
-// They stand before the body, so that its faults come after theirs.
+// They are before the body, so that its faults come after theirs.
 #[tactic(auto, using(edd_expression_names::proofs::UseLaws::faults))]
 fn copy_head(
     initial: &Option<Expr<Path>>,
@@ -330,7 +330,7 @@ fn copy_switched<'a>(
     made_of!(copy_body(parts, names, scope, next), parts => (on, parts))
 }
 
-/// What stands between braces, with the meaning of its names. Its locals can be used up to the
+/// What is between braces, with the meaning of its names. Its locals can be used up to the
 /// closing brace.
 #[cycle(statements)]
 #[tactic(auto, using(edd_expression_names::proofs::UseLaws::faults))]

@@ -4,7 +4,7 @@ use Rattle.edd_syntax.specs.Words.{Variants, Words, english, unescape, unescaped
 use Rattle.edd_strings.specs.declared.parts.Opened.{Opened}
 use Rattle.edd_strings.specs.Parts.{pieces_from, variants_from}
 
--- English text stands first: there is some, or no code follows
+-- English text comes first: there is some, or no code follows
 pub words-english_first : (text : List ℕ) (next : Option Opened) → (0 < length text) ⊎ (next ≡ None)
     → variants_of (text ++ (pieces_from next).before) (variants_from next)
     ≡ Variants (record { code = english; text = unescape text })

@@ -1,5 +1,5 @@
--- Escapes of a text that is read in pieces: what stands before a backslash, and the character
--- after it.
+-- Escapes of a text that is read in pieces: what comes before a backslash, and the character after
+-- it.
 use Rattle.std.proofs.Common.{◌≡◌, ◌≢◌, eqb, false, ℕ, suc, ◌<◌, ◌≤◌, List, [], ◌∷◌, ◌++◌, length, get_or, refl, sym, ap, ◌∙◌, arith, inl, inr, append_assoc, append-nil}
 use Rattle.std.proofs.lemmas.Bool.{cases_lt, ne_eqb}
 use Rattle.std.proofs.lemmas.Bool.Decides.{nat_tests}
@@ -82,7 +82,7 @@ after_backslash-char c rest =
       | inl small ↦ ascii_char c rest small
     ]
 
--- a backslash and what stands before it have been read
+-- a backslash and what comes before it have been read
 pub unescape-step : (done before after rest text : List ℕ) → rest ≡ before ++ 92 ∷ after
     → IsPlain before → done ++ unescape rest ≡ text → (done ++ before) ++ after_backslash after
     ≡ text

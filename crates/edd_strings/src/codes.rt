@@ -49,7 +49,7 @@ fn opened_at(raw: &str, at: usize) -> Option<Opened<'_>>
     })
 }
 
-// The length of the code that stands here, where a bar follows it.
+// The length of the code here, where a bar follows it.
 fn code_len(here: &[u8]) -> Option<usize>
     ensures opened { code_opened bar here.now ≡ option_map (λ n. take n here.now) result }
     ensures coded { IfSome result (λ n. IsTrue (is_code (take n here.now))) }

@@ -14,7 +14,7 @@ pub record PlainFiles : Type 0 where
   pub place : List ℕ → List ℕ
   -- the bytes of the plain file at a place
   pub bytes : List ℕ → Option (List ℕ)
-  -- the bytes of the new file, which stands beside a place
+  -- the bytes of the new file, which is beside a place
   pub beside : Option (List ℕ)
 
 -- with a new file of these bytes
@@ -25,11 +25,11 @@ with_beside bytes files = record files { beside = Some bytes }
 abbrev pub without_beside : PlainFiles → PlainFiles
 without_beside files = record files { beside = None }
 
--- no new file stands beside a place
+-- there is no new file beside a place
 abbrev pub HasNoneBeside : Option PlainFiles → Type 0
 HasNoneBeside files = option_map without_beside files ≡ files
 
--- the new file has taken the place, and all others stand where they stood
+-- the new file has taken the place, and all others are where they were
 abbrev pub moved : List ℕ → PlainFiles → PlainFiles
 moved place files = record files {
   bytes = λ other. if bytes_eq other place then files.beside else
@@ -51,7 +51,8 @@ Wrote AsItIs place bytes files after given given_after = (after ≡ Some files)
     × (given_after ≡ option_map (λ before. before ++ bytes) given)
 Wrote Refused place bytes files after given given_after = ⊥
 
--- the bytes were written under the name in the way that is right for what stands where it leads
+-- the bytes were written under the name in the way that is right for what is at the place to which
+-- it leads
 abbrev pub Saved : List Identity → List ℕ → List ℕ → (List ℕ → Standing) → PlainFiles
     → Option PlainFiles → Option (List ℕ) → Option (List ℕ) → Type 0
 Saved opened name bytes standing files after given given_after =

@@ -1,4 +1,4 @@
--- Which way bytes are written, by what stands at their place.
+-- Which way bytes are written, by what is at their place.
 use Rattle.std.specs.Prelude.{List, ⊤}
 use Rattle.std.specs.List.{Contains}
 use Rattle.edd_system.specs.declared.way.Identity.{Identity}
@@ -7,21 +7,21 @@ use Rattle.edd_system.specs.declared.way.Standing.TheVariants.{Free, Plain, Fixe
 use Rattle.edd_system.specs.declared.way.Way.{Way}
 use Rattle.edd_system.specs.declared.way.Way.TheVariants.{Beside, AsItIs, Refused}
 
--- the file that stands there was opened
+-- the file that is there was opened
 abbrev pub IsOpened : Standing → List Identity → Type 0
 IsOpened Free opened = ⊥
 IsOpened (Plain identity) opened = Contains opened identity
 IsOpened (Fixed identity) opened = Contains opened identity
 IsOpened Stream opened = ⊥
 
--- nothing stands there, or a plain file
+-- there is nothing, or a plain file
 abbrev pub IsReplaceable : Standing → Type 0
 IsReplaceable Free = ⊤
 IsReplaceable (Plain _) = ⊤
 IsReplaceable (Fixed _) = ⊥
 IsReplaceable Stream = ⊥
 
--- the way for what stands there: a file that was opened is refused, and of the others plain files
+-- the way for what is there: a file that was opened is refused, and of the others plain files
 -- and new ones are written beside their place, and all else is written as it is
 abbrev pub IsWay : Standing → List Identity → Way → Type 0
 IsWay standing opened Refused = IsOpened standing opened

@@ -16,7 +16,7 @@ pub trait Disk {
     /// Its plain files.
     ghost files: { Self → Option PlainFiles } = { λ _. None };
 
-    /// What stands at each place.
+    /// What is at each place.
     ghost standing: { Self → Option (List ℕ → Standing) } = { λ _. None };
 
     /// What its streams and devices were given.
@@ -27,7 +27,7 @@ pub trait Disk {
         ensures { IfOk result (λ place. IfSome (files self.now) (λ f. string_bytes place
             ≡ f.place name.now)) };
 
-    /// What stands at a place, if it may be written.
+    /// What is at a place, if it may be written.
     fn look(&self, place: &str) -> io::Result<Standing>
         ensures { IfOk result (λ found. IfSome (standing self.now) (λ s. found ≡ s place.now)) };
 
@@ -59,7 +59,7 @@ pub trait Disk {
         ensures removed { files self.new ≡ option_map without_beside (files self.old) }
         ensures given { given self.new ≡ given self.old };
 
-    /// Writes to the stream or device that stands at the place.
+    /// Writes to the stream or device at the place.
     fn give(&mut self, place: &str, bytes: &[u8]) -> io::Result<()>
         ensures given { OnOk result (given self.new ≡ option_map (λ before. before ++ bytes.now)
             (given self.old)) }

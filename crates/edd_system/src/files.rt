@@ -30,7 +30,7 @@ impl<F: Read + Drop, I: Read + Drop> Read for Opened<F, I> {
     }
 }
 
-/// Files by their paths. The name `/dev/stdin` is the standard input, which is read as it stands:
+/// Files by their paths. The name `/dev/stdin` is the standard input, which is read as it is:
 /// a pipe that belongs to another user could not be opened by that name.
 #[derive(Drop)]
 pub struct SystemFiles<'a, R> {

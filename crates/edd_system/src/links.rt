@@ -17,7 +17,7 @@ pub fn folder_of(place: &str) -> Path<'_> {
     }
 }
 
-/// What stands under a name, its links followed; `None` where nothing does.
+/// What is under a name, its links followed; `None` where nothing is.
 pub fn find<R: Files>(rt: &R, name: &str) -> io::Result<Option<Metadata>> {
     match fs::metadata(rt, name) {
         Ok(found) => Ok(Some(found)),
@@ -26,7 +26,7 @@ pub fn find<R: Files>(rt: &R, name: &str) -> io::Result<Option<Metadata>> {
     }
 }
 
-// Whether a link stands under the name.
+// Whether the name is that of a link.
 fn is_link<R: Files>(rt: &R, name: &str) -> io::Result<bool> {
     match fs::symlink_metadata(rt, name) {
         Ok(found) => Ok(found.is_symlink()),
@@ -42,8 +42,7 @@ fn next<R: Files + AllocGlobal>(rt: &R, link: &str) -> io::Result<String> {
     Ok(path.into_string())
 }
 
-/// Follows the links that stand under a name. The last name of a link that leads to nothing is
-/// free.
+/// Follows the links under a name. The last name of a link that leads to nothing is free.
 pub fn follow<R: Files + AllocGlobal>(rt: &R, name: &str) -> io::Result<String> {
     let mut place = name.to_string(rt.alloc())?;
     for _ in 0..MOST_LINKS {

@@ -27,7 +27,7 @@ fn save_beside<D: Disk>(disk: &mut D, place: &str, bytes: &[u8]) -> io::Result<(
 }
 
 /// Writes the bytes under the name: into a new file, which then takes the place to which the name
-/// leads, or into the stream or device that stands there. A file that was opened is refused.
+/// leads, or into the stream or device that is there. A file that was opened is refused.
 ///
 /// Where it fails, each plain file is as it was and no new one is left.
 pub fn save<D: Disk>(disk: &mut D, opened: &[Identity], name: &str, bytes: &[u8]) -> io::Result<()>

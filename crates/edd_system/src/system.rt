@@ -24,7 +24,7 @@ pub struct NewFile<F: Drop> {
 }
 
 /// The system's files. The name `/dev/stdout` is the standard output, which is written as it
-/// stands: what comes after the bytes is then after them.
+/// is: what comes after the bytes is then after them.
 #[derive(Clone, Copy)]
 pub struct SystemDisk<'a, R> {
     pub rt: &'a R,
@@ -51,7 +51,7 @@ fn look_at_output<R: Files>(rt: &R) -> Standing {
     }
 }
 
-// What stands at a place of which the system says this. A plain file must be one that may be
+// What is at a place of which the system says this. A plain file must be one that may be
 // written, though it isn't.
 fn standing_of<R: Files>(rt: &R, place: &str, found: &Metadata) -> io::Result<Standing> {
     if found.is_dir() {

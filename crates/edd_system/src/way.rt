@@ -1,4 +1,4 @@
-//! Which way bytes are written, by what stands at their place.
+//! Which way bytes are written, by what is at their place.
 
 ghost use Rattle.std.specs.Prelude.{◌↔◌, IsTrue};
 ghost use Rattle.std.specs.List.{Contains};
@@ -11,7 +11,7 @@ pub struct Identity {
     pub number: u64,
 }
 
-/// What stands at a place.
+/// What is at a place.
 #[derive(Clone, Copy, Debug)]
 pub enum Standing {
     Free,
@@ -28,13 +28,13 @@ pub enum Standing {
 pub enum Way {
     /// Into a new file, which then takes the place.
     Beside,
-    /// Into what stands there.
+    /// Into what is there.
     AsItIs,
     /// Not at all: it was opened, so what it holds is in use.
     Refused,
 }
 
-// Whether the file that stands there was opened.
+// Whether the file that is there was opened.
 fn is_opened(standing: Standing, opened: &[Identity]) -> bool
     ensures { IsTrue result ↔ IsOpened standing opened.now }
 {

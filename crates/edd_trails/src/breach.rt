@@ -29,7 +29,7 @@ pub struct Breach<'a> {
     pub rule: Rule<'a>,
     /// The number of its token; none where no token stands for it.
     pub place: Option<usize>,
-    /// Of two things that clash the token of the earlier one.
+    /// Where two clash, the token of the earlier one.
     pub earlier: Option<usize>,
 }
 

@@ -17,7 +17,7 @@ pub enum Meaning<'a> {
     Broken(Rule<'a>, usize),
 }
 
-// What stands at a point of a path: something of this kind and, where that is known, the item.
+// What is at a point of a path: something of this kind and, where that is known, the item.
 #[derive(Clone, Copy)]
 struct Point<'a> {
     name: &'a str,
@@ -79,7 +79,7 @@ fn follow<'a>(
     }
 }
 
-/// What a reference means that is no local, where items of these kinds may stand.
+/// What a reference means that is no local, where items of these kinds may be.
 pub fn item_meant<'a>(directory: &Directory<'_>, path: &'a Path, allowed: &[Kind]) -> Meaning<'a> {
     let name = path.base.as_str();
     let Some(named) = directory.item(name) else {

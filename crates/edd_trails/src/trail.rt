@@ -109,7 +109,7 @@ impl<'a> Trail<'a> {
         }
     }
 
-    /// Passes what stands in braces, if they are next.
+    /// Passes what is in braces, if they are next.
     pub fn skip_braces(&mut self) {
         let mut depth: usize = 0;
         for (ahead, token) in self.left().iter().enumerate() {

@@ -9,7 +9,7 @@ use edd_syntax::numbers::Kind;
 use edd_syntax::reference::Path;
 use std::alloc::{AllocError, Global};
 
-/// Where variables may stand.
+/// Where variables may be.
 pub const VARIABLES: [Kind; 1] = [Kind::Variable];
 
 /// What an index may come after.
@@ -18,15 +18,15 @@ const ARRAYS: [Kind; 1] = [Kind::Array];
 /// What a menu shows.
 pub const ENTRIES: [Kind; 4] = [Kind::Variable, Kind::Menu, Kind::Collection, Kind::Method];
 
-/// Words that stood so far, with their tokens.
+/// The words so far, with their tokens.
 pub type Words = Vec<(&'static str, Option<usize>)>;
 
-// The place of a word, if it stood.
+// The place of a word, if it was there.
 fn find_word(words: &Words, word: &str) -> Option<(&'static str, Option<usize>)> {
     words.iter().copied().find(|seen| seen.0 == word)
 }
 
-/// Whether one of these words stood.
+/// Whether this word was there.
 pub fn has_word(words: &Words, word: &str) -> bool {
     find_word(words, word).is_some()
 }
@@ -64,7 +64,7 @@ impl<'a> Walk<'a> {
         Ok(())
     }
 
-    /// What a reference means where items of these kinds may stand.
+    /// What a reference means where items of these kinds may be.
     pub fn meaning(&self, path: &'a Path, allowed: &[Kind]) -> Meaning<'a> {
         if self.locals.has(path.base.as_str()) {
             local_meant(path)
@@ -83,7 +83,7 @@ impl<'a> Walk<'a> {
         }
     }
 
-    /// Passes a reference where items of these kinds may stand.
+    /// Passes a reference where items of these kinds may be.
     pub fn refer(&mut self, path: &'a Path, allowed: &[Kind]) -> Result<(), AllocError> {
         let meaning = self.meaning(path, allowed);
         self.pass_path(path, meaning)
@@ -130,7 +130,7 @@ impl<'a> Walk<'a> {
         }
     }
 
-    /// Passes a word that may stand once in its braces.
+    /// Passes a word that may be there once in its braces.
     pub fn pass_word(&mut self, before: &mut Words, word: &'static str) -> Result<(), AllocError> {
         let place = self.trail.spelled(word);
         match find_word(before, word) {

@@ -1,4 +1,4 @@
--- What stands under conditions doesn't depend on when its values are viewed.
+-- What is under conditions doesn't depend on when its values are viewed.
 use Rattle.std.proofs.Common.{◌≡◌, refl, ap, ◌∙◌, Bool, true, false, List, [], ◌∷◌, ◌++◌, map}
 use Rattle.edd_syntax.specs.declared.reference.Target.{Target}
 use Rattle.edd_syntax.specs.declared.cond.Cond.{Cond, Value, If', Select', Row_of-Cond, end_of-Cond, more_of-Cond, Row_of-Arm, end_of-Arm, more_of-Arm}

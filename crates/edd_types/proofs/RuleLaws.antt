@@ -22,7 +22,7 @@ use Rattle.edd_types.specs.declared.rules.Rule.TheVariants as rule
 use Rattle.edd_types.specs.WrongTypes.{in_items}
 use Rattle.edd_types.specs.Rules.{is_definition, broken_in, broken, all_broken}
 
--- ---- calls and decimals: what stands in the expressions
+-- ---- calls and decimals: what is in the expressions
 
 module _ (b : Breach) (none : (had : Bool) → in_default b had ≡ []) {V : Type 0} (of : V
     → List Refusal) (parts : V → List (Placed Target)) (same : (v : V)

@@ -1,4 +1,4 @@
-//! The values that stand under conditions.
+//! The values under conditions.
 
 ghost use Rattle.std.specs.Prelude.{◌≡◌, List};
 ghost use Rattle.edd_syntax.specs.TreeView.{numbered_expr};

@@ -69,7 +69,7 @@ fn message(alloc: Global, items: &str) -> Result<String, AllocError> {
     Ok(String::new(alloc))
 }
 
-// The items of a row, between what stands before and after those of each row.
+// The items of a row, between what is before and after those of each row.
 fn joined(alloc: Global, before: &str, items: &str, behind: &str) -> Result<String, AllocError> {
     let mut text = String::from_str(alloc, before)?;
     text.push_str(items)?;

@@ -16,7 +16,7 @@ use edd_syntax::text::Text;
 use edd_syntax::types::Handling;
 use std::alloc::AllocError;
 
-// A value that stands under conditions.
+// A value under conditions.
 trait LintValue {
     // Looks at the expressions in it. Most values have none.
     fn check_value(

@@ -43,8 +43,8 @@ fn check_item<'a>(
 }
 
 /// The warnings of a description, by their lines, and on one line in the order of the lints. `text`
-/// and `tokens` are those that it was made of: they say where things stand. Fails only where memory
-/// is out.
+/// and `tokens` are those that it was made of: they say where each item and value is. Fails only
+/// where it is out of memory.
 pub fn warnings(
     alloc: Global,
     text: &[u8],

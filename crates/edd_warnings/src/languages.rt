@@ -16,7 +16,7 @@ struct Spoken<'a> {
     raw: Vec<u8>,
 }
 
-// The length of the code that stands here, where a bar follows it.
+// The length of the code here, where a bar follows it.
 fn code_len(here: &[u8]) -> Option<usize> {
     match here {
         [b'a'..=b'z', b'a'..=b'z', b'|', ..] => Some(2),

@@ -82,7 +82,7 @@ fn push_arms(
     Ok(())
 }
 
-// A menu that the walk has not come to.
+// A menu that the walk has not reached.
 fn menu_of<'a>(
     alloc: Global,
     attributes: &[Attribute<Target>],

@@ -28,7 +28,7 @@ pub fn name_of_item<'a>(word: Keyword, places: &mut Places<'a>) -> Mark<'a> {
     places.to(TokenKind::Name)
 }
 
-// How often each name stands in a text.
+// How often each name is in a text.
 fn uses_of<'a>(
     alloc: Global,
     text: &'a [u8],
@@ -44,7 +44,7 @@ fn uses_of<'a>(
     Ok(uses)
 }
 
-// Whether an item is one that others use: hosts come to the other kinds by themselves.
+// Whether an item is one that others use: hosts find the other kinds by themselves.
 fn is_for_others(kind: Kind) -> bool {
     matches!(kind, Kind::Variable | Kind::Collection | Kind::Array)
 }
@@ -66,7 +66,7 @@ fn check_item<'a>(
     findings.add(Lint::UnusedItem, at, message)
 }
 
-/// The items whose names stand nowhere but at their declarations. A description of variables alone
+/// The items whose names are nowhere but at their declarations. A description of variables alone
 /// has no place to use them.
 pub fn check_uses<'a>(
     text: &'a [u8],

@@ -9,7 +9,7 @@ use Rattle.edd_name_rules.specs.Seen.{HasSeen}
 use Rattle.edd_name_rules.proofs.Noting.{Walked}
 use Rattle.edd_name_rules.proofs.duplicates.+locals.Given as goal
 
--- no name so far stands twice
+-- no name is there twice so far
 abbrev pub invariant-check_parts-loop-part : goal.invariant-check_parts-loop-part
 invariant-check_parts-loop-part l = (b : List Name) → HasSeen b l.fn.block
     → Walked (part_of path_of) names_of_part part_repeats (λ b ps. repeated_locals b (body_from ps))

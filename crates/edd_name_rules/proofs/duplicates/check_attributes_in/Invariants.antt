@@ -9,7 +9,7 @@ use Rattle.edd_name_rules.specs.Seen.{HasSeen}
 use Rattle.edd_name_rules.proofs.Noting.{Walked}
 use Rattle.edd_name_rules.proofs.duplicates.check_attributes_in.Given as goal
 
--- no name so far stands twice
+-- no name is there twice so far
 abbrev pub invariant-loop-attribute : goal.invariant-loop-attribute
 invariant-loop-attribute l = (b : List Name) → HasSeen b l.fn.members
     → Walked (attribute_of path_of) names_of_attribute attribute_repeats repeated_in_attributes

@@ -9,7 +9,7 @@ use Rattle.edd_name_rules.specs.Seen.{HasSeen}
 use Rattle.edd_name_rules.proofs.Noting.{Walked}
 use Rattle.edd_name_rules.proofs.duplicates.check_items_in.Given as goal
 
--- no name so far stands twice
+-- no name is there twice so far
 abbrev pub invariant-loop-item : goal.invariant-loop-item
 invariant-loop-item l = (b : List Name) → HasSeen b l.fn.seen
     → Walked (item_of path_of) (λ i. i.name ∷ []) item_repeats repeated_in_items item_step b l.seen

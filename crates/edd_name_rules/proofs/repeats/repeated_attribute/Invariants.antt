@@ -7,7 +7,7 @@ use Rattle.edd_name_rules.proofs.RepeatedWords.{words_step, here_same}
 use Rattle.edd_name_rules.proofs.SeenBefore.{Seen}
 use Rattle.edd_name_rules.proofs.repeats.repeated_attribute.Given as goal
 
--- nothing so far stands twice
+-- nothing is there twice so far
 abbrev pub invariant-loop-i : goal.invariant-loop-i
 invariant-loop-i l = Seen (attribute_of path_of) (λ a. attribute_word a ∷ []) repeated_here
     repeated_words words_step here_same l.i l.attributes

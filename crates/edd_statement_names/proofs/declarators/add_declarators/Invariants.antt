@@ -7,7 +7,7 @@ use Rattle.edd_statement_names.proofs.CopyingIn.{Copied}
 use Rattle.edd_statement_names.proofs.DeclaratorSteps.{behind, uses_here, uses_from, uses_split, meant_here, meant_from, declarators_joined}
 use Rattle.edd_statement_names.proofs.declarators.add_declarators.Given as goal
 
--- the declarators so far are copied, and their locals stand in the scope
+-- the declarators so far are copied, and their locals are in the scope
 abbrev pub invariant-loop-declarator : goal.invariant-loop-declarator
 invariant-loop-declarator l =
     Copied (description_of l.fn.names) (declarator_of path_of) numbered_declarator behind uses_here

@@ -1,4 +1,4 @@
--- Some text stands before the first code, or there is no code.
+-- There is some text before the first code, or there is no code.
 use Rattle.std.proofs.Common.{◌≡◌, ◌<◌, ◌⊎◌, inl, inr, None, length, refl, arith}
 use Rattle.std.proofs.lemmas.Bool.Decides.{nat_tests}
 use Rattle.edd_strings.proofs.Spelling.{words-english_first}
