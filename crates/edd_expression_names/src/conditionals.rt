@@ -20,7 +20,7 @@ use edd_syntax::cond::{Arm, Cond};
 use edd_syntax::reference::{Path, Target};
 
 /// A value under conditions, which is copied with the meaning of its names.
-pub trait Named {
+pub trait ResolveValue {
     type Out: Drop;
 
     /// What the value stands for, before and after.
@@ -48,7 +48,7 @@ pub trait Named {
 /// A conditional with the meaning of its names.
 #[cycle(branches)]
 #[tactic(auto, using(crate::proofs::UseLaws::faults))]
-pub fn copy_cond<V: Named>(
+pub fn copy_cond<V: ResolveValue>(
     c: &Cond<Path, V>,
     names: &Names,
 ) -> Result<Cond<Target, V::Out>, NameFault>
@@ -86,7 +86,7 @@ pub fn copy_cond<V: Named>(
 /// Conditionals with the meaning of their names.
 #[cycle(branches)]
 #[tactic(auto, using(crate::proofs::UseLaws::faults))]
-pub fn copy_conds<V: Named>(
+pub fn copy_conds<V: ResolveValue>(
     all: &[Cond<Path, V>],
     names: &Names,
 ) -> Result<Vec<Cond<Target, V::Out>>, NameFault>
@@ -106,7 +106,7 @@ pub fn copy_conds<V: Named>(
 
 #[cycle(branches)]
 #[tactic(auto, using(crate::proofs::UseLaws::faults))]
-fn add_conds<V: Named>(
+fn add_conds<V: ResolveValue>(
     all: &[Cond<Path, V>],
     names: &Names,
     copies: &mut Vec<Cond<Target, V::Out>>,
@@ -129,7 +129,7 @@ fn add_conds<V: Named>(
 
 #[cycle(branches)]
 #[tactic(auto, using(crate::proofs::UseLaws::faults))]
-fn copy_arms<V: Named>(
+fn copy_arms<V: ResolveValue>(
     arms: &[Arm<Path, V>],
     names: &Names,
 ) -> Result<Vec<Arm<Target, V::Out>>, NameFault>
@@ -149,7 +149,7 @@ fn copy_arms<V: Named>(
 
 #[cycle(branches)]
 #[tactic(auto, using(crate::proofs::UseLaws::faults))]
-fn add_arms<V: Named>(
+fn add_arms<V: ResolveValue>(
     arms: &[Arm<Path, V>],
     names: &Names,
     copies: &mut Vec<Arm<Target, V::Out>>,
@@ -172,7 +172,10 @@ fn add_arms<V: Named>(
 
 #[cycle(branches)]
 #[tactic(auto, using(crate::proofs::UseLaws::faults))]
-fn copy_arm<V: Named>(arm: &Arm<Path, V>, names: &Names) -> Result<Arm<Target, V::Out>, NameFault>
+fn copy_arm<V: ResolveValue>(
+    arm: &Arm<Path, V>,
+    names: &Names,
+) -> Result<Arm<Target, V::Out>, NameFault>
     ensures accepted { Accepts (description_of names.now)
         (arms_uses V.uses (arms_from (arm_of path_of V.before arm.now ∷ []))) result }
     ensures sound { Copies (description_of names.now)

@@ -3,6 +3,6 @@
 
 pub mod conditionals;
 pub mod exprs;
-mod leaves;
 mod made;
 pub mod texts;
+mod values;

@@ -14,13 +14,13 @@ const MOST_OPERANDS: u8 = 128;
 // What is known of the places of a unit: where instructions start, and how many operands were
 // brought to them.
 #[derive(Drop)]
-struct Places {
+struct UnitMarks {
     starts: Vec<bool>,
     depths: Vec<Option<u8>>,
 }
 
-impl Places {
-    fn of(alloc: Global, code: &[u8]) -> Result<Places, AllocError> {
+impl UnitMarks {
+    fn of(alloc: Global, code: &[u8]) -> Result<UnitMarks, AllocError> {
         let mut starts = vec![in alloc; false; code.len()]?;
         let depths = vec![in alloc; None; code.len()]?;
         let mut place = 0;
@@ -33,7 +33,7 @@ impl Places {
             }
             place = next;
         }
-        Ok(Places { starts, depths })
+        Ok(UnitMarks { starts, depths })
     }
 
     fn is_start(&self, place: usize) -> bool {
@@ -73,21 +73,21 @@ impl Standing {
         self.rest().saturating_add(way.leaves)
     }
 
-    fn breaks_jump(&self, places: &Places, sort: Sort) -> bool {
+    fn breaks_jump(&self, marks: &UnitMarks, sort: Sort) -> bool {
         let is_lost = match self.instruction.onward(self.next) {
-            Some(way) => !places.is_start(way.to),
+            Some(way) => !marks.is_start(way.to),
             None => false,
         };
         let is_wild = match self.instruction.jump() {
-            Some(way) => !places.is_start(way.to)
+            Some(way) => !marks.is_start(way.to)
                 || (sort == Sort::Attribute && way.to <= self.place),
             None => false,
         };
         is_lost || is_wild
     }
 
-    fn breaks_depth(&self, places: &Places) -> bool {
-        let has_other = match places.depth(self.place) {
+    fn breaks_depth(&self, marks: &UnitMarks) -> bool {
+        let has_other = match marks.depth(self.place) {
             Some(known) => known != self.depth,
             None => false,
         };
@@ -96,17 +96,17 @@ impl Standing {
             None => false,
         };
         let jumps_with_other = match self.instruction.jump() {
-            Some(way) => self.jumps_with_other(places, way.to),
+            Some(way) => self.jumps_with_other(marks, way.to),
             None => false,
         };
         has_other || is_too_much || jumps_with_other || self.depth < self.instruction.takes()
     }
 
-    fn jumps_with_other(&self, places: &Places, target: usize) -> bool {
+    fn jumps_with_other(&self, marks: &UnitMarks, target: usize) -> bool {
         if target == self.place {
             return self.depth != self.rest();
         }
-        match places.depth(target) {
+        match marks.depth(target) {
             Some(known) => known != self.rest(),
             None => false,
         }
@@ -124,14 +124,14 @@ impl Standing {
     fn breaks(
         &self,
         rule: UnitRule,
-        places: &Places,
+        marks: &UnitMarks,
         sections: &Sections<'_>,
         context: Context,
     ) -> bool {
         match rule {
             UnitRule::Chain => !self.instruction.is_allowed(context.version, context.sort),
-            UnitRule::Jump => self.breaks_jump(places, context.sort),
-            UnitRule::Depth => self.breaks_depth(places),
+            UnitRule::Jump => self.breaks_jump(marks, context.sort),
+            UnitRule::Depth => self.breaks_depth(marks),
             UnitRule::Reference => self.breaks_reference(sections, context),
         }
     }
@@ -153,11 +153,11 @@ fn broken_place(
     code: &[u8],
     rule: UnitRule,
 ) -> Result<Option<(usize, u8)>, AllocError> {
-    let mut places = Places::of(alloc, code)?;
+    let mut marks = UnitMarks::of(alloc, code)?;
     let mut brought = Some(0);
     let mut place = 0;
     while place < code.len() {
-        let depth = arrival(brought, places.depth(place));
+        let depth = arrival(brought, marks.depth(place));
         let Some((instruction, next)) = decode(code, place) else {
             return Ok(Some((place, depth)));
         };
@@ -167,12 +167,12 @@ fn broken_place(
             next,
             depth,
         };
-        if standing.breaks(rule, &places, sections, context) {
+        if standing.breaks(rule, &marks, sections, context) {
             return Ok(Some((place, depth)));
         }
-        places.note(place, depth);
+        marks.note(place, depth);
         if let Some(way) = instruction.jump() {
-            places.note(way.to, standing.rest());
+            marks.note(way.to, standing.rest());
         }
         brought = match instruction.onward(next) {
             Some(way) => Some(standing.brought(way)),

@@ -60,15 +60,15 @@ pub fn trap_of(operator: Operator, second: i64, width: Width) -> Option<Trap> {
 
 // The number that two numbers give; nothing where they trap.
 fn number_of(operator: Operator, first: i64, second: i64) -> Option<i64> {
-    let places = u32::try_from(second).unwrap_or(0);
+    let count = u32::try_from(second).unwrap_or(0);
     match operator {
         Operator::Add => Some(first.wrapping_add(second)),
         Operator::Subtract => Some(first.wrapping_sub(second)),
         Operator::Multiply => Some(first.wrapping_mul(second)),
         Operator::Divide => first.checked_div(second),
         Operator::Remainder => first.checked_rem(second),
-        Operator::ShiftLeft => first.checked_shl(places),
-        Operator::ShiftRight => first.checked_shr(places),
+        Operator::ShiftLeft => first.checked_shl(count),
+        Operator::ShiftRight => first.checked_shr(count),
         Operator::And => Some(first & second),
         Operator::Or => Some(first | second),
         Operator::Xor => Some(first ^ second),

@@ -3,7 +3,7 @@
 
 use crate::constants::{Known, Width, evaluate, trap_of};
 use crate::lint::Lint;
-use crate::places::{Mark, Places};
+use crate::tokens_left::{Mark, TokensLeft};
 use crate::warning::Findings;
 use edd_lexer::token::TokenKind;
 use edd_syntax::answer::Trap;
@@ -17,7 +17,7 @@ use std::collections::BTreeSet;
 /// A way through the trees of an item, in the order of the source.
 #[derive(Drop)]
 pub struct Walk<'a> {
-    pub places: Places<'a>,
+    pub tokens_left: TokensLeft<'a>,
     pub width: Width,
     /// The slots of a method that are read so far.
     pub reads: BTreeSet<u8>,
@@ -26,9 +26,9 @@ pub struct Walk<'a> {
 }
 
 impl<'a> Walk<'a> {
-    pub fn new(alloc: Global, places: Places<'a>, width: Width) -> Walk<'a> {
+    pub fn new(alloc: Global, tokens_left: TokensLeft<'a>, width: Width) -> Walk<'a> {
         Walk {
-            places,
+            tokens_left,
             width,
             reads: BTreeSet::new(alloc),
             asks: false,
@@ -82,7 +82,7 @@ fn check_second(
     findings: &mut Findings,
 ) -> Result<(), AllocError> {
     if may_trap(operator) {
-        let at = walk.places.to(TokenKind::Symbol(sign));
+        let at = walk.tokens_left.to(TokenKind::Symbol(sign));
         if let Known::Number(number) = evaluate(second, walk.width) {
             let trap = trap_of(operator, number, walk.width);
             if let Some(Trap::DivZero) = trap {

@@ -4,5 +4,5 @@
 pub mod constants;
 pub mod expressions;
 pub mod lint;
-pub mod places;
+pub mod tokens_left;
 pub mod warning;

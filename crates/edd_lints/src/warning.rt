@@ -1,7 +1,7 @@
 //! Warnings, and how they are gathered.
 
 use crate::lint::Lint;
-use crate::places::Mark;
+use crate::tokens_left::Mark;
 use std::alloc::{AllocError, Global};
 
 /// A token by its line, counted from 1, its text and the byte at which it begins. Without a byte it

@@ -5,7 +5,7 @@ use edd_lexer::token::{Token, TokenKind};
 use edd_lints::constants::Width;
 use edd_lints::expressions::Walk;
 use edd_lints::lint::Lint;
-use edd_lints::places::{Mark, Places, mark_of};
+use edd_lints::tokens_left::{Mark, TokensLeft, mark_of};
 use edd_lints::warning::Findings;
 use edd_syntax::item::Attribute;
 use edd_syntax::reference::Target;
@@ -70,8 +70,8 @@ pub fn check_method(
     findings: &mut Findings,
 ) -> Result<(), AllocError> {
     let locals = locals_of(findings.alloc, text, tokens)?;
-    let places = Places::new(text, tokens);
-    let mut walk = Walk::new(findings.alloc, places, Width::Method);
+    let tokens_left = TokensLeft::new(text, tokens);
+    let mut walk = Walk::new(findings.alloc, tokens_left, Width::Method);
     for attribute in attributes {
         if let Attribute::Definition(parts) = attribute {
             check_parts(parts, &mut walk, findings)?;

@@ -3,7 +3,7 @@
 use edd_lints::constants::{Known, Width, evaluate, is_literal};
 use edd_lints::expressions::{Walk, check_condition, check_expression};
 use edd_lints::lint::Lint;
-use edd_lints::places::{Mark, first_on};
+use edd_lints::tokens_left::{Mark, first_on};
 use edd_lints::warning::Findings;
 use edd_syntax::expr::Expr;
 use edd_syntax::operators::Builtin;
@@ -256,7 +256,7 @@ fn check_if<'a>(
     walk: &mut Walk<'a>,
     findings: &mut Findings,
 ) -> Result<Flow<'a>, AllocError> {
-    let at = walk.places.to_word(Keyword::MethodIf);
+    let at = walk.tokens_left.to_word(Keyword::MethodIf);
     let asks = check_test(condition, at, walk, findings)?;
     let first = check_statement(first, walk, findings)?;
     Ok(joined(at, asks, first, GOES_ON))
@@ -269,7 +269,7 @@ fn check_while<'a>(
     walk: &mut Walk<'a>,
     findings: &mut Findings,
 ) -> Result<Flow<'a>, AllocError> {
-    let at = walk.places.to_word(Keyword::While);
+    let at = walk.tokens_left.to_word(Keyword::While);
     let asks = check_loop_test(condition, at, walk, findings)?;
     let flow = check_statement(body, walk, findings)?;
     check_loop(at, always_holds(Some(condition)), asks, flow, findings)
@@ -282,9 +282,9 @@ fn check_do<'a>(
     walk: &mut Walk<'a>,
     findings: &mut Findings,
 ) -> Result<Flow<'a>, AllocError> {
-    let at = walk.places.to_word(Keyword::Do);
+    let at = walk.tokens_left.to_word(Keyword::Do);
     let flow = check_statement(body, walk, findings)?;
-    let test = walk.places.to_word(Keyword::While);
+    let test = walk.tokens_left.to_word(Keyword::While);
     let asks = check_loop_test(condition, test, walk, findings)?;
     check_loop(at, always_holds(Some(condition)), asks, flow, findings)
 }
@@ -298,7 +298,7 @@ fn check_for<'a>(
     walk: &mut Walk<'a>,
     findings: &mut Findings,
 ) -> Result<Flow<'a>, AllocError> {
-    let at = walk.places.to_word(Keyword::For);
+    let at = walk.tokens_left.to_word(Keyword::For);
     check_optional(initial, walk, findings)?;
     let tests = match condition {
         Some(e) => check_loop_test(e, at, walk, findings)?,
@@ -317,7 +317,7 @@ fn check_switch<'a>(
     walk: &mut Walk<'a>,
     findings: &mut Findings,
 ) -> Result<Flow<'a>, AllocError> {
-    let at = walk.places.to_word(Keyword::Switch);
+    let at = walk.tokens_left.to_word(Keyword::Switch);
     let asks = check_test(on, at, walk, findings)?;
     let flow = check_parts(parts, walk, findings)?;
     Ok(Flow {
@@ -339,7 +339,7 @@ fn check_statement<'a>(
         Stmt::Block(parts) => check_parts(parts, walk, findings),
         Stmt::If(condition, first) => check_if(first, condition, walk, findings),
         Stmt::IfElse(condition, first, otherwise) => {
-            let at = walk.places.to_word(Keyword::MethodIf);
+            let at = walk.tokens_left.to_word(Keyword::MethodIf);
             let asks = check_test(condition, at, walk, findings)?;
             let first = check_statement(first, walk, findings)?;
             let second = check_statement(otherwise, walk, findings)?;
@@ -357,7 +357,7 @@ fn check_statement<'a>(
         Stmt::Break { line } => Ok(leaving(*line, Keyword::Break, true)),
         Stmt::Continue { line } => Ok(leaving(*line, Keyword::Continue, false)),
         Stmt::Return => Ok(Flow {
-            ends: Some(walk.places.to_word(Keyword::Return)),
+            ends: Some(walk.tokens_left.to_word(Keyword::Return)),
             breaks: false,
             leaves: true,
         }),

@@ -16,7 +16,7 @@ use edd_syntax::text::Text;
 use edd_syntax::types::Handling;
 
 /// A value that may be under a condition.
-pub trait Weighed {
+pub trait CountValue {
     /// The nodes below the value's own.
     ghost below: { Self → ℕ };
 
@@ -25,7 +25,7 @@ pub trait Weighed {
         ensures { result ≡ spent budget (below self.now) };
 }
 
-impl Weighed for Text {
+impl CountValue for Text {
     ghost below = { λ v. 0 };
 
     fn spend_below(&self, budget: u32) -> Option<u32> {
@@ -33,7 +33,7 @@ impl Weighed for Text {
     }
 }
 
-impl Weighed for Handling {
+impl CountValue for Handling {
     ghost below = { λ v. 0 };
 
     fn spend_below(&self, budget: u32) -> Option<u32> {
@@ -41,7 +41,7 @@ impl Weighed for Handling {
     }
 }
 
-impl Weighed for bool {
+impl CountValue for bool {
     ghost below = { λ v. 0 };
 
     fn spend_below(&self, budget: u32) -> Option<u32> {
@@ -49,7 +49,7 @@ impl Weighed for bool {
     }
 }
 
-impl Weighed for Enumerator {
+impl CountValue for Enumerator {
     ghost below = { λ v. 0 };
 
     fn spend_below(&self, budget: u32) -> Option<u32> {
@@ -57,7 +57,7 @@ impl Weighed for Enumerator {
     }
 }
 
-impl Weighed for MenuEntry<Path> {
+impl CountValue for MenuEntry<Path> {
     ghost below = { λ v. 0 };
 
     fn spend_below(&self, budget: u32) -> Option<u32> {
@@ -65,7 +65,7 @@ impl Weighed for MenuEntry<Path> {
     }
 }
 
-impl Weighed for DataItem<Path> {
+impl CountValue for DataItem<Path> {
     ghost below = { λ v. 0 };
 
     fn spend_below(&self, budget: u32) -> Option<u32> {
@@ -73,7 +73,7 @@ impl Weighed for DataItem<Path> {
     }
 }
 
-impl Weighed for Expr<Path> {
+impl CountValue for Expr<Path> {
     ghost below = { λ e. nodes (expr_of path_of e) };
 
     fn spend_below(&self, budget: u32) -> Option<u32> {
@@ -83,7 +83,7 @@ impl Weighed for Expr<Path> {
 
 /// What is left after the nodes of conditionals.
 #[cycle(conds)]
-pub fn spend_conds<V: Weighed>(all: &[Cond<Path, V>], budget: u32) -> Option<u32>
+pub fn spend_conds<V: CountValue>(all: &[Cond<Path, V>], budget: u32) -> Option<u32>
     ensures { result ≡ spent budget
         (conds_nodes V.below (conds_from (map (cond_of path_of (λ v. v)) all.now))) }
 {
@@ -96,7 +96,7 @@ pub fn spend_conds<V: Weighed>(all: &[Cond<Path, V>], budget: u32) -> Option<u32
 
 /// What is left after the nodes of a conditional.
 #[cycle(conds)]
-pub fn spend_cond<V: Weighed>(c: &Cond<Path, V>, budget: u32) -> Option<u32>
+pub fn spend_cond<V: CountValue>(c: &Cond<Path, V>, budget: u32) -> Option<u32>
     ensures { result ≡ spent budget (cond_nodes V.below (cond_of path_of (λ v. v) c.now)) }
 {
     let left = budget.checked_sub(1)?;
@@ -116,7 +116,7 @@ pub fn spend_cond<V: Weighed>(c: &Cond<Path, V>, budget: u32) -> Option<u32>
 }
 
 #[cycle(conds)]
-fn spend_arms<V: Weighed>(arms: &[Arm<Path, V>], budget: u32) -> Option<u32>
+fn spend_arms<V: CountValue>(arms: &[Arm<Path, V>], budget: u32) -> Option<u32>
     ensures { result ≡ spent budget
         (arms_nodes V.below (arms_from (map (arm_of path_of (λ v. v)) arms.now))) }
 {
@@ -128,7 +128,7 @@ fn spend_arms<V: Weighed>(arms: &[Arm<Path, V>], budget: u32) -> Option<u32>
 }
 
 #[cycle(conds)]
-fn spend_arm<V: Weighed>(arm: &Arm<Path, V>, left: u32) -> Option<u32>
+fn spend_arm<V: CountValue>(arm: &Arm<Path, V>, left: u32) -> Option<u32>
     ensures { result ≡ spent left
         (arms_nodes V.below (arms_from (arm_of path_of (λ v. v) arm.now ∷ []))) }
 {

@@ -3,7 +3,7 @@
 use crate::repeats::Numbers;
 use edd_lexer::token::TokenKind;
 use edd_lints::lint::Lint;
-use edd_lints::places::Places;
+use edd_lints::tokens_left::TokensLeft;
 use edd_lints::warning::Findings;
 use edd_syntax::item::{Attribute, ResponseCode};
 use edd_syntax::reference::Target;
@@ -17,7 +17,7 @@ pub fn command_numbers<'a>(alloc: Global) -> Numbers<'a> {
 
 fn check_codes(
     codes: &[ResponseCode],
-    places: &mut Places<'_>,
+    tokens_left: &mut TokensLeft<'_>,
     findings: &mut Findings,
 ) -> Result<(), AllocError> {
     let mut list = Numbers::new(
@@ -25,9 +25,9 @@ fn check_codes(
         Lint::RepeatedResponseCode,
         "the response code",
     );
-    places.to_word(Keyword::ResponseCodes);
+    tokens_left.to_word(Keyword::ResponseCodes);
     for code in codes {
-        let at = places.to(TokenKind::Integer(code.number));
+        let at = tokens_left.to(TokenKind::Integer(code.number));
         list.add(i64::from(code.number), at, findings)?;
     }
     Ok(())
@@ -36,11 +36,11 @@ fn check_codes(
 /// The attributes of a command, whose number is added to those of the others.
 pub fn check_command<'a>(
     attributes: &[Attribute<Target>],
-    places: Places<'a>,
+    tokens_left: TokensLeft<'a>,
     commands: &mut Numbers<'a>,
     findings: &mut Findings,
 ) -> Result<(), AllocError> {
-    let mut places = places;
+    let mut tokens_left = tokens_left;
     let mut transactions = Numbers::new(
         findings.alloc,
         Lint::RepeatedTransactionNumber,
@@ -49,16 +49,16 @@ pub fn check_command<'a>(
     for attribute in attributes {
         match attribute {
             Attribute::Number(number) => {
-                let at = places.to_word(Keyword::Number);
+                let at = tokens_left.to_word(Keyword::Number);
                 commands.add(i64::from(*number), at, findings)?;
             }
             Attribute::Transaction { number, .. } => {
-                let at = places.to_word(Keyword::Transaction);
+                let at = tokens_left.to_word(Keyword::Transaction);
                 if let Some(number) = number {
                     transactions.add(i64::from(*number), at, findings)?;
                 }
             }
-            Attribute::ResponseCodes(codes) => check_codes(codes, &mut places, findings)?,
+            Attribute::ResponseCodes(codes) => check_codes(codes, &mut tokens_left, findings)?,
             _ => {}
         }
     }

@@ -5,7 +5,7 @@ use crate::steps::{Step, push_cond, push_conds};
 use edd_lints::constants::Width;
 use edd_lints::expressions::{Walk, check_condition, check_expression};
 use edd_lints::lint::Lint;
-use edd_lints::places::Places;
+use edd_lints::tokens_left::TokensLeft;
 use edd_lints::warning::Findings;
 use edd_syntax::cond::Cond;
 use edd_syntax::expr::Expr;
@@ -56,17 +56,17 @@ fn check_step<'a, V: LintValue>(
     match step {
         Step::Value(value) => value.check_value(walk, findings),
         Step::If(condition) => {
-            let at = walk.places.to_word(Keyword::If);
+            let at = walk.tokens_left.to_word(Keyword::If);
             check_condition(condition, at, walk, findings)
         }
         Step::Select(on) => {
-            let at = walk.places.to_word(Keyword::Select);
+            let at = walk.tokens_left.to_word(Keyword::Select);
             let labels = Numbers::new(findings.alloc, Lint::RepeatedCase, "the CASE");
             selects.push(labels)?;
             check_condition(on, at, walk, findings)
         }
         Step::Case(label) => {
-            let at = walk.places.to_word(Keyword::Case);
+            let at = walk.tokens_left.to_word(Keyword::Case);
             match selects.last_mut() {
                 Some(labels) => labels.add(*label, at, findings),
                 None => Ok(()),
@@ -173,10 +173,10 @@ fn check_attribute(
 /// The conditionals of an item's attributes.
 pub fn check_conditionals(
     attributes: &[Attribute<Target>],
-    places: Places<'_>,
+    tokens_left: TokensLeft<'_>,
     findings: &mut Findings,
 ) -> Result<(), AllocError> {
-    let mut walk = Walk::new(findings.alloc, places, Width::Attribute);
+    let mut walk = Walk::new(findings.alloc, tokens_left, Width::Attribute);
     for attribute in attributes {
         check_attribute(attribute, &mut walk, findings)?;
     }

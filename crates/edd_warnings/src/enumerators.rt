@@ -4,7 +4,7 @@ use crate::repeats::Numbers;
 use crate::variables::{Range, check_range};
 use edd_lexer::token::TokenKind;
 use edd_lints::lint::Lint;
-use edd_lints::places::Places;
+use edd_lints::tokens_left::TokensLeft;
 use edd_lints::warning::Findings;
 use edd_syntax::cond::{Arm, Cond};
 use edd_syntax::item::{Enumerator, TypePart};
@@ -18,12 +18,12 @@ fn new_list<'a>(alloc: Global) -> Numbers<'a> {
 fn check_enumerator<'a>(
     enumerator: &Enumerator,
     range: Range,
-    places: &mut Places<'a>,
+    tokens_left: &mut TokensLeft<'a>,
     list: &mut Numbers<'a>,
     findings: &mut Findings,
 ) -> Result<(), AllocError> {
     let written = u32::try_from(enumerator.value.unsigned_abs()).unwrap_or(u32::MAX);
-    let at = places.to_on(enumerator.line, TokenKind::Integer(written));
+    let at = tokens_left.to_on(enumerator.line, TokenKind::Integer(written));
     check_range(range, "the enumerator", enumerator.value, at, findings)?;
     list.add(enumerator.value, at, findings)
 }
@@ -33,21 +33,21 @@ fn check_enumerator<'a>(
 fn check_element<'a>(
     c: &Cond<Target, Enumerator>,
     range: Range,
-    places: &mut Places<'a>,
+    tokens_left: &mut TokensLeft<'a>,
     list: &mut Numbers<'a>,
     findings: &mut Findings,
 ) -> Result<(), AllocError> {
     match c {
-        Cond::Value(enumerator) => check_enumerator(enumerator, range, places, list, findings),
+        Cond::Value(enumerator) => check_enumerator(enumerator, range, tokens_left, list, findings),
         Cond::If {
             first,
             otherwise,
             ..
         } => {
-            check_list(first, range, places, findings)?;
-            check_list(otherwise, range, places, findings)
+            check_list(first, range, tokens_left, findings)?;
+            check_list(otherwise, range, tokens_left, findings)
         }
-        Cond::Select { arms, .. } => check_arms(arms, range, places, findings),
+        Cond::Select { arms, .. } => check_arms(arms, range, tokens_left, findings),
     }
 }
 
@@ -55,12 +55,12 @@ fn check_element<'a>(
 fn check_list<'a>(
     elements: &[Cond<Target, Enumerator>],
     range: Range,
-    places: &mut Places<'a>,
+    tokens_left: &mut TokensLeft<'a>,
     findings: &mut Findings,
 ) -> Result<(), AllocError> {
     let mut list = new_list(findings.alloc);
     for c in elements {
-        check_element(c, range, places, &mut list, findings)?;
+        check_element(c, range, tokens_left, &mut list, findings)?;
     }
     Ok(())
 }
@@ -69,13 +69,13 @@ fn check_list<'a>(
 fn check_arms<'a>(
     arms: &[Arm<Target, Enumerator>],
     range: Range,
-    places: &mut Places<'a>,
+    tokens_left: &mut TokensLeft<'a>,
     findings: &mut Findings,
 ) -> Result<(), AllocError> {
     for arm in arms {
         match arm {
             Arm::Case { body, .. } | Arm::Default { body, .. } => {
-                check_list(body, range, places, findings)?;
+                check_list(body, range, tokens_left, findings)?;
             }
         }
     }
@@ -86,13 +86,13 @@ fn check_arms<'a>(
 pub fn check_enumerators<'a>(
     parts: &[TypePart<Target>],
     range: Range,
-    places: &mut Places<'a>,
+    tokens_left: &mut TokensLeft<'a>,
     findings: &mut Findings,
 ) -> Result<(), AllocError> {
     let mut list = new_list(findings.alloc);
     for part in parts {
         if let TypePart::Element(c) = part {
-            check_element(c, range, places, &mut list, findings)?;
+            check_element(c, range, tokens_left, &mut list, findings)?;
         }
     }
     Ok(())

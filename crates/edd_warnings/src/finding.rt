@@ -9,7 +9,7 @@ use crate::repeats::Numbers;
 use crate::unused::check_uses;
 use crate::variables::check_type;
 use edd_lexer::token::Token;
-use edd_lints::places::{Places, items_of};
+use edd_lints::tokens_left::{TokensLeft, items_of};
 use edd_lints::warning::{Findings, Warning};
 use edd_method_warnings::check_method;
 use edd_syntax::checked::Checked;
@@ -25,16 +25,16 @@ fn check_item<'a>(
     commands: &mut Numbers<'a>,
     findings: &mut Findings,
 ) -> Result<(), AllocError> {
-    let mut places = Places::new(text, tokens);
-    check_conditionals(item.attributes(), places, findings)?;
+    let mut tokens_left = TokensLeft::new(text, tokens);
+    check_conditionals(item.attributes(), tokens_left, findings)?;
     match item {
         Item::Variable(variable) => {
             for attribute in &variable.attributes {
-                check_type(attribute, &mut places, findings)?;
+                check_type(attribute, &mut tokens_left, findings)?;
             }
         }
         Item::Command(command) => {
-            check_command(&command.attributes, places, commands, findings)?;
+            check_command(&command.attributes, tokens_left, commands, findings)?;
         }
         Item::Method(method) => check_method(&method.attributes, text, tokens, findings)?,
         Item::Menu(_) | Item::Collection(_) | Item::Array(_) => {}

@@ -2,7 +2,7 @@
 
 use edd_lexer::token::{Token, TokenKind};
 use edd_lints::lint::Lint;
-use edd_lints::places::{Mark, mark_of};
+use edd_lints::tokens_left::{Mark, mark_of};
 use edd_lints::warning::Findings;
 use std::alloc::{AllocError, Global};
 use std::collections::{BTreeMap, BTreeSet};

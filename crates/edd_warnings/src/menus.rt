@@ -3,7 +3,7 @@
 use crate::unused::name_of_item;
 use edd_lexer::token::Token;
 use edd_lints::lint::Lint;
-use edd_lints::places::{Mark, Places};
+use edd_lints::tokens_left::{Mark, TokensLeft};
 use edd_lints::warning::Findings;
 use edd_syntax::cond::{Arm, Cond};
 use edd_syntax::item::{Attribute, Item, MenuEntry};
@@ -86,10 +86,10 @@ fn push_arms(
 fn menu_of<'a>(
     alloc: Global,
     attributes: &[Attribute<Target>],
-    places: Places<'a>,
+    tokens_left: TokensLeft<'a>,
 ) -> Result<Menu<'a>, AllocError> {
-    let mut places = places;
-    let name = name_of_item(Keyword::Menu, &mut places);
+    let mut tokens_left = tokens_left;
+    let name = name_of_item(Keyword::Menu, &mut tokens_left);
     let mut inner = Vec::new(alloc);
     for attribute in attributes {
         if let Attribute::Items(entries) = attribute {
@@ -114,7 +114,7 @@ fn menus_of<'a>(
     let mut menus = Vec::new(alloc);
     for (item, own) in items.iter().zip(item_tokens) {
         if let Item::Menu(menu) = item {
-            menus.push(menu_of(alloc, &menu.attributes, Places::new(text, own))?)?;
+            menus.push(menu_of(alloc, &menu.attributes, TokensLeft::new(text, own))?)?;
         }
     }
     Ok(menus)

@@ -1,7 +1,7 @@
 //! Numbers that are there twice.
 
 use edd_lints::lint::Lint;
-use edd_lints::places::Mark;
+use edd_lints::tokens_left::Mark;
 use edd_lints::warning::Findings;
 use std::alloc::{AllocError, Global};
 use std::collections::BTreeMap;

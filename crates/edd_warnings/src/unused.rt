@@ -2,7 +2,7 @@
 
 use edd_lexer::token::{Token, TokenKind};
 use edd_lints::lint::Lint;
-use edd_lints::places::{Mark, Places, word_of};
+use edd_lints::tokens_left::{Mark, TokensLeft, word_of};
 use edd_lints::warning::Findings;
 use edd_syntax::item::Item;
 use edd_syntax::numbers::Kind;
@@ -23,9 +23,9 @@ fn keyword_of(item: &Item<Target>) -> Keyword {
 }
 
 /// Passes the name of an item at its declaration, which begins with this word, and gives its place.
-pub fn name_of_item<'a>(word: Keyword, places: &mut Places<'a>) -> Mark<'a> {
-    places.to_word(word);
-    places.to(TokenKind::Name)
+pub fn name_of_item<'a>(word: Keyword, tokens_left: &mut TokensLeft<'a>) -> Mark<'a> {
+    tokens_left.to_word(word);
+    tokens_left.to(TokenKind::Name)
 }
 
 // How often each name is in a text.
@@ -51,7 +51,7 @@ fn is_for_others(kind: Kind) -> bool {
 
 fn check_item<'a>(
     item: &'a Item<Target>,
-    places: Places<'a>,
+    tokens_left: TokensLeft<'a>,
     uses: &BTreeMap<&'a str, u32>,
     findings: &mut Findings,
 ) -> Result<(), AllocError> {
@@ -60,8 +60,8 @@ fn check_item<'a>(
     if !is_for_others(item.kind()) || 1 < used {
         return Ok(());
     }
-    let mut places = places;
-    let at = name_of_item(keyword_of(item), &mut places);
+    let mut tokens_left = tokens_left;
+    let at = name_of_item(keyword_of(item), &mut tokens_left);
     let message = format!(in findings.alloc; "nothing refers to {name}")?;
     findings.add(Lint::UnusedItem, at, message)
 }
@@ -80,7 +80,7 @@ pub fn check_uses<'a>(
     }
     let uses = uses_of(findings.alloc, text, tokens)?;
     for (item, own) in items.iter().zip(item_tokens) {
-        check_item(item, Places::new(text, own), &uses, findings)?;
+        check_item(item, TokensLeft::new(text, own), &uses, findings)?;
     }
     Ok(())
 }

@@ -3,7 +3,7 @@
 use crate::enumerators::check_enumerators;
 use edd_lints::constants::{Known, Width, evaluate};
 use edd_lints::lint::Lint;
-use edd_lints::places::{Mark, Places, first_on};
+use edd_lints::tokens_left::{Mark, TokensLeft, first_on};
 use edd_lints::warning::Findings;
 use edd_syntax::cond::{Arm, Cond};
 use edd_syntax::expr::Expr;
@@ -233,7 +233,7 @@ fn check_option(
 /// The type of a variable, among its attributes.
 pub fn check_type(
     attribute: &Attribute<Target>,
-    places: &mut Places<'_>,
+    tokens_left: &mut TokensLeft<'_>,
     findings: &mut Findings,
 ) -> Result<(), AllocError> {
     let Attribute::TypeOf { word, parts } = attribute else {
@@ -249,5 +249,5 @@ pub fn check_type(
     let options = options_of(parts);
     check_limits(options, findings)?;
     check_default(options, findings)?;
-    check_enumerators(parts, range, places, findings)
+    check_enumerators(parts, range, tokens_left, findings)
 }

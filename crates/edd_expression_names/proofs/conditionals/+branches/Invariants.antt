@@ -36,27 +36,27 @@ decreases-add_arms g l = 3 * arms_nodes leaf (arms_from (map (arm_of path_of (λ
 -- the conditionals so far are copied
 abbrev pub invariant-add_conds-loop-c : goal.invariant-add_conds-loop-c
 invariant-add_conds-loop-c g l = Copied (description_of l.fn.names)
-    (cond_of path_of g.V.Named.before)
-    (numbered_cond g.V.Named.after) (λ xs. conds_uses g.V.Named.uses (conds_from xs))
-    (conds_split g.V.Named.uses) (resolved_cond (at_attribute (description_of l.fn.names))
-    (g.V.Named.meant (description_of l.fn.names)))
+    (cond_of path_of g.V.ResolveValue.before)
+    (numbered_cond g.V.ResolveValue.after) (λ xs. conds_uses g.V.ResolveValue.uses (conds_from xs))
+    (conds_split g.V.ResolveValue.uses) (resolved_cond (at_attribute (description_of l.fn.names))
+    (g.V.ResolveValue.meant (description_of l.fn.names)))
     (λ xs. resolved_conds (at_attribute (description_of l.fn.names))
-    (g.V.Named.meant (description_of l.fn.names))
+    (g.V.ResolveValue.meant (description_of l.fn.names))
     (conds_from xs)) conds_from
     (conds_joined (at_attribute (description_of l.fn.names))
-    (g.V.Named.meant (description_of l.fn.names)))
+    (g.V.ResolveValue.meant (description_of l.fn.names)))
     l.c-index l.all l.copies.items
 
 abbrev pub invariant-add_arms-loop-arm : goal.invariant-add_arms-loop-arm
 invariant-add_arms-loop-arm g l = Copied (description_of l.fn.names)
-    (arm_of path_of g.V.Named.before)
-    (numbered_arm g.V.Named.after) (λ xs. arms_uses g.V.Named.uses (arms_from xs))
-    (arms_split g.V.Named.uses)
+    (arm_of path_of g.V.ResolveValue.before)
+    (numbered_arm g.V.ResolveValue.after) (λ xs. arms_uses g.V.ResolveValue.uses (arms_from xs))
+    (arms_split g.V.ResolveValue.uses)
     (resolved_arm (at_attribute (description_of l.fn.names))
-    (g.V.Named.meant (description_of l.fn.names)))
+    (g.V.ResolveValue.meant (description_of l.fn.names)))
     (λ xs. resolved_arms (at_attribute (description_of l.fn.names))
-    (g.V.Named.meant (description_of l.fn.names))
+    (g.V.ResolveValue.meant (description_of l.fn.names))
     (arms_from xs)) arms_from
     (arms_joined (at_attribute (description_of l.fn.names))
-    (g.V.Named.meant (description_of l.fn.names)))
+    (g.V.ResolveValue.meant (description_of l.fn.names)))
     l.arm-index l.arms l.copies.items

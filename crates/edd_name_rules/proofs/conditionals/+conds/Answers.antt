@@ -14,21 +14,21 @@ pub spend_cond-returns-in-Value : goal.spend_cond-returns-in-Value
 spend_cond-returns-in-Value g t c =
     let first : Some c.in_ok-left.left ≡ spent c.args.budget 1 =
     grind (arith, common_steps, nat_tests) in
-    spent_value path_of (λ v. v) g.V.Weighed.below _ _ first _ _ _ c.in-Value.is
+    spent_value path_of (λ v. v) g.V.CountValue.below _ _ first _ _ _ c.in-Value.is
     c.spend_below.ensures
 
 pub spend_cond-returns-in_err-left-in-If : goal.spend_cond-returns-in_err-left-in-If
 spend_cond-returns-in_err-left-in-If g t c =
     let first : Some c.in_ok-left.left ≡ spent c.args.budget 1 =
     grind (arith, common_steps, nat_tests) in
-    c.from_residual-in_err-left-in-If.ensures ∙ if_stops path_of (λ v. v) g.V.Weighed.below _ _
+    c.from_residual-in_err-left-in-If.ensures ∙ if_stops path_of (λ v. v) g.V.CountValue.below _ _
     first _ _ _ _ c.in-If.is c.in_err-left-in-If.ensures
 
 pub spend_cond-returns-in_err-left-in-If-2 : goal.spend_cond-returns-in_err-left-in-If-2
 spend_cond-returns-in_err-left-in-If-2 g t c =
     let first : Some c.in_ok-left.left ≡ spent c.args.budget 1 =
     grind (arith, common_steps, nat_tests) in
-    c.from_residual-in_err-left-in-If-2.ensures ∙ if_stops_later path_of (λ v. v) g.V.Weighed.below
+    c.from_residual-in_err-left-in-If-2.ensures ∙ if_stops_later path_of (λ v. v) g.V.CountValue.below
     _ _ first _ _ _ _ _ _ c.in-If.is c.deref.ensures.value c.in_ok-left-in-If.ensures
     c.in_err-left-in-If-2.ensures
 
@@ -36,7 +36,7 @@ pub spend_cond-returns-in_ok-left-in-If-2 : goal.spend_cond-returns-in_ok-left-i
 spend_cond-returns-in_ok-left-in-If-2 g t c =
     let first : Some c.in_ok-left.left ≡ spent c.args.budget 1 =
     grind (arith, common_steps, nat_tests) in
-    spent_if path_of (λ v. v) g.V.Weighed.below _ _ first _ _ _ _ _ _ _ _ _ c.in-If.is
+    spent_if path_of (λ v. v) g.V.CountValue.below _ _ first _ _ _ _ _ _ _ _ _ c.in-If.is
     c.deref.ensures.value c.deref-in-If.ensures.value c.in_ok-left-in-If.ensures
     c.in_ok-left-in-If-2.ensures c.spend_conds-in-If.ensures
 
@@ -44,54 +44,54 @@ pub spend_cond-returns-in_err-spend-in-Select : goal.spend_cond-returns-in_err-s
 spend_cond-returns-in_err-spend-in-Select g t c =
     let first : Some c.in_ok-left.left ≡ spent c.args.budget 1 =
     grind (arith, common_steps, nat_tests) in
-    c.from_residual-in_err-spend-in-Select.ensures ∙ select_stops path_of (λ v. v) g.V.Weighed.below
+    c.from_residual-in_err-spend-in-Select.ensures ∙ select_stops path_of (λ v. v) g.V.CountValue.below
     _ _ first _ _ _ c.in-Select.is c.in_err-spend-in-Select.ensures
 
 pub spend_cond-returns-in_ok-spend-in-Select : goal.spend_cond-returns-in_ok-spend-in-Select
 spend_cond-returns-in_ok-spend-in-Select g t c =
     let first : Some c.in_ok-left.left ≡ spent c.args.budget 1 =
     grind (arith, common_steps, nat_tests) in
-    spent_select path_of (λ v. v) g.V.Weighed.below _ _ first _ _ _ _ _ _ c.in-Select.is
+    spent_select path_of (λ v. v) g.V.CountValue.below _ _ first _ _ _ _ _ _ c.in-Select.is
     c.deref-in-Select.ensures.value c.in_ok-spend-in-Select.ensures c.spend_arms.ensures
 
 pub spend_arm-returns-in-Case : goal.spend_arm-returns-in-Case
 spend_arm-returns-in-Case g t c =
     let first : Some c.in_ok-left.left ≡ spent c.args.left 1 =
     grind (arith, common_steps, nat_tests) in
-    spent_case path_of (λ v. v) g.V.Weighed.below _ _ first _ _ _ _ _ c.in-Case.is
+    spent_case path_of (λ v. v) g.V.CountValue.below _ _ first _ _ _ _ _ c.in-Case.is
     c.deref.ensures.value c.spend_conds.ensures
 
 pub spend_arm-returns-in-Default : goal.spend_arm-returns-in-Default
 spend_arm-returns-in-Default g t c =
     let first : Some c.in_ok-left.left ≡ spent c.args.left 1 =
     grind (arith, common_steps, nat_tests) in
-    spent_default path_of (λ v. v) g.V.Weighed.below _ _ first _ _ _ _ _ c.in-Default.is
+    spent_default path_of (λ v. v) g.V.CountValue.below _ _ first _ _ _ _ _ c.in-Default.is
     c.deref-in-Default.ensures.value c.spend_conds-in-Default.ensures
 
 pub spend_conds-loop-c-preserved : goal.spend_conds-loop-c-preserved
 spend_conds-loop-c-preserved g t c =
-    goes_on (λ xs. conds_nodes g.V.Weighed.below (conds_from xs)) (cond_of path_of (λ v. v))
-    (conds_nodes_split g.V.Weighed.below) _ _ c.loop-c.c-index c.args.all.now c.c-item.result _
+    goes_on (λ xs. conds_nodes g.V.CountValue.below (conds_from xs)) (cond_of path_of (λ v. v))
+    (conds_nodes_split g.V.CountValue.below) _ _ c.loop-c.c-index c.args.all.now c.c-item.result _
     (omega arith) c.c-item.is (c.in_ok-left.ensures
-    ∙ ap (spent c.loop-c.left) (one_cond g.V.Weighed.below _)) c.loop-c.invariant
+    ∙ ap (spent c.loop-c.left) (one_cond g.V.CountValue.below _)) c.loop-c.invariant
 
 pub spend_conds-returns-in_err-left : goal.spend_conds-returns-in_err-left
 spend_conds-returns-in_err-left g t c =
-    c.from_residual.ensures ∙ stops_at (λ xs. conds_nodes g.V.Weighed.below (conds_from xs))
-    (cond_of path_of (λ v. v)) (conds_nodes_split g.V.Weighed.below) _ c.loop-c.c-index
+    c.from_residual.ensures ∙ stops_at (λ xs. conds_nodes g.V.CountValue.below (conds_from xs))
+    (cond_of path_of (λ v. v)) (conds_nodes_split g.V.CountValue.below) _ c.loop-c.c-index
     c.args.all.now c.c-item.result _ (omega arith) c.c-item.is (c.in_err-left.ensures
-    ∙ ap (spent c.loop-c.left) (one_cond g.V.Weighed.below _)) c.loop-c.invariant
+    ∙ ap (spent c.loop-c.left) (one_cond g.V.CountValue.below _)) c.loop-c.invariant
 
 pub spend_arms-loop-arm-preserved : goal.spend_arms-loop-arm-preserved
 spend_arms-loop-arm-preserved g t c =
-    goes_on (λ xs. arms_nodes g.V.Weighed.below (arms_from xs)) (arm_of path_of (λ v. v))
-    (arms_nodes_split g.V.Weighed.below) _ _ c.loop-arm.arm-index c.args.arms.now
+    goes_on (λ xs. arms_nodes g.V.CountValue.below (arms_from xs)) (arm_of path_of (λ v. v))
+    (arms_nodes_split g.V.CountValue.below) _ _ c.loop-arm.arm-index c.args.arms.now
     c.arm-item.result _ (omega arith) c.arm-item.is c.in_ok-left.ensures c.loop-arm.invariant
 
 pub spend_arms-returns-in_err-left : goal.spend_arms-returns-in_err-left
 spend_arms-returns-in_err-left g t c =
-    c.from_residual.ensures ∙ stops_at (λ xs. arms_nodes g.V.Weighed.below (arms_from xs))
-    (arm_of path_of (λ v. v)) (arms_nodes_split g.V.Weighed.below) _ c.loop-arm.arm-index
+    c.from_residual.ensures ∙ stops_at (λ xs. arms_nodes g.V.CountValue.below (arms_from xs))
+    (arm_of path_of (λ v. v)) (arms_nodes_split g.V.CountValue.below) _ c.loop-arm.arm-index
     c.args.arms.now c.arm-item.result _ (omega arith) c.arm-item.is c.in_err-left.ensures
     c.loop-arm.invariant
 

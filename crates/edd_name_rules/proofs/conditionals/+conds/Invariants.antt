@@ -10,17 +10,17 @@ use Rattle.edd_name_rules.proofs.conditionals.+conds.Given as goal
 -- what is left is enough for those to come exactly if the budget was enough for all
 abbrev pub invariant-spend_conds-loop-c : goal.invariant-spend_conds-loop-c
 invariant-spend_conds-loop-c g l =
-    spent_from (λ xs. conds_nodes g.V.Weighed.below (conds_from xs)) (cond_of path_of (λ v. v))
-    (conds_nodes_split g.V.Weighed.below) l.left l.c-index l.all
-    ≡ spent_from (λ xs. conds_nodes g.V.Weighed.below (conds_from xs))
-    (cond_of path_of (λ v. v)) (conds_nodes_split g.V.Weighed.below) l.fn.budget 0 l.all
+    spent_from (λ xs. conds_nodes g.V.CountValue.below (conds_from xs)) (cond_of path_of (λ v. v))
+    (conds_nodes_split g.V.CountValue.below) l.left l.c-index l.all
+    ≡ spent_from (λ xs. conds_nodes g.V.CountValue.below (conds_from xs))
+    (cond_of path_of (λ v. v)) (conds_nodes_split g.V.CountValue.below) l.fn.budget 0 l.all
 
 abbrev pub invariant-spend_arms-loop-arm : goal.invariant-spend_arms-loop-arm
 invariant-spend_arms-loop-arm g l =
-    spent_from (λ xs. arms_nodes g.V.Weighed.below (arms_from xs)) (arm_of path_of (λ v. v))
-    (arms_nodes_split g.V.Weighed.below) l.left l.arm-index l.arms
-    ≡ spent_from (λ xs. arms_nodes g.V.Weighed.below (arms_from xs)) (arm_of path_of (λ v. v))
-    (arms_nodes_split g.V.Weighed.below) l.fn.budget 0 l.arms
+    spent_from (λ xs. arms_nodes g.V.CountValue.below (arms_from xs)) (arm_of path_of (λ v. v))
+    (arms_nodes_split g.V.CountValue.below) l.left l.arm-index l.arms
+    ≡ spent_from (λ xs. arms_nodes g.V.CountValue.below (arms_from xs)) (arm_of path_of (λ v. v))
+    (arms_nodes_split g.V.CountValue.below) l.fn.budget 0 l.arms
 
 abbrev pub decreases-spend_cond : goal.decreases-spend_cond
 decreases-spend_cond g l = cond_depth path_of (λ v. v) l.c.now

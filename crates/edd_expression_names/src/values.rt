@@ -13,7 +13,7 @@ ghost use Rattle.edd_syntax.specs.Text as texts;
 ghost use Rattle.edd_syntax.specs.TreeView.{path_of, expr_of, numbered_expr};
 ghost use Rattle.edd_syntax.specs.WordsView.{text_of};
 
-use crate::conditionals::Named;
+use crate::conditionals::ResolveValue;
 use crate::exprs::{copy_expr, refer_variable};
 use crate::made_of;
 use crate::texts::{copy_optional_text, copy_text};
@@ -27,7 +27,7 @@ use edd_syntax::reference::{Path, Target};
 use edd_syntax::text::Text;
 use edd_syntax::types::Handling;
 
-impl Named for Text {
+impl ResolveValue for Text {
     type Out = Text;
 
     ghost Before = { texts.Text };
@@ -48,7 +48,7 @@ impl Named for Text {
     }
 }
 
-impl Named for Handling {
+impl ResolveValue for Handling {
     type Out = Handling;
 
     ghost Before = { handling.Handling };
@@ -69,7 +69,7 @@ impl Named for Handling {
     }
 }
 
-impl Named for bool {
+impl ResolveValue for bool {
     type Out = bool;
 
     ghost Before = { Bool };
@@ -90,7 +90,7 @@ impl Named for bool {
     }
 }
 
-impl Named for Enumerator {
+impl ResolveValue for Enumerator {
     type Out = Enumerator;
 
     ghost Before = { item.Enumerator };
@@ -117,7 +117,7 @@ impl Named for Enumerator {
     }
 }
 
-impl Named for Expr<Path> {
+impl ResolveValue for Expr<Path> {
     type Out = Expr<Target>;
 
     ghost Before = { expression.Expr pure.Path };
@@ -138,7 +138,7 @@ impl Named for Expr<Path> {
     }
 }
 
-impl Named for MenuEntry<Path> {
+impl ResolveValue for MenuEntry<Path> {
     type Out = MenuEntry<Target>;
 
     ghost Before = { item.MenuEntry pure.Path };
@@ -170,7 +170,7 @@ impl Named for MenuEntry<Path> {
     }
 }
 
-impl Named for DataItem<Path> {
+impl ResolveValue for DataItem<Path> {
     type Out = DataItem<Target>;
 
     ghost Before = { item.DataItem pure.Path };

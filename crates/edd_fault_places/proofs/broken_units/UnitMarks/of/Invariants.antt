@@ -1,5 +1,5 @@
 use Rattle.std.proofs.Common.{◌-◌, ◌≤◌, length}
-use Rattle.edd_fault_places.proofs.broken_units.Places.of.Given as goal
+use Rattle.edd_fault_places.proofs.broken_units.UnitMarks.of.Given as goal
 
 abbrev pub invariant-loop-place : goal.invariant-loop-place
 invariant-loop-place l = l.place ≤ length l.code

@@ -64,15 +64,15 @@ pub fn items_of<'a>(alloc: Global, tokens: &'a [Token]) -> Result<Vec<&'a [Token
 
 /// The tokens of an item that are not passed yet.
 #[derive(Clone, Copy)]
-pub struct Places<'a> {
+pub struct TokensLeft<'a> {
     text: &'a [u8],
     rest: &'a [Token],
     last: Mark<'a>,
 }
 
-impl<'a> Places<'a> {
+impl<'a> TokensLeft<'a> {
     /// All tokens of an item.
-    pub fn new(text: &'a [u8], tokens: &'a [Token]) -> Places<'a> {
+    pub fn new(text: &'a [u8], tokens: &'a [Token]) -> TokensLeft<'a> {
         let last = match tokens.first() {
             Some(token) => mark_of(text, token),
             None => Mark {
@@ -81,7 +81,7 @@ impl<'a> Places<'a> {
                 start: None,
             },
         };
-        Places {
+        TokensLeft {
             text,
             rest: tokens,
             last,

@@ -5,7 +5,7 @@ use Rattle.edd_syntax.specs.TreeView.{path_of}
 use Rattle.edd_name_meanings.specs.Directory.{description_of}
 use Rattle.edd_name_meanings.specs.Meanings.{FirstFault}
 use Rattle.edd_name_rules.proofs.Passing.{passed}
-use Rattle.edd_expression_names.proofs.leaves.DataItemPathNamed.copy.Goals as goal
+use Rattle.edd_expression_names.proofs.values.DataItemPathResolveValue.copy.Goals as goal
 
 pub returns-in_err-refer_variable-in-Variable-clause-refused :
     goal.returns-in_err-refer_variable-in-Variable-clause-refused
