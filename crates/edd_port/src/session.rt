@@ -64,8 +64,8 @@ impl<'i, 'b> Session<'i, 'b> {
             session.state) }
         ensures taken { IfOk result (λ session. session.taken ≡ 0) }
         ensures accepted { OnOk result (AreDeviceValues (types_in image.now) values.numbers.items) }
-        ensures refused { IfErr result (λ refused. IsStartFault image.now method values.numbers.items
-            refused.0) }
+        ensures refused { IfErr result
+            (λ refused. IsStartFault image.now method values.numbers.items refused.0) }
         ensures kept { IfErr result (λ refused. refused.1 ≡ values) }
     {
         let Some(unit) = find_body(image, method) else {

@@ -121,8 +121,8 @@ abbrev pub Belong : Kind → List (Item Target) → Type 0
 Belong k xs = AllByRecursion (λ i. list_all (belongs_to k) i.attributes ≡ true) xs
 
 one_belongs : (k : Kind) (i : Item Target) (rest : List (Item Target))
-    → has_own_attributes i ≡ true → Belong k rest → (b : Bool) → same_kind (kind_of_item i.sort) k ≡ b
-    → Belong k (if b then i ∷ rest else rest)
+    → has_own_attributes i ≡ true → Belong k rest → (b : Bool)
+    → same_kind (kind_of_item i.sort) k ≡ b → Belong k (if b then i ∷ rest else rest)
 one_belongs k i rest form others true is = (
   ap (λ j. list_all (belongs_to j) i.attributes) (sym (same_kinds (kind_of_item i.sort) k is))
       ∙ form,

@@ -167,11 +167,11 @@ abbrev mutual
       × ExprHere p (comparison_precedence by) left here (Sign (sign.Comparison by) ∷ behind)
       × ExprHere p (suc (comparison_precedence by)) right behind rest
   ExprHere p precedence (LogicalAnd left right) here rest =
-      (precedence ≤ 4) × (behind : List Token) × ExprHere p 4 left here (Sign sign.LogicalAnd ∷ behind)
-      × ExprHere p 5 right behind rest
+      (precedence ≤ 4) × (behind : List Token)
+      × ExprHere p 4 left here (Sign sign.LogicalAnd ∷ behind) × ExprHere p 5 right behind rest
   ExprHere p precedence (LogicalOr left right) here rest =
-      (precedence ≤ 3) × (behind : List Token) × ExprHere p 3 left here (Sign sign.LogicalOr ∷ behind)
-      × ExprHere p 4 right behind rest
+      (precedence ≤ 3) × (behind : List Token)
+      × ExprHere p 3 left here (Sign sign.LogicalOr ∷ behind) × ExprHere p 4 right behind rest
   -- precedence 2 groups to the right, and any expression of the site may be in its middle
   ExprHere p precedence (Conditional test first second) here rest =
       (precedence ≤ 2) × (middle last : List Token)

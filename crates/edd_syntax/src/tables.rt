@@ -1,4 +1,4 @@
-//! The tables of kinds, items, attributes and builtin functions. Each of them is here and nowhere else.
+//! The tables of kinds, items, attributes and builtin functions, which are here and nowhere else.
 
 ghost use Rattle.std.specs.Prelude.{◌≡◌};
 ghost use Rattle.edd_syntax.specs.Attributes as attributes;

@@ -28,9 +28,9 @@ pub spend_cond-returns-in_err-left-in-If-2 : goal.spend_cond-returns-in_err-left
 spend_cond-returns-in_err-left-in-If-2 g t c =
     let first : Some c.in_ok-left.left ≡ spent c.args.budget 1 =
     grind (arith, common_steps, nat_tests) in
-    c.from_residual-in_err-left-in-If-2.ensures ∙ if_stops_later path_of (λ v. v) g.V.CountValue.below
-    _ _ first _ _ _ _ _ _ c.in-If.is c.deref.ensures.value c.in_ok-left-in-If.ensures
-    c.in_err-left-in-If-2.ensures
+    c.from_residual-in_err-left-in-If-2.ensures
+    ∙ if_stops_later path_of (λ v. v) g.V.CountValue.below _ _ first _ _ _ _ _ _ c.in-If.is
+    c.deref.ensures.value c.in_ok-left-in-If.ensures c.in_err-left-in-If-2.ensures
 
 pub spend_cond-returns-in_ok-left-in-If-2 : goal.spend_cond-returns-in_ok-left-in-If-2
 spend_cond-returns-in_ok-left-in-If-2 g t c =
@@ -44,8 +44,9 @@ pub spend_cond-returns-in_err-spend-in-Select : goal.spend_cond-returns-in_err-s
 spend_cond-returns-in_err-spend-in-Select g t c =
     let first : Some c.in_ok-left.left ≡ spent c.args.budget 1 =
     grind (arith, common_steps, nat_tests) in
-    c.from_residual-in_err-spend-in-Select.ensures ∙ select_stops path_of (λ v. v) g.V.CountValue.below
-    _ _ first _ _ _ c.in-Select.is c.in_err-spend-in-Select.ensures
+    c.from_residual-in_err-spend-in-Select.ensures
+    ∙ select_stops path_of (λ v. v) g.V.CountValue.below _ _ first _ _ _ c.in-Select.is
+    c.in_err-spend-in-Select.ensures
 
 pub spend_cond-returns-in_ok-spend-in-Select : goal.spend_cond-returns-in_ok-spend-in-Select
 spend_cond-returns-in_ok-spend-in-Select g t c =
