@@ -1,4 +1,4 @@
--- What stands in rows takes a token at least: response codes, members, elements, and the parts of
+-- What is in rows takes a token at least: response codes, members, elements, and the parts of
 -- types and of transactions.
 use Rattle.std.proofs.Common.{◌≡◌, ℕ, ◌≤◌, ◌<◌, Bool, true, false, List, ◌∷◌, drop, length, Some, None, ◌∙◌, arith, length-drop}
 use Rattle.std.specs.Prelude.{if◌then◌else◌}

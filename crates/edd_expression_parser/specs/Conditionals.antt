@@ -46,7 +46,7 @@ select_head height_left here = do
   inside ← expect sign.OpenBrace brace
   Some (on, inside)
 
--- what stands in a branch
+-- what is in a branch
 unfoldable pub branch_in : {V : Type 0} → Form → (List Token → Read (Cond Path V)) → List Token
     → Read (Conds Path V)
 branch_in One inner here = only inner here

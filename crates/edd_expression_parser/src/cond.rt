@@ -25,7 +25,7 @@ use edd_token_reader::operators::{Site, loosest};
 use edd_token_reader::words::skip_comma;
 use std::alloc::{AllocError, Global};
 
-/// Whether a conditional has one value in each branch or stands in a list.
+/// Whether a conditional has one value in each branch or is in a list.
 #[derive(Clone, Copy, PartialEq, Eq, Debug)]
 pub enum Form {
     One,
@@ -238,7 +238,7 @@ fn braces<V: ParseValue>(
     Ok(all)
 }
 
-// What stands in a branch.
+// What is in a branch.
 #[cycle(cond)]
 #[tactic(auto, unfolding(crate::specs::Conditionals::branch_in, edd_grammar::specs::ConditionalReading::only))]
 fn branch<V: ParseValue>(

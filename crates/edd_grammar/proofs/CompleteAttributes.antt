@@ -184,7 +184,7 @@ attribute_shorter (item.Definition body) here rest h =
 
 -- ---- the word of an attribute
 
--- the next token is a word, which says in which kinds of items the attribute may stand
+-- the next token is a word, which says in which kinds of items the attribute may be
 record StartsAttribute (a : Attribute Path) (here : List Token) : Type 0 where
   pub no_close : at_close here ≡ false
   pub no_semicolon : at sign.Semicolon here ≡ false

@@ -19,7 +19,7 @@ use Rattle.edd_grammar.specs.Reading.{◌>>=◌, on_option, Read, at, path_behin
 use Rattle.edd_grammar.specs.ExpressionReading.{step_before, operator_at, assignment_at, Inner, argument_at, some_arguments, arguments_at, postfix, index_behind, named_at, unary_behind, parentheses_behind, signed_at, operand_at, joined_at, chain, choice_at, assigned, assign_at, layer, expr_at}
 use Rattle.edd_grammar.specs.Following.{Stops}
 use Rattle.edd_grammar.proofs.Steps.{expect_again}
-use Rattle.edd_grammar.proofs.Operators.{method_again, infix_again, infix_height, InfixHere, AssignmentHere, row_from, row_to}
+use Rattle.edd_grammar.proofs.Operators.{method_again, infix_again, infix_height, InfixHere, AssignmentHere, precedence_from, precedence_to}
 use Rattle.edd_grammar.proofs.Texts.{path_again, path_behind_again, text_again}
 use Rattle.edd_grammar.proofs.SoundExpressions.{loosest_le}
 use Rattle.edd_grammar.proofs.Shorter.{expr_shorter, text_shorter, begins, begins_no_text, begins_no_close, text_no_close}
@@ -244,7 +244,7 @@ module _ (p : Site) (inner : Inner) (height_left : ℕ) (complete : Complete p h
     unfolding operand_at named_at
     named_again r here rest behind f closed plain = rw (f, closed, plain) refl
 
-    -- rows 13 to 15
+    -- precedences 13 to 15
     abbrev IsOperand : Expr Path → Type 0
     IsOperand (tree.Binary op a b) = ⊥
     IsOperand (tree.Compare op a b) = ⊥
@@ -361,7 +361,7 @@ module _ (p : Site) (inner : Inner) (height_left : ℕ) (complete : Complete p h
     from_operand precedence here = operand_at p inner here >>= λ first. chain p inner height_left precedence
         (suc height_left) first.0 first.1
 
-    -- where the operator of this precedence stands next
+    -- where the operator of this precedence is next
     chain_takes : (precedence : ℕ) (op : Infix) (a b : Expr Path) (behind rest : List Token)
         → precedence ≤ infix_precedence op → height a ≤ height_left
         → inner (suc (infix_precedence op)) behind ≡ Some (b, rest)
@@ -385,7 +385,7 @@ module _ (p : Site) (inner : Inner) (height_left : ℕ) (complete : Complete p h
         (suc height_left) (infix_tree op a b) rest
     chain_joins precedence level op a b here rest le h low s first =
         let taller = infix_height op a b in
-        let read = complete (suc (infix_precedence op)) b h.1 rest (omega (arith, row_to op)) h.3
+        let read = complete (suc (infix_precedence op)) b h.1 rest (omega (arith, precedence_to op)) h.3
         (omega arith) (stops_mono (suc level) (suc (infix_precedence op)) rest (omega (arith, h.0)) s) in
         first ∙ chain_takes precedence op a b h.1 rest (omega (arith, h.0)) (omega arith) read
 
@@ -396,20 +396,20 @@ module _ (p : Site) (inner : Inner) (height_left : ℕ) (complete : Complete p h
     chain_again precedence level (tree.Binary op a b) here rest le three most h low s =
         chain_joins precedence level (Plain op) a b here rest le h low s
         (chain_again precedence (precedence_of op) a here (Sign (sign.Operator op) ∷ h.1) (omega (arith, h.0))
-        (row_from (Plain op)) (omega (arith, row_to (Plain op))) h.2 (omega arith) (omega arith))
+        (precedence_from (Plain op)) (omega (arith, precedence_to (Plain op))) h.2 (omega arith) (omega arith))
     chain_again precedence level (tree.Compare op a b) here rest le three most h low s =
         chain_joins precedence level (Comparing op) a b here rest le h low s
         (chain_again precedence (comparison_precedence op) a here (Sign (sign.Comparison op) ∷ h.1)
-        (omega (arith, h.0)) (row_from (Comparing op)) (omega (arith, row_to (Comparing op))) h.2
+        (omega (arith, h.0)) (precedence_from (Comparing op)) (omega (arith, precedence_to (Comparing op))) h.2
         (omega arith) (omega arith))
     chain_again precedence level (tree.LogicalAnd a b) here rest le three most h low s =
         chain_joins precedence level Both a b here rest le h low s
-        (chain_again precedence 4 a here (Sign sign.LogicalAnd ∷ h.1) (omega (arith, h.0)) (row_from Both)
-        (omega (arith, row_to Both)) h.2 (omega arith) (omega arith))
+        (chain_again precedence 4 a here (Sign sign.LogicalAnd ∷ h.1) (omega (arith, h.0)) (precedence_from Both)
+        (omega (arith, precedence_to Both)) h.2 (omega arith) (omega arith))
     chain_again precedence level (tree.LogicalOr a b) here rest le three most h low s =
         chain_joins precedence level Either a b here rest le h low s
-        (chain_again precedence 3 a here (Sign sign.LogicalOr ∷ h.1) (omega (arith, h.0)) (row_from Either)
-        (omega (arith, row_to Either)) h.2 (omega arith) (omega arith))
+        (chain_again precedence 3 a here (Sign sign.LogicalOr ∷ h.1) (omega (arith, h.0)) (precedence_from Either)
+        (omega (arith, precedence_to Either)) h.2 (omega arith) (omega arith))
     chain_again precedence level (tree.Conditional c a b) here rest le three most h low s =
         absurd (omega (arith, h.0))
     chain_again precedence level (tree.Assign r e) here rest le three most h low s =
@@ -419,7 +419,7 @@ module _ (p : Site) (inner : Inner) (height_left : ℕ) (complete : Complete p h
     chain_again precedence level e here rest le three most h low s =
         rw (operand_again level (suc level) e here rest tt h low s) refl
 
-    -- ---- the rows above the operators
+    -- ---- precedences 1 and 2
 
     chain_stops : (precedence : ℕ) (e : Expr Path) (rest : List Token) → operator_at precedence rest ≡ None
         → chain p inner height_left precedence (suc height_left) e rest ≡ Some (e, rest)
@@ -442,7 +442,7 @@ module _ (p : Site) (inner : Inner) (height_left : ℕ) (complete : Complete p h
     unfolding layer
     layer_is precedence here = sym (bind_assoc (operand_at p inner here) _ _)
 
-    -- where nothing of the rows 1 and 2 follows
+    -- where nothing of precedence 1 or 2 follows
     layer_stops : (precedence : ℕ) (e : Expr Path) (here rest : List Token) → Stops precedence rest
         → from_operand precedence here ≡ chain p inner height_left precedence (suc height_left) e rest
         → layer p inner height_left precedence here ≡ Some (e, rest)
@@ -490,18 +490,18 @@ module _ (p : Site) (inner : Inner) (height_left : ℕ) (complete : Complete p h
     unfolding choice_at assign_at
     layer_again precedence (tree.Binary op a b) here rest le h low s =
         layer_stops precedence _ here rest s (chain_again precedence (precedence_of op) (tree.Binary op a b) here rest
-        (omega (arith, h.0)) (row_from (Plain op)) (omega (arith, row_to (Plain op)))
+        (omega (arith, h.0)) (precedence_from (Plain op)) (omega (arith, precedence_to (Plain op)))
         (omega arith, h.1, h.2, h.3) low
         (stops_mono precedence (suc (precedence_of op)) rest (omega (arith, h.0)) s))
     layer_again precedence (tree.Compare op a b) here rest le h low s =
         layer_stops precedence _ here rest s (chain_again precedence (comparison_precedence op) (tree.Compare op a b)
         here
-        rest (omega (arith, h.0)) (row_from (Comparing op)) (omega (arith, row_to (Comparing op)))
+        rest (omega (arith, h.0)) (precedence_from (Comparing op)) (omega (arith, precedence_to (Comparing op)))
         (omega arith, h.1, h.2, h.3) low
         (stops_mono precedence (suc (comparison_precedence op)) rest (omega (arith, h.0)) s))
     layer_again precedence (tree.LogicalAnd a b) here rest le h low s =
         layer_stops precedence _ here rest s (chain_again precedence 4 (tree.LogicalAnd a b) here rest
-        (omega (arith, h.0)) (row_from Both) (omega (arith, row_to Both)) (
+        (omega (arith, h.0)) (precedence_from Both) (omega (arith, precedence_to Both)) (
           omega arith,
           h.1,
           h.2,
@@ -509,8 +509,8 @@ module _ (p : Site) (inner : Inner) (height_left : ℕ) (complete : Complete p h
         ) low (stops_mono precedence (suc 4) rest (omega (arith, h.0)) s))
     layer_again precedence (tree.LogicalOr a b) here rest le h low s =
         layer_stops precedence _ here rest s
-        (chain_again precedence 3 (tree.LogicalOr a b) here rest (omega (arith, h.0)) (row_from Either)
-        (omega (arith, row_to Either)) (omega arith, h.1, h.2, h.3) low
+        (chain_again precedence 3 (tree.LogicalOr a b) here rest (omega (arith, h.0)) (precedence_from Either)
+        (omega (arith, precedence_to Either)) (omega arith, h.1, h.2, h.3) low
         (stops_mono precedence (suc 3) rest (omega (arith, h.0)) s))
     layer_again precedence (tree.Conditional c a b) here rest le h low s =
         let condition = chain_again precedence 3 c here (Sign sign.Question ∷ h.1) (omega (arith, h.0))

@@ -286,7 +286,7 @@ all_items height_left =
     (λ i here rest h. (starts_item i.sort here h.0 h.2).no_semicolon) item_shorter
     end_no_semicolon
 
--- no comma stands where items begin
+-- there is no comma where items begin
 pub items_no_comma : (items : List (Item Path)) (here : List Token)
     → ClosedHere ItemHere items here [] → at sign.Comma here ≡ false
 items_no_comma [] here h = ap (at sign.Comma) h

@@ -62,19 +62,19 @@ comparison_to : (by : Comparison) → comparison_precedence by ≤ 12
 comparison_to comparison.Equal = lit≤ tt
 comparison_to _ = lit≤ tt
 
-pub row_from : (op : Infix) → 3 ≤ infix_precedence op
-row_from (Plain o) = operator_from o
-row_from (Comparing o) = comparison_from o
-row_from Both = lit≤ tt
-row_from Either = lit≤ tt
+pub precedence_from : (op : Infix) → 3 ≤ infix_precedence op
+precedence_from (Plain o) = operator_from o
+precedence_from (Comparing o) = comparison_from o
+precedence_from Both = lit≤ tt
+precedence_from Either = lit≤ tt
 
-pub row_to : (op : Infix) → infix_precedence op ≤ 12
-row_to (Plain o) = operator_to o
-row_to (Comparing o) = comparison_to o
-row_to Both = lit≤ tt
-row_to Either = lit≤ tt
+pub precedence_to : (op : Infix) → infix_precedence op ≤ 12
+precedence_to (Plain o) = operator_to o
+precedence_to (Comparing o) = comparison_to o
+precedence_to Both = lit≤ tt
+precedence_to Either = lit≤ tt
 
--- what it is for an operator to stand between these operands
+-- what it is for an operator to be between these operands
 abbrev pub InfixHere : Site → ℕ → Infix → Expr Path → Expr Path → List Token → List Token → Type 0
 InfixHere p precedence op left right here rest =
     (precedence ≤ infix_precedence op) × (behind : List Token)
@@ -173,7 +173,7 @@ assignment_is (Integer m ∷ behind) op rest e = absurd cc
 assignment_is (token.Decimal ∷ behind) op rest e = absurd cc
 assignment_is (String m ∷ behind) op rest e = absurd cc
 
--- what it is for an assignment to stand there
+-- what it is for an assignment to be there
 abbrev pub AssignmentHere : Site → ℕ → Assignment → Path → Expr Path → List Token → List Token
     → Type 0
 AssignmentHere p precedence op to value here rest =
@@ -205,14 +205,14 @@ ends_before precedence (Comparing o) here e = grind arith
 ends_before precedence Both here e = grind arith
 ends_before precedence Either here e = grind arith
 
--- the operator, where it stands in this precedence or a tighter one
-abbrev in_row : ℕ → List Token → Infix → Read Infix
-in_row precedence rest op = cond (nat_le precedence (infix_precedence op)) (Some (op, rest)) None
+-- the operator, where it is of this precedence or a tighter one
+abbrev of_precedence : ℕ → List Token → Infix → Read Infix
+of_precedence precedence rest op = cond (nat_le precedence (infix_precedence op)) (Some (op, rest)) None
 
--- without any operator, or with one in a precedence that is looser than this one
+-- without any operator, or with one of a precedence that is looser than this one
 found_cases : (found : Option Infix) (precedence : ℕ) (rest : List Token)
     → ((op : Infix) → found ≡ Some op → nat_le precedence (infix_precedence op) ≡ false)
-    → (found >>= in_row precedence rest) ≡ None
+    → (found >>= of_precedence precedence rest) ≡ None
 found_cases None precedence rest h = refl
 found_cases (Some op) precedence rest h = rw (h op refl) refl
 
@@ -225,7 +225,7 @@ ends_all precedence precedence' (Sign s ∷ here) le e =
     found_cases (infix_of s) precedence here
     (λ op some. absurd (let f = ends_before precedence' op here
     (ap (λ t. operator_at precedence' (Sign t ∷ here)) (sym (infix_is s op some)) ∙ e) in let g =
-    row_from op in omega arith))
+    precedence_from op in omega arith))
 ends_all precedence precedence' [] le e = refl
 ends_all precedence precedence' (Identifier n ∷ here) le e = refl
 ends_all precedence precedence' (Reserved n ∷ here) le e = refl
@@ -236,7 +236,7 @@ ends_all precedence precedence' (String n ∷ here) le e = refl
 -- no operator is in precedence 13 or a tighter one
 pub ends_tight : (precedence : ℕ) (here : List Token) → 13 ≤ precedence → Ends precedence here
 ends_tight precedence (Sign s ∷ here) le = found_cases (infix_of s) precedence here
-    (λ op some. not_in precedence op (let g = row_to op in omega arith))
+    (λ op some. not_in precedence op (let g = precedence_to op in omega arith))
 ends_tight precedence [] le = refl
 ends_tight precedence (Identifier n ∷ here) le = refl
 ends_tight precedence (Reserved n ∷ here) le = refl

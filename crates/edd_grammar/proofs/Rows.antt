@@ -13,7 +13,7 @@ use Rattle.edd_grammar.proofs.Branches.{Spelling, SoundOf}
 
 -- ---- braces
 
--- what stands in braces
+-- what is in braces
 abbrev pub BracedHere : {A : Type 0} → Spelling A → Spelling A
 BracedHere Here x here rest = (inside : List Token) × NextSign sign.OpenBrace here inside
     × Here x inside (Sign sign.CloseBrace ∷ rest)

@@ -20,10 +20,10 @@ use Rattle.edd_grammar.specs.Reading.{at, expect, path_at, is_text, text_at}
 use Rattle.edd_grammar.specs.ExpressionReading.{closing, step_before, is_method, operator_at, assignment_at, increment_at, Inner, argument_at, some_arguments, arguments_at, postfix, index_behind, named_at, unary_behind, parentheses_behind, signed_at, operand_at, joined_at, chain, choice_at, assigned, as_path, assign_at, layer, expr_at}
 use Rattle.edd_grammar.proofs.SameSigns.{same_sign_is}
 use Rattle.edd_grammar.proofs.Steps.{option_cases, bind_some, guard_some, chosen, both_true, as_read, at_is, expect_is, le_is}
-use Rattle.edd_grammar.proofs.Operators.{method_is, infix_spelled, infix_height, operator_is, row_from, row_to, unary_is, before_spelled, behind_spelled, assignment_is, assignment_spelled, assignment_height, Ends, ends_before, ends_all, ends_tight}
+use Rattle.edd_grammar.proofs.Operators.{method_is, infix_spelled, infix_height, operator_is, precedence_from, precedence_to, unary_is, before_spelled, behind_spelled, assignment_is, assignment_spelled, assignment_height, Ends, ends_before, ends_all, ends_tight}
 use Rattle.edd_grammar.proofs.Texts.{path_behind_sound, path_sound, text_sound}
 
--- where a precedence may stand, a tighter one may
+-- an expression of a precedence is one of a looser precedence too
 pub looser : (p : Site) (precedence precedence' : ℕ) (e : Expr Path) (here rest : List Token) → precedence ≤ precedence'
     → ExprHere p precedence' e here rest → ExprHere p precedence e here rest
 looser p precedence precedence' (tree.Literal n) here rest le h = h
@@ -45,13 +45,13 @@ looser p precedence precedence' (tree.Conditional c a b) here rest le h = (omega
 looser p precedence precedence' (tree.Assign r e) here rest le h = (h.0, omega arith, h.2, h.3, h.4)
 looser p precedence precedence' (tree.CompoundAssign op r e) here rest le h = (h.0, omega arith, h.2, h.3, h.4)
 
--- an expression as it stands here, of at most this height
+-- the expression that is here, of at most this height
 pub record Stands (p : Site) (height_left precedence : ℕ) (here : List Token) (e : Expr Path)
     (rest : List Token) : Type 0 where
   pub spelled : ExprHere p precedence e here rest
   pub low : height e ≤ height_left
 
--- What this reads stands so.
+-- What this reads is there.
 abbrev pub Sound : Site → ℕ → Inner → Type 0
 Sound p height_left inner = (precedence : ℕ) (here : List Token) (e : Expr Path) (rest : List Token)
     → precedence ≤ 13 → inner precedence here ≡ Some (e, rest) → Stands p height_left precedence here e rest
@@ -75,7 +75,7 @@ module _ (p : Site) (inner : Inner) (height_left : ℕ) (sound : Sound p height_
           → MoreArgumentsHere p args from (Sign sign.CloseParenthesis ∷ rest)
       pub low : argument_height args ≤ height_left
 
-  -- one argument: it may stand first, or after a comma
+  -- one argument: it may be the first, or after a comma
   record ArgumentStands (here : List Token) (a : Argument Path) (rest : List Token) : Type 0 where
     pub first : (others : Arguments Path) (end : List Token) → MoreArgumentsHere p others rest end
         → ArgumentsHere p (tree.Cons a others) here end
@@ -334,7 +334,7 @@ module _ (p : Site) (inner : Inner) (height_left : ℕ) (sound : Sound p height_
             let joins : (infix_tree o.0 left b.0.0 ≡ j.0.0) × (b.0.1 ≡ j.0.1) =
             some_pair_parts _ _ _ _ b.2 in
             let here-is = operator_is precedence here o.0 o.1 some in
-            let right = sound (suc (infix_precedence o.0)) o.1 b.0.0 b.0.1 (omega (arith, row_to o.0))
+            let right = sound (suc (infix_precedence o.0)) o.1 b.0.0 b.0.1 (omega (arith, precedence_to o.0))
             b.1 in
             let before = ends_before (suc level) o.0 o.1
             (subst (λ t. Ends (suc level) t) here-is.0 ends) in
@@ -350,7 +350,7 @@ module _ (p : Site) (inner : Inner) (height_left : ℕ) (sound : Sound p height_
               low =
                   (let r = right.0.low in omega (arith, infix_height o.0 left b.0.0));
             } in
-            chain_sound precedence (infix_precedence o.0) n from j.0.0 j.0.1 e rest here-is.1 (row_from o.0)
+            chain_sound precedence (infix_precedence o.0) n from j.0.0 j.0.1 e rest here-is.1 (precedence_from o.0)
             (subst (λ t. Stands p (suc height_left) (infix_precedence o.0) from j.0.0 t) joins.1
             (subst (λ x. Stands p (suc height_left) (infix_precedence o.0) from x b.0.1) joins.0
             stands))

@@ -11,7 +11,7 @@ use Rattle.edd_grammar.specs.Signs.{Plain, Comparing}
 use Rattle.edd_grammar.specs.Reading.{at}
 use Rattle.edd_grammar.specs.ExpressionReading.{operator_at, assignment_at, postfix}
 use Rattle.edd_grammar.specs.Following.{SignStops, Stops}
-use Rattle.edd_grammar.proofs.Operators.{row_to}
+use Rattle.edd_grammar.proofs.Operators.{precedence_to}
 use Rattle.edd_grammar.proofs.Texts.{NoDot}
 
 sign_mono : (precedence precedence' : ℕ) (s : Symbol) → precedence ≤ precedence' → SignStops precedence s → SignStops precedence' s
@@ -35,8 +35,8 @@ stops_mono precedence precedence' _ le h = tt
 
 -- precedence 13 and the tighter ones stop alike
 sign_tight : (precedence precedence' : ℕ) (s : Symbol) → 13 ≤ precedence' → SignStops precedence s → SignStops precedence' s
-sign_tight precedence precedence' (sign.Operator op) le s = omega (arith, row_to (Plain op))
-sign_tight precedence precedence' (sign.Comparison op) le s = omega (arith, row_to (Comparing op))
+sign_tight precedence precedence' (sign.Operator op) le s = omega (arith, precedence_to (Plain op))
+sign_tight precedence precedence' (sign.Comparison op) le s = omega (arith, precedence_to (Comparing op))
 sign_tight precedence precedence' sign.LogicalAnd le s = omega arith
 sign_tight precedence precedence' sign.LogicalOr le s = omega arith
 sign_tight precedence precedence' sign.Increment le s = s

@@ -28,7 +28,7 @@ same_word = (keyword_eq.ghosts).eq
 
 -- ---- operators between two operands
 
--- an operator of the rows 3 to 12
+-- an operator of a precedence from 3 to 12
 pub data Infix : Type 0 where
   Plain : Operator → Infix
   Comparing : Comparison → Infix

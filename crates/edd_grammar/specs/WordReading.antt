@@ -68,7 +68,7 @@ closed thing here = thing here >>= λ x. Some (x.0, skip_semicolons x.1)
 
 -- ---- braces
 
--- what stands between an opening and a closing brace
+-- what is between an opening and a closing brace
 unfoldable pub braced : {A : Type 0} → (List Token → Read A) → List Token → Read A
 braced inner here = do
   inside ← expect sign.OpenBrace here

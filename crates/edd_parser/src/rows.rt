@@ -11,7 +11,7 @@ use edd_syntax::symbols::Symbol;
 use edd_token_reader::cursor::Cursor;
 use edd_token_reader::fault::ParseFault;
 
-/// What may stand between braces any number of times, and how it is read.
+/// What may be between braces any number of times, and how it is read.
 pub trait RowElement: Sized + Drop {
     ghost Pure: { Type 0 };
 

@@ -21,7 +21,7 @@ use edd_token_reader::cursor::Cursor;
 use edd_token_reader::fault::ParseFault;
 use edd_token_reader::words::{integer, skip_comma};
 
-/// A type as it is written, and what stands in its braces.
+/// A type as it is written, and what is in its braces.
 #[derive(Drop)]
 pub struct WrittenType {
     pub word: TypeWord,
@@ -60,7 +60,7 @@ fn size(cursor: &mut Cursor) -> Result<Option<u32>, ParseFault>
     Ok(Some(size))
 }
 
-// A part of what stands in the braces of a type.
+// A part of what is in the braces of a type.
 #[tactic(auto, unfolding(edd_grammar::specs::TypeReading::type_part_at))]
 fn type_part(cursor: &mut Cursor, height_left: u32) -> Result<TypePart<Path>, ParseFault>
     requires { height_left ≤ 100 }

@@ -1,4 +1,4 @@
-//! Statements and what stands between braces.
+//! Statements and what is between braces.
 
 ghost use Rattle.std.specs.Prelude.{◌≡◌, ◌≤◌, ◌<◌, ◌+◌, length, Some, true, false, option_map};
 ghost use Rattle.edd_grammar.specs.StatementReading as reading;
@@ -238,7 +238,7 @@ fn parts(cursor: &mut Cursor, height_left: u32, labels: bool) -> Result<Vec<Part
     Ok(all)
 }
 
-// A declaration, a label where labels may stand, or a statement.
+// A declaration, a label where labels may be, or a statement.
 #[cycle(statement)]
 #[tactic(auto, unfolding(edd_grammar::specs::StatementReading::part_at))]
 fn part(cursor: &mut Cursor, height_left: u32, labels: bool) -> Result<Part<Path>, ParseFault>

@@ -432,7 +432,7 @@ impl<'a> Cursor<'a> {
         }
     }
 
-    /// The operator that is next, where it stands in this precedence or a tighter one.
+    /// The operator that is next, where it is of this precedence or a tighter one.
     pub fn operator(&mut self, precedence: u32) -> Option<Infix>
         ensures { Takes infix_view result self.old self.new (operator_at precedence self.old) }
     {
