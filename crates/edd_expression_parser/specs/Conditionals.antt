@@ -74,11 +74,11 @@ module _ {V : Type 0} (form : Form) (value : ℕ → List Token → Read V) (hei
   abbrev pub layer : List Token → Read (Cond Path V)
   layer = cond_layer height_left values branches conds
 
-  abbrev pub if_behind : List Token → Read (Cond Path V)
-  if_behind = if_at height_left values branches conds
+  abbrev pub after_if : List Token → Read (Cond Path V)
+  after_if = if_at height_left values branches conds
 
-  abbrev pub select_behind : List Token → Read (Cond Path V)
-  select_behind = select_at height_left values branches conds
+  abbrev pub after_select : List Token → Read (Cond Path V)
+  after_select = select_at height_left values branches conds
 
   abbrev pub braces : List Token → Read (Conds Path V)
   braces = braces_at height_left values branches conds

@@ -168,10 +168,10 @@ fn layer<V: ParseValue>(
         (conditionals.layer form V.read height_left cursor.old) }
 {
     if cursor.eat_word(Keyword::If) {
-        return if_behind(cursor, form, height_left);
+        return after_if(cursor, form, height_left);
     }
     if cursor.eat_word(Keyword::Select) {
-        return select_behind(cursor, form, height_left);
+        return after_select(cursor, form, height_left);
     }
     Ok(Cond::Value(one_value(cursor, form, height_left)?))
 }
@@ -179,14 +179,14 @@ fn layer<V: ParseValue>(
 // After IF.
 #[cycle(cond)]
 #[tactic(auto, unfolding(edd_grammar::specs::ConditionalReading::if_at), using(edd_syntax::proofs::CondRows::equations))]
-fn if_behind<V: ParseValue>(
+fn after_if<V: ParseValue>(
     cursor: &mut Cursor,
     form: Form,
     height_left: u32,
 ) -> Result<Cond<Path, V>, ParseFault>
     requires { height_left < 100 }
     ensures { Gives (cond_view V.view) result cursor.new
-        (conditionals.if_behind form V.read height_left cursor.old) }
+        (conditionals.after_if form V.read height_left cursor.old) }
 {
     let condition = condition(cursor, Site::Attribute, height_left)?;
     let first = braces(cursor, form, height_left)?;
@@ -281,14 +281,14 @@ pub fn elements<V: ParseValue>(
 // After SELECT.
 #[cycle(cond)]
 #[tactic(auto, unfolding(edd_grammar::specs::ConditionalReading::select_at, crate::specs::Conditionals::select_head), using(edd_syntax::proofs::CondRows::equations))]
-fn select_behind<V: ParseValue>(
+fn after_select<V: ParseValue>(
     cursor: &mut Cursor,
     form: Form,
     height_left: u32,
 ) -> Result<Cond<Path, V>, ParseFault>
     requires { height_left < 100 }
     ensures { Gives (cond_view V.view) result cursor.new
-        (conditionals.select_behind form V.read height_left cursor.old) }
+        (conditionals.after_select form V.read height_left cursor.old) }
 {
     let on = select_head(cursor, height_left)?;
     let arms = arms(cursor, form, height_left)?;

@@ -18,7 +18,7 @@ use Rattle.edd_syntax.specs.Expression as tree
 use Rattle.edd_syntax.specs.Expression.{Expr}
 use Rattle.edd_syntax.specs.Grammar.{Site, InAttribute, InMethod, IsMethod, precedence_of, comparison_precedence, unary_sign, PathHere, ExprHere}
 use Rattle.edd_syntax.specs.Size.{height}
-use Rattle.edd_grammar.specs.Signs.{Infix, Plain, Comparing, Both, Either, infix_precedence, infix_sign, infix_tree, infix_of, unary_of, before_of, behind_of, Assignment, Simple, Compound, assignment_sign, assignment_tree, assignment_of}
+use Rattle.edd_grammar.specs.Signs.{Infix, Plain, Comparing, Both, Either, infix_precedence, infix_sign, infix_tree, infix_of, unary_of, before_of, after_of, Assignment, Simple, Compound, assignment_sign, assignment_tree, assignment_of}
 use Rattle.edd_grammar.specs.Reading.{◌>>=◌, Read}
 use Rattle.edd_grammar.specs.ExpressionReading.{is_method, operator_at, assignment_at}
 use Rattle.edd_grammar.proofs.Steps.{bind_some, guard_some, as_read, le_is}
@@ -143,7 +143,7 @@ before_spelled p precedence _ op to here rest e m le h = absurd cc
 
 pub behind_spelled : (p : Site) (precedence : ℕ) (s : Symbol) (op : IncrementOperator) (to : Path)
     (here rest : List Token)
-    → behind_of s ≡ Some op → IsMethod p → precedence ≤ 14 → PathHere to here (Sign s ∷ rest)
+    → after_of s ≡ Some op → IsMethod p → precedence ≤ 14 → PathHere to here (Sign s ∷ rest)
     → ExprHere p precedence (tree.Increment op to) here rest
 behind_spelled p precedence sign.Increment op to here rest e m le h =
     let same : PostIncrement ≡ op = cc in rw (sym same) (m, le, h)

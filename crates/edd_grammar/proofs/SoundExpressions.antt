@@ -15,7 +15,7 @@ use Rattle.edd_syntax.specs.Expression as tree
 use Rattle.edd_syntax.specs.Expression.{Expr, Argument, Text, Value, Arguments}
 use Rattle.edd_syntax.specs.Grammar.{Site, InAttribute, InMethod, loosest, IsMethod, unary_sign, PathHere, ExprHere, ArgumentsHere, MoreArgumentsHere}
 use Rattle.edd_syntax.specs.Size.{height, argument_height}
-use Rattle.edd_grammar.specs.Signs.{infix_precedence, infix_tree, unary_of, before_of, behind_of, same_sign}
+use Rattle.edd_grammar.specs.Signs.{infix_precedence, infix_tree, unary_of, before_of, after_of, same_sign}
 use Rattle.edd_grammar.specs.Reading.{at, expect, path_at, is_text, text_at}
 use Rattle.edd_grammar.specs.ExpressionReading.{closing, step_before, is_method, operator_at, assignment_at, increment_at, Inner, argument_at, some_arguments, arguments_at, postfix, index_behind, named_at, unary_behind, parentheses_behind, signed_at, operand_at, joined_at, chain, choice_at, assigned, as_path, assign_at, layer, expr_at}
 use Rattle.edd_grammar.proofs.SameSigns.{same_sign_is}
@@ -165,7 +165,7 @@ module _ (p : Site) (inner : Inner) (height_left : ℕ) (sound : Sound p height_
         | inl (none, y) ↦ as_read (Operand from) _ e _ rest y
             (record { spelled = h; low = omega arith })
         | inr (o, some, y) ↦
-            let b = bind_some (behind_of s) _ o some in
+            let b = bind_some (after_of s) _ o some in
             let g = guard_some (is_method p) _ _ y in
             let stands : Operand from (tree.Increment b.0 r) here =
             record {

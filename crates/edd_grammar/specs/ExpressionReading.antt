@@ -12,7 +12,7 @@ use Rattle.edd_syntax.specs.Expression as tree
 use Rattle.edd_syntax.specs.Expression.{Expr, Argument, Text, Value, Arguments}
 use Rattle.edd_syntax.specs.Grammar.{Site, InAttribute, InMethod, loosest}
 use Rattle.edd_syntax.specs.Size.{height}
-use Rattle.edd_grammar.specs.Signs.{Infix, infix_precedence, infix_tree, infix_of, unary_of, before_of, behind_of, same_sign, Assignment, assignment_tree, assignment_of}
+use Rattle.edd_grammar.specs.Signs.{Infix, infix_precedence, infix_tree, infix_of, unary_of, before_of, after_of, same_sign, Assignment, assignment_tree, assignment_of}
 use Rattle.edd_grammar.specs.Reading.{◌>>=◌, on_option, Read, at, expect, path_behind, path_at, is_text, text_at}
 
 abbrev pub is_method : Site → Bool
@@ -31,7 +31,7 @@ assignment_at _ = None
 
 -- `++` or `--` after a reference
 abbrev pub increment_at : List Token → Read IncrementOperator
-increment_at (Sign s ∷ rest) = behind_of s >>= λ op. Some (op, rest)
+increment_at (Sign s ∷ rest) = after_of s >>= λ op. Some (op, rest)
 increment_at _ = None
 
 -- after a path

@@ -74,10 +74,10 @@ before_of sign.Increment = Some PreIncrement
 before_of sign.Decrement = Some PreDecrement
 before_of _ = None
 
-abbrev pub behind_of : Symbol → Option IncrementOperator
-behind_of sign.Increment = Some PostIncrement
-behind_of sign.Decrement = Some PostDecrement
-behind_of _ = None
+abbrev pub after_of : Symbol → Option IncrementOperator
+after_of sign.Increment = Some PostIncrement
+after_of sign.Decrement = Some PostDecrement
+after_of _ = None
 
 -- `=`, or an operator and `=` after it
 pub data Assignment : Type 0 where

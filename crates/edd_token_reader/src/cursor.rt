@@ -12,7 +12,7 @@ ghost use Rattle.edd_grammar.specs.AttributeReading.{begins_own, text_here};
 
 use crate::belongs::word_belongs;
 use crate::fault::ParseFault;
-use crate::operators::{Assignment, Infix, assignment_of, behind_of, infix_of, precedence_of};
+use crate::operators::{Assignment, Infix, assignment_of, after_of, infix_of, precedence_of};
 use crate::token_text::{name_in, string_in};
 use edd_lexer::token::{Token, TokenKind};
 use edd_syntax::numbers::{Kind, TextAttribute};
@@ -457,7 +457,7 @@ impl<'a> Cursor<'a> {
     pub fn step(&mut self) -> Option<IncrementOperator>
         ensures { Takes (λ op. op) result self.old self.new (increment_at self.old) }
     {
-        let op = behind_of(self.peek_sign()?)?;
+        let op = after_of(self.peek_sign()?)?;
         self.bump();
         Some(op)
     }

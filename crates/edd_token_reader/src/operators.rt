@@ -127,8 +127,8 @@ pub fn before_of(sign: Symbol) -> Option<IncrementOperator>
 }
 
 /// The step after a reference that a sign is.
-pub fn behind_of(sign: Symbol) -> Option<IncrementOperator>
-    ensures { result ≡ signs.behind_of sign }
+pub fn after_of(sign: Symbol) -> Option<IncrementOperator>
+    ensures { result ≡ signs.after_of sign }
 {
     match sign {
         Symbol::Increment => Some(IncrementOperator::PostIncrement),
