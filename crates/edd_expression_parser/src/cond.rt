@@ -22,7 +22,7 @@ use edd_syntax::symbols::{Keyword, Symbol};
 use edd_token_reader::cursor::Cursor;
 use edd_token_reader::fault::ParseFault;
 use edd_token_reader::operators::{Site, loosest};
-use edd_token_reader::words::skip_comma;
+use edd_token_reader::words::{integer, skip_comma};
 use std::alloc::{AllocError, Global};
 
 /// Whether a conditional has one value in each branch or is in a list.
@@ -53,10 +53,7 @@ pub trait ParseValue: Sized + Drop {
 fn negative(cursor: &mut Cursor) -> Result<i64, ParseFault>
     ensures { Gives (λ z. z) result cursor.new (reading.negative_at cursor.old) }
 {
-    let Some(n) = cursor.integer() else {
-        return Err(cursor.syntax());
-    };
-    Ok(-i64::from(n))
+    Ok(-i64::from(integer(cursor)?))
 }
 
 /// An integer, or its negative.

@@ -125,22 +125,21 @@ fn type_parts(cursor: &mut Cursor, height_left: u32) -> Result<Vec<TypePart<Path
 fn close_braces(cursor: &mut Cursor) -> Result<(), ParseFault>
     ensures { Leaves result cursor.new (behind_braces 1 cursor.old) }
 {
-    // No text opens more braces than it has places: so the proof knows that the depth fits.
-    let places = cursor.places();
-    let mut depth: usize = 1;
-    while depth > 0 {
-        if cursor.is_empty() {
-            return Err(cursor.syntax());
-        }
+    // The number of braces that are open inside that one.
+    let mut inside: usize = 0;
+    for _ in 0..cursor.tokens_left() {
         if cursor.at(Symbol::OpenBrace) {
-            depth += 1;
+            inside += 1;
         } else if cursor.at(Symbol::CloseBrace) {
-            depth -= 1;
+            if inside == 0 {
+                cursor.bump();
+                return Ok(());
+            }
+            inside -= 1;
         }
         cursor.bump();
     }
-    let _places = places;
-    Ok(())
+    Err(cursor.syntax())
 }
 
 // After a type of another word: after its first semicolon, or the brace that closes its first

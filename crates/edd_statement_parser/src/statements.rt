@@ -251,13 +251,11 @@ fn part(cursor: &mut Cursor, height_left: u32, labels: bool) -> Result<Part<Path
         cursor.bump();
         return Ok(Part::Declare(declaration(cursor, height_left)?));
     }
-    if labels && cursor.at_word(Keyword::MethodCase) {
-        cursor.bump();
+    if labels && cursor.eat_word(Keyword::MethodCase) {
         let label = case_label(cursor)?;
         return Ok(Part::CaseLabel { line, label });
     }
-    if labels && cursor.at_word(Keyword::MethodDefault) {
-        cursor.bump();
+    if labels && cursor.eat_word(Keyword::MethodDefault) {
         cursor.expect(Symbol::Colon)?;
         return Ok(Part::DefaultLabel { line });
     }

@@ -12,7 +12,7 @@ ghost use Rattle.edd_grammar.specs.AttributeReading.{begins_own, text_here};
 
 use crate::belongs::word_belongs;
 use crate::fault::ParseFault;
-use crate::operators::{Assignment, Infix, assignment_of, after_of, infix_of, precedence_of};
+use crate::operators::{Assignment, Infix, after_of, assignment_of, infix_of, precedence_of};
 use crate::token_text::{name_in, string_in};
 use edd_lexer::token::{Token, TokenKind};
 use edd_syntax::numbers::{Kind, TextAttribute};
@@ -131,11 +131,11 @@ impl<'a> Cursor<'a> {
         }
     }
 
-    /// The number of places before, between and after the tokens.
-    pub fn places(&self) -> usize
-        ensures { result ≡ length self.now + 1 }
+    /// The number of tokens that are left.
+    pub fn tokens_left(&self) -> usize
+        ensures { result ≡ length self.now }
     {
-        self.rest.len() + 1
+        self.rest.len()
     }
 
     /// Whether no token is left.

@@ -107,14 +107,6 @@ pub fn integer(cursor: &mut Cursor) -> Result<u32, ParseFault>
     }
 }
 
-/// A number, or none.
-#[tactic(auto, unfolding(edd_grammar::specs::WordReading::number_at))]
-pub fn number(cursor: &mut Cursor) -> Result<Option<u32>, ParseFault>
-    ensures { Gives (λ n. n) result cursor.new (words.number_at cursor.old) }
-{
-    Ok(cursor.integer())
-}
-
 /// After the semicolons that are next.
 pub fn skip_semicolons(cursor: &mut Cursor)
     ensures { cursor.new ≡ words.skip_semicolons cursor.old }
