@@ -83,7 +83,8 @@ InfixHere p precedence op left right here rest =
 
 pub infix_spelled : (p : Site) (precedence : ℕ) (op : Infix) (left right : Expr Path)
     (here rest : List Token)
-    → InfixHere p precedence op left right here rest → ExprHere p precedence (infix_tree op left right) here rest
+    → InfixHere p precedence op left right here rest → ExprHere p precedence
+    (infix_tree op left right) here rest
 infix_spelled p precedence (Plain o) left right here rest h = h
 infix_spelled p precedence (Comparing o) left right here rest h = h
 infix_spelled p precedence Both left right here rest h = h
@@ -102,8 +103,10 @@ pub operator_is : (precedence : ℕ) (here : List Token) (op : Infix) (rest : Li
 operator_is precedence [] op rest e = absurd cc
 operator_is precedence (Sign s ∷ behind) op rest e =
     let o = bind_some (infix_of s) _ (op, rest) e in
-    let g = guard_some (nat_le precedence (infix_precedence o.0)) (Some (o.0, behind)) (op, rest) o.2 in
-    as_read (λ k t. (Sign s ∷ behind ≡ Sign (infix_sign k) ∷ t) × (precedence ≤ infix_precedence k)) o.0 op behind
+    let g = guard_some (nat_le precedence (infix_precedence o.0)) (Some (o.0, behind))
+    (op, rest) o.2 in
+    as_read (λ k t. (Sign s ∷ behind ≡ Sign (infix_sign k) ∷ t)
+    × (precedence ≤ infix_precedence k)) o.0 op behind
     rest g.1
     (ap (λ k. Sign k ∷ behind) (infix_is s o.0 o.1), le_is precedence (infix_precedence o.0) g.0)
 operator_is precedence (Reserved m ∷ behind) op rest e = absurd cc
@@ -180,7 +183,8 @@ AssignmentHere p precedence op to value here rest =
     IsMethod p × (precedence ≤ 1) × (behind : List Token)
     × PathHere to here (Sign (assignment_sign op) ∷ behind) × ExprHere p 1 value behind rest
 
-pub assignment_spelled : (p : Site) (precedence : ℕ) (op : Assignment) (to : Path) (value : Expr Path)
+pub assignment_spelled : (p : Site) (precedence : ℕ) (op : Assignment) (to : Path)
+    (value : Expr Path)
     (here rest : List Token)
     → AssignmentHere p precedence op to value here rest
     → ExprHere p precedence (assignment_tree op to value) here rest
@@ -207,7 +211,8 @@ ends_before precedence Either here e = grind arith
 
 -- the operator, where it is of this precedence or a tighter one
 abbrev of_precedence : ℕ → List Token → Infix → Read Infix
-of_precedence precedence rest op = cond (nat_le precedence (infix_precedence op)) (Some (op, rest)) None
+of_precedence precedence rest op = cond (nat_le precedence (infix_precedence op))
+    (Some (op, rest)) None
 
 -- without any operator, or with one of a precedence that is looser than this one
 found_cases : (found : Option Infix) (precedence : ℕ) (rest : List Token)
@@ -216,11 +221,13 @@ found_cases : (found : Option Infix) (precedence : ℕ) (rest : List Token)
 found_cases None precedence rest h = refl
 found_cases (Some op) precedence rest h = rw (h op refl) refl
 
-not_in : (precedence : ℕ) (op : Infix) → infix_precedence op < precedence → nat_le precedence (infix_precedence op) ≡ false
+not_in : (precedence : ℕ) (op : Infix) → infix_precedence op < precedence
+    → nat_le precedence (infix_precedence op) ≡ false
 not_in precedence op lt = grind arith
 
 -- where no operator of precedence 3 or a looser one is next, there is none at all
-pub ends_all : (precedence precedence' : ℕ) (here : List Token) → precedence' ≤ 3 → Ends precedence' here → Ends precedence here
+pub ends_all : (precedence precedence' : ℕ) (here : List Token) → precedence' ≤ 3
+    → Ends precedence' here → Ends precedence here
 ends_all precedence precedence' (Sign s ∷ here) le e =
     found_cases (infix_of s) precedence here
     (λ op some. absurd (let f = ends_before precedence' op here

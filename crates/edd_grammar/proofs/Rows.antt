@@ -82,7 +82,8 @@ module _ {A : Type 0} (Here : Spelling A) (tall : A → ℕ) (height_left : ℕ)
 -- What is asked of the elements of a row that ends where `ends` says: an element is read where
 -- `Follows` holds of what follows, as it does at the end and where the next element begins.
 pub record RowOf {A : Type 0} (Here : Spelling A) (tall : A → ℕ) (height_left : ℕ)
-    (Follows : List Token → Type 0) (ends : List Token → Bool) (element : List Token → Read A) : Type
+    (Follows : List Token → Type 0) (ends : List Token → Bool) (element : List Token
+    → Read A) : Type
     0 where
   pub again : (x : A) (here rest : List Token) → Here x here rest → tall x ≤ height_left
       → Follows rest → element here ≡ Some (x, rest)
@@ -114,7 +115,8 @@ module _ {A : Type 0} (Here : Spelling A) (tall : A → ℕ) (height_left : ℕ)
   row_again (suc n) [] here rest lt h low e = rw (h, e) refl
   row_again (suc n) (x ∷ xs) here rest lt h low e =
       let first = elements.again x here h.0 h.1 (omega arith) (row_follows xs h.0 rest h.2 e) in
-      let more = row_again n xs h.0 rest (let s = elements.shorter x here h.0 h.1 in omega arith) h.2
+      let more = row_again n xs h.0 rest (let s = elements.shorter x here h.0 h.1 in
+      omega arith) h.2
       (omega arith) e in
       rw (elements.no_end x here h.0 h.1, first, more) refl
 
@@ -169,7 +171,8 @@ module _ {A : Type 0} (Here : Spelling A) where
   row_closed (x ∷ xs) here rest h = (h.1, (h.0, h.2, h.3, h.4), row_closed xs h.1 rest h.5)
 
   pub closed_sound : (tall : A → ℕ) (height_left : ℕ) (element : List Token → Read A)
-      → SoundOf Here tall height_left element → SoundOf ThenSemicolons tall height_left (closed element)
+      → SoundOf Here tall height_left element → SoundOf ThenSemicolons tall height_left
+      (closed element)
   unfolding closed
   closed_sound tall height_left element sound here x rest e =
       let a = bind_some (element here) _ (x, rest) e in

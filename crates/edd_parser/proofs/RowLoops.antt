@@ -54,7 +54,8 @@ module _ {B : Type 0} (ends : List Token → Bool) (element : List Token → Rea
 
   pub read_on : Shortens element → {A : Type 0} (view : A → B) (front : List A) (a : A)
       (here rest : List Token) → ends here ≡ false → element here ≡ Some (view a, rest)
-      → with_elements view front (row_here here) ≡ with_elements view (front ++ a ∷ []) (row_here rest)
+      → with_elements view front (row_here here) ≡ with_elements view (front ++ a ∷ [])
+      (row_here rest)
   unfolding row_at
   read_on shortens view front a here rest e read =
       let lt = shortens here (view a) rest read in
@@ -74,7 +75,8 @@ module _ {A B : Type 0} (view : A → B) (element : ℕ → List Token → Read 
 
   pub elements_fail : (front : List A) (here : List Token) → at_close here ≡ false
       → element height_left here ≡ None → with_elements view front (elements_here here) ≡ None
-  elements_fail front here e fails = read_fail at_close (element height_left) view front here e fails
+  elements_fail front here e fails = read_fail at_close (element height_left) view
+      front here e fails
 
   module _ (shortens : (height_left : ℕ) → Shortens (element height_left)) where
     pub elements_go_on : (front : List A) (a : A) (here rest : List Token) → at_close here ≡ false
@@ -98,7 +100,8 @@ items_here here = row_here at_end (closed (item_at 100)) here
 pub item_shortens : Shortens (closed (item_at 100))
 item_shortens here i rest e =
     let elements = all_items 100 in
-    elements.shorter i here rest (closed_sound ItemHere item_height 100 (item_at 100) (item_sound 100)
+    elements.shorter i here rest (closed_sound ItemHere item_height 100 (item_at 100)
+    (item_sound 100)
     here i rest e).0
 
 pub items_end : (front : List (code_item.Item code_path.Path)) (here : List Token)
@@ -130,7 +133,8 @@ module _ (kind : Kind) (height_left : ℕ) where
   pub attribute_shortens : Shortens (closed (own_attribute_at kind height_left))
   attribute_shortens here a rest e =
       let elements = own_attributes kind height_left in
-      elements.shorter a here rest (closed_sound (OwnAttributeHere kind) attribute_height height_left
+      elements.shorter a here rest (closed_sound (OwnAttributeHere kind)
+      attribute_height height_left
       (own_attribute_at kind height_left) (own_attribute_sound kind height_left) here a rest
       e).0
 

@@ -5,7 +5,8 @@ use Rattle.edd_token_reader.proofs.QualifierLoops.{bytes_of, names_here}
 use Rattle.edd_token_reader.proofs.qualifiers.some_qualifiers.Given as goal
 
 abbrev pub invariant-loop-all : goal.invariant-loop-all
-invariant-loop-all l = with_elements bytes_of l.all.items (names_here (allowed_names l.kind) l.cursor)
+invariant-loop-all l = with_elements bytes_of l.all.items
+    (names_here (allowed_names l.kind) l.cursor)
     ≡ names_here (allowed_names l.kind) l.fn.cursor
 
 abbrev pub decreases-loop-all : goal.decreases-loop-all
