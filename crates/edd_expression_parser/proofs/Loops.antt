@@ -27,7 +27,8 @@ expr_none p zero precedence here e = refl
 expr_none p (suc height_left) precedence here e = absurd (omega arith)
 
 pub expr_layer : (p : Site) (height_left precedence : ℕ) (here : List Token) → 0 < height_left
-    → expr_at p height_left precedence here ≡ layer p (expr_at p (height_left - 1)) (height_left - 1) precedence
+    → expr_at p height_left precedence here ≡ layer p (expr_at p (height_left - 1))
+    (height_left - 1) precedence
     here
 unfolding expr_at
 expr_layer p zero precedence here e = absurd (omega arith)
@@ -37,7 +38,8 @@ expr_layer p (suc height_left) precedence here e = let same : suc height_left - 
 -- ---- a chain of operators
 
 module _ (p : Site) (inner : Inner) (height_left precedence : ℕ) where
-  pub chain_ends : (n : ℕ) (left : Expr Path) (here : List Token) → operator_at precedence here ≡ None
+  pub chain_ends : (n : ℕ) (left : Expr Path) (here : List Token)
+      → operator_at precedence here ≡ None
       → chain p inner height_left precedence n left here ≡ Some (left, here)
   unfolding chain
   chain_ends zero left here e = rw e refl
@@ -51,7 +53,8 @@ module _ (p : Site) (inner : Inner) (height_left precedence : ℕ) where
   chain_spent (suc n) left here z = absurd (omega arith)
 
   pub chain_fails : (n i : ℕ) (left : Expr Path) (here behind : List Token) (op : Infix) → i < n
-      → operator_at precedence here ≡ Some (op, behind) → joined_at p inner height_left op left behind
+      → operator_at precedence here ≡ Some (op, behind)
+      → joined_at p inner height_left op left behind
       ≡ None → chain p inner height_left precedence (n - i) left here ≡ None
   unfolding chain
   chain_fails n i left here behind op lt e fails = let more : n - i ≡ suc (n - (i + 1)) =
@@ -60,7 +63,8 @@ module _ (p : Site) (inner : Inner) (height_left precedence : ℕ) where
   pub chain_goes_on : (n i : ℕ) (left whole : Expr Path) (here behind rest : List Token)
       (op : Infix) → i < n → operator_at precedence here ≡ Some (op, behind)
       → joined_at p inner height_left op left behind ≡ Some (whole, rest)
-      → chain p inner height_left precedence (n - i) left here ≡ chain p inner height_left precedence
+      → chain p inner height_left precedence (n - i) left here
+      ≡ chain p inner height_left precedence
       (n - (i + 1)) whole rest
   unfolding chain
   chain_goes_on n i left whole here behind rest op lt e read = let more : n - i

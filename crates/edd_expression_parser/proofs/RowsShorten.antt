@@ -1,4 +1,4 @@
--- What stands in rows takes a token at least: response codes, members, elements, and the parts of
+-- What is in rows takes a token at least: response codes, members, elements, and the parts of
 -- types and of transactions.
 use Rattle.std.proofs.Common.{◌≡◌, ℕ, ◌≤◌, ◌<◌, Bool, true, false, List, ◌∷◌, drop, length, Some, None, ◌∙◌, arith, length-drop}
 use Rattle.std.specs.Prelude.{if◌then◌else◌}
@@ -86,11 +86,11 @@ semicolons_no_longer : (here : List Token) → length (skip_semicolons here) ≤
 semicolons_no_longer (Sign sign.Semicolon ∷ rest) = omega (arith, semicolons_no_longer rest)
 semicolons_no_longer _ = omega arith
 
-closed_shortens : {A : Type 0} (thing : List Token → Read A) → Shortens thing
-    → Shortens (closed thing)
+closed_shortens : {A : Type 0} (element : List Token → Read A) → Shortens element
+    → Shortens (closed element)
 unfolding closed
-closed_shortens thing shortens here x rest e =
-    let a = bind_some (thing here) _ (x, rest) e in
+closed_shortens element shortens here x rest e =
+    let a = bind_some (element here) _ (x, rest) e in
     as_read (λ _ r. length r < length here) a.0.0 x (skip_semicolons a.0.1) rest a.2
     (omega (arith, semicolons_no_longer a.0.1, shortens here a.0.0 a.0.1 a.1))
 

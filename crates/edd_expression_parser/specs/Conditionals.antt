@@ -46,7 +46,7 @@ select_head height_left here = do
   inside ← expect sign.OpenBrace brace
   Some (on, inside)
 
--- what stands in a branch
+-- what is in a branch
 unfoldable pub branch_in : {V : Type 0} → Form → (List Token → Read (Cond Path V)) → List Token
     → Read (Conds Path V)
 branch_in One inner here = only inner here
@@ -74,11 +74,11 @@ module _ {V : Type 0} (form : Form) (value : ℕ → List Token → Read V) (hei
   abbrev pub layer : List Token → Read (Cond Path V)
   layer = cond_layer height_left values branches conds
 
-  abbrev pub if_behind : List Token → Read (Cond Path V)
-  if_behind = if_at height_left values branches conds
+  abbrev pub after_if : List Token → Read (Cond Path V)
+  after_if = if_at height_left values branches conds
 
-  abbrev pub select_behind : List Token → Read (Cond Path V)
-  select_behind = select_at height_left values branches conds
+  abbrev pub after_select : List Token → Read (Cond Path V)
+  after_select = select_at height_left values branches conds
 
   abbrev pub braces : List Token → Read (Conds Path V)
   braces = braces_at height_left values branches conds

@@ -22,10 +22,10 @@ use edd_syntax::symbols::{Keyword, Symbol};
 use edd_token_reader::cursor::Cursor;
 use edd_token_reader::fault::ParseFault;
 use edd_token_reader::operators::{Site, loosest};
-use edd_token_reader::words::skip_comma;
+use edd_token_reader::words::{integer, skip_comma};
 use std::alloc::{AllocError, Global};
 
-/// Whether a conditional has one value in each branch or stands in a list.
+/// Whether a conditional has one value in each branch or is in a list.
 #[derive(Clone, Copy, PartialEq, Eq, Debug)]
 pub enum Form {
     One,
@@ -53,10 +53,7 @@ pub trait ParseValue: Sized + Drop {
 fn negative(cursor: &mut Cursor) -> Result<i64, ParseFault>
     ensures { Gives (λ z. z) result cursor.new (reading.negative_at cursor.old) }
 {
-    let Some(n) = cursor.integer() else {
-        return Err(cursor.syntax());
-    };
-    Ok(-i64::from(n))
+    Ok(-i64::from(integer(cursor)?))
 }
 
 /// An integer, or its negative.
@@ -168,10 +165,10 @@ fn layer<V: ParseValue>(
         (conditionals.layer form V.read height_left cursor.old) }
 {
     if cursor.eat_word(Keyword::If) {
-        return if_behind(cursor, form, height_left);
+        return after_if(cursor, form, height_left);
     }
     if cursor.eat_word(Keyword::Select) {
-        return select_behind(cursor, form, height_left);
+        return after_select(cursor, form, height_left);
     }
     Ok(Cond::Value(one_value(cursor, form, height_left)?))
 }
@@ -179,14 +176,14 @@ fn layer<V: ParseValue>(
 // After IF.
 #[cycle(cond)]
 #[tactic(auto, unfolding(edd_grammar::specs::ConditionalReading::if_at), using(edd_syntax::proofs::CondRows::equations))]
-fn if_behind<V: ParseValue>(
+fn after_if<V: ParseValue>(
     cursor: &mut Cursor,
     form: Form,
     height_left: u32,
 ) -> Result<Cond<Path, V>, ParseFault>
     requires { height_left < 100 }
     ensures { Gives (cond_view V.view) result cursor.new
-        (conditionals.if_behind form V.read height_left cursor.old) }
+        (conditionals.after_if form V.read height_left cursor.old) }
 {
     let condition = condition(cursor, Site::Attribute, height_left)?;
     let first = braces(cursor, form, height_left)?;
@@ -238,7 +235,7 @@ fn braces<V: ParseValue>(
     Ok(all)
 }
 
-// What stands in a branch.
+// What is in a branch.
 #[cycle(cond)]
 #[tactic(auto, unfolding(crate::specs::Conditionals::branch_in, edd_grammar::specs::ConditionalReading::only))]
 fn branch<V: ParseValue>(
@@ -281,14 +278,14 @@ pub fn elements<V: ParseValue>(
 // After SELECT.
 #[cycle(cond)]
 #[tactic(auto, unfolding(edd_grammar::specs::ConditionalReading::select_at, crate::specs::Conditionals::select_head), using(edd_syntax::proofs::CondRows::equations))]
-fn select_behind<V: ParseValue>(
+fn after_select<V: ParseValue>(
     cursor: &mut Cursor,
     form: Form,
     height_left: u32,
 ) -> Result<Cond<Path, V>, ParseFault>
     requires { height_left < 100 }
     ensures { Gives (cond_view V.view) result cursor.new
-        (conditionals.select_behind form V.read height_left cursor.old) }
+        (conditionals.after_select form V.read height_left cursor.old) }
 {
     let on = select_head(cursor, height_left)?;
     let arms = arms(cursor, form, height_left)?;

@@ -1,4 +1,4 @@
-//! Expressions, by the rows of their operators.
+//! Expressions, by the precedence of their operators.
 
 ghost use Rattle.std.specs.Prelude.{◌≡◌, ◌≤◌, ◌<◌, ◌+◌, List, [], ◌∷◌, ◌++◌, length, drop, Some, None, IfOk, nat_le, if◌then◌else◌};
 ghost use Rattle.edd_syntax.specs.TreeView.{path_of};
@@ -101,7 +101,7 @@ fn tested(cursor: &mut Cursor, height_left: u32, test: Measured) -> Result<Child
     Ok(boxed(cursor.alloc(), test)?)
 }
 
-/// An expression of at most this height, in a place for this precedence or a tighter one.
+/// An expression of at most this height, at a site for this precedence or a tighter one.
 #[cycle(expr)]
 #[tactic(auto, using(crate::proofs::Loops::levels))]
 pub fn expr(
@@ -132,8 +132,8 @@ fn layer(
 ) -> Result<Measured, ParseFault>
     requires { height_left < 100 }
     ensures read { Gives (λ t. expr_view t.expr) result cursor.new
-        (reading.layer (site_view site) (expr_at (site_view site) height_left) height_left precedence
-        cursor.old) }
+        (reading.layer (site_view site) (expr_at (site_view site) height_left) height_left
+        precedence cursor.old) }
     ensures low { IfOk result (λ t. t.levels ≤ height_left + 1) }
 {
     let first = operand(cursor, site, height_left)?;
@@ -144,7 +144,12 @@ fn layer(
 
 // An expression inside another one.
 #[cycle(expr)]
-fn child(cursor: &mut Cursor, site: Site, height_left: u32, precedence: u32) -> Result<Child, ParseFault>
+fn child(
+    cursor: &mut Cursor,
+    site: Site,
+    height_left: u32,
+    precedence: u32,
+) -> Result<Child, ParseFault>
     requires { height_left ≤ 100 }
     ensures read { Gives (λ c. expr_view c.expr.value) result cursor.new
         (expr_at (site_view site) height_left precedence cursor.old) }
@@ -173,7 +178,7 @@ fn up_to(
     Ok(inner)
 }
 
-// Rows 13 to 15.
+// Precedences 13 to 15.
 #[cycle(expr)]
 #[tactic(auto, unfolding(edd_grammar::specs::ExpressionReading::operand_at))]
 fn operand(cursor: &mut Cursor, site: Site, height_left: u32) -> Result<Measured, ParseFault>
@@ -386,8 +391,8 @@ fn joined(
     Ok(binary(op, left, right))
 }
 
-// The left side, if no operator of this precedence or a tighter one follows: with it the tree would be too
-// high.
+// The left side, if no operator of this precedence or a tighter one follows: with it the tree would
+// be too high.
 fn last(cursor: &mut Cursor, precedence: u32, left: Measured) -> Result<Measured, ParseFault>
     ensures read { Gives (λ t. expr_view t.expr) result cursor.new
         (on_option (operator_at precedence cursor.old) (Some (expr_view left.expr, cursor.old))
@@ -414,8 +419,8 @@ fn chain(
     requires low { height_left < 100 }
     requires first_low { first.levels ≤ height_left + 1 }
     ensures read { Gives (λ t. expr_view t.expr) result cursor.new
-        (reading.chain (site_view site) (expr_at (site_view site) height_left) height_left precedence
-        (height_left + 1) (expr_view first.expr) cursor.old) }
+        (reading.chain (site_view site) (expr_at (site_view site) height_left) height_left
+        precedence (height_left + 1) (expr_view first.expr) cursor.old) }
     ensures low { IfOk result (λ t. t.levels ≤ height_left + 1) }
 {
     let mut left = first;
@@ -428,7 +433,7 @@ fn chain(
     last(cursor, precedence, left)
 }
 
-// Row 2, after its condition.
+// Precedence 2, after its condition.
 #[cycle(expr)]
 #[tactic(auto, unfolding(edd_grammar::specs::ExpressionReading::choice_at, crate::specs::Expressions::up_to_at))]
 fn choice(
@@ -454,7 +459,7 @@ fn choice(
     Ok(choice_between(test, first, second))
 }
 
-// Row 1, after what may be its left side.
+// Precedence 1, after what may be its left side.
 #[cycle(expr)]
 #[tactic(auto, unfolding(edd_grammar::specs::ExpressionReading::assign_at))]
 fn assignment(

@@ -41,7 +41,7 @@ impl ParseValue for Text {
     ghost shortens = { lengths.text_shortens };
 
     #[tactic(auto, unfolding(edd_grammar::specs::ConditionalReading::text_value))]
-    fn read_value(cursor: &mut Cursor, _high: u32) -> Result<Text, ParseFault> {
+    fn read_value(cursor: &mut Cursor, _height_left: u32) -> Result<Text, ParseFault> {
         if !at_text(cursor) {
             return Err(cursor.syntax());
         }
@@ -75,7 +75,7 @@ impl ParseValue for Handling {
     ghost shortens = { lengths.handling_shortens };
 
     #[tactic(auto, unfolding(edd_grammar::specs::ValueReading::handling_value))]
-    fn read_value(cursor: &mut Cursor, _high: u32) -> Result<Handling, ParseFault> {
+    fn read_value(cursor: &mut Cursor, _height_left: u32) -> Result<Handling, ParseFault> {
         handling(cursor)
     }
 }
@@ -90,7 +90,7 @@ impl ParseValue for bool {
     ghost shortens = { lengths.truth_shortens };
 
     #[tactic(auto, unfolding(edd_grammar::specs::ValueReading::truth_value))]
-    fn read_value(cursor: &mut Cursor, _high: u32) -> Result<bool, ParseFault> {
+    fn read_value(cursor: &mut Cursor, _height_left: u32) -> Result<bool, ParseFault> {
         truth(cursor)
     }
 }
@@ -125,7 +125,7 @@ impl ParseValue for Enumerator {
     ghost shortens = { lengths.enumerator_shortens };
 
     #[tactic(auto, unfolding(edd_grammar::specs::ValueReading::enumerator_value))]
-    fn read_value(cursor: &mut Cursor, _high: u32) -> Result<Enumerator, ParseFault> {
+    fn read_value(cursor: &mut Cursor, _height_left: u32) -> Result<Enumerator, ParseFault> {
         enumerator(cursor)
     }
 }
@@ -183,7 +183,7 @@ impl ParseValue for DataItem<Path> {
     ghost shortens = { lengths.data_item_shortens };
 
     #[tactic(auto, unfolding(edd_grammar::specs::ValueReading::data_item_value))]
-    fn read_value(cursor: &mut Cursor, _high: u32) -> Result<DataItem<Path>, ParseFault> {
+    fn read_value(cursor: &mut Cursor, _height_left: u32) -> Result<DataItem<Path>, ParseFault> {
         data_item(cursor)
     }
 }
@@ -219,7 +219,7 @@ impl ParseValue for MenuEntry<Path> {
     ghost shortens = { lengths.menu_entry_shortens };
 
     #[tactic(auto, unfolding(edd_grammar::specs::ValueReading::menu_entry_value))]
-    fn read_value(cursor: &mut Cursor, _high: u32) -> Result<MenuEntry<Path>, ParseFault> {
+    fn read_value(cursor: &mut Cursor, _height_left: u32) -> Result<MenuEntry<Path>, ParseFault> {
         menu_entry(cursor)
     }
 }

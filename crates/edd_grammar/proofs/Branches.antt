@@ -1,4 +1,4 @@
--- Conditionals of any sort: what stands in a branch, and what may follow ELSE, are parameters.
+-- Conditionals of any sort: what is in a branch, and what may follow ELSE, are parameters.
 use Rattle.std.proofs.Common.{◌≡◌, ℕ, zero, suc, ◌≤◌, Bool, true, false, List, ◌∷◌, drop, length, Some, refl, sym, ap, subst, ◌∙◌, inl, inr, ◌⊎◌, arith}
 use Rattle.std.specs.Prelude.{ℤ}
 use Rattle.std.proofs.lemmas.Option.{some_pair_parts}

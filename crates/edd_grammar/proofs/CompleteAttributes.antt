@@ -25,7 +25,7 @@ use Rattle.edd_grammar.proofs.ValueKinds.{text_values}
 use Rattle.edd_grammar.proofs.CompleteStatements.{definition_again, body_shorter}
 use Rattle.edd_grammar.proofs.Words.{number_again, number_shorter, handling_values, truth_values, operation_again, operation_shorter}
 use Rattle.edd_grammar.proofs.Entries.{EndsEntry, listed_menu_entries}
-use Rattle.edd_grammar.proofs.Rows.{RowOf, ThenSemicolons, braced_again, row_inside_again, row_shorter, closed_things}
+use Rattle.edd_grammar.proofs.Rows.{RowOf, ThenSemicolons, braced_again, row_inside_again, row_shorter, closed_elements}
 use Rattle.edd_grammar.proofs.Types.{type_again, type_shorter}
 use Rattle.edd_grammar.proofs.Members.{AfterResponse, response_codes, members, array_elements}
 use Rattle.edd_grammar.proofs.Transactions.{transaction_parts_again, transaction_parts_shorter}
@@ -184,7 +184,7 @@ attribute_shorter (item.Definition body) here rest h =
 
 -- ---- the word of an attribute
 
--- the next token is a word, which says in which kinds of items the attribute may stand
+-- the next token is a word, which says in which kinds of items the attribute may be
 record StartsAttribute (a : Attribute Path) (here : List Token) : Type 0 where
   pub no_close : at_close here ≡ false
   pub no_semicolon : at sign.Semicolon here ≡ false
@@ -242,7 +242,7 @@ module _ (k : Kind) (height_left : ℕ) where
   pub own_attributes : RowOf (ThenSemicolons (OwnAttributeHere k)) attribute_height height_left
       (λ rest. at sign.Semicolon rest ≡ false) at_close (closed (own_attribute_at k height_left))
   own_attributes =
-      closed_things (OwnAttributeHere k) attribute_height height_left at_close
+      closed_elements (OwnAttributeHere k) attribute_height height_left at_close
       (own_attribute_at k height_left) own_attribute_again
       (λ a here rest h. (starts_attribute a here rest h.1).no_close)
       (λ a here rest h. (starts_attribute a here rest h.1).no_semicolon)

@@ -19,7 +19,7 @@ use Rattle.edd_grammar.specs.Reading.{◌>>=◌, on_option, Read, at, path_behin
 use Rattle.edd_grammar.specs.ExpressionReading.{step_before, operator_at, assignment_at, Inner, argument_at, some_arguments, arguments_at, postfix, index_behind, named_at, unary_behind, parentheses_behind, signed_at, operand_at, joined_at, chain, choice_at, assigned, assign_at, layer, expr_at}
 use Rattle.edd_grammar.specs.Following.{Stops}
 use Rattle.edd_grammar.proofs.Steps.{expect_again}
-use Rattle.edd_grammar.proofs.Operators.{method_again, infix_again, infix_height, InfixHere, AssignmentHere, row_from, row_to}
+use Rattle.edd_grammar.proofs.Operators.{method_again, infix_again, infix_height, InfixHere, AssignmentHere, precedence_from, precedence_to}
 use Rattle.edd_grammar.proofs.Texts.{path_again, path_behind_again, text_again}
 use Rattle.edd_grammar.proofs.SoundExpressions.{loosest_le}
 use Rattle.edd_grammar.proofs.Shorter.{expr_shorter, text_shorter, begins, begins_no_text, begins_no_close, text_no_close}
@@ -61,7 +61,8 @@ less_again a b h = grind arith
 
 -- Whatever is spelled so, is read so.
 abbrev pub Complete : Site → ℕ → Inner → Type 0
-Complete p height_left inner = (precedence : ℕ) (e : Expr Path) (here rest : List Token) → precedence ≤ 13
+Complete p height_left inner = (precedence : ℕ) (e : Expr Path) (here rest : List Token)
+    → precedence ≤ 13
     → ExprHere p precedence e here rest → height e ≤ height_left → Stops precedence rest
     → inner precedence here ≡ Some (e, rest)
 
@@ -100,9 +101,14 @@ count_le p (tree.Cons (Value e) others) here rest h =
 count_le p (tree.Cons (Text w) others) here rest h =
     omega (arith, text_shorter w here h.0 h.1, count_more p others h.0 rest h.2)
 
-operator_again : (precedence : ℕ) (op : Infix) (behind : List Token) → precedence ≤ infix_precedence op
+operator_again : (precedence : ℕ) (op : Infix) (behind : List Token)
+    → precedence ≤ infix_precedence op
     → operator_at precedence (Sign (infix_sign op) ∷ behind) ≡ Some (op, behind)
-operator_again precedence op behind le = rw (infix_again op, le_again precedence (infix_precedence op) le) refl
+operator_again precedence op behind le = rw (
+  infix_again op,
+  le_again precedence
+      (infix_precedence op) le,
+) refl
 
 assignment_again : (op : Assignment) (behind : List Token)
     → assignment_at (Sign (assignment_sign op) ∷ behind) ≡ Some (op, behind)
@@ -244,7 +250,7 @@ module _ (p : Site) (inner : Inner) (height_left : ℕ) (complete : Complete p h
     unfolding operand_at named_at
     named_again r here rest behind f closed plain = rw (f, closed, plain) refl
 
-    -- rows 13 to 15
+    -- precedences 13 to 15
     abbrev IsOperand : Expr Path → Type 0
     IsOperand (tree.Binary op a b) = ⊥
     IsOperand (tree.Compare op a b) = ⊥
@@ -354,14 +360,16 @@ module _ (p : Site) (inner : Inner) (height_left : ℕ) (complete : Complete p h
         bind_same (inner (suc (infix_precedence o.0)) o.1) _ _
         (λ right. let l = less_again (height left) height_left low in
         let taller = infix_height o.0 left right.0 in
-        chain_fuel precedence n m (infix_tree o.0 left right.0) right.1 (omega arith) (omega arith)))))
+        chain_fuel precedence n m (infix_tree o.0 left right.0) right.1 (omega arith)
+        (omega arith)))))
 
     -- a left side that the first operand and the operators after it make
     abbrev from_operand : ℕ → List Token → Read (Expr Path)
-    from_operand precedence here = operand_at p inner here >>= λ first. chain p inner height_left precedence
+    from_operand precedence here = operand_at p inner here >>= λ first. chain p inner
+        height_left precedence
         (suc height_left) first.0 first.1
 
-    -- where the operator of this precedence stands next
+    -- where the operator of this precedence is next
     chain_takes : (precedence : ℕ) (op : Infix) (a b : Expr Path) (behind rest : List Token)
         → precedence ≤ infix_precedence op → height a ≤ height_left
         → inner (suc (infix_precedence op)) behind ≡ Some (b, rest)
@@ -372,7 +380,8 @@ module _ (p : Site) (inner : Inner) (height_left : ℕ) (complete : Complete p h
         let lowers = le_again (height a) height_left low in
         let next = operator_again precedence op behind le in
         let taller = infix_height op a b in
-        rw (next, lowers, read) (chain_fuel precedence height_left (suc height_left) (infix_tree op a b)
+        rw (next, lowers, read) (chain_fuel precedence height_left (suc height_left)
+        (infix_tree op a b)
         rest
         (omega arith) (omega arith))
 
@@ -381,35 +390,45 @@ module _ (p : Site) (inner : Inner) (height_left : ℕ) (complete : Complete p h
         → precedence ≤ level → (h : InfixHere p level op a b here rest) → height (infix_tree op a b)
         ≤ suc height_left → Stops (suc level) rest
         → from_operand precedence here ≡ chain p inner height_left precedence (suc height_left) a
-        (Sign (infix_sign op) ∷ h.1) → from_operand precedence here ≡ chain p inner height_left precedence
+        (Sign (infix_sign op) ∷ h.1) → from_operand precedence here
+        ≡ chain p inner height_left precedence
         (suc height_left) (infix_tree op a b) rest
     chain_joins precedence level op a b here rest le h low s first =
         let taller = infix_height op a b in
-        let read = complete (suc (infix_precedence op)) b h.1 rest (omega (arith, row_to op)) h.3
-        (omega arith) (stops_mono (suc level) (suc (infix_precedence op)) rest (omega (arith, h.0)) s) in
+        let read = complete (suc (infix_precedence op)) b h.1 rest
+        (omega (arith, precedence_to op)) h.3
+        (omega arith) (stops_mono (suc level) (suc (infix_precedence op)) rest
+        (omega (arith, h.0)) s) in
         first ∙ chain_takes precedence op a b h.1 rest (omega (arith, h.0)) (omega arith) read
 
-    chain_again : (precedence level : ℕ) (e : Expr Path) (here rest : List Token) → precedence ≤ level → 3 ≤ level
+    chain_again : (precedence level : ℕ) (e : Expr Path) (here rest : List Token)
+        → precedence ≤ level → 3 ≤ level
         → level ≤ 13 → ExprHere p level e here rest → height e ≤ suc height_left
         → Stops (suc level) rest
-        → from_operand precedence here ≡ chain p inner height_left precedence (suc height_left) e rest
+        → from_operand precedence here ≡ chain p inner height_left precedence
+        (suc height_left) e rest
     chain_again precedence level (tree.Binary op a b) here rest le three most h low s =
         chain_joins precedence level (Plain op) a b here rest le h low s
-        (chain_again precedence (precedence_of op) a here (Sign (sign.Operator op) ∷ h.1) (omega (arith, h.0))
-        (row_from (Plain op)) (omega (arith, row_to (Plain op))) h.2 (omega arith) (omega arith))
+        (chain_again precedence (precedence_of op) a here (Sign (sign.Operator op) ∷ h.1)
+        (omega (arith, h.0))
+        (precedence_from (Plain op)) (omega (arith, precedence_to (Plain op))) h.2
+        (omega arith) (omega arith))
     chain_again precedence level (tree.Compare op a b) here rest le three most h low s =
         chain_joins precedence level (Comparing op) a b here rest le h low s
         (chain_again precedence (comparison_precedence op) a here (Sign (sign.Comparison op) ∷ h.1)
-        (omega (arith, h.0)) (row_from (Comparing op)) (omega (arith, row_to (Comparing op))) h.2
+        (omega (arith, h.0)) (precedence_from (Comparing op))
+        (omega (arith, precedence_to (Comparing op))) h.2
         (omega arith) (omega arith))
     chain_again precedence level (tree.LogicalAnd a b) here rest le three most h low s =
         chain_joins precedence level Both a b here rest le h low s
-        (chain_again precedence 4 a here (Sign sign.LogicalAnd ∷ h.1) (omega (arith, h.0)) (row_from Both)
-        (omega (arith, row_to Both)) h.2 (omega arith) (omega arith))
+        (chain_again precedence 4 a here (Sign sign.LogicalAnd ∷ h.1) (omega (arith, h.0))
+        (precedence_from Both)
+        (omega (arith, precedence_to Both)) h.2 (omega arith) (omega arith))
     chain_again precedence level (tree.LogicalOr a b) here rest le three most h low s =
         chain_joins precedence level Either a b here rest le h low s
-        (chain_again precedence 3 a here (Sign sign.LogicalOr ∷ h.1) (omega (arith, h.0)) (row_from Either)
-        (omega (arith, row_to Either)) h.2 (omega arith) (omega arith))
+        (chain_again precedence 3 a here (Sign sign.LogicalOr ∷ h.1) (omega (arith, h.0))
+        (precedence_from Either)
+        (omega (arith, precedence_to Either)) h.2 (omega arith) (omega arith))
     chain_again precedence level (tree.Conditional c a b) here rest le three most h low s =
         absurd (omega (arith, h.0))
     chain_again precedence level (tree.Assign r e) here rest le three most h low s =
@@ -419,9 +438,10 @@ module _ (p : Site) (inner : Inner) (height_left : ℕ) (complete : Complete p h
     chain_again precedence level e here rest le three most h low s =
         rw (operand_again level (suc level) e here rest tt h low s) refl
 
-    -- ---- the rows above the operators
+    -- ---- precedences 1 and 2
 
-    chain_stops : (precedence : ℕ) (e : Expr Path) (rest : List Token) → operator_at precedence rest ≡ None
+    chain_stops : (precedence : ℕ) (e : Expr Path) (rest : List Token)
+        → operator_at precedence rest ≡ None
         → chain p inner height_left precedence (suc height_left) e rest ≡ Some (e, rest)
     unfolding chain
     chain_stops precedence e rest h = rw h refl
@@ -437,14 +457,16 @@ module _ (p : Site) (inner : Inner) (height_left : ℕ) (complete : Complete p h
         ]
 
     layer_is : (precedence : ℕ) (here : List Token) → layer p inner height_left precedence here
-        ≡ (from_operand precedence here >>= λ left. choice_at p inner height_left precedence left.0 left.1
+        ≡ (from_operand precedence here >>= λ left. choice_at p inner height_left
+        precedence left.0 left.1
         >>= λ whole. assign_at p inner precedence whole.0 whole.1)
     unfolding layer
     layer_is precedence here = sym (bind_assoc (operand_at p inner here) _ _)
 
-    -- where nothing of the rows 1 and 2 follows
+    -- where nothing of precedence 1 or 2 follows
     layer_stops : (precedence : ℕ) (e : Expr Path) (here rest : List Token) → Stops precedence rest
-        → from_operand precedence here ≡ chain p inner height_left precedence (suc height_left) e rest
+        → from_operand precedence here ≡ chain p inner height_left precedence
+        (suc height_left) e rest
         → layer p inner height_left precedence here ≡ Some (e, rest)
     unfolding choice_at
     layer_stops precedence e here rest s h =
@@ -454,13 +476,15 @@ module _ (p : Site) (inner : Inner) (height_left : ℕ) (complete : Complete p h
           stops_question precedence rest s,
         ) (assign_stops precedence e rest s)
 
-    choice_skips : (precedence : ℕ) (e : Expr Path) (here : List Token) → at sign.Question here ≡ false
+    choice_skips : (precedence : ℕ) (e : Expr Path) (here : List Token)
+        → at sign.Question here ≡ false
         → choice_at p inner height_left precedence e here ≡ Some (e, here)
     unfolding choice_at
     choice_skips precedence e here n =
         rw n (elim (nat_le_cases precedence 2) [ inl le ↦ rw le refl | inr gt ↦ rw gt refl ])
 
-    assign_takes : (precedence : ℕ) (op : Assignment) (r : Path) (e : Expr Path) (behind rest : List Token)
+    assign_takes : (precedence : ℕ) (op : Assignment) (r : Path) (e : Expr Path)
+        (behind rest : List Token)
         → IsMethod p → precedence ≤ 1 → inner 1 behind ≡ Some (e, rest)
         → assign_at p inner precedence (tree.Reference r) (Sign (assignment_sign op) ∷ behind)
         ≡ Some (assignment_tree op r e, rest)
@@ -470,12 +494,15 @@ module _ (p : Site) (inner : Inner) (height_left : ℕ) (complete : Complete p h
 
     assignment_read : (precedence : ℕ) (op : Assignment) (r : Path) (e : Expr Path)
         (here rest : List Token)
-        → AssignmentHere p precedence op r e here rest → height e ≤ height_left → Stops precedence rest
+        → AssignmentHere p precedence op r e here rest → height e ≤ height_left
+        → Stops precedence rest
         → layer p inner height_left precedence here ≡ Some (assignment_tree op r e, rest)
     assignment_read precedence op r e here rest h low s =
-        let left = operand_again precedence 14 (tree.Reference r) here (Sign (assignment_sign op) ∷ h.2) tt
+        let left = operand_again precedence 14 (tree.Reference r) here
+        (Sign (assignment_sign op) ∷ h.2) tt
         h.3 (omega arith) (assignment_stops op h.2) in
-        let value = complete 1 e h.2 rest (omega arith) h.4 low (stops_mono precedence 1 rest h.1 s) in
+        let value = complete 1 e h.2 rest (omega arith) h.4 low
+        (stops_mono precedence 1 rest h.1 s) in
         layer_is precedence here
         ∙ rw (
           left,
@@ -489,19 +516,23 @@ module _ (p : Site) (inner : Inner) (height_left : ℕ) (complete : Complete p h
     layer_again : Complete p (suc height_left) (layer p inner height_left)
     unfolding choice_at assign_at
     layer_again precedence (tree.Binary op a b) here rest le h low s =
-        layer_stops precedence _ here rest s (chain_again precedence (precedence_of op) (tree.Binary op a b) here rest
-        (omega (arith, h.0)) (row_from (Plain op)) (omega (arith, row_to (Plain op)))
+        layer_stops precedence _ here rest s (chain_again precedence (precedence_of op)
+        (tree.Binary op a b) here rest
+        (omega (arith, h.0)) (precedence_from (Plain op)) (omega (arith, precedence_to (Plain op)))
         (omega arith, h.1, h.2, h.3) low
         (stops_mono precedence (suc (precedence_of op)) rest (omega (arith, h.0)) s))
     layer_again precedence (tree.Compare op a b) here rest le h low s =
-        layer_stops precedence _ here rest s (chain_again precedence (comparison_precedence op) (tree.Compare op a b)
+        layer_stops precedence _ here rest s (chain_again precedence (comparison_precedence op)
+        (tree.Compare op a b)
         here
-        rest (omega (arith, h.0)) (row_from (Comparing op)) (omega (arith, row_to (Comparing op)))
+        rest (omega (arith, h.0)) (precedence_from (Comparing op))
+        (omega (arith, precedence_to (Comparing op)))
         (omega arith, h.1, h.2, h.3) low
         (stops_mono precedence (suc (comparison_precedence op)) rest (omega (arith, h.0)) s))
     layer_again precedence (tree.LogicalAnd a b) here rest le h low s =
-        layer_stops precedence _ here rest s (chain_again precedence 4 (tree.LogicalAnd a b) here rest
-        (omega (arith, h.0)) (row_from Both) (omega (arith, row_to Both)) (
+        layer_stops precedence _ here rest s (chain_again precedence 4
+        (tree.LogicalAnd a b) here rest
+        (omega (arith, h.0)) (precedence_from Both) (omega (arith, precedence_to Both)) (
           omega arith,
           h.1,
           h.2,
@@ -509,11 +540,13 @@ module _ (p : Site) (inner : Inner) (height_left : ℕ) (complete : Complete p h
         ) low (stops_mono precedence (suc 4) rest (omega (arith, h.0)) s))
     layer_again precedence (tree.LogicalOr a b) here rest le h low s =
         layer_stops precedence _ here rest s
-        (chain_again precedence 3 (tree.LogicalOr a b) here rest (omega (arith, h.0)) (row_from Either)
-        (omega (arith, row_to Either)) (omega arith, h.1, h.2, h.3) low
+        (chain_again precedence 3 (tree.LogicalOr a b) here rest (omega (arith, h.0))
+        (precedence_from Either)
+        (omega (arith, precedence_to Either)) (omega arith, h.1, h.2, h.3) low
         (stops_mono precedence (suc 3) rest (omega (arith, h.0)) s))
     layer_again precedence (tree.Conditional c a b) here rest le h low s =
-        let condition = chain_again precedence 3 c here (Sign sign.Question ∷ h.1) (omega (arith, h.0))
+        let condition = chain_again precedence 3 c here (Sign sign.Question ∷ h.1)
+        (omega (arith, h.0))
         (omega arith) (omega arith) h.3 (omega arith) (omega arith) in
         let first = complete (loosest p) a h.1 (Sign sign.Colon ∷ h.2) (omega (arith, loosest_le p))
         h.4 (omega arith) tt in
@@ -531,26 +564,32 @@ module _ (p : Site) (inner : Inner) (height_left : ℕ) (complete : Complete p h
           second,
         )
         (assign_stops precedence (tree.Conditional c a b) rest s)
-    layer_again precedence (tree.Assign r e) here rest le h low s = assignment_read precedence Simple r e here
+    layer_again precedence (tree.Assign r e) here rest le h low s =
+        assignment_read precedence Simple r e here
         rest
         h (omega arith) s
     layer_again precedence (tree.CompoundAssign op r e) here rest le h low s =
         assignment_read precedence (Compound op) r e here rest h (omega arith) s
     layer_again precedence e here rest le h low s =
-        layer_stops precedence e here rest s (rw (operand_again precedence precedence e here rest tt h low s) refl)
+        layer_stops precedence e here rest s (rw
+        (operand_again precedence precedence e here rest tt h low s) refl)
 
 -- What an expression is spelled by is read as that expression, where what follows can't go on with
 -- it.
 pub expr_again : (p : Site) (height_left : ℕ) → Complete p height_left (expr_at p height_left)
 unfolding expr_at
-expr_again p zero precedence e here rest le h low s = absurd (let some = some_height e in omega arith)
-expr_again p (suc height_left) precedence e here rest le h low s = layer_again p (expr_at p height_left)
+expr_again p zero precedence e here rest le h low s =
+    absurd (let some = some_height e in omega arith)
+expr_again p (suc height_left) precedence e here rest le h low s = layer_again p
+    (expr_at p height_left)
     height_left (expr_again p height_left) precedence e here rest le h low s
 
 -- One list of tokens spells one expression at most.
-pub expr_unique : (p : Site) (precedence : ℕ) (e f : Expr Path) (here rest behind : List Token) → precedence ≤ 13
+pub expr_unique : (p : Site) (precedence : ℕ) (e f : Expr Path) (here rest behind : List Token)
+    → precedence ≤ 13
     → Stops precedence rest → Stops precedence behind
-    → ExprHere p precedence e here rest → ExprHere p precedence f here behind → (e ≡ f) × (rest ≡ behind)
+    → ExprHere p precedence e here rest → ExprHere p precedence f here behind
+    → (e ≡ f) × (rest ≡ behind)
 expr_unique p precedence e f here rest behind le s t h k =
     let height_left = max (height e) (height f) in
     let one = expr_again p height_left precedence e here rest le h (omega arith) s in

@@ -101,7 +101,7 @@ module _ {V : Type 0} (of : V → ℕ) (Here : Spelling V) (Follows : List Token
     arms_shorter (ConsArm (Default body) arms) here rest h =
         omega (arith, ap length h.2, list_shorter body h.0 h.1 h.3, arms_shorter arms h.1 rest h.4)
 
-  -- where an element begins, a list does not end, no comma stands, and a value before it ends
+  -- where an element begins, a list does not end, there is no comma, and a value before it ends
   pub element_begins : (x : Cond Path V) (here rest : List Token) → ElementHere Here x here rest
       → (list_ends here ≡ false) × ((at sign.Comma here ≡ false) × Follows here)
   element_begins (Value v) here rest h =
@@ -111,7 +111,7 @@ module _ {V : Type 0} (of : V → ℕ) (Here : Spelling V) (Follows : List Token
   element_begins (Select on arms) here rest h =
       (ap list_ends h.3, (ap (at sign.Comma) h.3, subst Follows (sym h.3) (values.at_select h.0)))
 
-  -- the same where further elements or none stand before the end of the list
+  -- the same where there are further elements or none before the end of the list
   list_begins : (all : Conds Path V) (here rest : List Token) → ListHere Here all here rest
       → EndsBranch rest → (at sign.Comma here ≡ false) × Follows here
   list_begins cond.Nil here rest h f = (

@@ -25,7 +25,7 @@ use Rattle.edd_grammar.proofs.Declarations.{declarators_again}
 
 -- ---- what statements begin with, and that they take a token at least
 
--- what may stand where a statement doesn't
+-- what may be in place of a statement isn't next
 record StartsStatement (here : List Token) : Type 0 where
   pub no_close : at sign.CloseBrace here ≡ false
   pub no_type : at_local_type here ≡ false

@@ -18,7 +18,7 @@ use Rattle.edd_grammar.specs.UnitReading.{kind_at, item_kind_at, sort_behind, at
 use Rattle.edd_grammar.proofs.Steps.{bind_some, as_read, at_word_is, expect_word_is, expect_word_again, name_is}
 use Rattle.edd_grammar.proofs.Alternatives.{branch}
 use Rattle.edd_grammar.proofs.Branches.{SoundOf}
-use Rattle.edd_grammar.proofs.Rows.{BracedHere, tallest, RowOf, ThenSemicolons, braced_sound, braced_again, row_inside_sound, row_inside_again, row_shorter, closed_row, row_closed, closed_sound, closed_shorter, closed_things}
+use Rattle.edd_grammar.proofs.Rows.{BracedHere, tallest, RowOf, ThenSemicolons, braced_sound, braced_again, row_inside_sound, row_inside_again, row_shorter, closed_row, row_closed, closed_sound, closed_shorter, closed_elements}
 use Rattle.edd_grammar.proofs.CompleteAttributes.{attribute_shorter, own_attribute_sound, own_attributes}
 
 -- ---- the words of items
@@ -280,13 +280,13 @@ end_no_semicolon (t ∷ rest) e = absurd cc
 pub all_items : (height_left : ℕ) → RowOf (ThenSemicolons ItemHere) item_height height_left
     (λ rest. at sign.Semicolon rest ≡ false) at_end (closed (item_at height_left))
 all_items height_left =
-    closed_things ItemHere item_height height_left at_end (item_at height_left)
+    closed_elements ItemHere item_height height_left at_end (item_at height_left)
     (item_again height_left)
     (λ i here rest h. (starts_item i.sort here h.0 h.2).no_end)
     (λ i here rest h. (starts_item i.sort here h.0 h.2).no_semicolon) item_shorter
     end_no_semicolon
 
--- no comma stands where items begin
+-- there is no comma where items begin
 pub items_no_comma : (items : List (Item Path)) (here : List Token)
     → ClosedHere ItemHere items here [] → at sign.Comma here ≡ false
 items_no_comma [] here h = ap (at sign.Comma) h

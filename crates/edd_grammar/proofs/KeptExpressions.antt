@@ -220,7 +220,8 @@ pure_expr precedence (tree.Reference from) here rest h e = e
 pure_expr precedence (tree.Indexed array index) here rest h e =
     let parts = both_true (is_path array && is_plain array) (is_expr is_path is_plain index) e in
     rw (parts.0, pure_expr (loosest InAttribute) index h.1 _ h.4 parts.1) refl
-pure_expr precedence (tree.Parentheses inner) here rest h e = pure_expr (loosest InAttribute) inner h.0 _
+pure_expr precedence (tree.Parentheses inner) here rest h e =
+    pure_expr (loosest InAttribute) inner h.0 _
     h.2 e
 pure_expr precedence (tree.Call function arguments) here rest h e = absurd h.0
 pure_expr precedence (tree.Increment PreIncrement to) here rest h e = absurd h.0
@@ -261,7 +262,8 @@ pure_expr precedence (tree.Assign to value) here rest h e = absurd h.0
 pure_expr precedence (tree.CompoundAssign op to value) here rest h e = absurd h.0
 
 pub pure_kept : (precedence : ℕ) (e : Expr Path) (here rest : List Token)
-    → ExprHere InAttribute precedence e here rest → Kept here → Both (is_pure_expr is_path is_plain e) rest
+    → ExprHere InAttribute precedence e here rest → Kept here
+    → Both (is_pure_expr is_path is_plain e) rest
 pure_kept precedence e here rest h k = let all = expr_kept InAttribute precedence e here rest h
     k in (pure_expr precedence e here rest h all.0, all.1)
 

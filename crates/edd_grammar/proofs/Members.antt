@@ -157,7 +157,7 @@ response_codes height_left = record {
 
 -- ---- members
 
--- no comma stands where a text is missing
+-- there is no comma where a text is missing
 missing_text : (here rest : List Token) → optional_text_at here ≡ Some (None, rest)
     → at sign.Comma here ≡ false
 unfolding optional_text_at

@@ -18,7 +18,7 @@ use Rattle.edd_syntax.specs.Expression as tree
 use Rattle.edd_syntax.specs.Expression.{Expr}
 use Rattle.edd_syntax.specs.Grammar.{Site, InAttribute, InMethod, IsMethod, precedence_of, comparison_precedence, unary_sign, PathHere, ExprHere}
 use Rattle.edd_syntax.specs.Size.{height}
-use Rattle.edd_grammar.specs.Signs.{Infix, Plain, Comparing, Both, Either, infix_precedence, infix_sign, infix_tree, infix_of, unary_of, before_of, behind_of, Assignment, Simple, Compound, assignment_sign, assignment_tree, assignment_of}
+use Rattle.edd_grammar.specs.Signs.{Infix, Plain, Comparing, Both, Either, infix_precedence, infix_sign, infix_tree, infix_of, unary_of, before_of, after_of, Assignment, Simple, Compound, assignment_sign, assignment_tree, assignment_of}
 use Rattle.edd_grammar.specs.Reading.{◌>>=◌, Read}
 use Rattle.edd_grammar.specs.ExpressionReading.{is_method, operator_at, assignment_at}
 use Rattle.edd_grammar.proofs.Steps.{bind_some, guard_some, as_read, le_is}
@@ -62,19 +62,19 @@ comparison_to : (by : Comparison) → comparison_precedence by ≤ 12
 comparison_to comparison.Equal = lit≤ tt
 comparison_to _ = lit≤ tt
 
-pub row_from : (op : Infix) → 3 ≤ infix_precedence op
-row_from (Plain o) = operator_from o
-row_from (Comparing o) = comparison_from o
-row_from Both = lit≤ tt
-row_from Either = lit≤ tt
+pub precedence_from : (op : Infix) → 3 ≤ infix_precedence op
+precedence_from (Plain o) = operator_from o
+precedence_from (Comparing o) = comparison_from o
+precedence_from Both = lit≤ tt
+precedence_from Either = lit≤ tt
 
-pub row_to : (op : Infix) → infix_precedence op ≤ 12
-row_to (Plain o) = operator_to o
-row_to (Comparing o) = comparison_to o
-row_to Both = lit≤ tt
-row_to Either = lit≤ tt
+pub precedence_to : (op : Infix) → infix_precedence op ≤ 12
+precedence_to (Plain o) = operator_to o
+precedence_to (Comparing o) = comparison_to o
+precedence_to Both = lit≤ tt
+precedence_to Either = lit≤ tt
 
--- what it is for an operator to stand between these operands
+-- what it is for an operator to be between these operands
 abbrev pub InfixHere : Site → ℕ → Infix → Expr Path → Expr Path → List Token → List Token → Type 0
 InfixHere p precedence op left right here rest =
     (precedence ≤ infix_precedence op) × (behind : List Token)
@@ -83,7 +83,8 @@ InfixHere p precedence op left right here rest =
 
 pub infix_spelled : (p : Site) (precedence : ℕ) (op : Infix) (left right : Expr Path)
     (here rest : List Token)
-    → InfixHere p precedence op left right here rest → ExprHere p precedence (infix_tree op left right) here rest
+    → InfixHere p precedence op left right here rest → ExprHere p precedence
+    (infix_tree op left right) here rest
 infix_spelled p precedence (Plain o) left right here rest h = h
 infix_spelled p precedence (Comparing o) left right here rest h = h
 infix_spelled p precedence Both left right here rest h = h
@@ -102,8 +103,10 @@ pub operator_is : (precedence : ℕ) (here : List Token) (op : Infix) (rest : Li
 operator_is precedence [] op rest e = absurd cc
 operator_is precedence (Sign s ∷ behind) op rest e =
     let o = bind_some (infix_of s) _ (op, rest) e in
-    let g = guard_some (nat_le precedence (infix_precedence o.0)) (Some (o.0, behind)) (op, rest) o.2 in
-    as_read (λ k t. (Sign s ∷ behind ≡ Sign (infix_sign k) ∷ t) × (precedence ≤ infix_precedence k)) o.0 op behind
+    let g = guard_some (nat_le precedence (infix_precedence o.0)) (Some (o.0, behind))
+    (op, rest) o.2 in
+    as_read (λ k t. (Sign s ∷ behind ≡ Sign (infix_sign k) ∷ t)
+    × (precedence ≤ infix_precedence k)) o.0 op behind
     rest g.1
     (ap (λ k. Sign k ∷ behind) (infix_is s o.0 o.1), le_is precedence (infix_precedence o.0) g.0)
 operator_is precedence (Reserved m ∷ behind) op rest e = absurd cc
@@ -143,7 +146,7 @@ before_spelled p precedence _ op to here rest e m le h = absurd cc
 
 pub behind_spelled : (p : Site) (precedence : ℕ) (s : Symbol) (op : IncrementOperator) (to : Path)
     (here rest : List Token)
-    → behind_of s ≡ Some op → IsMethod p → precedence ≤ 14 → PathHere to here (Sign s ∷ rest)
+    → after_of s ≡ Some op → IsMethod p → precedence ≤ 14 → PathHere to here (Sign s ∷ rest)
     → ExprHere p precedence (tree.Increment op to) here rest
 behind_spelled p precedence sign.Increment op to here rest e m le h =
     let same : PostIncrement ≡ op = cc in rw (sym same) (m, le, h)
@@ -173,14 +176,15 @@ assignment_is (Integer m ∷ behind) op rest e = absurd cc
 assignment_is (token.Decimal ∷ behind) op rest e = absurd cc
 assignment_is (String m ∷ behind) op rest e = absurd cc
 
--- what it is for an assignment to stand there
+-- what it is for an assignment to be there
 abbrev pub AssignmentHere : Site → ℕ → Assignment → Path → Expr Path → List Token → List Token
     → Type 0
 AssignmentHere p precedence op to value here rest =
     IsMethod p × (precedence ≤ 1) × (behind : List Token)
     × PathHere to here (Sign (assignment_sign op) ∷ behind) × ExprHere p 1 value behind rest
 
-pub assignment_spelled : (p : Site) (precedence : ℕ) (op : Assignment) (to : Path) (value : Expr Path)
+pub assignment_spelled : (p : Site) (precedence : ℕ) (op : Assignment) (to : Path)
+    (value : Expr Path)
     (here rest : List Token)
     → AssignmentHere p precedence op to value here rest
     → ExprHere p precedence (assignment_tree op to value) here rest
@@ -205,27 +209,30 @@ ends_before precedence (Comparing o) here e = grind arith
 ends_before precedence Both here e = grind arith
 ends_before precedence Either here e = grind arith
 
--- the operator, where it stands in this precedence or a tighter one
-abbrev in_row : ℕ → List Token → Infix → Read Infix
-in_row precedence rest op = cond (nat_le precedence (infix_precedence op)) (Some (op, rest)) None
+-- the operator, where it is of this precedence or a tighter one
+abbrev of_precedence : ℕ → List Token → Infix → Read Infix
+of_precedence precedence rest op = cond (nat_le precedence (infix_precedence op))
+    (Some (op, rest)) None
 
--- without any operator, or with one in a precedence that is looser than this one
+-- without any operator, or with one of a precedence that is looser than this one
 found_cases : (found : Option Infix) (precedence : ℕ) (rest : List Token)
     → ((op : Infix) → found ≡ Some op → nat_le precedence (infix_precedence op) ≡ false)
-    → (found >>= in_row precedence rest) ≡ None
+    → (found >>= of_precedence precedence rest) ≡ None
 found_cases None precedence rest h = refl
 found_cases (Some op) precedence rest h = rw (h op refl) refl
 
-not_in : (precedence : ℕ) (op : Infix) → infix_precedence op < precedence → nat_le precedence (infix_precedence op) ≡ false
+not_in : (precedence : ℕ) (op : Infix) → infix_precedence op < precedence
+    → nat_le precedence (infix_precedence op) ≡ false
 not_in precedence op lt = grind arith
 
 -- where no operator of precedence 3 or a looser one is next, there is none at all
-pub ends_all : (precedence precedence' : ℕ) (here : List Token) → precedence' ≤ 3 → Ends precedence' here → Ends precedence here
+pub ends_all : (precedence precedence' : ℕ) (here : List Token) → precedence' ≤ 3
+    → Ends precedence' here → Ends precedence here
 ends_all precedence precedence' (Sign s ∷ here) le e =
     found_cases (infix_of s) precedence here
     (λ op some. absurd (let f = ends_before precedence' op here
     (ap (λ t. operator_at precedence' (Sign t ∷ here)) (sym (infix_is s op some)) ∙ e) in let g =
-    row_from op in omega arith))
+    precedence_from op in omega arith))
 ends_all precedence precedence' [] le e = refl
 ends_all precedence precedence' (Identifier n ∷ here) le e = refl
 ends_all precedence precedence' (Reserved n ∷ here) le e = refl
@@ -236,7 +243,7 @@ ends_all precedence precedence' (String n ∷ here) le e = refl
 -- no operator is in precedence 13 or a tighter one
 pub ends_tight : (precedence : ℕ) (here : List Token) → 13 ≤ precedence → Ends precedence here
 ends_tight precedence (Sign s ∷ here) le = found_cases (infix_of s) precedence here
-    (λ op some. not_in precedence op (let g = row_to op in omega arith))
+    (λ op some. not_in precedence op (let g = precedence_to op in omega arith))
 ends_tight precedence [] le = refl
 ends_tight precedence (Identifier n ∷ here) le = refl
 ends_tight precedence (Reserved n ∷ here) le = refl

@@ -123,7 +123,7 @@ module _ (allowed : List Name) where
   qualifiers_shorter (n ∷ more) here rest h =
       omega (arith, ap length h.3, ap length h.4, more_shorter more h.2 _ h.5)
 
-  -- no dot and no mask stands where qualifiers begin, or what follows them
+  -- qualifiers begin with no dot and no mask, where what follows them doesn't
   pub qualifiers_begin : (names : List Name) (here rest : List Token)
       → QualifiersHere allowed names here rest → at sign.Dot rest ≡ false
       → at (sign.Comparison comparison.Less) rest ≡ false

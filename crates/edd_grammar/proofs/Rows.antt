@@ -13,7 +13,7 @@ use Rattle.edd_grammar.proofs.Branches.{Spelling, SoundOf}
 
 -- ---- braces
 
--- what stands in braces
+-- what is in braces
 abbrev pub BracedHere : {A : Type 0} → Spelling A → Spelling A
 BracedHere Here x here rest = (inside : List Token) × NextSign sign.OpenBrace here inside
     × Here x inside (Sign sign.CloseBrace ∷ rest)
@@ -50,22 +50,22 @@ braced_again inner x here inside rest e again =
 abbrev pub tallest : {A : Type 0} → (A → ℕ) → List A → ℕ
 tallest tall xs = greatest_of (map tall xs)
 
-module _ {A : Type 0} (Here : Spelling A) (tall : A → ℕ) (height_left : ℕ) (thing : List Token
-    → Read A) (sound : SoundOf Here tall height_left thing) where
-  -- things that are read are spelled, and they end there
+module _ {A : Type 0} (Here : Spelling A) (tall : A → ℕ) (height_left : ℕ) (element : List Token
+    → Read A) (sound : SoundOf Here tall height_left element) where
+  -- elements that are read are spelled, and they end there
   abbrev RowEnds : (List Token → Bool) → List Token → List A → List Token → Type 0
   RowEnds ends here xs rest = RowHere Here xs here rest × (tallest tall xs ≤ height_left)
       × (ends rest ≡ true)
 
   pub row_sound : (ends : List Token → Bool) (n : ℕ) (here : List Token) (xs : List A)
-      (rest : List Token) → row_at ends thing n here ≡ Some (xs, rest) → RowEnds ends here xs rest
+      (rest : List Token) → row_at ends element n here ≡ Some (xs, rest) → RowEnds ends here xs rest
   unfolding row_at
   row_sound ends zero here xs rest e = absurd cc
   row_sound ends (suc n) here xs rest e =
       branch (ends here) _ _ _ e
       (λ t y. as_read (RowEnds ends here) [] xs here rest y (refl, omega arith, t))
-      (λ _ y. let a = bind_some (thing here) _ (xs, rest) y in
-      let b = bind_some (row_at ends thing n a.0.1) _ (xs, rest) a.2 in
+      (λ _ y. let a = bind_some (element here) _ (xs, rest) y in
+      let b = bind_some (row_at ends element n a.0.1) _ (xs, rest) a.2 in
       let first = sound here a.0.0 a.0.1 a.1 in
       let more = row_sound ends n a.0.1 b.0.0 b.0.1 b.1 in
       as_read (RowEnds ends here) (a.0.0 ∷ b.0.0) xs b.0.1 rest b.2 (
@@ -74,18 +74,19 @@ module _ {A : Type 0} (Here : Spelling A) (tall : A → ℕ) (height_left : ℕ)
         more.2,
       ))
 
-  pub row_inside_sound : SoundOf (RowHere Here) (tallest tall) height_left (row_inside thing)
+  pub row_inside_sound : SoundOf (RowHere Here) (tallest tall) height_left (row_inside element)
   unfolding row_inside
   row_inside_sound here xs rest e = let s = row_sound at_close (suc (length here)) here xs rest
       e in (s.0, s.1)
 
--- What is asked of the things in a row that ends where `ends` says: a thing is read where `Follows`
--- holds of what follows, as it does at the end and where the next thing begins.
+-- What is asked of the elements of a row that ends where `ends` says: an element is read where
+-- `Follows` holds of what follows, as it does at the end and where the next element begins.
 pub record RowOf {A : Type 0} (Here : Spelling A) (tall : A → ℕ) (height_left : ℕ)
-    (Follows : List Token → Type 0) (ends : List Token → Bool) (thing : List Token → Read A) : Type
+    (Follows : List Token → Type 0) (ends : List Token → Bool) (element : List Token
+    → Read A) : Type
     0 where
   pub again : (x : A) (here rest : List Token) → Here x here rest → tall x ≤ height_left
-      → Follows rest → thing here ≡ Some (x, rest)
+      → Follows rest → element here ≡ Some (x, rest)
   pub no_end : (x : A) (here rest : List Token) → Here x here rest → ends here ≡ false
   pub shorter : (x : A) (here rest : List Token) → Here x here rest → length rest < length here
   pub at_end : (rest : List Token) → ends rest ≡ true → Follows rest
@@ -99,37 +100,38 @@ row_shorter Here shorter (x ∷ xs) here rest h =
     omega (arith, shorter x here h.0 h.1, row_shorter Here shorter xs h.0 rest h.2)
 
 module _ {A : Type 0} (Here : Spelling A) (tall : A → ℕ) (height_left : ℕ) (Follows : List Token
-    → Type 0) (ends : List Token → Bool) (thing : List Token → Read A)
-    (things : RowOf Here tall height_left Follows ends thing) where
+    → Type 0) (ends : List Token → Bool) (element : List Token → Read A)
+    (elements : RowOf Here tall height_left Follows ends element) where
   pub row_follows : (xs : List A) (here rest : List Token) → RowHere Here xs here rest
       → ends rest ≡ true → Follows here
-  row_follows [] here rest h e = subst Follows (sym h) (things.at_end rest e)
-  row_follows (x ∷ xs) here rest h e = things.at_next x here h.0 h.1
+  row_follows [] here rest h e = subst Follows (sym h) (elements.at_end rest e)
+  row_follows (x ∷ xs) here rest h e = elements.at_next x here h.0 h.1
 
   pub row_again : (n : ℕ) (xs : List A) (here rest : List Token) → length here < n
       → RowHere Here xs here rest → tallest tall xs ≤ height_left → ends rest ≡ true
-      → row_at ends thing n here ≡ Some (xs, rest)
+      → row_at ends element n here ≡ Some (xs, rest)
   unfolding row_at
   row_again zero xs here rest lt h low e = absurd (omega arith)
   row_again (suc n) [] here rest lt h low e = rw (h, e) refl
   row_again (suc n) (x ∷ xs) here rest lt h low e =
-      let first = things.again x here h.0 h.1 (omega arith) (row_follows xs h.0 rest h.2 e) in
-      let more = row_again n xs h.0 rest (let s = things.shorter x here h.0 h.1 in omega arith) h.2
+      let first = elements.again x here h.0 h.1 (omega arith) (row_follows xs h.0 rest h.2 e) in
+      let more = row_again n xs h.0 rest (let s = elements.shorter x here h.0 h.1 in
+      omega arith) h.2
       (omega arith) e in
-      rw (things.no_end x here h.0 h.1, first, more) refl
+      rw (elements.no_end x here h.0 h.1, first, more) refl
 
 pub row_inside_again : {A : Type 0} (Here : Spelling A) (tall : A → ℕ) (height_left : ℕ)
-    (Follows : List Token → Type 0) (thing : List Token → Read A)
-    → RowOf Here tall height_left Follows at_close thing
+    (Follows : List Token → Type 0) (element : List Token → Read A)
+    → RowOf Here tall height_left Follows at_close element
     → (xs : List A) (here rest : List Token) → RowHere Here xs here (Sign sign.CloseBrace ∷ rest)
-    → tallest tall xs ≤ height_left → row_inside thing here
+    → tallest tall xs ≤ height_left → row_inside element here
     ≡ Some (xs, Sign sign.CloseBrace ∷ rest)
 unfolding row_inside
-row_inside_again Here tall height_left Follows thing things xs here rest h low =
-    row_again Here tall height_left Follows at_close thing things (suc (length here)) xs here
+row_inside_again Here tall height_left Follows element elements xs here rest h low =
+    row_again Here tall height_left Follows at_close element elements (suc (length here)) xs here
     (Sign sign.CloseBrace ∷ rest) (omega arith) h low refl
 
--- ---- semicolons after things
+-- ---- semicolons after elements
 
 semicolons_sound : (here : List Token)
     → (n : ℕ) × TimesHere n sign.Semicolon here (skip_semicolons here)
@@ -153,7 +155,7 @@ semicolons_shorter (suc n) here rest h =
     omega (arith, ap length h.1, semicolons_shorter n h.0 rest h.2)
 
 module _ {A : Type 0} (Here : Spelling A) where
-  -- a thing and the semicolons after it
+  -- an element and the semicolons after it
   abbrev pub ThenSemicolons : Spelling A
   ThenSemicolons x here rest = (behind : List Token) × Here x here behind × (n : ℕ)
       × TimesHere n sign.Semicolon behind rest
@@ -168,11 +170,12 @@ module _ {A : Type 0} (Here : Spelling A) where
   row_closed [] here rest h = h
   row_closed (x ∷ xs) here rest h = (h.1, (h.0, h.2, h.3, h.4), row_closed xs h.1 rest h.5)
 
-  pub closed_sound : (tall : A → ℕ) (height_left : ℕ) (thing : List Token → Read A)
-      → SoundOf Here tall height_left thing → SoundOf ThenSemicolons tall height_left (closed thing)
+  pub closed_sound : (tall : A → ℕ) (height_left : ℕ) (element : List Token → Read A)
+      → SoundOf Here tall height_left element → SoundOf ThenSemicolons tall height_left
+      (closed element)
   unfolding closed
-  closed_sound tall height_left thing sound here x rest e =
-      let a = bind_some (thing here) _ (x, rest) e in
+  closed_sound tall height_left element sound here x rest e =
+      let a = bind_some (element here) _ (x, rest) e in
       let s = sound here a.0.0 a.0.1 a.1 in
       let n = semicolons_sound a.0.1 in
       as_read (λ x r. ThenSemicolons x here r × (tall x ≤ height_left)) a.0.0 x
@@ -184,19 +187,19 @@ module _ {A : Type 0} (Here : Spelling A) where
   closed_shorter shorter x here rest h =
       omega (arith, shorter x here h.0 h.1, semicolons_shorter h.2 h.0 rest h.3)
 
-  -- things that are read whatever follows, and begin with no semicolon
-  pub closed_things : (tall : A → ℕ) (height_left : ℕ) (ends : List Token → Bool)
-      (thing : List Token → Read A)
+  -- elements that are read whatever follows, and begin with no semicolon
+  pub closed_elements : (tall : A → ℕ) (height_left : ℕ) (ends : List Token → Bool)
+      (element : List Token → Read A)
       → ((x : A) (here rest : List Token) → Here x here rest → tall x ≤ height_left
-      → thing here ≡ Some (x, rest))
+      → element here ≡ Some (x, rest))
       → ((x : A) (here rest : List Token) → Here x here rest → ends here ≡ false)
       → ((x : A) (here rest : List Token) → Here x here rest → at sign.Semicolon here ≡ false)
       → ((x : A) (here rest : List Token) → Here x here rest → length rest < length here)
       → ((rest : List Token) → ends rest ≡ true → at sign.Semicolon rest ≡ false)
       → RowOf ThenSemicolons tall height_left (λ rest. at sign.Semicolon rest ≡ false) ends
-      (closed thing)
+      (closed element)
   unfolding closed
-  closed_things tall height_left ends thing again no_end no_semicolon shorter at_end = record {
+  closed_elements tall height_left ends element again no_end no_semicolon shorter at_end = record {
     again = λ x here rest h low f. rw (
       again x here h.0 h.1 low,
       semicolons_again h.2 h.0 rest h.3

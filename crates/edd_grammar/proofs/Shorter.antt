@@ -138,13 +138,17 @@ begins p precedence (tree.Indexed a e) here rest h = rw h.2.1 (WithName a.base h
 begins p precedence (tree.Parentheses e) here rest h =
     rw h.1 (WithSign sign.OpenParenthesis Parenthesis h.0)
 begins p precedence (tree.Call f args) here rest h = rw h.3.1 (WithName f.base h.1)
-begins p precedence (tree.Increment PreIncrement r) here rest h = rw h.3 (WithSign sign.Increment Up h.2)
-begins p precedence (tree.Increment PreDecrement r) here rest h = rw h.3 (WithSign sign.Decrement Down h.2)
+begins p precedence (tree.Increment PreIncrement r) here rest h =
+    rw h.3 (WithSign sign.Increment Up h.2)
+begins p precedence (tree.Increment PreDecrement r) here rest h =
+    rw h.3 (WithSign sign.Decrement Down h.2)
 begins p precedence (tree.Increment PostIncrement r) here rest h = path_begins r here _ h.2
 begins p precedence (tree.Increment PostDecrement r) here rest h = path_begins r here _ h.2
-begins p precedence (tree.Unary op e) here rest h = rw h.2 (WithSign (unary_sign op) (Before op) h.1)
+begins p precedence (tree.Unary op e) here rest h =
+    rw h.2 (WithSign (unary_sign op) (Before op) h.1)
 begins p precedence (tree.Binary op a b) here rest h = begins p (precedence_of op) a here _ h.2
-begins p precedence (tree.Compare op a b) here rest h = begins p (comparison_precedence op) a here _ h.2
+begins p precedence (tree.Compare op a b) here rest h =
+    begins p (comparison_precedence op) a here _ h.2
 begins p precedence (tree.LogicalAnd a b) here rest h = begins p 4 a here _ h.2
 begins p precedence (tree.LogicalOr a b) here rest h = begins p 3 a here _ h.2
 begins p precedence (tree.Conditional c a b) here rest h = begins p 3 c here _ h.3

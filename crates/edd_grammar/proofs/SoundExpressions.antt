@@ -15,16 +15,17 @@ use Rattle.edd_syntax.specs.Expression as tree
 use Rattle.edd_syntax.specs.Expression.{Expr, Argument, Text, Value, Arguments}
 use Rattle.edd_syntax.specs.Grammar.{Site, InAttribute, InMethod, loosest, IsMethod, unary_sign, PathHere, ExprHere, ArgumentsHere, MoreArgumentsHere}
 use Rattle.edd_syntax.specs.Size.{height, argument_height}
-use Rattle.edd_grammar.specs.Signs.{infix_precedence, infix_tree, unary_of, before_of, behind_of, same_sign}
+use Rattle.edd_grammar.specs.Signs.{infix_precedence, infix_tree, unary_of, before_of, after_of, same_sign}
 use Rattle.edd_grammar.specs.Reading.{at, expect, path_at, is_text, text_at}
 use Rattle.edd_grammar.specs.ExpressionReading.{closing, step_before, is_method, operator_at, assignment_at, increment_at, Inner, argument_at, some_arguments, arguments_at, postfix, index_behind, named_at, unary_behind, parentheses_behind, signed_at, operand_at, joined_at, chain, choice_at, assigned, as_path, assign_at, layer, expr_at}
 use Rattle.edd_grammar.proofs.SameSigns.{same_sign_is}
 use Rattle.edd_grammar.proofs.Steps.{option_cases, bind_some, guard_some, chosen, both_true, as_read, at_is, expect_is, le_is}
-use Rattle.edd_grammar.proofs.Operators.{method_is, infix_spelled, infix_height, operator_is, row_from, row_to, unary_is, before_spelled, behind_spelled, assignment_is, assignment_spelled, assignment_height, Ends, ends_before, ends_all, ends_tight}
+use Rattle.edd_grammar.proofs.Operators.{method_is, infix_spelled, infix_height, operator_is, precedence_from, precedence_to, unary_is, before_spelled, behind_spelled, assignment_is, assignment_spelled, assignment_height, Ends, ends_before, ends_all, ends_tight}
 use Rattle.edd_grammar.proofs.Texts.{path_behind_sound, path_sound, text_sound}
 
--- where a precedence may stand, a tighter one may
-pub looser : (p : Site) (precedence precedence' : ℕ) (e : Expr Path) (here rest : List Token) → precedence ≤ precedence'
+-- an expression of a precedence is one of a looser precedence too
+pub looser : (p : Site) (precedence precedence' : ℕ) (e : Expr Path) (here rest : List Token)
+    → precedence ≤ precedence'
     → ExprHere p precedence' e here rest → ExprHere p precedence e here rest
 looser p precedence precedence' (tree.Literal n) here rest le h = h
 looser p precedence precedence' tree.Decimal here rest le h = h
@@ -32,29 +33,36 @@ looser p precedence precedence' (tree.Reference n) here rest le h = h
 looser p precedence precedence' (tree.Indexed a e) here rest le h = h
 looser p precedence precedence' (tree.Parentheses e) here rest le h = h
 looser p precedence precedence' (tree.Call f args) here rest le h = h
-looser p precedence precedence' (tree.Increment PreIncrement r) here rest le h = (h.0, omega arith, h.2, h.3, h.4)
-looser p precedence precedence' (tree.Increment PreDecrement r) here rest le h = (h.0, omega arith, h.2, h.3, h.4)
-looser p precedence precedence' (tree.Increment PostIncrement r) here rest le h = (h.0, omega arith, h.2)
-looser p precedence precedence' (tree.Increment PostDecrement r) here rest le h = (h.0, omega arith, h.2)
+looser p precedence precedence' (tree.Increment PreIncrement r) here rest le h =
+    (h.0, omega arith, h.2, h.3, h.4)
+looser p precedence precedence' (tree.Increment PreDecrement r) here rest le h =
+    (h.0, omega arith, h.2, h.3, h.4)
+looser p precedence precedence' (tree.Increment PostIncrement r) here rest le h =
+    (h.0, omega arith, h.2)
+looser p precedence precedence' (tree.Increment PostDecrement r) here rest le h =
+    (h.0, omega arith, h.2)
 looser p precedence precedence' (tree.Unary op e) here rest le h = (omega arith, h.1, h.2, h.3)
 looser p precedence precedence' (tree.Binary op a b) here rest le h = (omega arith, h.1, h.2, h.3)
 looser p precedence precedence' (tree.Compare op a b) here rest le h = (omega arith, h.1, h.2, h.3)
 looser p precedence precedence' (tree.LogicalAnd a b) here rest le h = (omega arith, h.1, h.2, h.3)
 looser p precedence precedence' (tree.LogicalOr a b) here rest le h = (omega arith, h.1, h.2, h.3)
-looser p precedence precedence' (tree.Conditional c a b) here rest le h = (omega arith, h.1, h.2, h.3, h.4, h.5)
+looser p precedence precedence' (tree.Conditional c a b) here rest le h =
+    (omega arith, h.1, h.2, h.3, h.4, h.5)
 looser p precedence precedence' (tree.Assign r e) here rest le h = (h.0, omega arith, h.2, h.3, h.4)
-looser p precedence precedence' (tree.CompoundAssign op r e) here rest le h = (h.0, omega arith, h.2, h.3, h.4)
+looser p precedence precedence' (tree.CompoundAssign op r e) here rest le h =
+    (h.0, omega arith, h.2, h.3, h.4)
 
--- an expression as it stands here, of at most this height
+-- the expression that is here, of at most this height
 pub record Stands (p : Site) (height_left precedence : ℕ) (here : List Token) (e : Expr Path)
     (rest : List Token) : Type 0 where
   pub spelled : ExprHere p precedence e here rest
   pub low : height e ≤ height_left
 
--- What this reads stands so.
+-- What this reads is there.
 abbrev pub Sound : Site → ℕ → Inner → Type 0
 Sound p height_left inner = (precedence : ℕ) (here : List Token) (e : Expr Path) (rest : List Token)
-    → precedence ≤ 13 → inner precedence here ≡ Some (e, rest) → Stands p height_left precedence here e rest
+    → precedence ≤ 13 → inner precedence here ≡ Some (e, rest)
+    → Stands p height_left precedence here e rest
     × Ends precedence rest
 
 pub loosest_le : (p : Site) → loosest p ≤ 2
@@ -75,7 +83,7 @@ module _ (p : Site) (inner : Inner) (height_left : ℕ) (sound : Sound p height_
           → MoreArgumentsHere p args from (Sign sign.CloseParenthesis ∷ rest)
       pub low : argument_height args ≤ height_left
 
-  -- one argument: it may stand first, or after a comma
+  -- one argument: it may be the first, or after a comma
   record ArgumentStands (here : List Token) (a : Argument Path) (rest : List Token) : Type 0 where
     pub first : (others : Arguments Path) (end : List Token) → MoreArgumentsHere p others rest end
         → ArgumentsHere p (tree.Cons a others) here end
@@ -165,7 +173,7 @@ module _ (p : Site) (inner : Inner) (height_left : ℕ) (sound : Sound p height_
         | inl (none, y) ↦ as_read (Operand from) _ e _ rest y
             (record { spelled = h; low = omega arith })
         | inr (o, some, y) ↦
-            let b = bind_some (behind_of s) _ o some in
+            let b = bind_some (after_of s) _ o some in
             let g = guard_some (is_method p) _ _ y in
             let stands : Operand from (tree.Increment b.0 r) here =
             record {
@@ -301,10 +309,12 @@ module _ (p : Site) (inner : Inner) (height_left : ℕ) (sound : Sound p height_
 
   -- an expression of a layer, with nothing after it that it should have taken
   abbrev Whole : ℕ → List Token → Expr Path → List Token → Type 0
-  Whole precedence from e rest = Stands p (suc height_left) precedence from e rest × Ends precedence rest
+  Whole precedence from e rest = Stands p (suc height_left) precedence from e rest
+      × Ends precedence rest
 
   -- the same after a chain of operators, where nothing of precedence 1 or 2 was read yet
-  record Chained (precedence : ℕ) (from : List Token) (e : Expr Path) (rest : List Token) : Type 0 where
+  record Chained (precedence : ℕ) (from : List Token) (e : Expr Path)
+      (rest : List Token) : Type 0 where
     pub level : ℕ
     pub tighter : precedence ≤ level
     pub operator : 3 ≤ level
@@ -334,7 +344,8 @@ module _ (p : Site) (inner : Inner) (height_left : ℕ) (sound : Sound p height_
             let joins : (infix_tree o.0 left b.0.0 ≡ j.0.0) × (b.0.1 ≡ j.0.1) =
             some_pair_parts _ _ _ _ b.2 in
             let here-is = operator_is precedence here o.0 o.1 some in
-            let right = sound (suc (infix_precedence o.0)) o.1 b.0.0 b.0.1 (omega (arith, row_to o.0))
+            let right = sound (suc (infix_precedence o.0)) o.1 b.0.0 b.0.1
+            (omega (arith, precedence_to o.0))
             b.1 in
             let before = ends_before (suc level) o.0 o.1
             (subst (λ t. Ends (suc level) t) here-is.0 ends) in
@@ -342,7 +353,8 @@ module _ (p : Site) (inner : Inner) (height_left : ℕ) (sound : Sound p height_
             let left-low = le_is (height left) height_left g.0 in
             let left-is = subst (λ t. ExprHere p (infix_precedence o.0) left from t) here-is.0
             (looser p (infix_precedence o.0) level left from here tighter s.spelled) in
-            let stands : Stands p (suc height_left) (infix_precedence o.0) from (infix_tree o.0 left b.0.0)
+            let stands : Stands p (suc height_left) (infix_precedence o.0) from
+            (infix_tree o.0 left b.0.0)
             b.0.1 =
             record {
               spelled = infix_spelled p (infix_precedence o.0) o.0 left b.0.0 from b.0.1
@@ -350,16 +362,19 @@ module _ (p : Site) (inner : Inner) (height_left : ℕ) (sound : Sound p height_
               low =
                   (let r = right.0.low in omega (arith, infix_height o.0 left b.0.0));
             } in
-            chain_sound precedence (infix_precedence o.0) n from j.0.0 j.0.1 e rest here-is.1 (row_from o.0)
+            chain_sound precedence (infix_precedence o.0) n from j.0.0 j.0.1 e rest here-is.1
+            (precedence_from o.0)
             (subst (λ t. Stands p (suc height_left) (infix_precedence o.0) from j.0.0 t) joins.1
             (subst (λ x. Stands p (suc height_left) (infix_precedence o.0) from x b.0.1) joins.0
             stands))
             (subst (λ t. Ends (suc (infix_precedence o.0)) t) joins.1 right.1) j.2
       ]
 
-  choice_sound : (precedence : ℕ) (from : List Token) (c : Expr Path) (here : List Token) (e : Expr Path)
+  choice_sound : (precedence : ℕ) (from : List Token) (c : Expr Path) (here : List Token)
+      (e : Expr Path)
       (rest : List Token)
-      → Chained precedence from c here → choice_at p inner height_left precedence c here ≡ Some (e, rest)
+      → Chained precedence from c here → choice_at p inner height_left precedence c here
+      ≡ Some (e, rest)
       → Whole precedence from e rest
   unfolding choice_at
   choice_sound precedence from c here e rest s x =
@@ -406,7 +421,8 @@ module _ (p : Site) (inner : Inner) (height_left : ℕ) (sound : Sound p height_
       let b = both_true (nat_le precedence 1) (is_method p) g.0 in
       (as_path_is e r g.1, le_is precedence 1 b.0, method_is p b.1)
 
-  assign_sound : (precedence : ℕ) (from : List Token) (c : Expr Path) (here : List Token) (e : Expr Path)
+  assign_sound : (precedence : ℕ) (from : List Token) (c : Expr Path) (here : List Token)
+      (e : Expr Path)
       (rest : List Token)
       → Whole precedence from c here → assign_at p inner precedence c here ≡ Some (e, rest)
       → Whole precedence from e rest
@@ -443,11 +459,13 @@ module _ (p : Site) (inner : Inner) (height_left : ℕ) (sound : Sound p height_
   unfolding layer
   layer_sound precedence here e rest le x =
       let a = bind_some (operand_at p inner here) _ (e, rest) x in
-      let b = bind_some (chain p inner height_left precedence (suc height_left) a.0.0 a.0.1) _ (e, rest)
+      let b = bind_some (chain p inner height_left precedence (suc height_left) a.0.0
+      a.0.1) _ (e, rest)
       a.2 in
       let c = bind_some (choice_at p inner height_left precedence b.0.0 b.0.1) _ (e, rest) b.2 in
       let first = operand_sound here a.0.0 a.0.1 a.1 in
-      let left = chain_sound precedence 13 (suc height_left) here a.0.0 a.0.1 b.0.0 b.0.1 le (omega arith)
+      let left = chain_sound precedence 13 (suc height_left) here a.0.0 a.0.1 b.0.0 b.0.1
+      le (omega arith)
       first (ends_tight 14 a.0.1 (omega arith)) b.1 in
       let whole = choice_sound precedence here b.0.0 b.0.1 c.0.0 c.0.1 left c.1 in
       assign_sound precedence here c.0.0 c.0.1 e rest whole c.2

@@ -11,10 +11,11 @@ use Rattle.edd_grammar.specs.Signs.{Plain, Comparing}
 use Rattle.edd_grammar.specs.Reading.{at}
 use Rattle.edd_grammar.specs.ExpressionReading.{operator_at, assignment_at, postfix}
 use Rattle.edd_grammar.specs.Following.{SignStops, Stops}
-use Rattle.edd_grammar.proofs.Operators.{row_to}
+use Rattle.edd_grammar.proofs.Operators.{precedence_to}
 use Rattle.edd_grammar.proofs.Texts.{NoDot}
 
-sign_mono : (precedence precedence' : ℕ) (s : Symbol) → precedence ≤ precedence' → SignStops precedence s → SignStops precedence' s
+sign_mono : (precedence precedence' : ℕ) (s : Symbol) → precedence ≤ precedence'
+    → SignStops precedence s → SignStops precedence' s
 sign_mono precedence precedence' (sign.Operator op) le s = omega arith
 sign_mono precedence precedence' (sign.Comparison op) le s = omega arith
 sign_mono precedence precedence' sign.LogicalAnd le s = omega arith
@@ -29,14 +30,17 @@ sign_mono precedence precedence' sign.OpenBracket le s = s
 sign_mono precedence precedence' sign.Question le s = omega arith
 sign_mono precedence precedence' _ le s = tt
 
-pub stops_mono : (precedence precedence' : ℕ) (rest : List Token) → precedence ≤ precedence' → Stops precedence rest → Stops precedence' rest
+pub stops_mono : (precedence precedence' : ℕ) (rest : List Token) → precedence ≤ precedence'
+    → Stops precedence rest → Stops precedence' rest
 stops_mono precedence precedence' (Sign s ∷ rest) le h = sign_mono precedence precedence' s le h
 stops_mono precedence precedence' _ le h = tt
 
 -- precedence 13 and the tighter ones stop alike
-sign_tight : (precedence precedence' : ℕ) (s : Symbol) → 13 ≤ precedence' → SignStops precedence s → SignStops precedence' s
-sign_tight precedence precedence' (sign.Operator op) le s = omega (arith, row_to (Plain op))
-sign_tight precedence precedence' (sign.Comparison op) le s = omega (arith, row_to (Comparing op))
+sign_tight : (precedence precedence' : ℕ) (s : Symbol) → 13 ≤ precedence' → SignStops precedence s
+    → SignStops precedence' s
+sign_tight precedence precedence' (sign.Operator op) le s = omega (arith, precedence_to (Plain op))
+sign_tight precedence precedence' (sign.Comparison op) le s =
+    omega (arith, precedence_to (Comparing op))
 sign_tight precedence precedence' sign.LogicalAnd le s = omega arith
 sign_tight precedence precedence' sign.LogicalOr le s = omega arith
 sign_tight precedence precedence' sign.Increment le s = s
@@ -49,11 +53,13 @@ sign_tight precedence precedence' sign.OpenBracket le s = s
 sign_tight precedence precedence' sign.Question le s = omega arith
 sign_tight precedence precedence' _ le s = tt
 
-pub stops_tight : (precedence precedence' : ℕ) (rest : List Token) → 13 ≤ precedence' → Stops precedence rest → Stops precedence' rest
+pub stops_tight : (precedence precedence' : ℕ) (rest : List Token) → 13 ≤ precedence'
+    → Stops precedence rest → Stops precedence' rest
 stops_tight precedence precedence' (Sign s ∷ rest) le h = sign_tight precedence precedence' s le h
 stops_tight precedence precedence' _ le h = tt
 
-pub stops_operator : (precedence : ℕ) (rest : List Token) → Stops precedence rest → operator_at precedence rest ≡ None
+pub stops_operator : (precedence : ℕ) (rest : List Token) → Stops precedence rest
+    → operator_at precedence rest ≡ None
 stops_operator precedence (Sign (sign.Operator op) ∷ rest) s = grind arith
 stops_operator precedence (Sign (sign.Comparison op) ∷ rest) s = grind arith
 stops_operator precedence (Sign sign.LogicalAnd ∷ rest) s = grind arith
@@ -90,7 +96,8 @@ stops_bracket precedence (Sign (sign.Comparison op) ∷ rest) s = grind arith
 stops_bracket precedence (Sign (sign.CompoundAssign op) ∷ rest) s = grind arith
 stops_bracket precedence _ s = refl
 
-pub stops_postfix : (p : Site) (precedence : ℕ) (r : Path) (rest : List Token) → Stops precedence rest
+pub stops_postfix : (p : Site) (precedence : ℕ) (r : Path) (rest : List Token)
+    → Stops precedence rest
     → postfix p r rest ≡ Some (tree.Reference r, rest)
 unfolding postfix
 stops_postfix p precedence r (Sign sign.Increment ∷ rest) s = absurd s

@@ -20,7 +20,7 @@ use Rattle.edd_grammar.proofs.Branches.{Spelling, SoundOf}
 use Rattle.edd_grammar.proofs.SoundLists.{list_sound}
 use Rattle.edd_grammar.proofs.CompleteLists.{list_again, list_shorter}
 use Rattle.edd_grammar.proofs.Entries.{EndsEntry, data_item_value_sound, listed_data_items}
-use Rattle.edd_grammar.proofs.Rows.{BracedHere, tallest, RowOf, ThenSemicolons, braced_sound, braced_again, row_inside_sound, row_inside_again, row_shorter, closed_row, row_closed, closed_sound, closed_shorter, closed_things}
+use Rattle.edd_grammar.proofs.Rows.{BracedHere, tallest, RowOf, ThenSemicolons, braced_sound, braced_again, row_inside_sound, row_inside_again, row_shorter, closed_row, row_closed, closed_sound, closed_shorter, closed_elements}
 
 -- ---- REQUEST and REPLY
 
@@ -96,7 +96,7 @@ transaction_parts : (height_left : ℕ)
     → RowOf (ThenSemicolons TransactionPartHere) transaction_part_height height_left
     (λ rest. at sign.Semicolon rest ≡ false) at_close (closed (transaction_part_at height_left))
 transaction_parts height_left =
-    closed_things TransactionPartHere transaction_part_height height_left at_close
+    closed_elements TransactionPartHere transaction_part_height height_left at_close
     (transaction_part_at height_left) (transaction_part_again height_left)
     (λ p here rest h. (transaction_part_starts p here rest h).0)
     (λ p here rest h. (transaction_part_starts p here rest h).1) transaction_part_shorter

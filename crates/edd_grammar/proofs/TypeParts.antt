@@ -263,7 +263,7 @@ type_parts_shorter parts here rest (inl h) = omega (arith, ap length h.1)
 type_parts_shorter parts here rest (inr h) =
     omega (arith, ap length h.1, row_shorter TypePartHere type_part_shorter parts h.0 _ h.2)
 
--- no parenthesis stands where they begin
+-- there is no parenthesis where they begin
 pub type_parts_begin : (parts : List (TypePart Path)) (here rest : List Token)
     → TypePartsHere parts here rest → at sign.OpenParenthesis here ≡ false
 type_parts_begin parts here rest (inl h) = ap (at sign.OpenParenthesis) h.1

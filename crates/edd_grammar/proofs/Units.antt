@@ -67,7 +67,7 @@ identification_sound here i rest x =
       skip_sound d.0.1,
     )
 
--- the numbers are read where no comma follows beside the one that may stand there
+-- the numbers are read where no comma follows but the one that may be there
 identification_again : (i : Identification) (here rest : List Token)
     → IdentificationHere i here rest → at sign.Comma rest ≡ false → identification_at here
     ≡ Some (i, rest)

@@ -95,7 +95,7 @@ array_element_at here = do
 
 -- ---- transactions
 
--- a part of at most this height of what stands in the braces of a transaction
+-- a part of at most this height of what is in the braces of a transaction
 unfoldable pub transaction_part_at : ℕ → List Token → Read (TransactionPart Path)
 transaction_part_at height_left here =
     if at_word word.Request here then (braced (list_at data_item_value height_left) (drop 1 here)

@@ -12,17 +12,17 @@ use Rattle.edd_syntax.specs.Expression as tree
 use Rattle.edd_syntax.specs.Expression.{Expr, Argument, Text, Value, Arguments}
 use Rattle.edd_syntax.specs.Grammar.{Site, InAttribute, InMethod, loosest}
 use Rattle.edd_syntax.specs.Size.{height}
-use Rattle.edd_grammar.specs.Signs.{Infix, infix_precedence, infix_tree, infix_of, unary_of, before_of, behind_of, same_sign, Assignment, assignment_tree, assignment_of}
+use Rattle.edd_grammar.specs.Signs.{Infix, infix_precedence, infix_tree, infix_of, unary_of, before_of, after_of, same_sign, Assignment, assignment_tree, assignment_of}
 use Rattle.edd_grammar.specs.Reading.{◌>>=◌, on_option, Read, at, expect, path_behind, path_at, is_text, text_at}
 
 abbrev pub is_method : Site → Bool
 is_method InAttribute = false
 is_method InMethod = true
 
--- the operator that is next, where it stands in this precedence or a tighter one
+-- the operator that is next, where it is of this precedence or a tighter one
 abbrev pub operator_at : ℕ → List Token → Read Infix
-operator_at precedence (Sign s ∷ rest) = infix_of s >>= λ op. if nat_le precedence (infix_precedence op) then Some
-    (op, rest) else None
+operator_at precedence (Sign s ∷ rest) = infix_of s
+    >>= λ op. if nat_le precedence (infix_precedence op) then Some (op, rest) else None
 operator_at precedence _ = None
 
 abbrev pub assignment_at : List Token → Read Assignment
@@ -31,7 +31,7 @@ assignment_at _ = None
 
 -- `++` or `--` after a reference
 abbrev pub increment_at : List Token → Read IncrementOperator
-increment_at (Sign s ∷ rest) = behind_of s >>= λ op. Some (op, rest)
+increment_at (Sign s ∷ rest) = after_of s >>= λ op. Some (op, rest)
 increment_at _ = None
 
 -- after a path
@@ -40,7 +40,7 @@ postfix p r here =
     on_option (increment_at here) (Some (tree.Reference r, here))
     (λ o. if is_method p then Some (tree.Increment o.0 r, o.1) else None)
 
--- Reads an expression inside another one, in a place for this precedence or a tighter one.
+-- Reads an expression inside another one, at a site for this precedence or a tighter one.
 abbrev pub Inner : Type 0
 Inner = ℕ → List Token → Read (Expr Path)
 
@@ -48,7 +48,7 @@ abbrev pub as_path : Expr Path → Option Path
 as_path (tree.Reference r) = Some r
 as_path _ = None
 
--- the left side of an assignment, where one may stand in this precedence
+-- the left side of an assignment, where this precedence allows one
 abbrev pub assigned : Site → ℕ → Expr Path → Option Path
 assigned p precedence e = if nat_le precedence 1 && is_method p then as_path e else None
 
@@ -116,7 +116,7 @@ module _ (p : Site) (inner : Inner) where
       else on_option (unary_of s) (before_of s >>= λ op. step_before p op here)
       (λ op. unary_behind op here)
 
-  -- rows 13 to 15
+  -- precedences 13 to 15
   unfoldable pub operand_at : List Token → Read (Expr Path)
   operand_at [] = None
   operand_at (Identifier n ∷ rest) = named_at n rest
@@ -132,14 +132,15 @@ module _ (p : Site) (inner : Inner) where
       if nat_le (height left) height_left then (inner (suc (infix_precedence op)) here
       >>= λ right. Some (infix_tree op left right.0, right.1)) else None
 
-  -- The operators of this precedence and of tighter ones that follow a left side, where operands have at
-  -- most this height. The number bounds how many there are.
+  -- The operators of this precedence and of tighter ones that follow a left side, where operands
+  -- have at most this height. The number bounds how many there are.
   unfoldable pub chain : ℕ → ℕ → ℕ → Expr Path → List Token → Read (Expr Path)
-  chain height_left precedence zero left here = on_option (operator_at precedence here) (Some (left, here))
-      (λ o. None)
+  chain height_left precedence zero left here =
+      on_option (operator_at precedence here) (Some (left, here)) (λ o. None)
   chain height_left precedence (suc n) left here =
       on_option (operator_at precedence here) (Some (left, here))
-      (λ o. joined_at height_left o.0 left o.1 >>= λ whole. chain height_left precedence n whole.0 whole.1)
+      (λ o. joined_at height_left o.0 left o.1
+      >>= λ whole. chain height_left precedence n whole.0 whole.1)
 
   -- precedence 2, after its condition
   unfoldable pub choice_at : ℕ → ℕ → Expr Path → List Token → Read (Expr Path)
@@ -168,4 +169,5 @@ module _ (p : Site) (inner : Inner) where
 -- An expression of at most this height.
 unfoldable pub expr_at : Site → ℕ → Inner
 expr_at p zero precedence here = None
-expr_at p (suc height_left) precedence here = layer p (expr_at p height_left) height_left precedence here
+expr_at p (suc height_left) precedence here =
+    layer p (expr_at p height_left) height_left precedence here

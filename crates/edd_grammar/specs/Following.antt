@@ -47,7 +47,7 @@ EndsBranch rest = (at sign.CloseBrace rest ≡ true)
 
 -- What is asked of the values in lists: a value is read where `Follows` holds of what follows, as
 -- it does at a comma, at the end of a list, and where an element begins. Its first token is none of
--- those that stand there otherwise.
+-- those that are there otherwise.
 pub record ListedValue {V : Type 0} (of : V → ℕ) (Here : V → List Token → List Token → Type 0)
     (Follows : List Token → Type 0) (value : ℕ → List Token → Read V) : Type 0 where
   pub again : (height_left : ℕ) (v : V) (here rest : List Token) → Here v here rest

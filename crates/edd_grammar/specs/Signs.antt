@@ -28,7 +28,7 @@ same_word = (keyword_eq.ghosts).eq
 
 -- ---- operators between two operands
 
--- an operator of the rows 3 to 12
+-- an operator of a precedence from 3 to 12
 pub data Infix : Type 0 where
   Plain : Operator → Infix
   Comparing : Comparison → Infix
@@ -74,10 +74,10 @@ before_of sign.Increment = Some PreIncrement
 before_of sign.Decrement = Some PreDecrement
 before_of _ = None
 
-abbrev pub behind_of : Symbol → Option IncrementOperator
-behind_of sign.Increment = Some PostIncrement
-behind_of sign.Decrement = Some PostDecrement
-behind_of _ = None
+abbrev pub after_of : Symbol → Option IncrementOperator
+after_of sign.Increment = Some PostIncrement
+after_of sign.Decrement = Some PostDecrement
+after_of _ = None
 
 -- `=`, or an operator and `=` after it
 pub data Assignment : Type 0 where

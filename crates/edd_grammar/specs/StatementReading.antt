@@ -1,4 +1,4 @@
--- Reading statements and what stands between braces from left to right.
+-- Reading statements and what is between braces from left to right.
 use Rattle.std.specs.Prelude.{ℕ, zero, suc, Bool, true, false, ◌&&◌, ℤ, List, drop, length, Option, Some, None, if◌then◌else◌}
 use Rattle.edd_syntax.specs.declared.symbols.Keyword.TheVariants as word
 use Rattle.edd_syntax.specs.declared.symbols.Symbol.{Symbol}
@@ -40,7 +40,7 @@ case_label_at here = do
 -- statements `inner` reads
 
 module _ (height_left : ℕ) (inner : List Token → Read (Stmt Path)) where
-  -- a declaration, a label where labels may stand, or a statement
+  -- a declaration, a label where labels may be, or a statement
   unfoldable pub part_at : (labels : Bool) → List Token → Read (Part Path)
   part_at labels here =
       if at_local_type here then (declaration_at height_left (drop 1 here)

@@ -33,7 +33,7 @@ size_at here =
     >>= λ rest. Some (Some n.0, rest))
     else Some (None, here)
 
--- a part of at most this height of what stands in the braces of a type
+-- a part of at most this height of what is in the braces of a type
 unfoldable pub type_part_at : ℕ → List Token → Read (TypePart Path)
 type_part_at height_left here =
     if at_word word.DefaultValue here then (one_at expr_value height_left (drop 1 here)
@@ -56,7 +56,7 @@ type_parts_at height_left here =
     (row_inside (type_part_at height_left)) here
 
 -- What comes after a type whose word is another one: it ends at its first semicolon or, where a
--- brace stands before one, at the brace that closes that.
+-- brace is before one, at the brace that closes that.
 unfoldable pub behind_other : List Token → Option (List Token)
 behind_other [] = None
 behind_other (Sign sign.Semicolon ∷ rest) = Some rest

@@ -49,12 +49,12 @@ abbrev pub at_end : List Token → Bool
 at_end [] = true
 at_end (t ∷ rest) = false
 
--- Things up to where they end, with nothing between them. The number bounds how many there are.
+-- Elements up to where they end, with nothing between them. The number bounds how many there are.
 unfoldable pub row_at : {A : Type 0} → (ends : List Token → Bool) → (List Token → Read A) → ℕ
     → List Token → Read (List A)
-row_at ends thing zero here = None
-row_at ends thing (suc n) here =
-    if ends here then Some ([], here) else (thing here >>= λ x. row_at ends thing n x.1
+row_at ends element zero here = None
+row_at ends element (suc n) here =
+    if ends here then Some ([], here) else (element here >>= λ x. row_at ends element n x.1
     >>= λ more. Some (x.0 ∷ more.0, more.1))
 
 -- after the semicolons that are next
@@ -62,13 +62,13 @@ abbrev pub skip_semicolons : List Token → List Token
 skip_semicolons (Sign sign.Semicolon ∷ rest) = skip_semicolons rest
 skip_semicolons here = here
 
--- a thing and any number of semicolons after it
+-- an element and any number of semicolons after it
 unfoldable pub closed : {A : Type 0} → (List Token → Read A) → List Token → Read A
-closed thing here = thing here >>= λ x. Some (x.0, skip_semicolons x.1)
+closed element here = element here >>= λ x. Some (x.0, skip_semicolons x.1)
 
 -- ---- braces
 
--- what stands between an opening and a closing brace
+-- what is between an opening and a closing brace
 unfoldable pub braced : {A : Type 0} → (List Token → Read A) → List Token → Read A
 braced inner here = do
   inside ← expect sign.OpenBrace here
@@ -76,6 +76,6 @@ braced inner here = do
   rest ← expect sign.CloseBrace behind
   Some (x, rest)
 
--- things up to a closing brace
+-- elements up to a closing brace
 unfoldable pub row_inside : {A : Type 0} → (List Token → Read A) → List Token → Read (List A)
-row_inside thing here = row_at at_close thing (suc (length here)) here
+row_inside element here = row_at at_close element (suc (length here)) here

@@ -47,7 +47,7 @@ pub fn spelled_texts_are_read()
         → (is_text here ≡ true) × (text_at here ≡ Some (text, rest)) }
 {}
 
-/// An expression that is read in a place for a precedence is spelled there by the tokens that were
+/// An expression that is read at a site for a precedence is spelled there by the tokens that were
 /// taken, and is no higher than the limit it was read with.
 pub fn read_expressions_are_spelled()
     ensures { (p : Site) (height_left precedence : ℕ) (here : List Token) (e : Expr Path)
@@ -56,20 +56,21 @@ pub fn read_expressions_are_spelled()
         → ExprHere p precedence e here rest × (height e ≤ height_left) }
 {}
 
-/// An expression that is spelled in a place for a precedence, no higher than the limit, is read, where
-/// what follows can't go on with it.
+/// An expression that is spelled at a site for a precedence, no higher than the limit, is read,
+/// where what follows can't go on with it.
 pub fn spelled_expressions_are_read()
     ensures { (p : Site) (height_left precedence : ℕ) (e : Expr Path) (here rest : List Token)
-        → precedence ≤ 13 → ExprHere p precedence e here rest → height e ≤ height_left → Stops precedence rest
-        → expr_at p height_left precedence here ≡ Some (e, rest) }
+        → precedence ≤ 13 → ExprHere p precedence e here rest → height e ≤ height_left
+        → Stops precedence rest → expr_at p height_left precedence here ≡ Some (e, rest) }
 {}
 
 /// From one place on, tokens spell one expression at most, and it ends in one place, where what
 /// follows can't go on with it.
 pub fn one_expression()
-    ensures { (p : Site) (precedence : ℕ) (e f : Expr Path) (here rest behind : List Token) → precedence ≤ 13
-        → Stops precedence rest → Stops precedence behind → ExprHere p precedence e here rest
-        → ExprHere p precedence f here behind → (e ≡ f) × (rest ≡ behind) }
+    ensures { (p : Site) (precedence : ℕ) (e f : Expr Path) (here rest behind : List Token)
+        → precedence ≤ 13 → Stops precedence rest → Stops precedence behind
+        → ExprHere p precedence e here rest → ExprHere p precedence f here behind
+        → (e ≡ f) × (rest ≡ behind) }
 {}
 
 /// A single conditional text that is read is spelled by the tokens that were taken, and is no

@@ -12,40 +12,46 @@ pub shorter : (here : List Token) → at_end here ≡ false → length (drop 1 h
 shorter [] e = absurd cc
 shorter (t ∷ rest) e = omega arith
 
-pub braces_done : (depth : ℕ) (here : List Token) → depth ≡ 0 → behind_braces depth here ≡ Some here
-braces_done zero here e = refl
-braces_done (suc depth) here e = absurd (omega arith)
+pub one_less : (here : List Token) → 0 < length here → length (drop 1 here) + 1 ≡ length here
+one_less [] lt = absurd (omega arith)
+one_less (t ∷ rest) lt = omega arith
 
-pub braces_none : (depth : ℕ) (here : List Token) → 0 < depth → at_end here ≡ true
-    → behind_braces depth here ≡ None
-braces_none zero here lt e = absurd (omega arith)
-braces_none (suc depth) [] lt e = refl
-braces_none (suc depth) (t ∷ rest) lt e = absurd cc
+pub braces_none : (inside : ℕ) (here : List Token) → length here ≡ 0
+    → behind_braces (inside + 1) here ≡ None
+braces_none inside [] e = let same : inside + 1 ≡ suc inside = omega arith in rw same refl
+braces_none inside (t ∷ rest) e = absurd (omega arith)
 
-pub braces_open : (depth : ℕ) (here : List Token) → 0 < depth → at sign.OpenBrace here ≡ true
-    → behind_braces depth here ≡ behind_braces (depth + 1) (drop 1 here)
-braces_open zero here lt e = absurd (omega arith)
-braces_open (suc depth) here lt e =
-    let same : suc depth + 1 ≡ suc (suc depth) = omega arith in
-    rw same (ap (behind_braces (suc depth)) (at_is sign.OpenBrace here e))
+pub braces_open : (inside : ℕ) (here : List Token) → at sign.OpenBrace here ≡ true
+    → behind_braces (inside + 1) here ≡ behind_braces (inside + 1 + 1) (drop 1 here)
+braces_open inside here e =
+    let same : inside + 1 ≡ suc inside = omega arith in
+    let more : suc inside + 1 ≡ suc (suc inside) = omega arith in
+    rw (same, more) (ap (behind_braces (suc inside)) (at_is sign.OpenBrace here e))
 
-pub braces_close : (depth : ℕ) (here : List Token) → 0 < depth → at sign.CloseBrace here ≡ true
-    → behind_braces depth here ≡ behind_braces (depth - 1) (drop 1 here)
+pub braces_done : (inside : ℕ) (here : List Token) → inside ≡ 0 → at sign.CloseBrace here ≡ true
+    → behind_braces (inside + 1) here ≡ Some (drop 1 here)
+braces_done inside here none e =
+    let same : inside + 1 ≡ 1 = omega arith in
+    rw same (ap (behind_braces 1) (at_is sign.CloseBrace here e))
+
+pub braces_close : (inside : ℕ) (here : List Token) → 0 < inside → at sign.CloseBrace here ≡ true
+    → behind_braces (inside + 1) here ≡ behind_braces (inside - 1 + 1) (drop 1 here)
 braces_close zero here lt e = absurd (omega arith)
-braces_close (suc depth) here lt e =
-    let same : suc depth - 1 ≡ depth = omega arith in
-    rw same (ap (behind_braces (suc depth)) (at_is sign.CloseBrace here e))
+braces_close (suc inside) here lt e =
+    let same : suc inside + 1 ≡ suc (suc inside) = omega arith in
+    let less : suc inside - 1 + 1 ≡ suc inside = omega arith in
+    rw (same, less) (ap (behind_braces (suc (suc inside))) (at_is sign.CloseBrace here e))
 
-pub braces_skip : (depth : ℕ) (here : List Token) → 0 < depth → at_end here ≡ false
+pub braces_skip : (inside : ℕ) (here : List Token) → 0 < length here
     → at sign.OpenBrace here ≡ false → at sign.CloseBrace here ≡ false
-    → behind_braces depth here ≡ behind_braces depth (drop 1 here)
-braces_skip zero here lt e a b = absurd (omega arith)
-braces_skip (suc depth) [] lt e a b = absurd cc
-braces_skip (suc depth) (Sign sign.OpenBrace ∷ rest) lt e a b = absurd cc
-braces_skip (suc depth) (Sign sign.CloseBrace ∷ rest) lt e a b = absurd cc
-braces_skip (suc depth) (_ ∷ rest) lt e a b = refl
+    → behind_braces (inside + 1) here ≡ behind_braces (inside + 1) (drop 1 here)
+braces_skip inside [] lt a b = absurd (omega arith)
+braces_skip inside (Sign sign.OpenBrace ∷ rest) lt a b = absurd cc
+braces_skip inside (Sign sign.CloseBrace ∷ rest) lt a b = absurd cc
+braces_skip inside (_ ∷ rest) lt a b =
+    let same : inside + 1 ≡ suc inside = omega arith in rw same refl
 
-pub ruleset braces = (shorter, braces_done, braces_none, braces_open, braces_close, braces_skip)
+pub ruleset braces = (one_less, braces_none, braces_open, braces_done, braces_close, braces_skip)
 
 pub other_none : (here : List Token) → at_end here ≡ true → behind_other here ≡ None
 unfolding behind_other

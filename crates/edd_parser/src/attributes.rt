@@ -26,9 +26,7 @@ use edd_syntax::types::ResponseClass;
 use edd_token_reader::cursor::Cursor;
 use edd_token_reader::fault::ParseFault;
 use edd_token_reader::left_out::{misfit, misfit_without_codes};
-use edd_token_reader::words::{
-    integer, number, operation, optional_text, skip_semicolons, some_text,
-};
+use edd_token_reader::words::{integer, operation, optional_text, skip_semicolons, some_text};
 
 // The class with this name.
 fn class_named(name: &str) -> Option<ResponseClass>
@@ -75,8 +73,8 @@ fn response_class(cursor: &mut Cursor) -> Result<ResponseClass, ParseFault>
 fn skip_response_end(cursor: &mut Cursor)
     ensures { cursor.new ≡ reading.behind_response cursor.old }
 {
-    if cursor.at(Symbol::Semicolon) || cursor.at(Symbol::Comma) {
-        cursor.bump();
+    if !cursor.eat(Symbol::Semicolon) {
+        cursor.eat(Symbol::Comma);
     }
 }
 
@@ -234,13 +232,13 @@ impl RowElement for TransactionPart<Path> {
 }
 
 // After TRANSACTION.
-#[tactic(auto, unfolding(edd_grammar::specs::AttributeReading::transaction_at))]
+#[tactic(auto, unfolding(edd_grammar::specs::AttributeReading::transaction_at, edd_grammar::specs::WordReading::number_at))]
 fn transaction(cursor: &mut Cursor, height_left: u32) -> Result<Attribute<Path>, ParseFault>
     requires { height_left ≤ 100 }
     ensures { Gives attribute_view result cursor.new
         (reading.transaction_at height_left cursor.old) }
 {
-    let number = number(cursor)?;
+    let number = cursor.integer();
     let parts = braced_row(cursor, height_left)?;
     Ok(Attribute::Transaction { number, parts })
 }

@@ -109,7 +109,7 @@ fn expect_variable(cursor: &mut Cursor) -> Result<(), ParseFault>
 
 // After COLLECTION: OF and the kind of its members; after ARRAY: OF VARIABLE.
 #[tactic(auto, unfolding(edd_grammar::specs::UnitReading::sort_behind))]
-fn sort_behind(cursor: &mut Cursor, kind_read: Kind) -> Result<Sort, ParseFault>
+fn after_kind(cursor: &mut Cursor, kind_read: Kind) -> Result<Sort, ParseFault>
     ensures { Gives sort_view result cursor.new (reading.sort_behind kind_read cursor.old) }
 {
     match kind_read {
@@ -135,7 +135,7 @@ fn item_sort(cursor: &mut Cursor) -> Result<Sort, ParseFault>
     ensures { Gives sort_view result cursor.new (sort_at cursor.old) }
 {
     let kind_read = item_kind(cursor)?;
-    sort_behind(cursor, kind_read)
+    after_kind(cursor, kind_read)
 }
 
 // The attributes up to the closing brace.

@@ -11,7 +11,7 @@ use edd_syntax::symbols::Symbol;
 use edd_token_reader::cursor::Cursor;
 use edd_token_reader::fault::ParseFault;
 
-/// What may stand between braces any number of times, and how it is read.
+/// What may be between braces any number of times, and how it is read.
 pub trait RowElement: Sized + Drop {
     ghost Pure: { Type 0 };
 
@@ -29,7 +29,7 @@ pub trait RowElement: Sized + Drop {
 }
 
 // The elements up to the closing brace.
-#[tactic(auto, unfolding(edd_grammar::specs::WordReading::row_inside), using(crate::proofs::RowLoops::things_read))]
+#[tactic(auto, unfolding(edd_grammar::specs::WordReading::row_inside), using(crate::proofs::RowLoops::elements_read))]
 fn row<T: RowElement>(cursor: &mut Cursor, height_left: u32) -> Result<Vec<T>, ParseFault>
     requires { height_left ≤ 100 }
     ensures { Gives (λ v. map T.view v.items) result cursor.new

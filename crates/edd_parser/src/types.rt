@@ -21,7 +21,7 @@ use edd_token_reader::cursor::Cursor;
 use edd_token_reader::fault::ParseFault;
 use edd_token_reader::words::{integer, skip_comma};
 
-/// A type as it is written, and what stands in its braces.
+/// A type as it is written, and what is in its braces.
 #[derive(Drop)]
 pub struct WrittenType {
     pub word: TypeWord,
@@ -60,7 +60,7 @@ fn size(cursor: &mut Cursor) -> Result<Option<u32>, ParseFault>
     Ok(Some(size))
 }
 
-// A part of what stands in the braces of a type.
+// A part of what is in the braces of a type.
 #[tactic(auto, unfolding(edd_grammar::specs::TypeReading::type_part_at))]
 fn type_part(cursor: &mut Cursor, height_left: u32) -> Result<TypePart<Path>, ParseFault>
     requires { height_left ≤ 100 }
@@ -125,22 +125,21 @@ fn type_parts(cursor: &mut Cursor, height_left: u32) -> Result<Vec<TypePart<Path
 fn close_braces(cursor: &mut Cursor) -> Result<(), ParseFault>
     ensures { Leaves result cursor.new (behind_braces 1 cursor.old) }
 {
-    // No text opens more braces than it has places: so the proof knows that the depth fits.
-    let places = cursor.places();
-    let mut depth: usize = 1;
-    while depth > 0 {
-        if cursor.is_empty() {
-            return Err(cursor.syntax());
-        }
+    // The number of braces that are open inside that one.
+    let mut inside: usize = 0;
+    for _ in 0..cursor.tokens_left() {
         if cursor.at(Symbol::OpenBrace) {
-            depth += 1;
+            inside += 1;
         } else if cursor.at(Symbol::CloseBrace) {
-            depth -= 1;
+            if inside == 0 {
+                cursor.bump();
+                return Ok(());
+            }
+            inside -= 1;
         }
         cursor.bump();
     }
-    let _places = places;
-    Ok(())
+    Err(cursor.syntax())
 }
 
 // After a type of another word: after its first semicolon, or the brace that closes its first

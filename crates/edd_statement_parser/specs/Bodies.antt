@@ -63,7 +63,7 @@ for_head_at height_left here = do
   (update, behind) ← optional_at height_left (statement_at height_left) sign.CloseParenthesis third
   Some ((initial, condition, update), behind)
 
--- ---- conditions with what stands around them
+-- ---- conditions with what is around them
 
 -- the condition after the body of a `do`
 unfoldable pub do_end_at : ℕ → List Token → Read (Expr Path)

@@ -1,4 +1,4 @@
-//! Statements and what stands between braces.
+//! Statements and what is between braces.
 
 ghost use Rattle.std.specs.Prelude.{◌≡◌, ◌≤◌, ◌<◌, ◌+◌, length, Some, true, false, option_map};
 ghost use Rattle.edd_grammar.specs.StatementReading as reading;
@@ -192,19 +192,19 @@ fn layer(cursor: &mut Cursor, height_left: u32) -> Result<Stmt<Path>, ParseFault
         return Ok(block(body(cursor, height_left, false)?));
     }
     if cursor.eat_word(Keyword::MethodIf) {
-        return if_behind(cursor, height_left);
+        return after_if(cursor, height_left);
     }
     if cursor.eat_word(Keyword::While) {
-        return while_behind(cursor, height_left);
+        return after_while(cursor, height_left);
     }
     if cursor.eat_word(Keyword::Do) {
-        return do_behind(cursor, height_left);
+        return after_do(cursor, height_left);
     }
     if cursor.eat_word(Keyword::For) {
-        return for_behind(cursor, height_left);
+        return after_for(cursor, height_left);
     }
     if cursor.eat_word(Keyword::Switch) {
-        return switch_behind(cursor, height_left);
+        return after_switch(cursor, height_left);
     }
     simple(cursor, height_left)
 }
@@ -238,7 +238,7 @@ fn parts(cursor: &mut Cursor, height_left: u32, labels: bool) -> Result<Vec<Part
     Ok(all)
 }
 
-// A declaration, a label where labels may stand, or a statement.
+// A declaration, a label where labels may be, or a statement.
 #[cycle(statement)]
 #[tactic(auto, unfolding(edd_grammar::specs::StatementReading::part_at))]
 fn part(cursor: &mut Cursor, height_left: u32, labels: bool) -> Result<Part<Path>, ParseFault>
@@ -251,13 +251,11 @@ fn part(cursor: &mut Cursor, height_left: u32, labels: bool) -> Result<Part<Path
         cursor.bump();
         return Ok(Part::Declare(declaration(cursor, height_left)?));
     }
-    if labels && cursor.at_word(Keyword::MethodCase) {
-        cursor.bump();
+    if labels && cursor.eat_word(Keyword::MethodCase) {
         let label = case_label(cursor)?;
         return Ok(Part::CaseLabel { line, label });
     }
-    if labels && cursor.at_word(Keyword::MethodDefault) {
-        cursor.bump();
+    if labels && cursor.eat_word(Keyword::MethodDefault) {
         cursor.expect(Symbol::Colon)?;
         return Ok(Part::DefaultLabel { line });
     }
@@ -267,20 +265,20 @@ fn part(cursor: &mut Cursor, height_left: u32, labels: bool) -> Result<Part<Path
 // After `if`.
 #[cycle(statement)]
 #[tactic(auto, unfolding(edd_grammar::specs::StatementReading::method_if_at))]
-fn if_behind(cursor: &mut Cursor, height_left: u32) -> Result<Stmt<Path>, ParseFault>
+fn after_if(cursor: &mut Cursor, height_left: u32) -> Result<Stmt<Path>, ParseFault>
     requires { height_left < 100 }
     ensures { Gives stmt_view result cursor.new
         (reading.method_if_at height_left (statement_at height_left) cursor.old) }
 {
     let condition = condition(cursor, Site::Method, height_left)?;
     let first = child(cursor, height_left)?;
-    else_behind(cursor, height_left, condition, first)
+    after_first_branch(cursor, height_left, condition, first)
 }
 
 // An `else` belongs to the nearest `if`.
 #[cycle(statement)]
 #[tactic(auto, unfolding(edd_grammar::specs::StatementReading::method_else_at))]
-fn else_behind(
+fn after_first_branch(
     cursor: &mut Cursor,
     height_left: u32,
     condition: Expr<Path>,
@@ -301,7 +299,7 @@ fn else_behind(
 // After `while`.
 #[cycle(statement)]
 #[tactic(auto, unfolding(edd_grammar::specs::StatementReading::while_at))]
-fn while_behind(cursor: &mut Cursor, height_left: u32) -> Result<Stmt<Path>, ParseFault>
+fn after_while(cursor: &mut Cursor, height_left: u32) -> Result<Stmt<Path>, ParseFault>
     requires { height_left < 100 }
     ensures { Gives stmt_view result cursor.new
         (reading.while_at height_left (statement_at height_left) cursor.old) }
@@ -314,7 +312,7 @@ fn while_behind(cursor: &mut Cursor, height_left: u32) -> Result<Stmt<Path>, Par
 // After `do`.
 #[cycle(statement)]
 #[tactic(auto, unfolding(edd_grammar::specs::StatementReading::do_at, crate::specs::Bodies::do_end_at))]
-fn do_behind(cursor: &mut Cursor, height_left: u32) -> Result<Stmt<Path>, ParseFault>
+fn after_do(cursor: &mut Cursor, height_left: u32) -> Result<Stmt<Path>, ParseFault>
     requires { height_left < 100 }
     ensures { Gives stmt_view result cursor.new
         (reading.do_at height_left (statement_at height_left) cursor.old) }
@@ -327,7 +325,7 @@ fn do_behind(cursor: &mut Cursor, height_left: u32) -> Result<Stmt<Path>, ParseF
 // After `for`.
 #[cycle(statement)]
 #[tactic(auto, unfolding(edd_grammar::specs::StatementReading::for_at, crate::specs::Bodies::for_head_at))]
-fn for_behind(cursor: &mut Cursor, height_left: u32) -> Result<Stmt<Path>, ParseFault>
+fn after_for(cursor: &mut Cursor, height_left: u32) -> Result<Stmt<Path>, ParseFault>
     requires { height_left < 100 }
     ensures { Gives stmt_view result cursor.new
         (reading.for_at height_left (statement_at height_left) cursor.old) }
@@ -340,7 +338,7 @@ fn for_behind(cursor: &mut Cursor, height_left: u32) -> Result<Stmt<Path>, Parse
 // After `switch`.
 #[cycle(statement)]
 #[tactic(auto, unfolding(edd_grammar::specs::StatementReading::switch_at, crate::specs::Bodies::switch_head_at))]
-fn switch_behind(cursor: &mut Cursor, height_left: u32) -> Result<Stmt<Path>, ParseFault>
+fn after_switch(cursor: &mut Cursor, height_left: u32) -> Result<Stmt<Path>, ParseFault>
     requires { height_left < 100 }
     ensures { Gives stmt_view result cursor.new
         (reading.switch_at height_left (statement_at height_left) cursor.old) }

@@ -10,7 +10,7 @@ use Rattle.edd_grammar.specs.ConditionalReading.{skip_comma}
 use Rattle.edd_grammar.specs.ValueReading.{allowed_at, some_qualifiers}
 use Rattle.edd_grammar.proofs.Steps.{bind_some, guard_some, at_is, name_is}
 use Rattle.edd_token_reader.specs.Qualifiers.{texts_of}
-use Rattle.edd_token_reader.proofs.Fronts.{bind_same, regroup, add_thing, all_things, with_things}
+use Rattle.edd_token_reader.proofs.Fronts.{bind_same, regroup, add_element, all_elements, with_elements}
 
 abbrev pub bytes_of : Bor (List ℕ) → Name
 bytes_of n = n.now
@@ -63,24 +63,24 @@ module _ (allowed : List Name) where
       ap (λ (k : ℕ). some_qualifiers allowed k (drop 1 here)) n
 
   pub names_fail : (front : List (Bor (List ℕ))) (here : List Token) → allowed_at allowed here
-      ≡ None → with_things bytes_of front (names_here here) ≡ None
+      ≡ None → with_elements bytes_of front (names_here here) ≡ None
   unfolding some_qualifiers
   names_fail front here e = let more : length here + 1 ≡ suc (length here) =
       omega arith in rw (more, e) refl
 
   pub names_end : (front : List (Bor (List ℕ))) (q : Bor (List ℕ)) (here rest : List Token)
       → allowed_at allowed here ≡ Some (q.now, rest) → at CloseParenthesis rest ≡ true
-      → with_things bytes_of front (names_here here)
+      → with_elements bytes_of front (names_here here)
       ≡ Some (texts_of (front ++ q ∷ []), drop 1 rest)
   unfolding some_qualifiers
   names_end front q here rest e last =
       let more : length here + 1 ≡ suc (length here) = omega arith in
-      rw (more, e, last) (regroup (add_thing bytes_of) front q (Some ([], drop 1 rest))
-      ∙ ap (λ (x : List Name). Some (x, drop 1 rest)) (all_things bytes_of (front ++ q ∷ [])))
+      rw (more, e, last) (regroup (add_element bytes_of) front q (Some ([], drop 1 rest))
+      ∙ ap (λ (x : List Name). Some (x, drop 1 rest)) (all_elements bytes_of (front ++ q ∷ [])))
 
   pub names_go_on : (front : List (Bor (List ℕ))) (q : Bor (List ℕ)) (here rest : List Token)
       → allowed_at allowed here ≡ Some (q.now, rest) → at CloseParenthesis rest ≡ false
-      → with_things bytes_of front (names_here here) ≡ with_things bytes_of (front ++ q ∷ [])
+      → with_elements bytes_of front (names_here here) ≡ with_elements bytes_of (front ++ q ∷ [])
       (names_here (skip_comma rest))
   unfolding some_qualifiers
   names_go_on front q here rest e last =
@@ -89,8 +89,8 @@ module _ (allowed : List Name) where
       let c = comma_no_longer rest in
       let same = same_names (length here) (length (skip_comma rest) + 1) (skip_comma rest)
       (omega arith) (omega arith) in
-      rw (more, e, last) (regroup (add_thing bytes_of) front q
+      rw (more, e, last) (regroup (add_element bytes_of) front q
       (some_qualifiers allowed (length here) (skip_comma rest)))
-      ∙ ap (with_things bytes_of (front ++ q ∷ [])) same
+      ∙ ap (with_elements bytes_of (front ++ q ∷ [])) same
 
 pub ruleset names_read = (allowed_shortens, comma_no_longer, names_fail, names_end, names_go_on)

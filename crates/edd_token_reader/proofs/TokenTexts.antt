@@ -93,7 +93,7 @@ name_text (c ∷ rest) e =
     IsUtf8-from_ascii (c ∷ rest) (one_more_ascii c rest (part_small c (begins_goes_on c g.0))
     (parts_ascii rest g.1))
 
--- ---- where tokens stand: after some bytes of the text
+-- ---- where tokens are: after some bytes of the text
 
 -- `here` is an end of the text
 abbrev Ends : List ℕ → List ℕ → Type 0

@@ -27,7 +27,7 @@ abbrev pub HasQuotes : TokenKind → ℕ → Type 0
 HasQuotes kind.String size = 2 ≤ size
 HasQuotes _ size = Unit {0}
 
--- a token that stands in this text
+-- a token that is in this text
 pub record IsReadable (text : List ℕ) (t : code.Token) : Type 0 where
   pub forward : t.start ≤ t.end
   pub within : t.end ≤ length text

@@ -1,6 +1,6 @@
 //! The tokens that are still to be read.
 
-ghost use Rattle.std.specs.Prelude.{◌≡◌, ◌+◌, ℕ, All, List, [], ◌∷◌, drop, length, MatchOption, option_map, None, Some, Bool, true, false, if◌then◌else◌};
+ghost use Rattle.std.specs.Prelude.{◌≡◌, ℕ, All, List, [], ◌∷◌, drop, length, MatchOption, option_map, None, Some, Bool, true, false, if◌then◌else◌};
 ghost use Rattle.edd_grammar.specs.Reading as reading;
 ghost use Rattle.edd_grammar.specs.ExpressionReading.{operator_at, assignment_at, increment_at};
 ghost use Rattle.edd_lexer.specs.Views.{token_of};
@@ -12,7 +12,7 @@ ghost use Rattle.edd_grammar.specs.AttributeReading.{begins_own, text_here};
 
 use crate::belongs::word_belongs;
 use crate::fault::ParseFault;
-use crate::operators::{Assignment, Infix, assignment_of, behind_of, infix_of, precedence_of};
+use crate::operators::{Assignment, Infix, after_of, assignment_of, infix_of, precedence_of};
 use crate::token_text::{name_in, string_in};
 use edd_lexer::token::{Token, TokenKind};
 use edd_syntax::numbers::{Kind, TextAttribute};
@@ -131,11 +131,11 @@ impl<'a> Cursor<'a> {
         }
     }
 
-    /// The number of places before, between and after the tokens.
-    pub fn places(&self) -> usize
-        ensures { result ≡ length self.now + 1 }
+    /// The number of tokens that are left.
+    pub fn tokens_left(&self) -> usize
+        ensures { result ≡ length self.now }
     {
-        self.rest.len() + 1
+        self.rest.len()
     }
 
     /// Whether no token is left.
@@ -432,7 +432,7 @@ impl<'a> Cursor<'a> {
         }
     }
 
-    /// The operator that is next, where it stands in this precedence or a tighter one.
+    /// The operator that is next, where it is of this precedence or a tighter one.
     pub fn operator(&mut self, precedence: u32) -> Option<Infix>
         ensures { Takes infix_view result self.old self.new (operator_at precedence self.old) }
     {
@@ -457,7 +457,7 @@ impl<'a> Cursor<'a> {
     pub fn step(&mut self) -> Option<IncrementOperator>
         ensures { Takes (λ op. op) result self.old self.new (increment_at self.old) }
     {
-        let op = behind_of(self.peek_sign()?)?;
+        let op = after_of(self.peek_sign()?)?;
         self.bump();
         Some(op)
     }

@@ -127,8 +127,8 @@ pub fn misfit_array(cursor: &Cursor) -> ParseFault {
     }
 }
 
-/// The fault where an item may begin, or a part of a transaction: response codes may not stand
-/// there either.
+/// The fault where an item may begin, or a part of a transaction: response codes may not be there
+/// either.
 pub fn misfit_without_codes(cursor: &Cursor) -> ParseFault {
     if cursor.at_word(Keyword::ResponseCodes) {
         return ParseFault::unsupported(cursor.alloc(), "RESPONSE_CODES");

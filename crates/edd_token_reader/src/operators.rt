@@ -1,4 +1,4 @@
-//! What signs are in expressions, and where an expression stands.
+//! What signs are in expressions, and the sites of expressions.
 
 ghost use Rattle.std.specs.Prelude.{◌≡◌, option_map};
 ghost use Rattle.edd_syntax.specs.Grammar as grammar;
@@ -9,7 +9,7 @@ ghost use Rattle.edd_token_reader.specs.Views.{infix_view, assignment_view, site
 use edd_syntax::operators::{Comparison, IncrementOperator, Operator, UnaryOperator};
 use edd_syntax::symbols::Symbol;
 
-/// Where an expression stands: only in a method may it assign, step and call.
+/// Where an expression is: only in a method may it assign, step and call.
 #[derive(Clone, Copy)]
 pub enum Site {
     Attribute,
@@ -32,7 +32,7 @@ pub enum Assignment {
     Compound(Operator),
 }
 
-/// The loosest precedence that may stand in a place.
+/// The loosest precedence of a site.
 pub fn loosest(site: Site) -> u32
     ensures { result ≡ grammar.loosest (site_view site) }
 {
@@ -42,7 +42,7 @@ pub fn loosest(site: Site) -> u32
     }
 }
 
-/// Whether an expression stands in a method.
+/// Whether an expression is in a method.
 pub fn in_method(site: Site) -> bool
     ensures { result ≡ reading.is_method (site_view site) }
 {
@@ -127,8 +127,8 @@ pub fn before_of(sign: Symbol) -> Option<IncrementOperator>
 }
 
 /// The step after a reference that a sign is.
-pub fn behind_of(sign: Symbol) -> Option<IncrementOperator>
-    ensures { result ≡ signs.behind_of sign }
+pub fn after_of(sign: Symbol) -> Option<IncrementOperator>
+    ensures { result ≡ signs.after_of sign }
 {
     match sign {
         Symbol::Increment => Some(IncrementOperator::PostIncrement),

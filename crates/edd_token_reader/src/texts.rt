@@ -45,7 +45,7 @@ pub fn path(cursor: &mut Cursor) -> Result<Path, ParseFault>
     path_from(cursor, base)
 }
 
-// The strings that stand next to each other, joined.
+// The strings that follow each other, joined.
 fn strings(cursor: &mut Cursor) -> Result<String, ParseFault>
     ensures { Gives string_bytes result cursor.new (Some (strings_at cursor.old)) }
 {

@@ -26,7 +26,7 @@ pub fn name_in<'a>(text: &'a [u8], token: &Token) -> &'a str
     unsafe { str::from_utf8_unchecked(bytes_of(text, token)) }
 }
 
-/// What stands between the quotes of a string.
+/// What is between the quotes of a string.
 pub fn string_in<'a>(text: &'a [u8], token: &Token) -> &'a str
     requires readable { IsReadable text.now token.now }
     requires string { token.now.kind ≡ kind.String }

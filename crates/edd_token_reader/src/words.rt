@@ -20,7 +20,7 @@ use edd_syntax::types::{Handling, Operation};
 
 // After one of READ and WRITE, where the other one may follow `&`.
 #[tactic(auto, unfolding(edd_grammar::specs::ValueReading::handling_behind))]
-fn handling_behind(cursor: &mut Cursor, one: Handling, other: &str) -> Result<Handling, ParseFault>
+fn after_handling(cursor: &mut Cursor, one: Handling, other: &str) -> Result<Handling, ParseFault>
     ensures { Gives (λ h. h) result cursor.new (reading.handling_behind one other.now cursor.old) }
 {
     if !cursor.eat(Symbol::Operator(Operator::And)) {
@@ -36,10 +36,10 @@ pub fn handling(cursor: &mut Cursor) -> Result<Handling, ParseFault>
     ensures { Gives (λ h. h) result cursor.new (reading.handling_at cursor.old) }
 {
     if cursor.eat_name("READ") {
-        return handling_behind(cursor, Handling::Read, "WRITE");
+        return after_handling(cursor, Handling::Read, "WRITE");
     }
     if cursor.eat_name("WRITE") {
-        return handling_behind(cursor, Handling::Write, "READ");
+        return after_handling(cursor, Handling::Write, "READ");
     }
     Err(cursor.syntax())
 }
@@ -105,14 +105,6 @@ pub fn integer(cursor: &mut Cursor) -> Result<u32, ParseFault>
         Some(n) => Ok(n),
         None => Err(cursor.syntax()),
     }
-}
-
-/// A number, or none.
-#[tactic(auto, unfolding(edd_grammar::specs::WordReading::number_at))]
-pub fn number(cursor: &mut Cursor) -> Result<Option<u32>, ParseFault>
-    ensures { Gives (λ n. n) result cursor.new (words.number_at cursor.old) }
-{
-    Ok(cursor.integer())
 }
 
 /// After the semicolons that are next.

@@ -8,11 +8,11 @@ decreases-cond g l = 8 * l.height_left
 abbrev pub decreases-layer : goal.decreases-layer
 decreases-layer g l = 8 * l.height_left + 7
 
-abbrev pub decreases-if_behind : goal.decreases-if_behind
-decreases-if_behind g l = 8 * l.height_left + 6
+abbrev pub decreases-after_if : goal.decreases-after_if
+decreases-after_if g l = 8 * l.height_left + 6
 
-abbrev pub decreases-select_behind : goal.decreases-select_behind
-decreases-select_behind g l = 8 * l.height_left + 6
+abbrev pub decreases-after_select : goal.decreases-after_select
+decreases-after_select g l = 8 * l.height_left + 6
 
 abbrev pub decreases-otherwise : goal.decreases-otherwise
 decreases-otherwise g l = 8 * l.height_left + 5

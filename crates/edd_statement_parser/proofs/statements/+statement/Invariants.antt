@@ -11,8 +11,8 @@ decreases-child l = 8 * l.height_left + 1
 abbrev pub decreases-layer : goal.decreases-layer
 decreases-layer l = 8 * l.height_left + 7
 
-abbrev pub decreases-switch_behind : goal.decreases-switch_behind
-decreases-switch_behind l = 8 * l.height_left + 6
+abbrev pub decreases-after_switch : goal.decreases-after_switch
+decreases-after_switch l = 8 * l.height_left + 6
 
 abbrev pub decreases-body : goal.decreases-body
 decreases-body l = 8 * l.height_left + 5
@@ -23,20 +23,20 @@ decreases-parts l = 8 * l.height_left + 4
 abbrev pub decreases-part : goal.decreases-part
 decreases-part l = 8 * l.height_left + 3
 
-abbrev pub decreases-if_behind : goal.decreases-if_behind
-decreases-if_behind l = 8 * l.height_left + 3
+abbrev pub decreases-after_if : goal.decreases-after_if
+decreases-after_if l = 8 * l.height_left + 3
 
-abbrev pub decreases-else_behind : goal.decreases-else_behind
-decreases-else_behind l = 8 * l.height_left + 2
+abbrev pub decreases-after_first_branch : goal.decreases-after_first_branch
+decreases-after_first_branch l = 8 * l.height_left + 2
 
-abbrev pub decreases-while_behind : goal.decreases-while_behind
-decreases-while_behind l = 8 * l.height_left + 2
+abbrev pub decreases-after_while : goal.decreases-after_while
+decreases-after_while l = 8 * l.height_left + 2
 
-abbrev pub decreases-do_behind : goal.decreases-do_behind
-decreases-do_behind l = 8 * l.height_left + 2
+abbrev pub decreases-after_do : goal.decreases-after_do
+decreases-after_do l = 8 * l.height_left + 2
 
-abbrev pub decreases-for_behind : goal.decreases-for_behind
-decreases-for_behind l = 8 * l.height_left + 2
+abbrev pub decreases-after_for : goal.decreases-after_for
+decreases-after_for l = 8 * l.height_left + 2
 
 abbrev pub invariant-parts-loop-all : goal.invariant-parts-loop-all
 invariant-parts-loop-all l = with_parts l.all.items (parts_here l.height_left l.labels l.cursor)
