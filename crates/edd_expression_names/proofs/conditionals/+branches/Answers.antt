@@ -21,26 +21,29 @@ use Rattle.edd_expression_names.proofs.conditionals.+branches.Goals as goal
 
 pub copy_cond-returns-in-Err-clause-refused : goal.copy_cond-returns-in-Err-clause-refused
 copy_cond-returns-in-Err-clause-refused g t c =
-    value_fault (description_of c.args.names.now) g.V.ResolveValue.before g.V.ResolveValue.after g.V.ResolveValue.uses
-    g.V.ResolveValue.meant c.args.c.now _ c.in-Value.is c.in-Err.fault c.in-Err.ensures.refused
+    value_fault (description_of c.args.names.now) g.V.ResolveValue.before g.V.ResolveValue.after
+    g.V.ResolveValue.uses g.V.ResolveValue.meant c.args.c.now _ c.in-Value.is c.in-Err.fault
+    c.in-Err.ensures.refused
 
 pub copy_cond-returns-in-Ok-clause-accepted : goal.copy_cond-returns-in-Ok-clause-accepted
 copy_cond-returns-in-Ok-clause-accepted g t c =
-    value_none (description_of c.args.names.now) g.V.ResolveValue.before g.V.ResolveValue.after g.V.ResolveValue.uses
-    g.V.ResolveValue.meant c.args.c.now _ c.in-Value.is c.in-Ok.ensures.accepted
+    value_none (description_of c.args.names.now) g.V.ResolveValue.before g.V.ResolveValue.after
+    g.V.ResolveValue.uses g.V.ResolveValue.meant c.args.c.now _ c.in-Value.is
+    c.in-Ok.ensures.accepted
 
 pub copy_cond-returns-in-Ok-clause-sound : goal.copy_cond-returns-in-Ok-clause-sound
 copy_cond-returns-in-Ok-clause-sound g t c =
-    value_means (description_of c.args.names.now) g.V.ResolveValue.before g.V.ResolveValue.after g.V.ResolveValue.uses
-    g.V.ResolveValue.meant c.args.c.now _ c.in-Value.is c.in-Ok.v c.in-Ok.ensures.sound
+    value_means (description_of c.args.names.now) g.V.ResolveValue.before g.V.ResolveValue.after
+    g.V.ResolveValue.uses g.V.ResolveValue.meant c.args.c.now _ c.in-Value.is c.in-Ok.v
+    c.in-Ok.ensures.sound
 
 pub copy_cond-returns-in_err-condition-in-If-clause-refused :
     goal.copy_cond-returns-in_err-condition-in-If-clause-refused
 copy_cond-returns-in_err-condition-in-If-clause-refused g t c =
     passed c.from_residual.result c.in_err-condition-in-If.field-0.0 _ c.from_residual.ensures.1
-    (if_fault (description_of c.args.names.now) g.V.ResolveValue.before g.V.ResolveValue.after g.V.ResolveValue.uses
-    g.V.ResolveValue.meant c.args.c.now _ _ _ c.in-If.is c.in_err-condition-in-If.field-0.0
-    c.in_err-condition-in-If.ensures.refused)
+    (if_fault (description_of c.args.names.now) g.V.ResolveValue.before g.V.ResolveValue.after
+    g.V.ResolveValue.uses g.V.ResolveValue.meant c.args.c.now _ _ _ c.in-If.is
+    c.in_err-condition-in-If.field-0.0 c.in_err-condition-in-If.ensures.refused)
 
 pub copy_cond-returns-in_err-first-in-If-clause-refused :
     goal.copy_cond-returns-in_err-first-in-If-clause-refused
@@ -56,44 +59,46 @@ copy_cond-returns-in_err-first-in-If-clause-refused g t c =
 pub copy_cond-returns-in-Err-copy_conds-clause-refused :
     goal.copy_cond-returns-in-Err-copy_conds-clause-refused
 copy_cond-returns-in-Err-copy_conds-clause-refused g t c =
-    if_fault_otherwise (description_of c.args.names.now) g.V.ResolveValue.before g.V.ResolveValue.after
-    g.V.ResolveValue.uses
-    g.V.ResolveValue.meant c.args.c.now _ _ _ c.in-If.is c.in-Err-copy_conds.fault c.deref.result.now
-    c.deref-in-If.result.now c.deref.ensures.value c.deref-in-If.ensures.value
+    if_fault_otherwise (description_of c.args.names.now) g.V.ResolveValue.before
+    g.V.ResolveValue.after g.V.ResolveValue.uses
+    g.V.ResolveValue.meant c.args.c.now _ _ _ c.in-If.is c.in-Err-copy_conds.fault
+    c.deref.result.now c.deref-in-If.result.now c.deref.ensures.value c.deref-in-If.ensures.value
     c.in_ok-condition-in-If.ensures.accepted c.in_ok-first-in-If.ensures.accepted
     c.in-Err-copy_conds.ensures.refused
 
 pub copy_cond-returns-in-Ok-copy_conds-clause-accepted :
     goal.copy_cond-returns-in-Ok-copy_conds-clause-accepted
 copy_cond-returns-in-Ok-copy_conds-clause-accepted g t c =
-    if_none (description_of c.args.names.now) g.V.ResolveValue.before g.V.ResolveValue.after g.V.ResolveValue.uses
-    g.V.ResolveValue.meant c.args.c.now _ _ _ c.deref.result.now c.deref-in-If.result.now c.in-If.is
-    c.deref.ensures.value c.deref-in-If.ensures.value c.in_ok-condition-in-If.ensures.accepted
-    c.in_ok-first-in-If.ensures.accepted c.in-Ok-copy_conds.ensures.accepted
+    if_none (description_of c.args.names.now) g.V.ResolveValue.before g.V.ResolveValue.after
+    g.V.ResolveValue.uses g.V.ResolveValue.meant c.args.c.now _ _ _ c.deref.result.now
+    c.deref-in-If.result.now c.in-If.is c.deref.ensures.value c.deref-in-If.ensures.value
+    c.in_ok-condition-in-If.ensures.accepted c.in_ok-first-in-If.ensures.accepted
+    c.in-Ok-copy_conds.ensures.accepted
 
 pub copy_cond-returns-in-Ok-copy_conds-clause-sound :
     goal.copy_cond-returns-in-Ok-copy_conds-clause-sound
 copy_cond-returns-in-Ok-copy_conds-clause-sound g t c =
-    if_means (description_of c.args.names.now) g.V.ResolveValue.before g.V.ResolveValue.after g.V.ResolveValue.uses
-    g.V.ResolveValue.meant c.args.c.now _ _ _ c.deref.result.now c.deref-in-If.result.now c.in-If.is
-    c.deref.ensures.value c.deref-in-If.ensures.value c.in_ok-condition-in-If.condition
-    c.in_ok-first-in-If.first c.in-Ok-copy_conds.otherwise c.in_ok-condition-in-If.ensures.sound
-    c.in_ok-first-in-If.ensures.sound c.in-Ok-copy_conds.ensures.sound
+    if_means (description_of c.args.names.now) g.V.ResolveValue.before g.V.ResolveValue.after
+    g.V.ResolveValue.uses g.V.ResolveValue.meant c.args.c.now _ _ _ c.deref.result.now
+    c.deref-in-If.result.now c.in-If.is c.deref.ensures.value c.deref-in-If.ensures.value
+    c.in_ok-condition-in-If.condition c.in_ok-first-in-If.first c.in-Ok-copy_conds.otherwise
+    c.in_ok-condition-in-If.ensures.sound c.in_ok-first-in-If.ensures.sound
+    c.in-Ok-copy_conds.ensures.sound
 
 pub copy_cond-returns-in_err-on-in-Select-clause-refused :
     goal.copy_cond-returns-in_err-on-in-Select-clause-refused
 copy_cond-returns-in_err-on-in-Select-clause-refused g t c =
     passed c.from_residual-in_err-on-in-Select.result c.in_err-on-in-Select.field-0.0 _
     c.from_residual-in_err-on-in-Select.ensures.1
-    (select_fault (description_of c.args.names.now) g.V.ResolveValue.before g.V.ResolveValue.after g.V.ResolveValue.uses
-    g.V.ResolveValue.meant c.args.c.now _ _ _ c.in-Select.is refl c.in_err-on-in-Select.field-0.0
-    c.in_err-on-in-Select.ensures.refused)
+    (select_fault (description_of c.args.names.now) g.V.ResolveValue.before g.V.ResolveValue.after
+    g.V.ResolveValue.uses g.V.ResolveValue.meant c.args.c.now _ _ _ c.in-Select.is refl
+    c.in_err-on-in-Select.field-0.0 c.in_err-on-in-Select.ensures.refused)
 
 pub copy_cond-returns-in-Err-copy_arms-clause-refused :
     goal.copy_cond-returns-in-Err-copy_arms-clause-refused
 copy_cond-returns-in-Err-copy_arms-clause-refused g t c =
-    select_fault_arms (description_of c.args.names.now) g.V.ResolveValue.before g.V.ResolveValue.after
-    g.V.ResolveValue.uses
+    select_fault_arms (description_of c.args.names.now) g.V.ResolveValue.before
+    g.V.ResolveValue.after g.V.ResolveValue.uses
     g.V.ResolveValue.meant c.args.c.now _ _ c.deref-in-Select.result.now c.in-Select.is
     c.deref-in-Select.ensures.value c.in-Err-copy_arms.fault
     c.in_ok-on-in-Select.ensures.accepted c.in-Err-copy_arms.ensures.refused
@@ -101,30 +106,30 @@ copy_cond-returns-in-Err-copy_arms-clause-refused g t c =
 pub copy_cond-returns-in-Ok-copy_arms-clause-accepted :
     goal.copy_cond-returns-in-Ok-copy_arms-clause-accepted
 copy_cond-returns-in-Ok-copy_arms-clause-accepted g t c =
-    select_none (description_of c.args.names.now) g.V.ResolveValue.before g.V.ResolveValue.after g.V.ResolveValue.uses
-    g.V.ResolveValue.meant c.args.c.now _ _ c.deref-in-Select.result.now c.in-Select.is
-    c.deref-in-Select.ensures.value c.in_ok-on-in-Select.ensures.accepted
+    select_none (description_of c.args.names.now) g.V.ResolveValue.before g.V.ResolveValue.after
+    g.V.ResolveValue.uses g.V.ResolveValue.meant c.args.c.now _ _ c.deref-in-Select.result.now
+    c.in-Select.is c.deref-in-Select.ensures.value c.in_ok-on-in-Select.ensures.accepted
     c.in-Ok-copy_arms.ensures.accepted
 
 pub copy_cond-returns-in-Ok-copy_arms-clause-sound :
     goal.copy_cond-returns-in-Ok-copy_arms-clause-sound
 copy_cond-returns-in-Ok-copy_arms-clause-sound g t c =
-    select_means (description_of c.args.names.now) g.V.ResolveValue.before g.V.ResolveValue.after g.V.ResolveValue.uses
-    g.V.ResolveValue.meant c.args.c.now _ _ c.deref-in-Select.result.now c.in-Select.is
-    c.deref-in-Select.ensures.value c.in_ok-on-in-Select.on c.in-Ok-copy_arms.arms
+    select_means (description_of c.args.names.now) g.V.ResolveValue.before g.V.ResolveValue.after
+    g.V.ResolveValue.uses g.V.ResolveValue.meant c.args.c.now _ _ c.deref-in-Select.result.now
+    c.in-Select.is c.deref-in-Select.ensures.value c.in_ok-on-in-Select.on c.in-Ok-copy_arms.arms
     c.in_ok-on-in-Select.ensures.sound c.in-Ok-copy_arms.ensures.sound
 
 pub copy_arm-returns-in-Err-clause-refused : goal.copy_arm-returns-in-Err-clause-refused
 copy_arm-returns-in-Err-clause-refused g t c =
-    case_fault (description_of c.args.names.now) g.V.ResolveValue.before g.V.ResolveValue.after g.V.ResolveValue.uses
-    g.V.ResolveValue.meant c.args.arm.now c.deref.result.now _ _ c.in-Case.is c.deref.ensures.value
-    c.in-Err.fault c.in-Err.ensures.refused
+    case_fault (description_of c.args.names.now) g.V.ResolveValue.before g.V.ResolveValue.after
+    g.V.ResolveValue.uses g.V.ResolveValue.meant c.args.arm.now c.deref.result.now _ _ c.in-Case.is
+    c.deref.ensures.value c.in-Err.fault c.in-Err.ensures.refused
 
 pub copy_arm-returns-in-Ok-clause-accepted : goal.copy_arm-returns-in-Ok-clause-accepted
 copy_arm-returns-in-Ok-clause-accepted g t c =
-    case_none (description_of c.args.names.now) g.V.ResolveValue.before g.V.ResolveValue.after g.V.ResolveValue.uses
-    g.V.ResolveValue.meant c.args.arm.now c.deref.result.now _ _ c.in-Case.is c.deref.ensures.value
-    c.in-Ok.ensures.accepted
+    case_none (description_of c.args.names.now) g.V.ResolveValue.before g.V.ResolveValue.after
+    g.V.ResolveValue.uses g.V.ResolveValue.meant c.args.arm.now c.deref.result.now _ _ c.in-Case.is
+    c.deref.ensures.value c.in-Ok.ensures.accepted
 
 pub copy_arm-returns-in-Ok-clause-sound : goal.copy_arm-returns-in-Ok-clause-sound
 copy_arm-returns-in-Ok-clause-sound g t c =
@@ -135,50 +140,51 @@ copy_arm-returns-in-Ok-clause-sound g t c =
     (arm_of path_of g.V.ResolveValue.before c.args.arm.now))
     (numbered_arm g.V.ResolveValue.after (Case z c.in-Ok.body)))
     (sym (to_z-of_z w64 c.in-Case.label f))
-    (case_means (description_of c.args.names.now) g.V.ResolveValue.before g.V.ResolveValue.after g.V.ResolveValue.uses
-    g.V.ResolveValue.meant c.args.arm.now c.deref.result.now _ _ c.in-Case.is c.deref.ensures.value
-    c.in-Ok.body c.in-Ok.ensures.sound)
+    (case_means (description_of c.args.names.now) g.V.ResolveValue.before g.V.ResolveValue.after
+    g.V.ResolveValue.uses g.V.ResolveValue.meant c.args.arm.now c.deref.result.now _ _ c.in-Case.is
+    c.deref.ensures.value c.in-Ok.body c.in-Ok.ensures.sound)
 
 pub copy_arm-returns-in-Err-copy_conds-clause-refused :
     goal.copy_arm-returns-in-Err-copy_conds-clause-refused
 copy_arm-returns-in-Err-copy_conds-clause-refused g t c =
-    default_fault (description_of c.args.names.now) g.V.ResolveValue.before g.V.ResolveValue.after g.V.ResolveValue.uses
-    g.V.ResolveValue.meant c.args.arm.now c.deref-in-Default.result.now _ _ c.in-Default.is
-    c.deref-in-Default.ensures.value c.in-Err-copy_conds.fault
+    default_fault (description_of c.args.names.now) g.V.ResolveValue.before g.V.ResolveValue.after
+    g.V.ResolveValue.uses g.V.ResolveValue.meant c.args.arm.now c.deref-in-Default.result.now _ _
+    c.in-Default.is c.deref-in-Default.ensures.value c.in-Err-copy_conds.fault
     c.in-Err-copy_conds.ensures.refused
 
 pub copy_arm-returns-in-Ok-copy_conds-clause-accepted :
     goal.copy_arm-returns-in-Ok-copy_conds-clause-accepted
 copy_arm-returns-in-Ok-copy_conds-clause-accepted g t c =
-    default_none (description_of c.args.names.now) g.V.ResolveValue.before g.V.ResolveValue.after g.V.ResolveValue.uses
-    g.V.ResolveValue.meant c.args.arm.now c.deref-in-Default.result.now _ _ c.in-Default.is
-    c.deref-in-Default.ensures.value c.in-Ok-copy_conds.ensures.accepted
+    default_none (description_of c.args.names.now) g.V.ResolveValue.before g.V.ResolveValue.after
+    g.V.ResolveValue.uses g.V.ResolveValue.meant c.args.arm.now c.deref-in-Default.result.now _ _
+    c.in-Default.is c.deref-in-Default.ensures.value c.in-Ok-copy_conds.ensures.accepted
 
 pub copy_arm-returns-in-Ok-copy_conds-clause-sound :
     goal.copy_arm-returns-in-Ok-copy_conds-clause-sound
 copy_arm-returns-in-Ok-copy_conds-clause-sound g t c =
-    default_means (description_of c.args.names.now) g.V.ResolveValue.before g.V.ResolveValue.after g.V.ResolveValue.uses
-    g.V.ResolveValue.meant c.args.arm.now c.deref-in-Default.result.now _ _ c.in-Default.is
-    c.deref-in-Default.ensures.value c.in-Ok-copy_conds.body c.in-Ok-copy_conds.ensures.sound
+    default_means (description_of c.args.names.now) g.V.ResolveValue.before g.V.ResolveValue.after
+    g.V.ResolveValue.uses g.V.ResolveValue.meant c.args.arm.now c.deref-in-Default.result.now _ _
+    c.in-Default.is c.deref-in-Default.ensures.value c.in-Ok-copy_conds.body
+    c.in-Ok-copy_conds.ensures.sound
 
 pub add_conds-loop-c-init : goal.add_conds-loop-c-init
 add_conds-loop-c-init g t c =
     at_start (description_of c.args.names.now) (cond_of path_of g.V.ResolveValue.before)
     (numbered_cond g.V.ResolveValue.after) (λ xs. conds_uses g.V.ResolveValue.uses (conds_from xs))
-    (conds_split g.V.ResolveValue.uses) (resolved_cond (at_attribute (description_of c.args.names.now))
-    (g.V.ResolveValue.meant (description_of c.args.names.now)))
+    (conds_split g.V.ResolveValue.uses) (resolved_cond (at_attribute (description_of
+    c.args.names.now)) (g.V.ResolveValue.meant (description_of c.args.names.now)))
     (λ xs. resolved_conds (at_attribute (description_of c.args.names.now))
     (g.V.ResolveValue.meant (description_of c.args.names.now)) (conds_from xs)) conds_from
     (conds_joined (at_attribute (description_of c.args.names.now))
-    (g.V.ResolveValue.meant (description_of c.args.names.now))) c.args.all.now c.args.copies.now.items
-    c.requires
+    (g.V.ResolveValue.meant (description_of c.args.names.now))) c.args.all.now
+    c.args.copies.now.items c.requires
 
 pub add_conds-loop-c-preserved : goal.add_conds-loop-c-preserved
 add_conds-loop-c-preserved g t c =
     one_more (description_of c.args.names.now) (cond_of path_of g.V.ResolveValue.before)
     (numbered_cond g.V.ResolveValue.after) (λ xs. conds_uses g.V.ResolveValue.uses (conds_from xs))
-    (conds_split g.V.ResolveValue.uses) (resolved_cond (at_attribute (description_of c.args.names.now))
-    (g.V.ResolveValue.meant (description_of c.args.names.now)))
+    (conds_split g.V.ResolveValue.uses) (resolved_cond (at_attribute (description_of
+    c.args.names.now)) (g.V.ResolveValue.meant (description_of c.args.names.now)))
     (λ xs. resolved_conds (at_attribute (description_of c.args.names.now))
     (g.V.ResolveValue.meant (description_of c.args.names.now)) (conds_from xs)) conds_from
     (conds_joined (at_attribute (description_of c.args.names.now))
@@ -196,8 +202,8 @@ add_conds-returns-in_err-copy_cond-clause-refused g t c =
     passed c.from_residual.result c.in_err-copy_cond.field-0.0 _ c.from_residual.ensures.1
     (stops (description_of c.args.names.now) (cond_of path_of g.V.ResolveValue.before)
     (numbered_cond g.V.ResolveValue.after) (λ xs. conds_uses g.V.ResolveValue.uses (conds_from xs))
-    (conds_split g.V.ResolveValue.uses) (resolved_cond (at_attribute (description_of c.args.names.now))
-    (g.V.ResolveValue.meant (description_of c.args.names.now)))
+    (conds_split g.V.ResolveValue.uses) (resolved_cond (at_attribute (description_of
+    c.args.names.now)) (g.V.ResolveValue.meant (description_of c.args.names.now)))
     (λ xs. resolved_conds (at_attribute (description_of c.args.names.now))
     (g.V.ResolveValue.meant (description_of c.args.names.now)) (conds_from xs)) conds_from
     (conds_joined (at_attribute (description_of c.args.names.now))
@@ -211,21 +217,21 @@ pub add_conds-returns-clause-accepted : goal.add_conds-returns-clause-accepted
 add_conds-returns-clause-accepted g t c =
     none_at_end (description_of c.args.names.now) (cond_of path_of g.V.ResolveValue.before)
     (numbered_cond g.V.ResolveValue.after) (λ xs. conds_uses g.V.ResolveValue.uses (conds_from xs))
-    (conds_split g.V.ResolveValue.uses) (resolved_cond (at_attribute (description_of c.args.names.now))
-    (g.V.ResolveValue.meant (description_of c.args.names.now)))
+    (conds_split g.V.ResolveValue.uses) (resolved_cond (at_attribute (description_of
+    c.args.names.now)) (g.V.ResolveValue.meant (description_of c.args.names.now)))
     (λ xs. resolved_conds (at_attribute (description_of c.args.names.now))
     (g.V.ResolveValue.meant (description_of c.args.names.now)) (conds_from xs)) conds_from
     (conds_joined (at_attribute (description_of c.args.names.now))
-    (g.V.ResolveValue.meant (description_of c.args.names.now))) (no_use (description_of c.args.names.now))
-    c.loop-c.c-index c.args.all.now c.loop-c.copies.items
+    (g.V.ResolveValue.meant (description_of c.args.names.now))) (no_use (description_of
+    c.args.names.now)) c.loop-c.c-index c.args.all.now c.loop-c.copies.items
     (drop_of_length-le c.args.all.now (omega arith)) c.loop-c.invariant
 
 pub add_conds-returns-clause-sound : goal.add_conds-returns-clause-sound
 add_conds-returns-clause-sound g t c =
     meant_at_end (description_of c.args.names.now) (cond_of path_of g.V.ResolveValue.before)
     (numbered_cond g.V.ResolveValue.after) (λ xs. conds_uses g.V.ResolveValue.uses (conds_from xs))
-    (conds_split g.V.ResolveValue.uses) (resolved_cond (at_attribute (description_of c.args.names.now))
-    (g.V.ResolveValue.meant (description_of c.args.names.now)))
+    (conds_split g.V.ResolveValue.uses) (resolved_cond (at_attribute (description_of
+    c.args.names.now)) (g.V.ResolveValue.meant (description_of c.args.names.now)))
     (λ xs. resolved_conds (at_attribute (description_of c.args.names.now))
     (g.V.ResolveValue.meant (description_of c.args.names.now)) (conds_from xs)) conds_from
     (conds_joined (at_attribute (description_of c.args.names.now))
@@ -238,20 +244,20 @@ pub add_arms-loop-arm-init : goal.add_arms-loop-arm-init
 add_arms-loop-arm-init g t c =
     at_start (description_of c.args.names.now) (arm_of path_of g.V.ResolveValue.before)
     (numbered_arm g.V.ResolveValue.after) (λ xs. arms_uses g.V.ResolveValue.uses (arms_from xs))
-    (arms_split g.V.ResolveValue.uses) (resolved_arm (at_attribute (description_of c.args.names.now))
-    (g.V.ResolveValue.meant (description_of c.args.names.now)))
+    (arms_split g.V.ResolveValue.uses) (resolved_arm (at_attribute (description_of
+    c.args.names.now)) (g.V.ResolveValue.meant (description_of c.args.names.now)))
     (λ xs. resolved_arms (at_attribute (description_of c.args.names.now))
     (g.V.ResolveValue.meant (description_of c.args.names.now)) (arms_from xs)) arms_from
     (arms_joined (at_attribute (description_of c.args.names.now))
-    (g.V.ResolveValue.meant (description_of c.args.names.now))) c.args.arms.now c.args.copies.now.items
-    c.requires
+    (g.V.ResolveValue.meant (description_of c.args.names.now))) c.args.arms.now
+    c.args.copies.now.items c.requires
 
 pub add_arms-loop-arm-preserved : goal.add_arms-loop-arm-preserved
 add_arms-loop-arm-preserved g t c =
     one_more (description_of c.args.names.now) (arm_of path_of g.V.ResolveValue.before)
     (numbered_arm g.V.ResolveValue.after) (λ xs. arms_uses g.V.ResolveValue.uses (arms_from xs))
-    (arms_split g.V.ResolveValue.uses) (resolved_arm (at_attribute (description_of c.args.names.now))
-    (g.V.ResolveValue.meant (description_of c.args.names.now)))
+    (arms_split g.V.ResolveValue.uses) (resolved_arm (at_attribute (description_of
+    c.args.names.now)) (g.V.ResolveValue.meant (description_of c.args.names.now)))
     (λ xs. resolved_arms (at_attribute (description_of c.args.names.now))
     (g.V.ResolveValue.meant (description_of c.args.names.now)) (arms_from xs)) arms_from
     (arms_joined (at_attribute (description_of c.args.names.now))
@@ -266,8 +272,8 @@ add_arms-returns-in_err-copy_arm-clause-refused g t c =
     passed c.from_residual.result c.in_err-copy_arm.field-0.0 _ c.from_residual.ensures.1
     (stops (description_of c.args.names.now) (arm_of path_of g.V.ResolveValue.before)
     (numbered_arm g.V.ResolveValue.after) (λ xs. arms_uses g.V.ResolveValue.uses (arms_from xs))
-    (arms_split g.V.ResolveValue.uses) (resolved_arm (at_attribute (description_of c.args.names.now))
-    (g.V.ResolveValue.meant (description_of c.args.names.now)))
+    (arms_split g.V.ResolveValue.uses) (resolved_arm (at_attribute (description_of
+    c.args.names.now)) (g.V.ResolveValue.meant (description_of c.args.names.now)))
     (λ xs. resolved_arms (at_attribute (description_of c.args.names.now))
     (g.V.ResolveValue.meant (description_of c.args.names.now)) (arms_from xs)) arms_from
     (arms_joined (at_attribute (description_of c.args.names.now))
@@ -279,21 +285,21 @@ pub add_arms-returns-clause-accepted : goal.add_arms-returns-clause-accepted
 add_arms-returns-clause-accepted g t c =
     none_at_end (description_of c.args.names.now) (arm_of path_of g.V.ResolveValue.before)
     (numbered_arm g.V.ResolveValue.after) (λ xs. arms_uses g.V.ResolveValue.uses (arms_from xs))
-    (arms_split g.V.ResolveValue.uses) (resolved_arm (at_attribute (description_of c.args.names.now))
-    (g.V.ResolveValue.meant (description_of c.args.names.now)))
+    (arms_split g.V.ResolveValue.uses) (resolved_arm (at_attribute (description_of
+    c.args.names.now)) (g.V.ResolveValue.meant (description_of c.args.names.now)))
     (λ xs. resolved_arms (at_attribute (description_of c.args.names.now))
     (g.V.ResolveValue.meant (description_of c.args.names.now)) (arms_from xs)) arms_from
     (arms_joined (at_attribute (description_of c.args.names.now))
-    (g.V.ResolveValue.meant (description_of c.args.names.now))) (no_use (description_of c.args.names.now))
-    c.loop-arm.arm-index c.args.arms.now c.loop-arm.copies.items
+    (g.V.ResolveValue.meant (description_of c.args.names.now))) (no_use (description_of
+    c.args.names.now)) c.loop-arm.arm-index c.args.arms.now c.loop-arm.copies.items
     (drop_of_length-le c.args.arms.now (omega arith)) c.loop-arm.invariant
 
 pub add_arms-returns-clause-sound : goal.add_arms-returns-clause-sound
 add_arms-returns-clause-sound g t c =
     meant_at_end (description_of c.args.names.now) (arm_of path_of g.V.ResolveValue.before)
     (numbered_arm g.V.ResolveValue.after) (λ xs. arms_uses g.V.ResolveValue.uses (arms_from xs))
-    (arms_split g.V.ResolveValue.uses) (resolved_arm (at_attribute (description_of c.args.names.now))
-    (g.V.ResolveValue.meant (description_of c.args.names.now)))
+    (arms_split g.V.ResolveValue.uses) (resolved_arm (at_attribute (description_of
+    c.args.names.now)) (g.V.ResolveValue.meant (description_of c.args.names.now)))
     (λ xs. resolved_arms (at_attribute (description_of c.args.names.now))
     (g.V.ResolveValue.meant (description_of c.args.names.now)) (arms_from xs)) arms_from
     (arms_joined (at_attribute (description_of c.args.names.now))
