@@ -37,7 +37,7 @@ returns-in-Ok-clause-valid c =
     c.words-strings.ensures.few) c.args.checked.now.checked
     (λ m slots code is. c.method_code_is_body_code.ensures d
     (map string_of c.words-strings.result.now) m slots code c.args.checked.now.checked is)
-    (c.code_is_short.ensures d) c.in-Ok.ensures.fit (c.sections_are_sound.ensures d)
+    (c.code_is_short.ensures d) c.in-Ok.ensures.accepted (c.sections_are_sound.ensures d)
     c.sound_parts_are_valid.ensures)
 
 pub returns-in-Ok-clause-agrees : goal.returns-in-Ok-clause-agrees
@@ -52,7 +52,7 @@ returns-in-Ok-clause-agrees c =
     c.words-strings.ensures.few) c.args.checked.now.checked
     (λ m slots code is. c.method_code_is_body_code.ensures d
     (map string_of c.words-strings.result.now) m slots code c.args.checked.now.checked is)
-    c.in-Ok.ensures.fit (c.sections_agree.ensures d) (c.methods_agree.ensures d)
+    c.in-Ok.ensures.accepted (c.sections_agree.ensures d) (c.methods_agree.ensures d)
     c.fields_are_parts.ensures)
 
 pub unreachable-requires : goal.unreachable-requires

@@ -62,7 +62,7 @@ returns-in_err-records-in-Some-clause-refused c =
     (counts_there c.args.image.now c.counts.result c.counts.ensures) has_row in
     let item : is_no_item (contents_in c.args.image.now) c.args.attr ≡ false = sym test
     ∙ c.if-is_no_item.false in
-    let given = rw c.as_slice.ensures.value at c.in_err-records-in-Some.ensures.fault in
+    let given = rw c.as_slice.ensures.value at c.in_err-records-in-Some.ensures.refused in
     let fault = fault_read c.args.image.now c.args.attr c.args.values.now.numbers.items
     c.in-Some.unit c.in_err-records-in-Some.field-0.0 c.run.ensures.valid item c.requires
     (is_found c.args.image.now c.args.attr c.in-Some.unit
@@ -116,7 +116,7 @@ returns-in_ok-or_default-in-Some-clause-sound c =
     (counts_there c.args.image.now c.counts.result c.counts.ensures) has_row in
     let item : is_no_item (contents_in c.args.image.now) c.args.attr ≡ false = sym test
     ∙ c.if-is_no_item.false in
-    let given = rw c.as_slice.ensures.value at c.in_ok-records-in-Some.ensures.records in
+    let given = rw c.as_slice.ensures.value at c.in_ok-records-in-Some.ensures.sound in
     let read = unit_read c.args.image.now c.args.attr c.args.values.now.numbers.items c.in-Some.unit
     (Ok c.in_ok-records-in-Some.records.items) c.run.ensures.valid item
     (is_found c.args.image.now c.args.attr c.in-Some.unit

@@ -49,7 +49,7 @@ returns-in-Err-clause-fault c =
     in
     let here = one_mapped answer_of c.args.answers.now c.loop-request.next
     c.index-answers-next.result more c.index-answers-next.is in
-    let refused = c.in-Err.ensures.fault
+    let refused = c.in-Err.ensures.refused
     ∙ ap (λ (st : Status). refusal (environment c.loop-request.session.image).types st answer)
     asks
     ∙ ap (λ b. refusal (environment b).types (Asking c.in-Asks.request) answer) is.image in
@@ -74,7 +74,7 @@ loop-request-preserved-in-Asks c =
     let here = one_mapped answer_of c.args.answers.now c.loop-request.next
     c.index-answers-next.result more c.index-answers-next.is in
     let valid = (taken (environment c.loop-request.session.image).types
-    c.loop-request.session.state.status answer (sym c.in_default.ensures.fault)).2 in
+    c.loop-request.session.state.status answer (sym c.in_default.ensures.refused)).2 in
     let valid_there : answer_fault (environment c.args.session.now.image).types answer ≡ None =
     subst (λ b. answer_fault (environment b).types answer ≡ None) is.image valid in
     let p = answers_one _ _ _ _ _ _ _ _ c.in-Asks.request answer is asks counted here valid_there
