@@ -121,76 +121,29 @@ impl Walk {
         true
     }
 
-    // Takes on an instruction that only attributes have, or only methods. Another one it refuses.
+    // Takes on a jump to a target that takes an operand to decide, and brings the others there. It
+    // goes on with so many more.
     #[inline(always)]
-    fn take_on_of_one_sort(
-        &mut self,
-        context: Context,
-        size: usize,
-        place: usize,
-        depth: u8,
-        instruction: Instruction,
-    ) -> bool
-        requires size { vec_len self.old.marks ≡ size }
-        requires place { place < size }
+    fn branch(&mut self, sort: Sort, place: usize, depth: u8, leaves: u8, target: u32) -> bool
+        requires place { place < vec_len self.old.marks }
         requires depth { depth ≤ 128 }
+        requires leaves { leaves ≤ 1 }
         ensures kept { result ≡ false → self.new.marks.items ≡ self.old.marks.items }
-        ensures allowed { IsTrue result → is_allowed context.version context.sort instruction
+        ensures leads { IsTrue result → may_lead sort (vec_len self.old.marks) place target ≡ true }
+        ensures enough { IsTrue result → 1 ≤ depth }
+        ensures agrees { IsTrue result → agrees_with
+            (mark_at (slice_set self.old.marks.items place (Stands depth)) target) (depth - 1)
             ≡ true }
-        ensures names { IsTrue result → names_exist context instruction ≡ true }
-        ensures leads { IsTrue result → jumps_inside context.sort size place instruction ≡ true }
-        ensures fits { IsTrue result → fits depth instruction ≡ true }
-        ensures agrees { IsTrue result
-            → jump_agrees instruction (slice_set self.old.marks.items place (Stands depth))
-            (depth - takes instruction) ≡ true }
-        ensures brought { IsTrue result → brought self.new.goes_on self.new.depth
-            ≡ option_map (λ n. depth - takes instruction + n) (leaves instruction) }
-        ensures room { IsTrue result → self.new.depth ≤ 128 }
-        ensures nothing { IsTrue result → self.new.goes_on ≡ false → self.new.depth ≡ 0 }
         ensures marks { IsTrue result → self.new.marks.items
-            ≡ jump_noted context.sort size place instruction
-            (slice_set self.old.marks.items place (Stands depth)) (depth - takes instruction) }
+            ≡ note_at (slice_set self.old.marks.items place (Stands depth)) target (depth - 1) }
+        ensures goes_on { IsTrue result → self.new.goes_on ≡ true }
+        ensures depth { IsTrue result → self.new.depth ≡ depth - 1 + leaves }
         ensures len { vec_len self.new.marks ≡ vec_len self.old.marks }
     {
-        let is_method = matches!(context.sort, Sort::Method);
-        let is_second = matches!(context.version, Version::Two);
-        let counts = context.counts;
-        match instruction {
-            Instruction::Store(v) => {
-                self.go_on(place, depth, is_method && counts.has_variable(v), 1, 1)
-            }
-            Instruction::GetLocal(slot) => {
-                self.go_on(place, depth, is_method && slot < context.slots, 0, 1)
-            }
-            Instruction::SetLocal(slot) => {
-                self.go_on(place, depth, is_method && slot < context.slots, 1, 1)
-            }
-            Instruction::Ask(_) => {
-                let fits = is_method && context.has_names(instruction);
-                self.go_on(place, depth, fits, instruction.takes(), 1)
-            }
-            Instruction::Abort => self.stop(place, depth, is_method),
-            Instruction::AddAbortMethod(method) => {
-                let fits = is_second && is_method && counts.has_method(method);
-                self.go_on(place, depth, fits, 0, 1)
-            }
-            Instruction::Text(_)
-            | Instruction::DataConst(_)
-            | Instruction::Item { .. }
-            | Instruction::DataVar { .. }
-            | Instruction::Enumerator { .. }
-            | Instruction::Response { .. }
-            | Instruction::Member { .. } => {
-                let fits = !is_method && context.has_names(instruction);
-                self.go_on(place, depth, fits, 0, 0)
-            }
-            Instruction::Element { .. } => {
-                let fits = is_second && !is_method && context.has_names(instruction);
-                self.go_on(place, depth, fits, 0, 0)
-            }
-            Instruction::Number => self.go_on(place, depth, !is_method, 1, 0),
-            _ => false,
-        }
+        let rest = depth.saturating_sub(1);
+        may_jump(&self.marks, sort, place, depth, rest, target)
+            && self.go_on(place, depth, true, 1, leaves)
+            && self.jump(rest, target)
     }
 
     /// Takes on the instruction at a place where so many operands are, if it may be there, has its
@@ -226,42 +179,58 @@ impl Walk {
             (slice_set self.old.marks.items place (Stands depth)) (depth - takes instruction) }
         ensures len { vec_len self.new.marks ≡ vec_len self.old.marks }
     {
+        use Instruction::{
+            AddAbortMethod, Case, Compare, Complement, DataConst, DataVar, Duplicate, Element, End,
+            Enumerator, GetLocal, Item, Jump, JumpIfNotZero, JumpIfZero, Member, Negate, Not,
+            Number, Operate, Pop, Push, ReadElement, Response, SetLocal, Store, Text, Variable,
+        };
         let sort = context.sort;
+        let is_method = matches!(sort, Sort::Method);
         let is_second = matches!(context.version, Version::Two);
         let counts = context.counts;
         match instruction {
-            Instruction::End => self.stop(place, depth, true),
-            Instruction::Push(_) => self.go_on(place, depth, true, 0, 1),
-            Instruction::Variable(v) => self.go_on(place, depth, counts.has_variable(v), 0, 1),
-            Instruction::Pop => self.go_on(place, depth, true, 1, 0),
-            Instruction::Duplicate => self.go_on(place, depth, true, 1, 2),
-            Instruction::ReadElement(array) => {
-                self.go_on(place, depth, is_second && counts.has_array(array), 1, 1)
-            }
-            Instruction::Operate(_) | Instruction::Compare(_) => {
-                self.go_on(place, depth, true, 2, 1)
-            }
-            Instruction::Negate | Instruction::Not | Instruction::Complement => {
-                self.go_on(place, depth, true, 1, 1)
-            }
-            Instruction::Jump(to) => {
+            End => self.stop(place, depth, true),
+            Push(_) => self.go_on(place, depth, true, 0, 1),
+            Variable(v) => self.go_on(place, depth, counts.has_variable(v), 0, 1),
+            Store(v) => self.go_on(place, depth, is_method && counts.has_variable(v), 1, 1),
+            GetLocal(slot) => self.go_on(place, depth, is_method && slot < context.slots, 0, 1),
+            SetLocal(slot) => self.go_on(place, depth, is_method && slot < context.slots, 1, 1),
+            Pop => self.go_on(place, depth, true, 1, 0),
+            Duplicate => self.go_on(place, depth, true, 1, 2),
+            ReadElement(a) => self.go_on(place, depth, is_second && counts.has_array(a), 1, 1),
+            Operate(_) | Compare(_) => self.go_on(place, depth, true, 2, 1),
+            Negate | Not | Complement => self.go_on(place, depth, true, 1, 1),
+            Jump(to) => {
                 may_jump(&self.marks, sort, place, depth, depth, to)
                     && self.stop(place, depth, true)
                     && self.jump(depth, to)
             }
-            Instruction::JumpIfZero(to) | Instruction::JumpIfNotZero(to) => {
-                let rest = depth.saturating_sub(1);
-                may_jump(&self.marks, sort, place, depth, rest, to)
-                    && self.go_on(place, depth, true, 1, 0)
-                    && self.jump(rest, to)
+            JumpIfZero(to) | JumpIfNotZero(to) => self.branch(sort, place, depth, 0, to),
+            Case { target, .. } => self.branch(sort, place, depth, 1, target),
+            Text(s) => self.go_on(place, depth, !is_method && counts.has_string(s), 0, 0),
+            Number => self.go_on(place, depth, !is_method, 1, 0),
+            DataConst(_) => self.go_on(place, depth, !is_method, 0, 0),
+            Item { item, .. } => {
+                let fits = !is_method && counts.has_item(item);
+                self.go_on(place, depth, fits, 0, 0)
             }
-            Instruction::Case { target, .. } => {
-                let rest = depth.saturating_sub(1);
-                may_jump(&self.marks, sort, place, depth, rest, target)
-                    && self.go_on(place, depth, true, 1, 1)
-                    && self.jump(rest, target)
+            DataVar { .. } | Enumerator { .. } | Response { .. } | Member { .. } => {
+                let fits = !is_method && context.has_names(instruction);
+                self.go_on(place, depth, fits, 0, 0)
             }
-            _ => self.take_on_of_one_sort(context, size, place, depth, instruction),
+            Element { .. } => {
+                let fits = is_second && !is_method && context.has_names(instruction);
+                self.go_on(place, depth, fits, 0, 0)
+            }
+            Instruction::Ask(_) => {
+                let fits = is_method && context.has_names(instruction);
+                self.go_on(place, depth, fits, instruction.takes(), 1)
+            }
+            Instruction::Abort => self.stop(place, depth, is_method),
+            AddAbortMethod(method) => {
+                let fits = is_second && is_method && counts.has_method(method);
+                self.go_on(place, depth, fits, 0, 1)
+            }
         }
     }
 }
