@@ -3,7 +3,7 @@ import os
 import re
 
 from . import packages, repository, workspace
-from .trials import alike, elsewhere, images, runs, score
+from .trials import alike, elsewhere, example, images, runs, score
 
 FOLDER = os.path.join(repository.MADE, "edition")
 PROFILE = "checked"
@@ -62,6 +62,7 @@ def test():
     counts.step("cargo test", tested)
     counts.step("stored runs", runs.stored, edition, made)
     counts.step("rows", runs.rows, program)
+    counts.step("the example in Rust", example.runs, FOLDER, program)
     counts.step("hostile images", images.refused_alike, {"64 bits": program})
     counts.step("the proved program", alike.same_bytes, program)
     counts.step("32 bits of Linux", elsewhere.i686, FOLDER, program)
