@@ -19,7 +19,7 @@ use Rattle.edd_assembly.specs.declared.units.Lowered as in_code_units
 use Rattle.edd_assembly.specs.Assembly.{Lowered, assembled}
 use Rattle.edd_assembly.specs.Views.{lowered_of}
 use Rattle.edd_assembly.specs.LoweredUnits.{AreUnitsOf, IsBodyCode, IsMethodOf}
-use Rattle.edd_bounds.specs.RowContents.{limit_of_row}
+use Rattle.edd_assembly.specs.RowContents.{limit_of_row}
 use Rattle.edd_compiler.specs.Lowering.{HasLowered}
 use Rattle.edd_compiler.proofs.ImageParts.{are_methods, are_units, code_within}
 

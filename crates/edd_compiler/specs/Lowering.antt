@@ -14,7 +14,7 @@ use Rattle.edd_instructions.specs.Agreement.{IsAttributeCode}
 use Rattle.edd_instructions.specs.MethodAgreement.{IsMethodCode}
 use Rattle.edd_assembly.specs.Assembly.{Lowered}
 use Rattle.edd_assembly.specs.LoweredUnits.{plain_row}
-use Rattle.edd_bounds.specs.RowContents.{limit_of_row, strings_of_row}
+use Rattle.edd_assembly.specs.RowContents.{limit_of_row, strings_of_row}
 use Rattle.edd_code.specs.Tables.{Grows}
 
 -- a row of a body is a method's, at 0

@@ -20,9 +20,9 @@ use crate::fault::Fault;
 use crate::lowering::{Lowering, lower_rows};
 use crate::source::checked_of;
 use edd_assembly::{
-    assemble, method_code_is_body_code, methods_agree, sections_agree, sections_are_sound,
+    assemble, code_is_short, different_strings_count, method_code_is_body_code, methods_agree,
+    sections_agree, sections_are_sound, strings_stand_in_rows,
 };
-use edd_bounds::{code_is_short, different_strings_count, strings_stand_in_rows};
 use edd_image::{WriteFault, fields_are_parts, write};
 use edd_instructions::sound_parts_are_valid;
 use edd_syntax::checked::Checked;
