@@ -1,7 +1,7 @@
 //! Methods of texts whose runs are aborted, by one instruction at a time.
 
 use crate::methods::{are_commands, compiled, started};
-use edd_image::Request;
+use edd_instructions::Request;
 use edd_loader::load;
 use edd_port::{Ending, Session, Turn};
 use edd_syntax::answer::{Answer, Trap};

@@ -2,7 +2,7 @@
 
 use crate::descriptions::{described, row, text_of};
 use edd_compiler::{compile, unit_of};
-use edd_image::Record;
+use edd_instructions::Record;
 use edd_loader::{Image, load};
 use edd_machine::{Values, attribute};
 use edd_syntax::item::Identification;

@@ -2,7 +2,7 @@
 
 use crate::descriptions::{row, text_of};
 use edd_compiler::compile;
-use edd_image::{Record, Request};
+use edd_instructions::{Record, Request};
 use edd_loader::{Image, load};
 use edd_machine::{Values, attribute};
 use edd_port::{AnswerFault, Ending, PlayFault, Session, Transcript, Turn, play};

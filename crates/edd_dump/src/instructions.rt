@@ -3,7 +3,7 @@
 use crate::excerpts::Excerpts;
 use edd_display::{DATA_QUALIFIERS, MENU_QUALIFIERS, ShowFault, class_word, push_qualifiers};
 use edd_fault_places::sections::Sections;
-use edd_image::{Ask, Instruction};
+use edd_instructions::{Ask, Instruction};
 use edd_syntax::numbers::{ItemNo, StrNo, VarNo};
 use edd_syntax::operators::{Builtin, Comparison, Operator};
 use std::fmt::Write as _;

@@ -14,7 +14,7 @@ mod strings;
 mod units;
 
 ghost use Rattle.std.specs.Prelude.{IfOk, MatchOption, IfSome};
-ghost use Rattle.edd_image.specs.Validity.{BreaksFirst, IsValid};
+ghost use Rattle.edd_instructions.specs.Validity.{BreaksFirst, IsValid};
 ghost use Rattle.edd_loader.specs.Faults.{rule_of};
 
 use edd_display::ShowFault;

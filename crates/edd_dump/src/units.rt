@@ -4,7 +4,7 @@ ghost use Rattle.std.specs.Prelude.{◌≤◌, length};
 
 use crate::instructions::Page;
 use edd_display::{ShowFault, print};
-use edd_image::{Instruction, decode};
+use edd_instructions::{Instruction, decode};
 use std::alloc::Global;
 use std::fmt::Write as _;
 use std::io::Write;

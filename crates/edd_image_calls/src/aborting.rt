@@ -3,7 +3,7 @@
 use crate::loader::{edited, refusal};
 use crate::small::{INTEGER, Small, image_of, second_image_of};
 use crate::worked::ABORTING;
-use edd_image::Request;
+use edd_instructions::Request;
 use edd_loader::{LoadFault, load};
 use edd_machine::Values;
 use edd_port::{Ending, Session, Turn, play};

@@ -2,7 +2,7 @@
 
 use crate::loader::{edited, refusal};
 use crate::worked::{ARRAY, LABEL};
-use edd_image::Record;
+use edd_instructions::Record;
 use edd_loader::{LoadFault, load};
 use edd_machine::{Values, attribute};
 use edd_syntax::numbers::{ArrNo, Attr, AttrRef, ItemNo, VarNo};

@@ -3,9 +3,8 @@
 ghost use Rattle.std.specs.Prelude.{◌≡◌, IfOk, vec_len};
 
 use crate::worked::{ARRAY, LABEL, LOOP};
-use edd_image::{
-    AttributeRow, Counts, Instruction, NameRow, Parts, StringRow, VarKind, Version, decode, write,
-};
+use edd_image::{AttributeRow, Counts, NameRow, Parts, StringRow, VarKind, Version, write};
+use edd_instructions::{Instruction, decode};
 use edd_syntax::numbers::{ArrNo, Attr, Element, ItemNo, MethNo, VarNo};
 use edd_syntax::types::VarType;
 use std::alloc::{AllocError, Global};

@@ -4,7 +4,7 @@ ghost use Rattle.edd_machine.specs.Running.{IsMachine};
 
 use crate::small::{INTEGER, Small, UNSIGNED, image_of};
 use crate::worked::LABEL;
-use edd_image::{Emitted, Record, Request, Status};
+use edd_instructions::{Emitted, Record, Request, Status};
 use edd_loader::{Image, load};
 use edd_machine::{
     Machine, ReadFault, SetFault, Values, ValuesFault, attribute, find_body, set_fault,

@@ -2,7 +2,7 @@
 
 use crate::hosts::{Device, Script};
 use crate::small::{INTEGER, Small, image_of};
-use edd_image::Request;
+use edd_instructions::Request;
 use edd_loader::{Image, load};
 use edd_machine::Values;
 use edd_port::{AnswerFault, Drive, Ending, PlayFault, Session, StartFault, Turn, drive, play};
