@@ -1,7 +1,6 @@
 """Tests the plain edition: its sources, its programs, and what they say against the proved program and on 32 bits."""
 import os
 import re
-import subprocess
 
 from . import packages, repository, workspace
 from .trials import alike, elsewhere, images, runs, score
@@ -11,12 +10,16 @@ PROFILE = "checked"
 RESULT = re.compile(r"^test result: .* (\d+) passed; (\d+) failed", re.MULTILINE)
 
 
-def set_up(may_install):
-    """Has all that the tests need: the crates, and the standard library of further systems in source."""
+def set_up():
+    """Installs what the tests need, as root on Debian, and says what it is."""
+    edition = workspace.Edition()
+    edition.write(FOLDER)
     lacking = packages.lacking(packages.SYSTEMS)
-    if lacking and may_install and packages.can_install():
+    if lacking and not packages.can_install():
+        raise packages.Missing("the tests on other systems need Debian's packages: " + packages.apt_get(lacking))
+    if lacking:
         packages.install(lacking)
-    packages.settle(FOLDER, may_install)
+    packages.settle(FOLDER, True)
 
 
 def sources(counts, edition):
@@ -29,8 +32,7 @@ def sources(counts, edition):
 
 
 def cargo(words):
-    command = [packages.cargo(), *words, "--quiet", "--offline", "--workspace", "--profile", PROFILE]
-    return subprocess.run(command, cwd=FOLDER, capture_output=True, text=True, check=False)
+    return packages.cargo().run([*words, "--quiet", "--offline", "--workspace", "--profile", PROFILE], FOLDER)
 
 
 def built(counts):
@@ -47,13 +49,12 @@ def tested(counts):
         counts.check(False, f"cargo test: {ran.stdout[-2000:]}{ran.stderr[-2000:]}")
 
 
-def test(may_install):
+def test():
     """All steps; gives the status."""
     counts = score.Score()
     edition = workspace.Edition()
-    os.makedirs(FOLDER, exist_ok=True)
     edition.write(FOLDER)
-    set_up(may_install)
+    packages.settle(FOLDER, False)
     made = os.path.join(FOLDER, "target", PROFILE)
     program = os.path.join(made, "edd")
     counts.step("sources", sources, edition)

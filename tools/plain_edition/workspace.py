@@ -128,6 +128,7 @@ class Edition:
 
     def write(self, out):
         """Writes what differs from what stands there, so that cargo builds no more than that, and removes other sources."""
+        os.makedirs(out, exist_ok=True)
         for path, text in self.files.items():
             place = os.path.join(out, path)
             if text_at(place) != text:

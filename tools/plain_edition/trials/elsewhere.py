@@ -28,7 +28,6 @@ def i686(score, folder, program):
 def module():
     """Builds the module of WebAssembly, and gives its path."""
     folder = os.path.join(repository.MADE, "module")
-    os.makedirs(folder, exist_ok=True)
     workspace.Edition(LIBRARIES, ["wasm"]).write(folder)
     packages.settle(folder, False)
     made = systems.build(folder, WASM, systems.BARE, "small", ["--package", "edd_plain_wasm"])
