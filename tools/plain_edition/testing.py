@@ -3,17 +3,25 @@ import os
 import re
 
 from . import packages, repository, workspace
-from .trials import alike, elsewhere, images, runs, score
+from .trials import alike, elsewhere, example, fuzzing, images, runs, score
 
 FOLDER = os.path.join(repository.MADE, "edition")
 PROFILE = "checked"
+# So many inputs are fuzzed at each gate.
+AT_EACH_GATE = 50_000
 RESULT = re.compile(r"^test result: .* (\d+) passed; (\d+) failed", re.MULTILINE)
+
+
+def written():
+    """The edition with the fuzzing, in its folder."""
+    edition = workspace.Edition(own=["fuzz"])
+    edition.write(FOLDER)
+    return edition
 
 
 def set_up():
     """Installs what the tests need, as root on Debian, and says what it is."""
-    edition = workspace.Edition()
-    edition.write(FOLDER)
+    written()
     lacking = packages.lacking(packages.SYSTEMS)
     if lacking and not packages.can_install():
         raise packages.Missing("the tests on other systems need Debian's packages: " + packages.apt_get(lacking))
@@ -52,8 +60,7 @@ def tested(counts):
 def test():
     """All steps; gives the status."""
     counts = score.Score()
-    edition = workspace.Edition()
-    edition.write(FOLDER)
+    edition = written()
     packages.settle(FOLDER, False)
     made = os.path.join(FOLDER, "target", PROFILE)
     program = os.path.join(made, "edd")
@@ -62,8 +69,17 @@ def test():
     counts.step("cargo test", tested)
     counts.step("stored runs", runs.stored, edition, made)
     counts.step("rows", runs.rows, program)
+    counts.step("the example in Rust", example.runs, FOLDER, program)
     counts.step("hostile images", images.refused_alike, {"64 bits": program})
     counts.step("the proved program", alike.same_bytes, program)
+    counts.step("fuzzing", fuzzing.some, FOLDER, PROFILE, AT_EACH_GATE)
     counts.step("32 bits of Linux", elsewhere.i686, FOLDER, program)
     counts.step("WebAssembly", elsewhere.wasm, program)
     return counts.end()
+
+
+def fuzz(words):
+    """Fuzzes with so many inputs, built for speed, and prints what is seen."""
+    written()
+    packages.settle(FOLDER, False)
+    return fuzzing.fuzz(FOLDER, "fast", words).returncode

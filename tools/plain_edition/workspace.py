@@ -40,6 +40,10 @@ inherits = "release"
 panic = "unwind"
 opt-level = 1
 debug-assertions = true
+
+[profile.fast]
+inherits = "checked"
+opt-level = 3
 """
 
 
