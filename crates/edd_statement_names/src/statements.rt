@@ -29,7 +29,7 @@ fn inner_scope<'a>(scope: &[Local<'a>], alloc: Global) -> Result<Vec<Local<'a>>,
     ensures sound { IfOk result (λ v. v.items ≡ scope.now) }
     ensures refused { IfErr result (λ f. f ≡ Memory) }
 {
-    Ok(scope.to_vec(alloc)?)
+    Ok(Vec::from_slice(alloc, scope)?)
 }
 
 /// A statement with the meaning of its names. Each of its locals takes the next slot.

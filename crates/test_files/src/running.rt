@@ -17,7 +17,7 @@ fn words_of(rt: HostRuntime, text: &str) -> io::Result<Vec<String>> {
 /// Runs `edd` with these words, and prints its status after its lines.
 pub fn run(rt: HostRuntime, text: &str) -> io::Result<()> {
     let words = words_of(rt, text)?;
-    let status = edd_program::run(&rt, &words, &mut io::writer(&rt));
+    let status = edd_tool::run_on_system(&rt, &words, &mut io::writer(&rt));
     println!(rt; "status {status}")
 }
 

@@ -1,6 +1,6 @@
 //! Code that is emitted with a hole, and instructions by their bytes.
 
-use edd_image::{Emitter, Instruction, Jump, encode, head};
+use edd_instructions::{Emitter, Instruction, Jump, encode, head};
 use std::test::Fail;
 
 #[test]

@@ -1,8 +1,7 @@
 //! Images that are written from their parts.
 
-use edd_image::{
-    AttributeRow, Counts, Instruction, NameRow, Parts, StringRow, VarKind, Version, decode, write,
-};
+use edd_image::{AttributeRow, Counts, NameRow, Parts, StringRow, VarKind, Version, write};
+use edd_instructions::{Instruction, decode};
 use edd_syntax::numbers::{ArrNo, Attr, Element, ItemNo, MethNo, VarNo};
 use edd_syntax::types::VarType;
 use std::alloc::Global;

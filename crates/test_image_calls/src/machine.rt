@@ -2,7 +2,7 @@
 
 ghost use Rattle.edd_machine.specs.Running.{IsMachine};
 
-use edd_image::{Emitted, Request, Status};
+use edd_instructions::{Emitted, Request, Status};
 use edd_loader::{Image, load};
 use edd_machine::{Machine, Values, find_body};
 use edd_syntax::answer::Trap;

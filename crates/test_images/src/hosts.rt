@@ -3,7 +3,7 @@
 ghost use Rattle.std.specs.Prelude.{map};
 ghost use Rattle.edd_syntax.specs.Answers.{answer_of};
 
-use edd_image::Request;
+use edd_instructions::Request;
 use edd_port::{Host, Reply};
 use edd_syntax::answer::Answer;
 use std::alloc::Global;

@@ -46,7 +46,7 @@ fn run(rt: HostRuntime, text: &str) -> io::Result<Printed> {
         words.push(word.to_string(rt.alloc())?)?;
     }
     let mut bytes = Vec::new(rt.alloc());
-    let status = edd_program::run(&rt, &words, &mut bytes);
+    let status = edd_tool::run_on_system(&rt, &words, &mut bytes);
     println!(rt; "{text}: status {status}")?;
     let lines = str::from_utf8(&bytes).unwrap_or("no text\n");
     Ok(Printed {

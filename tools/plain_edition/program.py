@@ -1,0 +1,43 @@
+"""Builds the program of the plain edition for `./edd`."""
+import fcntl
+import os
+import shutil
+import subprocess
+import time
+
+from . import packages, repository, workspace
+
+PROGRAM = os.path.join(repository.MADE, "edd")
+ROOM = os.path.join(repository.MADE, "program")
+# What decides what the program is, beside the sources of its crates.
+OWN = ("crates.txt", "plain", "tools/plain", "tools/plain_edition")
+
+
+def build(may_install):
+    """Builds it anew where it has to be, and notes what it is made from. A second call waits for the first."""
+    os.makedirs(ROOM, exist_ok=True)
+    with open(os.path.join(repository.MADE, "lock"), "w", encoding="utf-8") as lock:
+        fcntl.flock(lock, fcntl.LOCK_EX)
+        started = time.time()
+        packages.cargo()
+        edition = workspace.Edition(["edd"])
+        edition.write(ROOM)
+        command = packages.settle(ROOM, may_install)
+        packages.say("building the plain edition by cargo; later calls start at once")
+        words = [command, "build", "--quiet", "--release", "--offline", "--package", "edd"]
+        ran = subprocess.run(words, cwd=ROOM, stdout=subprocess.DEVNULL, check=False)
+        if ran.returncode:
+            raise packages.Missing("cargo could not build the plain edition")
+        place(edition, started)
+
+
+def place(edition, started):
+    """Puts the program at its place, dated by the build's start, with the list of what it is made from."""
+    made = os.path.join(ROOM, "target", "release", "edd")
+    shutil.copy(made, PROGRAM + ".new")
+    os.utime(PROGRAM + ".new", (started, started))
+    parts = [it for it in OWN if it != "plain"] + [f"plain/{name}" for name in edition.own]
+    parts += [f"crates/{crate.name}/src" for crate in edition.crates]
+    with open(PROGRAM + ".sources", "w", encoding="utf-8") as file:
+        file.write("".join(f"{part}\n" for part in parts))
+    os.rename(PROGRAM + ".new", PROGRAM)

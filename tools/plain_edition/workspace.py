@@ -1,0 +1,163 @@
+"""Writes the plain edition: a cargo workspace of all crates, with the crates of `plain/` beside them."""
+import collections
+import os
+import re
+import shutil
+
+from . import erase, left_out, repository, rewrites
+
+# Crates of the kit that stand in `plain/`, by the folder there; the macros of errors are in `derive`.
+OWN = {"indexmap": "indexmap", "clap": "clap", "serde_json": "serde_json", "strsim": "strsim", "thiserror": "derive"}
+# Crates of the kit that are Rust's own as they are.
+REAL = {
+    "arrayvec": '{ version = "0.7", default-features = false }',
+    "serde": '{ version = "1", features = ["derive"] }',
+}
+# A crate that names one of these needs the system.
+SYSTEM = re.compile(r"\bHostRuntime\b|\bstd::(?:fs|env|os|path|process|rt)\b|\buse std::\{[^}]*\b(?:env|fs)\b")
+RUST = "1.88"
+
+LINTS = """[workspace.lints.rust]
+dead_code = "allow"
+mismatched_lifetime_syntaxes = "allow"
+unused_imports = "allow"
+unused_variables = "allow"
+"""
+
+# Sums are proved not to wrap where places have 64 bits; elsewhere one that would is to end the program.
+PROFILES = """[profile.release]
+overflow-checks = true
+panic = "abort"
+
+[profile.checked]
+inherits = "release"
+panic = "unwind"
+opt-level = 1
+debug-assertions = true
+"""
+
+
+class Stopped(Exception):
+    """What can't be written, and why."""
+
+
+class Edition:
+    """The files of the plain edition by their paths, and counts of what was left out."""
+
+    def __init__(self, names=None):
+        every = repository.crates()
+        self.crates = repository.below(every, names) if names else every
+        self.known = {it.name for it in every}
+        self.files, self.counts = {}, collections.Counter()
+        for crate in self.crates:
+            self.add(crate)
+        self.add_own()
+        self.add_workspace()
+
+    def add(self, crate):
+        is_system = False
+        for path in crate.sources():
+            if not path.endswith(".rt"):
+                raise Stopped(f"crates/{crate.name}/{path}: a file that is no source")
+            text = crate.read(path)
+            is_system |= bool(SYSTEM.search(text))
+            self.files[f"{crate.name}/{path[:-3]}.rs"] = self.plain(crate, path, text)
+        self.files[f"{crate.name}/Cargo.toml"] = self.manifest(crate, is_system)
+
+    def plain(self, crate, path, text):
+        try:
+            kept = erase.Eraser(text, self.counts).run()
+            kept = rewrites.rewritten(kept, self.counts)
+        except erase.Unknown as unknown:
+            raise Stopped(f"crates/{crate.name}/{path}:{unknown}") from None
+        return rewrites.with_head(erase.text_of(erase.tidied(kept)), is_root(path))
+
+    def manifest(self, crate, is_system):
+        """The file of cargo for a crate."""
+        features = "" if is_system else ", default-features = false"
+        lines = ["[package]", f'name = "{crate.name}"', 'version = "1.0.0"', 'edition = "2024"', f'rust-version = "{RUST}"']
+        if "staticlib" in crate.kinds:
+            lines += ["", "[lib]", 'crate-type = ["rlib", "staticlib"]']
+        lines += ["", "[dependencies]", f'std = {{ package = "edd_plain_std", path = "../plain/std"{features} }}']
+        lines += [f"{used} = {self.dependency(crate, used)}" for used in crate.uses]
+        return "\n".join([*lines, "", "[lints]", "workspace = true", ""])
+
+    def dependency(self, crate, used):
+        if used in self.known:
+            return f'{{ path = "../{used}" }}'
+        if used in OWN:
+            return f'{{ package = "edd_plain_{OWN[used]}", path = "../plain/{OWN[used]}" }}'
+        if used in REAL:
+            return REAL[used]
+        raise Stopped(f"crates.txt: {crate.name} uses {used}, for which plain/ has nothing")
+
+    def add_own(self):
+        """The crates of `plain/` that the crates at hand use."""
+        used = {OWN[name] for crate in self.crates for name in crate.uses if name in OWN} | {"std", "derive"}
+        self.own = sorted(used)
+        for name in self.own:
+            for path, text in folder_files(os.path.join(repository.PLAIN, name)):
+                self.files[f"plain/{name}/{path}"] = text
+
+    def add_workspace(self):
+        members = [it.name for it in self.crates] + [f"plain/{name}" for name in self.own]
+        listed = "".join(f'    "{name}",\n' for name in members)
+        self.files["Cargo.toml"] = f'[workspace]\nresolver = "3"\nmembers = [\n{listed}]\n\n{LINTS}\n{PROFILES}'
+
+    def check(self):
+        """Checks each file against its source by tokens: counts of what was left out and put in, and what differs."""
+        gone, put, wrong = collections.Counter(), collections.Counter(), []
+        for crate in self.crates:
+            for path in crate.sources():
+                try:
+                    walk = left_out.Walk(crate.read(path), self.files[f"{crate.name}/{path[:-3]}.rs"])
+                    walk.run(is_root(path))
+                except left_out.Differs as differs:
+                    wrong.append(f"crates/{crate.name}/{path}: {differs}")
+                    continue
+                gone += walk.left_out
+                put += walk.put_in
+        return gone, put, wrong
+
+    def write(self, out):
+        """Writes what differs from what stands there, so that cargo builds no more than that, and removes other sources."""
+        for path, text in self.files.items():
+            place = os.path.join(out, path)
+            if text_at(place) != text:
+                os.makedirs(os.path.dirname(place), exist_ok=True)
+                with open(place, "w", encoding="utf-8") as file:
+                    file.write(text)
+        self.remove_others(out)
+
+    def remove_others(self, out):
+        for folder, folders, names in os.walk(out):
+            folders[:] = [it for it in folders if folder != out or it not in ("target", ".cargo")]
+            for name in names:
+                path = os.path.relpath(os.path.join(folder, name), out)
+                if path.endswith((".rs", "Cargo.toml")) and path not in self.files:
+                    os.remove(os.path.join(folder, name))
+        for name in os.listdir(out):
+            manifest = os.path.join(out, name, "Cargo.toml")
+            if name.startswith("edd") and not os.path.exists(manifest):
+                shutil.rmtree(os.path.join(out, name))
+
+
+def is_root(path):
+    return path in ("src/lib.rt", "src/main.rt")
+
+
+def text_at(place):
+    if not os.path.isfile(place):
+        return None
+    with open(place, encoding="utf-8") as file:
+        return file.read()
+
+
+def folder_files(top):
+    """The files of a crate of `plain/`, by their paths."""
+    for folder, folders, names in os.walk(top):
+        folders[:] = sorted(it for it in folders if it not in ("out", "target"))
+        for name in sorted(names):
+            place = os.path.join(folder, name)
+            with open(place, encoding="utf-8") as file:
+                yield os.path.relpath(place, top), file.read()
