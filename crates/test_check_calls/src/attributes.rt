@@ -3,7 +3,7 @@
 //! A row is a line that begins with an @ and has the warnings, and below it the items, from line 2
 //! of a description on.
 
-use crate::found::check_rows;
+use crate::found::{Shown, first_wrong};
 use std::test::Fail;
 
 // Types.
@@ -49,7 +49,9 @@ VARIABLE a { TYPE ENUMERATED { IF (a) { { 1, "x" }, { 1, "y" } } } }
 
 #[test]
 fn types_hold_what_is_written(rt: HostRuntime) -> Result<(), Fail> {
-    check_rows(&rt, rt.alloc(), TYPES, "", "")
+    let wrong = first_wrong(rt.alloc(), TYPES, "", "", Shown::All)?;
+    assert_eq!(rt; wrong.as_str(), "");
+    Ok(())
 }
 
 // Commands.
@@ -77,7 +79,9 @@ COMMAND c { NUMBER 1; OPERATION READ; TRANSACTION 1 { } TRANSACTION { } TRANSACT
 
 #[test]
 fn numbers_of_commands_differ(rt: HostRuntime) -> Result<(), Fail> {
-    check_rows(&rt, rt.alloc(), COMMANDS, "", "")
+    let wrong = first_wrong(rt.alloc(), COMMANDS, "", "", Shown::All)?;
+    assert_eq!(rt; wrong.as_str(), "");
+    Ok(())
 }
 
 // Conditions.
@@ -123,5 +127,7 @@ CASE 4: { 3, "z" } } } }
 
 #[test]
 fn conditions_depend_on_values(rt: HostRuntime) -> Result<(), Fail> {
-    check_rows(&rt, rt.alloc(), CONDITIONS, "", "")
+    let wrong = first_wrong(rt.alloc(), CONDITIONS, "", "", Shown::All)?;
+    assert_eq!(rt; wrong.as_str(), "");
+    Ok(())
 }

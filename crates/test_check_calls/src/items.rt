@@ -4,7 +4,7 @@
 //! A row is a line that begins with an @ and has the warnings, and below it the items, from line 2
 //! of a description on.
 
-use crate::found::{check_messages, check_rows};
+use crate::found::{Shown, first_wrong};
 use std::test::Fail;
 
 // Menus, classes, texts and uses.
@@ -88,7 +88,9 @@ COMMAND c { NUMBER 1; OPERATION READ; TRANSACTION { } }
 
 #[test]
 fn items_are_meant(rt: HostRuntime) -> Result<(), Fail> {
-    check_rows(&rt, rt.alloc(), ITEMS, "", "")
+    let wrong = first_wrong(rt.alloc(), ITEMS, "", "", Shown::All)?;
+    assert_eq!(rt; wrong.as_str(), "");
+    Ok(())
 }
 
 // A row has the message of the first warning.
@@ -107,5 +109,7 @@ MENU a { ITEMS { a } }
 
 #[test]
 fn messages_name_what_is_wrong(rt: HostRuntime) -> Result<(), Fail> {
-    check_messages(&rt, rt.alloc(), MESSAGES)
+    let wrong = first_wrong(rt.alloc(), MESSAGES, "", "", Shown::FirstMessage)?;
+    assert_eq!(rt; wrong.as_str(), "");
+    Ok(())
 }

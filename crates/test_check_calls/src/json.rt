@@ -3,21 +3,23 @@
 use edd_check::{Choices, Format, Lint, check};
 use serde_json::Value;
 use std::alloc::Global;
-use std::process::Abort;
 use std::test::Fail;
 
 const HEAD: &str = "MANUFACTURER 1, DEVICE_TYPE 2, DEVICE_REVISION 3, DD_REVISION 4\n";
 
 // What is printed of a description of these items, which begin on line 2, in the source of a name.
-fn printed(alloc: Global, name: &str, items: &str, choices: &Choices) -> Result<String, Fail> {
-    let mut text = String::from_str(alloc, HEAD)?;
-    text.push_str(items)?;
+fn printed(alloc: Global, name: &str, items: &str, denied: Option<Lint>) -> Result<String, Fail> {
+    let mut choices = Choices::new(alloc);
+    if let Some(lint) = denied {
+        choices.deny(lint)?;
+    }
+    let text = format!(in alloc; "{HEAD}{items}")?;
     let mut out: Vec<u8> = Vec::new(alloc);
     let Ok(_is_refused) = check(
         alloc,
         name,
         text.as_bytes(),
-        choices,
+        &choices,
         Format::Json,
         &mut out,
     ) else {
@@ -27,124 +29,107 @@ fn printed(alloc: Global, name: &str, items: &str, choices: &Choices) -> Result<
     Ok(String::from_str(alloc, lines)?)
 }
 
-// Checks that the text at a path of a line is this one.
-fn check_text(rt: &impl Abort, line: &Value, path: &str, expected: &str) {
-    let found = line.pointer(path).and_then(Value::as_str);
-    assert!(rt; found == Some(expected), "{path} is {expected}");
+// The parts of a line that are not as they are expected to be, each with its path.
+fn other_parts(alloc: Global, line: &str, expected: &str) -> Result<String, Fail> {
+    let line = Value::from_str(alloc, line).ok().ok_or("an object")?;
+    let mut other = String::new(alloc);
+    for part in expected.lines() {
+        let (path, value) = part.split_once(' ').unwrap_or((part, ""));
+        let found = match line.pointer(path) {
+            Some(found) => format!(in alloc; "{found}")?,
+            None => String::new(alloc),
+        };
+        if found.as_str() != value {
+            other.push_str(format!(in alloc; "{path} {found}\n")?.as_str())?;
+        }
+    }
+    Ok(other)
 }
 
-// Checks that the number at a path of a line is this one.
-fn check_number(rt: &impl Abort, line: &Value, path: &str, expected: u64) {
-    let found = line.pointer(path).and_then(Value::as_u64);
-    assert!(rt; found == Some(expected), "{path} is {expected}");
-}
-
-fn check_null(rt: &impl Abort, line: &Value, path: &str) {
-    let is_null = match line.pointer(path) {
-        Some(value) => value.is_null(),
-        None => false,
-    };
-    assert!(rt; is_null, "{path} is null");
-}
-
-fn check_place(rt: &impl Abort, line: &Value, line_number: u64, column: u64, end_column: u64) {
-    check_number(rt, line, "/line", line_number);
-    check_number(rt, line, "/column", column);
-    check_number(rt, line, "/end_line", line_number);
-    check_number(rt, line, "/end_column", end_column);
-}
-
-#[test]
-fn a_refusal_has_its_parts(rt: HostRuntime) -> Result<(), Fail> {
-    let choices = Choices::new(rt.alloc());
-    let text = printed(
-        rt.alloc(),
+// The source of a name, a lint that is denied, items, and parts of the only line: a path and what is
+// there.
+const LINES: [(&str, Option<Lint>, &str, &str); 4] = [
+    // A refusal has its parts.
+    (
         "s",
+        None,
         "VARIABLE p { TYPE INTEGER (5); }\n",
-        &choices,
-    )?;
-    let line = Value::from_str(rt.alloc(), text.as_str())
-        .ok()
-        .ok_or("it is an object")?;
-    check_text(&rt, &line, "/source", "s");
-    check_place(&rt, &line, 2, 28, 29);
-    check_text(&rt, &line, "/severity", "refused");
-    check_number(&rt, &line, "/number", 32);
-    check_text(&rt, &line, "/kind", "BAD_SIZE");
-    check_text(&rt, &line, "/detail", "p");
-    check_null(&rt, &line, "/lint");
-    check_text(&rt, &line, "/message", "32 BAD_SIZE p");
-    check_text(&rt, &line, "/helps/0/text", "a variable has 1 to 4 octets");
-    check_null(&rt, &line, "/helps/0/line");
-    Ok(())
-}
+        r#"/source "s"
+/line 2
+/column 28
+/end_line 2
+/end_column 29
+/severity "refused"
+/number 32
+/kind "BAD_SIZE"
+/detail "p"
+/lint null
+/message "32 BAD_SIZE p"
+/helps/0/text "a variable has 1 to 4 octets"
+/helps/0/line null"#,
+    ),
+    // Signs of JSON are escaped.
+    (
+        "a \"b\"\\ä.edd",
+        None,
+        "VARIABLE p { LABEL \"a\" \"\\d\"; TYPE INTEGER; }\n",
+        r#"/source "a \"b\"\\ä.edd"
+/number 6
+/line 2
+/column 25
+/end_line 2
+/end_column 27
+/helps/0/text "the escapes are \\\" \\\\ \\n \\t and \\|""#,
+    ),
+    // Columns count characters.
+    (
+        "s",
+        None,
+        "VARIABLE p { LABEL \"größer\" TYPE INTEGER; }\n",
+        r#"/line 2
+/column 28
+/end_line 2
+/end_column 28
+/helps/0/text "a ; is missing here""#,
+    ),
+    // A warning has its lint and its other place.
+    (
+        "s",
+        Some(Lint::LimitsCrossed),
+        "VARIABLE a { TYPE INTEGER { MIN_VALUE 5; MAX_VALUE 4; } }\n",
+        r#"/severity "denied"
+/lint "limits-crossed"
+/number null
+/line 2
+/column 29
+/end_line 2
+/end_column 38
+/helps/0/line 2
+/helps/0/column 42"#,
+    ),
+];
 
 #[test]
-fn signs_of_json_are_escaped(rt: HostRuntime) -> Result<(), Fail> {
-    let choices = Choices::new(rt.alloc());
-    let items = "VARIABLE p { LABEL \"a\" \"\\d\"; TYPE INTEGER; }\n";
-    let text = printed(rt.alloc(), "a \"b\"\\ä.edd", items, &choices)?;
-    let line = Value::from_str(rt.alloc(), text.as_str())
-        .ok()
-        .ok_or("it is an object")?;
-    check_text(&rt, &line, "/source", "a \"b\"\\ä.edd");
-    check_number(&rt, &line, "/number", 6);
-    check_place(&rt, &line, 2, 25, 27);
-    check_text(
-        &rt,
-        &line,
-        "/helps/0/text",
-        "the escapes are \\\" \\\\ \\n \\t and \\|",
-    );
-    Ok(())
-}
-
-#[test]
-fn columns_count_characters(rt: HostRuntime) -> Result<(), Fail> {
-    let choices = Choices::new(rt.alloc());
-    let items = "VARIABLE p { LABEL \"größer\" TYPE INTEGER; }\n";
-    let text = printed(rt.alloc(), "s", items, &choices)?;
-    let line = Value::from_str(rt.alloc(), text.as_str())
-        .ok()
-        .ok_or("it is an object")?;
-    check_place(&rt, &line, 2, 28, 28);
-    check_text(&rt, &line, "/helps/0/text", "a ; is missing here");
-    Ok(())
-}
-
-#[test]
-fn a_warning_has_its_lint_and_its_other_place(rt: HostRuntime) -> Result<(), Fail> {
-    let mut choices = Choices::new(rt.alloc());
-    choices.deny(Lint::LimitsCrossed)?;
-    let items = "VARIABLE a { TYPE INTEGER { MIN_VALUE 5; MAX_VALUE 4; } }\n";
-    let text = printed(rt.alloc(), "s", items, &choices)?;
-    let line = Value::from_str(rt.alloc(), text.as_str())
-        .ok()
-        .ok_or("it is an object")?;
-    check_text(&rt, &line, "/severity", "denied");
-    check_text(&rt, &line, "/lint", "limits-crossed");
-    check_null(&rt, &line, "/number");
-    check_place(&rt, &line, 2, 29, 38);
-    check_number(&rt, &line, "/helps/0/line", 2);
-    check_number(&rt, &line, "/helps/0/column", 42);
+fn a_line_has_its_parts(rt: HostRuntime) -> Result<(), Fail> {
+    for (name, denied, items, expected) in LINES {
+        let line = printed(rt.alloc(), name, items, denied)?;
+        let other = other_parts(rt.alloc(), line.as_str(), expected)?;
+        assert_eq!(rt; other.as_str(), "", "{items}");
+    }
     Ok(())
 }
 
 #[test]
 fn what_is_not_shown_is_counted(rt: HostRuntime) -> Result<(), Fail> {
-    let choices = Choices::new(rt.alloc());
     let mut items = String::from_str(rt.alloc(), "METHOD m { DEFINITION {\n")?;
     for _ in 0..103 {
         items.push_str("break;\n")?;
     }
     items.push_str("} }")?;
-    let text = printed(rt.alloc(), "s", items.as_str(), &choices)?;
-    let last = text.lines().last().ok_or("there are lines")?;
-    let line = Value::from_str(rt.alloc(), last)
-        .ok()
-        .ok_or("it is an object")?;
-    check_text(&rt, &line, "/source", "s");
-    check_number(&rt, &line, "/more", 3);
+    let text = printed(rt.alloc(), "s", items.as_str(), None)?;
     assert!(rt; text.lines().count() == 101, "a hundred are shown");
+    let last = text.lines().last().unwrap_or("");
+    let other = other_parts(rt.alloc(), last, "/source \"s\"\n/more 3")?;
+    assert_eq!(rt; other.as_str(), "");
     Ok(())
 }

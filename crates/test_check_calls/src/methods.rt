@@ -3,7 +3,7 @@
 //! A row is a line that begins with an @ and has the warnings, and below it a body, from line 4 of
 //! a description on.
 
-use crate::found::check_rows;
+use crate::found::{Shown, first_wrong};
 use std::test::Fail;
 
 const BEFORE: &str =
@@ -117,5 +117,7 @@ long d; b++; d = c;
 
 #[test]
 fn bodies_do_what_they_say(rt: HostRuntime) -> Result<(), Fail> {
-    check_rows(&rt, rt.alloc(), BODIES, BEFORE, BEHIND)
+    let wrong = first_wrong(rt.alloc(), BODIES, BEFORE, BEHIND, Shown::All)?;
+    assert_eq!(rt; wrong.as_str(), "");
+    Ok(())
 }
