@@ -53,20 +53,34 @@ fn counts_of(sections: &Sections) -> Counts {
     }
 }
 
-// The rows of names of one letter each.
-fn name_rows(alloc: Global, sections: &Sections) -> Result<Vec<NameRow>, Fail> {
-    let mut rows = Vec::new(alloc);
-    for start in 0..sections.names.len().min(99) as u32 {
-        rows.push(NameRow { start, length: 1 })?;
-    }
-    Ok(rows)
-}
+// The rows of the first names, of one letter each.
+const NAMES: [NameRow; 4] = [
+    NameRow {
+        start: 0,
+        length: 1,
+    },
+    NameRow {
+        start: 1,
+        length: 1,
+    },
+    NameRow {
+        start: 2,
+        length: 1,
+    },
+    NameRow {
+        start: 3,
+        length: 1,
+    },
+];
 
 // The parts of these sections. What counts them has to agree with them.
 fn written(alloc: Global, sections: &Sections) -> Result<Vec<u8>, Fail> {
     let counts = counts_of(sections);
+    let Some(names) = NAMES.get(..sections.names.len()) else {
+        return Err(Fail::from("too many names"));
+    };
     let variables = Vec::from_slice(alloc, sections.variables)?;
-    let names = name_rows(alloc, sections)?;
+    let names = Vec::from_slice(alloc, names)?;
     let attributes = Vec::from_slice(alloc, sections.attributes)?;
     let elements = Vec::from_slice(alloc, sections.elements)?;
     let code = Vec::from_slice(alloc, sections.code)?;
