@@ -12,7 +12,7 @@ ROWS = "test_rows"
 
 
 def settled(names, said):
-    """The command of cargo, in whose room these crates stand; none where there is no cargo or a crate that it needs."""
+    """Cargo, in whose room these crates stand; none where there is no cargo or a crate that it needs."""
     try:
         workspace.Edition(names).write(ROOM)
         return packages.settle(ROOM, False)
@@ -24,10 +24,23 @@ def settled(names, said):
         sys.exit(1)
 
 
-def ran(words, folder, given=""):
-    """The status of a command and what it wrote."""
-    done = subprocess.run(words, cwd=folder, input=given, stdout=subprocess.PIPE, stderr=subprocess.STDOUT, text=True, errors="replace", check=False)
+def without_cargo(crate, words, given=""):
+    """Runs `rt` in a crate's folder, and gives what it wrote."""
+    folder = os.path.join(TOP, "crates", crate)
+    done = subprocess.run(["rt", *words], cwd=folder, input=given, stdout=subprocess.PIPE, stderr=subprocess.STDOUT, text=True, errors="replace", check=False)
     return done.returncode, done.stdout
+
+
+def printed(cargo, given, said):
+    """What the program of the rows prints of these."""
+    if not cargo:
+        return without_cargo(ROWS, ["try"], given)[1]
+    built = cargo.run(["build", "--quiet", "--offline", "--package", ROWS], ROOM)
+    if built.returncode:
+        said.line(False, "cargo could not build the rows", built.stderr[-2000:])
+        return ""
+    program = os.path.join(ROOM, "target", "debug", ROWS)
+    return subprocess.run([program], input=given, stdout=subprocess.PIPE, stderr=subprocess.STDOUT, text=True, errors="replace", check=False).stdout
 
 
 def table():
@@ -45,12 +58,9 @@ def rows(words, said):
     if not found:
         said.line(False, f"no row has the words {' '.join(words)}")
         return
-    given = "@once\n" + "\n".join(found) + "\n"
-    command = settled([ROWS], said)
-    run = [command, "run", "--quiet", "--offline", "--package", ROWS] if command else ["rt", "try"]
-    _, output = ran(run, ROOM if command else os.path.join(TOP, "crates", ROWS), given)
+    output = printed(settled([ROWS], said), "@once\n" + "\n".join(found) + "\n", said)
     parts = re.split(r"^(?=ok |WRONG )", output, flags=re.M)
-    if not any(it.startswith(("ok ", "WRONG ")) for it in parts):
+    if output and not any(it.startswith(("ok ", "WRONG ")) for it in parts):
         said.line(False, "the rows did not run", output[-2000:])
     for part in parts:
         line, _, more = part.partition("\n")
@@ -62,12 +72,15 @@ def rows(words, said):
 
 def test(crate, name, said):
     """Runs the tests of a crate whose names contain the name; by `rt try` all of them."""
-    command = settled([crate], said)
-    run = [command, "test", "--quiet", "--offline", "--package", crate, name] if command else ["rt", "try", "--test"]
-    status, output = ran(run, ROOM if command else os.path.join(TOP, "crates", crate))
+    cargo = settled([crate], said)
+    if cargo:
+        done = cargo.run(["test", "--quiet", "--offline", "--package", crate, name], ROOM)
+        status, output = done.returncode, done.stdout + done.stderr
+    else:
+        status, output = without_cargo(crate, ["try", "--test"])
     counted = re.findall(r"(\d+) passed; (\d+) failed", output)
     count = sum(int(passed) + int(failed) for passed, failed in counted)
-    if command and not status and not count:
+    if cargo and not status and not count:
         said.line(False, f"{crate} has no test whose name contains {name}")
         return
     said.line(not status, f"{crate}: {f'{count} tests' if counted else 'its tests'} with {name}", output[-3000:])
