@@ -24,19 +24,19 @@ use Rattle.edd_syntax.specs.Attributes as source
 use Rattle.edd_syntax.specs.Attributes.{Named, Meaning, meaning_of, of_attributes, transactions, gives, gives_in, is_readable, read_item, read_attribute, or_default}
 use Rattle.edd_syntax.specs.Resolution.{count_of}
 use Rattle.edd_syntax.specs.Rows.{is_written, transaction_positions, positions, of_kind}
-use Rattle.edd_image.specs.declared.unit.Sort.TheVariants.{Attribute, Method}
-use Rattle.edd_image.specs.References.{item_exists}
+use Rattle.edd_instructions.specs.declared.unit.Sort.TheVariants.{Attribute, Method}
+use Rattle.edd_image.specs.Existing.{item_exists}
 use Rattle.edd_image.specs.Contents.{part, Contents, AttributeFields, contents_of}
 use Rattle.edd_image.specs.Strings.{string_in, string_bytes, is_words}
-use Rattle.edd_image.specs.Steps.{opening}
-use Rattle.edd_image.specs.Reading as image
-use Rattle.edd_image.specs.Reading.{environment_of, row_of, opening_of, given_within, reading_of, default_records, is_no_item, reading_within}
-use Rattle.edd_image.specs.Agreement.{machine_of, SameReading, SameRun, IsAttributeCode, string_of_table, string_numbered, item_meaning, tree_meaning}
+use Rattle.edd_instructions.specs.Steps.{opening}
+use Rattle.edd_instructions.specs.Reading as image
+use Rattle.edd_instructions.specs.Reading.{environment_of, row_of, opening_of, given_within, reading_of, default_records, is_no_item, reading_within}
+use Rattle.edd_instructions.specs.Agreement.{machine_of, SameReading, SameRun, IsAttributeCode, string_of_table, string_numbered, item_meaning, tree_meaning}
 use Rattle.edd_assembly.specs.Assembly.{Lowered, assembled}
 use Rattle.edd_assembly.specs.LoweredUnits.{IsBodyCode, IsUnitOf, AreUnitsOf}
 use Rattle.edd_assembly.proofs.Cutting.{code_of, code_cut}
 use Rattle.edd_syntax.proofs.KnownByNumber.{same_kinds}
-use Rattle.edd_image.specs.Decoding as decoding
+use Rattle.edd_image.specs.Front as front
 use Rattle.edd_assembly.proofs.RecordsAgree.{string_missing, string_read, default_same, reading_agrees}
 use Rattle.edd_assembly.proofs.RowsAmong.{same_ref, among_rows}
 use Rattle.edd_assembly.proofs.RowsFound.{Found, of_ref, same_refs, found_or_none, among_plain}
@@ -98,7 +98,7 @@ module _ (unit : Description Target) (lowered : List Lowered) (strings : List Wo
       by_string (Some v) is = is ∙ sym (string_read strings valid short n v is) ∙ h
       by_string None is =
           let none : string_numbered contents n ≡ None =
-          ap (λ o. decoding.◌>>=◌ o (λ span. string_in (part span contents.string_bytes)))
+          ap (λ o. front.◌>>=◌ o (λ span. string_in (part span contents.string_bytes)))
           (string_missing strings n is) in
           absurd (cc (none, h))
 

@@ -4,7 +4,7 @@ use Rattle.std.specs.Prelude.{◌&&◌}
 use Rattle.std.specs.List.{AllByRecursion, flat_map}
 use Rattle.std.proofs.lemmas.Bool.{leb-true, and_parts}
 use Rattle.edd_image.specs.Contents.{AttributeFields}
-use Rattle.edd_image.specs.Validity.{rises, rise}
+use Rattle.edd_instructions.specs.Validity.{rises, rise}
 use Rattle.edd_assembly.proofs.Rising.{AllBefore, rise_append, all_append, all_map, all_before}
 
 abbrev Rows : Type 0

@@ -12,13 +12,14 @@ use Rattle.edd_syntax.specs.Resolution.{count_of}
 use Rattle.edd_syntax.specs.Resolved.{IsChecked}
 use Rattle.edd_syntax.specs.Rows.{of_kind}
 use Rattle.edd_syntax.specs.Words.{Words}
-use Rattle.edd_image.specs.declared.instruction.Instruction.{Instruction}
-use Rattle.edd_image.specs.declared.instruction.Instruction.TheVariants as instruction
-use Rattle.edd_image.specs.declared.unit.Context.{Context}
+use Rattle.edd_instructions.specs.declared.instruction.Instruction.{Instruction}
+use Rattle.edd_instructions.specs.declared.instruction.Instruction.TheVariants as instruction
+use Rattle.edd_instructions.specs.declared.unit.Context.{Context}
 use Rattle.edd_image.specs.Contents.{AttributeFields, Contents, fields_of_attribute}
-use Rattle.edd_image.specs.References.{method_exists, names_exist}
-use Rattle.edd_image.specs.Units.{Placed, instructions, IsValidUnit}
-use Rattle.edd_image.specs.Validity.{placed_unit, has_body, adds_with_body}
+use Rattle.edd_image.specs.Existing.{method_exists}
+use Rattle.edd_instructions.specs.References.{names_exist}
+use Rattle.edd_instructions.specs.Units.{Placed, instructions, IsValidUnit}
+use Rattle.edd_instructions.specs.Validity.{placed_unit, has_body, adds_with_body}
 use Rattle.edd_assembly.specs.Assembly.{Lowered, attribute_rows}
 use Rattle.edd_assembly.specs.LoweredUnits.{AreUnitsOf}
 use Rattle.edd_assembly.proofs.AttributesAgree.{past, its_kind}

@@ -11,7 +11,7 @@ use Rattle.edd_syntax.specs.Item.{Description}
 use Rattle.edd_syntax.specs.Resolution.{count_of}
 use Rattle.edd_syntax.specs.Device.{items_of, environment}
 use Rattle.edd_syntax.specs.Elements.{with_element, by_number, elements_from}
-use Rattle.edd_image.specs.Validity.{elements_rise, is_element_before}
+use Rattle.edd_instructions.specs.Validity.{elements_rise, is_element_before}
 
 -- ---- lists that rise
 

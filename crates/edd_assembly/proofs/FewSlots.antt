@@ -27,7 +27,7 @@ use Rattle.edd_syntax.specs.Resolution.{Scope, member_kinds, declared, all_decla
 use Rattle.edd_syntax.specs.ResolvedTrees.{◌>>=◌, each, unchanged, resolved_expr, resolved_optional, resolved_cond, resolved_conds, at_scope, resolved_declarators, resolved_stmt, resolved_body, at_attribute, resolved_entry, resolved_member, resolved_element, resolved_type_part, resolved_transaction_part, resolved_attribute, resolved_item, resolved_unit}
 use Rattle.edd_syntax.specs.Resolved.{IsChecked}
 use Rattle.edd_syntax.proofs.WithinLimits.{each_keeps, no_front, no_rest, no_refusal}
-use Rattle.edd_image.specs.MethodAgreement.{IsMethodCode}
+use Rattle.edd_instructions.specs.MethodAgreement.{IsMethodCode}
 use Rattle.edd_syntax.specs.Words.{Words}
 use Rattle.edd_syntax.specs.Text.{Name}
 use Rattle.edd_assembly.specs.LoweredUnits.{IsBodyCode}

@@ -8,7 +8,7 @@ use Rattle.edd_syntax.specs.Text.{Name}
 use Rattle.edd_syntax.specs.Words.{Words}
 use Rattle.edd_image.specs.Contents.{fields_of_name, fields_of_string, fields_of_attribute}
 use Rattle.edd_image.specs.Strings.{string_bytes}
-use Rattle.edd_image.specs.Validity.{fills}
+use Rattle.edd_instructions.specs.Validity.{fills}
 use Rattle.edd_assembly.specs.Assembly.{Lowered, name_rows, string_rows, attribute_rows}
 use Rattle.edd_assembly.proofs.Cutting.{spans, names_spans, strings_spans, code_of, code_spans}
 

@@ -33,3 +33,15 @@ pub mod AttributesAgree
 pub mod SectionsAgree
 pub mod RunsAgree
 pub mod MethodsAgree
+pub mod Counting
+pub mod Apart
+pub mod PartStrings
+pub mod ItemStrings
+pub mod StringRows
+pub mod StringsOfRows
+pub mod Totals
+pub mod FirstCosts
+pub mod ItemLimits
+pub mod RowLimits
+pub mod ShortCode
+pub mod WorkedContents

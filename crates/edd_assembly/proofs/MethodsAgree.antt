@@ -22,19 +22,19 @@ use Rattle.edd_syntax.specs.Device.{environment}
 use Rattle.edd_syntax.specs.Execution.{body_in, body_of, run_body}
 use Rattle.edd_syntax.specs.Statement.{Body, Nil, slots_in}
 use Rattle.edd_syntax.specs.Rows.{of_kind}
-use Rattle.edd_image.specs.declared.unit.Sort.TheVariants.{Attribute, Method}
-use Rattle.edd_image.specs.Agreement.{machine_of, string_of_table, string_numbered}
+use Rattle.edd_instructions.specs.declared.unit.Sort.TheVariants.{Attribute, Method}
+use Rattle.edd_instructions.specs.Agreement.{machine_of, string_of_table, string_numbered}
 use Rattle.edd_image.specs.Contents.{part, Contents, contents_of}
-use Rattle.edd_image.specs.AbortMethods.{Start, start_at, start_in}
-use Rattle.edd_image.specs.Execution.{execute}
+use Rattle.edd_instructions.specs.AbortMethods.{Start, start_at, start_in}
+use Rattle.edd_instructions.specs.Execution.{execute}
 use Rattle.edd_image.specs.Layout.{AreSections}
-use Rattle.edd_image.specs.MethodAgreement.{FollowsBody, started, IsBodyOf, EachIsBody, IsMethodCode, AgreesOnMethod, AgreesOnMethods}
-use Rattle.edd_image.specs.Reading as image
-use Rattle.edd_image.specs.Reading.{environment_of}
-use Rattle.edd_image.specs.References.{item_exists}
-use Rattle.edd_image.specs.Steps.{Environment}
+use Rattle.edd_instructions.specs.MethodAgreement.{FollowsBody, started, IsBodyOf, EachIsBody, IsMethodCode, AgreesOnMethod, AgreesOnMethods}
+use Rattle.edd_instructions.specs.Reading as image
+use Rattle.edd_instructions.specs.Reading.{environment_of}
+use Rattle.edd_image.specs.Existing.{item_exists}
+use Rattle.edd_instructions.specs.Steps.{Environment}
 use Rattle.edd_image.specs.Strings.{string_bytes, is_words}
-use Rattle.edd_image.proofs.JoinedAgreement.{joined_agree}
+use Rattle.edd_instructions.proofs.JoinedAgreement.{joined_agree}
 use Rattle.edd_assembly.specs.Assembly.{Lowered, assembled}
 use Rattle.edd_assembly.specs.LoweredUnits.{IsMethodOf, AreUnitsOf}
 use Rattle.edd_assembly.proofs.AttributesAgree.{contents, kept, kept_back, same_types, existing, past}

@@ -17,7 +17,7 @@ use Rattle.edd_syntax.specs.Device.{item_at}
 use Rattle.edd_syntax.specs.Rows.{of_kind}
 use Rattle.edd_syntax.specs.Resolution.{count_of}
 use Rattle.edd_image.specs.Contents.{part, NameFields, fields_of_name, contents_of}
-use Rattle.edd_image.specs.Agreement.{counts_of, place_of_item, name_numbered}
+use Rattle.edd_instructions.specs.Agreement.{counts_of, place_of_item, name_numbered}
 use Rattle.edd_assembly.specs.Assembly.{Lowered, name_rows, names_of_kind, names_of, assembled}
 use Rattle.edd_assembly.proofs.Cutting.{names_cut}
 

@@ -9,8 +9,8 @@ use Rattle.edd_syntax.specs.Item.{Description}
 use Rattle.edd_syntax.specs.LayoutVersion.{body_names_it}
 use Rattle.edd_syntax.specs.Resolution.{count_of}
 use Rattle.edd_syntax.specs.SubsetRules.{bodies_of}
-use Rattle.edd_image.specs.declared.unit.Version.TheVariants.{One, Two}
-use Rattle.edd_image.specs.Agreement.{version_for}
+use Rattle.edd_image.specs.declared.versions.Version.TheVariants.{One, Two}
+use Rattle.edd_instructions.specs.Agreement.{version_for}
 
 pub none_in_first : (d : Description Target) → version_for d ≡ One
     → count_of kind.Array d.items ≡ 0

@@ -12,12 +12,12 @@ use Rattle.edd_syntax.specs.AttributeValue.{Trapping, ◌>>=◌}
 use Rattle.edd_syntax.specs.Attributes as source
 use Rattle.edd_syntax.specs.Attributes.{or_default}
 use Rattle.edd_syntax.proofs.EveryAttribute.{every_attr}
-use Rattle.edd_image.specs.declared.records.Record.{Record}
+use Rattle.edd_instructions.specs.declared.records.Record.{Record}
 use Rattle.edd_image.specs.Contents.{Span, part, fields_of_string}
-use Rattle.edd_image.specs.Decoding as decoding
+use Rattle.edd_image.specs.Front as front
 use Rattle.edd_image.specs.Strings.{string_bytes, string_in, is_words}
-use Rattle.edd_image.specs.Reading.{default_records, reading_of}
-use Rattle.edd_image.specs.Agreement.{IsOptionalString, SameRecord, SameRecords, SameRun, SameReading, string_of_table}
+use Rattle.edd_instructions.specs.Reading.{default_records, reading_of}
+use Rattle.edd_instructions.specs.Agreement.{IsOptionalString, SameRecord, SameRecords, SameRun, SameReading, string_of_table}
 use Rattle.edd_assembly.specs.Assembly.{string_rows}
 use Rattle.edd_assembly.proofs.Cutting.{strings_cut}
 use Rattle.edd_assembly.proofs.SoundStrings.{IsReadAgain, strings_again}
@@ -31,8 +31,8 @@ read_again (x ∷ ws) zero w all h = subst IsReadAgain (same_Some x w h) all.0
 read_again (x ∷ ws) (suc n) w all h = read_again ws n w all.1 h
 
 then_read : (bytes : List ℕ) (o : Option Span)
-    → decoding.◌>>=◌ o (λ span. string_in (part span bytes))
-    ≡ decoding.◌>>=◌ (option_map (λ span. part span bytes) o) string_in
+    → front.◌>>=◌ o (λ span. string_in (part span bytes))
+    ≡ front.◌>>=◌ (option_map (λ span. part span bytes) o) string_in
 then_read bytes None = refl
 then_read bytes (Some span) = refl
 
@@ -55,11 +55,11 @@ string_missing ws n h =
 pub string_read : (ws : List Words) → list_all is_words ws ≡ true
     → length (flat_map string_bytes ws) < 2 ^ 32 → (n : StrNo) (w : Words)
     → string_of_table ws n ≡ Some w
-    → decoding.◌>>=◌ (slice_get (map fields_of_string (string_rows 0 ws)) n.0)
+    → front.◌>>=◌ (slice_get (map fields_of_string (string_rows 0 ws)) n.0)
     (λ span. string_in (part span (flat_map string_bytes ws))) ≡ Some w
 string_read ws valid few n w h =
     then_read (flat_map string_bytes ws) (slice_get (map fields_of_string (string_rows 0 ws)) n.0)
-    ∙ ap (λ o. decoding.◌>>=◌ o string_in)
+    ∙ ap (λ o. front.◌>>=◌ o string_in)
     (sym (slice_get-map (λ span. part span (flat_map string_bytes ws))
     (map fields_of_string (string_rows 0 ws)) n.0)
     ∙ ap (λ bs. slice_get bs n.0) (strings_cut ws)

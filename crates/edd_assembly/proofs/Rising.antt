@@ -5,7 +5,7 @@ use Rattle.std.specs.List.{AllByRecursion}
 use Rattle.std.proofs.lemmas.Bool.{false≢true}
 use Rattle.std.proofs.lemmas.Grind.{common_steps}
 use Rattle.edd_image.specs.Contents.{AttributeFields}
-use Rattle.edd_image.specs.Validity.{rises, rise}
+use Rattle.edd_instructions.specs.Validity.{rises, rise}
 
 abbrev Rows : Type 0
 Rows = List AttributeFields

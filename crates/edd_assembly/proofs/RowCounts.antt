@@ -8,8 +8,8 @@ use Rattle.edd_syntax.specs.Text.{Name}
 use Rattle.edd_syntax.specs.Words.{Words}
 use Rattle.edd_syntax.specs.Item.{Item}
 use Rattle.edd_syntax.specs.Resolution.{count_of}
-use Rattle.edd_image.specs.declared.unit.Version.{Version}
-use Rattle.edd_image.specs.declared.unit.Version.TheVariants.{One, Two}
+use Rattle.edd_image.specs.declared.versions.Version.{Version}
+use Rattle.edd_image.specs.declared.versions.Version.TheVariants.{One, Two}
 use Rattle.edd_image.specs.Strings.{string_bytes}
 use Rattle.edd_image.specs.Versions.{header_size}
 use Rattle.edd_assembly.specs.Assembly.{name_rows, names_of_kind, names_of, string_rows, variable_kinds}

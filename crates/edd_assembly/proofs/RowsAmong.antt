@@ -16,7 +16,7 @@ use Rattle.edd_syntax.specs.NameRules.{kinds}
 use Rattle.edd_syntax.specs.Numbers.{kind_number, kind_of, index_of, item_number, attr_number, same_kind, same_attr}
 use Rattle.edd_syntax.specs.Rows.{positions, rows_at, item_rows, rows_from, of_kind, rows_of_attr, rows_of_kind, attributes_in_order, rows}
 use Rattle.edd_syntax.proofs.EveryAttribute.{every_attr}
-use Rattle.edd_image.specs.Reading.{is_row_of}
+use Rattle.edd_instructions.specs.Reading.{is_row_of}
 use Rattle.edd_syntax.proofs.KnownByNumber.{same_kinds, same_attrs, numbered_kind, numbered_index}
 use Rattle.edd_assembly.proofs.RowsRise.{key}
 

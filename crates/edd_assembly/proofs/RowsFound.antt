@@ -11,7 +11,7 @@ use Rattle.edd_syntax.specs.declared.numbers.AttrRef.{AttrRef}
 use Rattle.edd_syntax.specs.declared.numbers.MethNo.{MethNo}
 use Rattle.edd_syntax.specs.Numbers.{kind_number, kind_of, index_of, attr_number, same_attr, item_from_numbers}
 use Rattle.edd_image.specs.Contents.{part, AttributeFields, fields_of_attribute}
-use Rattle.edd_image.specs.Reading.{is_row_of}
+use Rattle.edd_instructions.specs.Reading.{is_row_of}
 use Rattle.edd_assembly.specs.Assembly.{Lowered, attribute_row_at, attribute_rows}
 use Rattle.edd_assembly.specs.LoweredUnits.{plain_row}
 use Rattle.edd_assembly.proofs.Cutting.{first_or, behind_first, code_of}

@@ -21,8 +21,8 @@ use Rattle.edd_syntax.specs.Attributes.{is_of_transaction}
 use Rattle.edd_syntax.specs.Rows.{part_attr, stands_for, is_written, transaction_positions, positions, rows_at, item_rows, rows_from, of_kind, rows_of_attr, rows_of_kind, attributes_in_order, rows}
 use Rattle.edd_syntax.specs.WellFormed.{belongs_to}
 use Rattle.edd_image.specs.declared.parts.Counts.{Counts}
-use Rattle.edd_image.specs.References.{item_exists}
-use Rattle.edd_image.specs.Agreement.{counts_of}
+use Rattle.edd_image.specs.Existing.{item_exists}
+use Rattle.edd_instructions.specs.Agreement.{counts_of}
 use Rattle.edd_syntax.proofs.Belonging.{Belong, all_belong, fits_at, positions_fit}
 use Rattle.edd_syntax.proofs.ItemForms.{is_formed, all_weaker, own_when_formed}
 use Rattle.edd_syntax.proofs.KnownByNumber.{same_kinds, same_attrs, numbered_kind}

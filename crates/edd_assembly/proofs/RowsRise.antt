@@ -19,7 +19,7 @@ use Rattle.edd_syntax.specs.Numbers.{kind_number, kind_of, index_of, item_number
 use Rattle.edd_syntax.specs.Attributes.{is_of_transaction}
 use Rattle.edd_syntax.specs.Rows.{is_written, transaction_positions, positions, rows_at, item_rows, rows_from, of_kind, rows_of_attr, rows_of_kind, attributes_in_order, rows}
 use Rattle.edd_image.specs.Contents.{AttributeFields}
-use Rattle.edd_image.specs.Validity.{rises, rise}
+use Rattle.edd_instructions.specs.Validity.{rises, rise}
 use Rattle.edd_assembly.proofs.BlocksRise.{blocks_rise, blocks_keep}
 use Rattle.edd_assembly.proofs.Rising.{rise_append, all_append, all_map, all_before, by_kind, by_attribute, by_item, by_position}
 

@@ -6,9 +6,9 @@ use Rattle.edd_syntax.specs.Words.{Words}
 use Rattle.edd_syntax.specs.DeviceValues.{VariableType}
 use Rattle.edd_syntax.specs.MethodState as source
 use Rattle.edd_syntax.specs.Execution.{Transcript}
-use Rattle.edd_image.specs.declared.records.Request.{Request}
-use Rattle.edd_image.specs.Execution.{Outcome, preceded}
-use Rattle.edd_image.specs.MethodAgreement.{SameRequest, SameRequests, SameOutcome, FollowsBody}
+use Rattle.edd_instructions.specs.declared.records.Request.{Request}
+use Rattle.edd_instructions.specs.Execution.{Outcome, preceded}
+use Rattle.edd_instructions.specs.MethodAgreement.{SameRequest, SameRequests, SameOutcome, FollowsBody}
 
 module _ (f g : StrNo → Option Words) (kept : (n : StrNo) (w : Words) → f n ≡ Some w → g n ≡ Some w)
   where

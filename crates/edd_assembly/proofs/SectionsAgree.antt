@@ -12,9 +12,9 @@ use Rattle.edd_syntax.specs.Device.{environment}
 use Rattle.edd_syntax.specs.Resolution.{count_of}
 use Rattle.edd_image.specs.Contents.{contents_of}
 use Rattle.edd_image.specs.Layout.{AreSections}
-use Rattle.edd_image.specs.Reading.{environment_of}
+use Rattle.edd_instructions.specs.Reading.{environment_of}
 use Rattle.edd_image.specs.Strings.{string_bytes}
-use Rattle.edd_image.specs.Agreement.{identification_in, count_in, AgreesOnData}
+use Rattle.edd_instructions.specs.Agreement.{identification_in, count_in, AgreesOnData}
 use Rattle.edd_assembly.specs.Assembly.{Lowered, assembled}
 use Rattle.edd_assembly.specs.LoweredUnits.{AreUnitsOf}
 use Rattle.edd_assembly.proofs.AttributesAgree.{attribute_agrees}

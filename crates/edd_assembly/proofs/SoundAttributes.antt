@@ -13,8 +13,8 @@ use Rattle.edd_syntax.specs.Attributes.{is_of_transaction}
 use Rattle.edd_syntax.specs.Rows.{rows}
 use Rattle.edd_image.specs.declared.parts.Counts.{Counts}
 use Rattle.edd_image.specs.Contents.{AttributeFields, fields_of_attribute}
-use Rattle.edd_image.specs.References.{item_exists}
-use Rattle.edd_image.specs.Validity.{has_attribute, is_attribute_row, rises, rise}
+use Rattle.edd_image.specs.Existing.{item_exists}
+use Rattle.edd_instructions.specs.Validity.{has_attribute, is_attribute_row, rises, rise}
 use Rattle.edd_assembly.specs.Assembly.{Lowered, attribute_row_at, attribute_rows}
 use Rattle.edd_assembly.specs.LoweredUnits.{plain_row}
 use Rattle.edd_syntax.proofs.KnownByNumber.{attr_again, item_again}

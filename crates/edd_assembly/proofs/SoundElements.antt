@@ -16,8 +16,8 @@ use Rattle.edd_syntax.specs.Refusal.{DuplicateElement, refused_if}
 use Rattle.edd_syntax.specs.Resolved.{IsChecked}
 use Rattle.edd_syntax.specs.SubsetRules.{is_number_in, repeated_numbers}
 use Rattle.edd_image.specs.declared.parts.Counts.{Counts}
-use Rattle.edd_image.specs.Validity.{is_element_row, elements_rise}
-use Rattle.edd_image.specs.Agreement.{counts_of}
+use Rattle.edd_instructions.specs.Validity.{is_element_row, elements_rise}
+use Rattle.edd_instructions.specs.Agreement.{counts_of}
 use Rattle.edd_assembly.proofs.ElementRows.{Lacks, Apart, by_number_keeps, by_number_rises, joined}
 use Rattle.edd_assembly.proofs.ElementsOnce.{has_numbers_once, none_repeated, numbers_once_when_checked}
 use Rattle.edd_assembly.proofs.ElementVariables.{has_variable, has_variables, variables_exist_when_checked}

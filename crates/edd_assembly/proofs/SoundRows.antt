@@ -14,7 +14,7 @@ use Rattle.edd_syntax.specs.Numbers.{same_kind}
 use Rattle.edd_syntax.specs.Names.{is_within}
 use Rattle.edd_syntax.specs.Device.{written_type}
 use Rattle.edd_image.specs.Contents.{fields_of_variable}
-use Rattle.edd_image.specs.Validity.{is_variable_row}
+use Rattle.edd_instructions.specs.Validity.{is_variable_row}
 use Rattle.edd_assembly.specs.Assembly.{kind_of_type, variable_kinds, is_small_variable}
 
 type_is_known : (t : VarType) (size : ℕ) → is_within 1 4 size ≡ true

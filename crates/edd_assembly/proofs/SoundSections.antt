@@ -12,14 +12,14 @@ use Rattle.edd_syntax.specs.Item.{Description}
 use Rattle.edd_syntax.specs.Resolved.{IsChecked}
 use Rattle.edd_syntax.specs.Words.{Words}
 use Rattle.edd_syntax.specs.WordsView.{string_of}
-use Rattle.edd_image.specs.declared.unit.Sort.TheVariants.{Attribute, Method}
+use Rattle.edd_instructions.specs.declared.unit.Sort.TheVariants.{Attribute, Method}
 use Rattle.edd_image.specs.declared.parts.Counts.{Counts}
 use Rattle.edd_image.specs.Contents.{part, Contents, fields_of_name, fields_of_attribute, contents_of}
 use Rattle.edd_image.specs.Layout.{AreSections}
 use Rattle.edd_image.specs.Strings.{string_bytes}
-use Rattle.edd_image.specs.Units.{IsValidUnit}
-use Rattle.edd_image.specs.Validity.{placed_unit, fills, rise, is_attribute_row, are_variable_rows, are_name_rows, are_attribute_rows, are_element_rows, are_string_rows, all_add_with_body, IsSound}
-use Rattle.edd_image.specs.Agreement.{counts_of, version_for, IsAttributeCode}
+use Rattle.edd_instructions.specs.Units.{IsValidUnit}
+use Rattle.edd_instructions.specs.Validity.{placed_unit, fills, rise, is_attribute_row, are_variable_rows, are_name_rows, are_attribute_rows, are_element_rows, are_string_rows, all_add_with_body, IsSound}
+use Rattle.edd_instructions.specs.Agreement.{counts_of, version_for, IsAttributeCode}
 use Rattle.edd_assembly.specs.Assembly.{Lowered, names_of, name_rows, attribute_rows, assembled}
 use Rattle.edd_assembly.specs.LoweredUnits.{plain_row, IsBodyCode, IsUnitOf, AreUnitsOf}
 use Rattle.edd_assembly.proofs.BodiesStand.{units_add}

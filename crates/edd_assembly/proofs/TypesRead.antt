@@ -9,7 +9,7 @@ use Rattle.edd_syntax.specs.Item.{Item}
 use Rattle.edd_syntax.specs.Device.{written_type}
 use Rattle.edd_syntax.specs.Rows.{of_kind}
 use Rattle.edd_image.specs.Contents.{fields_of_variable}
-use Rattle.edd_image.specs.Reading.{variable_type_of}
+use Rattle.edd_instructions.specs.Reading.{variable_type_of}
 use Rattle.edd_assembly.specs.Assembly.{kind_of_type, variable_kinds}
 
 type_read : (t : VarType) (size : ℕ)

@@ -24,8 +24,8 @@ use Rattle.edd_image.specs.declared.parts.StringRow.{StringRow}
 use Rattle.edd_image.specs.declared.parts.Counts.{Counts}
 use Rattle.edd_image.specs.Layout.{Sections}
 use Rattle.edd_image.specs.Strings.{string_bytes}
-use Rattle.edd_image.specs.declared.unit.Version.{Version}
-use Rattle.edd_image.specs.Agreement.{counts_of, version_for}
+use Rattle.edd_image.specs.declared.versions.Version.{Version}
+use Rattle.edd_instructions.specs.Agreement.{counts_of, version_for}
 
 -- an attribute and its code; for the body of a method `sub` is its number of slots
 pub record Lowered : Type 0 where

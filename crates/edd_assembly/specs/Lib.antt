@@ -1,3 +1,4 @@
 pub mod Assembly
 pub mod LoweredUnits
+pub mod RowContents
 pub mod Views

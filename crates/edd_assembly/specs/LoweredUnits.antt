@@ -11,9 +11,9 @@ use Rattle.edd_syntax.specs.Numbers.{same_attr}
 use Rattle.edd_syntax.specs.Words.{Words}
 use Rattle.edd_syntax.specs.Item.{Description}
 use Rattle.edd_syntax.specs.Rows.{rows}
-use Rattle.edd_image.specs.Units.{IsValidUnit}
-use Rattle.edd_image.specs.Agreement.{IsAttributeCode}
-use Rattle.edd_image.specs.MethodAgreement.{method_context, IsMethodCode}
+use Rattle.edd_instructions.specs.Units.{IsValidUnit}
+use Rattle.edd_instructions.specs.Agreement.{IsAttributeCode}
+use Rattle.edd_instructions.specs.MethodAgreement.{method_context, IsMethodCode}
 use Rattle.edd_assembly.specs.Assembly.{Lowered}
 
 -- the row as the description has it, in which a body is at 0

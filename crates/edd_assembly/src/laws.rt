@@ -10,13 +10,13 @@ ghost use Rattle.edd_syntax.specs.Words.{Words};
 ghost use Rattle.edd_syntax.specs.WordsView.{string_of};
 ghost use Rattle.edd_syntax.specs.Item.{Description};
 ghost use Rattle.edd_syntax.specs.Device.{environment};
-ghost use Rattle.edd_image.specs.Agreement.{AgreesOnData};
-ghost use Rattle.edd_image.specs.MethodAgreement.{AgreesOnMethods, IsMethodCode};
+ghost use Rattle.edd_instructions.specs.Agreement.{AgreesOnData};
+ghost use Rattle.edd_instructions.specs.MethodAgreement.{AgreesOnMethods, IsMethodCode};
 ghost use Rattle.edd_image.specs.Contents.{part, contents_of};
 ghost use Rattle.edd_image.specs.Layout.{AreSections};
-ghost use Rattle.edd_image.specs.Reading.{environment_of};
+ghost use Rattle.edd_instructions.specs.Reading.{environment_of};
 ghost use Rattle.edd_image.specs.Strings.{string_bytes};
-ghost use Rattle.edd_image.specs.Validity.{IsSound};
+ghost use Rattle.edd_instructions.specs.Validity.{IsSound};
 ghost use Rattle.edd_assembly.specs.Assembly.{Lowered, names_of, assembled};
 ghost use Rattle.edd_assembly.specs.LoweredUnits.{AreUnitsOf, IsBodyCode, IsMethodOf};
 

@@ -8,9 +8,9 @@ ghost use Rattle.edd_syntax.specs.ItemView.{identification_of, numbered_items, n
 ghost use Rattle.edd_syntax.specs.Resolution.{count_of};
 ghost use Rattle.edd_syntax.specs.Resolved.{description};
 ghost use Rattle.edd_syntax.specs.WordsView.{string_of};
-ghost use Rattle.edd_image.specs.declared.unit.Version.TheVariants.{One};
-ghost use Rattle.edd_image.specs.Agreement as agreement;
-ghost use Rattle.edd_image.specs.Agreement.{version_for};
+ghost use Rattle.edd_image.specs.declared.versions.Version.TheVariants.{One};
+ghost use Rattle.edd_instructions.specs.Agreement as agreement;
+ghost use Rattle.edd_instructions.specs.Agreement.{version_for};
 ghost use Rattle.edd_image.specs.Layout.{sections_of};
 ghost use Rattle.edd_image.specs.Versions.{header_size};
 ghost use Rattle.edd_assembly.specs.Assembly as assembly;

@@ -5,7 +5,7 @@ use Rattle.std.proofs.lemmas.List.Elements.{Contains-append_left, Contains-appen
 use Rattle.edd_syntax.specs.declared.numbers.StrNo.{StrNo}
 use Rattle.std.specs.Prelude.{Option}
 use Rattle.edd_syntax.specs.Words.{Words}
-use Rattle.edd_image.specs.Agreement.{string_of_table}
+use Rattle.edd_instructions.specs.Agreement.{string_of_table}
 use Rattle.edd_code.specs.Blocks.{Block}
 use Rattle.edd_code.specs.Tables.{GrowsBy, Overflows}
 use Rattle.edd_code.specs.Written.{WritesBlock}

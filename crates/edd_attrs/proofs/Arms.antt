@@ -7,9 +7,9 @@ use Rattle.edd_syntax.specs.declared.reference.Target.{Target}
 use Rattle.edd_syntax.specs.Conditional.{Conds, Arm, NoArms, ConsArm, Case, Default, arms_from}
 use Rattle.edd_syntax.specs.SubsetRules.{values_of}
 use Rattle.edd_syntax.specs.Words.{Words}
-use Rattle.edd_image.specs.declared.instruction.Instruction.TheVariants as instruction
-use Rattle.edd_image.specs.Agreement.{string_of_table}
-use Rattle.edd_image.specs.Spelling.{spelling}
+use Rattle.edd_instructions.specs.declared.instruction.Instruction.TheVariants as instruction
+use Rattle.edd_instructions.specs.Agreement.{string_of_table}
+use Rattle.edd_instructions.specs.Spelling.{spelling}
 use Rattle.edd_code.specs.Blocks.{Block, Match, bytes_at}
 use Rattle.edd_code.specs.Closing.{closed}
 use Rattle.edd_code.proofs.Closing.{match_closed, closed_length}

@@ -13,8 +13,8 @@ use Rattle.edd_syntax.specs.ItemView.{numbered_arm, numbered_cond, numbered_cond
 use Rattle.edd_syntax.specs.Size.{cond_nodes, conds_nodes, arms_nodes, leaf}
 use Rattle.edd_syntax.specs.TreeView.{numbered_expr}
 use Rattle.edd_syntax.proofs.CondRows.{of_value, of_if, of_select, of_case, of_default}
-use Rattle.edd_image.specs.declared.instruction.Instruction.TheVariants as instruction
-use Rattle.edd_image.specs.Spelling.{spelling}
+use Rattle.edd_instructions.specs.declared.instruction.Instruction.TheVariants as instruction
+use Rattle.edd_instructions.specs.Spelling.{spelling}
 use Rattle.edd_attrs.specs.Writing.{default_of, header, hole_of}
 
 module _ {V W : Type 0} (view : V → W) where

@@ -27,7 +27,7 @@ use Rattle.edd_syntax.specs.SubsetRules.{values_in, values_of, values_under, con
 use Rattle.edd_syntax.specs.Strings.{strings_of_texts, optional_text, enumerator_texts, entry_texts, array_element_texts, member_strings}
 use Rattle.edd_syntax.specs.Size.{leaf, cond_height, conds_height, conds_nodes}
 use Rattle.edd_syntax.specs.WellFormed.{is_label, is_pure_expr, is_cond, are_conds, are_arms}
-use Rattle.edd_image.specs.References.{item_exists}
+use Rattle.edd_image.specs.Existing.{item_exists}
 use Rattle.edd_attrs.specs.Records.{text_record, class_record, is_listed, is_fine, counts_in, strings_of_record, strings_of, kept_enumerator, kept_data, kept_entry, kept_response, kept_member, kept_array_element}
 use Rattle.edd_attrs.specs.Sizes.{element_texts, element_nodes}
 use Rattle.edd_attrs.specs.TreeBlocks.{elements}

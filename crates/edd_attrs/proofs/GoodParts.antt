@@ -17,7 +17,7 @@ use Rattle.edd_syntax.specs.Item.{DataItem, MenuEntry, TypePart}
 use Rattle.edd_syntax.specs.Targets.{item_of, variable_of}
 use Rattle.edd_syntax.specs.WellFormed.{is_pure_expr, is_text, if_some, is_cond, are_conds, is_single}
 use Rattle.edd_syntax.specs.ResolvedTrees.{◌>>=◌, each}
-use Rattle.edd_image.specs.Agreement.{mask_number}
+use Rattle.edd_instructions.specs.Agreement.{mask_number}
 use Rattle.edd_attrs.specs.Trees as trees
 use Rattle.edd_attrs.specs.Trees.{Tree}
 use Rattle.edd_attrs.specs.Records.{is_label, is_listed, kept_enumerator, kept_response, kept_member, kept_array_element}

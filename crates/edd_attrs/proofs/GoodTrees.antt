@@ -22,7 +22,7 @@ use Rattle.edd_syntax.specs.Targets.{item_of, variable_of}
 use Rattle.edd_syntax.specs.Resolution.{count_of, variable_kinds, entry_kinds, array_kinds, member_kinds, is_among}
 use Rattle.edd_syntax.specs.WellFormed.{is_pure_expr, is_text, if_some, is_path, is_plain, is_cond, are_conds, is_single, is_type_part, is_type, is_attribute, is_enumerator, is_entry, is_data_item, is_response_code, is_member, is_array_element, may_list, is_transaction_part, belongs_to, stands_in, is_item}
 use Rattle.edd_syntax.specs.ResolvedTrees.{Meanings, each, unchanged, resolved_expr, resolved_cond, resolved_conds, resolved_body, item_among, at_attribute, resolved_entry, resolved_data, resolved_member, resolved_element, resolved_type_part, resolved_transaction_part, resolved_attribute, resolved_item}
-use Rattle.edd_image.specs.Agreement.{mask_number}
+use Rattle.edd_instructions.specs.Agreement.{mask_number}
 use Rattle.edd_attrs.specs.Trees.{trees_of_part, trees_of_parts, tree_of_transaction_part}
 use Rattle.edd_attrs.specs.Records.{is_label, is_listed}
 use Rattle.edd_syntax.proofs.Made.{bind_some}

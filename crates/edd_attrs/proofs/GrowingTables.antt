@@ -8,14 +8,15 @@ use Rattle.edd_syntax.specs.declared.numbers.ItemNo.{ItemNo}
 use Rattle.edd_syntax.specs.declared.numbers.ItemNo.TheVariants as items
 use Rattle.edd_syntax.specs.Item.{Description}
 use Rattle.edd_syntax.specs.Words.{Words}
-use Rattle.edd_image.specs.declared.instruction.Ask.{Ask}
-use Rattle.edd_image.specs.declared.instruction.Ask.TheVariants as ask
-use Rattle.edd_image.specs.declared.instruction.Instruction.{Instruction}
-use Rattle.edd_image.specs.declared.instruction.Instruction.TheVariants as instruction
-use Rattle.edd_image.specs.References.{optional_string_exists, variable_exists, item_exists, request_exists, names_exist}
-use Rattle.edd_image.specs.declared.unit.Sort.TheVariants.{Attribute}
-use Rattle.edd_image.specs.Agreement.{attribute_context}
-use Rattle.edd_image.specs.Units.{is_allowed}
+use Rattle.edd_instructions.specs.declared.instruction.Ask.{Ask}
+use Rattle.edd_instructions.specs.declared.instruction.Ask.TheVariants as ask
+use Rattle.edd_instructions.specs.declared.instruction.Instruction.{Instruction}
+use Rattle.edd_instructions.specs.declared.instruction.Instruction.TheVariants as instruction
+use Rattle.edd_image.specs.Existing.{optional_string_exists, variable_exists, item_exists}
+use Rattle.edd_instructions.specs.References.{request_exists, names_exist}
+use Rattle.edd_instructions.specs.declared.unit.Sort.TheVariants.{Attribute}
+use Rattle.edd_instructions.specs.Agreement.{attribute_context}
+use Rattle.edd_instructions.specs.Units.{is_allowed}
 use Rattle.edd_code.specs.Blocks as block
 use Rattle.edd_code.specs.Blocks.{Block}
 use Rattle.edd_code.specs.Flow.{all_straight, may_stand}

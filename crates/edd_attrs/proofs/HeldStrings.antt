@@ -8,7 +8,7 @@ use Rattle.edd_syntax.specs.Conditional.{Cond, Value, If, Select, Conds, Nil, Co
 use Rattle.edd_syntax.specs.Words.{Words}
 use Rattle.edd_syntax.specs.Attributes as source
 use Rattle.edd_syntax.specs.SubsetRules.{values_in, values_of, values_under, cond_defaults, conds_defaults, arms_defaults}
-use Rattle.edd_image.specs.Agreement.{string_of_table}
+use Rattle.edd_instructions.specs.Agreement.{string_of_table}
 use Rattle.edd_code.specs.Blocks.{Block}
 use Rattle.edd_attrs.specs.Records.{strings_of_record, strings_of}
 use Rattle.edd_attrs.specs.TreeBlocks.{IsCondBlock, IsCondsBlock, IsArmsBlock, IsDefaultBlock, IsLineBlock, IsRecordBlock, Giving}

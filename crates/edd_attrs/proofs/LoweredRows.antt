@@ -20,14 +20,14 @@ use Rattle.edd_syntax.specs.AttributeValue.{Trapping}
 use Rattle.edd_syntax.specs.Attributes as source
 use Rattle.edd_syntax.specs.WellFormed.{is_text, is_cond, are_conds}
 use Rattle.edd_syntax.proofs.WithinLimits.{few_when_checked}
-use Rattle.edd_image.specs.declared.records.Record.{Record}
-use Rattle.edd_image.specs.declared.instruction.Instruction.TheVariants as instruction
-use Rattle.edd_image.specs.declared.unit.Sort.TheVariants.{Attribute}
-use Rattle.edd_image.specs.Spelling.{spelling}
-use Rattle.edd_image.specs.Units.{IsValidUnit}
-use Rattle.edd_image.specs.Reading.{given_within}
-use Rattle.edd_image.specs.Steps.{opening}
-use Rattle.edd_image.specs.Agreement.{machine_of, SameRun, UnitMeans, IsAttributeCode, string_of_table, attribute_context, tree_meaning}
+use Rattle.edd_instructions.specs.declared.records.Record.{Record}
+use Rattle.edd_instructions.specs.declared.instruction.Instruction.TheVariants as instruction
+use Rattle.edd_instructions.specs.declared.unit.Sort.TheVariants.{Attribute}
+use Rattle.edd_instructions.specs.Spelling.{spelling}
+use Rattle.edd_instructions.specs.Units.{IsValidUnit}
+use Rattle.edd_instructions.specs.Reading.{given_within}
+use Rattle.edd_instructions.specs.Steps.{opening}
+use Rattle.edd_instructions.specs.Agreement.{machine_of, SameRun, UnitMeans, IsAttributeCode, string_of_table, attribute_context, tree_meaning}
 use Rattle.edd_code.specs.Blocks.{Block, size, bytes_at, unit_code}
 use Rattle.edd_code.specs.Outcomes.{does}
 use Rattle.edd_code.proofs.BlockBytes.{lengths}

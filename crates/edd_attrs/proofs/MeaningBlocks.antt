@@ -13,10 +13,10 @@ use Rattle.edd_syntax.specs.Device as device
 use Rattle.edd_syntax.specs.Words.{Words}
 use Rattle.edd_syntax.specs.Attributes as source
 use Rattle.edd_syntax.specs.WellFormed.{is_pure_expr, is_cond, are_conds, are_arms, is_label}
-use Rattle.edd_image.specs.declared.records.Record.{Record}
-use Rattle.edd_image.specs.declared.instruction.Instruction.TheVariants as instruction
-use Rattle.edd_image.specs.Steps.{Environment, act}
-use Rattle.edd_image.specs.Agreement.{SameRecords}
+use Rattle.edd_instructions.specs.declared.records.Record.{Record}
+use Rattle.edd_instructions.specs.declared.instruction.Instruction.TheVariants as instruction
+use Rattle.edd_instructions.specs.Steps.{Environment, act}
+use Rattle.edd_instructions.specs.Agreement.{SameRecords}
 use Rattle.edd_code.specs.Blocks as block
 use Rattle.edd_code.specs.Blocks.{Block}
 use Rattle.edd_code.specs.Outcomes.{Outcome, Goes, Traps, Stuck, behind, and_then, does}

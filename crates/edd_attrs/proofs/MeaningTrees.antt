@@ -19,9 +19,9 @@ use Rattle.edd_syntax.specs.Size.{leaf, height, cond_height, conds_height}
 use Rattle.edd_syntax.specs.SubsetRules.{values_in, values_of, cond_defaults, conds_defaults}
 use Rattle.edd_syntax.specs.Strings.{strings_of_texts, enumerator_texts, entry_texts}
 use Rattle.edd_syntax.specs.WellFormed.{is_text, is_cond, are_conds, is_single}
-use Rattle.edd_image.specs.declared.instruction.Instruction.TheVariants as instruction
-use Rattle.edd_image.specs.Steps.{Environment, act}
-use Rattle.edd_image.specs.Agreement.{string_of_table}
+use Rattle.edd_instructions.specs.declared.instruction.Instruction.TheVariants as instruction
+use Rattle.edd_instructions.specs.Steps.{Environment, act}
+use Rattle.edd_instructions.specs.Agreement.{string_of_table}
 use Rattle.edd_code.specs.Blocks as block
 use Rattle.edd_code.specs.Blocks.{Block}
 use Rattle.edd_code.specs.Outcomes.{and_then, does}

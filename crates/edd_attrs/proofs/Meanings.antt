@@ -14,7 +14,7 @@ use Rattle.edd_syntax.specs.Numbers.{same_attr}
 use Rattle.edd_syntax.specs.Device.{Environment, environment, item_at}
 use Rattle.edd_syntax.specs.Attributes as source
 use Rattle.edd_syntax.specs.Attributes.{Meaning, constant, one, list, texts, expressions, handling_number, operation_number, bit, enumerator, entry, data_item, response, member, element, written_number, elements, of_part, of_parts, of_attribute, of_attributes, of_transaction_part, transactions, meaning_of, is_of_transaction}
-use Rattle.edd_image.specs.Agreement.{item_meaning, tree_meaning}
+use Rattle.edd_instructions.specs.Agreement.{item_meaning, tree_meaning}
 use Rattle.edd_attrs.specs.Trees.{Tree, Texts, Class, Handling, Validity, Expressions, Enumerators, Number, Operation, Transaction, Data, ResponseCodes, Items, Members, Elements, Named, trees_of_part, trees_of_parts, trees_of_attribute, trees_of, tree_of_transaction_part, transaction_trees, first_tree, tree_in, tree_at}
 
 module _ (env : Environment) where

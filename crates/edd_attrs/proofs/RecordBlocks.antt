@@ -8,12 +8,12 @@ use Rattle.edd_syntax.specs.Item.{Description}
 use Rattle.edd_syntax.specs.Resolution.{count_of}
 use Rattle.edd_syntax.specs.Words.{Words}
 use Rattle.edd_syntax.specs.Attributes as source
-use Rattle.edd_image.specs.declared.records.Record.{Record}
-use Rattle.edd_image.specs.declared.records.Record.TheVariants as records
-use Rattle.edd_image.specs.declared.instruction.Instruction.{Instruction}
-use Rattle.edd_image.specs.Spelling.{IsSpelled}
-use Rattle.edd_image.specs.Steps.{Environment, act}
-use Rattle.edd_image.specs.Agreement.{SameRecord, string_of_table, attribute_context}
+use Rattle.edd_instructions.specs.declared.records.Record.{Record}
+use Rattle.edd_instructions.specs.declared.records.Record.TheVariants as records
+use Rattle.edd_instructions.specs.declared.instruction.Instruction.{Instruction}
+use Rattle.edd_instructions.specs.Spelling.{IsSpelled}
+use Rattle.edd_instructions.specs.Steps.{Environment, act}
+use Rattle.edd_instructions.specs.Agreement.{SameRecord, string_of_table, attribute_context}
 use Rattle.edd_code.specs.Blocks.{Block, size}
 use Rattle.edd_code.specs.Flow.{AreSpelled, Flows, all_straight, depth_after, may_stand}
 use Rattle.edd_code.specs.Outcomes.{Goes, does}

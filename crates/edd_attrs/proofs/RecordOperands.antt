@@ -23,12 +23,12 @@ use Rattle.edd_syntax.specs.Item.{Description}
 use Rattle.edd_syntax.specs.Resolution.{count_of}
 use Rattle.edd_syntax.specs.Attributes as source
 use Rattle.edd_syntax.specs.Attributes.{bit, menu_bits, data_bits}
-use Rattle.edd_image.specs.declared.records.Record.{Record}
-use Rattle.edd_image.specs.declared.records.Record.TheVariants as records
-use Rattle.edd_image.specs.declared.unit.Context.{Context}
-use Rattle.edd_image.specs.Spelling.{IsListed, IsSpelled, IsOptional}
-use Rattle.edd_image.specs.References.{item_exists, variable_exists, optional_string_exists}
-use Rattle.edd_image.specs.Agreement.{class_number, mask_number, IsString, IsOptionalString, SameRecord, string_of_table, attribute_context}
+use Rattle.edd_instructions.specs.declared.records.Record.{Record}
+use Rattle.edd_instructions.specs.declared.records.Record.TheVariants as records
+use Rattle.edd_instructions.specs.declared.unit.Context.{Context}
+use Rattle.edd_instructions.specs.Spelling.{IsListed, IsSpelled, IsOptional}
+use Rattle.edd_image.specs.Existing.{item_exists, variable_exists, optional_string_exists}
+use Rattle.edd_instructions.specs.Agreement.{class_number, mask_number, IsString, IsOptionalString, SameRecord, string_of_table, attribute_context}
 use Rattle.edd_code.specs.Flow.{may_stand}
 use Rattle.edd_attrs.specs.Code.{giving}
 use Rattle.edd_attrs.specs.Records.{is_number, is_label, is_listed, counts_in, is_fine}

@@ -6,8 +6,8 @@ use Rattle.std.proofs.lemmas.List.Elements.{Contains-append_cases}
 use Rattle.edd_syntax.specs.declared.numbers.StrNo.{StrNo}
 use Rattle.edd_syntax.specs.Words.{Words}
 use Rattle.edd_syntax.specs.Attributes as source
-use Rattle.edd_image.specs.declared.records.Record.{Record}
-use Rattle.edd_image.specs.Agreement.{SameRecord, IsString, IsOptionalString, string_of_table}
+use Rattle.edd_instructions.specs.declared.records.Record.{Record}
+use Rattle.edd_instructions.specs.Agreement.{SameRecord, IsString, IsOptionalString, string_of_table}
 use Rattle.std.proofs.lemmas.Option.{get_or_from_slice_get, slice_get_within}
 use Rattle.edd_attrs.specs.Records.{strings_of_record}
 

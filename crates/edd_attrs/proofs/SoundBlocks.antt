@@ -7,11 +7,11 @@ use Rattle.edd_syntax.specs.Expression.{Expr}
 use Rattle.edd_syntax.specs.Conditional.{Cond, Value, If, Select, Conds, Nil, Cons, Arms, NoArms, ConsArm, Case, Default}
 use Rattle.edd_syntax.specs.Size.{nodes, height, cond_nodes, conds_nodes, arms_nodes, cond_height, conds_height, arms_height}
 use Rattle.edd_syntax.specs.WellFormed.{is_label, is_pure_expr, is_cond, are_conds, are_arms}
-use Rattle.edd_image.specs.declared.instruction.Instruction.TheVariants as instruction
-use Rattle.edd_image.specs.declared.unit.Context.{Context}
-use Rattle.edd_image.specs.declared.unit.Sort.{Sort}
-use Rattle.edd_image.specs.declared.unit.Sort.TheVariants.{Attribute, Method}
-use Rattle.edd_image.specs.Units.{is_allowed}
+use Rattle.edd_instructions.specs.declared.instruction.Instruction.TheVariants as instruction
+use Rattle.edd_instructions.specs.declared.unit.Context.{Context}
+use Rattle.edd_instructions.specs.declared.unit.Sort.{Sort}
+use Rattle.edd_instructions.specs.declared.unit.Sort.TheVariants.{Attribute, Method}
+use Rattle.edd_instructions.specs.Units.{is_allowed}
 use Rattle.edd_code.specs.Blocks as block
 use Rattle.edd_code.specs.Blocks.{Block, size}
 use Rattle.edd_code.specs.Flow.{AreSpelled, Flows, all_straight, depth_after, may_stand}

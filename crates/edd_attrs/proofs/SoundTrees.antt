@@ -25,9 +25,9 @@ use Rattle.edd_syntax.specs.Attributes.{bit, handling_number, operation_number, 
 use Rattle.edd_syntax.specs.Size.{leaf, height, nodes, cond_nodes, conds_nodes, cond_height, conds_height}
 use Rattle.edd_syntax.specs.SubsetRules.{values_of, conds_defaults}
 use Rattle.edd_syntax.specs.WellFormed.{is_text, if_some, is_pure_expr, is_cond, are_conds, is_single}
-use Rattle.edd_image.specs.declared.instruction.Instruction.TheVariants as instruction
-use Rattle.edd_image.specs.declared.unit.Context.{Context}
-use Rattle.edd_image.specs.Agreement.{string_of_table, attribute_context}
+use Rattle.edd_instructions.specs.declared.instruction.Instruction.TheVariants as instruction
+use Rattle.edd_instructions.specs.declared.unit.Context.{Context}
+use Rattle.edd_instructions.specs.Agreement.{string_of_table, attribute_context}
 use Rattle.edd_code.specs.Blocks as block
 use Rattle.edd_code.specs.Blocks.{Block, size}
 use Rattle.edd_code.specs.Flow.{AreSpelled, Flows, all_straight, depth_after, may_stand}

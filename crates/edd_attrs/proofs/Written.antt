@@ -12,12 +12,12 @@ use Rattle.edd_syntax.specs.Attributes as source
 use Rattle.edd_syntax.specs.Attributes.{menu_bits, data_bits}
 use Rattle.edd_syntax.specs.Expression.{Expr}
 use Rattle.edd_syntax.specs.Words.{Words}
-use Rattle.edd_image.specs.declared.records.Record.{Record}
-use Rattle.edd_image.specs.declared.records.Record.TheVariants as records
-use Rattle.edd_image.specs.declared.instruction.Instruction.{Instruction}
-use Rattle.edd_image.specs.declared.instruction.Instruction.TheVariants as instruction
-use Rattle.edd_image.specs.Spelling.{spelling}
-use Rattle.edd_image.specs.Agreement.{class_number, mask_number, SameRecord, string_of_table}
+use Rattle.edd_instructions.specs.declared.records.Record.{Record}
+use Rattle.edd_instructions.specs.declared.records.Record.TheVariants as records
+use Rattle.edd_instructions.specs.declared.instruction.Instruction.{Instruction}
+use Rattle.edd_instructions.specs.declared.instruction.Instruction.TheVariants as instruction
+use Rattle.edd_instructions.specs.Spelling.{spelling}
+use Rattle.edd_instructions.specs.Agreement.{class_number, mask_number, SameRecord, string_of_table}
 use Rattle.edd_code.specs.Blocks.{Block, Nothing, Straight, Then, bytes_at}
 use Rattle.edd_code.specs.Expressions.{expression_block}
 use Rattle.edd_code.proofs.Closing.{nothing_written, straight_written, then_written}

@@ -1,9 +1,9 @@
 -- The instructions that give a record.
 use Rattle.std.specs.Prelude.{List, [], ◌∷◌, unsigned_abs}
-use Rattle.edd_image.specs.declared.records.Record.{Record}
-use Rattle.edd_image.specs.declared.records.Record.TheVariants as records
-use Rattle.edd_image.specs.declared.instruction.Instruction.{Instruction}
-use Rattle.edd_image.specs.declared.instruction.Instruction.TheVariants as instruction
+use Rattle.edd_instructions.specs.declared.records.Record.{Record}
+use Rattle.edd_instructions.specs.declared.records.Record.TheVariants as records
+use Rattle.edd_instructions.specs.declared.instruction.Instruction.{Instruction}
+use Rattle.edd_instructions.specs.declared.instruction.Instruction.TheVariants as instruction
 
 -- the instructions that give a record; the numbers of an attribute are not negative
 abbrev pub giving : Record → List Instruction

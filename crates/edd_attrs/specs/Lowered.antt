@@ -1,7 +1,7 @@
 -- What lowering an attribute results in.
 use Rattle.std.specs.Prelude.{◌≡◌, ℕ, List, ◌++◌, Option}
 use Rattle.edd_syntax.specs.Words.{Words}
-use Rattle.edd_image.specs.Agreement.{string_of_table}
+use Rattle.edd_instructions.specs.Agreement.{string_of_table}
 use Rattle.edd_code.specs.Blocks.{Block, unit_code}
 use Rattle.edd_code.specs.Tables.{GrowsBy, Overflows}
 use Rattle.edd_attrs.specs.Sizes.{strings_of_tree}

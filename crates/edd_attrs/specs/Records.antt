@@ -9,8 +9,8 @@ use Rattle.edd_syntax.specs.declared.types.Handling as handling
 use Rattle.edd_syntax.specs.Item as item
 use Rattle.edd_syntax.specs.Item.{DataItem, MenuEntry, Description}
 use Rattle.edd_image.specs.declared.parts.Counts.{Counts}
-use Rattle.edd_image.specs.References.{item_exists, variable_exists}
-use Rattle.edd_image.specs.Agreement.{mask_number, counts_of}
+use Rattle.edd_image.specs.Existing.{item_exists, variable_exists}
+use Rattle.edd_instructions.specs.Agreement.{mask_number, counts_of}
 use Rattle.edd_syntax.specs.Text.{Text, Name}
 use Rattle.edd_syntax.specs.Words as words
 use Rattle.edd_syntax.specs.Words.{words_of, name_words}

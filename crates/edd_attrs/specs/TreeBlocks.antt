@@ -9,10 +9,10 @@ use Rattle.edd_syntax.specs.Item.{TypePart}
 use Rattle.edd_syntax.specs.Words.{Words}
 use Rattle.edd_syntax.specs.Attributes as source
 use Rattle.edd_syntax.specs.Attributes.{operation_number, enumerator, data_item, response, entry, member, element}
-use Rattle.edd_image.specs.declared.records.Record.{Record}
-use Rattle.edd_image.specs.declared.instruction.Instruction.{Instruction}
-use Rattle.edd_image.specs.declared.instruction.Instruction.TheVariants as instruction
-use Rattle.edd_image.specs.Agreement.{SameRecord}
+use Rattle.edd_instructions.specs.declared.records.Record.{Record}
+use Rattle.edd_instructions.specs.declared.instruction.Instruction.{Instruction}
+use Rattle.edd_instructions.specs.declared.instruction.Instruction.TheVariants as instruction
+use Rattle.edd_instructions.specs.Agreement.{SameRecord}
 use Rattle.edd_code.specs.Blocks as block
 use Rattle.edd_code.specs.Blocks.{Block}
 use Rattle.edd_code.specs.Expressions.{expression_block}

@@ -10,9 +10,9 @@ use Rattle.edd_syntax.specs.Attributes as source
 use Rattle.edd_syntax.specs.Attributes.{enumerator}
 use Rattle.edd_syntax.specs.Item as item
 use Rattle.edd_syntax.specs.Item.{Enumerator, TypePart}
-use Rattle.edd_image.specs.Agreement.{string_of_table}
-use Rattle.edd_image.specs.declared.instruction.Instruction.TheVariants as instruction
-use Rattle.edd_image.specs.Spelling.{spelling}
+use Rattle.edd_instructions.specs.Agreement.{string_of_table}
+use Rattle.edd_instructions.specs.declared.instruction.Instruction.TheVariants as instruction
+use Rattle.edd_instructions.specs.Spelling.{spelling}
 use Rattle.edd_code.specs.Blocks.{Block, bytes_at}
 use Rattle.edd_code.specs.Closing.{closed}
 use Rattle.edd_code.specs.Tables.{GrowsBy}

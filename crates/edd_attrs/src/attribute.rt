@@ -4,7 +4,7 @@ ghost use Rattle.std.specs.Prelude.{◌≡◌, ◌↔◌, ◌⊎◌, ◌≤◌, 
 ghost use Rattle.std.specs.List.{Contains};
 ghost use Rattle.edd_syntax.specs.Strings.{different};
 ghost use Rattle.edd_syntax.specs.Words.{Words};
-ghost use Rattle.edd_image.specs.Agreement.{IsAttributeCode};
+ghost use Rattle.edd_instructions.specs.Agreement.{IsAttributeCode};
 ghost use Rattle.edd_code.specs.Tables.{Grows};
 ghost use Rattle.edd_attrs.specs.Sizes.{strings_at, length_limit};
 ghost use Rattle.edd_attrs.specs.Trees as trees;

@@ -14,7 +14,7 @@ ghost use Rattle.edd_attrs.specs.Writing.{WritesArm, WritesArms, WritesBody, arm
 
 use crate::elements::Element;
 use edd_code::{LowerFault, close, open, put, write_expression};
-use edd_image::{Emitter, Hole, Instruction, Jump};
+use edd_instructions::{Emitter, Hole, Instruction, Jump};
 use edd_strings::Table;
 use edd_syntax::cond::{Arm, Cond};
 use edd_syntax::expr::Expr;

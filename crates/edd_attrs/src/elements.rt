@@ -14,7 +14,7 @@ ghost use Rattle.edd_syntax.specs.TreeView.{numbered_expr};
 ghost use Rattle.edd_syntax.specs.WellFormed.{is_text};
 ghost use Rattle.edd_syntax.specs.Words.{Words};
 ghost use Rattle.edd_syntax.specs.WordsView.{text_of};
-ghost use Rattle.edd_image.specs.Agreement as agreement;
+ghost use Rattle.edd_instructions.specs.Agreement as agreement;
 ghost use Rattle.edd_code.specs.Blocks.{Block};
 ghost use Rattle.edd_code.specs.Tables.{Grows, Overflows};
 ghost use Rattle.edd_code.specs.Written.{WritesBlock};
@@ -23,7 +23,7 @@ ghost use Rattle.edd_attrs.specs.TreeBlocks.{Giving, IsValueBlock};
 ghost use Rattle.edd_attrs.specs.Writing.{WritesRecord};
 
 use edd_code::{LowerFault, add_name, add_optional, add_text, put, write_expression};
-use edd_image::{Emitter, Instruction};
+use edd_instructions::{Emitter, Instruction};
 use edd_strings::Table;
 use edd_syntax::expr::Expr;
 use edd_syntax::item::{

@@ -8,7 +8,7 @@ ghost use Rattle.edd_attrs.specs.TreeBlocks.{IsLineBlock};
 
 use crate::elements::Element;
 use edd_code::LowerFault;
-use edd_image::Emitter;
+use edd_instructions::Emitter;
 use edd_strings::Table;
 use std::alloc::Global;
 

@@ -22,7 +22,7 @@ use crate::elements::write_number;
 use crate::lists::write_all;
 use crate::trees::Tree;
 use edd_code::{LowerFault, put};
-use edd_image::{Emitter, Instruction};
+use edd_instructions::{Emitter, Instruction};
 use edd_strings::Table;
 use edd_syntax::item::TypePart;
 use edd_syntax::reference::Target;

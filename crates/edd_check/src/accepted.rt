@@ -4,9 +4,9 @@ use crate::choices::{Choices, Level};
 use crate::reports::Reports;
 use edd_compiler::checked_of;
 use edd_lexer::token::Token;
-use edd_places::diagnostic::{Diagnostic, Finding};
-use edd_places::words::{Span, span_of, tokens_before, word_of};
 use edd_repairs::tokens_of;
+use edd_reports::diagnostic::{Diagnostic, Finding};
+use edd_reports::words::{Span, span_of, tokens_before, word_of};
 use edd_warnings::{Warning, warnings};
 use std::alloc::{AllocError, Global};
 

@@ -11,10 +11,12 @@ mod choices;
 mod grammar;
 mod refusals;
 mod reports;
+mod rules;
+mod sources;
 
 pub use choices::{Choices, Level};
 use edd_compiler::{Fault, compile};
-use edd_places::lines::Lines;
+use edd_reports::lines::Lines;
 use edd_reports::{Source, print_diagnostic, print_more};
 pub use edd_reports::{Format, ReportFault};
 pub use edd_warnings::{LINTS, Lint};

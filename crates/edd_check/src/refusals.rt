@@ -2,12 +2,13 @@
 
 use crate::grammar::Compiler;
 use crate::reports::Reports;
+use crate::rules::diagnostic;
+use crate::sources::Source;
 use edd_breaches::{Breach, breaches};
 use edd_compiler::{Fault, unit_of};
 use edd_lexer::token::Token;
-use edd_places::diagnostic::{Diagnostic, Finding};
 use edd_repairs::{LaterFault, TextFault, explained, found_in, later_faults, tokens_of};
-use edd_rule_reports::{Source, diagnostic};
+use edd_reports::diagnostic::{Diagnostic, Finding};
 use std::alloc::{AllocError, Global};
 
 // Shows the faults of later items.

@@ -1,6 +1,6 @@
 //! What is shown of a source.
 
-use edd_places::diagnostic::Diagnostic;
+use edd_reports::diagnostic::Diagnostic;
 use std::alloc::{AllocError, Global};
 
 /// The most that is shown of a source.

@@ -7,7 +7,7 @@ use Rattle.edd_syntax.specs.declared.reference.Target.TheVariants.{Function}
 use Rattle.edd_syntax.specs.Expression.{Call, Nil}
 use Rattle.edd_syntax.specs.SubsetRules.{is_abort}
 use Rattle.edd_syntax.specs.Words.{Words}
-use Rattle.edd_image.specs.declared.instruction.Instruction.TheVariants as instruction
+use Rattle.edd_instructions.specs.declared.instruction.Instruction.TheVariants as instruction
 use Rattle.edd_code.specs.Blocks.{Straight}
 use Rattle.edd_code.specs.MethodExpressions.{method_block, call_block}
 

@@ -2,8 +2,8 @@
 use Rattle.std.proofs.Common.{◌≡◌, sym, ap, ◌∙◌, ℕ, ◌+◌, ◌-◌, ◌<◌, ◌≤◌, Bool, true, false, arith}
 use Rattle.std.specs.Prelude.{nat_lt}
 use Rattle.std.proofs.lemmas.Bool.{lt-ltb, le-ltb}
-use Rattle.edd_image.specs.declared.unit.Sort.{Sort}
-use Rattle.edd_image.specs.declared.unit.Version.{Version}
+use Rattle.edd_instructions.specs.declared.unit.Sort.{Sort}
+use Rattle.edd_image.specs.declared.versions.Version.{Version}
 use Rattle.edd_code.specs.Blocks.{Block, Nothing, Straight, Then, WhenNotZero, WhenZero, Either, Match, size}
 use Rattle.edd_code.specs.Flow.{FlowsIn, depth_after}
 use Rattle.edd_code.proofs.Lines.{spelling_not_empty}

@@ -6,14 +6,14 @@ use Rattle.std.specs.List.{AllByRecursion, list_all, list_any}
 use Rattle.std.specs.Option.{option_map_or}
 use Rattle.std.proofs.lemmas.Bool.Decides.{nat_tests}
 use Rattle.std.proofs.lemmas.Bool.{lt-ltb, and_parts, or_left, or_right}
-use Rattle.edd_image.specs.declared.instruction.Instruction.{Instruction}
-use Rattle.edd_image.specs.declared.instruction.Instruction.TheVariants as instruction
-use Rattle.edd_image.specs.declared.unit.Sort.{Sort}
-use Rattle.edd_image.specs.declared.unit.Sort.TheVariants.{Attribute, Method}
-use Rattle.edd_image.specs.declared.unit.Version.{Version}
-use Rattle.edd_image.specs.declared.unit.Way.{Way}
-use Rattle.edd_image.specs.Spelling.{spelling}
-use Rattle.edd_image.specs.Units.{Placed, takes, leaves, jump, ways, is_allowed, is_start, is_forward, leads_to, IsFresh}
+use Rattle.edd_instructions.specs.declared.instruction.Instruction.{Instruction}
+use Rattle.edd_instructions.specs.declared.instruction.Instruction.TheVariants as instruction
+use Rattle.edd_instructions.specs.declared.unit.Sort.{Sort}
+use Rattle.edd_instructions.specs.declared.unit.Sort.TheVariants.{Attribute, Method}
+use Rattle.edd_image.specs.declared.versions.Version.{Version}
+use Rattle.edd_instructions.specs.declared.unit.Way.{Way}
+use Rattle.edd_instructions.specs.Spelling.{spelling}
+use Rattle.edd_instructions.specs.Units.{Placed, takes, leaves, jump, ways, is_allowed, is_start, is_forward, leads_to, IsFresh}
 use Rattle.edd_code.specs.Blocks.{Block, Nothing, Straight, Then, WhenNotZero, WhenZero, Either, Match, size}
 use Rattle.edd_code.specs.Flow.{FlowsIn, depth_after, left_of, is_straight_in}
 use Rattle.edd_code.proofs.Lines.{spelling_not_empty}

@@ -5,11 +5,11 @@ use Rattle.std.specs.List.{AllByRecursion}
 use Rattle.edd_syntax.specs.declared.numbers.StrNo.{StrNo}
 use Rattle.edd_syntax.specs.Words.{Words}
 use Rattle.edd_syntax.specs.MethodState.{State}
-use Rattle.edd_image.specs.declared.instruction.Instruction.{Instruction}
-use Rattle.edd_image.specs.Spelling.{spelling}
-use Rattle.edd_image.specs.Steps.{Environment}
-use Rattle.edd_image.specs.Units.{Placed}
-use Rattle.edd_image.proofs.Spelled.{stands_where_spelled}
+use Rattle.edd_instructions.specs.declared.instruction.Instruction.{Instruction}
+use Rattle.edd_instructions.specs.Spelling.{spelling}
+use Rattle.edd_instructions.specs.Steps.{Environment}
+use Rattle.edd_instructions.specs.Units.{Placed}
+use Rattle.edd_instructions.proofs.Spelled.{stands_where_spelled}
 use Rattle.edd_code.specs.Blocks.{Block, bytes_of, bytes_at, emitted, size}
 use Rattle.edd_code.specs.Flow.{AreSpelled}
 use Rattle.edd_code.specs.MethodEffects.{does, CanBeTaken, Comes}

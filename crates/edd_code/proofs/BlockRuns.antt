@@ -5,16 +5,16 @@ use Rattle.std.specs.Ordering.{int_eq}
 use Rattle.edd_syntax.specs.declared.answer.Trap.{Trap}
 use Rattle.edd_syntax.specs.Elements.{element_value}
 use Rattle.edd_syntax.specs.TwosComplement.{operate, is_zero}
-use Rattle.edd_image.specs.declared.records.Record.{Record}
-use Rattle.edd_image.specs.declared.records.Emitted.TheVariants as emitted
-use Rattle.edd_image.specs.declared.records.Status.TheVariants.{Trapped}
-use Rattle.edd_image.specs.declared.instruction.Instruction.{Instruction}
-use Rattle.edd_image.specs.declared.instruction.Instruction.TheVariants as instruction
-use Rattle.edd_image.specs.Decoding.{instruction_at}
-use Rattle.edd_image.specs.Spelling.{spelling}
-use Rattle.edd_image.specs.Steps.{State, Environment, act, step, give, go, stop, push_or_trap}
-use Rattle.edd_image.specs.Reading.{given_within, with_record}
-use Rattle.edd_image.specs.Units.{Placed}
+use Rattle.edd_instructions.specs.declared.records.Record.{Record}
+use Rattle.edd_instructions.specs.declared.records.Emitted.TheVariants as emitted
+use Rattle.edd_instructions.specs.declared.records.Status.TheVariants.{Trapped}
+use Rattle.edd_instructions.specs.declared.instruction.Instruction.{Instruction}
+use Rattle.edd_instructions.specs.declared.instruction.Instruction.TheVariants as instruction
+use Rattle.edd_instructions.specs.Decoding.{instruction_at}
+use Rattle.edd_instructions.specs.Spelling.{spelling}
+use Rattle.edd_instructions.specs.Steps.{State, Environment, act, step, give, go, stop, push_or_trap}
+use Rattle.edd_instructions.specs.Reading.{given_within, with_record}
+use Rattle.edd_instructions.specs.Units.{Placed}
 use Rattle.edd_code.specs.Blocks.{Block, Nothing, Straight, Then, WhenNotZero, WhenZero, Either, Match, size}
 use Rattle.edd_code.specs.Flow.{Flows, depth_after, is_straight}
 use Rattle.edd_code.specs.Outcomes.{Outcome, Goes, Traps, Stuck, behind, and_then, at, outcome_of, does_one, does}

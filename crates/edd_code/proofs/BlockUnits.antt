@@ -4,15 +4,15 @@ use Rattle.std.specs.Prelude.{◌&&◌, is_some, is_none}
 use Rattle.std.specs.List.{AllByRecursion, list_all}
 use Rattle.std.proofs.lemmas.Bool.Decides.{nat_tests}
 use Rattle.std.proofs.lemmas.Bool.{lt-ltb, and_parts, and_from}
-use Rattle.edd_image.specs.declared.instruction.Instruction.{Instruction}
-use Rattle.edd_image.specs.declared.instruction.Instruction.TheVariants as instruction
-use Rattle.edd_image.specs.declared.unit.Context.{Context}
-use Rattle.edd_image.specs.declared.unit.Sort.{Sort}
-use Rattle.edd_image.specs.declared.unit.Sort.TheVariants.{Attribute, Method}
-use Rattle.edd_image.specs.declared.unit.Version.{Version}
-use Rattle.edd_image.specs.References.{names_exist}
-use Rattle.edd_image.specs.Spelling.{spelling}
-use Rattle.edd_image.specs.Units.{Placed, instructions, end_of, leaves, jump, ways, is_allowed, is_chain, is_start, is_forward, lands, all_land, AreDepths, HasDepths, all_exist, IsValidUnit}
+use Rattle.edd_instructions.specs.declared.instruction.Instruction.{Instruction}
+use Rattle.edd_instructions.specs.declared.instruction.Instruction.TheVariants as instruction
+use Rattle.edd_instructions.specs.declared.unit.Context.{Context}
+use Rattle.edd_instructions.specs.declared.unit.Sort.{Sort}
+use Rattle.edd_instructions.specs.declared.unit.Sort.TheVariants.{Attribute, Method}
+use Rattle.edd_image.specs.declared.versions.Version.{Version}
+use Rattle.edd_instructions.specs.References.{names_exist}
+use Rattle.edd_instructions.specs.Spelling.{spelling}
+use Rattle.edd_instructions.specs.Units.{Placed, instructions, end_of, leaves, jump, ways, is_allowed, is_chain, is_start, is_forward, lands, all_land, AreDepths, HasDepths, all_exist, IsValidUnit}
 use Rattle.edd_code.specs.Blocks.{Block, Nothing, Straight, Then, WhenNotZero, WhenZero, Either, Match, size, emitted, bytes_of, bytes_at, unit_code}
 use Rattle.edd_code.specs.Flow.{AreSpelled, FlowsIn, all_straight, depth_after}
 use Rattle.edd_code.proofs.Lines.{placed, bytes_of-append, instructions_are, end_is}

@@ -22,14 +22,14 @@ use Rattle.edd_syntax.specs.Elements.{element_value, item_element}
 use Rattle.edd_syntax.specs.Evaluation.{increment}
 use Rattle.edd_syntax.specs.TwosComplement.{wrap, truth, is_zero, apply, operate, compare}
 use Rattle.edd_syntax.specs.Words.{Words}
-use Rattle.edd_image.specs.declared.instruction.Instruction.TheVariants as instruction
-use Rattle.edd_image.specs.Steps.{act}
+use Rattle.edd_instructions.specs.declared.instruction.Instruction.TheVariants as instruction
+use Rattle.edd_instructions.specs.Steps.{act}
 use Rattle.edd_code.specs.Blocks.{Block, Straight, Then, WhenNotZero, WhenZero, Either}
 use Rattle.edd_code.specs.Expressions.{no_value, item_block, item_element_block, element_block, no_element, unary_block, truth_block, then_test, instead}
 use Rattle.edd_code.specs.BlockEffects as blocks
 use Rattle.edd_code.specs.BlockEffects.{Outcome, Goes, Stops, Stuck, and_then}
 use Rattle.edd_code.specs.MethodEffects.{Halted, pushed, does}
-use Rattle.edd_image.specs.Agreement.{machine_of}
+use Rattle.edd_instructions.specs.Agreement.{machine_of}
 use Rattle.edd_code.specs.MethodExpressions.{load_block, store_block, store_next_block, store_behind_block, increment_block}
 
 -- a number that is 0

@@ -6,7 +6,7 @@ use Rattle.std.proofs.lemmas.List.Elements.{Contains-append_left, Contains-appen
 use Rattle.std.proofs.lemmas.List.Quantifiers.{all_pairs_push}
 use Rattle.edd_syntax.specs.declared.numbers.StrNo.{StrNo}
 use Rattle.edd_syntax.specs.Words.{Words}
-use Rattle.edd_image.specs.Agreement.{IsString, string_of_table}
+use Rattle.edd_instructions.specs.Agreement.{IsString, string_of_table}
 use Rattle.edd_strings.specs.Strings.{Adds}
 use Rattle.edd_code.specs.Tables.{AreDifferent, GrowsBy, Grows, Keeps, KeepsOptional, Overflows}
 

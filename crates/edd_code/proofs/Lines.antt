@@ -4,12 +4,12 @@ use Rattle.std.proofs.Common.{◌≡◌, refl, sym, ap, ◌∙◌, ℕ, zero, su
 use Rattle.std.specs.Prelude.{◌&&◌}
 use Rattle.std.specs.List.{AllByRecursion, list_all}
 use Rattle.std.proofs.lemmas.List.{drop_at}
-use Rattle.edd_image.specs.declared.instruction.Instruction.{Instruction}
-use Rattle.edd_image.specs.declared.instruction.Instruction.TheVariants as instruction
-use Rattle.edd_image.specs.Decoding.{instruction_from, instruction_at}
-use Rattle.edd_image.specs.Spelling.{spelling, IsSpelled}
-use Rattle.edd_image.specs.Units.{Placed, instructions_from, instructions, end_of}
-use Rattle.edd_image.proofs.Spelled.{stands_where_spelled}
+use Rattle.edd_instructions.specs.declared.instruction.Instruction.{Instruction}
+use Rattle.edd_instructions.specs.declared.instruction.Instruction.TheVariants as instruction
+use Rattle.edd_instructions.specs.Decoding.{instruction_from, instruction_at}
+use Rattle.edd_instructions.specs.Spelling.{spelling, IsSpelled}
+use Rattle.edd_instructions.specs.Units.{Placed, instructions_from, instructions, end_of}
+use Rattle.edd_instructions.proofs.Spelled.{stands_where_spelled}
 use Rattle.edd_code.specs.Blocks.{bytes_of}
 
 -- ---- the instructions that are spelled are those that are there

@@ -6,13 +6,13 @@ use Rattle.edd_syntax.specs.declared.numbers.StrNo.{StrNo}
 use Rattle.edd_syntax.specs.TwosComplement.{is_zero}
 use Rattle.edd_syntax.specs.Words.{Words}
 use Rattle.edd_syntax.specs.MethodState.{State}
-use Rattle.edd_image.specs.declared.instruction.Instruction.{Instruction}
-use Rattle.edd_image.specs.declared.instruction.Instruction.TheVariants as instruction
-use Rattle.edd_image.specs.Decoding.{instruction_at}
-use Rattle.edd_image.specs.Spelling.{spelling}
-use Rattle.edd_image.specs.Steps as machine
-use Rattle.edd_image.specs.Steps.{Environment, act, go}
-use Rattle.edd_image.specs.Units.{Placed}
+use Rattle.edd_instructions.specs.declared.instruction.Instruction.{Instruction}
+use Rattle.edd_instructions.specs.declared.instruction.Instruction.TheVariants as instruction
+use Rattle.edd_instructions.specs.Decoding.{instruction_at}
+use Rattle.edd_instructions.specs.Spelling.{spelling}
+use Rattle.edd_instructions.specs.Steps as machine
+use Rattle.edd_instructions.specs.Steps.{Environment, act, go}
+use Rattle.edd_instructions.specs.Units.{Placed}
 use Rattle.edd_code.specs.Blocks.{Block, Nothing, Straight, Then, WhenNotZero, WhenZero, Either, Match, size}
 use Rattle.edd_code.proofs.BlockPlaces.{stand, AllIn}
 use Rattle.edd_code.specs.BlockEffects as blocks

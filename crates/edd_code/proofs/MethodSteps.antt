@@ -8,19 +8,19 @@ use Rattle.edd_syntax.specs.Words.{Words}
 use Rattle.edd_syntax.specs.Answers.{Change, Answer, Go, Abort, values_set}
 use Rattle.edd_syntax.specs.MethodState as source
 use Rattle.edd_syntax.specs.MethodState.{apply_sets, ask, answered}
-use Rattle.edd_image.specs.declared.records.Request.{Request}
-use Rattle.edd_image.specs.declared.records.Emitted.{Emitted}
-use Rattle.edd_image.specs.declared.records.Emitted.TheVariants as emitted
-use Rattle.edd_image.specs.declared.records.Status.TheVariants.{Asking, Ended, Aborted, Trapped}
-use Rattle.edd_image.specs.declared.instruction.Instruction.{Instruction}
-use Rattle.edd_image.specs.Decoding.{instruction_at}
-use Rattle.edd_image.specs.Steps.{State, Environment, Effect, act, step}
-use Rattle.edd_image.specs.Execution as image
-use Rattle.edd_image.specs.Execution.{Outcome, OutOfSteps, Meeting, nothing_met, meet, closed, go_on, request_in, preceded, stepped, unchanged, execute_following, execute}
+use Rattle.edd_instructions.specs.declared.records.Request.{Request}
+use Rattle.edd_instructions.specs.declared.records.Emitted.{Emitted}
+use Rattle.edd_instructions.specs.declared.records.Emitted.TheVariants as emitted
+use Rattle.edd_instructions.specs.declared.records.Status.TheVariants.{Asking, Ended, Aborted, Trapped}
+use Rattle.edd_instructions.specs.declared.instruction.Instruction.{Instruction}
+use Rattle.edd_instructions.specs.Decoding.{instruction_at}
+use Rattle.edd_instructions.specs.Steps.{State, Environment, Effect, act, step}
+use Rattle.edd_instructions.specs.Execution as image
+use Rattle.edd_instructions.specs.Execution.{Outcome, OutOfSteps, Meeting, nothing_met, meet, closed, go_on, request_in, preceded, stepped, unchanged, execute_following, execute}
 use Rattle.edd_code.specs.BlockEffects.{Goes}
 use Rattle.edd_code.specs.Reports.{at, worded, behind, report}
 use Rattle.edd_code.specs.MethodEffects.{pushed, CanBeTaken, stopped, Comes}
-use Rattle.edd_image.proofs.Meetings.{waits, aborts, goes_on}
+use Rattle.edd_instructions.proofs.Meetings.{waits, aborts, goes_on}
 
 -- ---- the sets of an answer
 

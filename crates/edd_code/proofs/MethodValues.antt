@@ -21,13 +21,13 @@ use Rattle.edd_syntax.specs.Strings.{expr_texts, argument_texts}
 use Rattle.edd_syntax.specs.SubsetRules.{parameters, all_fit, call_breaches, call_mismatches, argument_mismatches}
 use Rattle.edd_syntax.specs.TwosComplement.{apply, operate, compare}
 use Rattle.edd_syntax.specs.Words.{Words, words_of}
-use Rattle.edd_image.specs.declared.instruction.Ask.TheVariants as ask
-use Rattle.edd_image.specs.declared.instruction.Instruction.TheVariants as instruction
-use Rattle.edd_image.specs.Steps.{act, go}
+use Rattle.edd_instructions.specs.declared.instruction.Ask.TheVariants as ask
+use Rattle.edd_instructions.specs.declared.instruction.Instruction.TheVariants as instruction
+use Rattle.edd_instructions.specs.Steps.{act, go}
 use Rattle.edd_code.specs.Blocks.{Block, Straight, Then, WhenNotZero, WhenZero, Either}
 use Rattle.edd_code.specs.Expressions.{no_value, element_block, unary_block, truth_block, then_test, instead}
 use Rattle.edd_code.specs.BlockEffects as blocks
-use Rattle.edd_image.specs.Agreement.{machine_of}
+use Rattle.edd_instructions.specs.Agreement.{machine_of}
 use Rattle.edd_code.specs.Reports.{at}
 use Rattle.edd_code.specs.MethodEffects.{pushed, when_known, outcome_of, unless_jump}
 use Rattle.edd_code.specs.MethodExpressions.{load_block, store_block, ask_block, method_block, call_block}

@@ -7,7 +7,7 @@ use Rattle.edd_syntax.specs.declared.reference.Target.TheVariants.{Local, Item, 
 use Rattle.edd_syntax.specs.Expression.{Expr, Literal, Decimal, Reference, Indexed, Parentheses, Unary, Binary, Compare, LogicalAnd, LogicalOr, Conditional, Assign, CompoundAssign, Increment, Call}
 use Rattle.edd_syntax.specs.WellFormed.{is_pure_expr}
 use Rattle.edd_syntax.specs.Words.{Words}
-use Rattle.edd_image.specs.declared.instruction.Instruction.TheVariants as instruction
+use Rattle.edd_instructions.specs.declared.instruction.Instruction.TheVariants as instruction
 use Rattle.edd_code.specs.Blocks.{Block, Straight, Then, WhenNotZero, WhenZero, Either}
 use Rattle.edd_code.specs.Expressions as attribute
 use Rattle.edd_code.specs.Expressions.{expression_block, element_block, unary_block, truth_block, then_test, instead}

@@ -9,14 +9,14 @@ use Rattle.edd_syntax.specs.Words.{Words}
 use Rattle.edd_syntax.specs.Answers.{Change}
 use Rattle.edd_syntax.specs.MethodState as source
 use Rattle.edd_syntax.specs.MethodState.{State}
-use Rattle.edd_image.specs.declared.records.Request.{Request}
-use Rattle.edd_image.specs.declared.records.Record.{Record}
-use Rattle.edd_image.specs.declared.records.Emitted.TheVariants as emitted
-use Rattle.edd_image.specs.declared.instruction.Ask.TheVariants as ask
-use Rattle.edd_image.specs.declared.instruction.Instruction.{Instruction}
-use Rattle.edd_image.specs.declared.instruction.Instruction.TheVariants as instruction
-use Rattle.edd_image.specs.Decoding.{instruction_at}
-use Rattle.edd_image.specs.Steps.{Environment, Effect, act, go, give, ask_for, push_or_trap}
+use Rattle.edd_instructions.specs.declared.records.Request.{Request}
+use Rattle.edd_instructions.specs.declared.records.Record.{Record}
+use Rattle.edd_instructions.specs.declared.records.Emitted.TheVariants as emitted
+use Rattle.edd_instructions.specs.declared.instruction.Ask.TheVariants as ask
+use Rattle.edd_instructions.specs.declared.instruction.Instruction.{Instruction}
+use Rattle.edd_instructions.specs.declared.instruction.Instruction.TheVariants as instruction
+use Rattle.edd_instructions.specs.Decoding.{instruction_at}
+use Rattle.edd_instructions.specs.Steps.{Environment, Effect, act, go, give, ask_for, push_or_trap}
 use Rattle.edd_syntax.specs.Elements.{element_value}
 use Rattle.edd_code.specs.BlockEffects.{Goes}
 use Rattle.edd_code.specs.Reports.{at, worded}

@@ -2,15 +2,15 @@
 use Rattle.std.proofs.Common.{◌≡◌, sym, ap, subst, ◌∙◌, ℕ, ◌+◌, ◌<◌, ◌^◌, ℤ, List, [], ◌∷◌, ◌++◌, length, Some, Ok, Err, append_assoc, length-append}
 use Rattle.std.specs.List.{AllByRecursion}
 use Rattle.edd_syntax.specs.declared.answer.Trap.{Trap}
-use Rattle.edd_image.specs.declared.records.Record.{Record}
-use Rattle.edd_image.specs.declared.instruction.Instruction.{Instruction}
-use Rattle.edd_image.specs.declared.unit.Sort.TheVariants.{Attribute}
-use Rattle.edd_image.specs.Decoding.{instruction_at}
-use Rattle.edd_image.specs.Spelling.{spelling}
-use Rattle.edd_image.specs.Steps.{Environment, opening}
-use Rattle.edd_image.specs.Reading.{given_within}
-use Rattle.edd_image.specs.Units.{Placed}
-use Rattle.edd_image.proofs.Spelled.{stands_where_spelled}
+use Rattle.edd_instructions.specs.declared.records.Record.{Record}
+use Rattle.edd_instructions.specs.declared.instruction.Instruction.{Instruction}
+use Rattle.edd_instructions.specs.declared.unit.Sort.TheVariants.{Attribute}
+use Rattle.edd_instructions.specs.Decoding.{instruction_at}
+use Rattle.edd_instructions.specs.Spelling.{spelling}
+use Rattle.edd_instructions.specs.Steps.{Environment, opening}
+use Rattle.edd_instructions.specs.Reading.{given_within}
+use Rattle.edd_instructions.specs.Units.{Placed}
+use Rattle.edd_instructions.proofs.Spelled.{stands_where_spelled}
 use Rattle.edd_code.specs.Blocks.{Block, size, bytes_of, unit_code}
 use Rattle.edd_code.specs.Flow.{AreSpelled, Flows}
 use Rattle.edd_code.specs.Outcomes.{Outcome, Goes, Traps, does}

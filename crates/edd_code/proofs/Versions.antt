@@ -12,17 +12,18 @@ use Rattle.edd_syntax.specs.Item.{Description}
 use Rattle.edd_syntax.specs.LayoutVersion.{body_names_it, needs_second_version}
 use Rattle.edd_syntax.specs.Resolution.{count_of}
 use Rattle.edd_syntax.specs.SubsetRules.{bodies_of}
-use Rattle.edd_image.specs.Agreement.{version_for}
-use Rattle.edd_image.specs.declared.instruction.Instruction.{Instruction}
-use Rattle.edd_image.specs.declared.instruction.Instruction.TheVariants as instruction
+use Rattle.edd_instructions.specs.Agreement.{version_for}
+use Rattle.edd_instructions.specs.declared.instruction.Instruction.{Instruction}
+use Rattle.edd_instructions.specs.declared.instruction.Instruction.TheVariants as instruction
 use Rattle.edd_image.specs.declared.parts.Counts.{Counts}
-use Rattle.edd_image.specs.declared.unit.Context.{Context}
-use Rattle.edd_image.specs.declared.unit.Sort.{Sort}
-use Rattle.edd_image.specs.declared.unit.Sort.TheVariants.{Attribute, Method}
-use Rattle.edd_image.specs.declared.unit.Version.{Version}
-use Rattle.edd_image.specs.declared.unit.Version.TheVariants.{One, Two}
-use Rattle.edd_image.specs.References.{array_exists, names_exist}
-use Rattle.edd_image.specs.Units.{is_allowed}
+use Rattle.edd_instructions.specs.declared.unit.Context.{Context}
+use Rattle.edd_instructions.specs.declared.unit.Sort.{Sort}
+use Rattle.edd_instructions.specs.declared.unit.Sort.TheVariants.{Attribute, Method}
+use Rattle.edd_image.specs.declared.versions.Version.{Version}
+use Rattle.edd_image.specs.declared.versions.Version.TheVariants.{One, Two}
+use Rattle.edd_image.specs.Existing.{array_exists}
+use Rattle.edd_instructions.specs.References.{names_exist}
+use Rattle.edd_instructions.specs.Units.{is_allowed}
 use Rattle.edd_code.specs.Blocks.{Block, Nothing, Straight, Then, WhenNotZero, WhenZero, Either, Match}
 use Rattle.edd_code.specs.Flow.{FlowsIn, all_straight, depth_after, may_stand}
 

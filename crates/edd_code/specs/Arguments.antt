@@ -7,7 +7,7 @@ use Rattle.edd_syntax.specs.declared.reference.Target.{Target}
 use Rattle.edd_syntax.specs.declared.reference.Target.TheVariants.{Item}
 use Rattle.edd_syntax.specs.Expression.{Expr, Reference, Argument, Text, Value, Arguments, Nil, Cons}
 use Rattle.edd_syntax.specs.Text as texts
-use Rattle.edd_image.specs.declared.instruction.Instruction.{Instruction}
+use Rattle.edd_instructions.specs.declared.instruction.Instruction.{Instruction}
 use Rattle.edd_code.specs.Blocks.{Block, Straight}
 use Rattle.edd_code.specs.Expressions.{no_value}
 

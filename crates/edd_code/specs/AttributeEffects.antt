@@ -1,9 +1,9 @@
 -- In an attribute the records so far are carried along, and a stop is a trap.
 use Rattle.std.specs.Prelude.{ℤ, List, ◌++◌}
 use Rattle.edd_syntax.specs.declared.answer.Trap.{Trap}
-use Rattle.edd_image.specs.declared.records.Record.{Record}
-use Rattle.edd_image.specs.declared.instruction.Instruction.{Instruction}
-use Rattle.edd_image.specs.Steps.{Environment}
+use Rattle.edd_instructions.specs.declared.records.Record.{Record}
+use Rattle.edd_instructions.specs.declared.instruction.Instruction.{Instruction}
+use Rattle.edd_instructions.specs.Steps.{Environment}
 use Rattle.edd_code.specs.Blocks.{Block}
 use Rattle.edd_code.specs.Outcomes as attribute
 use Rattle.edd_code.specs.BlockEffects as blocks

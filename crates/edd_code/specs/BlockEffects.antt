@@ -2,7 +2,7 @@
 use Rattle.std.specs.Prelude.{true, false, ℤ, List, [], ◌∷◌}
 use Rattle.std.specs.Ordering.{int_eq}
 use Rattle.edd_syntax.specs.TwosComplement.{is_zero}
-use Rattle.edd_image.specs.declared.instruction.Instruction.{Instruction}
+use Rattle.edd_instructions.specs.declared.instruction.Instruction.{Instruction}
 use Rattle.edd_code.specs.Blocks.{Block, Nothing, Straight, Then, WhenNotZero, WhenZero, Either, Match}
 
 -- W is what is carried along, E is what a stop leaves

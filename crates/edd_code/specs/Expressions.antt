@@ -7,7 +7,7 @@ use Rattle.edd_syntax.specs.declared.operators.UnaryOperator.TheVariants as unar
 use Rattle.edd_syntax.specs.declared.reference.Target.{Target}
 use Rattle.edd_syntax.specs.declared.reference.Target.TheVariants.{Local, Item, Function}
 use Rattle.edd_syntax.specs.Expression.{Expr, Literal, Decimal, Reference, Indexed, Parentheses, Unary, Binary, Compare, LogicalAnd, LogicalOr, Conditional, Assign, CompoundAssign, Increment, Call}
-use Rattle.edd_image.specs.declared.instruction.Instruction.TheVariants as instruction
+use Rattle.edd_instructions.specs.declared.instruction.Instruction.TheVariants as instruction
 use Rattle.edd_code.specs.Blocks.{Block, Nothing, Straight, Then, WhenNotZero, WhenZero, Either}
 
 -- no checked description has it

@@ -8,12 +8,12 @@ use Rattle.edd_syntax.specs.Answers.{Change, Answer, answer_fault}
 use Rattle.edd_syntax.specs.MethodState as source
 use Rattle.edd_syntax.specs.MethodState.{State, Stop, Done, Stopped, ask}
 use Rattle.edd_syntax.specs.Execution.{transcript, ending_of}
-use Rattle.edd_image.specs.declared.instruction.Instruction.{Instruction}
-use Rattle.edd_image.specs.declared.records.Status.{Status}
-use Rattle.edd_image.specs.declared.records.Status.TheVariants.{Running, Asking, Ended, Aborted, Trapped}
-use Rattle.edd_image.specs.declared.unit.Way.{Way}
-use Rattle.edd_image.specs.Units.{jump}
-use Rattle.edd_image.specs.Steps.{Environment, Effect, act}
+use Rattle.edd_instructions.specs.declared.instruction.Instruction.{Instruction}
+use Rattle.edd_instructions.specs.declared.records.Status.{Status}
+use Rattle.edd_instructions.specs.declared.records.Status.TheVariants.{Running, Asking, Ended, Aborted, Trapped}
+use Rattle.edd_instructions.specs.declared.unit.Way.{Way}
+use Rattle.edd_instructions.specs.Units.{jump}
+use Rattle.edd_instructions.specs.Steps.{Environment, Effect, act}
 use Rattle.edd_code.specs.Blocks.{Block}
 use Rattle.edd_code.specs.BlockEffects as blocks
 use Rattle.edd_code.specs.BlockEffects.{Outcome, Goes, Stops, Stuck}

@@ -13,9 +13,9 @@ use Rattle.edd_syntax.specs.declared.reference.Target.{Target}
 use Rattle.edd_syntax.specs.declared.reference.Target.TheVariants.{Local, Item, Function}
 use Rattle.edd_syntax.specs.Expression.{Expr, Literal, Decimal, Reference, Indexed, Parentheses, Unary, Binary, Compare, LogicalAnd, LogicalOr, Conditional, Assign, CompoundAssign, Increment, Call, Text, Value, Arguments, Nil, Cons}
 use Rattle.edd_syntax.specs.Words.{Words, words_of}
-use Rattle.edd_image.specs.declared.instruction.Ask.{Ask}
-use Rattle.edd_image.specs.declared.instruction.Ask.TheVariants as ask
-use Rattle.edd_image.specs.declared.instruction.Instruction.TheVariants as instruction
+use Rattle.edd_instructions.specs.declared.instruction.Ask.{Ask}
+use Rattle.edd_instructions.specs.declared.instruction.Ask.TheVariants as ask
+use Rattle.edd_instructions.specs.declared.instruction.Instruction.TheVariants as instruction
 use Rattle.edd_code.specs.Blocks.{Block, Nothing, Straight, Then, WhenNotZero, WhenZero, Either}
 use Rattle.edd_code.specs.Expressions.{no_value, item_block, element_block, unary_block, truth_block, then_test, instead}
 

@@ -9,8 +9,8 @@ use Rattle.edd_syntax.specs.Item.{Attribute}
 use Rattle.edd_syntax.specs.Strings.{expr_texts}
 use Rattle.edd_syntax.specs.SubsetRules.{attribute_expressions, call_mismatches}
 use Rattle.edd_syntax.specs.Words.{Words, words_of}
-use Rattle.edd_image.specs.declared.unit.Context.{Context}
-use Rattle.edd_image.specs.References.{string_exists}
+use Rattle.edd_instructions.specs.declared.unit.Context.{Context}
+use Rattle.edd_image.specs.Existing.{string_exists}
 use Rattle.edd_code.specs.Reads.{item_is_there}
 
 -- where a reference is a variable, an array or a method, it is one of so many, and where it is a

@@ -4,14 +4,14 @@ use Rattle.std.specs.Prelude.{ℕ, true, false, ℤ, List, [], ◌∷◌, ◌++�
 use Rattle.std.specs.Ordering.{int_eq}
 use Rattle.edd_syntax.specs.declared.answer.Trap.{Trap}
 use Rattle.edd_syntax.specs.TwosComplement.{is_zero}
-use Rattle.edd_image.specs.declared.records.Record.{Record}
-use Rattle.edd_image.specs.declared.records.Status.{Status}
-use Rattle.edd_image.specs.declared.records.Status.TheVariants.{Running, Asking, Ended, Aborted, Trapped}
-use Rattle.edd_image.specs.declared.records.Emitted.{Emitted}
-use Rattle.edd_image.specs.declared.records.Emitted.TheVariants as emitted
-use Rattle.edd_image.specs.declared.instruction.Instruction.{Instruction}
-use Rattle.edd_image.specs.declared.unit.Sort.TheVariants as sort
-use Rattle.edd_image.specs.Steps.{State, Environment, Effect, act}
+use Rattle.edd_instructions.specs.declared.records.Record.{Record}
+use Rattle.edd_instructions.specs.declared.records.Status.{Status}
+use Rattle.edd_instructions.specs.declared.records.Status.TheVariants.{Running, Asking, Ended, Aborted, Trapped}
+use Rattle.edd_instructions.specs.declared.records.Emitted.{Emitted}
+use Rattle.edd_instructions.specs.declared.records.Emitted.TheVariants as emitted
+use Rattle.edd_instructions.specs.declared.instruction.Instruction.{Instruction}
+use Rattle.edd_instructions.specs.declared.unit.Sort.TheVariants as sort
+use Rattle.edd_instructions.specs.Steps.{State, Environment, Effect, act}
 use Rattle.edd_code.specs.Blocks.{Block, Nothing, Straight, Then, WhenNotZero, WhenZero, Either, Match}
 
 pub data Outcome : Type 0 where

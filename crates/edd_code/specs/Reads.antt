@@ -5,7 +5,7 @@ use Rattle.edd_syntax.specs.declared.numbers.ItemNo.TheVariants as item_no
 use Rattle.edd_syntax.specs.declared.reference.Target.{Target}
 use Rattle.edd_syntax.specs.declared.reference.Target.TheVariants.{Local, Item, Function}
 use Rattle.edd_image.specs.declared.parts.Counts.{Counts}
-use Rattle.edd_image.specs.References.{variable_exists, array_exists, method_exists}
+use Rattle.edd_image.specs.Existing.{variable_exists, array_exists, method_exists}
 
 -- a variable, an array or a method is one of so many; other items aren't named
 abbrev pub item_is_there : Counts → ItemNo → Bool

@@ -7,13 +7,13 @@ use Rattle.edd_syntax.specs.Words.{Words}
 use Rattle.edd_syntax.specs.Answers.{Change, Answer}
 use Rattle.edd_syntax.specs.MethodState as source
 use Rattle.edd_syntax.specs.Execution.{Transcript}
-use Rattle.edd_image.specs.declared.records.Request as image
-use Rattle.edd_image.specs.declared.records.Request.TheVariants as asks
-use Rattle.edd_image.specs.declared.records.Status.TheVariants.{Running}
-use Rattle.edd_image.specs.declared.unit.Sort.TheVariants.{Method}
-use Rattle.edd_image.specs.Steps.{State, Environment}
-use Rattle.edd_image.specs.Execution.{Ending, Outcome, execute}
-use Rattle.edd_image.specs.MethodAgreement.{ending_of}
+use Rattle.edd_instructions.specs.declared.records.Request as image
+use Rattle.edd_instructions.specs.declared.records.Request.TheVariants as asks
+use Rattle.edd_instructions.specs.declared.records.Status.TheVariants.{Running}
+use Rattle.edd_instructions.specs.declared.unit.Sort.TheVariants.{Method}
+use Rattle.edd_instructions.specs.Steps.{State, Environment}
+use Rattle.edd_instructions.specs.Execution.{Ending, Outcome, execute}
+use Rattle.edd_instructions.specs.MethodAgreement.{ending_of}
 
 -- the requests, the changes, the device's values, the abort methods listed or left, the answers
 -- left, and how the run ends; a request with an unknown string is none

@@ -4,7 +4,7 @@ use Rattle.std.specs.List.{AllPairs, Contains}
 use Rattle.edd_syntax.specs.declared.numbers.StrNo.{StrNo}
 use Rattle.edd_syntax.specs.Strings.{same_words}
 use Rattle.edd_syntax.specs.Words.{Words}
-use Rattle.edd_image.specs.Agreement.{IsString, IsOptionalString, string_of_table}
+use Rattle.edd_instructions.specs.Agreement.{IsString, IsOptionalString, string_of_table}
 
 -- no string is there twice
 abbrev pub AreDifferent : List Words → Type 0

@@ -5,7 +5,7 @@ use Rattle.edd_syntax.specs.declared.numbers.StrNo.{StrNo}
 use Rattle.edd_syntax.specs.Strings.{strings_of_texts}
 use Rattle.edd_syntax.specs.Text.{Text}
 use Rattle.edd_syntax.specs.Words.{Words}
-use Rattle.edd_image.specs.Agreement.{string_of_table}
+use Rattle.edd_instructions.specs.Agreement.{string_of_table}
 use Rattle.edd_code.specs.Blocks.{Block, bytes_at}
 use Rattle.edd_code.specs.Tables.{AreDifferent, GrowsBy, number_in}
 

@@ -1,10 +1,10 @@
 //! Instructions of blocks, and jumps whose target is written when the place after them is known.
 
 ghost use Rattle.std.specs.Prelude.{◌≡◌, ◌+◌, ◌≤◌, ◌++◌, length, IfOk, OnErr, OnOk};
-ghost use Rattle.edd_image.specs.Spelling.{head_length, jump_to, spelling};
+ghost use Rattle.edd_instructions.specs.Spelling.{head_length, jump_to, spelling};
 ghost use Rattle.edd_code.specs.Closing.{closed};
 
-use edd_image::{Emitter, Hole, Instruction, Jump, encode, head};
+use edd_instructions::{Emitter, Hole, Instruction, Jump, encode, head};
 use std::alloc::AllocError;
 
 /// Writes an instruction after the code.

@@ -6,7 +6,7 @@ ghost use Rattle.edd_code.specs.Blocks.{WhenNotZero, WhenZero, Either, Straight,
 ghost use Rattle.edd_code.specs.Expressions.{item_block, read_block, no_element, item_element_block, element_block, unary_block, truth_block, then_test, instead, no_value, expression_block};
 
 use crate::emit::{close, open, put};
-use edd_image::{Emitter, Instruction, Jump};
+use edd_instructions::{Emitter, Instruction, Jump};
 use edd_syntax::expr::Expr;
 use edd_syntax::numbers::ItemNo;
 use edd_syntax::operators::UnaryOperator;

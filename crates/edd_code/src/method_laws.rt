@@ -7,7 +7,7 @@ ghost use Rattle.edd_syntax.specs.declared.reference.Target.TheVariants.{Functio
 ghost use Rattle.edd_syntax.specs.declared.operators.Builtin.{Builtin};
 ghost use Rattle.edd_syntax.specs.Item.{Description};
 ghost use Rattle.std.specs.List.{AllByRecursion};
-ghost use Rattle.edd_image.specs.declared.instruction.Instruction.TheVariants as instruction;
+ghost use Rattle.edd_instructions.specs.declared.instruction.Instruction.TheVariants as instruction;
 ghost use Rattle.edd_syntax.specs.Device as device;
 ghost use Rattle.edd_syntax.specs.Evaluation.{evaluate};
 ghost use Rattle.edd_syntax.specs.Expression.{Expr, Call, Nil};
@@ -16,11 +16,11 @@ ghost use Rattle.edd_syntax.specs.Size.{nodes, height};
 ghost use Rattle.edd_syntax.specs.SubsetRules.{attributes_of, call_mismatches, is_abort, mismatches};
 ghost use Rattle.edd_syntax.specs.WellFormed.{is_expr, is_pure_expr};
 ghost use Rattle.edd_syntax.specs.Words.{Words};
-ghost use Rattle.edd_image.specs.declared.unit.Context.{Context};
-ghost use Rattle.edd_image.specs.declared.unit.Sort.TheVariants.{Method};
+ghost use Rattle.edd_instructions.specs.declared.unit.Context.{Context};
+ghost use Rattle.edd_instructions.specs.declared.unit.Sort.TheVariants.{Method};
 ghost use Rattle.edd_syntax.specs.LayoutVersion.{names_it};
-ghost use Rattle.edd_image.specs.declared.unit.Version.{Version};
-ghost use Rattle.edd_image.specs.declared.unit.Version.TheVariants.{Two};
+ghost use Rattle.edd_image.specs.declared.versions.Version.{Version};
+ghost use Rattle.edd_image.specs.declared.versions.Version.TheVariants.{Two};
 ghost use Rattle.edd_image.specs.declared.parts.Counts.{Counts};
 ghost use Rattle.edd_code.specs.Blocks.{Straight, size};
 ghost use Rattle.edd_code.specs.Expressions.{expression_block};
@@ -28,7 +28,7 @@ ghost use Rattle.edd_code.specs.Flow.{AreSpelled, FlowsIn, all_straight, depth_a
 ghost use Rattle.edd_code.specs.MethodEffects.{pushed, does};
 ghost use Rattle.edd_code.specs.MethodExpressions.{method_block};
 ghost use Rattle.edd_code.specs.MethodReads.{uses_existing, is_no_local, CallsFit, HasStrings};
-ghost use Rattle.edd_image.specs.Agreement.{machine_of};
+ghost use Rattle.edd_instructions.specs.Agreement.{machine_of};
 ghost use Rattle.edd_code.specs.Numbered.{HasNumbers};
 
 /// The block of an expression of a method leaves the expression's value on top of the operands and

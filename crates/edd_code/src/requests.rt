@@ -17,7 +17,7 @@ use crate::emit::put;
 use crate::fault::LowerFault;
 use crate::strings::add_text;
 use crate::texts::add_argument_texts;
-use edd_image::{Ask, Emitter, Instruction};
+use edd_instructions::{Ask, Emitter, Instruction};
 use edd_strings::Table;
 use edd_syntax::expr::Argument;
 use edd_syntax::operators::Builtin;

@@ -6,7 +6,7 @@ ghost use Rattle.edd_code.specs.MethodExpressions.{increment_block, load_block, 
 
 use crate::emit::put;
 use crate::expression::write_item;
-use edd_image::{Emitter, Instruction};
+use edd_instructions::{Emitter, Instruction};
 use edd_syntax::numbers::ItemNo;
 use edd_syntax::operators::{IncrementOperator, Operator};
 use edd_syntax::reference::Target;

@@ -22,7 +22,7 @@ use crate::requests::{
 };
 use crate::storing::{write_increment, write_load, write_store};
 use crate::strings::add_text;
-use edd_image::{Ask, Emitter, Instruction, Jump};
+use edd_instructions::{Ask, Emitter, Instruction, Jump};
 use edd_strings::Table;
 use edd_syntax::expr::{Argument, Expr};
 use edd_syntax::operators::{Builtin, Operator};

@@ -9,8 +9,8 @@ use Rattle.edd_syntax.specs.Refusal.{TooMany, first_of}
 use Rattle.edd_syntax.specs.ResolvedTrees.{resolved_unit}
 use Rattle.edd_syntax.specs.Strings.{too_many_strings}
 use Rattle.edd_image.specs.Contents.{contents_in}
-use Rattle.edd_image.specs.MethodAgreement.{Agrees}
-use Rattle.edd_image.specs.Validity.{IsValid}
+use Rattle.edd_instructions.specs.MethodAgreement.{Agrees}
+use Rattle.edd_instructions.specs.Validity.{IsValid}
 use Rattle.edd_compiler.specs.declared.fault.Fault.{Fault}
 use Rattle.edd_compiler.specs.declared.fault.Fault.TheVariants as fault
 use Rattle.edd_compiler.specs.Faults.{IsOfLowering, Explains}

@@ -17,11 +17,11 @@ use Rattle.edd_syntax.specs.Rows.{rows}
 use Rattle.edd_syntax.specs.Strings.{different, too_many_strings, unit_strings}
 use Rattle.edd_syntax.specs.Words.{Words}
 use Rattle.edd_syntax.specs.Item.{Description}
-use Rattle.edd_image.specs.Agreement.{IsAttributeCode}
-use Rattle.edd_image.specs.MethodAgreement.{IsMethodCode}
+use Rattle.edd_instructions.specs.Agreement.{IsAttributeCode}
+use Rattle.edd_instructions.specs.MethodAgreement.{IsMethodCode}
 use Rattle.edd_assembly.specs.Assembly.{Lowered}
 use Rattle.edd_assembly.specs.LoweredUnits.{plain_row, IsBodyCode, IsMethodOf, IsUnitOf, AreUnitsOf}
-use Rattle.edd_bounds.specs.RowContents.{strings_of_row, limit_of_row}
+use Rattle.edd_assembly.specs.RowContents.{strings_of_row, limit_of_row}
 use Rattle.edd_compiler.specs.Lowering.{IsCodeOf, IsRowCode, HasLowered, HasTooMany}
 
 -- ---- the units

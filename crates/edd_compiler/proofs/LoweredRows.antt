@@ -13,7 +13,7 @@ use Rattle.edd_syntax.specs.Strings.{different}
 use Rattle.edd_assembly.specs.Assembly.{Lowered}
 use Rattle.edd_code.specs.Tables.{Grows}
 use Rattle.edd_assembly.specs.LoweredUnits.{plain_row}
-use Rattle.edd_bounds.specs.RowContents.{strings_of_row}
+use Rattle.edd_assembly.specs.RowContents.{strings_of_row}
 use Rattle.edd_compiler.specs.declared.fault.Fault.{Fault}
 use Rattle.edd_compiler.specs.declared.fault.Fault.TheVariants as fault
 use Rattle.edd_compiler.specs.Faults.{IsOfLowering}

@@ -17,8 +17,8 @@ use Rattle.edd_syntax.specs.Item.{Description}
 use Rattle.edd_syntax.specs.Numbers.{has_attr, kind_of}
 use Rattle.edd_syntax.specs.Resolved.{IsChecked}
 use Rattle.edd_syntax.specs.Rows.{rows}
-use Rattle.edd_image.specs.Agreement.{counts_of}
-use Rattle.edd_image.specs.References.{item_exists}
+use Rattle.edd_instructions.specs.Agreement.{counts_of}
+use Rattle.edd_image.specs.Existing.{item_exists}
 use Rattle.edd_syntax.proofs.ItemForms.{formed_when_checked}
 use Rattle.edd_syntax.proofs.KnownByNumber.{same_attrs}
 use Rattle.edd_assembly.proofs.RowsPlaced.{is_placed, rows_placed}

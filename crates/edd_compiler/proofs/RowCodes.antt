@@ -10,11 +10,11 @@ use Rattle.edd_syntax.specs.Item.{Description}
 use Rattle.edd_syntax.specs.Numbers.{same_attr}
 use Rattle.edd_syntax.specs.Size.{body_nodes}
 use Rattle.edd_syntax.specs.Words.{Words}
-use Rattle.edd_image.specs.Agreement.{IsAttributeCode}
-use Rattle.edd_image.specs.MethodAgreement.{IsMethodCode}
+use Rattle.edd_instructions.specs.Agreement.{IsAttributeCode}
+use Rattle.edd_instructions.specs.MethodAgreement.{IsMethodCode}
 use Rattle.edd_attrs.specs.Sizes.{length_limit, strings_at}
 use Rattle.edd_attrs.specs.Trees.{tree_at}
-use Rattle.edd_bounds.specs.RowContents.{strings_of_row}
+use Rattle.edd_assembly.specs.RowContents.{strings_of_row}
 use Rattle.edd_compiler.specs.Lowering.{IsCodeOf, IsRowCode}
 
 module _ (d : Description Target) (row : AttrRef) (no_body : same_attr row.attr attr.Definition

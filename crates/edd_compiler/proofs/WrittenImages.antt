@@ -10,16 +10,16 @@ use Rattle.edd_syntax.specs.Rows.{rows}
 use Rattle.edd_syntax.specs.Words.{Words}
 use Rattle.edd_syntax.specs.WordsView.{string_of}
 use Rattle.edd_syntax.specs.Item.{Description}
-use Rattle.edd_image.specs.Agreement.{AgreesOnData}
+use Rattle.edd_instructions.specs.Agreement.{AgreesOnData}
 use Rattle.edd_image.specs.Contents.{contents_in, contents_of}
 use Rattle.edd_image.specs.Layout.{Sections, AreSections, layout}
-use Rattle.edd_image.specs.MethodAgreement.{Agrees, AgreesOnMethods, IsMethodCode}
-use Rattle.edd_image.specs.Validity.{code_limit, IsSound, IsValid}
+use Rattle.edd_instructions.specs.MethodAgreement.{Agrees, AgreesOnMethods, IsMethodCode}
+use Rattle.edd_instructions.specs.Validity.{code_limit, IsSound, IsValid}
 use Rattle.edd_assembly.specs.declared.units.Lowered as in_code_units
 use Rattle.edd_assembly.specs.Assembly.{Lowered, assembled}
 use Rattle.edd_assembly.specs.Views.{lowered_of}
 use Rattle.edd_assembly.specs.LoweredUnits.{AreUnitsOf, IsBodyCode, IsMethodOf}
-use Rattle.edd_bounds.specs.RowContents.{limit_of_row}
+use Rattle.edd_assembly.specs.RowContents.{limit_of_row}
 use Rattle.edd_compiler.specs.Lowering.{HasLowered}
 use Rattle.edd_compiler.proofs.ImageParts.{are_methods, are_units, code_within}
 

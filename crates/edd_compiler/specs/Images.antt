@@ -4,8 +4,8 @@ use Rattle.edd_syntax.specs.Reference.{Path}
 use Rattle.edd_syntax.specs.Item.{Description}
 use Rattle.edd_syntax.specs.Accepted.{IsAccepted}
 use Rattle.edd_image.specs.Contents.{contents_in}
-use Rattle.edd_image.specs.MethodAgreement.{Agrees}
-use Rattle.edd_image.specs.Validity.{IsValid}
+use Rattle.edd_instructions.specs.MethodAgreement.{Agrees}
+use Rattle.edd_instructions.specs.Validity.{IsValid}
 use Rattle.edd_compiler.specs.Sources.{IsUnitOf}
 
 -- The tokens of the text spell a unit that is accepted, and the bytes are a valid image that says

@@ -10,11 +10,11 @@ use Rattle.edd_syntax.specs.Numbers.{same_attr}
 use Rattle.edd_syntax.specs.Words.{Words}
 use Rattle.edd_syntax.specs.Item.{Description}
 use Rattle.edd_syntax.specs.Strings.{different}
-use Rattle.edd_image.specs.Agreement.{IsAttributeCode}
-use Rattle.edd_image.specs.MethodAgreement.{IsMethodCode}
+use Rattle.edd_instructions.specs.Agreement.{IsAttributeCode}
+use Rattle.edd_instructions.specs.MethodAgreement.{IsMethodCode}
 use Rattle.edd_assembly.specs.Assembly.{Lowered}
 use Rattle.edd_assembly.specs.LoweredUnits.{plain_row}
-use Rattle.edd_bounds.specs.RowContents.{limit_of_row, strings_of_row}
+use Rattle.edd_assembly.specs.RowContents.{limit_of_row, strings_of_row}
 use Rattle.edd_code.specs.Tables.{Grows}
 
 -- a row of a body is a method's, at 0

@@ -6,8 +6,8 @@ ghost use Rattle.edd_syntax.specs.Refusal.{TooMany};
 ghost use Rattle.edd_syntax.specs.WordsView.{string_of};
 ghost use Rattle.edd_syntax.specs.Strings.{too_many_strings};
 ghost use Rattle.edd_image.specs.Contents.{contents_in};
-ghost use Rattle.edd_image.specs.MethodAgreement.{Agrees};
-ghost use Rattle.edd_image.specs.Validity.{IsValid};
+ghost use Rattle.edd_instructions.specs.MethodAgreement.{Agrees};
+ghost use Rattle.edd_instructions.specs.Validity.{IsValid};
 ghost use Rattle.edd_syntax.specs.Rows.{rows};
 ghost use Rattle.edd_assembly.specs.Views.{lowered_of};
 ghost use Rattle.edd_code.specs.Units.{description_of};
@@ -20,10 +20,11 @@ use crate::fault::Fault;
 use crate::lowering::{Lowering, lower_rows};
 use crate::source::checked_of;
 use edd_assembly::{
-    assemble, method_code_is_body_code, methods_agree, sections_agree, sections_are_sound,
+    assemble, code_is_short, different_strings_count, method_code_is_body_code, methods_agree,
+    sections_agree, sections_are_sound, strings_stand_in_rows,
 };
-use edd_bounds::{code_is_short, different_strings_count, strings_stand_in_rows};
-use edd_image::{WriteFault, fields_are_parts, sound_parts_are_valid, write};
+use edd_image::{WriteFault, fields_are_parts, write};
+use edd_instructions::sound_parts_are_valid;
 use edd_syntax::checked::Checked;
 use std::alloc::Global;
 

@@ -9,7 +9,7 @@ ghost use Rattle.edd_syntax.specs.Strings.{different};
 ghost use Rattle.edd_syntax.specs.Words.{Words};
 ghost use Rattle.edd_assembly.specs.LoweredUnits.{plain_row};
 ghost use Rattle.edd_assembly.specs.Views.{lowered_of};
-ghost use Rattle.edd_bounds.specs.RowContents.{strings_of_row};
+ghost use Rattle.edd_assembly.specs.RowContents.{strings_of_row};
 ghost use Rattle.edd_code.specs.Places.{IsIndexOf};
 ghost use Rattle.edd_code.specs.Tables.{Grows};
 ghost use Rattle.edd_code.specs.Units.{description_of};

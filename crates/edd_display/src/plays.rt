@@ -4,7 +4,7 @@ use crate::fault::ShowFault;
 use crate::lines::print;
 use crate::page::Page;
 use crate::words::trap_word;
-use edd_image::Request;
+use edd_instructions::Request;
 use edd_loader::Image;
 use edd_machine::Values;
 use edd_port::{Ending, Transcript};

@@ -3,7 +3,7 @@
 use crate::fault::ShowFault;
 use crate::page::Page;
 use crate::words::{DATA_QUALIFIERS, MENU_QUALIFIERS, class_word};
-use edd_image::Record;
+use edd_instructions::Record;
 use edd_syntax::numbers::{ItemNo, StrNo, VarNo};
 use std::fmt::Write;
 

@@ -2,13 +2,24 @@
 //! instructions, and of bytes that are no image what comes before their fault, and where that is.
 #![tactic(auto)]
 
+mod elements;
+mod excerpts;
+mod faults;
+mod header;
+mod instructions;
+mod items;
+mod pages;
+mod rows;
+mod strings;
+mod units;
+
 ghost use Rattle.std.specs.Prelude.{IfOk, MatchOption, IfSome};
-ghost use Rattle.edd_image.specs.Validity.{BreaksFirst, IsValid};
+ghost use Rattle.edd_instructions.specs.Validity.{BreaksFirst, IsValid};
 ghost use Rattle.edd_loader.specs.Faults.{rule_of};
 
 use edd_display::ShowFault;
-use edd_dump_lines::pages::{print_refused, print_whole};
 use edd_loader::{LoadFault, load};
+use pages::{print_refused, print_whole};
 use std::alloc::Global;
 use std::io::Write;
 

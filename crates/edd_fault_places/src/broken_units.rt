@@ -4,7 +4,7 @@ ghost use Rattle.std.specs.Prelude.{◌≡◌, ◌≤◌, length, vec_len, IfOk}
 
 use crate::sections::{RowFields, Sections, part};
 use crate::spots::Spot;
-use edd_image::{Context, Instruction, Sort, UnitRule, Way, decode};
+use edd_instructions::{Context, Instruction, Sort, UnitRule, Way, decode};
 use edd_syntax::numbers::Attr;
 use std::alloc::{AllocError, Global};
 

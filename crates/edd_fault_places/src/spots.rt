@@ -5,7 +5,8 @@ use crate::broken_strings::{broken_name, broken_string};
 use crate::broken_units::broken_instruction;
 use crate::fields::{ATTRIBUTE_ROWS, CODE, LENGTH, MAGIC, VERSION, field_count, whole_fields};
 use crate::sections::Sections;
-use edd_image::{CODE_LIMIT, HEADER_LENGTH, UnitRule, code_length, total_length};
+use edd_image::{CODE_LIMIT, HEADER_LENGTH, code_length, total_length};
+use edd_instructions::UnitRule;
 use edd_loader::LoadFault;
 use std::alloc::{AllocError, Global};
 

@@ -6,8 +6,8 @@ use Rattle.std.proofs.lemmas.Nat.{from_be_bytes-to_be_bytes_2, from_be_bytes-to_
 use Rattle.std.specs.List.{flat_map}
 use Rattle.edd_syntax.specs.declared.numbers.Element.{Element}
 use Rattle.edd_image.specs.declared.parts.Counts.{Counts}
-use Rattle.edd_image.specs.declared.unit.Version.{Version}
-use Rattle.edd_image.specs.declared.unit.Version.TheVariants.{One, Two}
+use Rattle.edd_image.specs.declared.versions.Version.{Version}
+use Rattle.edd_image.specs.declared.versions.Version.TheVariants.{One, Two}
 use Rattle.edd_image.specs.Versions.{header_size}
 use Rattle.edd_image.specs.Layout.{Sections, AreSections, variable_row, name_row, attribute_row, element_row, string_row, item_count, layout_length, magic, identification, counts, lengths, extension, header, layout}
 use Rattle.edd_image.specs.Fields.{number_at, version_number, is_extended, header_zero, extension_zero, array_count, element_count, total_length, counts_in, attribute_count, names_length, code_length, strings_length, variable_rows_start, name_rows_start, attribute_rows_start, element_rows_start, code_start, string_rows_start, name_bytes_start, string_bytes_start, sections_end}

@@ -5,9 +5,9 @@ use Rattle.std.proofs.lemmas.List.{take_at, drop_at}
 use Rattle.std.specs.List.{AllByRecursion, flat_map}
 use Rattle.edd_syntax.specs.Words.{Words, Variants, Key, Variant}
 use Rattle.edd_image.specs.Layout.{u32}
-use Rattle.edd_image.specs.Decoding.{byte_from}
+use Rattle.edd_image.specs.Front.{byte_from}
 use Rattle.edd_image.specs.Strings.{variant_bytes, string_bytes, VariantFits, WordsFit, front_of, variant_from, variants_from, string_in}
-use Rattle.edd_image.proofs.Spelled.{u32_again}
+use Rattle.edd_image.proofs.FrontRead.{u32_again}
 
 front_again : (front rest : List ℕ) → front_of (length front) (front ++ rest) ≡ Some (front, rest)
 front_again front rest =

@@ -1,14 +1,16 @@
 -- What an image holds, field by field: as its bytes say, and as the parts that it was made of say.
 use Rattle.std.specs.Prelude.{ℕ, zero, suc, ◌+◌, ◌==◌, List, [], ◌∷◌, map, take, drop, Option, Some, None, unwrap_or, if◌then◌else◌}
 use Rattle.edd_syntax.specs.declared.numbers.Element.{Element}
+use Rattle.edd_syntax.specs.declared.types.VarType.{VarType}
+use Rattle.edd_syntax.specs.declared.types.VarType.TheVariants as var_type
 use Rattle.edd_syntax.specs.Numbers.{kind_number, kind_of, index_of, attr_number}
 use Rattle.edd_image.specs.declared.parts.VarKind.{VarKind}
 use Rattle.edd_image.specs.declared.parts.NameRow.{NameRow}
 use Rattle.edd_image.specs.declared.parts.AttributeRow.{AttributeRow}
 use Rattle.edd_image.specs.declared.parts.StringRow.{StringRow}
 use Rattle.edd_image.specs.declared.parts.Counts.{Counts}
-use Rattle.edd_image.specs.declared.unit.Version.{Version}
-use Rattle.edd_image.specs.declared.unit.Version.TheVariants.{One, Two}
+use Rattle.edd_image.specs.declared.versions.Version.{Version}
+use Rattle.edd_image.specs.declared.versions.Version.TheVariants.{One, Two}
 use Rattle.edd_image.specs.Layout.{Sections, type_code, item_count}
 use Rattle.edd_image.specs.Fields.{version_number, header_zero, extension_zero, counts_in, attribute_count, element_count, names_length, code_length, strings_length, variable_rows_start, name_rows_start, attribute_rows_start, element_rows_start, code_start, string_rows_start, name_bytes_start, string_bytes_start, variable_type, variable_size, variable_zero, name_start, name_length, name_zero, attribute_kind, attribute_number, attribute_item, attribute_sub, attribute_zero, attribute_start, attribute_length, element_array, element_variable, element_number, string_start, string_length}
 
@@ -58,6 +60,15 @@ pub record Contents : Type 0 where
 -- the version of a number, where it is known
 abbrev pub version_of : ℕ → Option Version
 version_of n = if n == 1 then Some One else if n == 2 then Some Two else None
+
+-- the type that a number stands for (this profile)
+abbrev pub type_of : ℕ → Option VarType
+type_of n =
+    if n == type_code var_type.Integer then Some var_type.Integer else
+    if n == type_code var_type.UnsignedInteger then Some var_type.UnsignedInteger else
+    if n == type_code var_type.Enumerated then Some var_type.Enumerated else
+    if n == type_code var_type.BitEnumerated then Some var_type.BitEnumerated else
+    None
 
 abbrev pub variable_fields : List ℕ → ℕ → VariableFields
 variable_fields b row = record {

@@ -7,7 +7,7 @@ use Rattle.std.specs.Str.{is_utf8}
 use Rattle.edd_syntax.specs.Names.{is_name}
 use Rattle.edd_syntax.specs.Words.{Words, Variants, Key, Variant, is_code}
 use Rattle.edd_image.specs.Layout.{u32}
-use Rattle.edd_image.specs.Decoding.{◌>>=◌, byte_from, number_from}
+use Rattle.edd_image.specs.Front.{◌>>=◌, byte_from, number_from}
 
 -- ---- written
 

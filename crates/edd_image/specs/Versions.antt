@@ -1,7 +1,7 @@
 -- The versions of the layout: their numbers, and how long their headers are.
 use Rattle.std.specs.Prelude.{ℕ}
-use Rattle.edd_image.specs.declared.unit.Version.{Version}
-use Rattle.edd_image.specs.declared.unit.Version.TheVariants.{One, Two}
+use Rattle.edd_image.specs.declared.versions.Version.{Version}
+use Rattle.edd_image.specs.declared.versions.Version.TheVariants.{One, Two}
 
 abbrev pub version_code : Version → ℕ
 version_code One = 1

@@ -6,7 +6,7 @@ ghost use Rattle.edd_image.specs.Fields.{has_magic, version_number, is_extended,
 
 use crate::fields::{u8_at, u16_at, u32_at};
 use crate::parts::Counts;
-use crate::unit::Version;
+use crate::versions::Version;
 
 /// How many bytes the header has at least.
 pub const HEADER_LENGTH: usize = 56;

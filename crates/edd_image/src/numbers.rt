@@ -2,7 +2,7 @@
 
 ghost use Rattle.std.specs.Prelude.{◌≡◌};
 ghost use Rattle.edd_image.specs.Layout.{type_code};
-ghost use Rattle.edd_image.specs.Validity.{type_of};
+ghost use Rattle.edd_image.specs.Contents.{type_of};
 
 use edd_syntax::types::VarType;
 

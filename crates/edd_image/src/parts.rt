@@ -1,11 +1,12 @@
 //! What an image is made of.
 
 ghost use Rattle.std.specs.Prelude.{◌≡◌, ◌+◌, ◌*◌, ◌<◌, ◌^◌, vec_len};
-ghost use Rattle.edd_image.specs.declared.unit.Version.TheVariants.{One};
+ghost use Rattle.edd_image.specs.declared.versions.Version.TheVariants.{One};
 ghost use Rattle.edd_image.specs.Versions.{header_size};
+ghost use Rattle.edd_image.specs.Existing.{string_exists, optional_string_exists, variable_exists, array_exists, method_exists, item_exists};
 
-use crate::unit::Version;
-use edd_syntax::numbers::{Attr, Element, ItemNo};
+use crate::versions::Version;
+use edd_syntax::numbers::{ArrNo, Attr, Element, ItemNo, MethNo, StrNo, VarNo};
 use edd_syntax::types::VarType;
 
 /// The type and the size of a variable, in octets.
@@ -54,6 +55,60 @@ pub struct Counts {
     pub device_type: u32,
     pub device_revision: u32,
     pub dd_revision: u32,
+}
+
+impl Counts {
+    /// Whether there is such a string.
+    pub fn has_string(self, string: StrNo) -> bool
+        ensures { result ≡ string_exists self string }
+    {
+        string.0 < self.strings
+    }
+
+    /// Whether there is such a string, where one is named.
+    pub fn has_optional_string(self, string: Option<StrNo>) -> bool
+        ensures { result ≡ optional_string_exists self string }
+    {
+        match string {
+            None => true,
+            Some(string) => self.has_string(string),
+        }
+    }
+
+    /// Whether there is such a variable.
+    pub fn has_variable(self, variable: VarNo) -> bool
+        ensures { result ≡ variable_exists self variable }
+    {
+        variable.0 < self.variables
+    }
+
+    /// Whether there is such an array.
+    pub fn has_array(self, array: ArrNo) -> bool
+        ensures { result ≡ array_exists self array }
+    {
+        array.0 < self.arrays
+    }
+
+    /// Whether there is such a method.
+    pub fn has_method(self, method: MethNo) -> bool
+        ensures { result ≡ method_exists self method }
+    {
+        method.0 < self.methods
+    }
+
+    /// Whether there is such an item.
+    pub fn has_item(self, item: ItemNo) -> bool
+        ensures { result ≡ item_exists self item }
+    {
+        match item {
+            ItemNo::Variable(number) => number.0 < self.variables,
+            ItemNo::Command(number) => number.0 < self.commands,
+            ItemNo::Menu(number) => number.0 < self.menus,
+            ItemNo::Collection(number) => number.0 < self.collections,
+            ItemNo::Method(number) => number.0 < self.methods,
+            ItemNo::Array(number) => self.has_array(number),
+        }
+    }
 }
 
 /// The sections of an image in their order. Names are in the order of kind and number, elements in

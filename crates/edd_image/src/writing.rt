@@ -7,7 +7,7 @@ ghost use Rattle.edd_image.specs.Layout.{sections_of, magic, lengths, layout_len
 
 use crate::numbers::type_code;
 use crate::parts::{AttributeRow, Counts, NameRow, Parts, StringRow, VarKind};
-use crate::unit::Version;
+use crate::versions::Version;
 use edd_syntax::numbers::Element;
 use std::alloc::{AllocError, Global};
 

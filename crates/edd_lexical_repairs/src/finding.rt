@@ -1,6 +1,6 @@
 //! What is found out about a fault.
 
-use edd_places::diagnostic::Diagnostic;
+use edd_reports::diagnostic::Diagnostic;
 
 /// A fault at its place, with what helps.
 #[derive(Drop)]

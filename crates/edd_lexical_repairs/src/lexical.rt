@@ -7,8 +7,8 @@ use crate::finding::Found;
 use crate::scanning::{Scanned, Shape, byte_at, piece_at};
 use edd_lexer::fault::LexFault;
 use edd_lexer::lex;
-use edd_places::diagnostic::{Diagnostic, Finding};
-use edd_places::words::{Span, text_in};
+use edd_reports::diagnostic::{Diagnostic, Finding};
+use edd_reports::words::{Span, text_in};
 use std::alloc::{AllocError, Global};
 
 // Where the first byte of a line is, counted from 1; the end of the text where there is no such

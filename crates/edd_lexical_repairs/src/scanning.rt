@@ -1,6 +1,6 @@
 //! A text cut into pieces by its bytes, whether or not it has tokens.
 
-use edd_places::words::Span;
+use edd_reports::words::Span;
 
 /// What a piece of a text is, as far as it can be told from its first bytes.
 #[derive(Clone, Copy, PartialEq, Eq)]

@@ -4,19 +4,19 @@ use Rattle.std.specs.Prelude.{find, is_some, option_map}
 use Rattle.std.specs.List.{AllByRecursion, list_all, list_any}
 use Rattle.std.proofs.lemmas.Bool.{cases_Bool, and_parts, or_left, or_right}
 use Rattle.edd_syntax.specs.declared.numbers.MethNo.{MethNo}
-use Rattle.edd_image.specs.declared.instruction.Instruction.{Instruction}
-use Rattle.edd_image.specs.declared.instruction.Instruction.TheVariants as instructions
-use Rattle.edd_image.specs.declared.unit.Version.{Version}
-use Rattle.edd_image.specs.declared.unit.Version.TheVariants.{One, Two}
-use Rattle.edd_image.specs.declared.unit.Sort.{Sort}
-use Rattle.edd_image.specs.declared.unit.Sort.TheVariants.{Attribute, Method}
-use Rattle.edd_image.specs.declared.unit.Context.{Context}
-use Rattle.edd_image.specs.declared.rules.UnitRule.TheVariants.{Chain}
+use Rattle.edd_instructions.specs.declared.instruction.Instruction.{Instruction}
+use Rattle.edd_instructions.specs.declared.instruction.Instruction.TheVariants as instructions
+use Rattle.edd_image.specs.declared.versions.Version.{Version}
+use Rattle.edd_image.specs.declared.versions.Version.TheVariants.{One, Two}
+use Rattle.edd_instructions.specs.declared.unit.Sort.{Sort}
+use Rattle.edd_instructions.specs.declared.unit.Sort.TheVariants.{Attribute, Method}
+use Rattle.edd_instructions.specs.declared.unit.Context.{Context}
+use Rattle.edd_instructions.specs.declared.rules.UnitRule.TheVariants.{Chain}
 use Rattle.edd_image.specs.Fields.{attribute_count, attribute_rows_start, code_start, code_length}
 use Rattle.edd_image.specs.Contents.{AttributeFields, Contents, part, rows_from, attribute_fields, contents_in}
-use Rattle.edd_image.specs.Reading.{body_of}
-use Rattle.edd_image.specs.Units.{Placed, UnitKeeps, end_of, instructions, is_allowed}
-use Rattle.edd_image.specs.Validity.{EachUnitKeeps, PlacedUnit, adds_with_body, all_add_with_body, has_body, is_body, placed_unit, sort_of}
+use Rattle.edd_instructions.specs.Reading.{body_of}
+use Rattle.edd_instructions.specs.Units.{Placed, UnitKeeps, end_of, instructions, is_allowed}
+use Rattle.edd_instructions.specs.Validity.{EachUnitKeeps, PlacedUnit, adds_with_body, all_add_with_body, has_body, is_body, placed_unit, sort_of}
 use Rattle.edd_loader.specs.AbortMethods.{is_body_or_adds, row_adds_with_body, unit_adds_with_body}
 use Rattle.edd_loader.proofs.Listing.{from_place}
 use Rattle.edd_loader.proofs.Spaces.{all_mapped}

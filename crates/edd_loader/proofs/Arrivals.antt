@@ -3,7 +3,7 @@ use Rattle.std.proofs.Common.{◌≡◌, ◌≢◌, ℕ, ◌+◌, ◌<◌, Bool,
 use Rattle.std.specs.Prelude.{◌==◌, nat_lt, option_map}
 use Rattle.std.proofs.lemmas.Bool.{cases_Bool, cases_eq, eqb-true}
 use Rattle.std.proofs.lemmas.List.{set_comm}
-use Rattle.edd_image.specs.Decoding.{◌>>=◌}
+use Rattle.edd_image.specs.Front.{◌>>=◌}
 use Rattle.edd_loader.specs.Depths.{Table, known, settle, enter}
 
 abbrev pub brought_by : ℕ → Option ℕ → Option ℕ

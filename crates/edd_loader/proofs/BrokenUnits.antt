@@ -2,12 +2,12 @@
 use Rattle.std.proofs.Common.{ℕ, ◌<◌, List, Option, Some, None, arith, inl, inr}
 use Rattle.std.specs.Prelude.{IfSome, MatchOption, nat_le}
 use Rattle.std.proofs.lemmas.Bool.{cases_Bool, leb-true, leb-false}
-use Rattle.edd_image.specs.declared.unit.Context.{Context}
-use Rattle.edd_image.specs.declared.rules.UnitRule.{UnitRule}
-use Rattle.edd_image.specs.declared.rules.UnitRule.TheVariants.{Chain, Jump, Depth, Reference}
-use Rattle.edd_image.specs.declared.rules.Rule.TheVariants as rule
-use Rattle.edd_image.specs.Units.{UnitKeeps, IsValidUnit, UnitBreaksFirst}
-use Rattle.edd_image.specs.Validity.{fault_number}
+use Rattle.edd_instructions.specs.declared.unit.Context.{Context}
+use Rattle.edd_instructions.specs.declared.rules.UnitRule.{UnitRule}
+use Rattle.edd_instructions.specs.declared.rules.UnitRule.TheVariants.{Chain, Jump, Depth, Reference}
+use Rattle.edd_instructions.specs.declared.rules.Rule.TheVariants as rule
+use Rattle.edd_instructions.specs.Units.{UnitKeeps, IsValidUnit, UnitBreaksFirst}
+use Rattle.edd_instructions.specs.Validity.{fault_number}
 use Rattle.edd_loader.specs.UnitRows.{fault_bound, first_of}
 
 -- ---- one unit

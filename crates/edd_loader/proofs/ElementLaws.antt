@@ -11,15 +11,15 @@ use Rattle.edd_syntax.specs.declared.numbers.ArrNo.{ArrNo}
 use Rattle.edd_syntax.specs.declared.numbers.VarNo.{VarNo}
 use Rattle.edd_syntax.specs.declared.numbers.Element.{Element}
 use Rattle.edd_image.specs.declared.parts.Counts.{Counts}
-use Rattle.edd_image.specs.declared.rules.Rule.TheVariants as rule
+use Rattle.edd_instructions.specs.declared.rules.Rule.TheVariants as rule
 use Rattle.edd_image.specs.Contents.{rows_from, element_fields, contents_in}
 use Rattle.edd_image.specs.Fields as fields
 use Rattle.edd_image.specs.Fields.{number_at, counts_in, code_start, element_count, element_rows_start}
-use Rattle.edd_image.specs.References.{array_exists, variable_exists}
-use Rattle.edd_image.specs.Spelling.{AreBytes}
+use Rattle.edd_image.specs.Existing.{array_exists, variable_exists}
+use Rattle.edd_instructions.specs.Spelling.{AreBytes}
 use Rattle.edd_syntax.specs.Elements.{element_variable}
-use Rattle.edd_image.specs.Validity.{IsValid, is_element_before, is_element_row, elements_rise}
-use Rattle.edd_image.proofs.Readings.{drop_bytes}
+use Rattle.edd_instructions.specs.Validity.{IsValid, is_element_before, is_element_row, elements_rise}
+use Rattle.edd_instructions.proofs.Readings.{drop_bytes}
 use Rattle.edd_loader.specs.Elements.{element_key, key_of}
 use Rattle.edd_loader.proofs.Halving.{found_at, none_found, fails}
 use Rattle.edd_loader.proofs.LookupLaws.{row_get, row_past}

@@ -3,7 +3,7 @@ use Rattle.std.proofs.Common.{◌≡◌, Bool, true, false, ◌&&◌, List, [], 
 use Rattle.std.specs.List.{list_all}
 use Rattle.std.proofs.lemmas.Bool.{and_left, and_right}
 use Rattle.edd_syntax.specs.declared.numbers.Element.{Element}
-use Rattle.edd_image.specs.Validity.{elements_rise}
+use Rattle.edd_instructions.specs.Validity.{elements_rise}
 use Rattle.edd_loader.specs.Rows.{is_before_next}
 
 rise_splits : (e : Element) (rest : List Element)

@@ -1,10 +1,10 @@
 -- A jump leaves nothing.
 use Rattle.std.proofs.Common.{◌≡◌, ℕ, ◌+◌, Option, Some, None, refl}
 use Rattle.std.specs.Prelude.{option_map}
-use Rattle.edd_image.specs.declared.instruction.Instruction.{Instruction}
-use Rattle.edd_image.specs.declared.instruction.Instruction.TheVariants as instructions
-use Rattle.edd_image.specs.declared.unit.Way.{Way}
-use Rattle.edd_image.specs.Units.{jump}
+use Rattle.edd_instructions.specs.declared.instruction.Instruction.{Instruction}
+use Rattle.edd_instructions.specs.declared.instruction.Instruction.TheVariants as instructions
+use Rattle.edd_instructions.specs.declared.unit.Way.{Way}
+use Rattle.edd_instructions.specs.Units.{jump}
 
 pub jump_is_to : (i : Instruction) → jump i ≡ option_map (λ to. record { to = to; leaves = 0 })
     (option_map (λ w. w.to) (jump i))

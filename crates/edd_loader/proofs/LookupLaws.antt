@@ -13,13 +13,13 @@ use Rattle.edd_syntax.specs.declared.types.VarType.TheVariants.{Integer, Unsigne
 use Rattle.edd_syntax.specs.Text.{Name}
 use Rattle.edd_syntax.specs.Names.{begins_name, goes_on_name, is_name, is_within}
 use Rattle.edd_image.specs.declared.parts.Counts.{Counts}
-use Rattle.edd_image.specs.declared.rules.Rule.TheVariants as rule
+use Rattle.edd_instructions.specs.declared.rules.Rule.TheVariants as rule
 use Rattle.edd_image.specs.Layout.{item_count, type_code}
 use Rattle.edd_image.specs.Fields.{counts_in, names_length, variable_rows_start, name_rows_start, name_bytes_start, name_start, name_length, variable_type, variable_size, strings_length, string_rows_start, string_bytes_start, string_start, string_length}
-use Rattle.edd_image.specs.Contents.{Span, part, NameFields, VariableFields, rows_from, variable_fields, name_fields, string_fields, contents_in, fields_of_variable}
-use Rattle.edd_image.specs.Agreement.{name_numbered, place_of_item}
-use Rattle.edd_image.specs.References.{item_exists}
-use Rattle.edd_image.specs.Validity.{IsValid, type_of, is_variable_row}
+use Rattle.edd_image.specs.Contents.{Span, part, NameFields, VariableFields, rows_from, variable_fields, name_fields, string_fields, contents_in, fields_of_variable, type_of}
+use Rattle.edd_instructions.specs.Agreement.{name_numbered, place_of_item}
+use Rattle.edd_image.specs.Existing.{item_exists}
+use Rattle.edd_instructions.specs.Validity.{IsValid, is_variable_row}
 use Rattle.edd_image.specs.Strings.{is_string}
 use Rattle.edd_loader.specs.Lookups.{name_in_row, string_in_row, IsFirstNamed}
 use Rattle.edd_loader.specs.Sections.{lies_within}

@@ -9,10 +9,10 @@ use Rattle.edd_syntax.specs.declared.numbers.MethNo.{MethNo}
 use Rattle.edd_syntax.specs.Numbers.{kind_number, kind_of, index_of, attr_number}
 use Rattle.edd_image.specs.Contents.{AttributeFields, rows_from, attribute_fields, contents_in}
 use Rattle.edd_image.specs.Fields.{number_at, attribute_count, attribute_rows_start, attribute_sub}
-use Rattle.edd_image.specs.Reading.{is_row_of, row_of, body_of}
-use Rattle.edd_image.specs.Spelling.{AreBytes}
-use Rattle.edd_image.specs.Validity.{are_rows, rises, rise, is_attribute_row}
-use Rattle.edd_image.proofs.Readings.{drop_bytes}
+use Rattle.edd_instructions.specs.Reading.{is_row_of, row_of, body_of}
+use Rattle.edd_instructions.specs.Spelling.{AreBytes}
+use Rattle.edd_instructions.specs.Validity.{are_rows, rises, rise, is_attribute_row}
+use Rattle.edd_instructions.proofs.Readings.{drop_bytes}
 use Rattle.edd_loader.specs.Ranks.{rank, rank_of, row_at, is_row}
 use Rattle.edd_loader.specs.Sections.{AreSectionsOf}
 use Rattle.edd_loader.proofs.ElementLaws.{taken_below}

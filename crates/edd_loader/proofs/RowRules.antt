@@ -2,7 +2,7 @@
 use Rattle.std.proofs.Common.{◌≡◌, true, nat_eq}
 use Rattle.std.proofs.lemmas.Bool.{and_parts}
 use Rattle.edd_image.specs.Contents.{Contents}
-use Rattle.edd_image.specs.Validity.{are_variable_rows, are_name_rows, are_attribute_rows, are_element_rows, are_string_rows, are_rows}
+use Rattle.edd_instructions.specs.Validity.{are_variable_rows, are_name_rows, are_attribute_rows, are_element_rows, are_string_rows, are_rows}
 
 pub record RowRules (c : Contents) : Type 0 where
   pub variables : are_variable_rows c ≡ true

@@ -3,7 +3,7 @@ use Rattle.std.proofs.Common.{◌≡◌, ℕ, suc, ◌+◌, ◌-◌, ◌*◌, �
 use Rattle.std.specs.List.{list_all}
 use Rattle.std.proofs.lemmas.Bool.{and_left, and_right, and_parts, eq-eqb, ne_eqb, leb-true}
 use Rattle.edd_image.specs.Contents.{Span, part, NameFields, AttributeFields, rows_from}
-use Rattle.edd_image.specs.Validity.{fills, rise}
+use Rattle.edd_instructions.specs.Validity.{fills, rise}
 use Rattle.edd_loader.specs.Rows.{rises_next}
 use Rattle.edd_loader.specs.Sections.{lies_within}
 

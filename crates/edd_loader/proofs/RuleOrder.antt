@@ -2,11 +2,11 @@
 use Rattle.std.proofs.Common.{◌≡◌, ℕ, ◌<◌, ◌≤◌, true, nat_eq, List, length, refl, sym, ap, ◌∙◌, arith}
 use Rattle.std.specs.Prelude.{◌==◌, if◌then◌else◌}
 use Rattle.std.proofs.lemmas.Bool.{and_parts, eqb-true, leb-true}
-use Rattle.edd_image.specs.declared.rules.UnitRule.TheVariants as unit_rule
-use Rattle.edd_image.specs.declared.rules.Rule.{Rule}
-use Rattle.edd_image.specs.declared.rules.Rule.TheVariants as rule
+use Rattle.edd_instructions.specs.declared.rules.UnitRule.TheVariants as unit_rule
+use Rattle.edd_instructions.specs.declared.rules.Rule.{Rule}
+use Rattle.edd_instructions.specs.declared.rules.Rule.TheVariants as rule
 use Rattle.edd_image.specs.Fields.{total_length, sections_end}
-use Rattle.edd_image.specs.Validity.{IsValid, fault_number, lengths_agree}
+use Rattle.edd_instructions.specs.Validity.{IsValid, fault_number, lengths_agree}
 use Rattle.edd_loader.specs.Rules.{KeepsBelow}
 use Rattle.edd_loader.specs.Sections.{AreSectionsOf}
 

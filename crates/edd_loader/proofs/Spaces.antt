@@ -6,7 +6,7 @@ use Rattle.edd_image.specs.declared.parts.Counts.{Counts}
 use Rattle.edd_image.specs.Layout.{item_count}
 use Rattle.edd_image.specs.Fields.{counts_in, attribute_count, element_count, names_length, code_length, strings_length, variable_rows_start, name_rows_start, attribute_rows_start, element_rows_start, code_start, string_rows_start, name_bytes_start, string_bytes_start, sections_end}
 use Rattle.edd_image.specs.Contents.{Span, part, NameFields, AttributeFields, rows_from, variable_fields, name_fields, attribute_fields, element_fields, string_fields, contents_in}
-use Rattle.edd_image.specs.Validity.{fills, rise, elements_rise, is_variable_row, is_attribute_row, is_element_row, are_variable_rows, are_name_rows, are_attribute_rows, are_element_rows, are_string_rows, are_rows, are_names, are_strings}
+use Rattle.edd_instructions.specs.Validity.{fills, rise, elements_rise, is_variable_row, is_attribute_row, is_element_row, are_variable_rows, are_name_rows, are_attribute_rows, are_element_rows, are_string_rows, are_rows, are_names, are_strings}
 use Rattle.edd_syntax.specs.Names.{is_name}
 use Rattle.edd_image.specs.Strings.{is_string}
 use Rattle.edd_loader.specs.Sections.{AreSectionsOf, lies_within}

@@ -1,8 +1,8 @@
 -- What a walk that goes on after breaches has seen at the end.
 use Rattle.std.proofs.Common.{◌≡◌, IsTrue, ℕ, true, false, List, sym, ap, ◌∙◌}
 use Rattle.std.specs.Prelude.{is_some}
-use Rattle.edd_image.specs.declared.unit.Context.{Context}
-use Rattle.edd_image.specs.Units.{HasDepths, all_exist, all_land, instructions, is_chain}
+use Rattle.edd_instructions.specs.declared.unit.Context.{Context}
+use Rattle.edd_instructions.specs.Units.{HasDepths, all_exist, all_land, instructions, is_chain}
 use Rattle.edd_loader.specs.declared.survey.Survey.{Survey}
 use Rattle.edd_loader.specs.Marks.{is_settled, mark_at}
 use Rattle.edd_loader.specs.Walks.{IsSurveyOf}

@@ -7,12 +7,12 @@ use Rattle.std.specs.Str.{bytes_eq, is_utf8}
 use Rattle.std.proofs.lemmas.Bool.{and_parts, cases_Bool, eqb-true, ltb-false, ne_eqb}
 use Rattle.edd_syntax.specs.declared.numbers.StrNo.{StrNo}
 use Rattle.edd_syntax.specs.Words.{Words, Variants, Variant, is_code, text_in, text_for, english}
-use Rattle.edd_image.specs.Decoding.{◌>>=◌}
+use Rattle.edd_image.specs.Front.{◌>>=◌}
 use Rattle.edd_image.specs.Strings.{is_string, string_in, variant_from, variants_from, as_words, is_words, is_variant}
 use Rattle.edd_image.specs.declared.parts.Counts.{Counts}
 use Rattle.edd_image.specs.Fields.{counts_in}
 use Rattle.edd_syntax.specs.Names.{is_name}
-use Rattle.edd_image.specs.Agreement.{string_numbered}
+use Rattle.edd_instructions.specs.Agreement.{string_numbered}
 use Rattle.edd_image.specs.Contents.{Span, part, contents_in}
 use Rattle.edd_loader.specs.Lookups.{string_in_row}
 use Rattle.edd_loader.specs.Texts.{given}

@@ -3,14 +3,14 @@ use Rattle.std.proofs.Common.{◌≡◌, ℕ, List, [], ◌∷◌, map, Option, 
 use Rattle.std.specs.Prelude.{unwrap_or}
 use Rattle.std.specs.List.{AllByRecursion}
 use Rattle.edd_image.specs.declared.parts.Counts.{Counts}
-use Rattle.edd_image.specs.declared.unit.Version.{Version}
-use Rattle.edd_image.specs.declared.unit.Version.TheVariants.{One}
-use Rattle.edd_image.specs.declared.unit.Context.{Context}
-use Rattle.edd_image.specs.declared.rules.UnitRule.{UnitRule}
+use Rattle.edd_image.specs.declared.versions.Version.{Version}
+use Rattle.edd_image.specs.declared.versions.Version.TheVariants.{One}
+use Rattle.edd_instructions.specs.declared.unit.Context.{Context}
+use Rattle.edd_instructions.specs.declared.rules.UnitRule.{UnitRule}
 use Rattle.edd_image.specs.Fields.{version_number, counts_in, attribute_count, attribute_rows_start, code_start, code_length}
 use Rattle.edd_image.specs.Contents.{AttributeFields, part, rows_from, attribute_fields, contents_in, version_of}
-use Rattle.edd_image.specs.Units.{UnitKeeps}
-use Rattle.edd_image.specs.Validity.{PlacedUnit, sort_of, slots_of, placed_unit, units}
+use Rattle.edd_instructions.specs.Units.{UnitKeeps}
+use Rattle.edd_instructions.specs.Validity.{PlacedUnit, sort_of, slots_of, placed_unit, units}
 use Rattle.edd_loader.specs.UnitRows.{RowKeeps, context_of}
 
 pub first_holds : {A : Type 0} (P : A → Type 0) (rows rest : List A) (r : A) → rows ≡ r ∷ rest

@@ -8,12 +8,12 @@ use Rattle.edd_syntax.specs.declared.types.VarType.{VarType}
 use Rattle.edd_syntax.specs.declared.types.VarType.TheVariants as var_type
 use Rattle.edd_syntax.specs.DeviceValues.{VariableType}
 use Rattle.edd_image.specs.declared.parts.VarKind.{VarKind}
-use Rattle.edd_image.specs.declared.rules.Rule.TheVariants as rule
+use Rattle.edd_instructions.specs.declared.rules.Rule.TheVariants as rule
 use Rattle.edd_image.specs.Fields.{counts_in}
 use Rattle.edd_image.specs.Layout.{type_code}
-use Rattle.edd_image.specs.Contents.{VariableFields, rows_from, contents_in, fields_of_variable}
-use Rattle.edd_image.specs.Reading.{variable_type_of, environment_of}
-use Rattle.edd_image.specs.Validity.{IsValid, type_of, is_variable_row}
+use Rattle.edd_image.specs.Contents.{VariableFields, rows_from, contents_in, fields_of_variable, type_of}
+use Rattle.edd_instructions.specs.Reading.{variable_type_of, environment_of}
+use Rattle.edd_instructions.specs.Validity.{IsValid, is_variable_row}
 use Rattle.edd_loader.specs.Lookups.{type_of_kind}
 use Rattle.edd_loader.proofs.RowRules.{row_rules}
 

@@ -4,7 +4,7 @@ use Rattle.std.specs.List.{list_all}
 use Rattle.std.specs.Option.{option_map_or}
 use Rattle.std.proofs.lemmas.Bool.{and_left, eqb-true, ne_eqb}
 use Rattle.edd_syntax.specs.Words.{Variant}
-use Rattle.edd_image.specs.Decoding.{◌>>=◌}
+use Rattle.edd_image.specs.Front.{◌>>=◌}
 use Rattle.edd_image.specs.Strings.{variant_from, variants_from, as_words, is_words, is_variant}
 use Rattle.edd_loader.specs.Variants.{all_variants, are_variants}
 

@@ -4,14 +4,14 @@ use Rattle.std.specs.Prelude.{IsTrue, option_map}
 use Rattle.std.specs.List.{AllByRecursion, list_all, list_any}
 use Rattle.std.specs.Option.{option_map_or}
 use Rattle.std.proofs.lemmas.Bool.{cases_Bool, and_parts, or_cases, or_left, or_right, eq-eqb, eqb-true, lt-ltb, ltb-true}
-use Rattle.edd_image.specs.declared.unit.Context.{Context}
-use Rattle.edd_image.specs.declared.unit.Sort.{Sort}
-use Rattle.edd_image.specs.declared.unit.Sort.TheVariants.{Attribute, Method}
-use Rattle.edd_image.specs.declared.unit.Way.{Way}
-use Rattle.edd_image.specs.Decoding.{◌>>=◌}
-use Rattle.edd_image.specs.References.{names_exist}
-use Rattle.edd_image.specs.Units.{Placed, instructions, end_of, leaves, onward, jump, ways, is_allowed, is_chain, is_start, is_forward, lands, all_land, all_exist, HasDepths}
-use Rattle.edd_image.proofs.Lengths.{nothing_past}
+use Rattle.edd_instructions.specs.declared.unit.Context.{Context}
+use Rattle.edd_instructions.specs.declared.unit.Sort.{Sort}
+use Rattle.edd_instructions.specs.declared.unit.Sort.TheVariants.{Attribute, Method}
+use Rattle.edd_instructions.specs.declared.unit.Way.{Way}
+use Rattle.edd_image.specs.Front.{◌>>=◌}
+use Rattle.edd_instructions.specs.References.{names_exist}
+use Rattle.edd_instructions.specs.Units.{Placed, instructions, end_of, leaves, onward, jump, ways, is_allowed, is_chain, is_start, is_forward, lands, all_land, all_exist, HasDepths}
+use Rattle.edd_instructions.proofs.Lengths.{nothing_past}
 use Rattle.edd_loader.specs.declared.marks.Mark.{Mark}
 use Rattle.edd_loader.specs.declared.marks.Mark.TheVariants.{Unknown, Awaited, Stands}
 use Rattle.edd_loader.specs.Depths.{visit_all}

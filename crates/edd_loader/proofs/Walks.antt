@@ -2,12 +2,12 @@
 use Rattle.std.proofs.Common.{◌≡◌, ℕ, zero, suc, ◌++◌, ◌<◌, Bool, true, false, ◌&&◌, ◌||◌, nat_eq, nat_lt, List, length, get_or, set, Option, Some, None, refl, sym, ap, ◌∙◌, arith, inl, inr, get_or-set_same, get_or-set_other, subst}
 use Rattle.std.specs.List.{list_all}
 use Rattle.std.specs.Option.{option_to_list, option_map_or}
-use Rattle.edd_image.specs.declared.unit.Way.{Way}
+use Rattle.edd_instructions.specs.declared.unit.Way.{Way}
 use Rattle.std.proofs.lemmas.Bool.{cases_Bool, and_left, and_right, or_left, or_right, cases_eq, eq-eqb, ne_eqb, lt-ltb}
-use Rattle.edd_image.specs.declared.instruction.Instruction.{Instruction}
-use Rattle.edd_image.specs.declared.unit.Context.{Context}
-use Rattle.edd_image.specs.Decoding.{instruction_at}
-use Rattle.edd_image.specs.Units.{Placed, instructions, end_of, is_allowed, is_chain, is_start}
+use Rattle.edd_instructions.specs.declared.instruction.Instruction.{Instruction}
+use Rattle.edd_instructions.specs.declared.unit.Context.{Context}
+use Rattle.edd_instructions.specs.Decoding.{instruction_at}
+use Rattle.edd_instructions.specs.Units.{Placed, instructions, end_of, is_allowed, is_chain, is_start}
 use Rattle.edd_loader.proofs.Listing.{placed, from_place, walk_goes, walk_stops}
 
 -- ---- a test of each instruction

@@ -2,8 +2,8 @@
 use Rattle.std.specs.Prelude.{ℕ, Bool, ◌||◌, List}
 use Rattle.std.specs.List.{list_all}
 use Rattle.edd_image.specs.Contents.{AttributeFields, Contents, part}
-use Rattle.edd_image.specs.Units.{instructions}
-use Rattle.edd_image.specs.Validity.{adds_with_body, is_body}
+use Rattle.edd_instructions.specs.Units.{instructions}
+use Rattle.edd_instructions.specs.Validity.{adds_with_body, is_body}
 
 -- each instruction of the unit does so
 abbrev pub unit_adds_with_body : Contents → (unit : List ℕ) → Bool

@@ -1,8 +1,8 @@
 -- The rule that a fault stands for.
 use Rattle.std.specs.Prelude.{Option, Some, None}
-use Rattle.edd_image.specs.declared.rules.UnitRule.TheVariants as unit_rule
-use Rattle.edd_image.specs.declared.rules.Rule.{Rule}
-use Rattle.edd_image.specs.declared.rules.Rule.TheVariants as rule
+use Rattle.edd_instructions.specs.declared.rules.UnitRule.TheVariants as unit_rule
+use Rattle.edd_instructions.specs.declared.rules.Rule.{Rule}
+use Rattle.edd_instructions.specs.declared.rules.Rule.TheVariants as rule
 use Rattle.edd_loader.specs.declared.fault.LoadFault.{LoadFault}
 use Rattle.edd_loader.specs.declared.fault.LoadFault.TheVariants as fault
 

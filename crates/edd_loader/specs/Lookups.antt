@@ -5,7 +5,7 @@ use Rattle.edd_syntax.specs.declared.numbers.ItemNo.{ItemNo}
 use Rattle.edd_syntax.specs.DeviceValues.{VariableType}
 use Rattle.edd_syntax.specs.Text.{Name}
 use Rattle.edd_image.specs.declared.parts.VarKind.{VarKind}
-use Rattle.edd_image.specs.Agreement.{place_of_item, name_numbered}
+use Rattle.edd_instructions.specs.Agreement.{place_of_item, name_numbered}
 use Rattle.edd_image.specs.Contents.{part, Contents}
 
 -- the type that a row of the code stands for

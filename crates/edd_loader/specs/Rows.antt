@@ -2,7 +2,7 @@
 use Rattle.std.specs.Prelude.{Bool, true, List, [], ◌∷◌}
 use Rattle.edd_syntax.specs.declared.numbers.Element.{Element}
 use Rattle.edd_image.specs.Contents.{AttributeFields}
-use Rattle.edd_image.specs.Validity.{rises, is_element_before}
+use Rattle.edd_instructions.specs.Validity.{rises, is_element_before}
 
 -- a row rises to the first of the rows after it
 abbrev pub rises_next : AttributeFields → List AttributeFields → Bool

@@ -1,10 +1,10 @@
 -- What a walk over a unit asks of each instruction by itself.
 use Rattle.std.specs.Prelude.{ℕ, ◌+◌, ◌-◌, ◌==◌, Bool, true, false, ◌&&◌, nat_lt, nat_le}
 use Rattle.std.specs.Option.{option_map_or}
-use Rattle.edd_image.specs.declared.instruction.Instruction.{Instruction}
-use Rattle.edd_image.specs.declared.unit.Sort.{Sort}
-use Rattle.edd_image.specs.declared.unit.Sort.TheVariants.{Attribute, Method}
-use Rattle.edd_image.specs.Units.{Placed, takes, leaves, onward, jump}
+use Rattle.edd_instructions.specs.declared.instruction.Instruction.{Instruction}
+use Rattle.edd_instructions.specs.declared.unit.Sort.{Sort}
+use Rattle.edd_instructions.specs.declared.unit.Sort.TheVariants.{Attribute, Method}
+use Rattle.edd_instructions.specs.Units.{Placed, takes, leaves, onward, jump}
 
 -- a jump from the place leads forward, where it has to, and inside the unit
 abbrev pub may_lead : Sort → (size place target : ℕ) → Bool

@@ -2,13 +2,13 @@
 use Rattle.std.specs.Prelude.{ℕ, ◌<◌, List, Option, Some, None, nat_le, if◌then◌else◌}
 use Rattle.std.specs.List.{AllByRecursion}
 use Rattle.edd_image.specs.declared.parts.Counts.{Counts}
-use Rattle.edd_image.specs.declared.unit.Version.{Version}
-use Rattle.edd_image.specs.declared.unit.Context.{Context}
-use Rattle.edd_image.specs.declared.rules.UnitRule.{UnitRule}
-use Rattle.edd_image.specs.declared.rules.Rule.TheVariants as rule
+use Rattle.edd_image.specs.declared.versions.Version.{Version}
+use Rattle.edd_instructions.specs.declared.unit.Context.{Context}
+use Rattle.edd_instructions.specs.declared.rules.UnitRule.{UnitRule}
+use Rattle.edd_instructions.specs.declared.rules.Rule.TheVariants as rule
 use Rattle.edd_image.specs.Contents.{AttributeFields, part}
-use Rattle.edd_image.specs.Units.{UnitKeeps}
-use Rattle.edd_image.specs.Validity.{fault_number, sort_of, slots_of}
+use Rattle.edd_instructions.specs.Units.{UnitKeeps}
+use Rattle.edd_instructions.specs.Validity.{fault_number, sort_of, slots_of}
 
 -- the context of the unit of a row, in an image of this version with these counts
 abbrev pub context_of : Version → Counts → AttributeFields → Context

@@ -3,7 +3,7 @@ use Rattle.std.specs.Prelude.{ℕ, Bool, false, List, Option, length, option_and
 use Rattle.std.specs.Option.{option_map_or}
 use Rattle.std.specs.List.{list_all}
 use Rattle.edd_syntax.specs.Words.{Variant, text_in}
-use Rattle.edd_image.specs.Decoding.{◌>>=◌}
+use Rattle.edd_image.specs.Front.{◌>>=◌}
 use Rattle.edd_image.specs.Strings.{variants_from, as_words, is_words, is_variant}
 use Rattle.edd_loader.specs.declared.words.Piece.{Piece}
 

@@ -2,12 +2,12 @@
 use Rattle.std.specs.Prelude.{◌≡◌, ℕ, ◌<◌, ◌≤◌, Bool, true, false, ◌&&◌, ◌||◌, List, length, replicate, Option, Some, None, IfSome, nat_lt, slice_index_or, if◌then◌else◌}
 use Rattle.std.specs.List.{list_all, list_any}
 use Rattle.std.specs.Option.{option_map_or}
-use Rattle.edd_image.specs.declared.instruction.Instruction.{Instruction}
-use Rattle.edd_image.specs.declared.unit.Context.{Context}
-use Rattle.edd_image.specs.declared.unit.Sort.{Sort}
-use Rattle.edd_image.specs.Decoding.{◌>>=◌}
-use Rattle.edd_image.specs.References.{names_exist}
-use Rattle.edd_image.specs.Units.{Placed, instructions_from, end_of, is_allowed, is_start, jump}
+use Rattle.edd_instructions.specs.declared.instruction.Instruction.{Instruction}
+use Rattle.edd_instructions.specs.declared.unit.Context.{Context}
+use Rattle.edd_instructions.specs.declared.unit.Sort.{Sort}
+use Rattle.edd_image.specs.Front.{◌>>=◌}
+use Rattle.edd_instructions.specs.References.{names_exist}
+use Rattle.edd_instructions.specs.Units.{Placed, instructions_from, end_of, is_allowed, is_start, jump}
 use Rattle.edd_loader.specs.declared.marks.Mark.{Mark}
 use Rattle.edd_loader.specs.declared.survey.Survey.{Survey}
 use Rattle.edd_loader.specs.declared.walk.Walk.{Walk}

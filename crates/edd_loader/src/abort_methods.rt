@@ -4,9 +4,9 @@ ghost use Rattle.std.specs.Prelude.{◌≡◌, ◌+◌, ◌*◌, ◌≤◌, IsTr
 ghost use Rattle.std.specs.List.{list_all};
 ghost use Rattle.edd_image.specs.Contents.{attribute_fields, contents_in, rows_from};
 ghost use Rattle.edd_image.specs.Fields.{attribute_rows_start, header_length};
-ghost use Rattle.edd_image.specs.Validity.{EachUnitKeeps, adds_with_body, all_add_with_body, are_rows};
-ghost use Rattle.edd_image.specs.declared.rules.UnitRule.TheVariants.{Chain};
-ghost use Rattle.edd_image.specs.declared.unit.Version.TheVariants.{One};
+ghost use Rattle.edd_instructions.specs.Validity.{EachUnitKeeps, adds_with_body, all_add_with_body, are_rows};
+ghost use Rattle.edd_instructions.specs.declared.rules.UnitRule.TheVariants.{Chain};
+ghost use Rattle.edd_image.specs.declared.versions.Version.TheVariants.{One};
 ghost use Rattle.edd_loader.specs.AbortMethods.{is_body_or_adds, row_adds_with_body, unit_adds_with_body};
 ghost use Rattle.edd_loader.specs.Sections.{AreSectionsOf, lies_within};
 
@@ -14,9 +14,10 @@ use crate::attributes::DEFINITION;
 use crate::ranks::body_row;
 use crate::spans::part;
 use edd_image::{
-    ATTRIBUTE_ROW, Instruction, Version, attribute_count, attribute_length, attribute_number,
-    attribute_rows_start, attribute_start, code_length, code_start, decode, version,
+    ATTRIBUTE_ROW, Version, attribute_count, attribute_length, attribute_number,
+    attribute_rows_start, attribute_start, code_length, code_start, version,
 };
+use edd_instructions::{Instruction, decode};
 
 // Whether the method that an instruction adds, if it adds one, has a body. The rows of attributes
 // begin at `start`.

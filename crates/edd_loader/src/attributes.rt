@@ -3,7 +3,7 @@
 ghost use Rattle.std.specs.Prelude.{◌≡◌, ◌+◌, ◌*◌, ◌≤◌, ◌&&◌, length, map};
 ghost use Rattle.std.specs.List.{list_all};
 ghost use Rattle.edd_image.specs.Contents.{rows_from, attribute_fields};
-ghost use Rattle.edd_image.specs.Validity.{fills, rise, rises, sub_fits, has_attribute, is_attribute_row};
+ghost use Rattle.edd_instructions.specs.Validity.{fills, rise, rises, sub_fits, has_attribute, is_attribute_row};
 ghost use Rattle.edd_loader.specs.Rows.{rises_next};
 
 use edd_image::{

@@ -1,13 +1,13 @@
 //! The first rule that an image breaks.
 
 ghost use Rattle.std.specs.Prelude.{◌≡◌, IfOk, MatchOption};
-ghost use Rattle.edd_image.specs.Validity.{BreaksFirst, IsValid};
+ghost use Rattle.edd_instructions.specs.Validity.{BreaksFirst, IsValid};
 ghost use Rattle.edd_loader.specs.Rules.{KeepsBelow};
 
 use crate::header::broken_in_header;
 use crate::sections::{are_names, are_rows, are_strings};
 use crate::units::broken_in_units;
-use edd_image::Rule;
+use edd_instructions::Rule;
 use std::alloc::{AllocError, Global};
 
 // The first of the rules on rows, names and strings that is broken, if one is.

@@ -4,7 +4,7 @@ ghost use Rattle.std.specs.Prelude.{◌≡◌, ◌≢◌, ℕ, ◌+◌, ◌*◌,
 ghost use Rattle.std.specs.List.{list_all};
 ghost use Rattle.edd_image.specs.Contents.{rows_from, element_fields, contents_in};
 ghost use Rattle.edd_syntax.specs.Elements.{element_variable};
-ghost use Rattle.edd_image.specs.Validity.{IsValid, elements_rise, is_element_before, is_element_row};
+ghost use Rattle.edd_instructions.specs.Validity.{IsValid, elements_rise, is_element_before, is_element_row};
 ghost use Rattle.edd_loader.specs.Elements.{element_key, key_of};
 ghost use Rattle.edd_loader.specs.Rows.{is_before_next};
 ghost use Rattle.edd_loader.specs.Starts.{starts_in};

@@ -4,7 +4,7 @@ ghost use Rattle.std.specs.Prelude.{◌≡◌, Some};
 ghost use Rattle.edd_loader.specs.declared.fault.LoadFault.TheVariants.{Memory};
 ghost use Rattle.edd_loader.specs.Faults.{rule_of};
 
-use edd_image::{Rule, UnitRule};
+use edd_instructions::{Rule, UnitRule};
 use std::alloc::{AllocError, AllocFailed};
 use thiserror::Error;
 

@@ -3,12 +3,13 @@
 ghost use Rattle.std.specs.Prelude.{◌≡◌, ◌≤◌, MatchOption, length, is_some};
 ghost use Rattle.edd_image.specs.Fields.{header_length, version_number};
 ghost use Rattle.edd_image.specs.Contents.{version_of};
-ghost use Rattle.edd_image.specs.Validity.{BreaksFirst, lengths_agree};
+ghost use Rattle.edd_instructions.specs.Validity.{BreaksFirst, lengths_agree};
 ghost use Rattle.edd_loader.specs.Rules.{KeepsBelow};
 
 use edd_image::{
-    CODE_LIMIT, HEADER_LENGTH, Rule, code_length, has_magic, sections_end, total_length, version,
+    CODE_LIMIT, HEADER_LENGTH, code_length, has_magic, sections_end, total_length, version,
 };
+use edd_instructions::Rule;
 
 // Whether the lengths add up to the number of bytes, and the code is within its limit.
 fn lengths_agree(bytes: &[u8]) -> bool

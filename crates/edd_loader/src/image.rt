@@ -3,13 +3,13 @@
 ghost use Rattle.std.specs.Prelude.{◌≡◌, ◌≢◌, IfErr, IfOk, IfNone, IfSome, IsTrue, OnOk, Some, is_some, option_map};
 ghost use Rattle.std.specs.List.{slice_get};
 ghost use Rattle.edd_image.specs.Contents.{contents_in, fields_of_variable};
-ghost use Rattle.edd_image.specs.References.{item_exists, string_exists, variable_exists};
-ghost use Rattle.edd_image.specs.Agreement.{name_numbered, string_numbered};
-ghost use Rattle.edd_image.specs.Reading.{environment_of};
+ghost use Rattle.edd_image.specs.Existing.{item_exists, string_exists, variable_exists};
+ghost use Rattle.edd_instructions.specs.Agreement.{name_numbered, string_numbered};
+ghost use Rattle.edd_instructions.specs.Reading.{environment_of};
 ghost use Rattle.edd_syntax.specs.Elements.{element_variable};
 ghost use Rattle.edd_loader.specs.Lookups.{IsFirstNamed, type_of_kind};
 ghost use Rattle.edd_image.specs.Fields.{counts_in};
-ghost use Rattle.edd_image.specs.Validity.{BreaksFirst, IsValid};
+ghost use Rattle.edd_instructions.specs.Validity.{BreaksFirst, IsValid};
 ghost use Rattle.edd_loader.specs.Texts.{given, seen};
 ghost use Rattle.edd_loader.specs.Faults.{rule_of};
 ghost use Rattle.edd_loader.specs.Starts.{starts_in};
@@ -35,7 +35,7 @@ pub struct Image<'b> {
 
 impl<'b> Model for Image<'b> {
     ghost use Rattle.std.specs.Prelude.{◌≡◌, ℕ, List};
-    ghost use Rattle.edd_image.specs.Validity.{IsValid};
+    ghost use Rattle.edd_instructions.specs.Validity.{IsValid};
     ghost use Rattle.edd_loader.specs.Starts.{starts_in};
 
     ghost Value = { List ℕ };

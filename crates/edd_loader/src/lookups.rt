@@ -6,11 +6,11 @@ ghost use Rattle.std.specs.Str.{is_utf8};
 ghost use Rattle.edd_image.specs.Contents.{contents_in, fields_of_variable};
 ghost use Rattle.edd_image.specs.Fields.{counts_in};
 ghost use Rattle.edd_image.specs.Layout.{item_count};
-ghost use Rattle.edd_image.specs.References.{item_exists, variable_exists};
-ghost use Rattle.edd_image.specs.Validity.{IsValid};
+ghost use Rattle.edd_image.specs.Existing.{item_exists, variable_exists};
+ghost use Rattle.edd_instructions.specs.Validity.{IsValid};
 ghost use Rattle.edd_image.specs.Strings.{is_string};
-ghost use Rattle.edd_image.specs.Agreement.{name_numbered, place_of_item};
-ghost use Rattle.edd_image.specs.Reading.{environment_of};
+ghost use Rattle.edd_instructions.specs.Agreement.{name_numbered, place_of_item};
+ghost use Rattle.edd_instructions.specs.Reading.{environment_of};
 ghost use Rattle.edd_loader.specs.Lookups.{name_in_row, string_in_row, type_of_kind, IsFirstNamed};
 ghost use Rattle.edd_loader.specs.Starts.{starts_in};
 

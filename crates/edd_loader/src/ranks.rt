@@ -3,8 +3,8 @@
 ghost use Rattle.std.specs.Prelude.{◌≡◌, ℕ, ◌+◌, ◌*◌, ◌<◌, ◌≤◌, IfSome, IsTrue, length, option_map};
 ghost use Rattle.edd_image.specs.Contents.{attribute_fields, contents_in};
 ghost use Rattle.edd_image.specs.Fields.{attribute_count, attribute_rows_start};
-ghost use Rattle.edd_image.specs.Reading.{row_of, body_of};
-ghost use Rattle.edd_image.specs.Validity.{are_rows};
+ghost use Rattle.edd_instructions.specs.Reading.{row_of, body_of};
+ghost use Rattle.edd_instructions.specs.Validity.{are_rows};
 ghost use Rattle.edd_loader.specs.Ranks.{rank, rank_of, row_at, is_row};
 ghost use Rattle.edd_loader.specs.Sections.{AreSectionsOf};
 

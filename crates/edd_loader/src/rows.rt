@@ -3,7 +3,7 @@
 ghost use Rattle.std.specs.Prelude.{◌≡◌, ◌+◌, ◌*◌, ◌≤◌, ◌&&◌, ◌==◌, length, map};
 ghost use Rattle.std.specs.List.{list_all};
 ghost use Rattle.edd_image.specs.Contents.{rows_from, variable_fields, name_fields, string_fields};
-ghost use Rattle.edd_image.specs.Validity.{fills, is_variable_row};
+ghost use Rattle.edd_instructions.specs.Validity.{fills, is_variable_row};
 
 use edd_image::{
     NAME_ROW, STRING_ROW, VARIABLE_ROW, name_length, name_start, name_zero, string_length,

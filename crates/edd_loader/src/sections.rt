@@ -7,7 +7,7 @@ ghost use Rattle.edd_image.specs.Layout.{item_count};
 ghost use Rattle.edd_image.specs.Contents.{part, rows_from, name_fields, string_fields, contents_in};
 ghost use Rattle.edd_image.specs.Fields.{counts_in};
 ghost use Rattle.edd_image.specs.Strings.{is_string};
-ghost use Rattle.edd_image.specs.Validity.{are_variable_rows, are_name_rows, are_attribute_rows, are_element_rows, are_string_rows, are_rows, are_names, are_strings};
+ghost use Rattle.edd_instructions.specs.Validity.{are_variable_rows, are_name_rows, are_attribute_rows, are_element_rows, are_string_rows, are_rows, are_names, are_strings};
 ghost use Rattle.edd_loader.specs.Sections.{AreSectionsOf, lies_within};
 
 use crate::attributes::are_attribute_rows;

@@ -2,8 +2,8 @@
 
 ghost use Rattle.std.specs.Prelude.{◌≡◌, ◌+◌, ◌-◌, ◌<◌, ◌≤◌, ◌&&◌, IfSome, IsTrue, is_some, option_map, nat_le, slice_set, true, false, vec_len, if◌then◌else◌, Some, None};
 ghost use Rattle.std.specs.Option.{option_map_or};
-ghost use Rattle.edd_image.specs.References.{names_exist};
-ghost use Rattle.edd_image.specs.Units.{is_allowed, jump, leaves, takes};
+ghost use Rattle.edd_instructions.specs.References.{names_exist};
+ghost use Rattle.edd_instructions.specs.Units.{is_allowed, jump, leaves, takes};
 ghost use Rattle.edd_loader.specs.declared.marks.Mark.TheVariants.{Stands};
 ghost use Rattle.edd_loader.specs.Marks.{agrees_with, arrival, brought, depth_known, mark_at, note_at};
 ghost use Rattle.edd_loader.specs.Standing.{fits, jumps_inside, may_lead};
@@ -11,7 +11,7 @@ ghost use Rattle.edd_loader.specs.Walks.{jump_agrees, jump_noted};
 
 use crate::marks::{Mark, arrival, note};
 use crate::walk::{Walk, may_lead};
-use edd_image::{Context, Instruction, Sort, Way};
+use edd_instructions::{Context, Instruction, Sort, Way};
 
 /// How far a walk has come, and what it has seen of the instructions before.
 #[derive(Drop)]

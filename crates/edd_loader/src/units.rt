@@ -2,10 +2,10 @@
 
 ghost use Rattle.std.specs.Prelude.{◌≡◌, ◌+◌, ◌*◌, ◌<◌, ◌≤◌, IfOk, IfSome, IsTrue, Some, is_some, length};
 ghost use Rattle.std.specs.List.{AllByRecursion, list_all};
-ghost use Rattle.edd_image.specs.declared.rules.Rule.TheVariants as rule;
+ghost use Rattle.edd_instructions.specs.declared.rules.Rule.TheVariants as rule;
 ghost use Rattle.edd_image.specs.Contents.{rows_from, attribute_fields, contents_in, version_of};
 ghost use Rattle.edd_image.specs.Fields.{header_length, version_number};
-ghost use Rattle.edd_image.specs.Validity.{are_rows, fault_number, EachUnitKeeps, UnitsKeep};
+ghost use Rattle.edd_instructions.specs.Validity.{are_rows, fault_number, EachUnitKeeps, UnitsKeep};
 ghost use Rattle.edd_loader.specs.Sections.{AreSectionsOf, lies_within};
 ghost use Rattle.edd_loader.specs.UnitRows.{RowKeeps, RowsKeepBelow, context_of, fault_bound, first_of};
 
@@ -14,10 +14,10 @@ use crate::attributes::DEFINITION;
 use crate::spans::part;
 use crate::whole_unit::broken_in_unit;
 use edd_image::{
-    ATTRIBUTE_ROW, Context, Counts, Sort, UnitRule, Version, attribute_count, attribute_length,
-    attribute_number, attribute_rows_start, attribute_start, attribute_sub, code_length,
-    code_start, counts, version,
+    ATTRIBUTE_ROW, Counts, Version, attribute_count, attribute_length, attribute_number,
+    attribute_rows_start, attribute_start, attribute_sub, code_length, code_start, counts, version,
 };
+use edd_instructions::{Context, Sort, UnitRule};
 use std::alloc::{AllocError, Global};
 
 // The context of the unit of an attribute row.

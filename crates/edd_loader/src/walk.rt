@@ -1,15 +1,16 @@
 //! A walk over the instructions of a unit, as long as nothing is wrong.
 
 ghost use Rattle.std.specs.Prelude.{◌≡◌, ◌+◌, ◌-◌, ◌<◌, ◌≤◌, IsTrue, length, option_map, slice_set, true, false, vec_len};
-ghost use Rattle.edd_image.specs.References.{names_exist};
-ghost use Rattle.edd_image.specs.Units.{is_allowed, takes, leaves};
+ghost use Rattle.edd_instructions.specs.References.{names_exist};
+ghost use Rattle.edd_instructions.specs.Units.{is_allowed, takes, leaves};
 ghost use Rattle.edd_loader.specs.declared.marks.Mark.TheVariants.{Stands};
 ghost use Rattle.edd_loader.specs.Marks.{agrees_with, brought, mark_at, note_at};
 ghost use Rattle.edd_loader.specs.Standing.{fits, jumps_inside, may_lead};
 ghost use Rattle.edd_loader.specs.Walks.{jump_agrees, jump_noted};
 
 use crate::marks::{Mark, note};
-use edd_image::{Context, Instruction, Sort, Version};
+use edd_image::Version;
+use edd_instructions::{Context, Instruction, Sort};
 
 /// How far a walk has come that has seen nothing wrong.
 #[derive(Drop)]

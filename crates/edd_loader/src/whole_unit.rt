@@ -1,14 +1,14 @@
 //! All rules on one unit.
 
 ghost use Rattle.std.specs.Prelude.{IfOk, MatchOption};
-ghost use Rattle.edd_image.specs.declared.rules.UnitRule.TheVariants.{Chain};
-ghost use Rattle.edd_image.specs.Units.{IsValidUnit, UnitBreaksFirst, UnitKeeps};
+ghost use Rattle.edd_instructions.specs.declared.rules.UnitRule.TheVariants.{Chain};
+ghost use Rattle.edd_instructions.specs.Units.{IsValidUnit, UnitBreaksFirst, UnitKeeps};
 ghost use Rattle.edd_loader.specs.Walks.{IsSurveyOf, IsWalkAt};
 
 use crate::marks::{Mark, are_settled, arrival};
 use crate::survey::Survey;
 use crate::walk::Walk;
-use edd_image::{Context, UnitRule, decode};
+use edd_instructions::{Context, UnitRule, decode};
 use std::alloc::{AllocError, Global};
 
 // Walks over a unit as long as nothing is wrong, and gives the place that it has reached. None

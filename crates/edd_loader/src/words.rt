@@ -4,7 +4,7 @@ ghost use Rattle.std.specs.Prelude.{◌≡◌, ◌<◌, ◌≤◌, ◌∷◌, If
 ghost use Rattle.std.specs.Int.{w32};
 ghost use Rattle.std.specs.Option.{option_map_or};
 ghost use Rattle.std.specs.Str.{is_utf8};
-ghost use Rattle.edd_image.specs.Decoding.{byte_from, number_from};
+ghost use Rattle.edd_image.specs.Front.{byte_from, number_from};
 ghost use Rattle.edd_image.specs.Strings.{front_of, is_string, is_variant, variant_from};
 ghost use Rattle.edd_loader.specs.Variants.{are_variants, piece_of};
 
@@ -19,7 +19,7 @@ pub struct Piece<'a> {
     pub behind: &'a [u8],
 }
 
-#[tactic(auto, unfolding(edd_image::specs::Decoding::byte_from))]
+#[tactic(auto, unfolding(edd_image::specs::Front::byte_from))]
 fn byte_from(bytes: &[u8]) -> Option<(u8, &[u8])>
     ensures value { option_map (λ x. (x.0, x.1.now)) result ≡ byte_from bytes.now }
     ensures shorter { IfSome result (λ x. length x.1.now < length bytes.now) }
@@ -30,7 +30,7 @@ fn byte_from(bytes: &[u8]) -> Option<(u8, &[u8])>
     }
 }
 
-#[tactic(auto, unfolding(edd_image::specs::Decoding::number_from))]
+#[tactic(auto, unfolding(edd_image::specs::Front::number_from))]
 fn u32_from(bytes: &[u8]) -> Option<(u32, &[u8])>
     ensures value { option_map (λ x. (x.0, x.1.now)) result ≡ number_from w32 bytes.now }
     ensures shorter { IfSome result (λ x. length x.1.now < length bytes.now) }

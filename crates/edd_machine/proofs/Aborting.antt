@@ -3,12 +3,12 @@ use Rattle.std.proofs.Common.{◌≡◌, ℕ, List, ◌∷◌, Option, Some, Non
 use Rattle.std.specs.Prelude.{option_map}
 use Rattle.edd_syntax.specs.declared.numbers.MethNo.{MethNo}
 use Rattle.edd_syntax.specs.DeviceValues.{AreDeviceValues}
-use Rattle.edd_image.specs.declared.records.Status.TheVariants.{Aborted}
-use Rattle.edd_image.specs.AbortMethods.{Start, aborting, start_at, start_in, start_listed}
+use Rattle.edd_instructions.specs.declared.records.Status.TheVariants.{Aborted}
+use Rattle.edd_instructions.specs.AbortMethods.{Start, aborting, start_at, start_in, start_listed}
 use Rattle.edd_image.specs.Contents.{AttributeFields, contents_in}
-use Rattle.edd_image.specs.Reading.{body_of}
-use Rattle.edd_image.specs.Steps.{State, opening}
-use Rattle.edd_image.specs.Validity.{IsValid}
+use Rattle.edd_instructions.specs.Reading.{body_of}
+use Rattle.edd_instructions.specs.Steps.{State, opening}
+use Rattle.edd_instructions.specs.Validity.{IsValid}
 use Rattle.edd_machine.specs.declared.code_unit.CodeUnit.{CodeUnit}
 use Rattle.edd_machine.specs.Running.{unit_at, running_unit, start_of, IsUnitOf, IsStateIn}
 use Rattle.edd_machine.specs.Types.{types_in}

@@ -9,16 +9,16 @@ use Rattle.edd_syntax.specs.declared.numbers.MethNo.{MethNo}
 use Rattle.edd_syntax.specs.declared.numbers.VarNo.{VarNo}
 use Rattle.edd_syntax.specs.TwosComplement.{wrap, store}
 use Rattle.edd_syntax.specs.DeviceValues.{VariableType, type_at, AreDeviceValues}
-use Rattle.edd_image.specs.declared.instruction.Instruction.{Instruction}
-use Rattle.edd_image.specs.declared.instruction.Instruction.TheVariants as instructions
+use Rattle.edd_instructions.specs.declared.instruction.Instruction.{Instruction}
+use Rattle.edd_instructions.specs.declared.instruction.Instruction.TheVariants as instructions
 use Rattle.edd_image.specs.declared.parts.VarKind.{VarKind}
-use Rattle.edd_image.specs.declared.unit.Version.TheVariants.{One, Two}
-use Rattle.edd_image.specs.declared.instruction.Ask.{Ask}
+use Rattle.edd_image.specs.declared.versions.Version.TheVariants.{One, Two}
+use Rattle.edd_instructions.specs.declared.instruction.Ask.{Ask}
 use Rattle.edd_image.specs.Contents.{contents_in, fields_of_variable}
-use Rattle.edd_image.specs.References.{names_exist}
+use Rattle.edd_instructions.specs.References.{names_exist}
 use Rattle.edd_image.specs.Fields.{counts_in}
-use Rattle.edd_image.specs.Steps.{State, Environment, Effect, on_top, store_in, act, act_ask}
-use Rattle.edd_image.specs.Validity.{IsValid}
+use Rattle.edd_instructions.specs.Steps.{State, Environment, Effect, on_top, store_in, act, act_ask}
+use Rattle.edd_instructions.specs.Validity.{IsValid}
 use Rattle.edd_machine.specs.declared.machine.Machine.{Machine}
 use Rattle.edd_machine.specs.declared.outcome.Outcome.{Outcome}
 use Rattle.edd_machine.specs.declared.outcome.Outcome.TheVariants.{GoesOn, Gives, Ends, Traps}

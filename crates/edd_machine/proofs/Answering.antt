@@ -1,21 +1,21 @@
 -- States that ask, and their answers.
 use Rattle.std.proofs.Common.{◌≡◌, ℕ, suc, ◌<◌, ◌≤◌, List, length, refl, sym, ap, subst, ◌∙◌, arith}
 use Rattle.edd_syntax.specs.Answers.{Answer, Go, Abort, IsValidAnswer}
-use Rattle.edd_image.specs.declared.records.Request.{Request}
-use Rattle.edd_image.specs.declared.records.Status.{Status}
-use Rattle.edd_image.specs.declared.records.Status.TheVariants.{Asking}
-use Rattle.edd_image.specs.declared.unit.Context.{Context}
+use Rattle.edd_instructions.specs.declared.records.Request.{Request}
+use Rattle.edd_instructions.specs.declared.records.Status.{Status}
+use Rattle.edd_instructions.specs.declared.records.Status.TheVariants.{Asking}
+use Rattle.edd_instructions.specs.declared.unit.Context.{Context}
 use Rattle.edd_image.specs.Contents.{contents_in}
-use Rattle.edd_image.specs.Execution.{answered}
-use Rattle.edd_image.specs.Reading.{environment_of}
-use Rattle.edd_image.specs.Steps.{State, Environment, StandsWith, Stands, IsState}
-use Rattle.edd_image.specs.Units.{instructions}
-use Rattle.edd_image.specs.Validity.{placed_unit}
-use Rattle.edd_image.proofs.AnsweredStates.{state_again}
+use Rattle.edd_instructions.specs.Execution.{answered}
+use Rattle.edd_instructions.specs.Reading.{environment_of}
+use Rattle.edd_instructions.specs.Steps.{State, Environment, StandsWith, Stands, IsState}
+use Rattle.edd_instructions.specs.Units.{instructions}
+use Rattle.edd_instructions.specs.Validity.{placed_unit}
+use Rattle.edd_instructions.proofs.AnsweredStates.{state_again}
 use Rattle.edd_machine.specs.declared.code_unit.CodeUnit.{CodeUnit}
 use Rattle.edd_machine.specs.Running.{IsStateIn}
 use Rattle.edd_machine.specs.Types.{types_in}
-use Rattle.edd_image.proofs.KnownInstructions.{pick}
+use Rattle.edd_instructions.proofs.KnownInstructions.{pick}
 
 pub asking_room : (context : Context) (env : Environment) (s : State) (r : Request)
     → IsState context env s → s.status ≡ Asking r → length s.operands < 128

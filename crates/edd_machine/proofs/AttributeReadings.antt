@@ -10,15 +10,15 @@ use Rattle.edd_syntax.specs.declared.numbers.Attr.TheVariants as attr
 use Rattle.edd_syntax.specs.declared.numbers.AttrRef.{AttrRef}
 use Rattle.edd_syntax.specs.DeviceValues.{AreDeviceValues}
 use Rattle.edd_syntax.specs.Numbers.{attr_number, kind_of, kind_number, has_attr, same_attr}
-use Rattle.edd_image.specs.declared.records.Record.{Record}
+use Rattle.edd_instructions.specs.declared.records.Record.{Record}
 use Rattle.edd_image.specs.declared.parts.Counts.{Counts}
-use Rattle.edd_image.specs.declared.unit.Sort.TheVariants.{Attribute}
+use Rattle.edd_instructions.specs.declared.unit.Sort.TheVariants.{Attribute}
 use Rattle.edd_image.specs.Contents.{AttributeFields, contents_in}
 use Rattle.edd_image.specs.Fields.{counts_in}
-use Rattle.edd_image.specs.References.{item_exists}
-use Rattle.edd_image.specs.Reading.{Reading, NoItem, Records, default_records, environment_of, given_within, is_no_item, is_row_of, opening_of, reading_of, reading_within, row_of, IsReading}
-use Rattle.edd_image.specs.Steps.{opening}
-use Rattle.edd_image.specs.Validity.{IsValid, is_body, sort_of}
+use Rattle.edd_image.specs.Existing.{item_exists}
+use Rattle.edd_instructions.specs.Reading.{Reading, NoItem, Records, default_records, environment_of, given_within, is_no_item, is_row_of, opening_of, reading_of, reading_within, row_of, IsReading}
+use Rattle.edd_instructions.specs.Steps.{opening}
+use Rattle.edd_instructions.specs.Validity.{IsValid, is_body, sort_of}
 use Rattle.edd_machine.specs.declared.code_unit.CodeUnit.{CodeUnit}
 use Rattle.edd_machine.specs.declared.fault.ReadFault.{ReadFault}
 use Rattle.edd_machine.specs.declared.fault.ReadFault.TheVariants as read_fault

@@ -11,14 +11,14 @@ use Rattle.edd_syntax.specs.declared.numbers.ItemNo.TheVariants as items
 use Rattle.edd_syntax.specs.declared.numbers.MethNo.{MethNo}
 use Rattle.edd_syntax.specs.Numbers.{kind_of, attr_from_number, has_attr, item_from_numbers}
 use Rattle.edd_image.specs.declared.parts.Counts.{Counts}
-use Rattle.edd_image.specs.declared.rules.Rule.TheVariants as rule
-use Rattle.edd_image.specs.declared.unit.Sort.TheVariants.{Method}
-use Rattle.edd_image.specs.AbortMethods.{start_at}
+use Rattle.edd_instructions.specs.declared.rules.Rule.TheVariants as rule
+use Rattle.edd_instructions.specs.declared.unit.Sort.TheVariants.{Method}
+use Rattle.edd_instructions.specs.AbortMethods.{start_at}
 use Rattle.edd_image.specs.Contents.{AttributeFields, contents_in}
-use Rattle.edd_image.specs.References.{item_exists}
-use Rattle.edd_image.specs.Reading.{body_of, is_row_of, opening_of}
-use Rattle.edd_image.specs.Steps.{opening}
-use Rattle.edd_image.specs.Validity.{IsValid, has_attribute, is_attribute_row, is_body, sort_of, slots_of, sub_fits}
+use Rattle.edd_image.specs.Existing.{item_exists}
+use Rattle.edd_instructions.specs.Reading.{body_of, is_row_of, opening_of}
+use Rattle.edd_instructions.specs.Steps.{opening}
+use Rattle.edd_instructions.specs.Validity.{IsValid, has_attribute, is_attribute_row, is_body, sort_of, slots_of, sub_fits}
 use Rattle.edd_loader.proofs.LookupLaws.{all_at}
 use Rattle.edd_loader.proofs.RowRules.{row_rules}
 use Rattle.edd_machine.specs.declared.code_unit.CodeUnit.{CodeUnit}

@@ -5,22 +5,22 @@ use Rattle.std.specs.Option.{option_map_or}
 use Rattle.std.proofs.lemmas.Bool.{ltb-true}
 use Rattle.edd_syntax.specs.declared.answer.Trap.{Trap}
 use Rattle.edd_syntax.specs.declared.answer.Trap.TheVariants as trap
-use Rattle.edd_image.specs.declared.instruction.Instruction.{Instruction}
-use Rattle.edd_image.specs.declared.records.Record.{Record}
-use Rattle.edd_image.specs.declared.records.Status.{Status}
-use Rattle.edd_image.specs.declared.records.Status.TheVariants.{Running, Asking, Ended, Aborted, Trapped}
-use Rattle.edd_image.specs.declared.records.Emitted.TheVariants as emitted
-use Rattle.edd_image.specs.declared.unit.Sort.{Sort}
-use Rattle.edd_image.specs.declared.unit.Sort.TheVariants.{Attribute}
-use Rattle.edd_image.specs.declared.unit.Way.{Way}
+use Rattle.edd_instructions.specs.declared.instruction.Instruction.{Instruction}
+use Rattle.edd_instructions.specs.declared.records.Record.{Record}
+use Rattle.edd_instructions.specs.declared.records.Status.{Status}
+use Rattle.edd_instructions.specs.declared.records.Status.TheVariants.{Running, Asking, Ended, Aborted, Trapped}
+use Rattle.edd_instructions.specs.declared.records.Emitted.TheVariants as emitted
+use Rattle.edd_instructions.specs.declared.unit.Sort.{Sort}
+use Rattle.edd_instructions.specs.declared.unit.Sort.TheVariants.{Attribute}
+use Rattle.edd_instructions.specs.declared.unit.Way.{Way}
 use Rattle.edd_image.specs.Contents.{contents_in}
-use Rattle.edd_image.specs.Decoding.{instruction_at}
-use Rattle.edd_image.specs.Reading.{environment_of, at_end, given_by, given_within, with_record}
-use Rattle.edd_image.specs.Steps.{State, Environment, Effect, opening, act, step}
-use Rattle.edd_image.specs.Units.{leaves, jump, is_allowed}
-use Rattle.edd_image.specs.Validity.{IsValid, placed_unit}
-use Rattle.edd_image.proofs.Lengths.{instruction_inside}
-use Rattle.edd_image.proofs.Progress.{AllFit, Arrived, Arrives, instruction_acts}
+use Rattle.edd_instructions.specs.Decoding.{instruction_at}
+use Rattle.edd_instructions.specs.Reading.{environment_of, at_end, given_by, given_within, with_record}
+use Rattle.edd_instructions.specs.Steps.{State, Environment, Effect, opening, act, step}
+use Rattle.edd_instructions.specs.Units.{leaves, jump, is_allowed}
+use Rattle.edd_instructions.specs.Validity.{IsValid, placed_unit}
+use Rattle.edd_instructions.proofs.Lengths.{instruction_inside}
+use Rattle.edd_instructions.proofs.Progress.{AllFit, Arrived, Arrives, instruction_acts}
 use Rattle.edd_machine.specs.declared.code_unit.CodeUnit.{CodeUnit}
 use Rattle.edd_machine.specs.declared.fault.ReadFault.{ReadFault}
 use Rattle.edd_machine.specs.declared.fault.ReadFault.TheVariants as read_fault

@@ -3,12 +3,12 @@ use Rattle.std.proofs.Common.{◌≡◌, ℕ, zero, suc, ◌+◌, ◌-◌, ◌�
 use Rattle.std.specs.List.{AllByRecursion, slice_get}
 use Rattle.std.proofs.lemmas.Bool.{leb-true}
 use Rattle.std.proofs.lemmas.List.{drop-take}
-use Rattle.edd_image.specs.declared.rules.Rule.TheVariants as rule
-use Rattle.edd_image.specs.declared.rules.UnitRule.TheVariants as unit_rule
+use Rattle.edd_instructions.specs.declared.rules.Rule.TheVariants as rule
+use Rattle.edd_instructions.specs.declared.rules.UnitRule.TheVariants as unit_rule
 use Rattle.edd_image.specs.Fields.{counts_in, code_start, code_length, attribute_rows_start, attribute_count}
 use Rattle.edd_image.specs.Contents.{AttributeFields, part, rows_from, attribute_fields, contents_in}
-use Rattle.edd_image.specs.Units.{UnitKeeps, IsValidUnit}
-use Rattle.edd_image.specs.Validity.{PlacedUnit, placed_unit, units, IsValid}
+use Rattle.edd_instructions.specs.Units.{UnitKeeps, IsValidUnit}
+use Rattle.edd_instructions.specs.Validity.{PlacedUnit, placed_unit, units, IsValid}
 use Rattle.edd_loader.specs.Sections.{lies_within}
 use Rattle.edd_loader.proofs.Halving.{holds_at}
 use Rattle.edd_loader.proofs.LookupLaws.{all_at}

@@ -3,17 +3,18 @@ use Rattle.std.proofs.Common.{◌≡◌, ℕ, ◌+◌, ◌≤◌, ℤ, List, len
 use Rattle.std.specs.Prelude.{option_map}
 use Rattle.edd_syntax.specs.DeviceValues.{AreDeviceValues}
 use Rattle.edd_image.specs.declared.parts.Counts.{Counts}
-use Rattle.edd_image.specs.declared.instruction.Instruction.{Instruction}
-use Rattle.edd_image.specs.declared.records.Status.{Status}
-use Rattle.edd_image.specs.declared.records.Status.TheVariants.{Running}
-use Rattle.edd_image.specs.AbortMethods.{follow_with, next, start_in}
+use Rattle.edd_instructions.specs.declared.instruction.Instruction.{Instruction}
+use Rattle.edd_instructions.specs.declared.records.Status.{Status}
+use Rattle.edd_instructions.specs.declared.records.Status.TheVariants.{Running}
+use Rattle.edd_instructions.specs.AbortMethods.{follow_with, next, start_in}
 use Rattle.edd_image.specs.Contents.{contents_in}
-use Rattle.edd_image.specs.Decoding.{◌>>=◌, instruction_at}
-use Rattle.edd_image.specs.Units.{IsValidUnit}
-use Rattle.edd_image.specs.Validity.{placed_unit, IsValid}
-use Rattle.edd_image.specs.Steps.{RunningUnit, State, Environment, Effect, IsState, opening, act, step, if_running}
-use Rattle.edd_image.specs.Reading.{environment_of}
-use Rattle.edd_image.proofs.NextStates.{next_state, opens}
+use Rattle.edd_image.specs.Front.{◌>>=◌}
+use Rattle.edd_instructions.specs.Decoding.{instruction_at}
+use Rattle.edd_instructions.specs.Units.{IsValidUnit}
+use Rattle.edd_instructions.specs.Validity.{placed_unit, IsValid}
+use Rattle.edd_instructions.specs.Steps.{RunningUnit, State, Environment, Effect, IsState, opening, act, step, if_running}
+use Rattle.edd_instructions.specs.Reading.{environment_of}
+use Rattle.edd_instructions.proofs.NextStates.{next_state, opens}
 use Rattle.edd_machine.specs.declared.machine.Machine.{Machine}
 use Rattle.edd_machine.specs.declared.code_unit.CodeUnit.{CodeUnit}
 use Rattle.edd_machine.specs.Running.{code_at, running_unit, state_of, IsUnitOf, IsStateIn, IsMachine, IsEffect, StepsTo, ActsTo, CanAct}

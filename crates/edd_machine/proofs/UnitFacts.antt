@@ -3,18 +3,18 @@ use Rattle.std.proofs.Common.{◌≡◌, ℕ, ◌+◌, ◌-◌, ◌<◌, ◌≤�
 use Rattle.std.specs.Prelude.{IfSome}
 use Rattle.std.specs.List.{AllByRecursion}
 use Rattle.std.specs.Option.{option_map_or}
-use Rattle.edd_image.specs.declared.instruction.Instruction.{Instruction}
-use Rattle.edd_image.specs.declared.records.Status.{Status}
-use Rattle.edd_image.specs.declared.records.Status.TheVariants.{Running}
-use Rattle.edd_image.specs.declared.unit.Context.{Context}
-use Rattle.edd_image.specs.declared.unit.Sort.{Sort}
-use Rattle.edd_image.specs.declared.unit.Sort.TheVariants.{Attribute, Method}
-use Rattle.edd_image.specs.declared.unit.Way.{Way}
-use Rattle.edd_image.specs.Decoding.{instruction_at}
-use Rattle.edd_image.specs.References.{names_exist}
-use Rattle.edd_image.specs.Units.{Placed, instructions, takes, leaves, onward, jump, ways, is_start, is_forward, is_allowed, IsValidUnit}
-use Rattle.edd_image.specs.Steps.{State, Environment, StandsWith, Stands, IsState}
-use Rattle.edd_image.proofs.KnownInstructions.{each_two, each, pick, Known, all_known, of_two, if_some_at}
+use Rattle.edd_instructions.specs.declared.instruction.Instruction.{Instruction}
+use Rattle.edd_instructions.specs.declared.records.Status.{Status}
+use Rattle.edd_instructions.specs.declared.records.Status.TheVariants.{Running}
+use Rattle.edd_instructions.specs.declared.unit.Context.{Context}
+use Rattle.edd_instructions.specs.declared.unit.Sort.{Sort}
+use Rattle.edd_instructions.specs.declared.unit.Sort.TheVariants.{Attribute, Method}
+use Rattle.edd_instructions.specs.declared.unit.Way.{Way}
+use Rattle.edd_instructions.specs.Decoding.{instruction_at}
+use Rattle.edd_instructions.specs.References.{names_exist}
+use Rattle.edd_instructions.specs.Units.{Placed, instructions, takes, leaves, onward, jump, ways, is_start, is_forward, is_allowed, IsValidUnit}
+use Rattle.edd_instructions.specs.Steps.{State, Environment, StandsWith, Stands, IsState}
+use Rattle.edd_instructions.proofs.KnownInstructions.{each_two, each, pick, Known, all_known, of_two, if_some_at}
 use Rattle.edd_loader.proofs.Listing.{within}
 
 ways_small : (depth : ℕ → ℕ) (xs : List Placed) (ws : List Way)

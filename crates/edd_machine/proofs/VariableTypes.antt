@@ -7,8 +7,8 @@ use Rattle.std.proofs.lemmas.Option.{slice_get-get_or}
 use Rattle.edd_syntax.specs.DeviceValues.{VariableType, is_in_range, AreDeviceValues}
 use Rattle.edd_image.specs.declared.parts.VarKind.{VarKind}
 use Rattle.edd_image.specs.Layout.{type_code}
-use Rattle.edd_image.specs.Contents.{contents_in, fields_of_variable}
-use Rattle.edd_image.specs.Validity.{IsValid, type_of, is_variable_row}
+use Rattle.edd_image.specs.Contents.{contents_in, fields_of_variable, type_of}
+use Rattle.edd_instructions.specs.Validity.{IsValid, is_variable_row}
 use Rattle.edd_loader.proofs.LookupLaws.{all_at}
 use Rattle.edd_loader.proofs.VariableTypes.{variable_rows}
 

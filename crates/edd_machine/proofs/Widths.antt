@@ -11,10 +11,10 @@ use Rattle.std.specs.Ordering.{int_eq}
 use Rattle.std.specs.Prelude.{◌&&◌, int_div, Ok}
 use Rattle.edd_syntax.specs.declared.operators.Operator.TheVariants as operator
 use Rattle.edd_syntax.specs.TwosComplement.{residue, wrap, divide, operate}
-use Rattle.edd_image.specs.declared.unit.Sort.{Sort}
-use Rattle.edd_image.specs.declared.unit.Sort.TheVariants.{Attribute, Method}
-use Rattle.edd_image.specs.Steps.{Fits, width_of}
-use Rattle.edd_image.proofs.Widths.{operate_fits}
+use Rattle.edd_instructions.specs.declared.unit.Sort.{Sort}
+use Rattle.edd_instructions.specs.declared.unit.Sort.TheVariants.{Attribute, Method}
+use Rattle.edd_instructions.specs.Steps.{Fits, width_of}
+use Rattle.edd_instructions.proofs.Widths.{operate_fits}
 
 cond_sel : (b : Bool) (x y : ℤ) → cond b x y ≡ sel b x y
 cond_sel true x y = refl

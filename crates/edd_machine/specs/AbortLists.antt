@@ -1,8 +1,8 @@
 -- Lists of abort methods.
 use Rattle.std.specs.Prelude.{ℕ, List, [], map}
 use Rattle.edd_syntax.specs.declared.numbers.MethNo.{MethNo}
-use Rattle.edd_image.specs.declared.records.Status.TheVariants.{Aborted}
-use Rattle.edd_image.specs.Steps.{State}
+use Rattle.edd_instructions.specs.declared.records.Status.TheVariants.{Aborted}
+use Rattle.edd_instructions.specs.Steps.{State}
 
 -- the methods of these numbers
 abbrev pub methods_of : List ℕ → List MethNo

@@ -6,7 +6,7 @@ use Rattle.edd_syntax.specs.declared.numbers.AttrRef.{AttrRef}
 use Rattle.edd_syntax.specs.Answers.{SetFault, BadVariable, OutOfRange}
 use Rattle.edd_syntax.specs.DeviceValues.{VariableType, AreDeviceValues}
 use Rattle.edd_image.specs.Contents.{contents_in}
-use Rattle.edd_image.specs.Reading.{NoItem, Fault, IsReading, is_no_item}
+use Rattle.edd_instructions.specs.Reading.{NoItem, Fault, IsReading, is_no_item}
 use Rattle.edd_machine.specs.declared.fault.ValuesFault.{ValuesFault}
 use Rattle.edd_machine.specs.declared.fault.ValuesFault.TheVariants as values_fault
 use Rattle.edd_machine.specs.declared.fault.ReadFault.{ReadFault}

@@ -2,9 +2,9 @@
 use Rattle.std.specs.Prelude.{◌≡◌, ℕ, List, Some, Result, Err}
 use Rattle.edd_syntax.specs.declared.answer.Trap.{Trap}
 use Rattle.edd_syntax.specs.declared.answer.Trap.TheVariants as trap
-use Rattle.edd_image.specs.declared.records.Record.{Record}
-use Rattle.edd_image.specs.Steps.{State, Environment}
-use Rattle.edd_image.specs.Reading.{given_within}
+use Rattle.edd_instructions.specs.declared.records.Record.{Record}
+use Rattle.edd_instructions.specs.Steps.{State, Environment}
+use Rattle.edd_instructions.specs.Reading.{given_within}
 use Rattle.edd_machine.specs.declared.fault.ReadFault.{ReadFault}
 use Rattle.edd_machine.specs.declared.fault.ReadFault.TheVariants as read_fault
 

@@ -1,15 +1,15 @@
 -- What the instructions result in that units of both sorts have.
 use Rattle.std.specs.Prelude.{◌≡◌, ℕ, ℤ, Bool, true, false, List, [], Some}
 use Rattle.edd_syntax.specs.declared.numbers.Element.{Element}
-use Rattle.edd_image.specs.declared.instruction.Instruction.{Instruction}
-use Rattle.edd_image.specs.declared.instruction.Instruction.TheVariants as instructions
-use Rattle.edd_image.specs.declared.records.Status.TheVariants as status
-use Rattle.edd_image.specs.declared.records.Emitted.TheVariants as emitted
-use Rattle.edd_image.specs.declared.unit.Sort.{Sort}
-use Rattle.edd_image.specs.declared.unit.Sort.TheVariants.{Attribute}
-use Rattle.edd_image.specs.declared.unit.Version.{Version}
-use Rattle.edd_image.specs.Steps.{State, Environment, Effect, act}
-use Rattle.edd_image.specs.Units.{is_allowed}
+use Rattle.edd_instructions.specs.declared.instruction.Instruction.{Instruction}
+use Rattle.edd_instructions.specs.declared.instruction.Instruction.TheVariants as instructions
+use Rattle.edd_instructions.specs.declared.records.Status.TheVariants as status
+use Rattle.edd_instructions.specs.declared.records.Emitted.TheVariants as emitted
+use Rattle.edd_instructions.specs.declared.unit.Sort.{Sort}
+use Rattle.edd_instructions.specs.declared.unit.Sort.TheVariants.{Attribute}
+use Rattle.edd_image.specs.declared.versions.Version.{Version}
+use Rattle.edd_instructions.specs.Steps.{State, Environment, Effect, act}
+use Rattle.edd_instructions.specs.Units.{is_allowed}
 use Rattle.edd_machine.specs.declared.outcome.Outcome.{Outcome}
 use Rattle.edd_machine.specs.declared.outcome.Outcome.TheVariants.{GoesOn, Gives, Ends, Traps}
 

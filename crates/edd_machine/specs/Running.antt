@@ -1,16 +1,16 @@
 -- A machine on a unit of an image, as a state.
 use Rattle.std.specs.Prelude.{◌≡◌, ℕ, ◌+◌, ◌-◌, ◌≤◌, true, List, length, Option, Some, IfSome}
 use Rattle.std.specs.List.{slice_get}
-use Rattle.edd_image.specs.declared.instruction.Instruction.{Instruction}
-use Rattle.edd_image.specs.declared.unit.Context.{Context}
+use Rattle.edd_instructions.specs.declared.instruction.Instruction.{Instruction}
+use Rattle.edd_instructions.specs.declared.unit.Context.{Context}
 use Rattle.edd_image.specs.Contents.{AttributeFields, contents_in, part}
 use Rattle.edd_image.specs.Fields.{code_start, counts_in}
-use Rattle.edd_image.specs.References.{names_exist}
-use Rattle.edd_image.specs.Units.{takes, leaves, is_allowed}
-use Rattle.edd_image.specs.Validity.{sort_of, slots_of, placed_unit}
-use Rattle.edd_image.specs.AbortMethods.{Start, step_in}
-use Rattle.edd_image.specs.Steps.{RunningUnit, State, Effect, IsState, act}
-use Rattle.edd_image.specs.Reading.{environment_of}
+use Rattle.edd_instructions.specs.References.{names_exist}
+use Rattle.edd_instructions.specs.Units.{takes, leaves, is_allowed}
+use Rattle.edd_instructions.specs.Validity.{sort_of, slots_of, placed_unit}
+use Rattle.edd_instructions.specs.AbortMethods.{Start, step_in}
+use Rattle.edd_instructions.specs.Steps.{RunningUnit, State, Effect, IsState, act}
+use Rattle.edd_instructions.specs.Reading.{environment_of}
 use Rattle.edd_machine.specs.declared.code_unit.CodeUnit.{CodeUnit}
 use Rattle.edd_machine.specs.declared.machine.Machine.{Machine}
 

@@ -1,10 +1,10 @@
 //! The list of abort methods.
 
 ghost use Rattle.std.specs.Prelude.{◌≡◌, [], ◌∷◌, ◌++◌, ◌<◌, ◌≤◌, IfNone, IfSome, OnSome, length, nat_le};
-ghost use Rattle.edd_image.specs.AbortMethods.{aborting, start_in, start_listed};
+ghost use Rattle.edd_instructions.specs.AbortMethods.{aborting, start_in, start_listed};
 ghost use Rattle.edd_image.specs.Contents.{contents_in};
-ghost use Rattle.edd_image.specs.Steps.{State};
-ghost use Rattle.edd_image.specs.Validity.{IsValid};
+ghost use Rattle.edd_instructions.specs.Steps.{State};
+ghost use Rattle.edd_instructions.specs.Validity.{IsValid};
 ghost use Rattle.edd_machine.specs.AbortLists.{aborted};
 ghost use Rattle.edd_machine.specs.Running.{IsUnitOf, start_of};
 

@@ -4,9 +4,9 @@ ghost use Rattle.std.specs.Prelude.{◌≡◌, ℕ, ◌<◌, ◌-◌, ◌^◌, �
 ghost use Rattle.std.specs.Int.{int_shr};
 ghost use Rattle.edd_syntax.specs.declared.operators.UnaryOperator.TheVariants as unary_operator;
 ghost use Rattle.edd_syntax.specs.TwosComplement.{wrap, bitwise, divide, shift, operate, compare, apply, truth};
-ghost use Rattle.edd_image.specs.Steps.{Fits, width_of};
+ghost use Rattle.edd_instructions.specs.Steps.{Fits, width_of};
 
-use edd_image::Sort;
+use edd_instructions::Sort;
 use edd_syntax::answer::Trap;
 use edd_syntax::operators::{Comparison, Operator};
 

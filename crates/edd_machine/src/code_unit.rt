@@ -3,7 +3,7 @@
 ghost use Rattle.std.specs.Prelude.{◌≡◌, ◌+◌, ◌≤◌, length};
 ghost use Rattle.edd_machine.specs.Running.{code_at};
 
-use edd_image::Sort;
+use edd_instructions::Sort;
 
 /// The unit of an attribute row: its sort, its number of slots, and the place and the number of the
 /// bytes of its code among those of the image.

@@ -2,13 +2,13 @@
 
 ghost use Rattle.std.specs.Prelude.{◌≡◌, ℕ, ℤ, ◌<◌, List, Some, length};
 ghost use Rattle.edd_syntax.specs.Answers.{Answer, IsValidAnswer};
-ghost use Rattle.edd_image.specs.declared.records.Request.{Request};
-ghost use Rattle.edd_image.specs.declared.records.Status.TheVariants.{Asking};
+ghost use Rattle.edd_instructions.specs.declared.records.Request.{Request};
+ghost use Rattle.edd_instructions.specs.declared.records.Status.TheVariants.{Asking};
 ghost use Rattle.edd_image.specs.Contents.{AttributeFields, contents_in};
-ghost use Rattle.edd_image.specs.Execution.{answered};
-ghost use Rattle.edd_image.specs.Reading.{body_of, opening_of};
-ghost use Rattle.edd_image.specs.Steps.{State, opening};
-ghost use Rattle.edd_image.specs.Validity.{IsValid};
+ghost use Rattle.edd_instructions.specs.Execution.{answered};
+ghost use Rattle.edd_instructions.specs.Reading.{body_of, opening_of};
+ghost use Rattle.edd_instructions.specs.Steps.{State, opening};
+ghost use Rattle.edd_instructions.specs.Validity.{IsValid};
 ghost use Rattle.edd_syntax.specs.declared.numbers.MethNo.{MethNo};
 ghost use Rattle.edd_machine.specs.declared.code_unit.CodeUnit.{CodeUnit};
 ghost use Rattle.edd_machine.specs.Running.{unit_at, running_unit, IsStateIn};

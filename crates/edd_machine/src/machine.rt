@@ -3,16 +3,16 @@
 ghost use Rattle.std.specs.Prelude.{◌≡◌, ℕ, ◌<◌, ◌≤◌, List, [], ◌∷◌, length, pos, replicate};
 ghost use Rattle.std.specs.List.{AllByRecursion};
 ghost use Rattle.edd_syntax.specs.DeviceValues.{AreDeviceValues};
-ghost use Rattle.edd_image.specs.declared.instruction.Instruction.TheVariants as instructions;
-ghost use Rattle.edd_image.specs.declared.records.Emitted.TheVariants as emitted;
-ghost use Rattle.edd_image.specs.declared.records.Status.TheVariants.{Running};
-ghost use Rattle.edd_image.specs.declared.unit.Sort.TheVariants.{Method};
-ghost use Rattle.edd_image.specs.AbortMethods.{aborting, next, start_in, start_listed};
+ghost use Rattle.edd_instructions.specs.declared.instruction.Instruction.TheVariants as instructions;
+ghost use Rattle.edd_instructions.specs.declared.records.Emitted.TheVariants as emitted;
+ghost use Rattle.edd_instructions.specs.declared.records.Status.TheVariants.{Running};
+ghost use Rattle.edd_instructions.specs.declared.unit.Sort.TheVariants.{Method};
+ghost use Rattle.edd_instructions.specs.AbortMethods.{aborting, next, start_in, start_listed};
 ghost use Rattle.edd_image.specs.Contents.{contents_in};
 ghost use Rattle.edd_image.specs.Fields.{counts_in};
-ghost use Rattle.edd_image.specs.Steps.{Environment, Fits, act, act_ask, ask_for, opening};
-ghost use Rattle.edd_image.specs.Units.{numbers_asked};
-ghost use Rattle.edd_image.specs.Validity.{IsValid};
+ghost use Rattle.edd_instructions.specs.Steps.{Environment, Fits, act, act_ask, ask_for, opening};
+ghost use Rattle.edd_instructions.specs.Units.{numbers_asked};
+ghost use Rattle.edd_instructions.specs.Validity.{IsValid};
 ghost use Rattle.edd_machine.specs.Outcomes.{comes_to};
 ghost use Rattle.edd_machine.specs.Running.{running_unit, start_of, state_of, IsUnitOf, IsMachine, IsEffect, StepsTo, ActsTo, CanAct};
 ghost use Rattle.edd_machine.specs.Types.{types_in};
@@ -25,7 +25,7 @@ use crate::outcome::{Outcome, perform};
 use crate::ranges::stored;
 use crate::values::Values;
 use arrayvec::ArrayVec;
-use edd_image::{Ask, Emitted, Instruction, Request, Sort, Status, decode};
+use edd_instructions::{Ask, Emitted, Instruction, Request, Sort, Status, decode};
 use edd_loader::Image;
 use edd_syntax::numbers::{MethNo, VarNo};
 
@@ -124,7 +124,7 @@ impl Machine {
 
     // The value of a slot.
     #[inline(always)]
-    #[tactic(auto, unfolding(edd_image::specs::Steps::act))]
+    #[tactic(auto, unfolding(edd_instructions::specs::Steps::act))]
     fn push_slot(&mut self, slot: u16, next: usize)
         requires room { length self.old.operands < 128 }
         requires exists { slot < length self.old.slots.items }
@@ -138,7 +138,7 @@ impl Machine {
 
     // Sets a slot to the topmost operand, which stays.
     #[inline(always)]
-    #[tactic(auto, unfolding(edd_image::specs::Steps::act))]
+    #[tactic(auto, unfolding(edd_instructions::specs::Steps::act))]
     fn set_slot(&mut self, slot: u16, next: usize)
         requires enough { 1 ≤ length self.old.operands }
         requires exists { slot < length self.old.slots.items }
@@ -151,7 +151,7 @@ impl Machine {
     }
 
     // Stores the topmost operand in a variable, and leaves what is read back.
-    #[tactic(auto, unfolding(edd_image::specs::Steps::act))]
+    #[tactic(auto, unfolding(edd_instructions::specs::Steps::act))]
     fn store(&mut self, image: &Image<'_>, variable: VarNo, next: usize)
         requires enough { 1 ≤ length self.old.operands }
         requires valid { IsValid image.now }
@@ -225,7 +225,7 @@ impl Machine {
     }
 
     // Ends the run without a method's end.
-    #[tactic(auto, unfolding(edd_image::specs::Steps::act))]
+    #[tactic(auto, unfolding(edd_instructions::specs::Steps::act))]
     fn abort(&mut self)
         ensures unit { self.new.unit ≡ self.old.unit }
         ensures acts { (b : List ℕ) (next : ℕ)
@@ -236,7 +236,7 @@ impl Machine {
     }
 
     // Lists a method, where the run isn't aborting and there is room: the value tells whether.
-    #[tactic(auto, unfolding(edd_image::specs::Steps::act))]
+    #[tactic(auto, unfolding(edd_instructions::specs::Steps::act))]
     fn add_abort_method(&mut self, method: MethNo, next: usize)
         requires { length self.old.operands < 128 }
         ensures unit { self.new.unit ≡ self.old.unit }

@@ -3,20 +3,20 @@
 ghost use Rattle.std.specs.Prelude.{◌≡◌, ℤ, ◌+◌, ◌-◌, ◌<◌, ◌≤◌, IfSome, List, length, true};
 ghost use Rattle.std.specs.List.{AllByRecursion};
 ghost use Rattle.edd_syntax.specs.declared.numbers.VarNo.{VarNo};
-ghost use Rattle.edd_image.specs.declared.instruction.Instruction.TheVariants as instructions;
-ghost use Rattle.edd_image.specs.declared.unit.Sort.{Sort};
+ghost use Rattle.edd_instructions.specs.declared.instruction.Instruction.TheVariants as instructions;
+ghost use Rattle.edd_instructions.specs.declared.unit.Sort.{Sort};
 ghost use Rattle.edd_image.specs.Contents.{contents_in};
 ghost use Rattle.edd_image.specs.Fields.{counts_in};
-ghost use Rattle.edd_image.specs.Steps.{Fits, width_of};
+ghost use Rattle.edd_instructions.specs.Steps.{Fits, width_of};
 ghost use Rattle.edd_syntax.specs.Elements.{element_value};
-ghost use Rattle.edd_image.specs.Units.{takes, leaves};
+ghost use Rattle.edd_instructions.specs.Units.{takes, leaves};
 ghost use Rattle.edd_machine.specs.Outcomes.{IsShared, Performs, PerformsWith, gives_record};
 
 use crate::arithmetic::{
     compare, complement, logical_not, negate, operate, wrapped, wrapped_constant,
 };
 use crate::operands::Operands;
-use edd_image::{Instruction, Record, Sort};
+use edd_instructions::{Instruction, Record, Sort};
 use edd_loader::Image;
 use edd_syntax::answer::Trap;
 use edd_syntax::numbers::{ArrNo, VarNo};
@@ -36,7 +36,7 @@ pub enum Outcome {
 }
 
 #[inline(always)]
-#[tactic(auto, unfolding(edd_image::specs::Steps::act))]
+#[tactic(auto, unfolding(edd_instructions::specs::Steps::act))]
 fn push(operands: &mut Operands, sort: Sort, number: u32, next: usize) -> Outcome
     requires { length operands.old < 128 }
     ensures { (values : List ℤ)
@@ -47,7 +47,7 @@ fn push(operands: &mut Operands, sort: Sort, number: u32, next: usize) -> Outcom
 }
 
 #[inline(always)]
-#[tactic(auto, unfolding(edd_image::specs::Steps::act))]
+#[tactic(auto, unfolding(edd_instructions::specs::Steps::act))]
 fn push_variable(
     operands: &mut Operands,
     sort: Sort,
@@ -65,7 +65,7 @@ fn push_variable(
 }
 
 #[inline(always)]
-#[tactic(auto, unfolding(edd_image::specs::Steps::act))]
+#[tactic(auto, unfolding(edd_instructions::specs::Steps::act))]
 fn pop(operands: &mut Operands, next: usize) -> Outcome
     requires { 1 ≤ length operands.old }
     ensures { (sort : Sort) (values : List ℤ)
@@ -76,7 +76,7 @@ fn pop(operands: &mut Operands, next: usize) -> Outcome
 }
 
 #[inline(always)]
-#[tactic(auto, unfolding(edd_image::specs::Steps::act))]
+#[tactic(auto, unfolding(edd_instructions::specs::Steps::act))]
 fn duplicate(operands: &mut Operands, next: usize) -> Outcome
     requires enough { 1 ≤ length operands.old }
     requires room { length operands.old < 128 }
@@ -88,7 +88,7 @@ fn duplicate(operands: &mut Operands, next: usize) -> Outcome
 }
 
 #[inline(always)]
-#[tactic(auto, unfolding(edd_image::specs::Steps::act))]
+#[tactic(auto, unfolding(edd_instructions::specs::Steps::act))]
 fn operate_two(operands: &mut Operands, sort: Sort, operator: Operator, next: usize) -> Outcome
     requires enough { 2 ≤ length operands.old }
     requires fit { AllByRecursion (Fits sort) operands.old }
@@ -110,7 +110,7 @@ fn operate_two(operands: &mut Operands, sort: Sort, operator: Operator, next: us
 }
 
 #[inline(always)]
-#[tactic(auto, unfolding(edd_image::specs::Steps::act))]
+#[tactic(auto, unfolding(edd_instructions::specs::Steps::act))]
 fn compare_two(operands: &mut Operands, comparison: Comparison, next: usize) -> Outcome
     requires enough { 2 ≤ length operands.old }
     ensures { (sort : Sort) (values : List ℤ)
@@ -123,7 +123,7 @@ fn compare_two(operands: &mut Operands, comparison: Comparison, next: usize) -> 
 }
 
 #[inline(always)]
-#[tactic(auto, unfolding(edd_image::specs::Steps::act))]
+#[tactic(auto, unfolding(edd_instructions::specs::Steps::act))]
 fn negate_top(operands: &mut Operands, sort: Sort, next: usize) -> Outcome
     requires enough { 1 ≤ length operands.old }
     requires fit { AllByRecursion (Fits sort) operands.old }
@@ -135,7 +135,7 @@ fn negate_top(operands: &mut Operands, sort: Sort, next: usize) -> Outcome
 }
 
 #[inline(always)]
-#[tactic(auto, unfolding(edd_image::specs::Steps::act))]
+#[tactic(auto, unfolding(edd_instructions::specs::Steps::act))]
 fn not_top(operands: &mut Operands, next: usize) -> Outcome
     requires enough { 1 ≤ length operands.old }
     ensures { (sort : Sort) (values : List ℤ)
@@ -146,7 +146,7 @@ fn not_top(operands: &mut Operands, next: usize) -> Outcome
 }
 
 #[inline(always)]
-#[tactic(auto, unfolding(edd_image::specs::Steps::act))]
+#[tactic(auto, unfolding(edd_instructions::specs::Steps::act))]
 fn complement_top(operands: &mut Operands, next: usize) -> Outcome
     requires enough { 1 ≤ length operands.old }
     ensures { (sort : Sort) (values : List ℤ)
@@ -157,7 +157,7 @@ fn complement_top(operands: &mut Operands, next: usize) -> Outcome
 }
 
 #[inline(always)]
-#[tactic(auto, unfolding(edd_image::specs::Steps::act))]
+#[tactic(auto, unfolding(edd_instructions::specs::Steps::act))]
 fn jump_if_zero(operands: &mut Operands, target: u32, next: usize) -> Outcome
     requires { 1 ≤ length operands.old }
     ensures { (sort : Sort) (values : List ℤ)
@@ -172,7 +172,7 @@ fn jump_if_zero(operands: &mut Operands, target: u32, next: usize) -> Outcome
 }
 
 #[inline(always)]
-#[tactic(auto, unfolding(edd_image::specs::Steps::act))]
+#[tactic(auto, unfolding(edd_instructions::specs::Steps::act))]
 fn jump_if_not_zero(operands: &mut Operands, target: u32, next: usize) -> Outcome
     requires { 1 ≤ length operands.old }
     ensures { (sort : Sort) (values : List ℤ)
@@ -187,7 +187,7 @@ fn jump_if_not_zero(operands: &mut Operands, target: u32, next: usize) -> Outcom
 }
 
 #[inline(always)]
-#[tactic(auto, unfolding(edd_image::specs::Steps::act))]
+#[tactic(auto, unfolding(edd_instructions::specs::Steps::act))]
 fn case(operands: &mut Operands, label: i64, target: u32, next: usize) -> Outcome
     requires enough { 1 ≤ length operands.old }
     ensures { (sort : Sort) (values : List ℤ)
@@ -203,7 +203,7 @@ fn case(operands: &mut Operands, label: i64, target: u32, next: usize) -> Outcom
 }
 
 #[inline(always)]
-#[tactic(auto, unfolding(edd_image::specs::Steps::act))]
+#[tactic(auto, unfolding(edd_instructions::specs::Steps::act))]
 fn give_number(operands: &mut Operands, next: usize) -> Outcome
     requires { 1 ≤ length operands.old }
     ensures { (sort : Sort) (values : List ℤ)
@@ -233,7 +233,7 @@ fn element_value(
 }
 
 #[inline(always)]
-#[tactic(auto, unfolding(edd_image::specs::Steps::act))]
+#[tactic(auto, unfolding(edd_instructions::specs::Steps::act))]
 fn read_element(
     operands: &mut Operands,
     image: &Image<'_>,
@@ -261,7 +261,7 @@ fn read_element(
 
 // The record that an instruction has with it. The operands stay.
 #[inline(always)]
-#[tactic(auto, unfolding(edd_image::specs::Steps::act))]
+#[tactic(auto, unfolding(edd_instructions::specs::Steps::act))]
 fn give(instruction: Instruction, next: usize) -> Outcome
     requires { gives_record instruction ≡ true }
     ensures { (sort : Sort) (values operands : List ℤ)
@@ -323,7 +323,7 @@ fn give(instruction: Instruction, next: usize) -> Outcome
 
 /// What an instruction that attributes may have results in.
 #[inline(always)]
-#[tactic(auto, unfolding(edd_image::specs::Steps::act))]
+#[tactic(auto, unfolding(edd_instructions::specs::Steps::act))]
 pub fn perform(
     operands: &mut Operands,
     image: &Image<'_>,

@@ -2,11 +2,11 @@
 
 ghost use Rattle.std.specs.Prelude.{◌≡◌, ℤ, List, IfErr, IfOk, OnOk, Ok, is_some};
 ghost use Rattle.edd_syntax.specs.DeviceValues.{AreDeviceValues};
-ghost use Rattle.edd_image.specs.declared.unit.Sort.TheVariants.{Attribute};
+ghost use Rattle.edd_instructions.specs.declared.unit.Sort.TheVariants.{Attribute};
 ghost use Rattle.edd_image.specs.Contents.{Contents, contents_in};
-ghost use Rattle.edd_image.specs.Reading.{Records, IsReading, default_records, environment_of, is_no_item, reading_of, row_of};
-ghost use Rattle.edd_image.specs.Steps.{opening};
-ghost use Rattle.edd_image.specs.Validity.{IsValid};
+ghost use Rattle.edd_instructions.specs.Reading.{Records, IsReading, default_records, environment_of, is_no_item, reading_of, row_of};
+ghost use Rattle.edd_instructions.specs.Steps.{opening};
+ghost use Rattle.edd_instructions.specs.Validity.{IsValid};
 ghost use Rattle.edd_machine.specs.Faults.{IsReadFault};
 ghost use Rattle.edd_machine.specs.Given.{Gives, GivesFault};
 ghost use Rattle.edd_machine.specs.Running.{running_unit, IsUnitOf};
@@ -18,7 +18,8 @@ use crate::operands::Operands;
 use crate::outcome::{Outcome, perform};
 use crate::rows::find_attribute;
 use crate::values::Values;
-use edd_image::{Counts, Record, decode};
+use edd_image::Counts;
+use edd_instructions::{Record, decode};
 use edd_loader::Image;
 use edd_syntax::numbers::{Attr, AttrRef};
 use std::alloc::{AllocError, Global};

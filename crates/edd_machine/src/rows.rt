@@ -2,16 +2,17 @@
 
 ghost use Rattle.std.specs.Prelude.{◌≡◌, ◌+◌, ◌≤◌, IfSome, length, option_map};
 ghost use Rattle.edd_image.specs.Contents.{attribute_fields, contents_in};
-ghost use Rattle.edd_image.specs.Reading.{row_of, body_of};
-ghost use Rattle.edd_image.specs.Validity.{IsValid};
-ghost use Rattle.edd_image.specs.declared.unit.Sort.TheVariants.{Method};
+ghost use Rattle.edd_instructions.specs.Reading.{row_of, body_of};
+ghost use Rattle.edd_instructions.specs.Validity.{IsValid};
+ghost use Rattle.edd_instructions.specs.declared.unit.Sort.TheVariants.{Method};
 ghost use Rattle.edd_loader.specs.Starts.{starts_in};
 ghost use Rattle.edd_machine.specs.Running.{unit_at, IsUnitOf};
 
 use crate::code_unit::CodeUnit;
 use edd_image::{
-    ATTRIBUTE_ROW, Sort, attribute_length, attribute_number, attribute_start, attribute_sub,
+    ATTRIBUTE_ROW, attribute_length, attribute_number, attribute_start, attribute_sub,
 };
+use edd_instructions::Sort;
 use edd_loader::{Image, Starts, attribute_row, body_row};
 use edd_syntax::numbers::{Attr, AttrRef, MethNo};
 

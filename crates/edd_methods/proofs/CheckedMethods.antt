@@ -18,15 +18,15 @@ use Rattle.edd_syntax.specs.LayoutVersion.{names_it, one_names_it}
 use Rattle.edd_syntax.specs.SubsetRules.{Placed, body_expressions, call_mismatches}
 use Rattle.edd_syntax.specs.Text as texts
 use Rattle.edd_syntax.specs.Words.{Words, words_of}
-use Rattle.edd_image.specs.declared.unit.Context.{Context}
-use Rattle.edd_image.specs.Agreement.{counts_of, string_of_table, version_for}
-use Rattle.edd_image.specs.MethodAgreement.{IsMethodCode, method_context}
+use Rattle.edd_instructions.specs.declared.unit.Context.{Context}
+use Rattle.edd_instructions.specs.Agreement.{counts_of, string_of_table, version_for}
+use Rattle.edd_instructions.specs.MethodAgreement.{IsMethodCode, method_context}
 use Rattle.edd_image.specs.declared.parts.Counts.{Counts}
-use Rattle.edd_image.specs.declared.unit.Sort.TheVariants.{Method}
-use Rattle.edd_image.specs.declared.unit.Version.{Version}
-use Rattle.edd_image.specs.declared.unit.Version.TheVariants.{Two}
-use Rattle.edd_image.specs.References.{string_exists}
-use Rattle.edd_image.specs.Units.{IsValidUnit}
+use Rattle.edd_instructions.specs.declared.unit.Sort.TheVariants.{Method}
+use Rattle.edd_image.specs.declared.versions.Version.{Version}
+use Rattle.edd_image.specs.declared.versions.Version.TheVariants.{Two}
+use Rattle.edd_image.specs.Existing.{string_exists}
+use Rattle.edd_instructions.specs.Units.{IsValidUnit}
 use Rattle.edd_code.specs.Flow.{AreSpelled, all_straight, may_stand}
 use Rattle.edd_code.specs.MethodExpressions.{method_block}
 use Rattle.edd_code.specs.Numbered.{HasNumbers, IsNumbered}

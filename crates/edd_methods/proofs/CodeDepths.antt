@@ -1,8 +1,8 @@
 -- The number of operands at each place of statements' code: none at the borders of statements.
 use Rattle.std.proofs.Common.{◌≡◌, refl, sym, ap, subst, ◌∙◌, ℕ, ◌+◌, ◌<◌, ◌≤◌, arith}
 use Rattle.std.proofs.Math.Logic.{inl, inr}
-use Rattle.edd_image.specs.declared.unit.Sort.TheVariants.{Method}
-use Rattle.edd_image.specs.declared.unit.Version.TheVariants.{Two}
+use Rattle.edd_instructions.specs.declared.unit.Sort.TheVariants.{Method}
+use Rattle.edd_image.specs.declared.versions.Version.TheVariants.{Two}
 use Rattle.edd_code.specs.Blocks as blocks
 use Rattle.edd_code.specs.Blocks.{Block, Straight}
 use Rattle.edd_code.proofs.BlockDepths.{until, until_front, until_behind, depth_in, HasDepthsOf, at_front, has_depths}

@@ -3,9 +3,9 @@
 use Rattle.std.proofs.Common.{◌≡◌, refl, sym, subst, ℕ, ◌+◌, ◌<◌, ◌^◌, List, [], ◌∷◌, ◌++◌, arith, append_assoc}
 use Rattle.std.specs.List.{AllByRecursion}
 use Rattle.std.proofs.Math.Nat.{mod-eq_of_lt}
-use Rattle.edd_image.specs.declared.instruction.Instruction.{Instruction}
-use Rattle.edd_image.specs.declared.instruction.Instruction.TheVariants as instruction
-use Rattle.edd_image.specs.Units.{Placed}
+use Rattle.edd_instructions.specs.declared.instruction.Instruction.{Instruction}
+use Rattle.edd_instructions.specs.declared.instruction.Instruction.TheVariants as instruction
+use Rattle.edd_instructions.specs.Units.{Placed}
 use Rattle.edd_code.specs.Blocks as blocks
 use Rattle.edd_code.specs.Blocks.{Block, target}
 use Rattle.edd_code.proofs.Lines.{placed}

@@ -1,7 +1,7 @@
 -- The instructions of code with their places, each target being the place itself.
 use Rattle.std.proofs.Common.{ℕ, ◌+◌}
-use Rattle.edd_image.specs.declared.instruction.Instruction.TheVariants as instruction
-use Rattle.edd_image.specs.Units.{Placed}
+use Rattle.edd_instructions.specs.declared.instruction.Instruction.TheVariants as instruction
+use Rattle.edd_instructions.specs.Units.{Placed}
 use Rattle.edd_code.specs.Blocks as blocks
 use Rattle.edd_code.proofs.BlockPlaces.{stand, AllIn}
 use Rattle.edd_methods.specs.Statements.{Part, Missing, Step, Test, Code, Plain, Then, Branch, Loop, Switch, Break, Continue, Finish, Arms, Nil, Statement, Case, Default, part_size, tests_size, size, arms_size, default_place}

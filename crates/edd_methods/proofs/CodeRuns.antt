@@ -8,9 +8,9 @@ use Rattle.edd_syntax.specs.Words.{Words}
 use Rattle.edd_syntax.specs.MethodState as source
 use Rattle.edd_syntax.specs.MethodState.{State, Done, Stopped, Action, pure}
 use Rattle.edd_syntax.specs.Execution.{Completion, Normal, Breaks, Continues, Returns, next, left}
-use Rattle.edd_image.specs.declared.instruction.Instruction.TheVariants as instruction
-use Rattle.edd_image.specs.Steps.{Environment, act, go}
-use Rattle.edd_image.specs.Execution.{OutOfSteps, execute_following, execute}
+use Rattle.edd_instructions.specs.declared.instruction.Instruction.TheVariants as instruction
+use Rattle.edd_instructions.specs.Steps.{Environment, act, go}
+use Rattle.edd_instructions.specs.Execution.{OutOfSteps, execute_following, execute}
 use Rattle.edd_code.specs.Blocks as blocks
 use Rattle.edd_code.proofs.BlockPlaces.{stand}
 use Rattle.edd_code.specs.Reports.{at, report}

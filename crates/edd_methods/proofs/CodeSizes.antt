@@ -5,7 +5,7 @@ use Rattle.edd_syntax.specs.declared.reference.Target.TheVariants.{Local, Item, 
 use Rattle.edd_syntax.specs.Expression.{Expr}
 use Rattle.edd_syntax.specs.Size.{nodes, optional_nodes, declarator_nodes, statement_nodes, body_nodes}
 use Rattle.edd_syntax.specs.Statement.{Declarator, Stmt, Empty, Evaluate, Block, If, IfElse, While, Do, For, Switch, Break, Continue, Return, Body, Nil, Cons, Declare, Statement, CaseLabel, DefaultLabel}
-use Rattle.edd_image.specs.declared.instruction.Instruction.TheVariants as instruction
+use Rattle.edd_instructions.specs.declared.instruction.Instruction.TheVariants as instruction
 use Rattle.edd_code.specs.Blocks as blocks
 use Rattle.edd_code.specs.Blocks.{Straight}
 use Rattle.edd_code.specs.MethodExpressions.{store_block}

@@ -1,8 +1,8 @@
 -- Statements' code begins with the start of an instruction, where one starts after it.
 use Rattle.std.proofs.Common.{◌≡◌, ap, ◌∙◌, ℕ, ◌+◌, true, List, arith}
 use Rattle.std.specs.List.{AllByRecursion}
-use Rattle.edd_image.specs.declared.instruction.Instruction.TheVariants as instruction
-use Rattle.edd_image.specs.Units.{Placed, is_start}
+use Rattle.edd_instructions.specs.declared.instruction.Instruction.TheVariants as instruction
+use Rattle.edd_instructions.specs.Units.{Placed, is_start}
 use Rattle.edd_code.specs.Blocks as blocks
 use Rattle.edd_code.proofs.BlockPlaces.{stand}
 use Rattle.edd_code.proofs.BlockJumps.{starts, starts_at}

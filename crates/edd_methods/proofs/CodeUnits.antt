@@ -4,15 +4,15 @@ use Rattle.std.specs.Prelude.{◌&&◌}
 use Rattle.std.specs.List.{AllByRecursion, list_all}
 use Rattle.std.proofs.lemmas.Bool.Decides.{nat_tests}
 use Rattle.std.proofs.lemmas.Bool.{lt-ltb, and_from}
-use Rattle.edd_image.specs.declared.instruction.Instruction.{Instruction}
-use Rattle.edd_image.specs.declared.instruction.Instruction.TheVariants as instruction
-use Rattle.edd_image.specs.declared.unit.Context.{Context}
-use Rattle.edd_image.specs.declared.unit.Sort.{Sort}
-use Rattle.edd_image.specs.declared.unit.Sort.TheVariants.{Attribute, Method}
-use Rattle.edd_image.specs.declared.unit.Version.{Version}
-use Rattle.edd_image.specs.References.{names_exist}
-use Rattle.edd_image.specs.Spelling.{spelling}
-use Rattle.edd_image.specs.Units.{Placed, instructions, end_of, is_allowed, is_chain, lands, all_land, AreDepths, HasDepths, all_exist, IsValidUnit}
+use Rattle.edd_instructions.specs.declared.instruction.Instruction.{Instruction}
+use Rattle.edd_instructions.specs.declared.instruction.Instruction.TheVariants as instruction
+use Rattle.edd_instructions.specs.declared.unit.Context.{Context}
+use Rattle.edd_instructions.specs.declared.unit.Sort.{Sort}
+use Rattle.edd_instructions.specs.declared.unit.Sort.TheVariants.{Attribute, Method}
+use Rattle.edd_image.specs.declared.versions.Version.{Version}
+use Rattle.edd_instructions.specs.References.{names_exist}
+use Rattle.edd_instructions.specs.Spelling.{spelling}
+use Rattle.edd_instructions.specs.Units.{Placed, instructions, end_of, is_allowed, is_chain, lands, all_land, AreDepths, HasDepths, all_exist, IsValidUnit}
 use Rattle.edd_code.specs.Blocks.{bytes_of}
 use Rattle.edd_code.specs.Flow.{all_straight, may_stand}
 use Rattle.edd_code.proofs.BlockBytes.{all_both}

@@ -1,10 +1,10 @@
 -- The ways of statements' code lead to starts of instructions, and agree on the number of operands.
 use Rattle.std.proofs.Common.{◌≡◌, refl, sym, subst, ◌∙◌, ℕ, ◌+◌, List, arith}
 use Rattle.std.proofs.Math.Logic.{inl, inr}
-use Rattle.edd_image.specs.declared.instruction.Instruction.TheVariants as instruction
-use Rattle.edd_image.specs.declared.unit.Sort.TheVariants.{Method}
-use Rattle.edd_image.specs.declared.unit.Version.TheVariants.{Two}
-use Rattle.edd_image.specs.Units.{Placed, IsFresh}
+use Rattle.edd_instructions.specs.declared.instruction.Instruction.TheVariants as instruction
+use Rattle.edd_instructions.specs.declared.unit.Sort.TheVariants.{Method}
+use Rattle.edd_image.specs.declared.versions.Version.TheVariants.{Two}
+use Rattle.edd_instructions.specs.Units.{Placed, IsFresh}
 use Rattle.edd_code.specs.Blocks as blocks
 use Rattle.edd_code.specs.Blocks.{Block}
 use Rattle.edd_code.proofs.BlockPlaces.{stand, AllIn}

@@ -6,8 +6,8 @@ use Rattle.edd_syntax.specs.Words.{Words}
 use Rattle.edd_syntax.specs.MethodState as source
 use Rattle.edd_syntax.specs.MethodState.{State, Done, Stopped, Action}
 use Rattle.edd_syntax.specs.Execution.{Completion, Normal, Breaks, Continues, Returns, next, next_turn, left}
-use Rattle.edd_image.specs.declared.instruction.Instruction.{Instruction}
-use Rattle.edd_image.specs.Steps.{Environment, act, go}
+use Rattle.edd_instructions.specs.declared.instruction.Instruction.{Instruction}
+use Rattle.edd_instructions.specs.Steps.{Environment, act, go}
 use Rattle.edd_code.proofs.BlockPlaces.{stand}
 use Rattle.edd_code.specs.BlockEffects.{Outcome, Goes, Stops, Stuck}
 use Rattle.edd_code.specs.Reports.{at}

@@ -17,8 +17,8 @@ use Rattle.edd_syntax.specs.Evaluation.{evaluate, call}
 use Rattle.edd_syntax.specs.Execution.{Completion, Normal, initial, declare}
 use Rattle.edd_syntax.specs.Statement.{Declarator}
 use Rattle.edd_syntax.specs.SubsetRules.{is_abort}
-use Rattle.edd_image.specs.declared.instruction.Instruction.TheVariants as instruction
-use Rattle.edd_image.specs.Steps.{Environment, act}
+use Rattle.edd_instructions.specs.declared.instruction.Instruction.TheVariants as instruction
+use Rattle.edd_instructions.specs.Steps.{Environment, act}
 use Rattle.edd_code.specs.Blocks.{Block, Nothing, Straight, Then}
 use Rattle.edd_code.specs.BlockEffects as blocks
 use Rattle.edd_code.specs.BlockEffects.{Outcome, Goes, Stops, Stuck, and_then}

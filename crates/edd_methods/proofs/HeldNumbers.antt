@@ -6,7 +6,7 @@ use Rattle.edd_syntax.specs.Strings.{expr_texts, same_words, strings_of_texts}
 use Rattle.edd_syntax.specs.SubsetRules.{Placed}
 use Rattle.edd_syntax.specs.Text as texts
 use Rattle.edd_syntax.specs.Words.{Words, words_of}
-use Rattle.edd_image.specs.Agreement.{string_of_table}
+use Rattle.edd_instructions.specs.Agreement.{string_of_table}
 use Rattle.edd_code.specs.Numbered.{HasNumbers, IsNumbered}
 use Rattle.edd_code.specs.Tables.{number_in, place_in}
 use Rattle.edd_code.proofs.Different.{words_refl, words_same}

@@ -14,8 +14,8 @@ use Rattle.edd_syntax.specs.Refusal.{BreakOutside}
 use Rattle.edd_syntax.specs.Statement as tree
 use Rattle.edd_syntax.specs.Statement.{Stmt, Body}
 use Rattle.edd_syntax.specs.SubsetRules.{attributes_of, bodies_in, breaks_outside, breaks_outside_in, wrong_breaks}
-use Rattle.edd_image.specs.declared.instruction.Instruction.{Instruction}
-use Rattle.edd_image.specs.declared.instruction.Instruction.TheVariants as instruction
+use Rattle.edd_instructions.specs.declared.instruction.Instruction.{Instruction}
+use Rattle.edd_instructions.specs.declared.instruction.Instruction.TheVariants as instruction
 use Rattle.edd_code.specs.Blocks as blocks
 use Rattle.edd_code.specs.Blocks.{bytes_of}
 use Rattle.edd_code.proofs.Fitting.{front_none}

@@ -18,10 +18,10 @@ use Rattle.edd_syntax.specs.Strings.{different}
 use Rattle.edd_syntax.specs.SubsetRules.{body_expressions}
 use Rattle.edd_syntax.specs.WellFormed.{is_text}
 use Rattle.edd_syntax.specs.Words.{Words}
-use Rattle.edd_image.specs.declared.instruction.Instruction.TheVariants.{End}
-use Rattle.edd_image.specs.Agreement.{counts_of, string_of_table}
-use Rattle.edd_image.specs.MethodAgreement.{IsMethodCode}
-use Rattle.edd_image.specs.Spelling.{spelling}
+use Rattle.edd_instructions.specs.declared.instruction.Instruction.TheVariants.{End}
+use Rattle.edd_instructions.specs.Agreement.{counts_of, string_of_table}
+use Rattle.edd_instructions.specs.MethodAgreement.{IsMethodCode}
+use Rattle.edd_instructions.specs.Spelling.{spelling}
 use Rattle.edd_code.specs.MethodExpressions.{method_block}
 use Rattle.edd_code.specs.MethodReads.{uses_existing}
 use Rattle.edd_code.specs.Numbered.{HasNumbers}

@@ -12,15 +12,14 @@ use Rattle.edd_syntax.specs.SubsetRules.{Placed, body_expressions, call_mismatch
 use Rattle.edd_syntax.specs.Words.{Words}
 use Rattle.edd_syntax.specs.Execution as source
 use Rattle.edd_syntax.specs.Execution.{body_of, execute_all}
-use Rattle.edd_image.specs.declared.unit.Sort.TheVariants.{Method}
-use Rattle.edd_image.specs.Agreement.{string_of_table}
-use Rattle.edd_image.specs.Steps.{Environment}
-use Rattle.edd_image.specs.Execution.{execute}
-use Rattle.edd_image.specs.MethodAgreement.{FollowsBody, started, IsMethodCode, method_context}
-use Rattle.edd_image.specs.Units.{IsValidUnit}
+use Rattle.edd_instructions.specs.declared.unit.Sort.TheVariants.{Method}
+use Rattle.edd_instructions.specs.Agreement.{string_of_table, machine_of}
+use Rattle.edd_instructions.specs.Steps.{Environment}
+use Rattle.edd_instructions.specs.Execution.{execute}
+use Rattle.edd_instructions.specs.MethodAgreement.{FollowsBody, started, IsMethodCode, method_context}
+use Rattle.edd_instructions.specs.Units.{IsValidUnit}
 use Rattle.edd_code.specs.Blocks.{Block}
 use Rattle.edd_code.specs.MethodExpressions.{method_block}
-use Rattle.edd_image.specs.Agreement.{machine_of}
 use Rattle.edd_code.specs.Numbered.{HasNumbers}
 use Rattle.edd_code.proofs.MethodValues.{means}
 use Rattle.edd_methods.specs.Statements.{size, unit_code}

@@ -14,11 +14,11 @@ use Rattle.edd_syntax.specs.Expression.{Expr, Literal, Decimal, Reference, Index
 use Rattle.edd_syntax.specs.Statement.{Declarator}
 use Rattle.edd_syntax.specs.SubsetRules.{Placed, parameters, all_fit, is_abort, call_breaches, call_mismatches, argument_mismatches}
 use Rattle.edd_syntax.specs.Words.{Words}
-use Rattle.edd_image.specs.declared.instruction.Instruction.TheVariants as instruction
-use Rattle.edd_image.specs.declared.unit.Context.{Context}
+use Rattle.edd_instructions.specs.declared.instruction.Instruction.TheVariants as instruction
+use Rattle.edd_instructions.specs.declared.unit.Context.{Context}
 use Rattle.edd_image.specs.declared.parts.Counts.{Counts}
-use Rattle.edd_image.specs.declared.unit.Sort.TheVariants.{Method}
-use Rattle.edd_image.specs.declared.unit.Version.{Version}
+use Rattle.edd_instructions.specs.declared.unit.Sort.TheVariants.{Method}
+use Rattle.edd_image.specs.declared.versions.Version.{Version}
 use Rattle.edd_code.specs.Blocks.{Block, Straight, Then}
 use Rattle.edd_code.specs.Flow.{all_straight, may_stand}
 use Rattle.edd_code.specs.MethodExpressions.{method_block, store_block}

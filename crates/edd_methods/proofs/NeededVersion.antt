@@ -13,8 +13,8 @@ use Rattle.edd_syntax.specs.LayoutVersion.{body_names_it}
 use Rattle.edd_syntax.specs.Resolution.{count_of}
 use Rattle.edd_syntax.specs.Statement.{Body}
 use Rattle.edd_syntax.specs.SubsetRules.{attributes_of, bodies_in, bodies_of}
-use Rattle.edd_image.specs.declared.unit.Version.TheVariants.{Two}
-use Rattle.edd_image.specs.Agreement.{version_for}
+use Rattle.edd_image.specs.declared.versions.Version.TheVariants.{Two}
+use Rattle.edd_instructions.specs.Agreement.{version_for}
 use Rattle.edd_code.proofs.Versions.{needed}
 use Rattle.edd_methods.proofs.CheckedBodies.{OfBody, of_method}
 

@@ -17,7 +17,7 @@ use Rattle.edd_syntax.specs.Reference.{Path}
 use Rattle.edd_syntax.specs.Resolution.{Scope, array_kinds, array_meant, count_of, function_meant, item_meant, local_meant, look_up, meaning}
 use Rattle.edd_syntax.specs.ResolvedTrees.{Meanings, resolved_by, resolved_expr, resolved_arguments}
 use Rattle.edd_syntax.specs.WellFormed.{is_path, is_plain, is_expr, are_arguments}
-use Rattle.edd_image.specs.declared.unit.Context.{Context}
+use Rattle.edd_instructions.specs.declared.unit.Context.{Context}
 use Rattle.edd_code.specs.MethodReads.{uses_existing}
 use Rattle.edd_syntax.proofs.Existing.{IfSomeTrue, exists_in, found_has, item_meant_exists, mapped}
 use Rattle.edd_methods.proofs.ResolvedSlots.{bound}

@@ -19,9 +19,9 @@ use Rattle.edd_syntax.specs.Statement.{Body, slots_in}
 use Rattle.edd_syntax.specs.SubsetRules.{body_expressions}
 use Rattle.edd_syntax.specs.WellFormed.{is_path, is_plain, is_attribute, is_body, is_item, stands_in, are_items}
 use Rattle.edd_image.specs.declared.parts.Counts.{Counts}
-use Rattle.edd_image.specs.declared.unit.Context.{Context}
-use Rattle.edd_image.specs.declared.unit.Sort.TheVariants.{Method}
-use Rattle.edd_image.specs.declared.unit.Version.TheVariants.{Two}
+use Rattle.edd_instructions.specs.declared.unit.Context.{Context}
+use Rattle.edd_instructions.specs.declared.unit.Sort.TheVariants.{Method}
+use Rattle.edd_image.specs.declared.versions.Version.TheVariants.{Two}
 use Rattle.edd_methods.proofs.CheckedBodies.{OfBody, of_method}
 use Rattle.edd_methods.proofs.ResolvedSlots.{bound, body_in}
 use Rattle.edd_methods.proofs.ResolvedStatements.{ReferToExisting, body_at}

@@ -13,7 +13,7 @@ use Rattle.edd_syntax.specs.ResolvedTrees.{at_scope, resolved_expr, resolved_opt
 use Rattle.edd_syntax.specs.Statement.{Declarator, Stmt, Empty, Evaluate, Block, If, IfElse, While, Do, For, Switch, Break, Continue, Return, Body, Nil, Cons, Declare, Statement, CaseLabel, DefaultLabel, slots_of, slots_in}
 use Rattle.edd_syntax.specs.SubsetRules.{Placed, part_of, optional_part, stmt_expressions, body_expressions}
 use Rattle.edd_syntax.specs.WellFormed.{if_some, is_path, is_plain, is_expr, is_declarator, is_stmt, is_body}
-use Rattle.edd_image.specs.declared.unit.Context.{Context}
+use Rattle.edd_instructions.specs.declared.unit.Context.{Context}
 use Rattle.edd_code.specs.MethodReads.{uses_existing}
 use Rattle.edd_methods.proofs.ResolvedExpressions.{array_there, any, IsBelow, expr_good, meant_there}
 use Rattle.edd_methods.proofs.ResolvedSlots.{bound}

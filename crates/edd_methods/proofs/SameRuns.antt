@@ -9,12 +9,12 @@ use Rattle.edd_syntax.specs.DeviceValues.{VariableType}
 use Rattle.edd_syntax.specs.MethodState as source
 use Rattle.edd_syntax.specs.MethodState.{Action}
 use Rattle.edd_syntax.specs.Execution.{Completion, ended}
-use Rattle.edd_image.specs.declared.records.Request as image
-use Rattle.edd_image.specs.declared.records.Request.TheVariants as asks
-use Rattle.edd_image.specs.declared.unit.Sort.TheVariants.{Method}
-use Rattle.edd_image.specs.Steps.{RunningUnit, Environment}
-use Rattle.edd_image.specs.Execution.{preceded, execute}
-use Rattle.edd_image.specs.MethodAgreement.{SameRequest, SameRequests, SameOutcome, started, FollowsBody}
+use Rattle.edd_instructions.specs.declared.records.Request as image
+use Rattle.edd_instructions.specs.declared.records.Request.TheVariants as asks
+use Rattle.edd_instructions.specs.declared.unit.Sort.TheVariants.{Method}
+use Rattle.edd_instructions.specs.Steps.{RunningUnit, Environment}
+use Rattle.edd_instructions.specs.Execution.{preceded, execute}
+use Rattle.edd_instructions.specs.MethodAgreement.{SameRequest, SameRequests, SameOutcome, started, FollowsBody}
 use Rattle.edd_code.specs.Reports.{Report, told, worded, report}
 use Rattle.edd_methods.specs.Following.{Follows}
 use Rattle.edd_methods.proofs.UnitRuns.{valid_are_taken}

@@ -11,7 +11,7 @@ use Rattle.edd_syntax.specs.Device as device
 use Rattle.edd_syntax.specs.MethodState.{Action, pure, ◌>>=◌, ◌>>◌}
 use Rattle.edd_syntax.specs.Evaluation.{evaluate}
 use Rattle.edd_syntax.specs.Execution.{Completion, Normal, next, left, optional, declare, execute, execute_all, execute_case, execute_default}
-use Rattle.edd_image.specs.Steps.{Environment}
+use Rattle.edd_instructions.specs.Steps.{Environment}
 use Rattle.edd_code.specs.Blocks as blocks
 use Rattle.edd_code.specs.BlockEffects as effects
 use Rattle.edd_methods.specs.Statements.{Plain}

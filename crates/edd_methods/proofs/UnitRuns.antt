@@ -8,10 +8,10 @@ use Rattle.edd_syntax.specs.MethodState as source
 use Rattle.edd_syntax.specs.MethodState.{State, Done, Stopped, Action}
 use Rattle.edd_syntax.specs.Execution as run
 use Rattle.edd_syntax.specs.Execution.{Completion, Normal, Breaks, Continues, Returns, Transcript, transcript, ended, OutOfTurns}
-use Rattle.edd_image.specs.declared.instruction.Instruction.TheVariants as instruction
-use Rattle.edd_image.specs.Spelling.{spelling}
-use Rattle.edd_image.specs.Steps.{Environment, act}
-use Rattle.edd_image.proofs.Spelled.{stands_where_spelled}
+use Rattle.edd_instructions.specs.declared.instruction.Instruction.TheVariants as instruction
+use Rattle.edd_instructions.specs.Spelling.{spelling}
+use Rattle.edd_instructions.specs.Steps.{Environment, act}
+use Rattle.edd_instructions.proofs.Spelled.{stands_where_spelled}
 use Rattle.edd_code.proofs.BlockPlaces.{stand}
 use Rattle.edd_code.proofs.Lines.{placed}
 use Rattle.edd_code.specs.Reports.{told, report}

@@ -10,9 +10,9 @@ use Rattle.edd_syntax.specs.Item.{Description}
 use Rattle.edd_syntax.specs.Statement.{slots_in}
 use Rattle.edd_syntax.specs.SubsetRules.{body_expressions}
 use Rattle.edd_syntax.specs.Words.{Words}
-use Rattle.edd_image.specs.Agreement.{counts_of, string_of_table, version_for}
-use Rattle.edd_image.specs.MethodAgreement.{IsMethodCode, method_context}
-use Rattle.edd_image.specs.Units.{IsValidUnit}
+use Rattle.edd_instructions.specs.Agreement.{counts_of, string_of_table, version_for}
+use Rattle.edd_instructions.specs.MethodAgreement.{IsMethodCode, method_context}
+use Rattle.edd_instructions.specs.Units.{IsValidUnit}
 use Rattle.edd_code.specs.Flow.{all_straight, may_stand}
 use Rattle.edd_code.specs.MethodExpressions.{method_block}
 use Rattle.edd_code.specs.Numbered.{HasNumbers}

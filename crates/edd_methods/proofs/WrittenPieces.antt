@@ -15,8 +15,8 @@ use Rattle.edd_syntax.specs.Statement.{Declarator}
 use Rattle.edd_syntax.specs.Strings.{expr_texts}
 use Rattle.edd_syntax.specs.SubsetRules.{optional_part}
 use Rattle.edd_syntax.specs.Words.{Words}
-use Rattle.edd_image.specs.declared.instruction.Instruction.TheVariants as instruction
-use Rattle.edd_image.specs.Spelling.{spelling}
+use Rattle.edd_instructions.specs.declared.instruction.Instruction.TheVariants as instruction
+use Rattle.edd_instructions.specs.Spelling.{spelling}
 use Rattle.edd_code.specs.Blocks.{Block, Nothing, Straight, Then, size, target, emitted, bytes_of, bytes_at}
 use Rattle.edd_code.specs.MethodExpressions.{method_block, store_block}
 use Rattle.edd_code.proofs.Lines.{bytes_of-append}

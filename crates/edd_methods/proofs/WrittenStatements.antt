@@ -15,8 +15,8 @@ use Rattle.edd_syntax.specs.SubsetRules as rules
 use Rattle.edd_syntax.specs.SubsetRules.{stmt_expressions, optional_part, body_expressions}
 use Rattle.edd_syntax.specs.Text.{Text}
 use Rattle.edd_syntax.specs.Words.{Words}
-use Rattle.edd_image.specs.declared.instruction.Instruction.TheVariants as instruction
-use Rattle.edd_image.specs.Spelling.{spelling}
+use Rattle.edd_instructions.specs.declared.instruction.Instruction.TheVariants as instruction
+use Rattle.edd_instructions.specs.Spelling.{spelling}
 use Rattle.edd_code.specs.declared.fault.LowerFault.{LowerFault}
 use Rattle.edd_code.specs.Blocks as blocks
 use Rattle.edd_code.specs.Blocks.{target}

@@ -5,7 +5,7 @@ use Rattle.edd_syntax.specs.declared.numbers.StrNo.{StrNo}
 use Rattle.edd_syntax.specs.Words.{Words}
 use Rattle.edd_syntax.specs.MethodState.{State, Outcome, Done, Stopped, Action}
 use Rattle.edd_syntax.specs.Execution.{Completion, Normal, Breaks, Continues, Returns, Ended, ended, transcript}
-use Rattle.edd_image.specs.Steps.{Environment}
+use Rattle.edd_instructions.specs.Steps.{Environment}
 use Rattle.edd_code.specs.Reports.{Report, report, told}
 use Rattle.edd_code.specs.MethodEffects.{CanBeTaken, stopped}
 

@@ -8,8 +8,8 @@ use Rattle.edd_syntax.specs.Item.{Attribute, Description}
 use Rattle.edd_syntax.specs.Statement.{Body, Nil}
 use Rattle.edd_syntax.specs.Strings.{strings_of_texts}
 use Rattle.edd_syntax.specs.Words.{Words}
-use Rattle.edd_image.specs.declared.instruction.Instruction.TheVariants.{End}
-use Rattle.edd_image.specs.Spelling.{spelling}
+use Rattle.edd_instructions.specs.declared.instruction.Instruction.TheVariants.{End}
+use Rattle.edd_instructions.specs.Spelling.{spelling}
 use Rattle.edd_code.specs.Tables.{AreDifferent, GrowsBy, number_in}
 use Rattle.edd_methods.specs.MethodCode.{method_code}
 use Rattle.edd_methods.specs.Statements.{bytes_at}

@@ -9,8 +9,8 @@ use Rattle.edd_syntax.specs.Words.{Words}
 use Rattle.edd_syntax.specs.Device as source
 use Rattle.edd_syntax.specs.MethodState.{State}
 use Rattle.edd_syntax.specs.Evaluation.{evaluate}
-use Rattle.edd_image.specs.declared.instruction.Instruction.TheVariants as instruction
-use Rattle.edd_image.specs.Steps.{Environment}
+use Rattle.edd_instructions.specs.declared.instruction.Instruction.TheVariants as instruction
+use Rattle.edd_instructions.specs.Steps.{Environment}
 use Rattle.edd_code.specs.Blocks.{Block, Straight, Then, size}
 use Rattle.edd_code.specs.Flow.{AreSpelled}
 use Rattle.edd_code.specs.MethodEffects.{does, pushed}

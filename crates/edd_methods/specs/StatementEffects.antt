@@ -7,7 +7,7 @@ use Rattle.edd_syntax.specs.Words.{Words}
 use Rattle.edd_syntax.specs.MethodState as source
 use Rattle.edd_syntax.specs.MethodState.{State, Done, Stopped, Action, pure, stop, ◌>>=◌, ◌>>◌}
 use Rattle.edd_syntax.specs.Execution.{Completion, Normal, Breaks, Continues, Returns, next, next_turn, left}
-use Rattle.edd_image.specs.Steps.{Environment}
+use Rattle.edd_instructions.specs.Steps.{Environment}
 use Rattle.edd_code.specs.Blocks.{Block}
 use Rattle.edd_code.specs.BlockEffects.{Outcome, Goes, Stops, Stuck}
 use Rattle.edd_code.specs.MethodEffects.{Halted, stops, does}

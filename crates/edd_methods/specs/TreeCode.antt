@@ -5,7 +5,7 @@ use Rattle.edd_syntax.specs.Expression.{Expr}
 use Rattle.edd_syntax.specs.Statement as tree
 use Rattle.edd_syntax.specs.Statement.{Declarator, Stmt, Body}
 use Rattle.edd_syntax.specs.TwosComplement.{wrap}
-use Rattle.edd_image.specs.declared.instruction.Instruction.TheVariants as instruction
+use Rattle.edd_instructions.specs.declared.instruction.Instruction.TheVariants as instruction
 use Rattle.edd_code.specs.Blocks as blocks
 use Rattle.edd_code.specs.Blocks.{Block}
 use Rattle.edd_code.specs.MethodExpressions.{store_block}

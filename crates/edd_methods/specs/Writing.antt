@@ -10,9 +10,9 @@ use Rattle.edd_syntax.specs.SubsetRules as rules
 use Rattle.edd_syntax.specs.SubsetRules.{body_expressions, stmt_expressions, optional_part}
 use Rattle.edd_syntax.specs.Text as source
 use Rattle.edd_syntax.specs.Words.{Words}
-use Rattle.edd_image.specs.declared.instruction.Instruction.{Instruction}
-use Rattle.edd_image.specs.declared.instruction.Instruction.TheVariants as instruction
-use Rattle.edd_image.specs.Spelling.{spelling}
+use Rattle.edd_instructions.specs.declared.instruction.Instruction.{Instruction}
+use Rattle.edd_instructions.specs.declared.instruction.Instruction.TheVariants as instruction
+use Rattle.edd_instructions.specs.Spelling.{spelling}
 use Rattle.edd_code.specs.declared.fault.LowerFault.{LowerFault}
 use Rattle.edd_code.specs.declared.fault.LowerFault.TheVariants.{TooMany, Memory}
 use Rattle.edd_code.specs.Blocks.{target, bytes_of}

@@ -6,7 +6,7 @@ ghost use Rattle.edd_methods.specs.Labels.{case_noted, default_noted, or_else};
 ghost use Rattle.edd_methods.specs.Writing.{default_or, test_of, tests_of};
 
 use edd_code::put;
-use edd_image::{Emitter, Instruction};
+use edd_instructions::{Emitter, Instruction};
 use edd_syntax::reference::Target;
 use edd_syntax::stmt::Part;
 use edd_syntax::wrap::wrap;

@@ -12,7 +12,7 @@ ghost use Rattle.edd_methods.specs.Writing.{Lowers, optional_texts, part_bytes};
 
 use crate::pieces::{write_alone, write_one};
 use edd_code::{LowerFault, put};
-use edd_image::{Emitter, Instruction};
+use edd_instructions::{Emitter, Instruction};
 use edd_strings::Table;
 use edd_syntax::expr::Expr;
 use edd_syntax::reference::Target;

@@ -15,7 +15,7 @@ ghost use Rattle.edd_methods.specs.TreeExpressions.{is_abort_call};
 ghost use Rattle.edd_methods.specs.Writing.{Lowers, declared_texts, optional_texts};
 
 use edd_code::{LowerFault, put, write_store, write_value};
-use edd_image::{Emitter, Instruction};
+use edd_instructions::{Emitter, Instruction};
 use edd_strings::Table;
 use edd_syntax::expr::Expr;
 use edd_syntax::operators::Builtin;

@@ -5,11 +5,11 @@ use Rattle.std.specs.List.{AllByRecursion}
 use Rattle.std.proofs.lemmas.Slice.Zip.{AllZip-long}
 use Rattle.edd_syntax.specs.Answers.{Answer, Go, Abort, SetFault, answer_fault, IsValidAnswer}
 use Rattle.edd_syntax.specs.DeviceValues.{VariableType}
-use Rattle.edd_image.specs.declared.records.Request.{Request}
-use Rattle.edd_image.specs.declared.records.Status.{Status}
-use Rattle.edd_image.specs.declared.records.Status.TheVariants as status
-use Rattle.edd_image.specs.Execution.{answered}
-use Rattle.edd_image.specs.Steps.{State}
+use Rattle.edd_instructions.specs.declared.records.Request.{Request}
+use Rattle.edd_instructions.specs.declared.records.Status.{Status}
+use Rattle.edd_instructions.specs.declared.records.Status.TheVariants as status
+use Rattle.edd_instructions.specs.Execution.{answered}
+use Rattle.edd_instructions.specs.Steps.{State}
 use Rattle.edd_machine.specs.declared.code_unit.CodeUnit.{CodeUnit}
 use Rattle.edd_machine.specs.declared.machine.Machine.{Machine}
 use Rattle.edd_machine.specs.Running.{state_of, IsMachine, IsStateIn}

@@ -1,10 +1,10 @@
 -- Instructions that are executed one after the other.
 use Rattle.std.proofs.Common.{◌≡◌, ℕ, suc, ◌+◌, ◌-◌, ◌≤◌, List, [], refl, sym, ap, ◌∙◌, ◌⊎◌, inl, inr, arith}
-use Rattle.edd_image.specs.declared.records.Status.TheVariants.{Running}
-use Rattle.edd_image.specs.AbortMethods.{execute_in}
+use Rattle.edd_instructions.specs.declared.records.Status.TheVariants.{Running}
+use Rattle.edd_instructions.specs.AbortMethods.{execute_in}
 use Rattle.edd_image.specs.Contents.{Contents, contents_in}
-use Rattle.edd_image.specs.Execution.{Outcome, request_in, preceded, stepped}
-use Rattle.edd_image.specs.Steps.{State, Effect}
+use Rattle.edd_instructions.specs.Execution.{Outcome, request_in, preceded, stepped}
+use Rattle.edd_instructions.specs.Steps.{State, Effect}
 use Rattle.edd_machine.specs.declared.machine.Machine.{Machine}
 use Rattle.edd_machine.specs.Running.{state_of, IsMachine, StepsTo}
 use Rattle.edd_port.specs.Turns.{turn_of, ending_of}

@@ -3,23 +3,24 @@ use Rattle.std.proofs.Common.{◌≡◌, ℕ, zero, suc, ℤ, pos, negsuc, Bool,
 use Rattle.std.specs.Prelude.{option_map, Result, Ok, Err, if◌then◌else◌, IfSome}
 use Rattle.std.specs.Ordering.{int_eq}
 use Rattle.edd_syntax.specs.declared.answer.Trap.{Trap}
-use Rattle.edd_image.specs.declared.instruction.Ask.{Ask}
-use Rattle.edd_image.specs.declared.instruction.Ask.TheVariants as ask
-use Rattle.edd_image.specs.declared.instruction.Instruction.{Instruction}
-use Rattle.edd_image.specs.declared.instruction.Instruction.TheVariants as instruction
-use Rattle.edd_image.specs.declared.records.Request.{Request}
-use Rattle.edd_image.specs.declared.records.Status.{Status}
-use Rattle.edd_image.specs.declared.records.Status.TheVariants as status
-use Rattle.edd_image.specs.Decoding.{◌>>=◌, instruction_at}
-use Rattle.edd_image.specs.AbortMethods.{Start, execute_in, follow_with, next, start_in, step_in}
+use Rattle.edd_instructions.specs.declared.instruction.Ask.{Ask}
+use Rattle.edd_instructions.specs.declared.instruction.Ask.TheVariants as ask
+use Rattle.edd_instructions.specs.declared.instruction.Instruction.{Instruction}
+use Rattle.edd_instructions.specs.declared.instruction.Instruction.TheVariants as instruction
+use Rattle.edd_instructions.specs.declared.records.Request.{Request}
+use Rattle.edd_instructions.specs.declared.records.Status.{Status}
+use Rattle.edd_instructions.specs.declared.records.Status.TheVariants as status
+use Rattle.edd_image.specs.Front.{◌>>=◌}
+use Rattle.edd_instructions.specs.Decoding.{instruction_at}
+use Rattle.edd_instructions.specs.AbortMethods.{Start, execute_in, follow_with, next, start_in, step_in}
 use Rattle.edd_image.specs.Contents.{Contents}
-use Rattle.edd_image.specs.Reading.{environment_of}
-use Rattle.edd_image.proofs.Followed.{IsLive}
-use Rattle.edd_image.proofs.NextMethods.{next_asks_nothing, next_of_live}
+use Rattle.edd_instructions.specs.Reading.{environment_of}
+use Rattle.edd_instructions.proofs.Followed.{IsLive}
+use Rattle.edd_instructions.proofs.NextMethods.{next_asks_nothing, next_of_live}
 use Rattle.edd_syntax.specs.AbortMethods.{listed}
 use Rattle.edd_syntax.specs.declared.numbers.MethNo.{MethNo}
-use Rattle.edd_image.specs.Execution.{Outcome, request_in}
-use Rattle.edd_image.specs.Steps.{State, Environment, Effect, go, on_top, on_two, push_or_trap, act_ask, act, if_running, step}
+use Rattle.edd_instructions.specs.Execution.{Outcome, request_in}
+use Rattle.edd_instructions.specs.Steps.{State, Environment, Effect, go, on_top, on_two, push_or_trap, act_ask, act, if_running, step}
 use Rattle.edd_port.specs.Drives.{standing}
 use Rattle.edd_port.proofs.Cuts.{by_running}
 use Rattle.edd_port.proofs.Outcomes.{without_steps, at_rest, steps_on, gets_stuck}

@@ -1,16 +1,16 @@
 -- A run without answers, and what comes of the state that it reaches.
 use Rattle.std.proofs.Common.{◌≡◌, ◌≢◌, ℕ, zero, suc, ◌+◌, ◌-◌, List, [], ◌∷◌, Option, Some, None, refl, sym, ap, subst, ◌∙◌, append_assoc, zero-add, arith}
 use Rattle.edd_syntax.specs.Answers.{Answer, answer_fault}
-use Rattle.edd_image.specs.declared.records.Request.{Request}
-use Rattle.edd_image.specs.declared.records.Status.{Status}
-use Rattle.edd_image.specs.declared.records.Status.TheVariants as status
-use Rattle.edd_image.specs.Execution.{Ending, Stuck, Outcome, request_in, preceded, stepped, resumed_following}
-use Rattle.edd_image.specs.Steps.{State, Effect}
-use Rattle.edd_image.specs.AbortMethods.{answered_in, execute_in, next, start_in, step_in}
+use Rattle.edd_instructions.specs.declared.records.Request.{Request}
+use Rattle.edd_instructions.specs.declared.records.Status.{Status}
+use Rattle.edd_instructions.specs.declared.records.Status.TheVariants as status
+use Rattle.edd_instructions.specs.Execution.{Ending, Stuck, Outcome, request_in, preceded, stepped, resumed_following}
+use Rattle.edd_instructions.specs.Steps.{State, Effect}
+use Rattle.edd_instructions.specs.AbortMethods.{answered_in, execute_in, next, start_in, step_in}
 use Rattle.edd_image.specs.Contents.{Contents}
-use Rattle.edd_image.specs.Reading.{environment_of}
-use Rattle.edd_image.proofs.Followed.{answer_met}
-use Rattle.edd_image.proofs.NextMethods.{next_asks_nothing}
+use Rattle.edd_instructions.specs.Reading.{environment_of}
+use Rattle.edd_instructions.proofs.Followed.{answer_met}
+use Rattle.edd_instructions.proofs.NextMethods.{next_asks_nothing}
 use Rattle.edd_port.specs.Runs.{followed}
 use Rattle.edd_port.specs.Turns.{turn_of, ending_of}
 use Rattle.edd_port.proofs.Outcomes.{same_outcome, halted, behind_nothing, without_steps, at_rest, steps_on, gets_stuck}

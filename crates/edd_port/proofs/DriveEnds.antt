@@ -4,11 +4,11 @@ use Rattle.std.specs.Prelude.{option_map}
 use Rattle.std.proofs.Math.Seq.{drop-append_seam, take-append_seam}
 use Rattle.std.proofs.lemmas.List.{length-append}
 use Rattle.edd_syntax.specs.Answers.{answer_fault}
-use Rattle.edd_image.specs.declared.records.Request.{Request}
-use Rattle.edd_image.specs.declared.records.Status.{Status}
-use Rattle.edd_image.specs.declared.records.Status.TheVariants as status
+use Rattle.edd_instructions.specs.declared.records.Request.{Request}
+use Rattle.edd_instructions.specs.declared.records.Status.{Status}
+use Rattle.edd_instructions.specs.declared.records.Status.TheVariants as status
 use Rattle.edd_image.specs.Contents.{contents_in}
-use Rattle.edd_image.specs.Execution.{Ending}
+use Rattle.edd_instructions.specs.Execution.{Ending}
 use Rattle.edd_port.specs.declared.turn.Drive.{Drive}
 use Rattle.edd_port.specs.declared.turn.Drive.TheVariants.{Done, Waiting, Refused, HostFailed}
 use Rattle.edd_port.specs.declared.turn.Turn.{Turn}

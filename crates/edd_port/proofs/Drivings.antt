@@ -1,14 +1,14 @@
 -- A drive, turn by turn.
 use Rattle.std.proofs.Common.{◌≡◌, ℕ, zero, suc, ◌+◌, ◌-◌, List, [], ◌∷◌, ◌++◌, map, None, refl, sym, ap, subst, ◌∙◌, append_assoc, append-nil, zero-add, arith}
 use Rattle.edd_syntax.specs.Answers.{Answer, Go, Abort, Change, answer_fault}
-use Rattle.edd_image.specs.declared.records.Request.{Request}
-use Rattle.edd_image.specs.declared.records.Status.{Status}
-use Rattle.edd_image.specs.declared.records.Status.TheVariants as status
-use Rattle.edd_image.specs.AbortMethods.{answered_in, execute_in, start_in}
+use Rattle.edd_instructions.specs.declared.records.Request.{Request}
+use Rattle.edd_instructions.specs.declared.records.Status.{Status}
+use Rattle.edd_instructions.specs.declared.records.Status.TheVariants as status
+use Rattle.edd_instructions.specs.AbortMethods.{answered_in, execute_in, start_in}
 use Rattle.edd_image.specs.Contents.{Contents, contents_in}
-use Rattle.edd_image.specs.Reading.{environment_of}
-use Rattle.edd_image.specs.Execution.{Ending, Outcome, answered}
-use Rattle.edd_image.specs.Steps.{State}
+use Rattle.edd_instructions.specs.Reading.{environment_of}
+use Rattle.edd_instructions.specs.Execution.{Ending, Outcome, answered}
+use Rattle.edd_instructions.specs.Steps.{State}
 use Rattle.edd_port.specs.Books.{Pair}
 use Rattle.edd_port.specs.Drives.{AreMet, Executes, Takes, driven, standing}
 use Rattle.edd_port.specs.Runs.{Run, environment, advanced, counted, followed}

@@ -3,9 +3,9 @@ use Rattle.std.proofs.Common.{◌≡◌, refl, ap, ◌∙◌, ℕ, ℤ, List, Op
 use Rattle.std.specs.Prelude.{option_map}
 use Rattle.edd_syntax.specs.declared.numbers.MethNo.{MethNo}
 use Rattle.edd_image.specs.Contents.{AttributeFields, contents_in}
-use Rattle.edd_image.specs.Reading.{body_of}
-use Rattle.edd_image.specs.Steps.{State, opening}
-use Rattle.edd_image.specs.Validity.{IsValid}
+use Rattle.edd_instructions.specs.Reading.{body_of}
+use Rattle.edd_instructions.specs.Steps.{State, opening}
+use Rattle.edd_instructions.specs.Validity.{IsValid}
 use Rattle.edd_machine.specs.declared.code_unit.CodeUnit.{CodeUnit}
 use Rattle.edd_machine.specs.Running.{unit_at, running_unit}
 use Rattle.edd_machine.proofs.BodyUnits.{body_opens}

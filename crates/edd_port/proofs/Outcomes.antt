@@ -2,16 +2,16 @@
 use Rattle.std.proofs.Common.{◌≡◌, ℕ, zero, suc, List, [], Option, Some, None, refl, ap, ◌∙◌, zero-add}
 use Rattle.std.specs.Prelude.{option_map, unwrap_or}
 use Rattle.edd_syntax.specs.Answers.{Change, Answer}
-use Rattle.edd_image.specs.declared.records.Request.{Request}
-use Rattle.edd_image.specs.declared.records.Status.{Status}
-use Rattle.edd_image.specs.declared.records.Status.TheVariants as status
-use Rattle.edd_image.specs.AbortMethods.{execute_in, follow_with, next, start_in, step_in}
+use Rattle.edd_instructions.specs.declared.records.Request.{Request}
+use Rattle.edd_instructions.specs.declared.records.Status.{Status}
+use Rattle.edd_instructions.specs.declared.records.Status.TheVariants as status
+use Rattle.edd_instructions.specs.AbortMethods.{execute_in, follow_with, next, start_in, step_in}
 use Rattle.edd_image.specs.Contents.{Contents}
-use Rattle.edd_image.specs.Reading.{environment_of}
-use Rattle.edd_image.proofs.Followed.{goes}
-use Rattle.edd_image.proofs.NextMethods.{next_asks_nothing}
-use Rattle.edd_image.specs.Execution.{Ending, Stuck, OutOfSteps, Outcome, nothing_met, meet_by, closed, request_in, preceded, stepped, go_on, execute_following}
-use Rattle.edd_image.specs.Steps.{State, Effect, step}
+use Rattle.edd_instructions.specs.Reading.{environment_of}
+use Rattle.edd_instructions.proofs.Followed.{goes}
+use Rattle.edd_instructions.proofs.NextMethods.{next_asks_nothing}
+use Rattle.edd_instructions.specs.Execution.{Ending, Stuck, OutOfSteps, Outcome, nothing_met, meet_by, closed, request_in, preceded, stepped, go_on, execute_following}
+use Rattle.edd_instructions.specs.Steps.{State, Effect, step}
 use Rattle.edd_port.specs.Runs.{followed}
 use Rattle.edd_port.specs.Turns.{turn_of, ending_of}
 

@@ -1,16 +1,16 @@
 -- A play, turn by turn.
 use Rattle.std.proofs.Common.{◌≡◌, ◌≢◌, ℕ, suc, ◌+◌, ◌*◌, ◌<◌, ◌≤◌, List, [], ◌∷◌, ◌++◌, length, drop, get_or, drop-cons, add-one, Some, None, refl, sym, ap, ◌∙◌, append_assoc, append-nil, arith}
 use Rattle.edd_syntax.specs.Answers.{Answer, Change, SetFault, answer_fault}
-use Rattle.edd_image.specs.declared.records.Request.{Request}
-use Rattle.edd_image.specs.declared.records.Status.{Status}
-use Rattle.edd_image.specs.declared.records.Status.TheVariants as status
-use Rattle.edd_image.specs.AbortMethods.{answered_in, execute_in, next, start_in}
+use Rattle.edd_instructions.specs.declared.records.Request.{Request}
+use Rattle.edd_instructions.specs.declared.records.Status.{Status}
+use Rattle.edd_instructions.specs.declared.records.Status.TheVariants as status
+use Rattle.edd_instructions.specs.AbortMethods.{answered_in, execute_in, next, start_in}
 use Rattle.edd_image.specs.Contents.{Contents, contents_in}
-use Rattle.edd_image.specs.Reading.{environment_of}
-use Rattle.edd_image.proofs.Followed.{is_out, stays as stays_over, still_asks}
-use Rattle.edd_image.proofs.NextMethods.{next_asks_nothing}
-use Rattle.edd_image.specs.Execution.{Ending, Bad, Outcome, OutOfSteps, over_at}
-use Rattle.edd_image.specs.Steps.{State}
+use Rattle.edd_instructions.specs.Reading.{environment_of}
+use Rattle.edd_instructions.proofs.Followed.{is_out, stays as stays_over, still_asks}
+use Rattle.edd_instructions.proofs.NextMethods.{next_asks_nothing}
+use Rattle.edd_instructions.specs.Execution.{Ending, Bad, Outcome, OutOfSteps, over_at}
+use Rattle.edd_instructions.specs.Steps.{State}
 use Rattle.edd_port.specs.Drives.{Executes, standing}
 use Rattle.edd_port.specs.Plays.{under}
 use Rattle.edd_port.specs.Runs.{Run, environment, followed}

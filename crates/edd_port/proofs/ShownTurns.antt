@@ -4,10 +4,10 @@ use Rattle.std.specs.Prelude.{option_map}
 use Rattle.std.proofs.Math.ListN.{get_or-map}
 use Rattle.std.proofs.lemmas.List.{length-map}
 use Rattle.edd_syntax.specs.Answers.{SetFault, BadVariable, OutOfRange}
-use Rattle.edd_image.specs.declared.records.Request.{Request}
-use Rattle.edd_image.specs.declared.records.Status.{Status}
-use Rattle.edd_image.specs.declared.records.Status.TheVariants as status
-use Rattle.edd_image.specs.Execution.{Ending, Bad}
+use Rattle.edd_instructions.specs.declared.records.Request.{Request}
+use Rattle.edd_instructions.specs.declared.records.Status.{Status}
+use Rattle.edd_instructions.specs.declared.records.Status.TheVariants as status
+use Rattle.edd_instructions.specs.Execution.{Ending, Bad}
 use Rattle.edd_port.specs.declared.fault.PlayFault.{PlayFault}
 use Rattle.edd_port.specs.declared.fault.PlayFault.TheVariants as play_fault
 use Rattle.edd_port.specs.declared.turn.Turn.{Turn}

@@ -2,14 +2,14 @@
 use Rattle.std.specs.Prelude.{◌≡◌, ◌≢◌, ℕ, ◌+◌, ◌-◌, ◌<◌, ◌≤◌, List, [], ◌∷◌, ◌++◌, length, map, drop, take, Some, None, option_map, ⊤, ◌⊎◌}
 use Rattle.edd_syntax.specs.Answers.{answer_fault}
 use Rattle.edd_syntax.specs.DeviceValues.{VariableType}
-use Rattle.edd_image.specs.declared.records.Request.{Request}
-use Rattle.edd_image.specs.declared.records.Status.{Status}
-use Rattle.edd_image.specs.declared.records.Status.TheVariants as status
-use Rattle.edd_image.specs.AbortMethods.{answered_in, execute_in}
+use Rattle.edd_instructions.specs.declared.records.Request.{Request}
+use Rattle.edd_instructions.specs.declared.records.Status.{Status}
+use Rattle.edd_instructions.specs.declared.records.Status.TheVariants as status
+use Rattle.edd_instructions.specs.AbortMethods.{answered_in, execute_in}
 use Rattle.edd_image.specs.Contents.{contents_in}
-use Rattle.edd_image.specs.Execution as execution
-use Rattle.edd_image.specs.Execution.{Outcome}
-use Rattle.edd_image.specs.Steps.{State}
+use Rattle.edd_instructions.specs.Execution as execution
+use Rattle.edd_instructions.specs.Execution.{Outcome}
+use Rattle.edd_instructions.specs.Steps.{State}
 use Rattle.edd_port.specs.declared.turn.Drive.{Drive}
 use Rattle.edd_port.specs.declared.turn.Drive.TheVariants.{Done, Waiting, Refused, HostFailed}
 use Rattle.edd_port.specs.declared.turn.Turn.{Turn}

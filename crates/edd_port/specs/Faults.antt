@@ -4,7 +4,7 @@ use Rattle.edd_syntax.specs.declared.numbers.MethNo.{MethNo}
 use Rattle.edd_syntax.specs.Answers as answers
 use Rattle.edd_syntax.specs.DeviceValues.{AreDeviceValues}
 use Rattle.edd_image.specs.Contents.{contents_in}
-use Rattle.edd_image.specs.Reading.{body_of}
+use Rattle.edd_instructions.specs.Reading.{body_of}
 use Rattle.edd_machine.specs.Types.{types_in}
 use Rattle.edd_port.specs.declared.fault.AnswerFault.{AnswerFault}
 use Rattle.edd_port.specs.declared.fault.AnswerFault.TheVariants as answer_fault

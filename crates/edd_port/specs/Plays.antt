@@ -4,11 +4,11 @@ use Rattle.edd_syntax.specs.declared.numbers.MethNo.{MethNo}
 use Rattle.edd_syntax.specs.Answers as answers
 use Rattle.edd_syntax.specs.Answers.{Answer, SetFault}
 use Rattle.edd_syntax.specs.DeviceValues.{AreDeviceValues}
-use Rattle.edd_image.specs.AbortMethods.{execute_in}
+use Rattle.edd_instructions.specs.AbortMethods.{execute_in}
 use Rattle.edd_image.specs.Contents.{contents_in}
-use Rattle.edd_image.specs.Execution as execution
-use Rattle.edd_image.specs.Execution.{Outcome}
-use Rattle.edd_image.specs.Reading.{body_of, opening_of}
+use Rattle.edd_instructions.specs.Execution as execution
+use Rattle.edd_instructions.specs.Execution.{Outcome}
+use Rattle.edd_instructions.specs.Reading.{body_of, opening_of}
 use Rattle.edd_machine.specs.Types.{types_in}
 use Rattle.edd_port.specs.declared.fault.PlayFault.{PlayFault}
 use Rattle.edd_port.specs.declared.fault.PlayFault.TheVariants as play_fault

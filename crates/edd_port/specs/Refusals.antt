@@ -4,8 +4,8 @@ use Rattle.std.specs.Int.{w32}
 use Rattle.edd_syntax.specs.declared.numbers.VarNo.{VarNo}
 use Rattle.edd_syntax.specs.Answers.{Answer, Go, Abort, Change, SetFault, answer_fault}
 use Rattle.edd_syntax.specs.DeviceValues.{VariableType}
-use Rattle.edd_image.specs.declared.records.Status.{Status}
-use Rattle.edd_image.specs.declared.records.Status.TheVariants as status
+use Rattle.edd_instructions.specs.declared.records.Status.{Status}
+use Rattle.edd_instructions.specs.declared.records.Status.TheVariants as status
 
 -- no request is pending, or a set can't be made
 pub data Refusal : Type 0 where

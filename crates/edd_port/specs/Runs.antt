@@ -2,11 +2,11 @@
 use Rattle.std.specs.Prelude.{◌≡◌, ℕ, ◌+◌, ◌-◌, ◌^◌, min, ℤ, List, [], Some}
 use Rattle.edd_syntax.specs.declared.numbers.MethNo.{MethNo}
 use Rattle.edd_image.specs.Contents.{AttributeFields, contents_in}
-use Rattle.edd_image.specs.AbortMethods.{execute_in}
-use Rattle.edd_image.specs.Execution.{Outcome, preceded}
-use Rattle.edd_image.specs.Reading.{environment_of, body_of, opening_of}
-use Rattle.edd_image.specs.Steps.{State, Environment}
-use Rattle.edd_image.specs.Validity.{IsValid}
+use Rattle.edd_instructions.specs.AbortMethods.{execute_in}
+use Rattle.edd_instructions.specs.Execution.{Outcome, preceded}
+use Rattle.edd_instructions.specs.Reading.{environment_of, body_of, opening_of}
+use Rattle.edd_instructions.specs.Steps.{State, Environment}
+use Rattle.edd_instructions.specs.Validity.{IsValid}
 use Rattle.edd_machine.specs.declared.code_unit.CodeUnit.{CodeUnit}
 use Rattle.edd_machine.specs.Running.{IsStateIn}
 

@@ -3,7 +3,7 @@
 ghost use Rattle.std.specs.Prelude.{◌≡◌, ℕ, ◌<◌, List, length, map, option_map};
 ghost use Rattle.std.specs.List.{AllByRecursion};
 ghost use Rattle.edd_syntax.specs.Answers.{answer_of, sets_fault, values_set};
-ghost use Rattle.edd_image.specs.Execution.{answered};
+ghost use Rattle.edd_instructions.specs.Execution.{answered};
 ghost use Rattle.edd_machine.specs.Faults.{set_fault_of};
 ghost use Rattle.edd_machine.specs.Running.{state_of};
 ghost use Rattle.edd_machine.specs.Types.{types_in};
@@ -11,7 +11,7 @@ ghost use Rattle.edd_port.specs.Faults.{answer_fault_of};
 ghost use Rattle.edd_port.specs.Refusals.{CodeFits, change_of, refusal, sets_of};
 
 use crate::fault::{AnswerFault, fault_of_set};
-use edd_image::Status;
+use edd_instructions::Status;
 use edd_loader::Image;
 use edd_machine::{Machine, SetFault, set_fault};
 use edd_syntax::answer::Answer;

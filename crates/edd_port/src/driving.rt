@@ -1,7 +1,7 @@
 //! A session that is driven by a host.
 
 ghost use Rattle.std.specs.Prelude.{◌≡◌, [], ◌++◌, ◌+◌, ◌≤◌, IfErr, IfNone, IfOk, IfSome, OnErr, map};
-ghost use Rattle.edd_image.specs.declared.records.Status.TheVariants.{Running, Asking};
+ghost use Rattle.edd_instructions.specs.declared.records.Status.TheVariants.{Running, Asking};
 ghost use Rattle.edd_machine.specs.Types.{types_in};
 ghost use Rattle.edd_port.specs.Books.{Pair, with_pair};
 ghost use Rattle.edd_port.specs.Drives.{AreMet, EndsAs, Executes, GoesOn, RefusesLast, Shows, Stops, Takes, accepted, added, driven, failed_after, nothing_after};
@@ -11,7 +11,7 @@ ghost use Rattle.edd_port.specs.Turns.{turn_of};
 use crate::host::{Host, Reply};
 use crate::session::Session;
 use crate::turn::{Drive, Turn};
-use edd_image::Request;
+use edd_instructions::Request;
 
 // Puts the pending request to the host, and goes on if it gives a good answer.
 fn put<H: Host>(session: &mut Session<'_, '_>, host: &mut H, request: Request) -> Option<Drive>

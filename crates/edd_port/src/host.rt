@@ -4,7 +4,7 @@ ghost use Rattle.std.specs.Prelude.{◌≤◌, length};
 ghost use Rattle.edd_syntax.specs.Answers.{answer_of};
 ghost use Rattle.edd_port.specs.Books.{Book, IsLast, Replied};
 
-use edd_image::Request;
+use edd_instructions::Request;
 use edd_syntax::answer::Answer;
 
 /// What a host has for a request.

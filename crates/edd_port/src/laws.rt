@@ -2,13 +2,13 @@
 
 ghost use Rattle.std.specs.Prelude.{◌≡◌, ◌≢◌, ℕ, ◌+◌, ◌-◌, List, [], ◌∷◌, None};
 ghost use Rattle.edd_syntax.specs.Answers.{Answer, answer_fault};
-ghost use Rattle.edd_image.specs.declared.records.Request.{Request};
-ghost use Rattle.edd_image.specs.declared.records.Status.TheVariants.{Asking};
-ghost use Rattle.edd_image.specs.AbortMethods.{answered_in, execute_in, next, start_in};
+ghost use Rattle.edd_instructions.specs.declared.records.Request.{Request};
+ghost use Rattle.edd_instructions.specs.declared.records.Status.TheVariants.{Asking};
+ghost use Rattle.edd_instructions.specs.AbortMethods.{answered_in, execute_in, next, start_in};
 ghost use Rattle.edd_image.specs.Contents.{Contents};
-ghost use Rattle.edd_image.specs.Execution.{Stuck, preceded, resumed_following};
-ghost use Rattle.edd_image.specs.Reading.{environment_of};
-ghost use Rattle.edd_image.specs.Steps.{State};
+ghost use Rattle.edd_instructions.specs.Execution.{Stuck, preceded, resumed_following};
+ghost use Rattle.edd_instructions.specs.Reading.{environment_of};
+ghost use Rattle.edd_instructions.specs.Steps.{State};
 ghost use Rattle.edd_port.specs.Runs.{followed};
 
 /// Every cutting of a run into budgets gives the same run, and an answer may be handed in wherever

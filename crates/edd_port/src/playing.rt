@@ -11,7 +11,7 @@ use crate::driving::execute_some;
 use crate::fault::{PlayFault, fault_of_refused, fault_of_start};
 use crate::session::Session;
 use crate::turn::Turn;
-use edd_image::Request;
+use edd_instructions::Request;
 use edd_loader::Image;
 use edd_machine::Values;
 use edd_syntax::answer::{Answer, Trap};

@@ -4,8 +4,8 @@ ghost use Rattle.std.specs.Prelude.{◌≡◌, ℕ, ◌≤◌, ◌+◌, IfErr, I
 ghost use Rattle.std.specs.Result.{result_err};
 ghost use Rattle.edd_syntax.specs.Answers.{answer_of};
 ghost use Rattle.edd_syntax.specs.DeviceValues.{AreDeviceValues};
-ghost use Rattle.edd_image.specs.declared.records.Status.TheVariants.{Running};
-ghost use Rattle.edd_image.specs.AbortMethods.{answered_in};
+ghost use Rattle.edd_instructions.specs.declared.records.Status.TheVariants.{Running};
+ghost use Rattle.edd_instructions.specs.AbortMethods.{answered_in};
 ghost use Rattle.edd_image.specs.Contents.{contents_in};
 ghost use Rattle.edd_machine.specs.Types.{types_in};
 ghost use Rattle.edd_port.specs.Faults.{IsStartFault, answer_fault_of};
@@ -16,7 +16,7 @@ ghost use Rattle.edd_port.specs.Turns.{ending_of, turn_of};
 use crate::answers::{fault_of_answer, take_answer};
 use crate::fault::{AnswerFault, StartFault};
 use crate::turn::{Turn, turn_of};
-use edd_image::Status;
+use edd_instructions::Status;
 use edd_loader::Image;
 use edd_machine::{Machine, Values, find_body};
 use edd_syntax::answer::Answer;
@@ -37,7 +37,7 @@ impl<'i, 'b> Model for Session<'i, 'b> {
 
     ghost Value = { Run };
 
-    ghost use Rattle.edd_image.specs.Validity.{IsValid};
+    ghost use Rattle.edd_instructions.specs.Validity.{IsValid};
     ghost use Rattle.edd_machine.specs.Running.{state_of, IsMachine};
 
     ghost view = { λ s. record {

@@ -4,7 +4,7 @@ ghost use Rattle.std.specs.Prelude.{◌≡◌};
 ghost use Rattle.edd_port.specs.Turns.{turn_of};
 
 use crate::fault::AnswerFault;
-use edd_image::{Request, Status};
+use edd_instructions::{Request, Status};
 use edd_syntax::answer::Trap;
 
 /// Where a session is: it asks, it is over, or it would go on.

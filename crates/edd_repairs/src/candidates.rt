@@ -1,7 +1,7 @@
 //! What is tried in place of a token that does not fit, and before it.
 
 use edd_lexer::token::TokenKind;
-use edd_places::nearest::Nearest;
+use edd_reports::nearest::Nearest;
 use edd_syntax::operators::{Comparison, Operator};
 use edd_syntax::symbols::{Keyword, Symbol};
 use std::alloc::{AllocError, Global};

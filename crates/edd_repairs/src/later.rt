@@ -8,8 +8,8 @@ use crate::found_in;
 use crate::grammar::{Grammar, TextFault};
 use crate::sections::{Section, sections};
 use edd_lexer::fault::LexFault;
-use edd_places::diagnostic::{Diagnostic, Help};
-use edd_places::words::Span;
+use edd_reports::diagnostic::{Diagnostic, Help};
+use edd_reports::words::Span;
 use edd_token_reader::fault::ParseFault;
 use std::alloc::{AllocError, Global};
 

@@ -5,7 +5,7 @@
 
 use crate::grammar::{Grammar, TextFault};
 use edd_lexer::token::Token;
-use edd_places::words::{Span, span_of, tokens_before};
+use edd_reports::words::{Span, span_of, tokens_before};
 use edd_token_reader::fault::ParseFault;
 use std::alloc::{AllocError, Global};
 

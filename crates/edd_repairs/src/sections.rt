@@ -5,7 +5,7 @@
 //! miss their closing ones, and as many closing ones that come later are taken for these.
 
 use edd_lexical_repairs::scanning::{Scanned, Shape, byte_at, piece_at};
-use edd_places::words::{kind_word, text_in};
+use edd_reports::words::{kind_word, text_in};
 use edd_syntax::numbers::KINDS;
 use std::alloc::{AllocError, Global};
 

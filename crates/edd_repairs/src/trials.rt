@@ -6,7 +6,7 @@ use crate::candidates::{
 use crate::grammar::{Grammar, TextFault};
 use crate::located::{Edit, LineTokens, line_of, spread};
 use edd_lexer::token::{Token, TokenKind};
-use edd_places::words::{Span, word_of};
+use edd_reports::words::{Span, word_of};
 use edd_token_reader::fault::ParseFault;
 use std::alloc::{AllocError, Global};
 

@@ -1,9 +1,9 @@
 //! Lines of JSON.
 
+use crate::diagnostic::{Diagnostic, Finding, Help};
+use crate::lines::Lines;
+use crate::words::Span;
 use crate::{ReportFault, Source, print};
-use edd_places::diagnostic::{Diagnostic, Finding, Help};
-use edd_places::lines::Lines;
-use edd_places::words::Span;
 use serde::Serialize;
 use std::alloc::Global;
 use std::io::Write;

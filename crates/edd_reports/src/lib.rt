@@ -1,14 +1,19 @@
-//! What is wrong with a source, printed as lines of text or of JSON. Proved is that all of it is
-//! safe and ends.
+//! What is said of the places of a source: lines, columns and tokens, what is wrong there, and that
+//! printed as lines of text or of JSON. Proved is that all of it is safe and ends.
 #![tactic(auto)]
 
+pub mod diagnostic;
 mod fault;
 mod json;
+pub mod lines;
+pub mod nearest;
+pub mod outline;
 mod text;
+pub mod words;
 
-use edd_places::diagnostic::Diagnostic;
-use edd_places::lines::Lines;
+use diagnostic::Diagnostic;
 pub use fault::ReportFault;
+use lines::Lines;
 use std::alloc::Global;
 use std::io::Write;
 

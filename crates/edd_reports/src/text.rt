@@ -1,9 +1,9 @@
 //! Lines for a reader.
 
+use crate::diagnostic::{Diagnostic, Finding, Help};
+use crate::lines::{Lines, Place};
+use crate::words::Span;
 use crate::{ReportFault, Source, print};
-use edd_places::diagnostic::{Diagnostic, Finding, Help};
-use edd_places::lines::{Lines, Place};
-use edd_places::words::Span;
 use std::alloc::Global;
 use std::fmt::Write as _;
 use std::io::Write;

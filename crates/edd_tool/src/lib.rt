@@ -1,5 +1,5 @@
-//! The program `edd` over given words, files and output, and the call of the compiler that it
-//! makes.
+//! The program `edd` over given words, files and output, or over the files of the system, and the
+//! call of the compiler that it makes.
 #![tactic(auto)]
 
 ghost use Rattle.std.specs.Prelude.{◌≤◌};
@@ -9,6 +9,7 @@ mod files;
 mod playing;
 mod requests;
 mod script;
+mod system;
 
 pub use edd_compiler::{Fault, compile};
 use edd_display::ShowFault;
@@ -16,6 +17,7 @@ pub use files::{FileFault, Files};
 use requests::Stop;
 use std::alloc::Global;
 use std::io::{BufWriter, Write};
+pub use system::run_on_system;
 
 /// The exit statuses.
 const DONE: u8 = 0;

@@ -7,7 +7,7 @@ use Rattle.edd_syntax.specs.ItemView.{identification_of, numbered_items, numbere
 use Rattle.edd_syntax.specs.Resolution.{count_of}
 use Rattle.edd_syntax.specs.Resolved.{description}
 use Rattle.edd_syntax.proofs.WithinLimits.{few_when_checked}
-use Rattle.edd_image.specs.Agreement.{version_for}
+use Rattle.edd_instructions.specs.Agreement.{version_for}
 use Rattle.edd_assembly.specs.Assembly.{is_small_variable}
 use Rattle.edd_assembly.proofs.SmallVariables.{small_when_checked}
 use Rattle.edd_assembly.proofs.parts.assemble.Goals as goal

@@ -1,5 +1,5 @@
 use Rattle.std.proofs.Common.{◌∙◌, ap}
-use Rattle.edd_image.specs.declared.instruction.Instruction.TheVariants as instruction
+use Rattle.edd_instructions.specs.declared.instruction.Instruction.TheVariants as instruction
 use Rattle.edd_syntax.specs.TreeView.{numbered_expr}
 use Rattle.edd_code.specs.Blocks.{Straight, Then, WhenNotZero, WhenZero}
 use Rattle.edd_code.specs.Closing.{closed}

@@ -9,7 +9,7 @@ use Rattle.edd_syntax.specs.Expression.{Arguments, arguments_from}
 use Rattle.edd_syntax.specs.Strings.{argument_texts}
 use Rattle.edd_syntax.specs.TreeView.{numbered_argument}
 use Rattle.edd_syntax.specs.WordsView.{text_of}
-use Rattle.edd_image.specs.declared.instruction.Ask.TheVariants as ask
+use Rattle.edd_instructions.specs.declared.instruction.Ask.TheVariants as ask
 use Rattle.edd_code.specs.Expressions.{no_value}
 use Rattle.edd_code.specs.MethodExpressions.{call_block}
 use Rattle.edd_code.specs.Written.{WritesPart}

@@ -19,8 +19,8 @@ use Rattle.edd_syntax.specs.TreeView.{numbered_argument, numbered_expr}
 use Rattle.edd_syntax.specs.WellFormed.{is_text}
 use Rattle.edd_syntax.specs.Words.{Words, words_of}
 use Rattle.edd_syntax.specs.WordsView.{text_of}
-use Rattle.edd_image.specs.declared.instruction.Ask.TheVariants as ask
-use Rattle.edd_image.specs.declared.instruction.Instruction.TheVariants as instruction
+use Rattle.edd_instructions.specs.declared.instruction.Ask.TheVariants as ask
+use Rattle.edd_instructions.specs.declared.instruction.Instruction.TheVariants as instruction
 use Rattle.edd_code.specs.Arguments.{alone_block}
 use Rattle.edd_code.specs.Blocks.{Either, Straight, Then, WhenNotZero, WhenZero}
 use Rattle.edd_code.specs.Expressions.{element_block, unary_block, instead, no_value, then_test, truth_block}

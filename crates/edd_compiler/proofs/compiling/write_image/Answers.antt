@@ -3,9 +3,9 @@ use Rattle.edd_image.specs.Contents.{contents_in}
 use Rattle.edd_syntax.specs.declared.words.Words as code
 use Rattle.edd_syntax.specs.Words.{Words}
 use Rattle.edd_syntax.specs.WordsView.{string_of}
-use Rattle.edd_image.specs.MethodAgreement.{Agrees}
+use Rattle.edd_instructions.specs.MethodAgreement.{Agrees}
 use Rattle.edd_image.specs.Layout.{sections_of}
-use Rattle.edd_image.specs.Validity.{IsValid}
+use Rattle.edd_instructions.specs.Validity.{IsValid}
 use Rattle.edd_assembly.specs.Views.{lowered_of}
 use Rattle.edd_code.specs.Units.{description_of}
 use Rattle.edd_compiler.proofs.ImageParts.{few_strings}

@@ -1,7 +1,7 @@
 use Rattle.std.proofs.Common.{arith, sym, ◌∙◌}
 use Rattle.edd_image.specs.Contents.{contents_in}
-use Rattle.edd_image.specs.Units.{Placed}
-use Rattle.edd_image.specs.Validity.{adds_with_body}
+use Rattle.edd_instructions.specs.Units.{Placed}
+use Rattle.edd_instructions.specs.Validity.{adds_with_body}
 use Rattle.edd_loader.proofs.AddedMethods.{adds_from_start}
 use Rattle.edd_loader.proofs.Walks.{all_goes, all_fails, all_done}
 use Rattle.edd_loader.proofs.abort_methods.unit_adds_with_body.Goals as goal

@@ -1,7 +1,7 @@
 use Rattle.std.proofs.Common.{◌≡◌, ◌≤◌, ◌-◌, length}
 use Rattle.std.specs.List.{list_all}
 use Rattle.edd_image.specs.Contents.{contents_in}
-use Rattle.edd_image.specs.Validity.{adds_with_body}
+use Rattle.edd_instructions.specs.Validity.{adds_with_body}
 use Rattle.edd_loader.specs.AbortMethods.{unit_adds_with_body}
 use Rattle.edd_loader.proofs.Listing.{from_place}
 use Rattle.edd_loader.proofs.abort_methods.unit_adds_with_body.Given as goal

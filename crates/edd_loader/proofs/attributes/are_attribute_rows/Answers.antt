@@ -1,6 +1,6 @@
 use Rattle.std.proofs.Common.{◌+◌, ◌-◌, ◌*◌, arith, sym, ap, ◌∙◌}
 use Rattle.edd_image.specs.Contents.{attribute_fields}
-use Rattle.edd_image.specs.Validity.{is_attribute_row}
+use Rattle.edd_instructions.specs.Validity.{is_attribute_row}
 use Rattle.edd_loader.specs.Rows.{rises_next}
 use Rattle.edd_loader.proofs.RowTurns.{row_at, rows_behind, no_row, attribute_goes, attribute_fails, rise_fails, unit_fails, attribute_done}
 use Rattle.edd_loader.proofs.attributes.are_attribute_rows.Goals as goal

@@ -1,7 +1,7 @@
 use Rattle.std.proofs.Common.{◌≡◌, ◌&&◌, map}
 use Rattle.std.specs.List.{list_all}
 use Rattle.edd_image.specs.Contents.{rows_from, attribute_fields}
-use Rattle.edd_image.specs.Validity.{fills, rise, is_attribute_row}
+use Rattle.edd_instructions.specs.Validity.{fills, rise, is_attribute_row}
 use Rattle.edd_loader.proofs.RowTurns.{rows_on}
 use Rattle.edd_loader.proofs.attributes.are_attribute_rows.Given as goal
 

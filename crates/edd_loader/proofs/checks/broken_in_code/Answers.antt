@@ -1,5 +1,5 @@
 use Rattle.std.proofs.Common.{arith}
-use Rattle.edd_image.specs.declared.rules.Rule.TheVariants as rule
+use Rattle.edd_instructions.specs.declared.rules.Rule.TheVariants as rule
 use Rattle.edd_loader.proofs.RuleOrder.{sections_fill}
 use Rattle.edd_loader.proofs.checks.broken_in_code.Goals as goal
 

@@ -1,6 +1,6 @@
 use Rattle.std.proofs.Common.{◌+◌, ◌-◌, ◌*◌, arith, sym, ap, ◌∙◌}
 use Rattle.edd_image.specs.Contents.{element_fields}
-use Rattle.edd_image.specs.Validity.{is_element_row}
+use Rattle.edd_instructions.specs.Validity.{is_element_row}
 use Rattle.edd_loader.specs.Rows.{is_before_next}
 use Rattle.edd_loader.proofs.ElementTurns.{element_goes, element_fails, element_falls, element_done}
 use Rattle.edd_loader.proofs.RowTurns.{row_at, rows_behind, no_row}

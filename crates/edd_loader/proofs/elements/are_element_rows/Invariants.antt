@@ -1,7 +1,7 @@
 use Rattle.std.proofs.Common.{◌≡◌, ◌&&◌}
 use Rattle.std.specs.List.{list_all}
 use Rattle.edd_image.specs.Contents.{rows_from, element_fields}
-use Rattle.edd_image.specs.Validity.{elements_rise, is_element_row}
+use Rattle.edd_instructions.specs.Validity.{elements_rise, is_element_row}
 use Rattle.edd_loader.proofs.RowTurns.{rows_on}
 use Rattle.edd_loader.proofs.elements.are_element_rows.Given as goal
 

@@ -1,4 +1,4 @@
-use Rattle.edd_image.specs.Validity.{IsValid}
+use Rattle.edd_instructions.specs.Validity.{IsValid}
 use Rattle.std.proofs.Common.{rules}
 use Rattle.edd_loader.proofs.RuleOrder.{valid_sections}
 use Rattle.edd_loader.proofs.image.load.Goals as goal

@@ -1,8 +1,8 @@
 use Rattle.std.proofs.Common.{rules, ◌≡◌, ◌∙◌, ap, refl, subst, arith, Some, true}
-use Rattle.edd_image.specs.Agreement.{place_of_item}
+use Rattle.edd_instructions.specs.Agreement.{place_of_item}
 use Rattle.edd_image.specs.Contents.{contents_in}
 use Rattle.edd_image.specs.Layout.{item_count}
-use Rattle.edd_image.specs.References.{item_exists}
+use Rattle.edd_image.specs.Existing.{item_exists}
 use Rattle.edd_loader.specs.Lookups.{name_in_row}
 use Rattle.edd_loader.proofs.LookupLaws.{name_in_place, named_in_place, first_named}
 use Rattle.edd_loader.proofs.RuleOrder.{has_header}

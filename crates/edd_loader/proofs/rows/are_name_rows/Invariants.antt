@@ -2,7 +2,7 @@ use Rattle.std.proofs.Common.{◌≡◌, ◌&&◌, map}
 use Rattle.std.specs.Prelude.{◌==◌}
 use Rattle.std.specs.List.{list_all}
 use Rattle.edd_image.specs.Contents.{rows_from, name_fields}
-use Rattle.edd_image.specs.Validity.{fills}
+use Rattle.edd_instructions.specs.Validity.{fills}
 use Rattle.edd_loader.proofs.RowTurns.{rows_on}
 use Rattle.edd_loader.proofs.rows.are_name_rows.Given as goal
 

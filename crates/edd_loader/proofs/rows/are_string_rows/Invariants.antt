@@ -1,6 +1,6 @@
 use Rattle.std.proofs.Common.{◌≡◌}
 use Rattle.edd_image.specs.Contents.{rows_from, string_fields}
-use Rattle.edd_image.specs.Validity.{fills}
+use Rattle.edd_instructions.specs.Validity.{fills}
 use Rattle.edd_loader.proofs.RowTurns.{rows_on}
 use Rattle.edd_loader.proofs.rows.are_string_rows.Given as goal
 

@@ -1,6 +1,6 @@
 use Rattle.std.proofs.Common.{◌-◌, arith, sym, ◌∙◌}
 use Rattle.edd_image.specs.Contents.{variable_fields}
-use Rattle.edd_image.specs.Validity.{is_variable_row}
+use Rattle.edd_instructions.specs.Validity.{is_variable_row}
 use Rattle.edd_loader.proofs.RowTurns.{row_at, no_row, each_goes, each_fails, each_done}
 use Rattle.edd_loader.proofs.rows.are_variable_rows.Goals as goal
 

@@ -1,7 +1,7 @@
 use Rattle.std.proofs.Common.{◌≡◌}
 use Rattle.std.specs.List.{list_all}
 use Rattle.edd_image.specs.Contents.{rows_from, variable_fields}
-use Rattle.edd_image.specs.Validity.{is_variable_row}
+use Rattle.edd_instructions.specs.Validity.{is_variable_row}
 use Rattle.edd_loader.proofs.RowTurns.{rows_on}
 use Rattle.edd_loader.proofs.rows.are_variable_rows.Given as goal
 

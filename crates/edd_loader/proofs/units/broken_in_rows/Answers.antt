@@ -1,8 +1,8 @@
 use Rattle.std.proofs.Common.{◌+◌, ◌*◌, ◌-◌, length, arith}
 use Rattle.std.specs.List.{AllByRecursion}
-use Rattle.edd_image.specs.declared.rules.UnitRule.{UnitRule}
+use Rattle.edd_instructions.specs.declared.rules.UnitRule.{UnitRule}
 use Rattle.edd_image.specs.Contents.{attribute_fields, rows_from, AttributeFields}
-use Rattle.edd_image.specs.Units.{UnitKeeps}
+use Rattle.edd_instructions.specs.Units.{UnitKeeps}
 use Rattle.edd_loader.specs.Sections.{lies_within}
 use Rattle.edd_loader.specs.UnitRows.{RowKeeps}
 use Rattle.edd_loader.proofs.BrokenUnits.{keeps_before, breaks_all, before_both, one_of}

@@ -1,10 +1,10 @@
 use Rattle.std.proofs.Common.{◌≡◌, ◌<◌, true, length}
 use Rattle.std.specs.Prelude.{IfSome}
 use Rattle.std.specs.List.{AllByRecursion, list_all}
-use Rattle.edd_image.specs.declared.rules.UnitRule.{UnitRule}
-use Rattle.edd_image.specs.declared.rules.Rule.TheVariants as rule
+use Rattle.edd_instructions.specs.declared.rules.UnitRule.{UnitRule}
+use Rattle.edd_instructions.specs.declared.rules.Rule.TheVariants as rule
 use Rattle.edd_image.specs.Contents.{rows_from, attribute_fields}
-use Rattle.edd_image.specs.Validity.{fault_number}
+use Rattle.edd_instructions.specs.Validity.{fault_number}
 use Rattle.edd_loader.specs.Sections.{lies_within}
 use Rattle.edd_loader.specs.UnitRows.{RowKeeps, fault_bound}
 use Rattle.edd_loader.proofs.RowTurns.{rows_on}

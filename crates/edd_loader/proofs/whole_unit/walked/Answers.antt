@@ -1,5 +1,5 @@
 use Rattle.std.proofs.Common.{rules, ◌≡◌, true, arith, sym, refl, ◌∙◌}
-use Rattle.edd_image.specs.Units.{leaves}
+use Rattle.edd_instructions.specs.Units.{leaves}
 use Rattle.edd_loader.specs.Marks.{brought, mark_at}
 use Rattle.edd_loader.proofs.MarkLaws.{mark_there}
 use Rattle.edd_loader.proofs.WalkGoes.{walk_goes_on, walk_again}

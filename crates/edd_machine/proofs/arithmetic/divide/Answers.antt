@@ -2,7 +2,7 @@ use Rattle.std.proofs.Common.{◌≡◌, ◌-◌, ◌^◌, pos, negsuc, neg_ℤ,
 use Rattle.std.specs.Prelude.{int_div, Ok}
 use Rattle.std.proofs.lemmas.Int.{quot_is}
 use Rattle.edd_syntax.specs.TwosComplement.{divide}
-use Rattle.edd_image.specs.Steps.{width_of}
+use Rattle.edd_instructions.specs.Steps.{width_of}
 use Rattle.edd_machine.proofs.Widths.{again, divide_ok, quotient_fits}
 use Rattle.edd_machine.proofs.arithmetic.divide.Goals as goal
 use Rattle.edd_machine.proofs.arithmetic.divide.Goals.{else-a-least-via-then-a-least+else-b-eqminus1, else-a-least-via-else-a-least}

@@ -1,8 +1,8 @@
 use Rattle.std.proofs.Common.{◌≡◌, false, List, None, Ok, sym, ap, subst, ◌∙◌}
 use Rattle.std.specs.Prelude.{is_some}
 use Rattle.edd_image.specs.Contents.{contents_in}
-use Rattle.edd_image.specs.Reading.{Reading, Records, IsReading, is_no_item, row_of}
-use Rattle.edd_image.specs.declared.records.Record.{Record}
+use Rattle.edd_instructions.specs.Reading.{Reading, Records, IsReading, is_no_item, row_of}
+use Rattle.edd_instructions.specs.declared.records.Record.{Record}
 use Rattle.edd_machine.specs.declared.fault.ReadFault.TheVariants as read_fault
 use Rattle.edd_machine.specs.Faults.{IsReadFault}
 use Rattle.edd_machine.specs.Running.{unit_at}

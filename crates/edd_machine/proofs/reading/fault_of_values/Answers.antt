@@ -1,7 +1,7 @@
 use Rattle.std.proofs.Common.{◌≡◌, sym, ap, ◌∙◌}
 use Rattle.std.specs.Prelude.{is_some}
 use Rattle.edd_image.specs.Contents.{contents_in}
-use Rattle.edd_image.specs.Reading.{row_of}
+use Rattle.edd_instructions.specs.Reading.{row_of}
 use Rattle.edd_machine.specs.Running.{unit_at}
 use Rattle.edd_machine.proofs.AttributeReadings.{found_row, counts_there, nothing_read}
 use Rattle.edd_machine.proofs.reading.fault_of_values.Goals as goal

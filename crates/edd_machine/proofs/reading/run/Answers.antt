@@ -1,11 +1,11 @@
 use Rattle.std.proofs.Common.{◌≡◌, [], ℕ, List, length, Some, None, Ok, Err, arith, refl, sym, ap, subst, ◌∙◌}
 use Rattle.std.proofs.lemmas.List.{append-nil}
-use Rattle.edd_image.specs.declared.records.Record.{Record}
-use Rattle.edd_image.specs.declared.records.Emitted.TheVariants as emitted
+use Rattle.edd_instructions.specs.declared.records.Record.{Record}
+use Rattle.edd_instructions.specs.declared.records.Emitted.TheVariants as emitted
 use Rattle.edd_image.specs.Contents.{contents_in}
-use Rattle.edd_image.specs.Decoding.{instruction_at}
-use Rattle.edd_image.specs.Reading.{environment_of, with_record}
-use Rattle.edd_image.specs.Steps.{opening}
+use Rattle.edd_instructions.specs.Decoding.{instruction_at}
+use Rattle.edd_instructions.specs.Reading.{environment_of, with_record}
+use Rattle.edd_instructions.specs.Steps.{opening}
 use Rattle.edd_machine.specs.declared.outcome.Outcome.TheVariants.{GoesOn, Gives as GivesRecord}
 use Rattle.edd_machine.specs.Given.{Gives}
 use Rattle.edd_machine.specs.Running.{running_unit, code_at}

@@ -1,7 +1,7 @@
 use Rattle.std.proofs.Common.{◌-◌, length}
 use Rattle.edd_image.specs.Contents.{contents_in}
-use Rattle.edd_image.specs.Reading.{environment_of}
-use Rattle.edd_image.specs.Steps.{opening}
+use Rattle.edd_instructions.specs.Reading.{environment_of}
+use Rattle.edd_instructions.specs.Steps.{opening}
 use Rattle.edd_machine.specs.Given.{Gives}
 use Rattle.edd_machine.specs.Running.{running_unit, IsStateIn}
 use Rattle.edd_machine.proofs.Following.{Given, at_place, after}

@@ -1,4 +1,4 @@
-use Rattle.edd_image.specs.declared.rules.Rule.TheVariants as rule
+use Rattle.edd_instructions.specs.declared.rules.Rule.TheVariants as rule
 use Rattle.edd_loader.proofs.RuleOrder.{valid_sections}
 use Rattle.edd_machine.proofs.rows.find_attribute.Goals as goal
 

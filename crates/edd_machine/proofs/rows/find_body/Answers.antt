@@ -1,8 +1,8 @@
 use Rattle.std.proofs.Common.{◌≡◌, Some, ap, ◌∙◌}
 use Rattle.std.specs.Prelude.{option_map}
 use Rattle.edd_image.specs.Contents.{attribute_fields, contents_in}
-use Rattle.edd_image.specs.Reading.{body_of}
-use Rattle.edd_image.specs.declared.rules.Rule.TheVariants as rule
+use Rattle.edd_instructions.specs.Reading.{body_of}
+use Rattle.edd_instructions.specs.declared.rules.Rule.TheVariants as rule
 use Rattle.edd_loader.proofs.RuleOrder.{valid_sections}
 use Rattle.edd_machine.specs.Running.{unit_at}
 use Rattle.edd_machine.proofs.BodyUnits.{is_body_unit}

@@ -7,7 +7,7 @@ use Rattle.edd_syntax.specs.Statement.{Body, body_from, slots_in}
 use Rattle.edd_syntax.specs.Strings.{strings_of_texts}
 use Rattle.edd_syntax.specs.TreeView.{numbered_part}
 use Rattle.edd_syntax.specs.WellFormed.{is_text}
-use Rattle.edd_image.specs.MethodAgreement.{IsMethodCode}
+use Rattle.edd_instructions.specs.MethodAgreement.{IsMethodCode}
 use Rattle.edd_code.specs.declared.fault.LowerFault.TheVariants.{TooMany}
 use Rattle.edd_code.specs.Tables.{Overflows}
 use Rattle.edd_code.specs.Units.{description_of}

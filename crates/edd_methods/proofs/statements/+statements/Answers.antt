@@ -14,8 +14,8 @@ use Rattle.edd_syntax.proofs.TreeRows.{block_is, switch_is}
 use Rattle.edd_code.specs.Blocks.{Nothing}
 use Rattle.edd_code.specs.Closing.{closed}
 use Rattle.edd_code.proofs.Closing.{closed_length}
-use Rattle.edd_image.specs.declared.instruction.Instruction.TheVariants as instruction
-use Rattle.edd_image.specs.Spelling.{spelling}
+use Rattle.edd_instructions.specs.declared.instruction.Instruction.TheVariants as instruction
+use Rattle.edd_instructions.specs.Spelling.{spelling}
 use Rattle.edd_methods.specs.Labels.{case_noted, default_noted, or_else}
 use Rattle.edd_code.specs.MethodExpressions.{method_block}
 use Rattle.edd_methods.specs.LoopParts.{loop_part, loop_texts}

@@ -1,7 +1,7 @@
 use Rattle.std.proofs.Common.{◌≡◌, ℕ, ◌+◌, ◌≤◌, [], sym, ap, ◌∙◌, arith}
-use Rattle.edd_image.specs.AbortMethods.{next, start_in}
+use Rattle.edd_instructions.specs.AbortMethods.{next, start_in}
 use Rattle.edd_image.specs.Contents.{contents_in}
-use Rattle.edd_image.proofs.StepCounts.{at_most_following}
+use Rattle.edd_instructions.proofs.StepCounts.{at_most_following}
 use Rattle.edd_port.specs.Runs.{advanced, counted, environment}
 use Rattle.edd_port.proofs.driving.execute_some.Goals as goal
 

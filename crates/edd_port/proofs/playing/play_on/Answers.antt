@@ -2,8 +2,8 @@ use Rattle.std.proofs.Common.{rules, ℕ, ◌≡◌, ◌<◌, ◌+◌, [], List,
 use Rattle.std.proofs.Math.Seq.{drop-length}
 use Rattle.std.proofs.lemmas.List.{length-map}
 use Rattle.edd_syntax.specs.Answers.{Answer, answer_of, answer_fault}
-use Rattle.edd_image.specs.declared.records.Status.{Status}
-use Rattle.edd_image.specs.declared.records.Status.TheVariants.{Asking}
+use Rattle.edd_instructions.specs.declared.records.Status.{Status}
+use Rattle.edd_instructions.specs.declared.records.Status.TheVariants.{Asking}
 use Rattle.edd_port.specs.declared.turn.Turn.{Turn}
 use Rattle.edd_port.specs.declared.turn.Turn.TheVariants as turn
 use Rattle.edd_port.specs.Refusals.{refusal}

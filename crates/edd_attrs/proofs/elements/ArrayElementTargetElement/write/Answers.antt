@@ -7,8 +7,8 @@ use Rattle.edd_syntax.specs.declared.numbers.VarNo.{VarNo}
 use Rattle.edd_syntax.specs.Targets.{variable_of}
 use Rattle.edd_syntax.specs.Words.{Words, words_of}
 use Rattle.edd_syntax.specs.WordsView.{text_of}
-use Rattle.edd_image.specs.declared.instruction.Instruction.TheVariants as instruction
-use Rattle.edd_image.specs.Spelling.{spelling}
+use Rattle.edd_instructions.specs.declared.instruction.Instruction.TheVariants as instruction
+use Rattle.edd_instructions.specs.Spelling.{spelling}
 use Rattle.edd_code.specs.Tables.{Overflows}
 use Rattle.edd_code.proofs.Growing.{overflows_first, overflows_second}
 use Rattle.edd_attrs.proofs.Written.{array_element_written}

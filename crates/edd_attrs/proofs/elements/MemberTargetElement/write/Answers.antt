@@ -7,8 +7,8 @@ use Rattle.edd_syntax.specs.Words.{Words, words_of, name_words}
 use Rattle.edd_syntax.specs.WordsView.{text_of}
 use Rattle.edd_syntax.specs.Targets.{item_of}
 use Rattle.edd_syntax.specs.declared.numbers.ItemNo.{ItemNo}
-use Rattle.edd_image.specs.declared.instruction.Instruction.TheVariants as instruction
-use Rattle.edd_image.specs.Spelling.{spelling}
+use Rattle.edd_instructions.specs.declared.instruction.Instruction.TheVariants as instruction
+use Rattle.edd_instructions.specs.Spelling.{spelling}
 use Rattle.edd_code.specs.Tables.{Overflows, GrowsBy, Keeps}
 use Rattle.edd_code.proofs.Growing.{overflows_head, overflows_tail, overflows_first, overflows_second}
 use Rattle.edd_attrs.proofs.Written.{member_written}

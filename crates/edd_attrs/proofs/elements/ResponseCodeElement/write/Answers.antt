@@ -1,8 +1,8 @@
 use Rattle.std.proofs.Common.{ℕ, ◌∙◌, ap, ◌++◌}
 use Rattle.edd_syntax.specs.Words.{words_of}
 use Rattle.edd_syntax.specs.WordsView.{text_of}
-use Rattle.edd_image.specs.declared.instruction.Instruction.TheVariants as instruction
-use Rattle.edd_image.specs.Spelling.{spelling}
+use Rattle.edd_instructions.specs.declared.instruction.Instruction.TheVariants as instruction
+use Rattle.edd_instructions.specs.Spelling.{spelling}
 use Rattle.edd_attrs.proofs.Written.{response_written}
 use Rattle.edd_attrs.proofs.elements.ResponseCodeElement.write.Goals as goal
 

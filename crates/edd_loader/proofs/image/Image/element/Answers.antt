@@ -1,7 +1,7 @@
 use Rattle.std.proofs.Common.{◌≡◌, subst, true}
 use Rattle.std.specs.Prelude.{IfSome}
 use Rattle.edd_image.specs.Fields.{counts_in}
-use Rattle.edd_image.specs.References.{variable_exists}
+use Rattle.edd_image.specs.Existing.{variable_exists}
 use Rattle.edd_loader.proofs.ElementLaws.{variable_there}
 use Rattle.edd_loader.proofs.image.Image.element.Goals as goal
 

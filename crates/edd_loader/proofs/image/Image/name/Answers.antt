@@ -2,8 +2,8 @@ use Rattle.std.proofs.Common.{◌≡◌, ◌∙◌, ◌<◌, ap, sym, subst, Som
 use Rattle.edd_image.specs.Contents.{contents_in}
 use Rattle.edd_image.specs.Fields.{counts_in}
 use Rattle.edd_image.specs.Layout.{item_count}
-use Rattle.edd_image.specs.References.{item_exists}
-use Rattle.edd_image.specs.Agreement.{place_of_item}
+use Rattle.edd_image.specs.Existing.{item_exists}
+use Rattle.edd_instructions.specs.Agreement.{place_of_item}
 use Rattle.edd_loader.specs.Lookups.{name_in_row}
 use Rattle.edd_loader.proofs.LookupLaws.{named_in_place, no_name, place_inside}
 use Rattle.edd_loader.proofs.image.Image.name.Goals as goal

@@ -1,5 +1,5 @@
 use Rattle.std.proofs.Common.{◌-◌, ◌∙◌, ap}
-use Rattle.edd_image.specs.Units.{leaves, takes}
+use Rattle.edd_instructions.specs.Units.{leaves, takes}
 use Rattle.edd_loader.specs.declared.survey.Survey.{Survey}
 use Rattle.edd_loader.specs.Marks.{brought}
 use Rattle.edd_loader.proofs.JumpLaws.{brought_onward}

@@ -1,6 +1,6 @@
 use Rattle.std.proofs.Common.{List, refl, sym, ap, ◌∙◌}
 use Rattle.edd_syntax.specs.declared.numbers.MethNo.{MethNo}
-use Rattle.edd_image.specs.AbortMethods.{start_in, start_listed}
+use Rattle.edd_instructions.specs.AbortMethods.{start_in, start_listed}
 use Rattle.edd_image.specs.Contents.{contents_in}
 use Rattle.edd_machine.proofs.Aborting.{first_starts}
 use Rattle.edd_machine.proofs.abort_methods.AbortMethods.next_body.Goals as goal

@@ -1,7 +1,7 @@
 use Rattle.std.proofs.Common.{◌≡◌, length}
-use Rattle.edd_image.specs.AbortMethods.{start_in, start_listed}
+use Rattle.edd_instructions.specs.AbortMethods.{start_in, start_listed}
 use Rattle.edd_image.specs.Contents.{contents_in}
-use Rattle.edd_image.specs.Steps.{State}
+use Rattle.edd_instructions.specs.Steps.{State}
 use Rattle.edd_machine.proofs.abort_methods.AbortMethods.next_body.Given as goal
 
 abbrev pub invariant-loop-method : goal.invariant-loop-method

@@ -1,7 +1,7 @@
 use Rattle.std.proofs.Common.{◌≡◌, Some, refl, ap, ◌∙◌}
 use Rattle.edd_image.specs.Contents.{contents_in}
-use Rattle.edd_image.specs.Reading.{environment_of}
-use Rattle.edd_image.specs.Steps.{Effect, act}
+use Rattle.edd_instructions.specs.Reading.{environment_of}
+use Rattle.edd_instructions.specs.Steps.{Effect, act}
 use Rattle.edd_machine.specs.Outcomes.{comes_to}
 use Rattle.edd_machine.specs.Running.{state_of}
 use Rattle.edd_machine.proofs.Acting.{ask_acts, effect_same, shared, variable_there, values_counted, comes_over}

@@ -1,6 +1,6 @@
 use Rattle.std.proofs.Common.{sym, subst}
-use Rattle.edd_image.specs.AbortMethods.{aborting}
-use Rattle.edd_image.specs.Steps.{State}
+use Rattle.edd_instructions.specs.AbortMethods.{aborting}
+use Rattle.edd_instructions.specs.Steps.{State}
 use Rattle.edd_machine.specs.declared.code_unit.CodeUnit.{CodeUnit}
 use Rattle.edd_machine.specs.Running.{state_of, start_of, IsStateIn}
 use Rattle.edd_machine.proofs.Aborting.{aborting_there, aborted_there}

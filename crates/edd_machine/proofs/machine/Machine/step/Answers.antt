@@ -1,5 +1,5 @@
 use Rattle.std.proofs.Common.{◌≡◌, ℕ, List, Some, None, sym, ap, ◌∙◌}
-use Rattle.edd_image.specs.Decoding.{instruction_at}
+use Rattle.edd_instructions.specs.Decoding.{instruction_at}
 use Rattle.edd_machine.specs.Running.{code_at, state_of}
 use Rattle.edd_machine.proofs.Stepping.{code_inside, place_inside, instruction_there, can_act, acted, stepped, again}
 use Rattle.edd_machine.proofs.machine.Machine.step.Goals as goal

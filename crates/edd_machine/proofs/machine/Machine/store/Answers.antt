@@ -1,9 +1,9 @@
 use Rattle.std.proofs.Common.{arith, rules, refl, sym, ap, ◌∙◌, w64, FitsSigned}
 use Rattle.std.proofs.lemmas.Int.{to_z-of_z}
 use Rattle.edd_syntax.specs.TwosComplement.{store}
-use Rattle.edd_image.specs.Reading.{environment_of}
+use Rattle.edd_instructions.specs.Reading.{environment_of}
 use Rattle.edd_image.specs.Contents.{contents_in}
-use Rattle.edd_image.specs.Steps.{width_of}
+use Rattle.edd_instructions.specs.Steps.{width_of}
 use Rattle.edd_machine.specs.declared.machine.Machine.{Machine}
 use Rattle.edd_machine.specs.Running.{state_of}
 use Rattle.edd_machine.proofs.Acting.{store_acts, stored_state, type_there, values_counted}

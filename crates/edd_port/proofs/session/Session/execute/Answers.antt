@@ -1,8 +1,8 @@
 use Rattle.std.proofs.Common.{◌≡◌, false, true, ◌-◌, ℕ, suc, List, [], sym, ap, ◌∙◌, ◌⊎◌, inl, inr, arith}
-use Rattle.edd_image.specs.declared.records.Status.TheVariants.{Running}
-use Rattle.edd_image.specs.AbortMethods.{execute_in}
+use Rattle.edd_instructions.specs.declared.records.Status.TheVariants.{Running}
+use Rattle.edd_instructions.specs.AbortMethods.{execute_in}
 use Rattle.edd_image.specs.Contents.{contents_in}
-use Rattle.edd_image.specs.Execution.{Outcome}
+use Rattle.edd_instructions.specs.Execution.{Outcome}
 use Rattle.edd_machine.specs.Running.{state_of}
 use Rattle.edd_port.specs.Runs.{Run, advanced}
 use Rattle.edd_port.proofs.Advancing.{Advanced, goes, ends}

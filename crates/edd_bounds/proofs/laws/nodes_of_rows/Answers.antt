@@ -1,5 +1,0 @@
-use Rattle.edd_bounds.proofs.RowLimits.{all_rows_limit}
-use Rattle.edd_bounds.proofs.laws.nodes_of_rows.Goals as goal
-
-pub returns : goal.returns
-returns c unit = all_rows_limit unit

@@ -1,0 +1,286 @@
+//! What is said of a description that breaks rules.
+
+use crate::sources::{BUILTINS, Source};
+use edd_breaches::{Breach, Rule};
+use edd_name_meanings::fault::NameFault;
+use edd_reports::diagnostic::{Diagnostic, Finding};
+use edd_reports::nearest::Nearest;
+use edd_syntax::limits::Limit;
+use edd_syntax::numbers::Kind;
+use edd_syntax::operators::{Builtin, Parameter};
+use edd_syntax::symbols::Keyword;
+use edd_types::fault::TypeFault;
+use std::alloc::{AllocError, Global};
+
+/// The words of the types.
+const TYPES: [&str; 4] = [
+    "INTEGER",
+    "UNSIGNED_INTEGER",
+    "ENUMERATED",
+    "BIT_ENUMERATED",
+];
+
+// The fault that the compiler answers for a rule of names, counts and attributes.
+fn name_fault(alloc: Global, rule: &Rule<'_>) -> Result<Option<NameFault>, AllocError> {
+    let fault = match rule {
+        Rule::TooMany(limit) => NameFault::TooMany(*limit),
+        Rule::DuplicateName(name) => NameFault::DuplicateName(String::from_str(alloc, *name)?),
+        Rule::DuplicateAttribute(word) => NameFault::DuplicateAttribute(*word),
+        Rule::MissingAttribute { item, word } => NameFault::MissingAttribute {
+            item: String::from_str(alloc, *item)?,
+            word: *word,
+        },
+        Rule::UnknownName(name) => NameFault::UnknownName(String::from_str(alloc, *name)?),
+        Rule::WrongKind(name) => NameFault::WrongKind(String::from_str(alloc, *name)?),
+        _ => return Ok(None),
+    };
+    Ok(Some(fault))
+}
+
+// The fault that the compiler answers for a rule of the profile.
+fn type_fault(alloc: Global, rule: &Rule<'_>) -> Result<Option<TypeFault>, AllocError> {
+    let fault = match rule {
+        Rule::FloatVariable(name) => TypeFault::FloatVariable(String::from_str(alloc, *name)?),
+        Rule::OtherType { variable, word } => other_type(alloc, *variable, *word)?,
+        Rule::BadSize(name) => TypeFault::BadSize(String::from_str(alloc, *name)?),
+        Rule::Mismatch(line) => TypeFault::Mismatch { line: *line },
+        Rule::FloatValue(line) => TypeFault::FloatValue { line: *line },
+        Rule::BreakOutside(line) => TypeFault::BreakOutside { line: *line },
+        Rule::ConstRange(line) => TypeFault::ConstRange { line: *line },
+        Rule::DuplicateCase(line) => TypeFault::DuplicateCase { line: *line },
+        Rule::DuplicateElement(line) => TypeFault::DuplicateElement { line: *line },
+        _ => return Ok(None),
+    };
+    Ok(Some(fault))
+}
+
+fn other_type(alloc: Global, variable: &str, word: &str) -> Result<TypeFault, AllocError> {
+    let variable = String::from_str(alloc, variable)?;
+    let word = String::from_str(alloc, word)?;
+    Ok(TypeFault::OtherType { variable, word })
+}
+
+// The refusal of a rule, as the compiler prints it.
+fn refusal_of(alloc: Global, rule: &Rule<'_>) -> Result<String, AllocError> {
+    if let Some(fault) = name_fault(alloc, rule)? {
+        return fault.to_string(alloc);
+    }
+    match type_fault(alloc, rule)? {
+        Some(fault) => fault.to_string(alloc),
+        None => Ok(String::new(alloc)),
+    }
+}
+
+fn parameter_word(parameter: Parameter) -> &'static str {
+    match parameter {
+        Parameter::Text => "a text",
+        Parameter::Number => "a number",
+        Parameter::DeviceVariable => "a variable of the device",
+        Parameter::Method => "a METHOD",
+    }
+}
+
+// What a function takes.
+fn function_help(alloc: Global, function: Builtin) -> Result<String, AllocError> {
+    let mut text = format!(in alloc; "{} takes", function.name())?;
+    let mut between = " ";
+    for parameter in function.parameters() {
+        text.push_str(between)?;
+        text.push_str(parameter_word(*parameter))?;
+        between = ", ";
+    }
+    if function.parameters().is_empty() {
+        text.push_str(" nothing")?;
+    }
+    Ok(text)
+}
+
+fn function_of(word: &str) -> Option<Builtin> {
+    BUILTINS
+        .iter()
+        .copied()
+        .find(|function| function.name() == word)
+}
+
+// What helps at a function with other arguments, at the brace of an enumerator, or at an option.
+fn mismatch_help(alloc: Global, word: &str) -> Result<String, AllocError> {
+    match function_of(word) {
+        Some(Builtin::Abort | Builtin::ProcessAbort) => {
+            format!(in alloc; "{word} takes nothing and is a statement of its own")
+        }
+        Some(function) => function_help(alloc, function),
+        None if word == "{" => String::from_str(
+            alloc,
+            "values with names stand in ENUMERATED and BIT_ENUMERATED alone",
+        ),
+        None => { format!(in alloc; "an enumerated type has no {word}, only DEFAULT_VALUE") }
+    }
+}
+
+// What helps where a word leaves or goes on with nothing.
+fn break_help(word: &str) -> &'static str {
+    if word == Keyword::Continue.spelling() {
+        "continue goes on with a loop, and there is none around it"
+    } else {
+        "break leaves a loop or a switch, and there is none around it"
+    }
+}
+
+fn limit_help(limit: Limit) -> &'static str {
+    match limit {
+        Limit::Items => "there are at most 4096 items of a kind",
+        Limit::Transactions => "a command has at most 4096 transactions",
+        Limit::Locals => "a method has at most 64 locals",
+        Limit::Nodes => "a description has at most 524288 nodes",
+        Limit::Strings => "a description has at most 65535 different texts",
+    }
+}
+
+// What helps where a name means nothing: where it does, or the nearest one.
+fn help_unknown(
+    alloc: Global,
+    source: &Source<'_>,
+    name: &str,
+    found: &mut Diagnostic,
+) -> Result<(), AllocError> {
+    if let Some(number) = source.declared(name) {
+        let text = format!(in alloc; "{name} means nothing here, but is declared")?;
+        return found.help_at(source.span(number), text);
+    }
+    let text = match source.nearest(alloc, name)? {
+        Some(near) => format!(in alloc; "{near} may be meant")?,
+        None => format!(in alloc; "nothing is declared with the name {name}")?,
+    };
+    found.help(text)
+}
+
+// The type that is nearest to a word.
+fn type_help(alloc: Global, word: &str) -> Result<String, AllocError> {
+    let mut nearest = Nearest::to(word);
+    for of in TYPES {
+        nearest.look(alloc, of)?;
+    }
+    match nearest.found {
+        Some(near) => format!(in alloc; "{near} may be meant"),
+        None => {
+            let [first, second, third, last] = TYPES;
+            format!(in alloc; "the types are {first}, {second}, {third} and {last}")
+        }
+    }
+}
+
+// An item of a kind, with its article.
+fn named_kind(kind: Kind) -> &'static str {
+    match kind {
+        Kind::Variable => "a VARIABLE",
+        Kind::Command => "a COMMAND",
+        Kind::Menu => "a MENU",
+        Kind::Collection => "a COLLECTION",
+        Kind::Method => "a METHOD",
+        Kind::Array => "an ARRAY",
+    }
+}
+
+// The helps that speak of a second place.
+fn help_beside(
+    alloc: Global,
+    source: &Source<'_>,
+    breach: &Breach<'_>,
+    found: &mut Diagnostic,
+) -> Result<(), AllocError> {
+    if let Some(earlier) = breach.earlier {
+        let text = match breach.rule {
+            Rule::DuplicateCase(_) => String::from_str(alloc, "this case is there already")?,
+            Rule::DuplicateElement(_) => String::from_str(alloc, "this number is there already")?,
+            Rule::WrongKind(name) => format!(in alloc; "{name} is a local, which is declared")?,
+            _ => format!(in alloc; "{} is there already", source.word(earlier))?,
+        };
+        return found.help_at(source.span(earlier), text);
+    }
+    if let Rule::WrongKind(name) = breach.rule {
+        if let Some(item) = source.item(name) {
+            let kind = named_kind(item.kind);
+            let text = format!(in alloc; "{name} is {kind}, which is declared")?;
+            return found.help_at(source.span(item.name), text);
+        }
+    }
+    Ok(())
+}
+
+fn missing_help(
+    alloc: Global,
+    source: &Source<'_>,
+    breach: &Breach<'_>,
+    word: &str,
+) -> Result<Option<String>, AllocError> {
+    let Some(name) = breach.place else {
+        return Ok(None);
+    };
+    match source.item_at(name) {
+        Some(item) => Ok(Some(format!(in alloc; "{} needs {word}", named_kind(item.kind))?)),
+        None => Ok(None),
+    }
+}
+
+// A help that is the same for each breach of a rule.
+fn plain_help(rule: &Rule<'_>) -> Option<&'static str> {
+    match rule {
+        Rule::TooMany(limit) => Some(limit_help(*limit)),
+        Rule::FloatVariable(_) => Some("numbers are whole: take INTEGER (4) in a smaller unit"),
+        Rule::BadSize(_) => Some("a variable has 1 to 4 octets"),
+        Rule::FloatValue(_) => Some("numbers are whole: take a smaller unit"),
+        Rule::ConstRange(_) => Some("a constant is an octet, 0 to 255, and a mask is not 0"),
+        _ => None,
+    }
+}
+
+// The word at the place of a breach.
+fn word_there<'a>(source: &Source<'a>, breach: &Breach<'_>) -> &'a str {
+    match breach.place {
+        Some(number) => source.word(number),
+        None => "",
+    }
+}
+
+// A help that depends on what is there.
+fn own_help(
+    alloc: Global,
+    source: &Source<'_>,
+    breach: &Breach<'_>,
+) -> Result<Option<String>, AllocError> {
+    match breach.rule {
+        Rule::MissingAttribute { word, .. } => missing_help(alloc, source, breach, word),
+        Rule::OtherType { word, .. } => Ok(Some(type_help(alloc, word)?)),
+        Rule::Mismatch(_) => Ok(Some(mismatch_help(alloc, word_there(source, breach))?)),
+        Rule::BreakOutside(_) => {
+            let help = break_help(word_there(source, breach));
+            Ok(Some(String::from_str(alloc, help)?))
+        }
+        _ => Ok(None),
+    }
+}
+
+/// What is said of a breach.
+pub fn diagnostic(
+    alloc: Global,
+    source: &Source<'_>,
+    breach: &Breach<'_>,
+) -> Result<Diagnostic, AllocError> {
+    let refusal = refusal_of(alloc, &breach.rule)?;
+    let mut found = Diagnostic::new(alloc, Finding::Refused(refusal));
+    found.place = match breach.place {
+        Some(number) => source.span(number),
+        None => None,
+    };
+    if let Some(text) = plain_help(&breach.rule) {
+        found.help(String::from_str(alloc, text)?)?;
+    }
+    if let Some(text) = own_help(alloc, source, breach)? {
+        found.help(text)?;
+    }
+    if let Rule::UnknownName(name) = breach.rule {
+        help_unknown(alloc, source, name, &mut found)?;
+    }
+    help_beside(alloc, source, breach, &mut found)?;
+    Ok(found)
+}

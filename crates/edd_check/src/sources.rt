@@ -1,0 +1,148 @@
+//! A text that breaks rules, and the names that it declares.
+
+use edd_lexer::token::{Token, TokenKind};
+use edd_reports::nearest::Nearest;
+use edd_reports::outline::{Declared, Outline, declares};
+use edd_reports::words::{Span, span_of, word_of};
+use edd_syntax::operators::Builtin;
+use indexmap::IndexMap;
+use std::alloc::{AllocError, Global};
+
+/// The functions that methods may call.
+pub const BUILTINS: [Builtin; 15] = [
+    Builtin::PutMessage,
+    Builtin::Acknowledge,
+    Builtin::Delay,
+    Builtin::GetDevVarValue,
+    Builtin::SelectFromList,
+    Builtin::SendCommand,
+    Builtin::SendCommandTrans,
+    Builtin::SaveValues,
+    Builtin::IvarValue,
+    Builtin::LvarValue,
+    Builtin::Iassign,
+    Builtin::Lassign,
+    Builtin::Abort,
+    Builtin::ProcessAbort,
+    Builtin::AddAbortMethod,
+];
+
+/// How many names of a sort one that is unknown is compared with, so that many of both take no long
+/// time.
+const MOST_NAMES: usize = 10_000;
+
+/// A text, its tokens, and what they declare.
+#[derive(Drop)]
+pub struct Source<'a> {
+    text: &'a [u8],
+    tokens: &'a [Token],
+    outline: Outline,
+    /// The items by their names; of two with one name the first.
+    items: IndexMap<&'a str, Declared>,
+    /// The names of members and locals, and of items.
+    names: IndexMap<&'a str, usize>,
+}
+
+fn word_at<'a>(text: &'a [u8], tokens: &[Token], number: usize) -> &'a str {
+    match tokens.get(number) {
+        Some(token) => word_of(text, token),
+        None => "",
+    }
+}
+
+fn items_of<'a>(
+    alloc: Global,
+    text: &'a [u8],
+    tokens: &[Token],
+    outline: &Outline,
+) -> Result<IndexMap<&'a str, Declared>, AllocError> {
+    let mut items = IndexMap::new(alloc);
+    for item in &outline.items {
+        let name = word_at(text, tokens, item.name);
+        if items.get(name).is_none() {
+            items.insert(name, *item)?;
+        }
+    }
+    Ok(items)
+}
+
+fn names_of<'a>(
+    alloc: Global,
+    text: &'a [u8],
+    tokens: &[Token],
+    outline: &Outline,
+) -> Result<IndexMap<&'a str, usize>, AllocError> {
+    let mut names = IndexMap::new(alloc);
+    for (number, token) in tokens.iter().enumerate() {
+        if token.kind == TokenKind::Name && declares(tokens, outline, number) {
+            let name = word_of(text, token);
+            if names.get(name).is_none() {
+                names.insert(name, number)?;
+            }
+        }
+    }
+    Ok(names)
+}
+
+impl<'a> Source<'a> {
+    pub fn of(
+        alloc: Global,
+        text: &'a [u8],
+        tokens: &'a [Token],
+    ) -> Result<Source<'a>, AllocError> {
+        let outline = Outline::of(alloc, tokens)?;
+        let items = items_of(alloc, text, tokens, &outline)?;
+        let names = names_of(alloc, text, tokens, &outline)?;
+        Ok(Source {
+            text,
+            tokens,
+            outline,
+            items,
+            names,
+        })
+    }
+
+    /// The place of a token.
+    pub fn span(&self, number: usize) -> Option<Span> {
+        Some(span_of(self.tokens.get(number)?))
+    }
+
+    pub fn word(&self, number: usize) -> &'a str {
+        word_at(self.text, self.tokens, number)
+    }
+
+    /// The first item with a name.
+    pub fn item(&self, name: &str) -> Option<Declared> {
+        self.items.get(name).copied()
+    }
+
+    /// The token that first declares a name, as an item, a member or a local.
+    pub fn declared(&self, name: &str) -> Option<usize> {
+        self.names.get(name).copied()
+    }
+
+    /// The item whose name is a token.
+    pub fn item_at(&self, name: usize) -> Option<Declared> {
+        self.outline.item_at(name)
+    }
+
+    /// The name that is nearest to this one, of items, of functions, or of what else is declared.
+    pub fn nearest(&self, alloc: Global, name: &str) -> Result<Option<&'a str>, AllocError> {
+        let mut nearest = Nearest::to(name);
+        for item in self.items.keys().take(MOST_NAMES) {
+            nearest.look(alloc, *item)?;
+        }
+        look_at_functions(alloc, &mut nearest)?;
+        for other in self.names.keys().take(MOST_NAMES) {
+            nearest.look(alloc, *other)?;
+        }
+        Ok(nearest.found)
+    }
+}
+
+fn look_at_functions<'a>(alloc: Global, nearest: &mut Nearest<'_, 'a>) -> Result<(), AllocError> {
+    for function in BUILTINS {
+        nearest.look(alloc, function.name())?;
+    }
+    Ok(())
+}

@@ -1,0 +1,184 @@
+//! The line that says where the fault is.
+
+use crate::elements::push_element_fields;
+use crate::excerpts::Excerpts;
+use crate::instructions::Page;
+use edd_display::{ShowFault, print};
+use edd_fault_places::fields::{FIELDS, Section, bounds};
+use edd_fault_places::sections::{Sections, part};
+use edd_fault_places::spots::Spot;
+use edd_image::{ATTRIBUTE_ROW, ELEMENT_ROW, NAME_ROW, STRING_ROW, VARIABLE_ROW};
+use edd_instructions::decode;
+use std::alloc::Global;
+use std::fmt::Write as _;
+use std::io::Write;
+
+// The name of a field, or where the bytes end too early.
+fn print_field<W: Write>(
+    alloc: Global,
+    bytes: &[u8],
+    number: usize,
+    readable: usize,
+    out: &mut W,
+) -> Result<(), ShowFault> {
+    if readable <= number {
+        return print(alloc, out, format_args!("fault {} header", bytes.len()));
+    }
+    match FIELDS.get(number) {
+        Some(field) => {
+            let (place, name) = (field.place, field.name);
+            print(alloc, out, format_args!("fault {place} header {name}"))
+        }
+        None => print(alloc, out, "fault 0 header"),
+    }
+}
+
+// The fields of a row, as they are. After the last row there are none.
+fn push_fields(sections: &Sections<'_>, line: &mut String, spot: Spot) -> Result<(), ShowFault> {
+    match spot {
+        Spot::Variable(number) => {
+            if let Some(row) = sections.variable_row(number) {
+                let (kind, size, zero) = (row.kind, row.size, row.zero);
+                write!(line, " type {kind} size {size} zero {zero}")?;
+            }
+        }
+        Spot::NameRow(number) | Spot::Name(number) => {
+            if let Some(span) = sections.name_span(number) {
+                write!(line, " start {} length {}", span.start, span.length)?;
+            }
+        }
+        Spot::Row(number) => {
+            if let Some(row) = sections.row(number) {
+                let (kind, attribute, item, sub) = (row.kind, row.attribute, row.item, row.sub);
+                write!(
+                    line,
+                    " kind {kind} attribute {attribute} item {item} sub {sub}"
+                )?;
+                write!(line, " start {} length {}", row.unit.start, row.unit.length)?;
+            }
+        }
+        Spot::ElementRow(number) => {
+            if let Some(element) = sections.element(number) {
+                push_element_fields(line, element)?;
+            }
+        }
+        Spot::StringRow(number) | Spot::String(number) => {
+            if let Some(span) = sections.string_span(number) {
+                write!(line, " start {} length {}", span.start, span.length)?;
+            }
+        }
+        Spot::Field { .. } | Spot::Instruction { .. } => {}
+    }
+    Ok(())
+}
+
+fn start_of(bytes: &[u8], section: Section) -> usize {
+    let (start, _) = bounds(bytes, section);
+    start
+}
+
+// Where a row of a section is, by the width of a row.
+fn row_place(bytes: &[u8], section: Section, width: usize, number: usize) -> usize {
+    start_of(bytes, section).saturating_add(width.saturating_mul(number))
+}
+
+// The section of a row, how many bytes one has, its word and its number.
+fn row_of(spot: Spot) -> Option<(Section, usize, &'static str, usize)> {
+    match spot {
+        Spot::Variable(number) => {
+            Some((Section::VariableRows, VARIABLE_ROW, "variable_row", number))
+        }
+        Spot::NameRow(number) => Some((Section::NameRows, NAME_ROW, "name_row", number)),
+        Spot::Row(number) => {
+            Some((
+                Section::AttributeRows,
+                ATTRIBUTE_ROW,
+                "attribute_row",
+                number,
+            ))
+        }
+        Spot::ElementRow(number) => {
+            Some((Section::ElementRows, ELEMENT_ROW, "element_row", number))
+        }
+        Spot::StringRow(number) => Some((Section::StringRows, STRING_ROW, "string_row", number)),
+        _ => None,
+    }
+}
+
+// The place in the image, and what is there.
+fn place_of(bytes: &[u8], sections: &Sections<'_>, spot: Spot) -> (usize, &'static str, usize) {
+    if let Some((section, width, word, number)) = row_of(spot) {
+        return (row_place(bytes, section, width, number), word, number);
+    }
+    match spot {
+        Spot::Name(number) => {
+            let start = sections.name_span(number).map_or(0, |span| span.start);
+            let place = start_of(bytes, Section::NameBytes).saturating_add(start);
+            (place, "name", number)
+        }
+        Spot::String(number) => {
+            let start = sections.string_span(number).map_or(0, |span| span.start);
+            let place = start_of(bytes, Section::StringBytes).saturating_add(start);
+            (place, "string", number)
+        }
+        Spot::Instruction { row, place, .. } => {
+            let start = sections.row(row).map_or(0, |row| row.unit.start);
+            let code = start_of(bytes, Section::Code);
+            (code.saturating_add(start).saturating_add(place), "row", row)
+        }
+        _ => (0, "header", 0),
+    }
+}
+
+// The place in the unit, the number of operands, and the instruction, where one is there.
+fn push_instruction(
+    alloc: Global,
+    sections: &Sections<'_>,
+    line: &mut String,
+    row: usize,
+    place: usize,
+    depth: u8,
+) -> Result<(), ShowFault> {
+    write!(line, " place {place} depth {depth} ")?;
+    let excerpts = Excerpts::of(alloc, sections)?;
+    let page = Page {
+        sections,
+        excerpts: &excerpts,
+    };
+    let unit = sections
+        .row(row)
+        .and_then(|row| part(sections.code, row.unit));
+    let code = unit.unwrap_or(b"");
+    if code.len() < place {
+        line.push_str("none")?;
+        return Ok(());
+    }
+    match decode(code, place) {
+        Some((instruction, _)) => page.push_instruction(line, instruction),
+        None => Ok(line.push_str("none")?),
+    }
+}
+
+/// Prints where the fault is: the place of the first byte that is wrong, and what should be there.
+pub fn print_spot<W: Write>(
+    alloc: Global,
+    bytes: &[u8],
+    spot: Spot,
+    out: &mut W,
+) -> Result<(), ShowFault> {
+    if let Spot::Field { number, readable } = spot {
+        return print_field(alloc, bytes, number, readable, out);
+    }
+    let Some(sections) = Sections::of(bytes) else {
+        return Ok(());
+    };
+    let (place, word, number) = place_of(bytes, &sections, spot);
+    let mut line = format!(in alloc; "fault {place} {word} {number}")?;
+    match spot {
+        Spot::Instruction { row, place, depth } => {
+            push_instruction(alloc, &sections, &mut line, row, place, depth)?;
+        }
+        other => push_fields(&sections, &mut line, other)?,
+    }
+    print(alloc, out, line.as_str())
+}

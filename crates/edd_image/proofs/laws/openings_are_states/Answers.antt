@@ -1,5 +1,0 @@
-use Rattle.edd_image.proofs.NextStates.{opens}
-use Rattle.edd_image.proofs.laws.openings_are_states.Goals as goal
-
-pub returns : goal.returns
-returns c = λ context env code values valid count are. opens context env code values valid count are

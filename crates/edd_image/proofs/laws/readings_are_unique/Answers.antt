@@ -1,5 +1,0 @@
-use Rattle.edd_image.proofs.UniqueReadings.{unique}
-use Rattle.edd_image.proofs.laws.readings_are_unique.Goals as goal
-
-pub returns : goal.returns
-returns c = λ b ref values r q first second. unique b ref values r q first second

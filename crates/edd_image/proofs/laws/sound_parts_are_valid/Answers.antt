@@ -1,5 +1,0 @@
-use Rattle.edd_image.proofs.LayoutValid.{is_valid}
-use Rattle.edd_image.proofs.laws.sound_parts_are_valid.Goals as goal
-
-pub returns : goal.returns
-returns c = λ s are short sound. is_valid s are short sound

@@ -1,5 +1,0 @@
-use Rattle.edd_image.proofs.NextStates.{next_state}
-use Rattle.edd_image.proofs.laws.steps_keep_the_state.Goals as goal
-
-pub returns : goal.returns
-returns c = λ context env s valid is running. next_state context env s valid is running

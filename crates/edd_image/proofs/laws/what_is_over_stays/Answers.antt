@@ -1,5 +1,0 @@
-use Rattle.edd_image.proofs.StaysOver.{stays_over_following}
-use Rattle.edd_image.proofs.laws.what_is_over_stays.Goals as goal
-
-pub returns : goal.returns
-returns c = stays_over_following

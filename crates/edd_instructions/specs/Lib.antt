@@ -1,0 +1,13 @@
+pub mod Agreement
+pub mod Decoding
+pub mod Execution
+pub mod AbortMethods
+pub mod MethodAgreement
+pub mod Reading
+pub mod References
+pub mod Spelling
+pub mod Steps
+pub mod Units
+pub mod Validity
+pub mod Worked
+pub mod WorkedMethods

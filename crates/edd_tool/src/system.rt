@@ -1,0 +1,54 @@
+//! The program over the files of the system.
+
+ghost use Rattle.std.specs.Prelude.{◌≤◌};
+
+use crate::{FileFault, Files};
+use edd_system::{Opened, SystemFiles};
+use std::io::Write;
+use std::{io, rt};
+
+#[derive(Drop)]
+struct ProgramFiles<'a, R> {
+    files: SystemFiles<'a, R>,
+}
+
+impl<'a, R: rt::Files + Input + Print + AllocGlobal> ProgramFiles<'a, R> {
+    fn new(rt: &'a R) -> ProgramFiles<'a, R> {
+        ProgramFiles {
+            files: SystemFiles::new(rt),
+        }
+    }
+}
+
+fn fault(error: &io::Error) -> FileFault {
+    if error.kind() == io::ErrorKind::OutOfMemory {
+        FileFault::Memory
+    } else {
+        FileFault::Failed
+    }
+}
+
+impl<R: rt::Files + Input + Print + AllocGlobal> Files for ProgramFiles<'_, R> {
+    type Reader = Opened<R::File, R::Reader>;
+
+    fn open(&mut self, name: &str) -> Result<Self::Reader, FileFault> {
+        self.files.open(name).map_err(|error| fault(&error))
+    }
+
+    fn save(&mut self, name: &str, bytes: &[u8]) -> Result<(), FileFault> {
+        self.files.save(name, bytes).map_err(|error| fault(&error))
+    }
+}
+
+/// Runs the program `edd` on the words of its command line, the program's name first, over the
+/// system's files. Prints to `out`, and answers the exit status.
+pub fn run_on_system<R: rt::Files + Input + Print + AllocGlobal, W: Write>(
+    rt: &R,
+    words: &[String],
+    out: &mut W,
+) -> u8
+    ensures { result ≤ 4 }
+{
+    let mut files = ProgramFiles::new(rt);
+    crate::run(rt.alloc(), words, &mut files, out)
+}

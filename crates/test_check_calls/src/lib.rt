@@ -1,0 +1,16 @@
+//! What `check` finds, tried on worked examples: warnings, and lines of JSON, read back by another
+//! reader.
+#![tactic(auto)]
+
+#[cfg(test)]
+mod attributes;
+#[cfg(test)]
+mod found;
+#[cfg(test)]
+mod items;
+#[cfg(test)]
+mod json;
+#[cfg(test)]
+mod lints;
+#[cfg(test)]
+mod methods;

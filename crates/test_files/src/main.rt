@@ -1,0 +1,49 @@
+//! Runs the steps of the table on the standard input, and prints each step and what it results in.
+//! Most are over real files, in the folder where it runs: a step that makes or changes files prints
+//! nothing more, `run` and `pipe` run the program `edd`, and `show` and `list` print what is there.
+//! `save` and `save_opened` write to a disk in memory, of which each call fails in turn.
+#![tactic(auto)]
+
+mod changes;
+mod memory;
+mod running;
+mod saving;
+mod shown;
+
+use std::io;
+use std::io::Read;
+use std::process::ExitCode;
+
+const WRONG_STEP: u8 = 1;
+
+fn main(rt: HostRuntime) -> io::Result<ExitCode> {
+    let mut text = String::new(rt.alloc());
+    rt.stdin().read_to_string(&mut text)?;
+    for line in text.lines() {
+        println!(rt; "{line}")?;
+        if !is_done(rt, line)? {
+            println!(rt; "no step")?;
+            return Ok(ExitCode::from(WRONG_STEP));
+        }
+    }
+    Ok(ExitCode::SUCCESS)
+}
+
+// Takes the step of a line, if it is one. Blank lines and those that begin with a # are none, and
+// passed over.
+fn is_done(rt: HostRuntime, line: &str) -> io::Result<bool> {
+    if line.is_empty() || line.starts_with('#') {
+        return Ok(true);
+    }
+    let (kind, words) = line.split_once(' ').unwrap_or((line, ""));
+    match kind {
+        "run" => running::run(rt, words)?,
+        "pipe" => running::run_into_pipe(rt, words)?,
+        "show" => shown::show(rt, words)?,
+        "list" => shown::list(rt, words)?,
+        "save" => saving::save_each(rt, words, &[])?,
+        "save_opened" => saving::save_opened(rt, words)?,
+        _ => return changes::is_made(rt, kind, words),
+    }
+    Ok(true)
+}

@@ -1,0 +1,18 @@
+//! What the tests on images share: small images, images whose bytes were worked out by hand, hosts,
+//! what can be done with each image that loads, and steps on an image, written as a text.
+#![tactic(auto)]
+
+mod hosts;
+mod session;
+mod small;
+mod steps;
+mod using;
+mod words;
+mod worked;
+
+pub use hosts::{Device, Script};
+pub use small::{INTEGER, Small, UNSIGNED, image_of, second_image_of};
+pub use steps::wrong_steps;
+pub use using::is_usable;
+pub use words::reference_of;
+pub use worked::{ABORTING, ARRAY, LABEL, LOOP};

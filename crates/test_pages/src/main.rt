@@ -1,0 +1,25 @@
+//! Runs the commands of the table on the standard input as the program `edd`, over the examples and
+//! the files that the table writes, and says for each whether it prints what the table has. What
+//! README.md and docs/ show of the examples is in the table. After it comes docs/REFUSALS.md, as the
+//! program explains each refusal.
+#![tactic(auto)]
+
+mod explained;
+mod refusals;
+mod table;
+
+use std::io;
+use std::io::Read;
+use std::process::ExitCode;
+use table::{Printed, take};
+
+fn main(rt: HostRuntime) -> io::Result<ExitCode> {
+    let mut text = String::new(rt.alloc());
+    rt.stdin().read_to_string(&mut text)?;
+    let mut printed = Printed::nothing(rt.alloc());
+    for part in text.trim_end().split("\n@") {
+        take(rt, part, &mut printed)?;
+    }
+    refusals::print(rt)?;
+    Ok(ExitCode::SUCCESS)
+}

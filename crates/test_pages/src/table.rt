@@ -1,0 +1,83 @@
+//! The parts of the table: each begins with a word and an argument on a line that an @ begins, and
+//! has a text below.
+
+use std::alloc::Global;
+use std::{fs, io};
+
+/// What the last command printed.
+#[derive(Drop)]
+pub struct Printed {
+    text: String,
+}
+
+impl Printed {
+    pub fn nothing(alloc: Global) -> Printed {
+        Printed {
+            text: String::new(alloc),
+        }
+    }
+
+    // It is these lines.
+    fn is(&self, lines: &str) -> bool {
+        self.text.strip_suffix('\n') == Some(lines)
+    }
+
+    // These are the first lines of it.
+    fn begins_with(&self, lines: &str) -> bool {
+        match self.text.strip_prefix(lines) {
+            Some(rest) => rest.starts_with('\n'),
+            None => false,
+        }
+    }
+
+    // These lines are somewhere in it, one after the other.
+    fn has(&self, alloc: Global, lines: &str) -> io::Result<bool> {
+        let whole = format!(in alloc; "\n{}", self.text)?;
+        let part = format!(in alloc; "\n{lines}\n")?;
+        Ok(whole.contains(part.as_str()))
+    }
+}
+
+// Runs `edd` with these words.
+fn run(rt: HostRuntime, text: &str) -> io::Result<Printed> {
+    let mut words = Vec::new(rt.alloc());
+    words.push("edd".to_string(rt.alloc())?)?;
+    for word in text.split_ascii_whitespace() {
+        words.push(word.to_string(rt.alloc())?)?;
+    }
+    let mut bytes = Vec::new(rt.alloc());
+    let status = edd_tool::run_on_system(&rt, &words, &mut bytes);
+    println!(rt; "{text}: status {status}")?;
+    let lines = str::from_utf8(&bytes).unwrap_or("no text\n");
+    Ok(Printed {
+        text: lines.to_string(rt.alloc())?,
+    })
+}
+
+fn say(rt: HostRuntime, is_right: bool, printed: &Printed) -> io::Result<()> {
+    if is_right {
+        println!(rt; "  as written")
+    } else {
+        println!(rt; "  WRONG, it printed\n{}", printed.text)
+    }
+}
+
+/// Takes a part: `file NAME` writes its text to a file, `run WORDS` runs `edd`, `prints` says that
+/// these are the lines that it printed, `begins` that these are the first of them, and `shows` that
+/// these are among them, one after the other. Any other part is a heading.
+pub fn take(rt: HostRuntime, part: &str, printed: &mut Printed) -> io::Result<()> {
+    let (head, below) = part.split_once('\n').unwrap_or((part, ""));
+    let (kind, rest) = head.split_once(' ').unwrap_or((head, ""));
+    match kind.trim_start_matches('@') {
+        "file" => {
+            let text = format!(in rt.alloc(); "{below}\n")?;
+            fs::write(&rt, rest, text)?;
+        }
+        "run" => *printed = run(rt, rest)?,
+        "prints" => say(rt, printed.is(below), printed)?,
+        "begins" => say(rt, printed.begins_with(below), printed)?,
+        "shows" => say(rt, printed.has(rt.alloc(), below)?, printed)?,
+        _ => println!(rt; "{rest}")?,
+    }
+    Ok(())
+}

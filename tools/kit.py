@@ -1,0 +1,86 @@
+"""What tools/build and tools/quick share: the kit's `rt` as a module, and libraries that hold what they state.
+
+Such a library is proved from nothing and written without its proofs, as the gate writes it, so that the crates above load it in a
+fraction of the time. They are in out/statements of each crate, beside what `rt check` keeps, with a stamp of all that they are made of.
+"""
+import copy
+import importlib.machinery
+import importlib.util
+import os
+import shutil
+import sys
+import tempfile
+import time
+
+TOP = os.path.dirname(os.path.dirname(os.path.realpath(__file__)))
+
+
+class Missing(Exception):
+    """The kit is not installed."""
+
+
+def load():
+    """The kit's `rt` as a module, with its crates as the gate has them."""
+    found = shutil.which("rt")
+    if not found:
+        raise Missing("this needs the toolchain's command rt, which is not on the PATH")
+    sys.dont_write_bytecode = True
+    loader = importlib.machinery.SourceFileLoader("rt", os.path.realpath(found))
+    made = importlib.util.module_from_spec(importlib.util.spec_from_loader("rt", loader))
+    sys.argv[0] = found
+    loader.exec_module(made)
+    made.rtlib.guarded()
+    made.rtlib.Crate = made.Crate
+    remember_stamps(made.Crate)
+    return made
+
+
+def remember_stamps(crates):
+    """Has each crate's stamp made once: it has those of all crates below in it, each by as many ways as lead there."""
+    made, known = crates.stamp, {}
+
+    def stamp(self):
+        if self.folder not in known:
+            known[self.folder] = made(self)
+        return known[self.folder]
+
+    crates.stamp = stamp
+
+
+def place(crate):
+    """Has the crates above take this library from its place in out/statements."""
+    crate.rlib = f"{crate.folder}/out/statements/{crate.name}.rlib"
+
+
+def is_built(crate, rtlib):
+    return os.path.isdir(crate.rlib) and rtlib.text_of(f"{crate.rlib}.stamp") == crate.stamp()
+
+
+def build(crate, given, jobs, rtlib, progress):
+    """Proves one library from nothing, once those below it are built."""
+    if not all(given[it.name, "proof"] for it in crate.below()):
+        return False
+    crate, start, stamp = copy.copy(crate), time.time(), crate.stamp()
+    shutil.rmtree(crate.rlib, ignore_errors=True)
+    os.makedirs(os.path.dirname(crate.rlib), exist_ok=True)
+    words = crate.words(["--jobs", str(jobs)], keeps=False) + ["--statements", "-o", crate.rlib]
+    with tempfile.TemporaryFile("w+", errors="replace") as crate.out:
+        if crate.call(rtlib.RATTLE, "build", *words):
+            crate.out.seek(0)
+            progress.failed(crate.name, crate.out.read())
+            return False
+    with open(f"{crate.rlib}.stamp", "w", encoding="utf-8") as it:
+        it.write(stamp)
+    progress.proved(crate.name, time.time() - start)
+    return True
+
+
+def libraries(rt, left, built, progress):
+    """Proves the libraries that are left, lowest first and side by side, and says whether all are proved."""
+    known = {(it.name, "proof"): True for it in built}
+    tasks = {}
+    for it in left:
+        waits = [(below.name, "proof") for below in it.below() if below in left]
+        call = lambda given, jobs, it=it: build(it, {**known, **given}, jobs, rt.rtlib, progress)
+        tasks[it.name, "proof"] = (waits, it.count(rb"\n"), rt.need(it), call)
+    return all(rt.in_lanes(tasks).values())
