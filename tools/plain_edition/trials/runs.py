@@ -5,7 +5,7 @@ import shutil
 import subprocess
 import tempfile
 
-from . import table
+from . import images, table
 
 # A row that needs a file without an end names it so.
 ENDLESS = "endless"
@@ -110,3 +110,10 @@ def run_row(row, program):
             with open(os.path.join(room, row.words[-1]), "rb") as file:
                 image = file.read()
         return ran.returncode, ran.stdout, image
+
+
+def closed_output(score, program):
+    """A command whose output is a pipe that nobody reads ends with status 3, as tools/closed_output has it."""
+    tried = images.tool("closed_output")
+    tried.COMMAND = [program]
+    score.check(tried.main() == 0, "a command whose output nobody reads does not end with status 3")
