@@ -10,15 +10,15 @@ from . import repository
 ERASER, WORKSPACE, REWRITES = (f"tools/plain_edition/{name}.py" for name in ("erase", "workspace", "rewrites"))
 # What is planted: where, which text of the file becomes which.
 SLIPS = (
-    ("a clause is kept", ERASER, 'KEYWORDS = ("ghost", "requires", "ensures")', 'KEYWORDS = ("ghost", "requires")'),
+    ("a clause is kept", ERASER, ', "ensures": self.clause}', "}"),
     ("what follows a clause is left out with it", ERASER, "self.past(found.end()), \"clauses\"",
      "self.past(found.end()) + 8, \"clauses\""),
     ("a ghost takes the next member with it", ERASER, "last.end() if last else end, \"ghost members\"",
      "self.text.find(\"\\n\\n\", end + 2), \"ghost members\""),
-    ("a statement is dropped", WORKSPACE, "        return rewrites.with_head(erase.text_of(erase.tidied(kept)), is_root(path))",
-     "        return rewrites.with_head(erase.text_of(erase.tidied(kept)), is_root(path)).replace(\"left -= 1;\", \"\")"),
-    ("an `if` is lost", WORKSPACE, "        return rewrites.with_head(erase.text_of(erase.tidied(kept)), is_root(path))",
-     "        return rewrites.with_head(erase.text_of(erase.tidied(kept)), is_root(path)).replace(\"if !values.are_of(image) \", \"\")"),
+    ("a statement is dropped", WORKSPACE, "        return rewrites.with_head(text_of(erase.tidied(kept)), is_root(path))",
+     "        return rewrites.with_head(text_of(erase.tidied(kept)), is_root(path)).replace(\"left -= 1;\", \"\")"),
+    ("an `if` is lost", WORKSPACE, "        return rewrites.with_head(text_of(erase.tidied(kept)), is_root(path))",
+     "        return rewrites.with_head(text_of(erase.tidied(kept)), is_root(path)).replace(\"if !values.are_of(image) \", \"\")"),
     ("a word of an assertion is left out with its handle", REWRITES, "code.leave_out(at + 2, start + 2, \"handles in assertions\")",
      "code.leave_out(at + 2, start + 3, \"handles in assertions\")"),
     ("a drop that does something is left out", REWRITES, "if not NOTHING.fullmatch(\" \".join(code.words[body:end])):", "if False:"),

@@ -5,6 +5,7 @@ import re
 import shutil
 
 from . import erase, left_out, repository, rewrites
+from .tokens import text_of
 
 # Crates of the kit that stand in `plain/`, by the folder there; the macros of errors are in `derive`.
 OWN = {"indexmap": "indexmap", "clap": "clap", "serde_json": "serde_json", "strsim": "strsim", "thiserror": "derive"}
@@ -81,7 +82,7 @@ class Edition:
             kept = rewrites.rewritten(kept, self.counts)
         except erase.Unknown as unknown:
             raise Stopped(f"crates/{crate.name}/{path}:{unknown}") from None
-        return rewrites.with_head(erase.text_of(erase.tidied(kept)), is_root(path))
+        return rewrites.with_head(text_of(erase.tidied(kept)), is_root(path))
 
     def manifest(self, crate, is_system):
         """The file of cargo for a crate."""
