@@ -19,6 +19,8 @@ edition = "2024"
 [profile.release]
 opt-level = 2
 """
+# The linkers of Debian's package lld, by processors for which the compiler names none of its own.
+LINKERS = {"wasm32": "wasm-ld", "thumbv7em": "ld.lld"}
 # The systems, by what is made of the standard library for them.
 WHOLE, BARE = "std,panic_unwind", "core,alloc"
 
@@ -35,7 +37,8 @@ def listed(package, end):
 def environment(target, **more):
     """The compiler whose source of the standard library is at hand."""
     name = target.upper().replace("-", "_")
-    linker = {f"CARGO_TARGET_{name}_LINKER": "wasm-ld"} if target.startswith("wasm32") else {}
+    own = LINKERS.get(target.split("-", maxsplit=1)[0])
+    linker = {f"CARGO_TARGET_{name}_LINKER": own} if own else {}
     return {**os.environ, "RUSTC": listed("rustc-web", "/bin/rustc"), **linker, **more}
 
 

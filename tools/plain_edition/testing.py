@@ -3,7 +3,7 @@ import os
 import re
 
 from . import packages, repository, workspace
-from .trials import alike, elsewhere, example, fuzzing, images, runs, score
+from .trials import alike, bare, elsewhere, example, fuzzing, images, runs, score
 
 FOLDER = os.path.join(repository.MADE, "edition")
 PROFILE = "checked"
@@ -75,6 +75,7 @@ def test():
     counts.step("fuzzing", fuzzing.some, FOLDER, PROFILE, AT_EACH_GATE)
     counts.step("32 bits of Linux", elsewhere.i686, FOLDER, program)
     counts.step("WebAssembly", elsewhere.wasm, program)
+    counts.step("without a system", bare.thumb)
     return counts.end()
 
 

@@ -17,19 +17,28 @@ struct Growing<'d> {
     dice: &'d mut Dice,
     text: String,
     variables: usize,
+    /// Whether there are an array `a` and a collection `k` of variables.
+    has_groups: bool,
+    methods: usize,
 }
 
 /// A text with a few items of each kind.
 pub fn text(dice: &mut Dice) -> Vec<u8> {
     let variables = 1 + dice.below(6);
     let head = "MANUFACTURER 1, DEVICE_TYPE 2, DEVICE_REVISION 3, DD_REVISION 4\n".to_owned();
+    let (has_groups, methods) = (dice.one_in(2), dice.below(3));
     let mut growing = Growing {
         dice,
         text: head,
         variables,
+        has_groups,
+        methods,
     };
     for number in 0..variables {
         growing.variable(number);
+    }
+    if has_groups {
+        growing.groups();
     }
     for number in 0..growing.dice.below(3) {
         growing.menu(number);
@@ -37,10 +46,7 @@ pub fn text(dice: &mut Dice) -> Vec<u8> {
     for number in 0..growing.dice.below(3) {
         growing.command(number);
     }
-    if growing.dice.one_in(2) {
-        growing.collection();
-    }
-    for number in 0..growing.dice.below(3) {
+    for number in 0..methods {
         growing.method(number);
     }
     growing.text.into_bytes()
@@ -51,7 +57,16 @@ impl Growing<'_> {
         self.text.write_fmt(text).expect("a text takes all");
     }
 
+    /// What names a variable: its name, a member, or an element that may not be there.
     fn any_variable(&mut self) -> String {
+        match self.dice.below(if self.has_groups { 4 } else { 1 }) {
+            0 | 1 => self.name(),
+            2 => self.dice.of(&["k.first", "k.second"]).to_owned(),
+            _ => format!("a[{}]", self.name()),
+        }
+    }
+
+    fn name(&mut self) -> String {
         format!("v{}", self.dice.below(self.variables))
     }
 
@@ -144,7 +159,7 @@ impl Growing<'_> {
     }
 
     fn menu(&mut self, number: usize) {
-        let (label, one, two) = (self.label(), self.any_variable(), self.any_variable());
+        let (label, one, two) = (self.label(), self.name(), self.name());
         let test = self.expression(2);
         self.add(format_args!(
             "MENU m{number} {{ LABEL {label}; ITEMS {{ {one}, \"A text\", IF ({test}) {{ {two} (READ_ONLY) }} }} }}\n"
@@ -152,7 +167,7 @@ impl Growing<'_> {
     }
 
     fn command(&mut self, number: usize) {
-        let (one, two) = (self.any_variable(), self.any_variable());
+        let (one, two) = (self.name(), self.name());
         let test = self.expression(2);
         let code = 1 + self.dice.below(100);
         self.add(format_args!(
@@ -162,9 +177,12 @@ impl Growing<'_> {
         ));
     }
 
-    fn collection(&mut self) {
-        let (one, label) = (self.any_variable(), self.label());
-        self.add(format_args!("COLLECTION OF VARIABLE k {{ LABEL {label}; MEMBERS {{ first, {one}; second, v0, \"Two\"; }} }}\n"));
+    fn groups(&mut self) {
+        let (one, two, label) = (self.name(), self.name(), self.label());
+        self.add(format_args!(
+            "COLLECTION OF VARIABLE k {{ LABEL {label}; MEMBERS {{ first, {one}; second, {two}, \"Two\"; }} }}\n\
+             ARRAY OF VARIABLE a {{ LABEL {label}; ELEMENTS {{ 0, {two}; 1, {one}, \"One\"; 7, v0; }} }}\n"
+        ));
     }
 
     fn method(&mut self, number: usize) {
@@ -180,8 +198,10 @@ impl Growing<'_> {
 
     fn statement(&mut self, depth: usize) {
         let test = self.expression(2);
-        let variable = self.any_variable();
-        let choices = if depth == 0 { 6 } else { 10 };
+        // An element of an array can be read, and not set.
+        let is_member = self.has_groups && self.dice.one_in(3);
+        let variable = if is_member { "k.second".to_owned() } else { self.name() };
+        let choices = if depth == 0 { 7 } else { 11 };
         match self.dice.below(choices) {
             0 => self.add(format_args!("{variable} = {test};\n")),
             1 => self.add(format_args!("n += {test}; i = n++;\n")),
@@ -191,9 +211,16 @@ impl Growing<'_> {
                 "GET_DEV_VAR_VALUE(\"Which value\", {variable});\n"
             )),
             5 => self.text.push_str("save_values();\n"),
-            6 => self.block(&format!("if ({test})"), depth),
-            7 => self.block("for (i = 0; i < 5; i++)", depth),
-            8 => {
+            6 => {
+                let method = self.dice.below(self.methods);
+                let rest =
+                    self.dice
+                        .of(&["", "if (n > 20) abort();", "if (i == 3) process_abort();"]);
+                self.add(format_args!("add_abort_method(p{method}); {rest}\n"));
+            }
+            7 => self.block(&format!("if ({test})"), depth),
+            8 => self.block("for (i = 0; i < 5; i++)", depth),
+            9 => {
                 self.text.push_str("do ");
                 self.block("", depth);
                 self.add(format_args!("while ({test} && n++ < 9);\n"));

@@ -67,12 +67,10 @@ fn case(given: &Given, dice: &mut Dice, counts: &mut Counts) -> Result<(), Strin
         let (one, other) = (dice.below(given.texts.len()), dice.below(given.texts.len()));
         damage::text(dice, &given.texts[one], &given.texts[other])
     };
-    let Some(image) = texts::tried(&text, counts)? else {
-        return if is_grown {
-            Err("a grown text is refused".into())
-        } else {
-            Ok(())
-        };
+    let image = match texts::tried(&text, counts)? {
+        Ok(image) => image,
+        Err(fault) if is_grown => return Err(format!("a grown text is refused: {fault}")),
+        Err(_) => return Ok(()),
     };
     if !images::tried(&image, dice, counts)? {
         return Err("the image of an accepted text is refused".into());

@@ -6,8 +6,8 @@ use edd_loader::load;
 use edd_plain_std::alloc::Global;
 use edd_plain_std::vec::Vec as List;
 
-/// The image of a text, where it is accepted; else nothing, or what is wrong.
-pub fn tried(text: &[u8], counts: &mut Counts) -> Result<Option<Vec<u8>>, String> {
+/// The image of a text, or its refusal; else what is wrong.
+pub fn tried(text: &[u8], counts: &mut Counts) -> Result<Result<Vec<u8>, String>, String> {
     let made = compile(Global, text);
     let mut lines = List::new(Global);
     let choices = Choices::new(Global);
@@ -25,7 +25,7 @@ pub fn tried(text: &[u8], counts: &mut Counts) -> Result<Option<Vec<u8>>, String
                     "an accepted text has an image that is refused: {fault}"
                 ));
             }
-            Ok(Some(image.into_real()))
+            Ok(Ok(image.into_real()))
         }
         Err(fault) => {
             counts.refused_texts += 1;
@@ -36,7 +36,7 @@ pub fn tried(text: &[u8], counts: &mut Counts) -> Result<Option<Vec<u8>>, String
             let wanted = format!(": refused {fault}");
             let is_said = is_refused && first.ends_with(wanted.as_bytes());
             if is_said {
-                Ok(None)
+                Ok(Err(fault.to_string()))
             } else {
                 Err(format!("check says other than `refused {fault}`"))
             }

@@ -14,13 +14,12 @@ NOBODY = 65534
 
 def stored(score, edition, folder):
     """Each program on its stored words, input and files: what it prints and its status are to be what is stored."""
-    with_rows = table.folder().name
     for crate in edition.crates:
         if crate.is_program:
-            expected, given = kept(crate, "stdout"), kept(crate, "stdin")
-            if crate.name == with_rows:
-                given, expected = without_library(given, expected)
-            ran = run_stored(crate, os.path.join(folder, crate.name), given)
+            expected, change = kept(crate, "stdout"), bytes
+            if table.reads_rows(crate):
+                expected, change = without_library(expected), only_own_rows
+            ran = run_stored(crate, os.path.join(folder, crate.name), change)
             status = int(kept(crate, "status") or 0)
             score.check(ran == (status, expected), f"the stored run of {crate.name}: {difference(expected, ran[1])}, status {ran[0]}")
 
@@ -33,12 +32,20 @@ def kept(crate, name):
         return file.read()
 
 
-def run_stored(crate, program, given):
+def run_stored(crate, program, change):
+    """The status and the output of a program on what is stored, its table of rows changed."""
     with tempfile.TemporaryDirectory() as room:
         if os.path.isdir(os.path.join(crate.folder, "data")):
             shutil.copytree(os.path.join(crate.folder, "data"), room, dirs_exist_ok=True)
+        for name in table.parts(crate):
+            with open(os.path.join(room, name), "r+b") as file:
+                text = change(file.read())
+                file.seek(0)
+                file.truncate()
+                file.write(text)
         words = kept(crate, "args").decode().splitlines()
-        ran = subprocess.run([program, *words], cwd=room, input=given, capture_output=True, timeout=300, check=False, **as_user(room))
+        ran = subprocess.run([program, *words], cwd=room, input=change(kept(crate, "stdin")), capture_output=True, timeout=300,
+                             check=False, **as_user(room))
         return ran.returncode, ran.stdout
 
 
@@ -58,18 +65,22 @@ def difference(expected, found):
     return next((f"{one!r} became {other!r}" for one, other in both if one != other), "the lines are alike")
 
 
-def without_library(given, expected):
-    """The table and its output without the rows whose lines are words of a library; these run by themselves, by status."""
-    parts = given.split(b"@run ")
-    out = [it for it in table.rows() if it.is_of_library()]
-    kept_parts = [part for part in parts[1:] if part not in [it.text for it in out]]
-    for row in out:
-        line = b"ok " + row.text.partition(b"\n")[0] + b": " + row.name.encode() + b"\n"
-        # Behind it may stand the digits of the image of its source.
-        expected, count = re.subn(b"(?m)^" + re.escape(line) + b"(?: .*\n)*", b"", expected)
-        if count != 1:
-            raise LookupError(f"{line!r} stands {count} times in what is stored")
-    return b"".join([parts[0]] + [b"@run " + part for part in kept_parts]), expected
+def only_own_rows(text):
+    """A table without the rows whose lines are words of a library; these are run by themselves, by status."""
+    first, *parts = text.split(table.ROW)
+    return first + b"".join(table.ROW + part for part in parts if not table.Row(part).is_of_library())
+
+
+def without_library(expected):
+    """What is stored of the table, without those rows."""
+    for row in table.rows():
+        if row.is_of_library():
+            line = b"ok " + row.text.partition(b"\n")[0] + b": " + row.name.encode() + b"\n"
+            # Behind it may stand the digits of the image of its source.
+            expected, count = re.subn(b"(?m)^" + re.escape(line) + b"(?: .*\n)*", b"", expected)
+            if count != 1:
+                raise LookupError(f"{line!r} stands {count} times in what is stored")
+    return expected
 
 
 def rows(score, program):

@@ -3,6 +3,7 @@ import os
 
 from .. import repository
 
+ROW = b"@run "
 WORDS_OF_A_LIBRARY = ("--help", "--version", "-h", "-V", "help")
 
 
@@ -59,17 +60,36 @@ def lengthen(data, kind, argument):
         data += argument
 
 
-def folder():
-    """The crate of the program that reads the table: its standard input begins with a row."""
-    for crate in repository.crates():
-        place = os.path.join(crate.folder, "stdin")
-        if crate.is_program and os.path.exists(place):
-            with open(place, "rb") as file:
-                if file.read(5) == b"@run ":
-                    return crate
-    raise LookupError("no program of the checkout reads a table of rows")
+def parts(crate):
+    """The names of the files with rows that a program's arguments name, in their order; nothing where it reads no table."""
+    place = os.path.join(crate.folder, "args")
+    if not crate.is_program or not os.path.exists(place):
+        return []
+    with open(place, encoding="utf-8") as file:
+        names = file.read().splitlines()
+    return names if all(begins_with_row(os.path.join(crate.folder, "data", name)) for name in names) else []
+
+
+def begins_with_row(place):
+    if not os.path.isfile(place):
+        return False
+    with open(place, "rb") as file:
+        return file.read(len(ROW)) == ROW
+
+
+def reads_rows(crate):
+    """Whether a program reads the table: from files that its arguments name, or from its standard input."""
+    return bool(parts(crate)) or (crate.is_program and begins_with_row(os.path.join(crate.folder, "stdin")))
 
 
 def rows():
-    with open(os.path.join(folder().folder, "stdin"), "rb") as file:
-        return [Row(text) for text in file.read().split(b"@run ")[1:]]
+    """The rows of the table, in its order."""
+    crate = next((it for it in repository.crates() if reads_rows(it)), None)
+    if crate is None:
+        raise LookupError("no program of the checkout reads a table of rows")
+    places = [os.path.join("data", name) for name in parts(crate)] or ["stdin"]
+    found = []
+    for place in places:
+        with open(os.path.join(crate.folder, place), "rb") as file:
+            found += [Row(text) for text in file.read().split(ROW)[1:]]
+    return found
