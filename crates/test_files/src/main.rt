@@ -1,11 +1,13 @@
 //! Runs the steps of the table on the standard input, and prints each step and what it results in.
 //! Most are over real files, in the folder where it runs: a step that makes or changes files prints
 //! nothing more, `run` and `pipe` run the program `edd`, and `show` and `list` print what is there.
-//! `save` and `save_opened` write to a disk in memory, of which each call fails in turn.
+//! `one_file` runs it on a file in memory, and `save` and `save_opened` write to a disk in memory, of
+//! which each call fails in turn.
 #![tactic(auto)]
 
 mod changes;
 mod memory;
+mod one_file;
 mod running;
 mod saving;
 mod shown;
@@ -41,6 +43,7 @@ fn is_done(rt: HostRuntime, line: &str) -> io::Result<bool> {
         "pipe" => running::run_into_pipe(rt, words)?,
         "show" => shown::show(rt, words)?,
         "list" => shown::list(rt, words)?,
+        "one_file" => one_file::compile(rt, words)?,
         "save" => saving::save_each(rt, words, &[])?,
         "save_opened" => saving::save_opened(rt, words)?,
         _ => return changes::is_made(rt, kind, words),

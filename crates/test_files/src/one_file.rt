@@ -1,17 +1,17 @@
-//! The program over a file that is read in pieces, that fails, or that has no end.
+//! Steps that run the program on a file in memory, which comes in pieces, fails or has no end.
 
-use crate::descriptions::IDENTIFICATION;
-use edd_tool::{FileFault, Files, run};
-use std::alloc::{AllocError, Global};
+use edd_tool::{FileFault, Files};
+use std::io;
 use std::io::{Error, ErrorKind, Read};
-use std::test::Fail;
+
+const IDENTIFICATION: &str = "MANUFACTURER 1, DEVICE_TYPE 2, DEVICE_REVISION 3, DD_REVISION 4\n";
 
 // Every name is that of one file, which begins with the identification. Nothing is kept of what is
 // saved.
 #[derive(Clone, Copy)]
 struct OneFile {
-    not_opened: Option<FileFault>,
-    not_saved: Option<FileFault>,
+    opened: Result<(), FileFault>,
+    saved: Result<(), FileFault>,
     // The most bytes that a read gives.
     piece: usize,
     // How many further bytes come after the identification.
@@ -27,7 +27,7 @@ struct Reader {
 }
 
 impl Read for Reader {
-    fn read(&mut self, buf: &mut [u8]) -> std::io::Result<usize> {
+    fn read(&mut self, buf: &mut [u8]) -> io::Result<usize> {
         let room = buf.len().min(self.file.piece);
         if !self.rest.is_empty() {
             return self.rest.read(&mut buf[..room]);
@@ -45,127 +45,47 @@ impl Files for OneFile {
     type Reader = Reader;
 
     fn open(&mut self, _name: &str) -> Result<Reader, FileFault> {
-        match self.not_opened {
-            Some(fault) => Err(fault),
-            None => Ok(Reader {
-                rest: IDENTIFICATION.as_bytes(),
-                file: *self,
-            }),
-        }
+        self.opened?;
+        Ok(Reader {
+            rest: IDENTIFICATION.as_bytes(),
+            file: *self,
+        })
     }
 
     fn save(&mut self, _name: &str, _bytes: &[u8]) -> Result<(), FileFault> {
-        match self.not_saved {
-            Some(fault) => Err(fault),
-            None => Ok(()),
-        }
+        self.saved
     }
 }
 
-const WHOLE: OneFile = OneFile {
-    not_opened: None,
-    not_saved: None,
-    piece: 3,
-    further: 0,
-    is_broken: false,
-};
+// The file of a step, whose last word says what fails.
+fn file_of(words: &str) -> OneFile {
+    let (piece, rest) = words.split_once(' ').unwrap_or((words, ""));
+    let (further, fails) = rest.split_once(' ').unwrap_or((rest, ""));
+    OneFile {
+        opened: match fails {
+            "opening" => Err(FileFault::Failed),
+            "memory_of_opening" => Err(FileFault::Memory),
+            _ => Ok(()),
+        },
+        saved: match fails {
+            "saving" => Err(FileFault::Failed),
+            "memory_of_saving" => Err(FileFault::Memory),
+            _ => Ok(()),
+        },
+        piece: piece.parse::<usize>().unwrap_or(0),
+        further: further.parse::<usize>().unwrap_or(0),
+        is_broken: fails == "reading",
+    }
+}
 
-// The bytes after the identification of the longest file that is read.
-const MOST_FURTHER: usize = 67_108_864 - IDENTIFICATION.len();
-
-// A file, the exit status, and what is printed.
-const ENDINGS: [(OneFile, u8, &str); 9] = [
-    (WHOLE, 0, "image 56\n"),
-    (
-        OneFile {
-            is_broken: true,
-            ..WHOLE
-        },
-        3,
-        "file s\n",
-    ),
-    // The longest file that is read, and one that is a byte longer.
-    (
-        OneFile {
-            piece: 8192,
-            further: MOST_FURTHER,
-            ..WHOLE
-        },
-        1,
-        "refused 2 TOO_LONG\n",
-    ),
-    (
-        OneFile {
-            piece: 8192,
-            further: MOST_FURTHER + 1,
-            ..WHOLE
-        },
-        3,
-        "file s\n",
-    ),
-    // One that has no end, a byte a read.
-    (
-        OneFile {
-            piece: 1,
-            further: usize::MAX,
-            ..WHOLE
-        },
-        3,
-        "file s\n",
-    ),
-    (
-        OneFile {
-            not_opened: Some(FileFault::Failed),
-            ..WHOLE
-        },
-        3,
-        "file s\n",
-    ),
-    (
-        OneFile {
-            not_opened: Some(FileFault::Memory),
-            ..WHOLE
-        },
-        4,
-        "no memory\n",
-    ),
-    (
-        OneFile {
-            not_saved: Some(FileFault::Failed),
-            ..WHOLE
-        },
-        3,
-        "file i\n",
-    ),
-    (
-        OneFile {
-            not_saved: Some(FileFault::Memory),
-            ..WHOLE
-        },
-        4,
-        "no memory\n",
-    ),
-];
-
-// Whether the compiling of the file ends so.
-fn ends_so(alloc: Global, file: OneFile, status: u8, printed: &str) -> Result<bool, AllocError> {
-    let mut words = Vec::new(alloc);
+/// Compiles the file `s` into `i`: `one_file PIECE FURTHER`, and after it what fails: `opening`,
+/// `memory_of_opening`, `reading`, `saving` or `memory_of_saving`.
+pub fn compile(rt: HostRuntime, step: &str) -> io::Result<()> {
+    let mut words = Vec::new(rt.alloc());
     for word in ["edd", "compile", "s", "i"] {
-        words.push(String::from_str(alloc, word)?)?;
+        words.push(word.to_string(rt.alloc())?)?;
     }
-    let mut file = file;
-    let mut out: Vec<u8> = Vec::new(alloc);
-    let answer = run(alloc, &words, &mut file, &mut out);
-    Ok(answer == status && out.as_slice() == printed.as_bytes())
-}
-
-#[test]
-fn a_file_is_read_to_its_end_or_refused(rt: HostRuntime) -> Result<(), Fail> {
-    for (number, (file, status, printed)) in ENDINGS.iter().enumerate() {
-        assert!(rt;
-            ends_so(rt.alloc(), *file, *status, printed)?,
-            "{number}: {printed}"
-        );
-    }
-    Ok(())
+    let mut file = file_of(step);
+    let status = edd_tool::run(rt.alloc(), &words, &mut file, &mut io::writer(&rt));
+    println!(rt; "status {status}")
 }
