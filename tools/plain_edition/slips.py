@@ -87,8 +87,8 @@ def plant():
     unseen = 0
     with tempfile.TemporaryDirectory() as room:
         copied(room)
-        if noticed(room):
-            raise LookupError("the tests fail without a slip")
+        if step := noticed(room):
+            raise LookupError(f"without a slip: {step} fails")
         for what, path, old, new in SLIPS:
             text = planted(room, path, old, new)
             step = noticed(room)
