@@ -1,4 +1,4 @@
-//! Texts whose trees were worked out by hand.
+//! Texts whose trees were worked out by hand. Trees are let go without their parts, as in `texts`.
 
 use crate::texts::{description, unit};
 use edd_syntax::cond::Cond;
@@ -8,6 +8,7 @@ use edd_syntax::reference::Path;
 use edd_syntax::stmt::{Part, Stmt};
 use edd_syntax::unit::Unit;
 use std::alloc::{AllocError, Global};
+use std::mem::forget;
 use std::test::Fail;
 
 // The attributes of the first item.
@@ -92,7 +93,9 @@ fn grouping(alloc: Global, first: &str, second: &str) -> Result<Option<bool>, Al
 
 fn grouping_in(alloc: Global, text: &str) -> Option<bool> {
     let read = unit(alloc, text)?;
-    groups_left(&read)
+    let found = groups_left(&read);
+    forget(read);
+    found
 }
 
 #[test]
@@ -117,7 +120,11 @@ fn is_inner_else(unit: &Unit) -> bool {
 
 fn has_inner_else(alloc: Global, text: &str) -> bool {
     match unit(alloc, text) {
-        Some(unit) => is_inner_else(&unit),
+        Some(unit) => {
+            let found = is_inner_else(&unit);
+            forget(unit);
+            found
+        }
         None => false,
     }
 }
@@ -178,8 +185,10 @@ fn list_of(alloc: Global, list: &str) -> Result<Option<(usize, usize, bool)>, Al
 
 fn list_in(alloc: Global, text: &str) -> Option<(usize, usize, bool)> {
     let read = unit(alloc, text)?;
-    let (count, behind) = entries(&read)?;
-    Some((count, behind, is_last(&read, "c")))
+    let (found, is_last) = (entries(&read), is_last(&read, "c"));
+    forget(read);
+    let (count, behind) = found?;
+    Some((count, behind, is_last))
 }
 
 #[test]
