@@ -31,7 +31,20 @@ def load():
     loader.exec_module(made)
     made.rtlib.guarded()
     made.rtlib.Crate = made.Crate
+    remember_stamps(made.Crate)
     return made
+
+
+def remember_stamps(crates):
+    """Has each crate's stamp made once: it has those of all crates below in it, each by as many ways as lead there."""
+    made, known = crates.stamp, {}
+
+    def stamp(self):
+        if self.folder not in known:
+            known[self.folder] = made(self)
+        return known[self.folder]
+
+    crates.stamp = stamp
 
 
 def place(crate):

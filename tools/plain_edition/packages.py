@@ -11,7 +11,9 @@ import sys
 # Debian's packages of the crates that the edition uses, and of what further systems need.
 SOURCES = ("librust-arrayvec-dev", "librust-clap-dev", "librust-indexmap-dev", "librust-serde-dev", "librust-serde-derive-dev",
            "librust-serde-json-dev", "librust-strsim-dev")
-SYSTEMS = ("rustc-web", "cargo-web", "rust-web-src", "lld", "gcc-multilib", "nodejs")
+COMPILER = ("rustc-web", "cargo-web")
+# A compiler with the source of its standard library, of which one is made for other systems, and their linkers.
+SYSTEMS = (*COMPILER, "rust-web-src", "lld", "gcc-multilib")
 LEAST = (1, 88)
 # Where the registry answers nothing within so many seconds, it is not there.
 PATIENCE = {"CARGO_HTTP_TIMEOUT": "5", "CARGO_NET_RETRY": "0"}
@@ -31,16 +33,38 @@ def say(text):
     print(f"edd: {text}", file=sys.stderr, flush=True)
 
 
-def cargo():
-    """The command of cargo, where it is new enough."""
-    found = shutil.which("cargo")
-    if not found:
-        raise Missing("there is no cargo on the PATH")
-    ran = subprocess.run([found, "--version"], capture_output=True, text=True, check=False)
-    number = re.search(r"(\d+)\.(\d+)", ran.stdout)
-    if not number or tuple(map(int, number.groups())) < LEAST:
-        raise Missing(f"cargo is older than {LEAST[0]}.{LEAST[1]}: {ran.stdout.strip() or ran.stderr.strip()}")
-    return found
+class Cargo:
+    """A cargo with the compiler beside it."""
+
+    def __init__(self, command):
+        self.command = command
+        beside = os.path.join(os.path.dirname(command), "rustc")
+        self.environment = {**os.environ, **({"RUSTC": beside} if os.access(beside, os.X_OK) else {})}
+
+    def run(self, words, folder=None, **more):
+        environment = {**self.environment, **more}
+        return subprocess.run([self.command, *words], cwd=folder, env=environment, stdin=subprocess.DEVNULL, capture_output=True,
+                              text=True, check=False)
+
+    def is_new(self):
+        number = re.search(r"(\d+)\.(\d+)", self.run(["--version"]).stdout)
+        return number is not None and tuple(map(int, number.groups())) >= LEAST
+
+
+def cargo(may_install=False):
+    """The first cargo on the PATH that is new enough; where there is none and it may be, Debian's is installed."""
+    for folder in os.get_exec_path():
+        command = os.path.join(folder, "cargo")
+        if os.access(command, os.X_OK) and Cargo(command).is_new():
+            return Cargo(command)
+    if may_install and can_install() and lacking(COMPILER):
+        install(lacking(COMPILER))
+        return cargo()
+    raise Missing(f"there is no cargo {LEAST[0]}.{LEAST[1]} or later on the PATH; as root on Debian: " + apt_get(COMPILER))
+
+
+def apt_get(packages):
+    return "apt-get install " + " ".join(packages)
 
 
 def is_there(package):
@@ -77,32 +101,25 @@ def install(packages):
             raise Missing(f"{' '.join(words)} failed:\n{ran.stdout[-1500:]}")
 
 
-def fetched(command, out, words, extra=None):
-    """Whether cargo has all crates of a workspace."""
-    ran = subprocess.run([command, "fetch", "--quiet", *words], cwd=out, env={**os.environ, **(extra or {})}, capture_output=True,
-                         text=True, check=False)
-    return ran.returncode == 0
-
-
 def settle(out, may_install):
-    """Has the crates for a workspace at hand, so that cargo builds it offline, and gives the command of cargo."""
-    command = cargo()
+    """Has the crates for a workspace at hand, so that cargo builds it offline."""
+    command = cargo(may_install)
     configuration = os.path.join(out, ".cargo", "config.toml")
-    if fetched(command, out, ["--offline"]):
+    has_all = lambda *words, **more: command.run(["fetch", "--quiet", *words], out, **more).returncode == 0
+    if has_all("--offline"):
         return command
     if os.path.exists(configuration):
         os.remove(configuration)
-    if fetched(command, out, [], PATIENCE):
+    if has_all(**PATIENCE):
         return command
     left = lacking(SOURCES)
     if left:
-        words = "apt-get install " + " ".join(left)
         if not may_install or not can_install():
-            raise Missing(f"the crates are neither in the registry that cargo reaches nor installed; as root on Debian: {words}")
+            raise Missing("cargo reaches no registry with the crates that are needed; as root on Debian: " + apt_get(left))
         install(left)
     os.makedirs(os.path.dirname(configuration), exist_ok=True)
     with open(configuration, "w", encoding="utf-8") as file:
         file.write(CONFIGURATION.format(folder=folder_of_sources()))
-    if not fetched(command, out, ["--offline"]):
-        raise Missing("cargo finds not all crates in Debian's folder")
+    if not has_all("--offline"):
+        raise Missing("cargo finds not all crates among the sources of Debian's packages")
     return command

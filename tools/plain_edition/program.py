@@ -2,7 +2,6 @@
 import fcntl
 import os
 import shutil
-import subprocess
 import time
 
 from . import packages, repository, workspace
@@ -15,19 +14,18 @@ OWN = ("crates.txt", "plain", "tools/plain", "tools/plain_edition")
 
 def build(may_install):
     """Builds it anew where it has to be, and notes what it is made from. A second call waits for the first."""
-    os.makedirs(ROOM, exist_ok=True)
+    os.makedirs(repository.MADE, exist_ok=True)
     with open(os.path.join(repository.MADE, "lock"), "w", encoding="utf-8") as lock:
         fcntl.flock(lock, fcntl.LOCK_EX)
         started = time.time()
-        packages.cargo()
+        packages.cargo(may_install)
         edition = workspace.Edition(["edd"])
         edition.write(ROOM)
         command = packages.settle(ROOM, may_install)
         packages.say("building the plain edition by cargo; later calls start at once")
-        words = [command, "build", "--quiet", "--release", "--offline", "--package", "edd"]
-        ran = subprocess.run(words, cwd=ROOM, stdout=subprocess.DEVNULL, check=False)
+        ran = command.run(["build", "--quiet", "--release", "--offline", "--package", "edd"], ROOM)
         if ran.returncode:
-            raise packages.Missing("cargo could not build the plain edition")
+            raise packages.Missing(f"cargo could not build the plain edition:\n{ran.stderr[-3000:]}")
         place(edition, started)
 
 

@@ -29,11 +29,21 @@ PROFILES = """[profile.release]
 overflow-checks = true
 panic = "abort"
 
+[profile.small]
+inherits = "release"
+opt-level = "s"
+codegen-units = 1
+lto = true
+
 [profile.checked]
 inherits = "release"
 panic = "unwind"
 opt-level = 1
 debug-assertions = true
+
+[profile.fast]
+inherits = "checked"
+opt-level = 3
 """
 
 
@@ -44,14 +54,15 @@ class Stopped(Exception):
 class Edition:
     """The files of the plain edition by their paths, and counts of what was left out."""
 
-    def __init__(self, names=None):
+    def __init__(self, names=None, own=()):
+        """All crates, or these and what they use; with these further crates of `plain/`."""
         every = repository.crates()
         self.crates = repository.below(every, names) if names else every
         self.known = {it.name for it in every}
         self.files, self.counts = {}, collections.Counter()
         for crate in self.crates:
             self.add(crate)
-        self.add_own()
+        self.add_own(own)
         self.add_workspace()
 
     def add(self, crate):
@@ -91,9 +102,9 @@ class Edition:
             return REAL[used]
         raise Stopped(f"crates.txt: {crate.name} uses {used}, for which plain/ has nothing")
 
-    def add_own(self):
-        """The crates of `plain/` that the crates at hand use."""
-        used = {OWN[name] for crate in self.crates for name in crate.uses if name in OWN} | {"std", "derive"}
+    def add_own(self, more):
+        """The crates of `plain/` that the crates at hand use, and these more."""
+        used = {OWN[name] for crate in self.crates for name in crate.uses if name in OWN} | {"std", "derive", *more}
         self.own = sorted(used)
         for name in self.own:
             for path, text in folder_files(os.path.join(repository.PLAIN, name)):
@@ -121,6 +132,7 @@ class Edition:
 
     def write(self, out):
         """Writes what differs from what stands there, so that cargo builds no more than that, and removes other sources."""
+        os.makedirs(out, exist_ok=True)
         for path, text in self.files.items():
             place = os.path.join(out, path)
             if text_at(place) != text:

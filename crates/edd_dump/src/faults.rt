@@ -72,14 +72,14 @@ fn push_fields(sections: &Sections<'_>, line: &mut String, spot: Spot) -> Result
     Ok(())
 }
 
-fn start_of(bytes: &[u8], section: Section) -> usize {
+fn start_of(bytes: &[u8], section: Section) -> u64 {
     let (start, _) = bounds(bytes, section);
     start
 }
 
 // Where a row of a section is, by the width of a row.
-fn row_place(bytes: &[u8], section: Section, width: usize, number: usize) -> usize {
-    start_of(bytes, section).saturating_add(width.saturating_mul(number))
+fn row_place(bytes: &[u8], section: Section, width: usize, number: usize) -> u64 {
+    start_of(bytes, section).saturating_add((width as u64).saturating_mul(number as u64))
 }
 
 // The section of a row, how many bytes one has, its word and its number.
@@ -106,25 +106,25 @@ fn row_of(spot: Spot) -> Option<(Section, usize, &'static str, usize)> {
 }
 
 // The place in the image, and what is there.
-fn place_of(bytes: &[u8], sections: &Sections<'_>, spot: Spot) -> (usize, &'static str, usize) {
+fn place_of(bytes: &[u8], sections: &Sections<'_>, spot: Spot) -> (u64, &'static str, usize) {
     if let Some((section, width, word, number)) = row_of(spot) {
         return (row_place(bytes, section, width, number), word, number);
     }
     match spot {
         Spot::Name(number) => {
             let start = sections.name_span(number).map_or(0, |span| span.start);
-            let place = start_of(bytes, Section::NameBytes).saturating_add(start);
+            let place = start_of(bytes, Section::NameBytes).saturating_add(start as u64);
             (place, "name", number)
         }
         Spot::String(number) => {
             let start = sections.string_span(number).map_or(0, |span| span.start);
-            let place = start_of(bytes, Section::StringBytes).saturating_add(start);
+            let place = start_of(bytes, Section::StringBytes).saturating_add(start as u64);
             (place, "string", number)
         }
         Spot::Instruction { row, place, .. } => {
             let start = sections.row(row).map_or(0, |row| row.unit.start);
-            let code = start_of(bytes, Section::Code);
-            (code.saturating_add(start).saturating_add(place), "row", row)
+            let unit = start_of(bytes, Section::Code).saturating_add(start as u64);
+            (unit.saturating_add(place as u64), "row", row)
         }
         _ => (0, "header", 0),
     }

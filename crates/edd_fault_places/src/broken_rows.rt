@@ -7,9 +7,9 @@ use edd_image::{HEADER_LENGTH, extension_zero, header_zero};
 use edd_syntax::numbers::{Attr, Element};
 
 // Whether a span starts where the one before it ends, and has its zero. Moves the end there.
-fn follows(span: Span, end: &mut usize) -> bool {
-    let is_next = span.has_zero && span.start == *end;
-    *end = end.saturating_add(span.length);
+fn follows(span: Span, end: &mut u64) -> bool {
+    let is_next = span.has_zero && span.start as u64 == *end;
+    *end = end.saturating_add(span.length as u64);
     is_next
 }
 
@@ -28,7 +28,7 @@ fn broken_name_row(sections: &Sections<'_>) -> Option<Spot> {
             return Some(Spot::NameRow(number));
         }
     }
-    if end == sections.names.len() {
+    if end == sections.names.len() as u64 {
         None
     } else {
         Some(Spot::NameRow(sections.item_count()))
@@ -69,7 +69,7 @@ fn broken_attribute_row(sections: &Sections<'_>) -> Option<Spot> {
         }
         before = Some(row);
     }
-    if end == sections.code.len() {
+    if end == sections.code.len() as u64 {
         None
     } else {
         Some(Spot::Row(sections.row_count()))
@@ -111,7 +111,7 @@ fn broken_string_row(sections: &Sections<'_>) -> Option<Spot> {
             return Some(Spot::StringRow(number));
         }
     }
-    if end == sections.strings.len() {
+    if end == sections.strings.len() as u64 {
         None
     } else {
         Some(Spot::StringRow(sections.string_count()))

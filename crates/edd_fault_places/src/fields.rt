@@ -164,14 +164,23 @@ pub enum Section {
 }
 
 /// Where a section starts, and where it ends. Without a whole header that is 0.
-pub fn bounds(bytes: &[u8], section: Section) -> (usize, usize) {
+pub fn bounds(bytes: &[u8], section: Section) -> (u64, u64) {
     if bytes.len() < HEADER_LENGTH {
         return (0, 0);
     }
     match section {
-        Section::VariableRows => (variable_rows_start(bytes), name_rows_start(bytes)),
-        Section::NameRows => (name_rows_start(bytes), attribute_rows_start(bytes)),
-        Section::AttributeRows => (attribute_rows_start(bytes), element_rows_start(bytes)),
+        Section::VariableRows => (
+            variable_rows_start(bytes) as u64,
+            name_rows_start(bytes) as u64,
+        ),
+        Section::NameRows => (
+            name_rows_start(bytes) as u64,
+            attribute_rows_start(bytes) as u64,
+        ),
+        Section::AttributeRows => (
+            attribute_rows_start(bytes) as u64,
+            element_rows_start(bytes),
+        ),
         Section::ElementRows => (element_rows_start(bytes), code_start(bytes)),
         Section::Code => (code_start(bytes), string_rows_start(bytes)),
         Section::StringRows => (string_rows_start(bytes), name_bytes_start(bytes)),

@@ -58,11 +58,11 @@ pub struct RowFields {
 }
 
 // The bytes from a place up to another, where they are there.
-fn between(bytes: &[u8], start: usize, end: usize) -> Option<&[u8]> {
-    if end < start || bytes.len() < end {
+fn between(bytes: &[u8], start: u64, end: u64) -> Option<&[u8]> {
+    if end < start || (bytes.len() as u64) < end {
         return None;
     }
-    Some(&bytes[start..end])
+    Some(&bytes[start as usize..end as usize])
 }
 
 // The row of a number, each row having this width.
@@ -140,8 +140,8 @@ fn variable_fields(row: &[u8]) -> VariableFields
 
 /// The part of a section, where it lies inside.
 pub fn part(section: &[u8], span: Span) -> Option<&[u8]> {
-    let end = span.start.checked_add(span.length)?;
-    between(section, span.start, end)
+    let start = span.start as u64;
+    between(section, start, start.checked_add(span.length as u64)?)
 }
 
 impl<'a> Sections<'a> {
@@ -151,9 +151,9 @@ impl<'a> Sections<'a> {
         if bytes.len() < HEADER_LENGTH {
             return None;
         }
-        let variables = variable_rows_start(bytes);
-        let names = name_rows_start(bytes);
-        let attributes = attribute_rows_start(bytes);
+        let variables = variable_rows_start(bytes) as u64;
+        let names = name_rows_start(bytes) as u64;
+        let attributes = attribute_rows_start(bytes) as u64;
         let elements = element_rows_start(bytes);
         let code = code_start(bytes);
         let strings = string_rows_start(bytes);

@@ -1,5 +1,5 @@
 -- A number that was written is read again, whatever follows it.
-use Rattle.std.proofs.Common.{◌≡◌, ℕ, ◌+◌, ◌<◌, ◌^◌, false, ltb, List, ◌++◌, length, Some, refl, arith}
+use Rattle.std.proofs.Common.{◌≡◌, ℕ, ◌<◌, ◌^◌, false, ltb, List, ◌++◌, length, Some, refl, arith}
 use Rattle.std.specs.Int.{Width, w16, w32, byte_len, from_be_bytes, to_be_bytes}
 use Rattle.std.proofs.lemmas.Bool.{le-ltb}
 use Rattle.std.proofs.lemmas.List.{take_at, drop_at, length-append}
@@ -23,7 +23,8 @@ number_again w n rest len same =
       same,
     ) refl
 
-pub u16_again : (n : ℕ) (rest : List ℕ) → n < 2 ^ 16 → number_from w16 (u16 n ++ rest) ≡ Some (n, rest)
+pub u16_again : (n : ℕ) (rest : List ℕ) → n < 2 ^ 16 → number_from w16 (u16 n ++ rest)
+    ≡ Some (n, rest)
 u16_again n rest lt = number_again w16 n rest refl (from_be_bytes-to_be_bytes_2 n lt)
 
 pub u32_again : (n : ℕ) (rest : List ℕ) → n < 2 ^ 32 → number_from w32 (u32 n ++ rest)

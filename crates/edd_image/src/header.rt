@@ -101,38 +101,6 @@ pub fn variable_count(bytes: &[u8]) -> u16
     u16_at(bytes, 28)
 }
 
-/// How many commands there are.
-pub fn command_count(bytes: &[u8]) -> u16
-    requires { header_length ≤ length bytes.now }
-    ensures { result ≡ (counts_in bytes.now).commands }
-{
-    u16_at(bytes, 30)
-}
-
-/// How many menus there are.
-pub fn menu_count(bytes: &[u8]) -> u16
-    requires { header_length ≤ length bytes.now }
-    ensures { result ≡ (counts_in bytes.now).menus }
-{
-    u16_at(bytes, 32)
-}
-
-/// How many collections there are.
-pub fn collection_count(bytes: &[u8]) -> u16
-    requires { header_length ≤ length bytes.now }
-    ensures { result ≡ (counts_in bytes.now).collections }
-{
-    u16_at(bytes, 34)
-}
-
-/// How many methods there are.
-pub fn method_count(bytes: &[u8]) -> u16
-    requires { header_length ≤ length bytes.now }
-    ensures { result ≡ (counts_in bytes.now).methods }
-{
-    u16_at(bytes, 36)
-}
-
 /// How many arrays there are.
 pub fn array_count(bytes: &[u8]) -> u16
     requires { header_length ≤ length bytes.now }
@@ -216,10 +184,10 @@ pub fn counts(bytes: &[u8]) -> Counts
 {
     Counts {
         variables: variable_count(bytes),
-        commands: command_count(bytes),
-        menus: menu_count(bytes),
-        collections: collection_count(bytes),
-        methods: method_count(bytes),
+        commands: u16_at(bytes, 30),
+        menus: u16_at(bytes, 32),
+        collections: u16_at(bytes, 34),
+        methods: u16_at(bytes, 36),
         arrays: array_count(bytes),
         strings: string_count(bytes),
         manufacturer: manufacturer(bytes),

@@ -1,5 +1,6 @@
 //! Where the sections start. The variable rows come after the header, and each section after the
-//! one before it.
+//! one before it. From the element rows on the numbers of a header may add up to more than a length
+//! holds on a machine of 32 bits, so these places are of 64 bits.
 
 ghost use Rattle.std.specs.Prelude.{◌≡◌, ◌≤◌, ◌<◌, ◌+◌, ◌*◌, ◌^◌, length};
 ghost use Rattle.edd_image.specs.Fields.{header_length, variable_rows_start, name_rows_start, attribute_rows_start, element_rows_start, code_start, string_rows_start, name_bytes_start, string_bytes_start, sections_end};
@@ -7,8 +8,7 @@ ghost use Rattle.edd_image.specs.Fields.{header_length, variable_rows_start, nam
 use crate::fields::u16_at;
 use crate::header::{
     EXTENDED_HEADER_LENGTH, HEADER_LENGTH, array_count, attribute_count, code_length,
-    collection_count, command_count, element_count, menu_count, method_count, names_length,
-    string_count, strings_length, variable_count,
+    element_count, names_length, string_count, strings_length, variable_count,
 };
 
 /// Where the variable rows start.
@@ -42,71 +42,72 @@ pub fn attribute_rows_start(bytes: &[u8]) -> usize
     ensures start { result ≡ attribute_rows_start bytes.now }
     ensures small { result < 2 ^ 24 }
 {
+    // Of variables, commands, menus, collections, methods and arrays.
     let items = variable_count(bytes) as usize
-        + command_count(bytes) as usize
-        + menu_count(bytes) as usize
-        + collection_count(bytes) as usize
-        + method_count(bytes) as usize
+        + u16_at(bytes, 30) as usize
+        + u16_at(bytes, 32) as usize
+        + u16_at(bytes, 34) as usize
+        + u16_at(bytes, 36) as usize
         + array_count(bytes) as usize;
     name_rows_start(bytes) + 8 * items
 }
 
 /// Where the element rows start.
 #[tactic(auto, unfolding(crate::specs::Fields::element_rows_start))]
-pub fn element_rows_start(bytes: &[u8]) -> usize
+pub fn element_rows_start(bytes: &[u8]) -> u64
     requires { header_length ≤ length bytes.now }
     ensures start { result ≡ element_rows_start bytes.now }
     ensures small { result < 2 ^ 37 }
 {
-    attribute_rows_start(bytes) + 16 * attribute_count(bytes) as usize
+    attribute_rows_start(bytes) as u64 + 16 * u64::from(attribute_count(bytes))
 }
 
 /// Where the code starts.
 #[tactic(auto, unfolding(crate::specs::Fields::code_start))]
-pub fn code_start(bytes: &[u8]) -> usize
+pub fn code_start(bytes: &[u8]) -> u64
     requires { header_length ≤ length bytes.now }
     ensures start { result ≡ code_start bytes.now }
     ensures small { result < 2 ^ 38 }
 {
-    element_rows_start(bytes) + 8 * element_count(bytes) as usize
+    element_rows_start(bytes) + 8 * u64::from(element_count(bytes))
 }
 
 /// Where the string rows start.
 #[tactic(auto, unfolding(crate::specs::Fields::string_rows_start))]
-pub fn string_rows_start(bytes: &[u8]) -> usize
+pub fn string_rows_start(bytes: &[u8]) -> u64
     requires { header_length ≤ length bytes.now }
     ensures start { result ≡ string_rows_start bytes.now }
     ensures small { result < 2 ^ 39 }
 {
-    code_start(bytes) + code_length(bytes) as usize
+    code_start(bytes) + u64::from(code_length(bytes))
 }
 
 /// Where the bytes of the names start.
 #[tactic(auto, unfolding(crate::specs::Fields::name_bytes_start))]
-pub fn name_bytes_start(bytes: &[u8]) -> usize
+pub fn name_bytes_start(bytes: &[u8]) -> u64
     requires { header_length ≤ length bytes.now }
     ensures start { result ≡ name_bytes_start bytes.now }
     ensures small { result < 2 ^ 40 }
 {
-    string_rows_start(bytes) + 8 * string_count(bytes) as usize
+    string_rows_start(bytes) + 8 * u64::from(string_count(bytes))
 }
 
 /// Where the bytes of the strings start.
 #[tactic(auto, unfolding(crate::specs::Fields::string_bytes_start))]
-pub fn string_bytes_start(bytes: &[u8]) -> usize
+pub fn string_bytes_start(bytes: &[u8]) -> u64
     requires { header_length ≤ length bytes.now }
     ensures start { result ≡ string_bytes_start bytes.now }
     ensures small { result < 2 ^ 41 }
 {
-    name_bytes_start(bytes) + names_length(bytes) as usize
+    name_bytes_start(bytes) + u64::from(names_length(bytes))
 }
 
 /// The place after the last section.
 #[tactic(auto, unfolding(crate::specs::Fields::sections_end))]
-pub fn sections_end(bytes: &[u8]) -> usize
+pub fn sections_end(bytes: &[u8]) -> u64
     requires { header_length ≤ length bytes.now }
     ensures start { result ≡ sections_end bytes.now }
     ensures small { result < 2 ^ 42 }
 {
-    string_bytes_start(bytes) + strings_length(bytes) as usize
+    string_bytes_start(bytes) + u64::from(strings_length(bytes))
 }

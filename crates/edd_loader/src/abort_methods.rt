@@ -12,7 +12,7 @@ ghost use Rattle.edd_loader.specs.Sections.{AreSectionsOf, lies_within};
 
 use crate::attributes::DEFINITION;
 use crate::ranks::body_row;
-use crate::spans::part;
+use crate::spans::{part, place_in};
 use edd_image::{
     ATTRIBUTE_ROW, Version, attribute_count, attribute_length, attribute_number,
     attribute_rows_start, attribute_start, code_length, code_start, version,
@@ -117,7 +117,7 @@ pub fn all_add_with_body(bytes: &[u8]) -> bool
     }
     let start = attribute_rows_start(bytes);
     let count = attribute_count(bytes) as usize;
-    let place = code_start(bytes);
+    let place = place_in(bytes, code_start(bytes));
     let size = code_length(bytes) as usize;
     rows_add_with_body(bytes, start, part(bytes, place, size), count)
 }

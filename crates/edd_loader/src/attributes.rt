@@ -1,4 +1,5 @@
-//! The rules on attribute rows.
+//! The rules on attribute rows. What rows say adds up in 64 bits, since it may be more than a
+//! length holds on a machine of 32.
 
 ghost use Rattle.std.specs.Prelude.{◌≡◌, ◌+◌, ◌*◌, ◌≤◌, ◌&&◌, length, map};
 ghost use Rattle.std.specs.List.{list_all};
@@ -102,7 +103,7 @@ pub fn are_attribute_rows(
         && fills 0 (map (λ r. r.span) (rows_from (attribute_fields bytes.now) 16 count start))
         end)) }
 {
-    let mut place = 0;
+    let mut place: u64 = 0;
     for index in 0..count {
         let row = start + ATTRIBUTE_ROW * index;
         if !is_attribute_row(bytes, counts, row) {
@@ -111,10 +112,10 @@ pub fn are_attribute_rows(
         if !rises_next(bytes, row, count - index - 1) {
             return false;
         }
-        if attribute_start(bytes, row) as usize != place {
+        if attribute_start(bytes, row) as u64 != place {
             return false;
         }
-        place += attribute_length(bytes, row) as usize;
+        place += attribute_length(bytes, row) as u64;
     }
-    place == end
+    place == end as u64
 }

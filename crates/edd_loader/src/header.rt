@@ -17,7 +17,7 @@ fn lengths_agree(bytes: &[u8]) -> bool
     ensures { result ≡ lengths_agree bytes.now }
 {
     total_length(bytes) as usize == bytes.len()
-        && sections_end(bytes) == bytes.len()
+        && sections_end(bytes) == bytes.len() as u64
         && code_length(bytes) as usize <= CODE_LIMIT
 }
 

@@ -1,4 +1,5 @@
-//! The rules on the rows of variables, names and strings.
+//! The rules on the rows of variables, names and strings. What rows say adds up in 64 bits, since
+//! it may be more than a length holds on a machine of 32.
 
 ghost use Rattle.std.specs.Prelude.{◌≡◌, ◌+◌, ◌*◌, ◌≤◌, ◌&&◌, ◌==◌, length, map};
 ghost use Rattle.std.specs.List.{list_all};
@@ -44,18 +45,18 @@ pub fn are_name_rows(bytes: &[u8], start: usize, count: usize, end: usize) -> bo
         (rows_from (name_fields bytes.now) 8 count start)
         && fills 0 (map (λ r. r.span) (rows_from (name_fields bytes.now) 8 count start)) end) }
 {
-    let mut place = 0;
+    let mut place: u64 = 0;
     for index in 0..count {
         let row = start + NAME_ROW * index;
         if name_zero(bytes, row) != 0 {
             return false;
         }
-        if name_start(bytes, row) as usize != place {
+        if name_start(bytes, row) as u64 != place {
             return false;
         }
-        place += name_length(bytes, row) as usize;
+        place += name_length(bytes, row) as u64;
     }
-    place == end
+    place == end as u64
 }
 
 /// Whether the strings of `count` string rows, the first of which is at `start`, lie one after the
@@ -64,13 +65,13 @@ pub fn are_string_rows(bytes: &[u8], start: usize, count: usize, end: usize) -> 
     requires { start + STRING_ROW * count ≤ length bytes.now }
     ensures { result ≡ fills 0 (rows_from (string_fields bytes.now) 8 count start) end }
 {
-    let mut place = 0;
+    let mut place: u64 = 0;
     for index in 0..count {
         let row = start + STRING_ROW * index;
-        if string_start(bytes, row) as usize != place {
+        if string_start(bytes, row) as u64 != place {
             return false;
         }
-        place += string_length(bytes, row) as usize;
+        place += string_length(bytes, row) as u64;
     }
-    place == end
+    place == end as u64
 }

@@ -14,7 +14,7 @@ use crate::attributes::are_attribute_rows;
 use crate::elements::are_element_rows;
 use crate::names::is_name;
 use crate::rows::{are_name_rows, are_string_rows, are_variable_rows};
-use crate::spans::part;
+use crate::spans::{part, place_in};
 use crate::words::is_string;
 use edd_image::{
     Counts, NAME_ROW, STRING_ROW, attribute_count, attribute_rows_start, code_length, counts,
@@ -67,7 +67,7 @@ fn element_rows_keep(bytes: &[u8]) -> bool
     requires { AreSectionsOf bytes.now }
     ensures { result ≡ are_element_rows (contents_in bytes.now) }
 {
-    let start = element_rows_start(bytes);
+    let start = place_in(bytes, element_rows_start(bytes));
     let count = element_count(bytes) as usize;
     are_element_rows(bytes, counts(bytes), start, count)
 }
@@ -76,7 +76,7 @@ fn string_rows_keep(bytes: &[u8]) -> bool
     requires { AreSectionsOf bytes.now }
     ensures { result ≡ are_string_rows (contents_in bytes.now) }
 {
-    let start = string_rows_start(bytes);
+    let start = place_in(bytes, string_rows_start(bytes));
     let count = string_count(bytes) as usize;
     let end = strings_length(bytes) as usize;
     are_string_rows(bytes, start, count, end)
@@ -125,7 +125,7 @@ pub fn are_names(bytes: &[u8]) -> bool
 {
     let start = name_rows_start(bytes);
     let count = item_count(counts(bytes));
-    let place = name_bytes_start(bytes);
+    let place = place_in(bytes, name_bytes_start(bytes));
     let size = names_length(bytes) as usize;
     all_names(bytes, part(bytes, place, size), start, count)
 }
@@ -157,9 +157,9 @@ pub fn are_strings(bytes: &[u8]) -> bool
     requires rows { IsTrue (are_rows (contents_in bytes.now)) }
     ensures { result ≡ are_strings (contents_in bytes.now) }
 {
-    let start = string_rows_start(bytes);
+    let start = place_in(bytes, string_rows_start(bytes));
     let count = string_count(bytes) as usize;
-    let place = string_bytes_start(bytes);
+    let place = place_in(bytes, string_bytes_start(bytes));
     let size = strings_length(bytes) as usize;
     all_strings(bytes, part(bytes, place, size), start, count)
 }

@@ -1,9 +1,10 @@
 //! The places of the sections, found once for all that is looked up.
 
-ghost use Rattle.std.specs.Prelude.{◌≡◌, ◌≤◌, length};
-ghost use Rattle.edd_image.specs.Fields.{header_length};
+ghost use Rattle.std.specs.Prelude.{◌≡◌};
+ghost use Rattle.edd_loader.specs.Sections.{AreSectionsOf};
 ghost use Rattle.edd_loader.specs.Starts.{starts_in};
 
+use crate::spans::place_in;
 use edd_image::{
     attribute_rows_start, code_start, element_rows_start, name_bytes_start, name_rows_start,
     string_bytes_start, string_rows_start,
@@ -24,16 +25,21 @@ pub struct Starts {
 
 /// Where the sections start, by the numbers in the header.
 pub fn starts_in(bytes: &[u8]) -> Starts
-    requires { header_length ≤ length bytes.now }
+    requires { AreSectionsOf bytes.now }
     ensures { result ≡ starts_in bytes.now }
 {
+    let element_rows = place_in(bytes, element_rows_start(bytes));
+    let code = place_in(bytes, code_start(bytes));
+    let string_rows = place_in(bytes, string_rows_start(bytes));
+    let names = place_in(bytes, name_bytes_start(bytes));
+    let strings = place_in(bytes, string_bytes_start(bytes));
     Starts {
         name_rows: name_rows_start(bytes),
         attribute_rows: attribute_rows_start(bytes),
-        element_rows: element_rows_start(bytes),
-        code: code_start(bytes),
-        string_rows: string_rows_start(bytes),
-        names: name_bytes_start(bytes),
-        strings: string_bytes_start(bytes),
+        element_rows,
+        code,
+        string_rows,
+        names,
+        strings,
     }
 }

@@ -11,7 +11,7 @@ ghost use Rattle.edd_loader.specs.UnitRows.{RowKeeps, RowsKeepBelow, context_of,
 
 use crate::abort_methods::all_add_with_body;
 use crate::attributes::DEFINITION;
-use crate::spans::part;
+use crate::spans::{part, place_in};
 use crate::whole_unit::broken_in_unit;
 use edd_image::{
     ATTRIBUTE_ROW, Counts, Version, attribute_count, attribute_length, attribute_number,
@@ -115,7 +115,7 @@ fn broken_in_each(alloc: Global, bytes: &[u8]) -> Result<Option<UnitRule>, Alloc
 {
     let start = attribute_rows_start(bytes);
     let count = attribute_count(bytes) as usize;
-    let place = code_start(bytes);
+    let place = place_in(bytes, code_start(bytes));
     let size = code_length(bytes) as usize;
     let code = part(bytes, place, size);
     broken_in_rows(

@@ -4,11 +4,15 @@ use Rattle.edd_loader.proofs.AddedMethods.{others_add_none, rows_add_all, versio
 use Rattle.edd_loader.proofs.Spaces.{rooms, units_lie}
 use Rattle.edd_loader.proofs.abort_methods.all_add_with_body.Goals as goal
 
+pub place_in-place-requires : goal.place_in-place-requires
+place_in-place-requires c = omega (arith, rooms _ c.requires.sections, c.code_start.ensures.start)
+
 pub part-requires : goal.part-requires
 part-requires c = omega (
   arith,
   rooms _ c.requires.sections,
-  c.code_start-place.ensures.start,
+  c.place_in-place.ensures,
+  c.code_start.ensures.start,
   c.code_length-size.ensures,
 )
 
@@ -23,18 +27,18 @@ rows_add_with_body-requires-clause-room c = omega (
 pub rows_add_with_body-requires-clause-within : goal.rows_add_with_body-requires-clause-within
 rows_add_with_body-requires-clause-within c =
     units_lie _ _ _ _ _ _ c.requires.sections c.requires.rows c.part.ensures
-    c.code_start-place.ensures.start c.code_length-size.ensures
+    (c.place_in-place.ensures ∙ c.code_start.ensures.start) c.code_length-size.ensures
     c.attribute_rows_start-start.ensures.start c.attribute_count-count.ensures
 
 pub rows_add_with_body-requires-clause-others : goal.rows_add_with_body-requires-clause-others
 rows_add_with_body-requires-clause-others c =
-    others_add_none _ _ _ _ _ _ c.part.ensures c.code_start-place.ensures.start
+    others_add_none _ _ _ _ _ _ c.part.ensures (c.place_in-place.ensures ∙ c.code_start.ensures.start)
     c.code_length-size.ensures c.attribute_rows_start-start.ensures.start
     c.attribute_count-count.ensures c.requires.chains
 
 pub returns : goal.returns
 returns c = c.rows_add_with_body.ensures
-    ∙ rows_add_all _ _ _ _ _ _ c.part.ensures c.code_start-place.ensures.start
+    ∙ rows_add_all _ _ _ _ _ _ c.part.ensures (c.place_in-place.ensures ∙ c.code_start.ensures.start)
     c.code_length-size.ensures c.attribute_rows_start-start.ensures.start
     c.attribute_count-count.ensures
 

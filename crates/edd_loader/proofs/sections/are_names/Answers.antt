@@ -3,11 +3,15 @@ use Rattle.edd_image.specs.Layout.{item_count}
 use Rattle.edd_loader.proofs.Spaces.{rooms, names_are, names_lie}
 use Rattle.edd_loader.proofs.sections.are_names.Goals as goal
 
+pub place_in-place-requires : goal.place_in-place-requires
+place_in-place-requires c = omega (arith, rooms _ c.requires.sections, c.name_bytes_start.ensures.start)
+
 pub part-requires : goal.part-requires
 part-requires c = omega (
   arith,
   rooms _ c.requires.sections,
-  c.name_bytes_start-place.ensures.start,
+  c.place_in-place.ensures,
+  c.name_bytes_start.ensures.start,
   c.names_length-size.ensures,
 )
 
@@ -23,13 +27,13 @@ all_names-requires-clause-room c =
 pub all_names-requires-clause-within : goal.all_names-requires-clause-within
 all_names-requires-clause-within c =
     names_lie _ _ _ _ _ _ c.requires.sections c.requires.rows c.part.ensures
-    c.name_bytes_start-place.ensures.start c.names_length-size.ensures
+    (c.place_in-place.ensures ∙ c.name_bytes_start.ensures.start) c.names_length-size.ensures
     c.name_rows_start-start.ensures.start (c.item_count-count.ensures
     ∙ ap item_count c.counts.ensures)
 
 pub returns : goal.returns
 returns c =
     c.all_names.ensures ∙ names_are _ _ _ _ _ _ c.part.ensures
-    c.name_bytes_start-place.ensures.start c.names_length-size.ensures
+    (c.place_in-place.ensures ∙ c.name_bytes_start.ensures.start) c.names_length-size.ensures
     c.name_rows_start-start.ensures.start (c.item_count-count.ensures
     ∙ ap item_count c.counts.ensures)

@@ -1,0 +1,45 @@
+//! What has to hold of each text.
+use crate::counts::Counts;
+use edd_check::{Choices, Format, check};
+use edd_compiler::compile;
+use edd_loader::load;
+use edd_plain_std::alloc::Global;
+use edd_plain_std::vec::Vec as List;
+
+/// The image of a text, or its refusal; else what is wrong.
+pub fn tried(text: &[u8], counts: &mut Counts) -> Result<Result<Vec<u8>, String>, String> {
+    let made = compile(Global, text);
+    let mut lines = List::new(Global);
+    let choices = Choices::new(Global);
+    let Ok(is_refused) = check(Global, "s", text, &choices, Format::Text, &mut lines) else {
+        return Err("check has no answer".into());
+    };
+    match made {
+        Ok(image) => {
+            counts.accepted += 1;
+            if is_refused {
+                return Err("check refuses what is compiled".into());
+            }
+            if let Err(fault) = load(Global, &image) {
+                return Err(format!(
+                    "an accepted text has an image that is refused: {fault}"
+                ));
+            }
+            Ok(Ok(image.into_real()))
+        }
+        Err(fault) => {
+            counts.refused_texts += 1;
+            let first = lines
+                .split(|byte| *byte == b'\n')
+                .next()
+                .unwrap_or_default();
+            let wanted = format!(": refused {fault}");
+            let is_said = is_refused && first.ends_with(wanted.as_bytes());
+            if is_said {
+                Ok(Err(fault.to_string()))
+            } else {
+                Err(format!("check says other than `refused {fault}`"))
+            }
+        }
+    }
+}

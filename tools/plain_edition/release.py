@@ -1,0 +1,83 @@
+"""Writes the edition for others: laid out, with its lock, a page that says what it is, and the commit that it was made from."""
+import os
+import subprocess
+
+from . import packages, repository, workspace
+
+PAGE = """# edd, the plain edition
+
+The sources of `edd`, a compiler, image loader and method interpreter for EDDL device descriptions, with the contracts left out under
+which they are proved. They are ordinary Rust: `cargo build --release -p edd` builds the program, and
+
+    cargo add --path FOLDER/edd_loader
+
+makes a crate of it one of another program. What is proved are the sources, not these files: `PLAIN.md` says what is promised, what
+is trusted beside the proofs, and how the crates are used. `GENERATED_FROM` names the commit of the sources.
+
+| Crate | What it is |
+|---|---|
+"""
+
+
+def git(*words):
+    ran = subprocess.run(["git", "-C", repository.TOP, *words], capture_output=True, text=True, check=False)
+    return ran.stdout.strip()
+
+
+def summary(text):
+    """The first sentence of what a crate says of itself."""
+    lines = []
+    for line in text.split("\n"):
+        if not line.startswith("//!") or (lines and line == "//!"):
+            break
+        lines.append(line.removeprefix("//!").strip())
+    said = " ".join(lines)
+    return said.split(". ")[0].rstrip(".") + "." if said else ""
+
+
+def page(edition):
+    rows = []
+    for crate in edition.crates:
+        root = "main" if crate.is_program else "lib"
+        rows.append(f"| `{crate.name}` | {summary(edition.files[f'{crate.name}/src/{root}.rs'])} |\n")
+    return PAGE + "".join(rows)
+
+
+def write(out):
+    """Writes a new folder. Sources that are not committed can't be named, so they are refused."""
+    if os.path.exists(out):
+        raise workspace.Stopped(f"{out} is there already")
+    changed = git("status", "--porcelain")
+    if changed:
+        raise workspace.Stopped(f"there are changes that no commit has:\n{changed}")
+    edition = workspace.Edition()
+    edition.files["README.md"] = page(edition)
+    edition.files["GENERATED_FROM"] = git("rev-parse", "HEAD") + "\n"
+    for name in ("PLAIN.md", "EMBEDDING.md", "IMAGE.md", "LANGUAGE.md"):
+        with open(os.path.join(repository.TOP, "docs", name), encoding="utf-8") as file:
+            edition.files[name] = file.read()
+    edition.write(out)
+    lay_out(edition, out)
+    lock(out)
+
+
+def lay_out(edition, out):
+    """Lays all sources out as rustfmt does."""
+    roots = [path for path in edition.files if path.endswith(("src/lib.rs", "src/main.rs"))]
+    ran = subprocess.run(["rustfmt", "--edition", "2024", *roots], cwd=out, capture_output=True, text=True, check=False)
+    if ran.returncode:
+        raise workspace.Stopped(f"rustfmt: {ran.stderr[-2000:]}")
+
+
+def lock(out):
+    """Leaves a lock that names versions; sums of what the registry did not give are none."""
+    packages.settle(out, False)
+    place = os.path.join(out, "Cargo.lock")
+    with open(place, encoding="utf-8") as file:
+        lines = [line for line in file if not (line.startswith("checksum = ") and " " in line.split('"')[1])]
+    with open(place, "w", encoding="utf-8") as file:
+        file.writelines(lines)
+    configuration = os.path.join(out, ".cargo", "config.toml")
+    if os.path.exists(configuration):
+        os.remove(configuration)
+        os.rmdir(os.path.dirname(configuration))

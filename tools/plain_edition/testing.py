@@ -1,0 +1,86 @@
+"""Tests the plain edition: its sources, its programs, and what they say against the proved program and on 32 bits."""
+import os
+import re
+
+from . import packages, repository, workspace
+from .trials import alike, bare, elsewhere, example, fuzzing, images, runs, score
+
+FOLDER = os.path.join(repository.MADE, "edition")
+PROFILE = "checked"
+# So many inputs are fuzzed at each gate.
+AT_EACH_GATE = 50_000
+RESULT = re.compile(r"^test result: .* (\d+) passed; (\d+) failed", re.MULTILINE)
+
+
+def written():
+    """The edition with the fuzzing, in its folder."""
+    edition = workspace.Edition(own=["fuzz"])
+    edition.write(FOLDER)
+    return edition
+
+
+def set_up():
+    """Installs what the tests need, as root on Debian, and says what it is."""
+    written()
+    lacking = packages.lacking(packages.SYSTEMS)
+    if lacking and not packages.can_install():
+        raise packages.Missing("the tests on other systems need Debian's packages: " + packages.apt_get(lacking))
+    if lacking:
+        packages.install(lacking)
+    packages.settle(FOLDER, True)
+
+
+def sources(counts, edition):
+    """Each file is its source with tokens left out, but for what is listed."""
+    gone, put, wrong = edition.check()
+    for line in wrong:
+        counts.check(False, line)
+    counts.count(put["heads"] - len(wrong), 0)
+    return f"{sum(gone.values())} tokens left out, {put['first line of main']} first lines of main put in"
+
+
+def cargo(words):
+    return packages.cargo().run([*words, "--quiet", "--offline", "--workspace", "--profile", PROFILE], FOLDER)
+
+
+def built(counts):
+    ran = cargo(["build"])
+    counts.check(ran.returncode == 0, f"cargo build: {ran.stderr[-3000:]}")
+
+
+def tested(counts):
+    """The tests of all crates, with overflow checks and debug assertions."""
+    ran = cargo(["test", "--no-fail-fast"])
+    for passed, failed in RESULT.findall(ran.stdout):
+        counts.count(int(passed), int(failed))
+    if ran.returncode:
+        counts.check(False, f"cargo test: {ran.stdout[-2000:]}{ran.stderr[-2000:]}")
+
+
+def test():
+    """All steps; gives the status."""
+    counts = score.Score()
+    edition = written()
+    packages.settle(FOLDER, False)
+    made = os.path.join(FOLDER, "target", PROFILE)
+    program = os.path.join(made, "edd")
+    counts.step("sources", sources, edition)
+    counts.step("cargo build", built)
+    counts.step("cargo test", tested)
+    counts.step("stored runs", runs.stored, edition, made)
+    counts.step("rows", runs.rows, program)
+    counts.step("the example in Rust", example.runs, FOLDER, program)
+    counts.step("hostile images", images.refused_alike, {"64 bits": program})
+    counts.step("the proved program", alike.same_bytes, program)
+    counts.step("fuzzing", fuzzing.some, FOLDER, PROFILE, AT_EACH_GATE)
+    counts.step("32 bits of Linux", elsewhere.i686, FOLDER, program)
+    counts.step("WebAssembly", elsewhere.wasm, program)
+    counts.step("without a system", bare.thumb)
+    return counts.end()
+
+
+def fuzz(words):
+    """Fuzzes with so many inputs, built for speed, and prints what is seen."""
+    written()
+    packages.settle(FOLDER, False)
+    return fuzzing.fuzz(FOLDER, "fast", words).returncode
