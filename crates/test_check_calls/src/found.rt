@@ -4,18 +4,14 @@ use edd_compiler::checked_of;
 use edd_lexer::lex;
 use edd_warnings::{Warning, warnings};
 use std::alloc::{AllocError, Global};
-use std::mem::forget;
 
 const HEAD: &str = "MANUFACTURER 1 DEVICE_TYPE 2 DEVICE_REVISION 3 DD_REVISION 4\n";
 
-// The warnings of a text; nothing of one that is refused. The tree is let go without its parts: how
-// they are dropped is proved where they are declared, and would be proved here again.
+// The warnings of a text; nothing of one that is refused.
 fn warnings_of(alloc: Global, text: &[u8]) -> Option<Vec<Warning>> {
     let tokens = lex(alloc, text).ok()?;
     let checked = checked_of(alloc, text).ok()?;
-    let found = warnings(alloc, text, &tokens, &checked);
-    forget(checked);
-    found.ok()
+    warnings(alloc, text, &tokens, &checked).ok()
 }
 
 fn word_of(word: &Option<String>) -> &str {

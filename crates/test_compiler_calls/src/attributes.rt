@@ -6,7 +6,6 @@ use edd_strings::{Table, split};
 use edd_syntax::checked::Checked;
 use edd_syntax::numbers::{ArrNo, Attr, AttrRef, CmdNo, CollNo, ItemNo, MenuNo, VarNo};
 use std::alloc::{AllocError, Global};
-use std::mem::forget;
 use std::test::Fail;
 
 const VARIABLE: ItemNo = ItemNo::Variable(VarNo(0));
@@ -53,9 +52,7 @@ fn first_other_of(alloc: Global, checked: &Checked, rows: &[Row]) -> Result<Opti
 // The first row that is not as a description of these items has it, over one table of strings.
 fn first_other(alloc: Global, items: &str, rows: &[Row]) -> Result<Option<usize>, Fail> {
     let checked = described(alloc, items)?;
-    let other = first_other_of(alloc, &checked, rows);
-    forget(checked);
-    other
+    first_other_of(alloc, &checked, rows)
 }
 
 const NUMBERED: &str = "VARIABLE v { TYPE INTEGER; HANDLING WRITE; VALIDITY FALSE; }

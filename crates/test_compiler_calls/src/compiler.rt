@@ -1,12 +1,10 @@
-//! The compiler's calls. Trees are let go without their parts: how they are dropped is proved where
-//! they are declared, and would be proved here again.
+//! The compiler's calls.
 
 use crate::descriptions::{described, text_of, wrong_of};
 use edd_compiler::unit_of;
 use edd_syntax::item::Identification;
 use edd_syntax::numbers::{AttrRef, Element};
 use std::alloc::{AllocError, Global};
-use std::mem::forget;
 use std::test::Fail;
 use test_images::reference_of;
 
@@ -25,11 +23,7 @@ fn summary(alloc: Global, i: Identification, count: usize) -> Result<String, All
 fn outcome(alloc: Global, items: &str) -> Result<String, AllocError> {
     let text = text_of(alloc, items)?;
     match unit_of(alloc, text.as_bytes()) {
-        Ok(unit) => {
-            let (identification, count) = (unit.identification, unit.items.len());
-            forget(unit);
-            summary(alloc, identification, count)
-        }
+        Ok(unit) => summary(alloc, unit.identification, unit.items.len()),
         Err(fault) => format!(in alloc; "{fault}"),
     }
 }
@@ -71,9 +65,8 @@ fn are_rows(rows: &[AttrRef], lines: &str) -> bool {
 
 fn has_rows(alloc: Global, items: &str, lines: &str) -> Result<bool, Fail> {
     let checked = described(alloc, items)?;
-    let rows = checked.rows(alloc);
-    forget(checked);
-    Ok(are_rows(&rows?, lines))
+    let rows = checked.rows(alloc)?;
+    Ok(are_rows(&rows, lines))
 }
 
 // Items, and the rows of their attributes: by kind, attribute, item and position.
@@ -156,9 +149,8 @@ fn has_elements(
     expected: &[(u16, u32, u16)],
 ) -> Result<bool, Fail> {
     let checked = described(alloc, items)?;
-    let (found, elements) = (checked.version(), checked.elements(alloc));
-    forget(checked);
-    Ok(found == version && are_elements(&elements?, expected))
+    let elements = checked.elements(alloc)?;
+    Ok(checked.version() == version && are_elements(&elements, expected))
 }
 
 #[test]

@@ -4,9 +4,7 @@ use crate::stop::Stop;
 use edd_compiler::checked_of;
 use edd_lexer::lex;
 use edd_strings::{Table, split};
-use edd_syntax::numbers::Element;
 use edd_syntax::words::{Variant, Words};
-use std::mem::forget;
 
 /// Where the tokens of a text are.
 pub fn print_tokens(rt: HostRuntime) -> Result<(), Stop> {
@@ -55,20 +53,11 @@ const ARRAYS: &str = "MANUFACTURER 1, DEVICE_TYPE 2, DEVICE_REVISION 3, DD_REVIS
     ARRAY OF VARIABLE a { ELEMENTS { 5, y; 1, x; } }
     ARRAY OF VARIABLE b { ELEMENTS { 0, y; } }";
 
-// The version and the elements of the description. It is let go without its parts: how they are
-// dropped is proved where they are declared, and would be proved here again.
-fn elements(rt: HostRuntime) -> Result<(u16, Vec<Element>), Stop> {
-    let checked = checked_of(rt.alloc(), ARRAYS.as_bytes())?;
-    let (version, elements) = (checked.version(), checked.elements(rt.alloc()));
-    forget(checked);
-    Ok((version, elements?))
-}
-
 /// The elements of a description, in the order of an image.
 pub fn print_elements(rt: HostRuntime) -> Result<(), Stop> {
-    let (version, elements) = elements(rt)?;
-    println!(rt; "version: {version}")?;
-    for element in &elements {
+    let checked = checked_of(rt.alloc(), ARRAYS.as_bytes())?;
+    println!(rt; "version: {}", checked.version())?;
+    for element in &checked.elements(rt.alloc())? {
         println!(rt;
             "element: {} of array {} is variable {}",
             element.number, element.array.0, element.var.0

@@ -1,4 +1,4 @@
-//! Texts whose trees were worked out by hand. Trees are let go without their parts, as in `texts`.
+//! Texts whose trees were worked out by hand.
 
 use crate::texts::{description, unit};
 use edd_syntax::cond::Cond;
@@ -8,7 +8,6 @@ use edd_syntax::reference::Path;
 use edd_syntax::stmt::{Part, Stmt};
 use edd_syntax::unit::Unit;
 use std::alloc::{AllocError, Global};
-use std::mem::forget;
 use std::test::Fail;
 
 // The attributes of the first item.
@@ -93,9 +92,7 @@ fn grouping(alloc: Global, first: &str, second: &str) -> Result<Option<bool>, Al
 
 fn grouping_in(alloc: Global, text: &str) -> Option<bool> {
     let read = unit(alloc, text)?;
-    let found = groups_left(&read);
-    forget(read);
-    found
+    groups_left(&read)
 }
 
 #[test]
@@ -120,11 +117,7 @@ fn is_inner_else(unit: &Unit) -> bool {
 
 fn has_inner_else(alloc: Global, text: &str) -> bool {
     match unit(alloc, text) {
-        Some(unit) => {
-            let found = is_inner_else(&unit);
-            forget(unit);
-            found
-        }
+        Some(unit) => is_inner_else(&unit),
         None => false,
     }
 }
@@ -185,10 +178,8 @@ fn list_of(alloc: Global, list: &str) -> Result<Option<(usize, usize, bool)>, Al
 
 fn list_in(alloc: Global, text: &str) -> Option<(usize, usize, bool)> {
     let read = unit(alloc, text)?;
-    let (found, is_last) = (entries(&read), is_last(&read, "c"));
-    forget(read);
-    let (count, behind) = found?;
-    Some((count, behind, is_last))
+    let (count, behind) = entries(&read)?;
+    Some((count, behind, is_last(&read, "c")))
 }
 
 #[test]
