@@ -3,9 +3,8 @@
 use edd_loader::LoadFault;
 use edd_machine::{ReadFault, SetFault, ValuesFault};
 use edd_port::{AnswerFault, PlayFault, StartFault};
-use std::alloc::{AllocError, Global};
-use std::fmt::Display;
 use std::test::Fail;
+use test_images::first_unprinted;
 
 const LOAD_FAULTS: [(LoadFault, &str); 12] = [
     (LoadFault::Short, "101 SHORT"),
@@ -62,29 +61,15 @@ const PLAY_FAULTS: [(PlayFault, &str); 5] = [
     (PlayFault::Memory, "no memory"),
 ];
 
-// The first text that is not printed for its fault; nothing where all are.
-fn first_other<T: Copy + Display>(
-    alloc: Global,
-    faults: &[(T, &'static str)],
-) -> Result<&'static str, AllocError> {
-    for (fault, want) in faults {
-        let text = format!(in alloc; "{fault}")?;
-        if text.as_str() != *want {
-            return Ok(want);
-        }
-    }
-    Ok("")
-}
-
 #[test]
 fn faults_print(rt: HostRuntime) -> Result<(), Fail> {
     let alloc = rt.alloc();
-    assert_eq!(rt; first_other(alloc, &LOAD_FAULTS)?, "");
-    assert_eq!(rt; first_other(alloc, &VALUES_FAULTS)?, "");
-    assert_eq!(rt; first_other(alloc, &READ_FAULTS)?, "");
-    assert_eq!(rt; first_other(alloc, &SET_FAULTS)?, "");
-    assert_eq!(rt; first_other(alloc, &START_FAULTS)?, "");
-    assert_eq!(rt; first_other(alloc, &ANSWER_FAULTS)?, "");
-    assert_eq!(rt; first_other(alloc, &PLAY_FAULTS)?, "");
+    assert_eq!(rt; first_unprinted(alloc, &LOAD_FAULTS)?, "");
+    assert_eq!(rt; first_unprinted(alloc, &VALUES_FAULTS)?, "");
+    assert_eq!(rt; first_unprinted(alloc, &READ_FAULTS)?, "");
+    assert_eq!(rt; first_unprinted(alloc, &SET_FAULTS)?, "");
+    assert_eq!(rt; first_unprinted(alloc, &START_FAULTS)?, "");
+    assert_eq!(rt; first_unprinted(alloc, &ANSWER_FAULTS)?, "");
+    assert_eq!(rt; first_unprinted(alloc, &PLAY_FAULTS)?, "");
     Ok(())
 }

@@ -3,6 +3,7 @@
 #![tactic(auto)]
 
 mod hosts;
+mod printing;
 mod session;
 mod small;
 mod steps;
@@ -11,6 +12,7 @@ mod words;
 mod worked;
 
 pub use hosts::{Device, Script};
+pub use printing::first_unprinted;
 pub use small::{INTEGER, Small, UNSIGNED, image_of, second_image_of};
 pub use steps::wrong_steps;
 pub use using::is_usable;

@@ -115,88 +115,63 @@ fn faults_have_their_place(rt: HostRuntime) -> Result<(), Fail> {
     Ok(())
 }
 
-// A number in so many pairs of parentheses as the least value of a variable.
-fn deep(alloc: Global, pairs: usize) -> Result<String, AllocError> {
-    let mut text = description(alloc, &["VARIABLE v { TYPE INTEGER { MIN_VALUE "])?;
-    for _ in 0..pairs {
-        text.push_str("(")?;
-    }
-    text.push_str("1")?;
-    for _ in 0..pairs {
-        text.push_str(")")?;
-    }
-    text.push_str("; } }")?;
-    Ok(text)
-}
+// What is around pieces that stand so many times: what comes first, the first piece, what is between,
+// the last piece, and the end.
+type Shape = [&'static str; 5];
 
-// A sum of so many numbers as a statement.
-fn long_sum(alloc: Global, count: usize) -> Result<String, AllocError> {
-    let mut text = description(alloc, &["METHOD m { DEFINITION { 1"])?;
-    for _ in 1..count {
-        text.push_str("\n+1")?;
-    }
-    text.push_str("; } }")?;
-    Ok(text)
-}
-
-// A declaration on two lines, in so many blocks.
-fn deep_declaration(alloc: Global, blocks: usize) -> Result<String, AllocError> {
-    let mut text = description(alloc, &["METHOD m { DEFINITION { "])?;
-    for _ in 0..blocks {
-        text.push_str("{ ")?;
-    }
-    text.push_str("int\nx;")?;
-    for _ in 0..blocks {
-        text.push_str(" }")?;
-    }
-    text.push_str(" } }")?;
-    Ok(text)
-}
-
-fn declaration_answers(alloc: Global, blocks: usize, expected: &str) -> Result<bool, AllocError> {
-    let text = deep_declaration(alloc, blocks)?;
-    answers(alloc, text.as_str(), expected)
-}
-
-fn deep_answers(alloc: Global, pairs: usize, expected: &str) -> Result<bool, AllocError> {
-    let text = deep(alloc, pairs)?;
-    answers(alloc, text.as_str(), expected)
-}
-
-fn sum_answers(alloc: Global, count: usize, expected: &str) -> Result<bool, AllocError> {
-    let text = long_sum(alloc, count)?;
-    answers(alloc, text.as_str(), expected)
-}
-
-const DEPTHS: [(usize, &str); 3] = [
-    (98, "1"),
-    (99, "11 TOO_DEEP line 2"),
-    (10_000, "11 TOO_DEEP line 2"),
+// A number in pairs of parentheses as the least value of a variable.
+const PARENTHESES: Shape = [
+    "VARIABLE v { TYPE INTEGER { MIN_VALUE ",
+    "(",
+    "1",
+    ")",
+    "; } }",
 ];
 
-// A sum of 99 numbers is 99 levels high, and its statement one more.
-const SUMS: [(usize, &str); 2] = [(99, "1"), (100, "11 TOO_DEEP line 101")];
+// A sum as a statement, of one number more than there are pieces.
+const SUM: Shape = ["METHOD m { DEFINITION { 1", "\n+1", "", "", "; } }"];
 
-// A declaration is one level below its block, and its declarators are one more.
-const DECLARATIONS: [(usize, &str); 3] = [
-    (98, "1"),
-    (99, "11 TOO_DEEP line 3"),
-    (100, "11 TOO_DEEP line 2"),
+// A declaration on two lines, in blocks.
+const BLOCKS: Shape = ["METHOD m { DEFINITION { ", "{ ", "int\nx;", " }", " } }"];
+
+fn shape_answers(
+    alloc: Global,
+    shape: Shape,
+    count: usize,
+    expected: &str,
+) -> Result<bool, AllocError> {
+    let [first, opening, between, closing, end] = shape;
+    let mut text = description(alloc, &[first])?;
+    for _ in 0..count {
+        text.push_str(opening)?;
+    }
+    text.push_str(between)?;
+    for _ in 0..count {
+        text.push_str(closing)?;
+    }
+    text.push_str(end)?;
+    answers(alloc, text.as_str(), expected)
+}
+
+// A sum of 99 numbers is 99 levels high, and its statement one more. A declaration is one level below
+// its block, and its declarators are one more.
+const HEIGHTS: [(Shape, usize, &str); 8] = [
+    (PARENTHESES, 98, "1"),
+    (PARENTHESES, 99, "11 TOO_DEEP line 2"),
+    (PARENTHESES, 10_000, "11 TOO_DEEP line 2"),
+    (SUM, 98, "1"),
+    (SUM, 99, "11 TOO_DEEP line 101"),
+    (BLOCKS, 98, "1"),
+    (BLOCKS, 99, "11 TOO_DEEP line 3"),
+    (BLOCKS, 100, "11 TOO_DEEP line 2"),
 ];
 
 #[test]
 fn trees_have_a_height(rt: HostRuntime) -> Result<(), Fail> {
-    let alloc = rt.alloc();
-    for (pairs, expected) in DEPTHS {
-        assert!(rt; deep_answers(alloc, pairs, expected)?, "{pairs} pairs");
-    }
-    for (count, expected) in SUMS {
-        assert!(rt; sum_answers(alloc, count, expected)?, "{count} numbers");
-    }
-    for (blocks, expected) in DECLARATIONS {
+    for (shape, count, expected) in HEIGHTS {
         assert!(rt;
-            declaration_answers(alloc, blocks, expected)?,
-            "{blocks} blocks"
+            shape_answers(rt.alloc(), shape, count, expected)?,
+            "{count} times {shape:?}"
         );
     }
     Ok(())

@@ -2,34 +2,23 @@
 
 use edd_strings::{StringFault, Table, choose, key, split};
 use edd_syntax::numbers::StrNo;
-use edd_syntax::words::{Variant, Words};
+use edd_syntax::words::Words;
 use std::alloc::{AllocError, Global};
 use std::test::Fail;
 
 // The variants as `code=text`, parted by `;`, and a key in brackets.
 fn written(alloc: Global, words: &Words) -> Result<String, AllocError> {
-    let mut text = String::new(alloc);
     match words {
-        Words::Key(key) => {
-            text.push_str("[")?;
-            text.push_str(key.name.as_str())?;
-            text.push_str("]")?;
-        }
+        Words::Key(key) => format!(in alloc; "[{}]", key.name),
         Words::Variants { first, rest } => {
-            write_variant(&mut text, first)?;
+            let mut text = format!(in alloc; "{}={}", first.code, first.text)?;
             for variant in rest {
-                text.push_str(";")?;
-                write_variant(&mut text, variant)?;
+                let more = format!(in alloc; ";{}={}", variant.code, variant.text)?;
+                text.push_str(more.as_str())?;
             }
+            Ok(text)
         }
     }
-    Ok(text)
-}
-
-fn write_variant(text: &mut String, variant: &Variant) -> Result<(), AllocError> {
-    text.push_str(variant.code.as_str())?;
-    text.push_str("=")?;
-    text.push_str(variant.text.as_str())
 }
 
 // A text, and its variants.

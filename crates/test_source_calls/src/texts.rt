@@ -29,11 +29,10 @@ fn answer(alloc: Global, text: &str) -> Result<String, AllocError> {
         Ok(tokens) => tokens,
         Err(fault) => return format!(in alloc; "{fault}"),
     };
-    let count = match parse(alloc, text.as_bytes(), &tokens) {
-        Ok(unit) => unit.items.len(),
-        Err(fault) => return format!(in alloc; "{fault}"),
-    };
-    format!(in alloc; "{count}")
+    match parse(alloc, text.as_bytes(), &tokens) {
+        Ok(unit) => format!(in alloc; "{}", unit.items.len()),
+        Err(fault) => format!(in alloc; "{fault}"),
+    }
 }
 
 /// Whether a text has this answer.
