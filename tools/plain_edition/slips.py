@@ -1,6 +1,7 @@
 """Slips that are planted in the eraser and in plain/, one at a time in a copy of the checkout, and what notices each."""
 import os
 import shutil
+import signal
 import subprocess
 import sys
 import tempfile
@@ -73,13 +74,16 @@ def planted(room, path, old, new):
 
 
 def noticed(room):
-    """The first step that fails, or nothing."""
-    ran = subprocess.run([sys.executable, "-c", STEPS], cwd=room, stdin=subprocess.DEVNULL, capture_output=True, text=True, check=False)
-    for line in ran.stdout.splitlines():
+    """The first step that fails, or nothing. The steps behind it are not run."""
+    ran = subprocess.Popen([sys.executable, "-c", STEPS], cwd=room, stdin=subprocess.DEVNULL, stdout=subprocess.PIPE,
+                           stderr=subprocess.PIPE, text=True, start_new_session=True)
+    for line in ran.stdout:
         step, _, counted = line.partition(": ")
         if " passed, " in counted and ", 0 failed" not in counted:
+            os.killpg(ran.pid, signal.SIGTERM)
+            ran.communicate()
             return step
-    return "the eraser stops" if "Stopped" in ran.stderr else ""
+    return "the eraser stops" if "Stopped" in ran.communicate()[1] else ""
 
 
 def plant():
