@@ -106,16 +106,16 @@ class Walk:
 
     def drop(self):
         """A drop whose arms are empty."""
-        if self.words[self.at] != "impl" or "Drop" not in self.words[self.at:self.at + 6]:
+        if self.words[self.at] != "impl":
             return 0
         body = self.words.index("{", self.at)
-        if self.words[body - 3] == "Drop" or "Drop for" in " ".join(self.words[self.at:body]):
-            end = self.past(body)
-            inner = " ".join(self.words[body:end])
-            if inner.startswith("{ fn drop ( self ) { match self {") and inner.endswith("=> { } } } }") and ";" not in inner:
-                return end
-            self.differs("a drop that does something")
-        return 0
+        if ("Drop", "for") not in zip(self.words[self.at:body], self.words[self.at + 1:body]):
+            return 0
+        end = self.past(body)
+        inner = " ".join(self.words[body:end])
+        if inner.startswith("{ fn drop ( self ) { match self {") and inner.endswith("=> { } } } }") and ";" not in inner:
+            return end
+        return self.differs("a drop that does something")
 
     def main(self):
         """The parameter of `main`, which is put in again as its first line."""
