@@ -5,7 +5,7 @@ does not know.
 """
 import re
 
-from .tokens import BLANK, FREE, TOKEN, Token, Unknown, code_of, text_of
+from .tokens import FREE, TOKEN, Token, Unknown
 
 CLAUSE = re.compile(r"(?:requires|ensures)\s+(?:\w+\s*)?(?=\{)")
 GHOST_USE = re.compile(r"ghost\s+use\s[^;]*;")
@@ -15,7 +15,6 @@ GHOST_END = re.compile(r"\s*[;,]")
 PROOF_ATTRIBUTE = re.compile(r"#!?\[(?:tactic|cycle)(?=\()")
 ATTRIBUTE = re.compile(r"#!?\[(\w+)")
 ATTRIBUTES = ("cfg", "derive", "error", "from", "source", "inline", "macro_export", "serde", "test")
-KEYWORDS = ("ghost", "requires", "ensures")
 # Braces inside of these would not count.
 NOT_IN_CLAUSES = re.compile(r'"|//|/\*|' + r"'[{}]'")
 
@@ -28,10 +27,16 @@ class Eraser:
         self.at, self.line, self.kept = 0, 1, []
 
     def run(self):
+        forms = {"#": self.attribute, "ghost": self.ghost, "requires": self.clause, "ensures": self.clause}
         while self.at < len(self.text):
-            if not (self.attribute() or self.ghost() or self.clause()):
-                self.keep()
+            found = TOKEN.match(self.text, self.at)
+            if not forms.get(found.group(), self.is_code)():
+                self.keep(found)
         return self.kept
+
+    def is_code(self):
+        """What begins with anything else is kept."""
+        return False
 
     def unknown(self, what):
         raise Unknown(self.line, f"{what}: {self.text[self.at:self.at + 60]!r}")
@@ -67,14 +72,8 @@ class Eraser:
             self.unknown("an attribute")
         return False
 
-    def is_word(self, words):
-        found = TOKEN.match(self.text, self.at)
-        return found.lastgroup == "word" and found.group() in words
-
     def ghost(self):
         """An import of definitions or a ghost member, with its `pub` and with what a comment above says of it."""
-        if not self.is_word(("ghost",)):
-            return False
         used = GHOST_USE.match(self.text, self.at)
         if used:
             return self.leave_out(used.end(), "imports of definitions")
@@ -89,15 +88,12 @@ class Eraser:
         return self.leave_out(last.end() if last else end, "ghost members")
 
     def clause(self):
-        if not self.is_word(KEYWORDS):
-            return False
         found = CLAUSE.match(self.text, self.at)
         if not found:
             self.unknown("a clause")
         return self.leave_out(self.past(found.end()), "clauses")
 
-    def keep(self):
-        found = TOKEN.match(self.text, self.at)
+    def keep(self, found):
         kind = "string" if found.lastgroup == "hashes" else found.lastgroup
         if kind not in FREE and not found.group().isascii():
             self.unknown("a letter in code")
@@ -157,6 +153,3 @@ def fit(made, tokens, at):
         made[-2] = blank._replace(text="")
     elif made[-3].text == "{" or it.text == "}":
         made[-2] = blank._replace(text="\n" + blank.text.rsplit("\n", 1)[1])
-
-
-__all__ = ["BLANK", "Eraser", "code_of", "text_of", "tidied"]

@@ -11,8 +11,8 @@ which they are proved. They are ordinary Rust: `cargo build --release -p edd` bu
 
     cargo add --path FOLDER/edd_loader
 
-makes a crate of it one of another program. What is proved are the sources, not these files: `PLAIN.md` says what is promised, what
-is trusted beside the proofs, and how the crates are used. `GENERATED_FROM` names the commit of the sources.
+makes a crate of it one of another program, as `examples/rust` shows. What is proved are the sources, not these files: `docs/PLAIN.md`
+says what is promised and what is trusted beside the proofs. `GENERATED_FROM` names the commit of the sources, and `docs/` is theirs.
 
 | Crate | What it is |
 |---|---|
@@ -43,6 +43,17 @@ def page(edition):
     return PAGE + "".join(rows)
 
 
+def pages_and_examples():
+    """The pages and the examples, of which the one in Rust is over the crates of the release."""
+    found = {}
+    for path in git("ls-files", "docs", "examples").splitlines():
+        with open(os.path.join(repository.TOP, path), encoding="utf-8") as file:
+            found[path] = file.read()
+    manifest = "examples/rust/Cargo.toml"
+    found[manifest] = found[manifest].replace('"edition/', '"../../')
+    return found
+
+
 def write(out):
     """Writes a new folder. Sources that are not committed can't be named, so they are refused."""
     if os.path.exists(out):
@@ -53,9 +64,7 @@ def write(out):
     edition = workspace.Edition()
     edition.files["README.md"] = page(edition)
     edition.files["GENERATED_FROM"] = git("rev-parse", "HEAD") + "\n"
-    for name in ("PLAIN.md", "EMBEDDING.md", "IMAGE.md", "LANGUAGE.md"):
-        with open(os.path.join(repository.TOP, "docs", name), encoding="utf-8") as file:
-            edition.files[name] = file.read()
+    edition.files.update(pages_and_examples())
     edition.write(out)
     lay_out(edition, out)
     lock(out)

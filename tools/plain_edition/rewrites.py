@@ -128,14 +128,15 @@ def version(code, at):
     code.counts["words of the version"] += 1
 
 
-FORMS = (derives, handles, formatters, drops, main, version)
+# By the word with which each begins.
+FORMS = {"#": [derives], "!": [handles], "fn": [formatters, main], "fmt": [formatters], "Drop": [drops], "const": [version]}
 
 
 def rewritten(tokens, counts):
     """The tokens with all these forms as Rust has them."""
     code = Code(tokens, counts)
-    for at in range(len(code.words)):
-        for form in FORMS:
+    for at, word in enumerate(code.words):
+        for form in FORMS.get(word, ()):
             form(code, at)
     return code.tokens
 

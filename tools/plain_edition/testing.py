@@ -3,7 +3,7 @@ import os
 import re
 
 from . import packages, repository, workspace
-from .trials import alike, bare, elsewhere, example, fuzzing, images, runs, score
+from .trials import alike, bare, elsewhere, example, fuzzing, images, refusals, runs, score
 
 FOLDER = os.path.join(repository.MADE, "edition")
 PROFILE = "checked"
@@ -57,18 +57,36 @@ def tested(counts):
         counts.check(False, f"cargo test: {ran.stdout[-2000:]}{ran.stderr[-2000:]}")
 
 
+def own_steps(counts, edition):
+    """The steps on this system; gives the program."""
+    made = os.path.join(FOLDER, "target", PROFILE)
+    program = os.path.join(made, "edd")
+    counts.step("the check of tokens", sources, edition)
+    counts.step("cargo build", built)
+    counts.step("cargo test", tested)
+    counts.step("stored runs", runs.stored, edition, made)
+    counts.step("rows", runs.rows, program)
+    counts.step("outputs that nobody reads", runs.closed_output, program)
+    counts.step("refused memory", refusals.of_program, program)
+    counts.step("refused memory in calls", refusals.of_calls, edition, made)
+    return program
+
+
+def quick():
+    """The steps on this system alone."""
+    counts = score.Score()
+    edition = written()
+    packages.settle(FOLDER, False)
+    own_steps(counts, edition)
+    return counts.end()
+
+
 def test():
     """All steps; gives the status."""
     counts = score.Score()
     edition = written()
     packages.settle(FOLDER, False)
-    made = os.path.join(FOLDER, "target", PROFILE)
-    program = os.path.join(made, "edd")
-    counts.step("sources", sources, edition)
-    counts.step("cargo build", built)
-    counts.step("cargo test", tested)
-    counts.step("stored runs", runs.stored, edition, made)
-    counts.step("rows", runs.rows, program)
+    program = own_steps(counts, edition)
     counts.step("the example in Rust", example.runs, FOLDER, program)
     counts.step("hostile images", images.refused_alike, {"64 bits": program})
     counts.step("the proved program", alike.same_bytes, program)

@@ -2,9 +2,9 @@
 import collections
 import os
 import re
-import shutil
 
 from . import erase, left_out, repository, rewrites
+from .tokens import text_of
 
 # Crates of the kit that stand in `plain/`, by the folder there; the macros of errors are in `derive`.
 OWN = {"indexmap": "indexmap", "clap": "clap", "serde_json": "serde_json", "strsim": "strsim", "thiserror": "derive"}
@@ -16,6 +16,8 @@ REAL = {
 # A crate that names one of these needs the system.
 SYSTEM = re.compile(r"\bHostRuntime\b|\bstd::(?:fs|env|os|path|process|rt)\b|\buse std::\{[^}]*\b(?:env|fs)\b")
 RUST = "1.88"
+# Names what was written into a folder.
+LIST = "WRITTEN_BY_TOOLS_PLAIN"
 
 LINTS = """[workspace.lints.rust]
 dead_code = "allow"
@@ -81,7 +83,7 @@ class Edition:
             kept = rewrites.rewritten(kept, self.counts)
         except erase.Unknown as unknown:
             raise Stopped(f"crates/{crate.name}/{path}:{unknown}") from None
-        return rewrites.with_head(erase.text_of(erase.tidied(kept)), is_root(path))
+        return rewrites.with_head(text_of(erase.tidied(kept)), is_root(path))
 
     def manifest(self, crate, is_system):
         """The file of cargo for a crate."""
@@ -131,27 +133,31 @@ class Edition:
         return gone, put, wrong
 
     def write(self, out):
-        """Writes what differs from what stands there, so that cargo builds no more than that, and removes other sources."""
-        os.makedirs(out, exist_ok=True)
-        for path, text in self.files.items():
+        """Writes what differs from what stands there, so that cargo builds no more than that, and removes what it wrote before
+        and does not write now. A folder with anything else in it is left alone."""
+        before = text_at(os.path.join(out, LIST))
+        if before is None and os.path.isdir(out) and os.listdir(out) and not out.startswith(repository.MADE + os.sep):
+            raise Stopped(f"{out} holds what tools/plain did not write")
+        for path in set((before or "").splitlines()) - set(self.files):
+            remove(out, path)
+        listed = "".join(f"{path}\n" for path in sorted(self.files))
+        for path, text in [(LIST, listed), *self.files.items()]:
             place = os.path.join(out, path)
             if text_at(place) != text:
                 os.makedirs(os.path.dirname(place), exist_ok=True)
                 with open(place, "w", encoding="utf-8") as file:
                     file.write(text)
-        self.remove_others(out)
 
-    def remove_others(self, out):
-        for folder, folders, names in os.walk(out):
-            folders[:] = [it for it in folders if folder != out or it not in ("target", ".cargo")]
-            for name in names:
-                path = os.path.relpath(os.path.join(folder, name), out)
-                if path.endswith((".rs", "Cargo.toml")) and path not in self.files:
-                    os.remove(os.path.join(folder, name))
-        for name in os.listdir(out):
-            manifest = os.path.join(out, name, "Cargo.toml")
-            if name.startswith("edd") and not os.path.exists(manifest):
-                shutil.rmtree(os.path.join(out, name))
+
+def remove(out, path):
+    """Removes a file, and the folders that are empty then."""
+    place = os.path.join(out, path)
+    if os.path.isfile(place):
+        os.remove(place)
+    folder = os.path.dirname(place)
+    while folder != out and os.path.isdir(folder) and not os.listdir(folder):
+        os.rmdir(folder)
+        folder = os.path.dirname(folder)
 
 
 def is_root(path):

@@ -3,6 +3,7 @@ pub mod ImageParts
 pub mod LoweredRows
 pub mod PlainRows
 pub mod RowCodes
+pub mod AcceptedTexts
 pub mod Refused
 pub mod TextUnits
 pub mod WrittenImages

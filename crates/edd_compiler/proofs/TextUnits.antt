@@ -11,7 +11,7 @@ use Rattle.edd_token_reader.specs.declared.fault.ParseFault.TheVariants as parse
 use Rattle.edd_parser.specs.TokenTexts.{tokens_in}
 use Rattle.edd_parser.specs.Views.{Says}
 use Rattle.edd_compiler.specs.Faults.{of_parse, Explains}
-use Rattle.edd_compiler.specs.Sources.{IsUnitOf}
+use Rattle.edd_compiler.specs.Sources.{HasNoUnit, IsUnitOf}
 
 same_tokens : (text : List ℕ) (tokens : List Token) → tokens_in text tokens
     ≡ map (λ l. l.token) (map (lexeme_of text) tokens)
@@ -32,6 +32,14 @@ module _ (text : List ℕ) (tokens read : List Token)
         spells,
   )
 
+  -- where they spell none, the text's don't
+  pub no_unit : ((unit : Description Path) → ¬ Spells (tokens_in text read) unit) → HasNoUnit text
+  no_unit none = (
+    map (lexeme_of text) tokens,
+    are,
+    λ unit spells. none unit (subst (λ ts. Spells ts unit) (sym tokens_read) spells),
+  )
+
   -- and there is no other, where the text has no other tokens
   pub is_spelled : ((lexemes : List Lexeme) → AreTokens text lexemes
       → lexemes ≡ map (lexeme_of text) tokens) → (unit : Description Path) → IsUnitOf text unit
@@ -41,7 +49,7 @@ module _ (text : List ℕ) (tokens read : List Token)
 
 -- what a refusal of the parser says of the text
 pub explained : (text : List ℕ) (e : ParseFault) (P : Type 0)
-    → (P → (unit : Description Path) → ¬ IsUnitOf text unit) → Says e P → Explains text (of_parse e)
+    → (P → HasNoUnit text) → Says e P → Explains text (of_parse e)
 explained text (parse.Syntax line) P none says = none says
 explained text (parse.TooDeep line) P none says = none says
 explained text (parse.Unsupported word) P none says = none says

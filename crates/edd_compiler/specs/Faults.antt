@@ -1,7 +1,5 @@
 -- What the refusals of a text say of it.
 use Rattle.std.specs.Prelude.{List, ℕ, IsSomeAnd, ⊤}
-use Rattle.edd_syntax.specs.Reference.{Path}
-use Rattle.edd_syntax.specs.Item.{Description}
 use Rattle.edd_syntax.specs.Refusal.{TooMany}
 use Rattle.edd_syntax.specs.declared.limits.Limit.TheVariants as limit
 use Rattle.edd_lexer.specs.declared.fault.LexFault.{LexFault}
@@ -20,7 +18,7 @@ use Rattle.edd_code.specs.declared.fault.LowerFault.{LowerFault}
 use Rattle.edd_code.specs.declared.fault.LowerFault.TheVariants as lower
 use Rattle.edd_compiler.specs.declared.fault.Fault.{Fault}
 use Rattle.edd_compiler.specs.declared.fault.Fault.TheVariants as fault
-use Rattle.edd_compiler.specs.Sources.{IsUnitOf, IsRefused}
+use Rattle.edd_compiler.specs.Sources.{HasNoUnit, IsRefused}
 
 -- out of memory is one fault, whoever met it
 abbrev pub of_lex : LexFault → Fault
@@ -74,13 +72,13 @@ IsOfLowering over (fault.Type e) = ⊥
 IsOfLowering over fault.TooManyStrings = over
 IsOfLowering over fault.Memory = ⊤
 
--- A lexical fault is the text's. A syntax fault comes only where its tokens spell no unit. A broken
--- rule is the first of a unit that it spells. Nothing is said of memory, lack of which is one
--- fault, whoever met it.
+-- A lexical fault is the text's. A syntax fault comes only where it has tokens, and they spell no
+-- unit. A broken rule is the first of a unit that it spells. Nothing is said of memory, lack of
+-- which is one fault, whoever met it.
 abbrev pub Explains : List ℕ → Fault → Type 0
 Explains text (fault.Lex e) = IsSomeAnd (fault_of e) (LexicalFault text)
 Explains text (fault.Parse parse.Memory) = ⊥
-Explains text (fault.Parse e) = (unit : Description Path) → ¬ IsUnitOf text unit
+Explains text (fault.Parse e) = HasNoUnit text
 Explains text (fault.Name e) = IsSomeAnd (refusal_of e) (IsRefused text)
 Explains text (fault.Type e) = IsSomeAnd (refusal_of_fault e) (IsRefused text)
 Explains text fault.TooManyStrings = IsRefused text (TooMany limit.Strings)

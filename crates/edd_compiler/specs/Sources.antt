@@ -14,6 +14,11 @@ abbrev pub IsUnitOf : List ℕ → Description Path → Type 0
 IsUnitOf text unit = (lexemes : List Lexeme) × AreTokens text lexemes
     × Spells (map (λ l. l.token) lexemes) unit
 
+-- it has tokens, and they spell no unit
+abbrev pub HasNoUnit : List ℕ → Type 0
+HasNoUnit text = (lexemes : List Lexeme) × AreTokens text lexemes
+    × ((unit : Description Path) → ¬ Spells (map (λ l. l.token) lexemes) unit)
+
 -- The text spells the unit that this description comes from, and no rule is broken, but perhaps the
 -- one on the number of strings.
 abbrev pub IsDescriptionOf : List ℕ → Description Target → Type 0

@@ -2,6 +2,9 @@
 
 ghost use Rattle.std.specs.Prelude.{◌≡◌, ◌≤◌, ◌∷◌, [], IfErr, IfOk, OnOk, length, map};
 ghost use Rattle.edd_syntax.specs.declared.limits.Limit.TheVariants as limit;
+ghost use Rattle.edd_syntax.specs.Reference.{Path};
+ghost use Rattle.edd_syntax.specs.Item.{Description};
+ghost use Rattle.edd_syntax.specs.Accepted.{IsAccepted};
 ghost use Rattle.edd_syntax.specs.Refusal.{TooMany};
 ghost use Rattle.edd_syntax.specs.WordsView.{string_of};
 ghost use Rattle.edd_syntax.specs.Strings.{too_many_strings};
@@ -15,6 +18,7 @@ ghost use Rattle.edd_compiler.specs.declared.fault.Fault.TheVariants.{Memory};
 ghost use Rattle.edd_compiler.specs.Faults.{IsOfLowering, Explains};
 ghost use Rattle.edd_compiler.specs.Images.{IsImageOf};
 ghost use Rattle.edd_compiler.specs.Lowering.{HasLowered};
+ghost use Rattle.edd_compiler.specs.Sources.{IsUnitOf};
 
 use crate::fault::Fault;
 use crate::lowering::{Lowering, lower_rows};
@@ -23,8 +27,10 @@ use edd_assembly::{
     assemble, code_is_short, different_strings_count, method_code_is_body_code, methods_agree,
     sections_agree, sections_are_sound, strings_stand_in_rows,
 };
+use edd_grammar::laws::one_tree;
 use edd_image::{WriteFault, fields_are_parts, write};
 use edd_instructions::sound_parts_are_valid;
+use edd_lexer::laws::one_reading;
 use edd_syntax::checked::Checked;
 use std::alloc::Global;
 
@@ -75,11 +81,16 @@ fn lower(alloc: Global, checked: &Checked) -> Result<Lowering, Fault>
 
 /// The bytes of the image of a text: a valid image, which says and does what the description says
 /// and does that the text stands for. A text that has no image is refused with its lexical fault, a
-/// syntax fault, or the first rule that it breaks; any text may be refused where memory is.
+/// syntax fault, or the first rule that it breaks; any text may be refused where memory is, and one
+/// that spells an accepted unit for nothing else.
 pub fn compile(alloc: Global, text: &[u8]) -> Result<Vec<u8>, Fault>
     ensures sound { IfOk result (λ bytes. IsImageOf text.now bytes.items) }
     ensures refused { IfErr result (Explains text.now) }
+    ensures complete { (unit : Description Path) → IsUnitOf text.now unit → IsAccepted unit
+        → IfErr result (λ e. e ≡ Memory) }
 {
+    one_reading();
+    one_tree();
     let checked = checked_of(alloc, text)?;
     let lowering = lower(alloc, &checked)?;
     write_image(alloc, &checked, &lowering)

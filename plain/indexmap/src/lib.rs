@@ -1,172 +1,217 @@
-//! `indexmap` on an allocator, over the crate itself.
+//! Maps and sets in the order of insertion, as the sources of `edd` call the crate `indexmap`. Memory
+//! may be refused at each growth, which that crate itself does not offer.
 #![no_std]
-use core::hash::{BuildHasherDefault, Hash, Hasher};
-use indexmap::Equivalent;
-use std::alloc::{AllocError, AllocFailed, Global};
-/// A hash with a fixed seed (FNV-1a).
-pub struct Fixed(u64);
-impl Default for Fixed {
-    fn default() -> Fixed {
-        Fixed(0xcbf29ce484222325)
-    }
+
+mod slots;
+
+use core::borrow::Borrow;
+use core::hash::Hash;
+use slots::Slots;
+use std::alloc::{AllocFailed, Global};
+use std::vec::Vec;
+
+/// Values by their keys.
+pub struct IndexMap<K, V> {
+    entries: Vec<(K, V)>,
+    slots: Slots,
 }
-impl Hasher for Fixed {
-    fn write(&mut self, bytes: &[u8]) {
-        for b in bytes {
-            self.0 = (self.0 ^ u64::from(*b)).wrapping_mul(0x100000001b3);
-        }
-    }
-    fn finish(&self) -> u64 {
-        self.0
-    }
-}
-type Build = BuildHasherDefault<Fixed>;
-pub struct IndexMap<K, V>(indexmap::IndexMap<K, V, Build>);
+
 impl<K: Eq + Hash, V> IndexMap<K, V> {
-    pub fn new(_: Global) -> Self {
-        IndexMap(indexmap::IndexMap::with_hasher(Build::default()))
+    pub fn new(alloc: Global) -> Self {
+        IndexMap {
+            entries: Vec::new(alloc),
+            slots: Slots::new(alloc),
+        }
     }
+
     pub fn len(&self) -> usize {
-        self.0.len()
+        self.entries.len()
     }
+
     pub fn is_empty(&self) -> bool {
-        self.0.is_empty()
+        self.entries.is_empty()
     }
-    pub fn get<Q: ?Sized + Hash + Equivalent<K>>(&self, k: &Q) -> Option<&V> {
-        self.0.get(k)
+
+    pub fn get_index_of<Q: ?Sized + Hash + Eq>(&self, key: &Q) -> Option<usize>
+    where
+        K: Borrow<Q>,
+    {
+        self.slots
+            .find(key, |place| self.entries[place].0.borrow() == key)
     }
-    pub fn get_mut<Q: ?Sized + Hash + Equivalent<K>>(&mut self, k: &Q) -> Option<&mut V> {
-        self.0.get_mut(k)
+
+    pub fn get<Q: ?Sized + Hash + Eq>(&self, key: &Q) -> Option<&V>
+    where
+        K: Borrow<Q>,
+    {
+        self.get_index_of(key).map(|place| &self.entries[place].1)
     }
-    pub fn get_index_of<Q: ?Sized + Hash + Equivalent<K>>(&self, k: &Q) -> Option<usize> {
-        self.0.get_index_of(k)
+
+    pub fn get_mut<Q: ?Sized + Hash + Eq>(&mut self, key: &Q) -> Option<&mut V>
+    where
+        K: Borrow<Q>,
+    {
+        self.get_index_of(key)
+            .map(|place| &mut self.entries[place].1)
     }
-    pub fn contains_key<Q: ?Sized + Hash + Equivalent<K>>(&self, k: &Q) -> bool {
-        self.0.contains_key(k)
+
+    pub fn contains_key<Q: ?Sized + Hash + Eq>(&self, key: &Q) -> bool
+    where
+        K: Borrow<Q>,
+    {
+        self.get_index_of(key).is_some()
     }
-    pub fn insert(&mut self, k: K, v: V) -> Result<Option<V>, AllocFailed<(K, V)>> {
-        Ok(self.0.insert(k, v))
+
+    /// The value that the key had before, if any. A new key comes last.
+    pub fn insert(&mut self, key: K, value: V) -> Result<Option<V>, AllocFailed<(K, V)>> {
+        if let Some(old) = self.get_mut(&key) {
+            return Ok(Some(core::mem::replace(old, value)));
+        }
+        let place = self.entries.len();
+        if self.entries.reserve(1).is_err()
+            || self
+                .slots
+                .make_room(self.entries.iter().map(|it| &it.0))
+                .is_err()
+        {
+            return Err(AllocFailed {
+                value: (key, value),
+            });
+        }
+        self.slots.note(&key, place);
+        self.entries.push((key, value))?;
+        Ok(None)
     }
-    pub fn insert_full(&mut self, k: K, v: V) -> Result<(usize, Option<V>), AllocFailed<(K, V)>> {
-        Ok(self.0.insert_full(k, v))
+
+    pub fn get_index(&self, place: usize) -> Option<(&K, &V)> {
+        self.entries.get(place).map(|(key, value)| (key, value))
     }
-    pub fn entry(&mut self, k: K) -> Result<indexmap::map::Entry<'_, K, V>, AllocFailed<K>> {
-        Ok(self.0.entry(k))
+
+    pub fn iter(&self) -> impl ExactSizeIterator<Item = (&K, &V)> {
+        self.entries.iter().map(|(key, value)| (key, value))
     }
-    pub fn get_index(&self, i: usize) -> Option<(&K, &V)> {
-        self.0.get_index(i)
+
+    pub fn keys(&self) -> impl ExactSizeIterator<Item = &K> {
+        self.entries.iter().map(|(key, _)| key)
     }
-    pub fn truncate(&mut self, n: usize) {
-        self.0.truncate(n)
-    }
-    pub fn pop(&mut self) -> Option<(K, V)> {
-        self.0.pop()
-    }
-    pub fn iter(&self) -> indexmap::map::Iter<'_, K, V> {
-        self.0.iter()
-    }
-    pub fn keys(&self) -> indexmap::map::Keys<'_, K, V> {
-        self.0.keys()
-    }
-    pub fn values(&self) -> indexmap::map::Values<'_, K, V> {
-        self.0.values()
-    }
-    pub fn reserve(&mut self, n: usize) -> Result<(), AllocError> {
-        self.0.reserve(n);
-        Ok(())
+
+    pub fn values(&self) -> impl ExactSizeIterator<Item = &V> {
+        self.entries.iter().map(|(_, value)| value)
     }
 }
-impl<'a, K, V> IntoIterator for &'a IndexMap<K, V> {
-    type Item = (&'a K, &'a V);
-    type IntoIter = indexmap::map::Iter<'a, K, V>;
-    fn into_iter(self) -> Self::IntoIter {
-        self.0.iter()
-    }
-}
-/// A set with its elements as a slice, which the crate itself doesn't give.
+
+/// Elements, each once.
 pub struct IndexSet<K> {
-    items: std::vec::Vec<K>,
-    slots: std::vec::Vec<u32>,
+    elements: Vec<K>,
+    slots: Slots,
 }
-const FREE: u32 = u32::MAX;
-fn hash_of<Q: Hash + ?Sized>(k: &Q) -> usize {
-    let mut h = Fixed::default();
-    k.hash(&mut h);
-    (h.finish() ^ (h.finish() >> 32)) as usize
-}
+
 impl<K: Eq + Hash> IndexSet<K> {
-    pub fn new(g: Global) -> Self {
+    pub fn new(alloc: Global) -> Self {
         IndexSet {
-            items: std::vec::Vec::new(g),
-            slots: std::vec::Vec::new(g),
+            elements: Vec::new(alloc),
+            slots: Slots::new(alloc),
         }
     }
+
     pub fn len(&self) -> usize {
-        self.items.len()
+        self.elements.len()
     }
+
+    pub fn is_empty(&self) -> bool {
+        self.elements.is_empty()
+    }
+
     pub fn as_slice(&self) -> &[K] {
-        self.items.as_slice()
+        self.elements.as_slice()
     }
+
     pub fn iter(&self) -> core::slice::Iter<'_, K> {
-        self.items.iter()
+        self.elements.iter()
     }
-    pub fn get_index(&self, i: usize) -> Option<&K> {
-        self.items.get(i)
+
+    pub fn get_index(&self, place: usize) -> Option<&K> {
+        self.elements.get(place)
     }
-    pub fn contains(&self, k: &K) -> bool {
-        self.get_index_of(k).is_some()
+
+    pub fn get_index_of(&self, element: &K) -> Option<usize> {
+        self.slots
+            .find(element, |place| self.elements[place] == *element)
     }
-    // The slot of an equal element, or a free one.
-    fn slot(&self, k: &K) -> usize {
-        let mask = self.slots.len() - 1;
-        let mut at = hash_of(k) & mask;
-        while self.slots[at] != FREE && self.items[self.slots[at] as usize] != *k {
-            at = (at + 1) & mask;
+
+    pub fn contains(&self, element: &K) -> bool {
+        self.get_index_of(element).is_some()
+    }
+
+    /// The element's place, and whether it is new. A new one comes last.
+    pub fn insert_full(&mut self, element: K) -> Result<(usize, bool), AllocFailed<K>> {
+        if let Some(place) = self.get_index_of(&element) {
+            return Ok((place, false));
         }
-        at
-    }
-    pub fn get_index_of(&self, k: &K) -> Option<usize> {
-        if self.slots.is_empty() {
-            return None;
+        let place = self.elements.len();
+        if self.elements.reserve(1).is_err() || self.slots.make_room(self.elements.iter()).is_err()
+        {
+            return Err(AllocFailed { value: element });
         }
-        Some(self.slots[self.slot(k)])
-            .filter(|i| *i != FREE)
-            .map(|i| i as usize)
+        self.slots.note(&element, place);
+        self.elements.push(element)?;
+        Ok((place, true))
     }
-    fn laid_out(&mut self, size: usize) -> Result<(), AllocError> {
-        let mut slots = std::vec::Vec::from_elem(Global, FREE, size)?;
-        for (i, k) in self.items.iter().enumerate() {
-            let mut at = hash_of(k) & (size - 1);
-            while slots[at] != FREE {
-                at = (at + 1) & (size - 1);
-            }
-            slots[at] = i as u32;
-        }
-        self.slots = slots;
-        Ok(())
-    }
-    pub fn insert_full(&mut self, k: K) -> Result<(usize, bool), AllocFailed<K>> {
-        if (self.items.len() + 1) * 2 > self.slots.len() {
-            let size = (self.slots.len() * 2).max(16);
-            if self.laid_out(size).is_err() {
-                return Err(AllocFailed { value: k });
-            }
-        }
-        let at = self.slot(&k);
-        if self.slots[at] != FREE {
-            return Ok((self.slots[at] as usize, false));
-        }
-        let number = self.items.len();
-        self.items.push(k)?;
-        self.slots[at] = number as u32;
-        Ok((number, true))
-    }
-    pub fn truncate(&mut self, n: usize) {
-        self.items.truncate(n);
-        self.slots.as_mut_slice().fill(FREE);
-        for i in 0..self.items.len() {
-            let at = self.slot(&self.items[i]);
-            self.slots[at] = i as u32;
+
+    /// Keeps the first elements.
+    pub fn truncate(&mut self, count: usize) {
+        if count < self.elements.len() {
+            self.elements.truncate(count);
+            self.slots.lay_out(self.elements.iter());
         }
     }
+}
+
+#[cfg(test)]
+mod tests {
+    use super::{IndexMap, IndexSet};
+    use std::alloc::Global;
+    use std::rt::HostRuntime;
+
+    #[std::test]
+    fn finds_what_was_put_in(_rt: HostRuntime) {
+        let mut map = IndexMap::new(Global);
+        for number in 0..5000_u32 {
+            let key = number.wrapping_mul(2_654_435_761);
+            assert!(matches!(map.insert(key, number), Ok(None)));
+            assert!(matches!(map.insert(key, number + 1), Ok(Some(old)) if old == number));
+        }
+        for number in 0..5000_u32 {
+            assert_eq!(
+                map.get(&number.wrapping_mul(2_654_435_761)),
+                Some(&(number + 1))
+            );
+            assert_eq!(
+                map.get_index(number as usize).map(|it| *it.1),
+                Some(number + 1)
+            );
+        }
+        assert_eq!(map.get(&1), None);
+        assert_eq!(map.len(), 5000);
+    }
+
+    #[std::test]
+    fn keeps_the_first_elements(_rt: HostRuntime) {
+        let mut set = IndexSet::new(Global);
+        for number in 0..100_u32 {
+            assert!(
+                matches!(set.insert_full(number), Ok((place, true)) if place == number as usize)
+            );
+        }
+        set.truncate(40);
+        assert_eq!(
+            set.as_slice(),
+            (0..40).collect::<heap::vec::Vec<u32>>().as_slice()
+        );
+        assert!(set.contains(&39) && !set.contains(&40));
+        assert!(matches!(set.insert_full(40), Ok((40, true))));
+        assert!(matches!(set.insert_full(3), Ok((3, false))));
+    }
+
+    extern crate alloc as heap;
 }

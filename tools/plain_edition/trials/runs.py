@@ -5,7 +5,7 @@ import shutil
 import subprocess
 import tempfile
 
-from . import table
+from . import images, table
 
 # A row that needs a file without an end names it so.
 ENDLESS = "endless"
@@ -34,7 +34,7 @@ def kept(crate, name):
 
 def run_stored(crate, program, change):
     """The status and the output of a program on what is stored, its table of rows changed."""
-    with tempfile.TemporaryDirectory() as room:
+    with tempfile.TemporaryDirectory() as room, tempfile.TemporaryDirectory() as place:
         if os.path.isdir(os.path.join(crate.folder, "data")):
             shutil.copytree(os.path.join(crate.folder, "data"), room, dirs_exist_ok=True)
         for name in table.parts(crate):
@@ -44,6 +44,9 @@ def run_stored(crate, program, change):
                 file.truncate()
                 file.write(text)
         words = kept(crate, "args").decode().splitlines()
+        # Whoever runs it may reach no folder of the checkout.
+        program = shutil.copy(program, place)
+        os.chmod(place, 0o755)
         ran = subprocess.run([program, *words], cwd=room, input=change(kept(crate, "stdin")), capture_output=True, timeout=300,
                              check=False, **as_user(room))
         return ran.returncode, ran.stdout
@@ -110,3 +113,10 @@ def run_row(row, program):
             with open(os.path.join(room, row.words[-1]), "rb") as file:
                 image = file.read()
         return ran.returncode, ran.stdout, image
+
+
+def closed_output(score, program):
+    """A command whose output is a pipe that nobody reads ends with status 3, as tools/closed_output has it."""
+    tried = images.tool("closed_output")
+    tried.COMMAND = [program]
+    score.check(tried.main() == 0, "a command whose output nobody reads does not end with status 3")

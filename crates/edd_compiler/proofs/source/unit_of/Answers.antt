@@ -1,7 +1,7 @@
 use Rattle.std.proofs.Common.{ap}
 use Rattle.std.proofs.lemmas.Result.{err_from_is_err_and}
 use Rattle.edd_compiler.specs.Faults.{of_parse}
-use Rattle.edd_compiler.proofs.TextUnits.{is_unit, is_spelled, explained}
+use Rattle.edd_compiler.proofs.TextUnits.{is_unit, is_spelled, no_unit, explained}
 use Rattle.edd_compiler.proofs.source.unit_of.Goals as goal
 
 pub returns-clause-sound : goal.returns-clause-sound
@@ -19,9 +19,8 @@ returns-in_err-parse-clause-refused c =
     let p = err_from_is_err_and c.from_residual-in_err-parse.result
     c.from_residual-in_err-parse.ensures.1 in rw (p.1, p.2)
     (explained c.args.text.now c.in_err-parse.field-0.0 _
-    (λ none unit of. none unit (is_spelled c.args.text.now c.in_ok-tokens.tokens.items
-    c.deref.result.now c.in_ok-tokens.ensures.sound c.deref.ensures.value
-    c.in_ok-tokens.ensures.complete unit of))
+    (no_unit c.args.text.now c.in_ok-tokens.tokens.items c.deref.result.now
+    c.in_ok-tokens.ensures.sound c.deref.ensures.value)
     c.in_err-parse.ensures.refused)
 
 pub returns-in_err-parse-clause-complete : goal.returns-in_err-parse-clause-complete

@@ -1,0 +1,94 @@
+"""Memory that is refused: behind the command line each refused request ends the program with status 4."""
+import os
+import subprocess
+import tempfile
+
+from .. import packages, repository
+
+MEMORY = 4
+# Of the requests of a program one in so many is refused, from another one on for each program.
+APART = 3
+# So many requests at most come before `main`.
+FIRST = 16
+MISSING = "there is no such file"
+
+
+def library(room):
+    """The library that refuses the requests from one on."""
+    made = os.path.join(room, "refuse.so")
+    source = os.path.join(repository.TOP, "tools", "refuse.c")
+    ran = subprocess.run(["cc", "-O1", "-shared", "-fPIC", "-nostdlib", "-o", made, source], capture_output=True, text=True, check=False)
+    if ran.returncode:
+        raise packages.Missing(f"cc could not build tools/refuse.c: {ran.stderr[-1000:]}")
+    return made
+
+
+class Refused:
+    """Runs of programs whose requests for memory are refused from one on."""
+
+    def __init__(self, room):
+        self.room, self.library = room, library(room)
+
+    def run(self, words, number):
+        """The status, the lines, and whether a request was refused."""
+        environment = {**os.environ, "REFUSE": str(number), "LD_PRELOAD": self.library}
+        ran = subprocess.run(words, cwd=self.room, env=environment, stdin=subprocess.DEVNULL, capture_output=True, check=False)
+        return ran.returncode, ran.stdout, b"refused\n" in ran.stderr
+
+    def requests(self, words):
+        """How many requests a run makes: the most that is refused."""
+        least, most = 0, 1
+        while self.run(words, most)[2]:
+            least, most = most, 2 * most
+        while most - least > 1:
+            middle = (least + most) // 2
+            least, most = (middle, most) if self.run(words, middle)[2] else (least, middle)
+        return least
+
+
+def commands(examples):
+    """Command lines, and which of their words are files that are read."""
+    source, script = os.path.join(examples, "valve_positioner.edd"), os.path.join(examples, "valve_positioner.ends.script")
+    yield from ((["compile", source, "made"], (1,)), (["view", source, script], (1, 2)), (["check", source], (1,)))
+    yield from ((["check", "wrong"], (1,)), (["check", "wrong", "--format", "json"], (1,)), (["show", "image"], (1,)))
+    yield from ((["dump", "image"], (1,)), (["play", "image", "calibrate", script], (1, 3)), (["try", source, "calibrate", script], (1, 3)))
+
+
+def of_program(score, program):
+    """The program on some command lines. What comes before its files are read is seen where there are none."""
+    aborted = behind = 0
+    with tempfile.TemporaryDirectory() as room:
+        refused = Refused(room)
+        source = os.path.join(repository.TOP, "examples", "valve_positioner.edd")
+        subprocess.run([program, "compile", source, "image"], cwd=room, stdout=subprocess.DEVNULL, check=True)
+        with open(source, encoding="utf-8") as file, open(os.path.join(room, "wrong"), "w", encoding="utf-8") as wrong:
+            wrong.write(file.read().replace("LABEL", "LABLE", 2))
+        for words, files in commands(os.path.join(repository.TOP, "examples")):
+            before = refused.requests([program, *[MISSING if at in files else word for at, word in enumerate(words)]])
+            every = refused.requests([program, *words])
+            for number in range(1 + len(words[0]) % APART, every + 1, APART):
+                status, lines, _ = refused.run([program, *words], number)
+                is_answered = status == MEMORY and lines.endswith(b"no memory\n")
+                aborted += not is_answered
+                behind += number > before
+                if number > before or status >= 0:
+                    score.check(is_answered, f"{' '.join(words)}: request {number} of {every}: status {status}")
+    return f"{behind} requests behind the command line were refused; in front of it {aborted} of the others ended the program"
+
+
+def of_calls(score, edition, folder):
+    """The calls that take memory, one after the other: the lines of before the refusal, and `no memory`."""
+    program = os.path.join(folder, next(it.name for it in edition.crates if it.is_program and it.name.endswith("growths")))
+    with tempfile.TemporaryDirectory() as room:
+        refused = Refused(room)
+        whole = refused.run([program], 0)[1].splitlines(keepends=True)
+        starts = {b"".join(whole[:count]) + b"no memory\n" for count in range(len(whole))}
+        every, ended = refused.requests([program]), 0
+        for number in range(1, every + 1, APART):
+            status, lines, _ = refused.run([program], number)
+            # Rust takes some memory before the program begins.
+            if status < 0 and not lines and number <= FIRST:
+                ended += 1
+                continue
+            score.check(status == MEMORY and lines in starts, f"calls: request {number} of {every}: status {status}")
+    return f"one in {APART} of {every} requests, {ended} before the first call"
