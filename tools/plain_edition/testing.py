@@ -1,6 +1,7 @@
 """Tests the plain edition: its sources, its programs, and what they say against the proved program and on 32 bits."""
 import os
 import re
+import shutil
 
 from . import packages, repository, workspace
 from .trials import alike, bare, elsewhere, example, fuzzing, images, refusals, runs, score
@@ -23,6 +24,8 @@ def set_up():
     """Installs what the tests need, as root on Debian, and says what it is."""
     written()
     lacking = packages.lacking(packages.SYSTEMS)
+    if not shutil.which("node"):
+        lacking.append("nodejs")
     if lacking and not packages.can_install():
         raise packages.Missing("the tests on other systems need Debian's packages: " + packages.apt_get(lacking))
     if lacking:
@@ -97,8 +100,9 @@ def test():
     return counts.end()
 
 
-def fuzz(words):
+def fuzz(words, is_on_32_bits):
     """Fuzzes with so many inputs, built for speed, and prints what is seen."""
     written()
     packages.settle(FOLDER, False)
-    return fuzzing.fuzz(FOLDER, "fast", words).returncode
+    build = fuzzing.built_for_32_bits if is_on_32_bits else fuzzing.built
+    return fuzzing.fuzz(build(FOLDER, "fast"), words).returncode

@@ -4,7 +4,7 @@ import os
 import shutil
 import subprocess
 
-from .. import packages, repository
+from .. import packages, repository, systems
 from . import elsewhere, table
 
 PACKAGE = "edd_plain_fuzz"
@@ -35,9 +35,13 @@ def built(folder, profile):
     return os.path.join(folder, "target", profile, PACKAGE)
 
 
-def fuzz(folder, profile, numbers, output=None):
+def built_for_32_bits(folder, profile):
+    return os.path.join(systems.build(folder, elsewhere.I686, systems.WHOLE, profile, ["--package", PACKAGE]), PACKAGE)
+
+
+def fuzz(program, numbers, output=None):
     """Runs so many inputs, by a seed and from a case on where they are given; the finished process."""
-    program, room = built(folder, profile), os.path.join(repository.MADE, "inputs")
+    room = os.path.join(repository.MADE, "inputs")
     inputs(room)
     words = [program, room, *map(str, numbers)]
     return subprocess.run(words, stdin=subprocess.DEVNULL, stdout=output, stderr=subprocess.DEVNULL, text=True, check=False)
@@ -45,7 +49,7 @@ def fuzz(folder, profile, numbers, output=None):
 
 def some(score, folder, profile, count):
     """A few inputs at each gate."""
-    ran = fuzz(folder, profile, [count], subprocess.PIPE)
+    ran = fuzz(built(folder, profile), [count], subprocess.PIPE)
     lines = ran.stdout.splitlines()
     for line in lines:
         if line.startswith("WRONG"):
