@@ -24,20 +24,20 @@ nothing_first why e = cc
 
 module _ (text : List ℕ) (unit : Description Path)
     (one_list : (some others : List Lexeme) → AreTokens text some → AreTokens text others
-        → some ≡ others)
+    → some ≡ others)
     (not_both : (some : List Lexeme) (why : lexical.Fault) → AreTokens text some
-        → ¬ LexicalFault text why)
+    → ¬ LexicalFault text why)
     (one_tree : (here : List tokens.Token) (a b : Description Path) → Spells here a
-        → Spells here b → a ≡ b)
+    → Spells here b → a ≡ b)
     (of : IsUnitOf text unit) (accepted : IsAccepted unit) where
   -- it is refused by no rule
   no_rule : (why : Refusal) → ¬ IsRefused text why
   no_rule why refused =
-    let same_tokens = one_list refused.1.0 of.0 refused.1.1 of.1 in
-    let spells = subst (λ ls. Spells (map (λ l. l.token) ls) refused.0) same_tokens refused.1.2 in
-    let same = one_tree (map (λ l. l.token) of.0) refused.0 unit spells of.2 in
-    nothing_first why (sym (ap first_of accepted.no_breach)
-        ∙ (sym (ap refusal same) ∙ refused.2))
+      let same_tokens = one_list refused.1.0 of.0 refused.1.1 of.1 in
+      let spells = subst (λ ls. Spells (map (λ l. l.token) ls) refused.0) same_tokens refused.1.2 in
+      let same = one_tree (map (λ l. l.token) of.0) refused.0 unit spells of.2 in
+      nothing_first why (sym (ap first_of accepted.no_breach)
+      ∙ (sym (ap refusal same) ∙ refused.2))
 
   none_of : (found : Option Refusal) → ¬ IsSomeAnd found (IsRefused text)
   none_of (Some why) is = no_rule why is
@@ -49,8 +49,8 @@ module _ (text : List ℕ) (unit : Description Path)
 
   some_unit : ¬ HasNoUnit text
   some_unit none =
-    let same = one_list of.0 none.0 of.1 none.1 in
-    none.2 unit (subst (λ ls. Spells (map (λ l. l.token) ls) unit) same of.2)
+      let same = one_list of.0 none.0 of.1 none.1 in
+      none.2 unit (subst (λ ls. Spells (map (λ l. l.token) ls) unit) same of.2)
 
   pub memory_alone : (e : Fault) → Explains text e → e ≡ fault.Memory
   memory_alone (fault.Lex e) is = absurd (no_fault (fault_of e) is)
