@@ -5,6 +5,7 @@ import subprocess
 import sys
 
 from plain_edition import packages, repository, workspace
+from plain_edition.trials import table
 
 TOP = repository.TOP
 ROOM = os.path.join(repository.MADE, "quick")
@@ -43,44 +44,52 @@ def printed(cargo, given, said):
     return subprocess.run([program], input=given, stdout=subprocess.PIPE, stderr=subprocess.STDOUT, text=True, errors="replace", check=False).stdout
 
 
-def table():
-    """The rows, each with its command line and its name in front of its whole text."""
-    folder, texts = os.path.join(TOP, "crates", ROWS, "data", "rows"), []
+def rows(words, said):
+    """Runs the rows that have all the words, each once: a row that is wrong with what it wants and what was printed."""
+    found = [row for row in table.rows() if all(word.encode() in row.text for word in words)]
+    if not found:
+        said.line(False, f"no row of crates/{ROWS}/data/rows has the words {' '.join(words)}")
+        return
+    cargo = settled([ROWS], said)
+    output = printed(cargo, "@once\n" + "".join(f"@run {row.text.decode()}" for row in found), said)
+    answers = [it for it in re.split(r"^(?=ok edd|WRONG edd)", output, flags=re.M) if it.startswith(("ok edd", "WRONG edd"))]
+    if len(answers) != len(found):
+        said.line(False, f"{len(answers)} of {len(found)} rows ran", output[-2000:])
+        return
+    for row, answer in zip(found, answers):
+        show(row, answer, cargo, said)
+
+
+def show(row, answer, cargo, said):
+    line, _, more = answer.partition("\n")
+    name = line.partition(" ")[2]
+    if line.startswith("ok "):
+        said.line(True, name)
+    elif cargo and row.is_of_library():
+        print(f"other  {name} (words of clap, which is of another version here)", flush=True)
+    else:
+        said.line(False, name, f"wanted: status {row.status}\n{row.lines.decode()}printed: {more}")
+
+
+def names_of_tests(crate):
+    """The names of the tests in a crate's sources."""
+    folder, found = os.path.join(TOP, "crates", crate, "src"), []
     for name in sorted(os.listdir(folder)):
         with open(os.path.join(folder, name), encoding="utf-8") as file:
-            texts += ["@run " + row for row in ("\n" + file.read()).split("\n@run ")[1:]]
-    return [(text.split("\n@file ")[0].split("\n@hex ")[0].split("\n@status ")[0], text) for text in texts]
-
-
-def rows(words, said):
-    """Runs the rows whose command line or name has all the words, each once."""
-    found = [text for head, text in table() if all(word in head for word in words)]
-    if not found:
-        said.line(False, f"no row has the words {' '.join(words)}")
-        return
-    output = printed(settled([ROWS], said), "@once\n" + "\n".join(found) + "\n", said)
-    parts = re.split(r"^(?=ok |WRONG )", output, flags=re.M)
-    if output and not any(it.startswith(("ok ", "WRONG ")) for it in parts):
-        said.line(False, "the rows did not run", output[-2000:])
-    for part in parts:
-        line, _, more = part.partition("\n")
-        if line.startswith("ok "):
-            said.line(True, line[3:])
-        elif line.startswith("WRONG "):
-            said.line(False, line[6:], more)
+            found += re.findall(r"#\[test\]\s*(?:pub )?fn (\w+)", file.read())
+    return found
 
 
 def test(crate, name, said):
     """Runs the tests of a crate whose names contain the name; by `rt try` all of them."""
+    wanted = [it for it in names_of_tests(crate) if name in it]
+    if not wanted:
+        said.line(False, f"{crate} has no test whose name contains {name}; its tests are", "\n".join(names_of_tests(crate)))
+        return
     cargo = settled([crate], said)
     if cargo:
         done = cargo.run(["test", "--quiet", "--offline", "--package", crate, name], ROOM)
         status, output = done.returncode, done.stdout + done.stderr
     else:
         status, output = without_cargo(crate, ["try", "--test"])
-    counted = re.findall(r"(\d+) passed; (\d+) failed", output)
-    count = sum(int(passed) + int(failed) for passed, failed in counted)
-    if cargo and not status and not count:
-        said.line(False, f"{crate} has no test whose name contains {name}")
-        return
-    said.line(not status, f"{crate}: {f'{count} tests' if counted else 'its tests'} with {name}", output[-3000:])
+    said.line(not status, f"{crate}: {' '.join(wanted)}", output[-3000:])
