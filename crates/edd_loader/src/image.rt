@@ -65,6 +65,18 @@ pub fn load<'b>(alloc: Global, bytes: &'b [u8]) -> Result<Image<'b>, LoadFault>
     })
 }
 
+/// The image in bytes that `load` has accepted, and that have not changed since: it reads the header
+/// alone, and takes no memory.
+pub fn reopen<'b>(bytes: &'b [u8]) -> Image<'b>
+    requires { IsValid bytes.now }
+    ensures { result ≡ bytes.now }
+{
+    Image {
+        bytes,
+        starts: starts_in(bytes),
+    }
+}
+
 impl<'b> Image<'b> {
     /// The bytes, as they were lent.
     pub fn bytes(&self) -> &'b [u8]

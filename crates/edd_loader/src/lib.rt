@@ -25,7 +25,7 @@ mod whole_unit;
 mod words;
 
 pub use fault::LoadFault;
-pub use image::{Image, load};
+pub use image::{Image, load, reopen};
 pub use ranks::{attribute_row, body_row};
 pub use starts::Starts;
 pub use texts::Text;

@@ -1,0 +1,79 @@
+-- A method that is played under the answers of a program in C.
+use Rattle.std.specs.Prelude.{◌==◌, ℕ, ℤ, pos, if◌then◌else◌, List, [], ◌∷◌, map, take, drop, Option, Some, None}
+use Rattle.edd_syntax.specs.declared.answer.Trap.{Trap}
+use Rattle.edd_syntax.specs.declared.answer.Trap.TheVariants as trap
+use Rattle.edd_syntax.specs.declared.numbers.VarNo.{VarNo}
+use Rattle.edd_syntax.specs.Answers.{Answer, Go, Abort, Change}
+use Rattle.edd_instructions.specs.declared.records.Request.{Request}
+use Rattle.edd_instructions.specs.declared.records.Request.TheVariants as requests
+use Rattle.edd_port.specs.declared.playing.Ending.{Ending}
+use Rattle.edd_port.specs.declared.playing.Ending.TheVariants as ending
+use Rattle.edd_embed.specs.declared.answers.Setting.{Setting}
+use Rattle.edd_embed.specs.declared.answers.Given.{Given}
+use Rattle.edd_embed.specs.declared.playing.PlainRequest.{PlainRequest}
+use Rattle.edd_embed.specs.Records.{no_string}
+
+-- ---- answers
+
+abbrev pub change_of : Setting → Change
+change_of s = record { variable = record { 0 = s.variable }; value = s.value }
+
+-- the answer with these settings: an abort sets nothing
+abbrev pub answer_with : Given → List Setting → Answer
+answer_with g settings = if g.aborts == 0 then Go g.code (map change_of settings) else Abort
+
+-- the answers, each with as many of the settings as it says, one after the other; where too few are
+-- left it has those that are left
+abbrev pub answers_of : List Given → List Setting → List Answer
+answers_of [] settings = []
+answers_of (g ∷ gs) settings =
+    answer_with g (take g.settings settings) ∷ answers_of gs (drop g.settings settings)
+
+-- ---- requests
+
+-- a request with this tag and nothing else
+abbrev pub bare : (tag : ℕ) → PlainRequest
+bare tag = record {
+  first = pos 0;
+  second = pos 0;
+  text = no_string;
+  choices = no_string;
+  variable = 0;
+  tag = tag;
+}
+
+-- what a request is in C: a tag from 1 to 8, and in the fields of its sort what it has
+abbrev pub plain_request : Request → PlainRequest
+plain_request (requests.PutMessage t) = record (bare 1) { text = t.0 }
+plain_request (requests.Acknowledge t) = record (bare 2) { text = t.0 }
+plain_request (requests.Delay seconds t) = record (bare 3) { first = seconds; text = t.0 }
+plain_request (requests.GetDevVarValue t v) = record (bare 4) { text = t.0; variable = v.0 }
+plain_request (requests.SelectFromList t u) = record (bare 5) { text = t.0; choices = u.0 }
+plain_request (requests.SendCommand n) = record (bare 6) { first = n }
+plain_request (requests.SendCommandTrans n t) = record (bare 7) { first = n; second = t }
+plain_request requests.SaveValues = bare 8
+
+-- ---- endings
+
+-- the number of a trap
+abbrev pub trap_number : Trap → ℕ
+trap_number trap.DivZero = 210
+trap_number trap.DivOverflow = 211
+trap_number trap.BadShift = 212
+trap_number trap.NoElement = 213
+
+-- the number of an ending
+abbrev pub ending_number : Ending → ℕ
+ending_number ending.Ended = 0
+ending_number ending.Aborted = 1
+ending_number (ending.Trapped why) = 2
+ending_number ending.Waiting = 3
+ending_number ending.Spent = 4
+
+-- the number of the trap that it ended with, or 0
+abbrev pub trap_of : Ending → ℕ
+trap_of (ending.Trapped why) = trap_number why
+trap_of ending.Ended = 0
+trap_of ending.Aborted = 0
+trap_of ending.Waiting = 0
+trap_of ending.Spent = 0
