@@ -1,2 +1,6 @@
 pub mod Images
+pub mod Lookups
+pub mod Playing
+pub mod Reading
 pub mod Records
+pub mod Statuses

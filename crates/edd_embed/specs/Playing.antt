@@ -1,17 +1,22 @@
 -- A method that is played under the answers of a program in C.
-use Rattle.std.specs.Prelude.{◌==◌, ℕ, ℤ, pos, if◌then◌else◌, List, [], ◌∷◌, map, take, drop, Option, Some, None}
+use Rattle.std.specs.Prelude.{◌≡◌, ◌≢◌, ◌==◌, ℕ, ℤ, pos, if◌then◌else◌, List, [], ◌∷◌, length, map, option_map, take, drop, Some, ⊤}
 use Rattle.edd_syntax.specs.declared.answer.Trap.{Trap}
 use Rattle.edd_syntax.specs.declared.answer.Trap.TheVariants as trap
-use Rattle.edd_syntax.specs.declared.numbers.VarNo.{VarNo}
 use Rattle.edd_syntax.specs.Answers.{Answer, Go, Abort, Change}
 use Rattle.edd_instructions.specs.declared.records.Request.{Request}
 use Rattle.edd_instructions.specs.declared.records.Request.TheVariants as requests
+use Rattle.edd_syntax.specs.declared.numbers.MethNo.{MethNo}
+use Rattle.edd_port.specs.declared.fault.PlayFault.TheVariants as play_fault
+use Rattle.edd_port.specs.Plays.{IsPlayFault, ending_shown, played}
 use Rattle.edd_port.specs.declared.playing.Ending.{Ending}
 use Rattle.edd_port.specs.declared.playing.Ending.TheVariants as ending
 use Rattle.edd_embed.specs.declared.answers.Setting.{Setting}
 use Rattle.edd_embed.specs.declared.answers.Given.{Given}
-use Rattle.edd_embed.specs.declared.playing.PlainRequest.{PlainRequest}
-use Rattle.edd_embed.specs.Records.{no_string}
+use Rattle.edd_embed.specs.declared.requests.PlainRequest.{PlainRequest}
+use Rattle.edd_embed.specs.declared.playing.PlainEnding.{PlainEnding}
+use Rattle.edd_embed.specs.declared.playing.PlayRefusal.{PlayRefusal}
+use Rattle.edd_embed.specs.declared.playing.PlayRefusal.TheVariants.{Play, Room}
+use Rattle.edd_embed.specs.Records.{no_string, written_over}
 
 -- ---- answers
 
@@ -77,3 +82,33 @@ trap_of ending.Ended = 0
 trap_of ending.Aborted = 0
 trap_of ending.Waiting = 0
 trap_of ending.Spent = 0
+
+-- ---- plays
+
+-- What the caller has after a play: the ending and how many requests there were, of these as many
+-- as there was room for, and the values as the method left them.
+pub record Shows (b : List ℕ) (method : MethNo) (values : List ℤ) (steps : ℕ) (given : List Answer)
+    (shown : PlainEnding) (room list : List PlainRequest) (after : List ℤ) : Type 0 where
+  pub ending : Ending
+  pub made : List Request
+  pub ends : option_map (λ o. o.ending) (played b method values steps given)
+      ≡ Some (ending_shown ending)
+  pub makes : option_map (λ o. o.requests) (played b method values steps given) ≡ Some made
+  pub leaves : option_map (λ o. o.state.values) (played b method values steps given) ≡ Some after
+  pub is : shown ≡ record {
+    requests = length made;
+    trap = trap_of ending;
+    ending = ending_number ending;
+  }
+  pub listed : list ≡ written_over (take (length room) (map plain_request made)) room
+
+-- what a refusal says: there is not the room for as many values as the method left, or it is the
+-- fault of the play; nothing is said of memory
+abbrev pub IsPlayRefusal : List ℕ → MethNo → List ℤ → (steps : ℕ) → List Answer → (room : ℕ)
+    → PlayRefusal → Type 0
+IsPlayRefusal b method values steps given room Room = (after : List ℤ)
+    × (option_map (λ o. o.state.values) (played b method values steps given) ≡ Some after)
+    × (length after ≢ room)
+IsPlayRefusal b method values steps given room (Play play_fault.Memory) = ⊤
+IsPlayRefusal b method values steps given room (Play fault) =
+    IsPlayFault b method values steps given fault

@@ -1,12 +1,11 @@
 -- An attribute that is read into the room of a program in C.
-use Rattle.std.specs.Prelude.{◌≡◌, ℕ, ◌<◌, ℤ, List, Option, Some, None, length, ⊤}
+use Rattle.std.specs.Prelude.{◌≡◌, ℕ, ◌<◌, ℤ, List, Option, Some, length, ⊤}
 use Rattle.edd_syntax.specs.declared.numbers.AttrRef.{AttrRef}
 use Rattle.edd_syntax.specs.DeviceValues.{AreDeviceValues}
 use Rattle.edd_syntax.specs.Numbers.{item_from_numbers, attr_from_number}
 use Rattle.edd_image.specs.Front.{◌>>=◌}
 use Rattle.edd_instructions.specs.declared.records.Record.{Record}
 use Rattle.edd_instructions.specs.Reading.{Records, IsReading}
-use Rattle.edd_machine.specs.declared.fault.ReadFault.{ReadFault}
 use Rattle.edd_machine.specs.declared.fault.ReadFault.TheVariants as read_fault
 use Rattle.edd_machine.specs.Faults.{IsReadFault}
 use Rattle.edd_machine.specs.Types.{types_in}
@@ -22,7 +21,7 @@ ref_of kind number attribute sub = do
 
 -- under values of a device the attribute has these records
 pub record Gives (b : List ℕ) (ref : AttrRef) (values : List ℤ) (rs : List Record) : Type 0 where
-  pub values : AreDeviceValues (types_in b) values
+  pub device : AreDeviceValues (types_in b) values
   pub reading : IsReading b ref values (Records rs)
 
 -- what a fault says: there is room for fewer records than the attribute has, or it is that of the

@@ -1,5 +1,5 @@
 -- Records as a program in C has them.
-use Rattle.std.specs.Prelude.{ℕ, ℤ, pos, Option, Some, None, List, ◌++◌, length, map, drop}
+use Rattle.std.specs.Prelude.{ℕ, pos, Option, Some, None, List, ◌++◌, length, drop}
 use Rattle.edd_syntax.specs.declared.numbers.ItemNo.{ItemNo}
 use Rattle.edd_syntax.specs.declared.numbers.ItemNo.TheVariants.{Variable}
 use Rattle.edd_syntax.specs.declared.numbers.StrNo.{StrNo}

@@ -1,6 +1,6 @@
 //! Answers to requests as a program in C has them.
 
-ghost use Rattle.std.specs.Prelude.{◌≡◌, IfOk, map};
+ghost use Rattle.std.specs.Prelude.{◌≡◌, IfOk, drop, map, take};
 ghost use Rattle.edd_syntax.specs.Answers.{answer_of};
 ghost use Rattle.edd_embed.specs.Playing.{answer_with, answers_of};
 
@@ -43,6 +43,18 @@ fn answer_with(alloc: Global, given: Given, settings: &[Setting]) -> Result<Answ
     })
 }
 
+// The first settings and those after them; where there are fewer, all of them and none.
+fn cut(settings: &[Setting], count: u32) -> (&[Setting], &[Setting])
+    ensures front { result.0.now ≡ take count settings.now }
+    ensures behind { result.1.now ≡ drop count settings.now }
+{
+    if count as usize <= settings.len() {
+        settings.split_at(count as usize)
+    } else {
+        (settings, &[])
+    }
+}
+
 /// The answers, each with its settings, which are one after the other in the list of all.
 pub fn answers_of(
     alloc: Global,
@@ -55,8 +67,7 @@ pub fn answers_of(
     let mut answers = Vec::new(alloc);
     let mut rest = settings;
     for given in givens {
-        let count = (given.settings as usize).min(rest.len());
-        let (own, behind) = rest.split_at(count);
+        let (own, behind) = cut(rest, given.settings);
         answers.push(answer_with(alloc, *given, own)?)?;
         rest = behind;
     }

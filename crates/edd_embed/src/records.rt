@@ -60,21 +60,21 @@ fn bare(tag: u8) -> PlainRecord
     }
 }
 
-fn naming(item: ItemNo, record: PlainRecord) -> PlainRecord
-    ensures { result ≡ naming item record }
+fn naming(item: ItemNo, plain: PlainRecord) -> PlainRecord
+    ensures { result ≡ naming item plain }
 {
     PlainRecord {
         kind: item.kind().number(),
         item: item.index(),
-        ..record
+        ..plain
     }
 }
 
 /// What a record is in C.
-pub fn plain_of(record: Record) -> PlainRecord
-    ensures { result ≡ plain_of record }
+pub fn plain_of(given: Record) -> PlainRecord
+    ensures { result ≡ plain_of given }
 {
-    match record {
+    match given {
         Record::Words(text) => PlainRecord {
             text: text.0,
             ..bare(1)

@@ -1,0 +1,64 @@
+-- The numbers that calls for C answer.
+use Rattle.std.specs.Prelude.{ℕ}
+use Rattle.edd_loader.specs.declared.fault.LoadFault.{LoadFault}
+use Rattle.edd_loader.specs.declared.fault.LoadFault.TheVariants as load_fault
+use Rattle.edd_machine.specs.declared.fault.ReadFault.{ReadFault}
+use Rattle.edd_machine.specs.declared.fault.ReadFault.TheVariants as read_fault
+use Rattle.edd_port.specs.declared.fault.PlayFault.{PlayFault}
+use Rattle.edd_port.specs.declared.fault.PlayFault.TheVariants as play_fault
+use Rattle.edd_embed.specs.declared.reading.AttributeFault.{AttributeFault}
+use Rattle.edd_embed.specs.declared.reading.AttributeFault.TheVariants as attribute_fault
+
+-- the call did what was asked
+abbrev pub done : ℕ
+done = 0
+
+-- memory was refused
+abbrev pub memory : ℕ
+memory = 150
+
+-- there is no such item, or it has nothing of this kind
+abbrev pub no_item : ℕ
+no_item = 203
+
+-- the numbers are not those of an image in these bytes
+abbrev pub other_image : ℕ
+other_image = 260
+
+-- there is too little room
+abbrev pub no_room : ℕ
+no_room = 261
+
+abbrev pub load_status : LoadFault → ℕ
+load_status load_fault.Short = 101
+load_status load_fault.Magic = 102
+load_status load_fault.Version = 103
+load_status load_fault.Length = 104
+load_status load_fault.Row = 105
+load_status load_fault.Name = 106
+load_status load_fault.Text = 107
+load_status load_fault.Instruction = 108
+load_status load_fault.Jump = 109
+load_status load_fault.Depth = 110
+load_status load_fault.Reference = 111
+load_status load_fault.Memory = memory
+
+abbrev pub read_status : ReadFault → ℕ
+read_status read_fault.NoItem = no_item
+read_status read_fault.WrongValues = 204
+read_status read_fault.DivZero = 210
+read_status read_fault.DivOverflow = 211
+read_status read_fault.BadShift = 212
+read_status read_fault.NoElement = 213
+read_status read_fault.Memory = memory
+
+abbrev pub attribute_status : AttributeFault → ℕ
+attribute_status (attribute_fault.Read fault) = read_status fault
+attribute_status (attribute_fault.Room n) = no_room
+
+abbrev pub play_status : PlayFault → ℕ
+play_status play_fault.NoItem = no_item
+play_status play_fault.WrongValues = 204
+play_status play_fault.BadVariable = 206
+play_status play_fault.OutOfRange = 207
+play_status play_fault.Memory = memory

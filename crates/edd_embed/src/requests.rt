@@ -1,0 +1,91 @@
+//! Requests of a method as a program in C has them.
+
+ghost use Rattle.std.specs.Prelude.{◌≡◌, length, map, take};
+ghost use Rattle.edd_embed.specs.Playing.{bare, plain_request};
+ghost use Rattle.edd_embed.specs.Records.{written_over};
+
+use edd_instructions::Request;
+
+// What stands where a request has no string.
+const NO_STRING: u16 = 65_535;
+
+/// One request of a method. The tag says which it is, from 1 on: PUT_MESSAGE, ACKNOWLEDGE, DELAY,
+/// GET_DEV_VAR_VALUE, SELECT_FROM_LIST, send_command, send_command_trans, save_values. A field that
+/// the request doesn't have is 0, and 65,535 where it is the number of a string.
+#[repr(C)]
+#[derive(Clone, Copy, PartialEq, Eq, Debug)]
+pub struct PlainRequest {
+    /// The seconds of a delay, or the number of a command.
+    pub first: i32,
+    /// The number of a transaction.
+    pub second: i32,
+    pub text: u16,
+    pub choices: u16,
+    pub variable: u16,
+    pub tag: u8,
+}
+
+fn bare(tag: u8) -> PlainRequest
+    ensures { result ≡ bare tag }
+{
+    PlainRequest {
+        first: 0,
+        second: 0,
+        text: NO_STRING,
+        choices: NO_STRING,
+        variable: 0,
+        tag,
+    }
+}
+
+/// What a request is in C.
+pub fn plain_request(request: Request) -> PlainRequest
+    ensures { result ≡ plain_request request }
+{
+    match request {
+        Request::PutMessage(text) => PlainRequest {
+            text: text.0,
+            ..bare(1)
+        },
+        Request::Acknowledge(text) => PlainRequest {
+            text: text.0,
+            ..bare(2)
+        },
+        Request::Delay(seconds, text) => PlainRequest {
+            first: seconds,
+            text: text.0,
+            ..bare(3)
+        },
+        Request::GetDevVarValue(text, variable) => PlainRequest {
+            text: text.0,
+            variable: variable.0,
+            ..bare(4)
+        },
+        Request::SelectFromList(text, choices) => PlainRequest {
+            text: text.0,
+            choices: choices.0,
+            ..bare(5)
+        },
+        Request::SendCommand(number) => PlainRequest {
+            first: number,
+            ..bare(6)
+        },
+        Request::SendCommandTrans(number, transaction) => PlainRequest {
+            first: number,
+            second: transaction,
+            ..bare(7)
+        },
+        Request::SaveValues => bare(8),
+    }
+}
+
+/// Writes the first requests at the front of the caller's room, as many as there is room for.
+pub fn write_requests(requests: &[Request], room: &mut [PlainRequest])
+    ensures { room.new
+        ≡ written_over (take (length room.old) (map plain_request requests.now)) room.old }
+{
+    let count = room.len().min(requests.len());
+    for index in 0..count {
+        room[index] = plain_request(requests[index]);
+    }
+}

@@ -1,0 +1,81 @@
+//! The numbers that calls for C answer: 0 where the call did what was asked, else why it didn't.
+
+ghost use Rattle.std.specs.Prelude.{◌≡◌};
+ghost use Rattle.edd_embed.specs.Statuses.{attribute_status, load_status, play_status, read_status};
+
+use crate::reading::AttributeFault;
+use edd_loader::LoadFault;
+use edd_machine::ReadFault;
+use edd_port::PlayFault;
+
+/// The call did what was asked.
+pub const DONE: u32 = 0;
+
+/// Memory was refused.
+pub const MEMORY: u32 = 150;
+
+/// There is no such item, or it has nothing of this kind.
+pub const NO_ITEM: u32 = 203;
+
+/// The numbers are not those of an image in these bytes.
+pub const OTHER_IMAGE: u32 = 260;
+
+/// There is too little room.
+pub const NO_ROOM: u32 = 261;
+
+/// The number of the rule that bytes break, or of refused memory.
+pub fn load_status(fault: LoadFault) -> u32
+    ensures { result ≡ load_status fault }
+{
+    match fault {
+        LoadFault::Short => 101,
+        LoadFault::Magic => 102,
+        LoadFault::Version => 103,
+        LoadFault::Length => 104,
+        LoadFault::Row => 105,
+        LoadFault::Name => 106,
+        LoadFault::Text => 107,
+        LoadFault::Instruction => 108,
+        LoadFault::Jump => 109,
+        LoadFault::Depth => 110,
+        LoadFault::Reference => 111,
+        LoadFault::Memory => MEMORY,
+    }
+}
+
+fn read_status(fault: ReadFault) -> u32
+    ensures { result ≡ read_status fault }
+{
+    match fault {
+        ReadFault::NoItem => NO_ITEM,
+        ReadFault::WrongValues => 204,
+        ReadFault::DivZero => 210,
+        ReadFault::DivOverflow => 211,
+        ReadFault::BadShift => 212,
+        ReadFault::NoElement => 213,
+        ReadFault::Memory => MEMORY,
+    }
+}
+
+/// The number of why an attribute is not given.
+pub fn attribute_status(fault: AttributeFault) -> u32
+    ensures { result ≡ attribute_status fault }
+{
+    match fault {
+        AttributeFault::Read(fault) => read_status(fault),
+        AttributeFault::Room(_) => NO_ROOM,
+    }
+}
+
+/// The number of why a method is not played.
+pub fn play_status(fault: PlayFault) -> u32
+    ensures { result ≡ play_status fault }
+{
+    match fault {
+        PlayFault::NoItem => NO_ITEM,
+        PlayFault::WrongValues => 204,
+        PlayFault::BadVariable => 206,
+        PlayFault::OutOfRange => 207,
+        PlayFault::Memory => MEMORY,
+    }
+}
