@@ -6,6 +6,8 @@ use Rattle.edd_machine.specs.declared.fault.ReadFault.{ReadFault}
 use Rattle.edd_machine.specs.declared.fault.ReadFault.TheVariants as read_fault
 use Rattle.edd_port.specs.declared.fault.PlayFault.{PlayFault}
 use Rattle.edd_port.specs.declared.fault.PlayFault.TheVariants as play_fault
+use Rattle.edd_embed.specs.declared.playing.PlayRefusal.{PlayRefusal}
+use Rattle.edd_embed.specs.declared.playing.PlayRefusal.TheVariants.{Play, Room}
 use Rattle.edd_embed.specs.declared.reading.AttributeFault.{AttributeFault}
 use Rattle.edd_embed.specs.declared.reading.AttributeFault.TheVariants as attribute_fault
 
@@ -62,3 +64,7 @@ play_status play_fault.WrongValues = 204
 play_status play_fault.BadVariable = 206
 play_status play_fault.OutOfRange = 207
 play_status play_fault.Memory = memory
+
+abbrev pub refusal_status : PlayRefusal → ℕ
+refusal_status (Play fault) = play_status fault
+refusal_status Room = no_room

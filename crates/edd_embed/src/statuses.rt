@@ -1,8 +1,9 @@
 //! The numbers that calls for C answer: 0 where the call did what was asked, else why it didn't.
 
 ghost use Rattle.std.specs.Prelude.{◌≡◌};
-ghost use Rattle.edd_embed.specs.Statuses.{attribute_status, load_status, play_status, read_status};
+ghost use Rattle.edd_embed.specs.Statuses.{attribute_status, load_status, play_status, read_status, refusal_status};
 
+use crate::playing::PlayRefusal;
 use crate::reading::AttributeFault;
 use edd_loader::LoadFault;
 use edd_machine::ReadFault;
@@ -67,8 +68,7 @@ pub fn attribute_status(fault: AttributeFault) -> u32
     }
 }
 
-/// The number of why a method is not played.
-pub fn play_status(fault: PlayFault) -> u32
+fn play_status(fault: PlayFault) -> u32
     ensures { result ≡ play_status fault }
 {
     match fault {
@@ -77,5 +77,15 @@ pub fn play_status(fault: PlayFault) -> u32
         PlayFault::BadVariable => 206,
         PlayFault::OutOfRange => 207,
         PlayFault::Memory => MEMORY,
+    }
+}
+
+/// The number of why a method is not played.
+pub fn refusal_status(why: PlayRefusal) -> u32
+    ensures { result ≡ refusal_status why }
+{
+    match why {
+        PlayRefusal::Play(fault) => play_status(fault),
+        PlayRefusal::Room => NO_ROOM,
     }
 }
