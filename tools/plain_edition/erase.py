@@ -14,7 +14,7 @@ GHOST_PART = re.compile(r"\s*(?::|=|by)?\s*(?=\{)")
 GHOST_END = re.compile(r"\s*[;,]")
 PROOF_ATTRIBUTE = re.compile(r"#!?\[(?:tactic|cycle)(?=\()")
 ATTRIBUTE = re.compile(r"#!?\[(\w+)")
-ATTRIBUTES = ("cfg", "derive", "error", "from", "source", "inline", "macro_export", "serde", "test")
+ATTRIBUTES = ("cfg", "derive", "error", "from", "source", "inline", "macro_export", "repr", "serde", "test")
 # Braces inside of these would not count.
 NOT_IN_CLAUSES = re.compile(r'"|//|/\*|' + r"'[{}]'")
 

@@ -4,7 +4,7 @@ import re
 import shutil
 
 from . import packages, repository, workspace
-from .trials import alike, bare, elsewhere, example, fuzzing, images, refusals, runs, score
+from .trials import alike, bare, calls_for_c, elsewhere, example, fuzzing, images, refusals, runs, score
 
 FOLDER = os.path.join(repository.MADE, "edition")
 PROFILE = "checked"
@@ -97,6 +97,7 @@ def test():
     counts.step("32 bits of Linux", elsewhere.i686, FOLDER, program)
     counts.step("WebAssembly", elsewhere.wasm, program)
     counts.step("without a system", bare.thumb)
+    counts.step("the library for C", calls_for_c.tests, program)
     return counts.end()
 
 

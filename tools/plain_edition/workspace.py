@@ -58,7 +58,8 @@ class Edition:
 
     def __init__(self, names=None, own=()):
         """All crates, or these and what they use; with these further crates of `plain/`."""
-        every = repository.crates()
+        # A static library of the kit is for C alone, and takes slices as only the kit passes them: plain/c stands for it.
+        every = [it for it in repository.crates() if "staticlib" not in it.kinds]
         self.crates = repository.below(every, names) if names else every
         self.known = {it.name for it in every}
         self.files, self.counts = {}, collections.Counter()
@@ -89,8 +90,6 @@ class Edition:
         """The file of cargo for a crate."""
         features = "" if is_system else ", default-features = false"
         lines = ["[package]", f'name = "{crate.name}"', 'version = "1.0.0"', 'edition = "2024"', f'rust-version = "{RUST}"']
-        if "staticlib" in crate.kinds:
-            lines += ["", "[lib]", 'crate-type = ["rlib", "staticlib"]']
         lines += ["", "[dependencies]", f'std = {{ package = "edd_plain_std", path = "../plain/std"{features} }}']
         lines += [f"{used} = {self.dependency(crate, used)}" for used in crate.uses]
         return "\n".join([*lines, "", "[lints]", "workspace = true", ""])

@@ -1,0 +1,240 @@
+//! The calls of `edd.h` over the plain edition: what the proved library exports, with the pointers and
+//! lengths of C made slices. What C owes is said in the header.
+#![no_std]
+#![allow(clippy::missing_safety_doc, clippy::too_many_arguments)]
+
+mod memory;
+
+use core::slice;
+use edd_embed::statuses::{self, DONE, NO_ITEM, OTHER_IMAGE};
+use edd_embed::{
+    AttributeFault, Given, ImageNumbers, PlainEnding, PlainItem, PlainRecord, PlainRequest,
+    PlainType, Setting,
+};
+use edd_syntax::numbers::MethNo;
+use std::alloc::Global;
+
+#[panic_handler]
+fn stop(_: &core::panic::PanicInfo<'_>) -> ! {
+    loop {
+        core::hint::spin_loop();
+    }
+}
+
+/// A name or a text, as the header has it.
+#[repr(C)]
+pub struct Words {
+    bytes: *const u8,
+    length: usize,
+    is_key: u8,
+}
+
+impl Words {
+    fn of(words: edd_embed::Words<'_>) -> Words {
+        Words {
+            bytes: words.bytes.as_ptr(),
+            length: words.bytes.len(),
+            is_key: words.is_key,
+        }
+    }
+}
+
+/// # Safety
+/// There are so many elements at the place.
+unsafe fn list<'a, T>(place: *const T, count: usize) -> &'a [T] {
+    if count == 0 {
+        return &[];
+    }
+    // SAFETY: as the caller says.
+    unsafe { slice::from_raw_parts(place, count) }
+}
+
+/// # Safety
+/// There are so many elements at the place, and nothing else is read or written there meanwhile.
+unsafe fn room<'a, T>(place: *mut T, count: usize) -> &'a mut [T] {
+    if count == 0 {
+        return &mut [];
+    }
+    // SAFETY: as the caller says.
+    unsafe { slice::from_raw_parts_mut(place, count) }
+}
+
+#[unsafe(no_mangle)]
+pub unsafe extern "C" fn edd_load(
+    bytes: *const u8,
+    length: usize,
+    image: *mut ImageNumbers,
+) -> u32 {
+    // SAFETY: as the header asks.
+    match edd_embed::load_numbers(Global, unsafe { list(bytes, length) }) {
+        Ok(numbers) => {
+            unsafe { image.write(numbers) };
+            DONE
+        }
+        Err(fault) => statuses::load_status(fault),
+    }
+}
+
+/// Does something with the image, if the numbers are those of the bytes.
+macro_rules! with_image {
+    ($bytes:ident, $length:ident, $image:ident) => {
+        // SAFETY: as the header asks.
+        match unsafe { (*$image).image(list($bytes, $length)) } {
+            Some(image) => image,
+            None => return OTHER_IMAGE,
+        }
+    };
+}
+
+/// Writes what was found.
+macro_rules! given {
+    ($found:expr, $place:ident) => {
+        match $found {
+            Some(found) => {
+                // SAFETY: as the header asks.
+                unsafe { $place.write(found) };
+                DONE
+            }
+            None => NO_ITEM,
+        }
+    };
+}
+
+#[unsafe(no_mangle)]
+pub unsafe extern "C" fn edd_find(
+    bytes: *const u8,
+    length: usize,
+    image: *const ImageNumbers,
+    name: *const u8,
+    name_length: usize,
+    item: *mut PlainItem,
+) -> u32 {
+    let image = with_image!(bytes, length, image);
+    let name = unsafe { list(name, name_length) };
+    given!(edd_embed::find_item(&image, name), item)
+}
+
+#[unsafe(no_mangle)]
+pub unsafe extern "C" fn edd_name(
+    bytes: *const u8,
+    length: usize,
+    image: *const ImageNumbers,
+    kind: u8,
+    number: u16,
+    name: *mut Words,
+) -> u32 {
+    let image = with_image!(bytes, length, image);
+    given!(edd_embed::name_of(&image, kind, number).map(Words::of), name)
+}
+
+#[unsafe(no_mangle)]
+pub unsafe extern "C" fn edd_text(
+    bytes: *const u8,
+    length: usize,
+    image: *const ImageNumbers,
+    string: u16,
+    code: *const u8,
+    code_length: usize,
+    text: *mut Words,
+) -> u32 {
+    let image = with_image!(bytes, length, image);
+    let code = unsafe { list(code, code_length) };
+    given!(edd_embed::text_for(&image, string, code).map(Words::of), text)
+}
+
+#[unsafe(no_mangle)]
+pub unsafe extern "C" fn edd_variable(
+    bytes: *const u8,
+    length: usize,
+    image: *const ImageNumbers,
+    number: u16,
+    found: *mut PlainType,
+) -> u32 {
+    let image = with_image!(bytes, length, image);
+    given!(edd_embed::type_of(&image, number), found)
+}
+
+#[unsafe(no_mangle)]
+pub unsafe extern "C" fn edd_element(
+    bytes: *const u8,
+    length: usize,
+    image: *const ImageNumbers,
+    array: u16,
+    number: i64,
+    variable: *mut u16,
+) -> u32 {
+    let image = with_image!(bytes, length, image);
+    given!(edd_embed::element_of(&image, array, number), variable)
+}
+
+#[unsafe(no_mangle)]
+pub unsafe extern "C" fn edd_attribute(
+    bytes: *const u8,
+    length: usize,
+    image: *const ImageNumbers,
+    kind: u8,
+    number: u16,
+    attribute: u8,
+    sub: u16,
+    values: *const i64,
+    count: usize,
+    records: *mut PlainRecord,
+    records_room: usize,
+    given: *mut usize,
+) -> u32 {
+    let image = with_image!(bytes, length, image);
+    let Some(attr) = edd_embed::ref_of(kind, number, attribute, sub) else {
+        return NO_ITEM;
+    };
+    // SAFETY: as the header asks.
+    let (values, records) = unsafe { (list(values, count), room(records, records_room)) };
+    match edd_embed::read_into(Global, &image, attr, values, records) {
+        Ok(count) => {
+            unsafe { given.write(count) };
+            DONE
+        }
+        Err(fault) => {
+            if let AttributeFault::Room(count) = fault {
+                unsafe { given.write(count) };
+            }
+            statuses::attribute_status(fault)
+        }
+    }
+}
+
+#[unsafe(no_mangle)]
+pub unsafe extern "C" fn edd_play(
+    bytes: *const u8,
+    length: usize,
+    image: *const ImageNumbers,
+    method: u16,
+    values: *const i64,
+    count: usize,
+    answers: *const Given,
+    answer_count: usize,
+    settings: *const Setting,
+    setting_count: usize,
+    steps: u64,
+    requests: *mut PlainRequest,
+    requests_room: usize,
+    after: *mut i64,
+    after_room: usize,
+    ending: *mut PlainEnding,
+) -> u32 {
+    let image = with_image!(bytes, length, image);
+    // SAFETY: as the header asks.
+    let (values, answers) = unsafe { (list(values, count), list(answers, answer_count)) };
+    let settings = unsafe { list(settings, setting_count) };
+    let (requests, after) = unsafe { (room(requests, requests_room), room(after, after_room)) };
+    let method = MethNo(method);
+    match edd_embed::play_into(
+        Global, &image, method, values, answers, settings, steps, requests, after,
+    ) {
+        Ok(shown) => {
+            // SAFETY: as the header asks.
+            unsafe { ending.write(shown) };
+            DONE
+        }
+        Err(why) => statuses::refusal_status(why),
+    }
+}
