@@ -1,0 +1,16 @@
+//! A device that is simulated by a description of its own: what it does with the requests of a
+//! method of its instrument.
+#![tactic(auto)]
+
+mod copying;
+mod device;
+mod fault;
+mod messages;
+mod methods;
+mod names;
+mod playing;
+mod starting;
+
+pub use device::Device;
+pub use fault::DeviceFault;
+pub use playing::Trial;
