@@ -15,10 +15,15 @@ pub numbered : (b : List ℕ) (values : List ℤ) (ref got : AttrRef) (r : Readi
 numbered b values ref got r taken n same is e =
     (r, subst (λ (x : AttrRef). IsReading b x values r) same is, e)
 
--- a test that failed says that the number is another
-pub another : (n : Option ℤ) (number : ℤ) (test : Bool) → (n ≡ Some number → test ≡ true)
-    → test ≡ false → n ≢ Some number
-another n number test holds not e = let clash : false ≡ true = sym not ∙ holds e in cc
+-- a test says whether the number is this one, which is passed as `passed`
+pub this_one : (n : Option ℤ) (number passed : ℤ) → passed ≡ number → n ≡ Some passed
+    → Some number ≡ n
+this_one n number passed same e = ap (λ (z : ℤ). Some z) (sym same) ∙ sym e
+
+pub another : (n : Option ℤ) (number passed : ℤ) (test : Bool) → passed ≡ number
+    → (n ≡ Some passed → test ≡ true) → test ≡ false → n ≢ Some number
+another n number passed test same holds not e =
+    let clash : false ≡ true = sym not ∙ holds (e ∙ ap (λ (z : ℤ). Some z) (sym same)) in cc
 
 -- what is carried, where these are the entries that were read
 pub carried_as : (b : List ℕ) (values : List ℤ) (command position : ℕ) (asks replies : AttrRef)

@@ -1,6 +1,6 @@
 -- Values that stay in their ranges.
-use Rattle.std.proofs.Common.{◌≡◌, ℕ, zero, suc, ◌-◌, ◌*◌, ◌<◌, ◌≤◌, ◌^◌, Bool, true, false, ℤ, pos, List, [], ◌∷◌, length, Option, Some, None, refl, sym, ap, subst, ◌∙◌, arith}
-use Rattle.std.specs.Prelude.{IsTrue, slice_get, slice_set, int_le, neg_ℤ, ◌-ℤ◌, ◌&&◌}
+use Rattle.std.proofs.Common.{◌≡◌, ℕ, zero, suc, ◌-◌, ◌*◌, ◌<◌, ◌≤◌, ◌^◌, Bool, true, false, ℤ, pos, List, [], ◌∷◌, ◌++◌, length, Option, Some, None, refl, sym, ap, subst, ◌∙◌, arith}
+use Rattle.std.specs.Prelude.{IsTrue, slice_get, slice_set, int_le, neg_ℤ, ◌-ℤ◌, ◌&&◌, replicate}
 use Rattle.std.proofs.lemmas.Bool.Decides.{nat_tests}
 use Rattle.std.proofs.lemmas.Int.{ints}
 use Rattle.std.proofs.lemmas.Nat.{pow_pos}
@@ -11,6 +11,9 @@ use Rattle.edd_syntax.specs.declared.types.VarType.{VarType}
 use Rattle.edd_syntax.specs.declared.types.VarType.TheVariants as var_type
 use Rattle.edd_syntax.specs.Answers.{Change, SetFault, BadVariable, OutOfRange, set_fault}
 use Rattle.edd_syntax.specs.DeviceValues.{VariableType, is_in_range, least, greatest, IsInRange, AreDeviceValues}
+use Rattle.edd_machine.specs.Types.{types_in}
+use Rattle.edd_device.specs.Messages.{number_read}
+use Rattle.edd_device.specs.Starts.{StartsAs, or_zero, unless_bad}
 use Rattle.edd_machine.proofs.SetFaults.{bad_variable, no_set_fault, out_of_range}
 
 -- ---- 0
@@ -119,3 +122,42 @@ from_each (t ∷ types) (z ∷ values) count each = (
       each 0 t z refl refl,
       from_each types values (omega (arith, count)) (λ k u y e f. each (suc k) u y e f),
     )
+
+-- ---- the start
+
+pub zeros_are : (types : List VariableType)
+    → AreDeviceValues types (replicate (length types) (pos 0))
+zeros_are [] = tt
+zeros_are (t ∷ types) = (zero_in_range t, zeros_are types)
+
+module _ (b : List ℕ) (k : ℕ) (t : VariableType) (is : slice_get (types_in b) k ≡ Some t) where
+  by_fault : (n : ℤ) (o : Option SetFault)
+      → set_fault (types_in b) (record { variable = record { 0 = k }; value = n }) ≡ o
+      → is_in_range t (unless_bad n o) ≡ true
+  by_fault n None none =
+      let f = fits (types_in b) (record { variable = record { 0 = k }; value = n }) none in
+      let one : Some f.type ≡ Some t = sym f.is ∙ is in
+      let same : f.type ≡ t = cc in
+      subst (λ (u : VariableType). is_in_range u n ≡ true) same f.within
+  by_fault n (Some fault) bad = zero_in_range t
+
+  or_zero_within : (o : Option ℤ) → is_in_range t (or_zero b k o) ≡ true
+  or_zero_within None = zero_in_range t
+  or_zero_within (Some n) = by_fault n
+      (set_fault (types_in b) (record { variable = record { 0 = k }; value = n })) refl
+
+  -- a variable starts in its range
+  pub starts_within : (n : ℤ) → StartsAs b k n → is_in_range t n ≡ true
+  starts_within n (r, read, e) =
+      subst (λ (z : ℤ). is_in_range t z ≡ true) (sym e) (or_zero_within (number_read r))
+
+-- ---- one value more
+
+pub grown : (P : ℕ → ℤ → Type 0) (xs : List ℤ) (x : ℤ)
+    → ((k : ℕ) (n : ℤ) → slice_get xs k ≡ Some n → P k n) → P (length xs) x
+    → (k : ℕ) (n : ℤ) → slice_get (xs ++ x ∷ []) k ≡ Some n → P k n
+grown P [] x f p zero n e = let same : x ≡ n = cc in subst (λ (z : ℤ). P 0 z) same p
+grown P [] x f p (suc k) n e = absurd cc
+grown P (y ∷ ys) x f p zero n e = f zero n e
+grown P (y ∷ ys) x f p (suc k) n e =
+    grown (λ j z. P (suc j) z) ys x (λ j z g. f (suc j) z g) p k n e

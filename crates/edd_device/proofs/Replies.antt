@@ -1,6 +1,6 @@
 -- The sets of a reply, one entry after the other.
-use Rattle.std.proofs.Common.{◌≡◌, ℕ, suc, ◌+◌, ◌<◌, ℤ, List, [], ◌∷◌, ◌++◌, length, map, drop, get_or, drop-cons, add-one, Option, Some, None, Result, Ok, Err, refl, sym, ap, ◌∙◌, append_assoc, arith}
-use Rattle.edd_syntax.specs.Answers.{Change, SetFault, set_fault}
+use Rattle.std.proofs.Common.{◌≡◌, ℕ, suc, ◌+◌, ◌<◌, ℤ, List, [], ◌∷◌, ◌++◌, length, map, drop, get_or, drop-cons, add-one, Option, Some, None, Result, Ok, Err, refl, sym, ap, subst, ◌∙◌, append_assoc, arith}
+use Rattle.edd_syntax.specs.Answers.{Change, SetFault, set_fault, sets_fault}
 use Rattle.edd_instructions.specs.declared.records.Record.{Record}
 use Rattle.edd_machine.specs.Types.{types_in}
 use Rattle.edd_device.specs.declared.fault.DeviceFault.{DeviceFault}
@@ -118,3 +118,48 @@ module _ (i d : List ℕ) (values device : List ℤ) (r : Record) (rest : List R
     pub request_bad : (fault : SetFault) → set_fault (types_in d) put ≡ Some fault
         → requested i d values (r ∷ rest) device ≡ Err (OutOfRange pair.ours)
     request_bad fault bad = asked ∙ ap put_by bad
+
+-- ---- valid sets
+
+module _ (i d : List ℕ) (r : Record) (rest : List Record) (device : List ℤ) (sets : List Change)
+    (e : replied i d (r ∷ rest) device ≡ Ok sets)
+    (others : (ss : List Change) → replied i d rest device ≡ Ok ss
+    → sets_fault (types_in i) ss ≡ None) where
+  by_rest : (set : Change) → set_fault (types_in i) set ≡ None
+      → (o : Result (List Change) DeviceFault) → replied i d rest device ≡ o
+      → with_set set o ≡ Ok sets → sets_fault (types_in i) sets ≡ None
+  by_rest set none (Ok ss) is f =
+      let same : set ∷ ss ≡ sets = cc in
+      subst (λ (xs : List Change). sets_fault (types_in i) xs ≡ None) same
+      (ap (λ (o : Option SetFault). elim o as (λ x. Option SetFault) [
+        | Some fault ↦ Some fault
+        | None ↦ sets_fault (types_in i) ss
+      ]) none ∙ others ss is)
+  by_rest set none (Err fault) is f = absurd cc
+
+  by_set : (pair : Pair) → tied i d r ≡ Some pair → (o : Option SetFault)
+      → set_fault (types_in i) (record { variable = pair.ours; value = number_at device pair.theirs })
+      ≡ o → sets_fault (types_in i) sets ≡ None
+  by_set pair is None none =
+      let here = reply_set i d device r rest pair is none in
+      by_rest (record { variable = pair.ours; value = number_at device pair.theirs }) none
+      (replied i d rest device) refl (sym here ∙ e)
+  by_set pair is (Some fault) bad =
+      let clash : Ok sets ≡ Err (OutOfRange pair.ours) =
+      sym e ∙ reply_bad i d device r rest pair is fault bad in absurd cc
+
+  by_tie : (o : Option Pair) → tied i d r ≡ o → sets_fault (types_in i) sets ≡ None
+  by_tie None is = others sets (sym (reply_without i d device r rest is) ∙ e)
+  by_tie (Some pair) is = by_set pair is
+      (set_fault (types_in i)
+      (record { variable = pair.ours; value = number_at device pair.theirs })) refl
+
+-- the sets that a reply gives can be made
+pub replied_valid : (i d : List ℕ) (entries : List Record) (device : List ℤ)
+    (sets : List Change) → replied i d entries device ≡ Ok sets
+    → sets_fault (types_in i) sets ≡ None
+replied_valid i d [] device sets e =
+    let same : [] ≡ sets = cc in
+    subst (λ (xs : List Change). sets_fault (types_in i) xs ≡ None) same refl
+replied_valid i d (r ∷ rest) device sets e = by_tie i d r rest device sets e
+    (λ ss h. replied_valid i d rest device ss h) (tied i d r) refl

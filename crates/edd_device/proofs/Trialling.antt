@@ -2,7 +2,8 @@
 use Rattle.std.proofs.Common.{◌≡◌, ◌≢◌, ℕ, zero, suc, ◌+◌, ◌*◌, ◌<◌, ◌≤◌, ℤ, List, [], ◌∷◌, ◌++◌, length, map, Option, Some, None, refl, sym, ap, subst, ◌∙◌, arith}
 use Rattle.std.specs.Prelude.{option_map}
 use Rattle.edd_syntax.specs.declared.numbers.MethNo.{MethNo}
-use Rattle.edd_syntax.specs.Answers.{Answer, SetFault, answer_fault}
+use Rattle.edd_syntax.specs.Answers.{Answer, Go, Abort, SetFault, answer_fault, IsValidAnswer}
+use Rattle.edd_syntax.specs.DeviceValues.{VariableType}
 use Rattle.edd_image.specs.Contents.{AttributeFields, Contents, contents_in}
 use Rattle.edd_instructions.specs.declared.records.Request.{Request}
 use Rattle.edd_instructions.specs.declared.records.Status.{Status}
@@ -75,6 +76,11 @@ meets first steps left now after requests q is asks pair takes =
           ∙ sym (map_more (λ (p : Pair). p.request) is.pairs pair);
     }
 
+same_run : {i i' : List ℕ} {s s' : State} {t t' : ℕ} → i ≡ i' → s ≡ s' → t ≡ t'
+    → ◌≡◌ {A = Run} (record { image = i; state = s; taken = t })
+    (record { image = i'; state = s'; taken = t' })
+same_run p q r = cc
+
 -- a session after its answer
 pub takes : (before after : Run) (q : Request) (a : Answer)
     → before.state.status ≡ status.Asking q
@@ -84,7 +90,7 @@ pub takes : (before after : Run) (q : Request) (a : Answer)
     → (pair : Pair) × Takes before pair after
 takes before after q a asks valid image taken state = (
     record { request = q; answer = a },
-    record { asks = asks; valid = valid; is = cc },
+    record { asks = asks; valid = valid; is = same_run image state taken },
   )
 
 -- of an answer that was not refused
@@ -232,3 +238,10 @@ played_as b m values s steps given (row, found, is) =
 pub opens_quiet : (b : List ℕ) (m : MethNo) (values : List ℤ) (s : State) → OpensIn b m values s
     → standing s.status ≡ []
 opens_quiet b m values s (row, found, is) = ap (λ (t : State). standing t.status) is
+
+-- ---- valid answers
+
+pub no_fault : (types : List VariableType) (a : Answer) → IsValidAnswer types a
+    → answer_fault types a ≡ None
+no_fault types (Go code sets) valid = valid.1
+no_fault types Abort valid = refl

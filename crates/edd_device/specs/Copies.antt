@@ -1,5 +1,5 @@
 -- What goes from the instrument to the device with a request, and back with a reply.
-use Rattle.std.specs.Prelude.{ℕ, ℤ, pos, List, [], ◌∷◌, ◌++◌, Option, Some, None, option_map, unwrap_or, Result, Ok, Err, if◌then◌else◌, slice_get, slice_set}
+use Rattle.std.specs.Prelude.{◌≡◌, ◌⊎◌, ℕ, ℤ, pos, List, [], ◌∷◌, ◌++◌, Option, Some, None, option_map, unwrap_or, Result, Ok, Err, if◌then◌else◌, slice_get, slice_set}
 use Rattle.edd_syntax.specs.declared.numbers.VarNo.{VarNo}
 use Rattle.edd_syntax.specs.declared.types.VarType.TheVariants.{Integer}
 use Rattle.edd_syntax.specs.Answers.{Change, set_fault}
@@ -52,6 +52,23 @@ requested i d values (r ∷ rest) device = elim (tied i d r) [
 abbrev pub with_set : Change → Result (List Change) DeviceFault → Result (List Change) DeviceFault
 with_set set (Ok sets) = Ok (set ∷ sets)
 with_set set (Err fault) = Err fault
+
+-- the entry is this variable
+abbrev pub IsEntryOf : Record → VarNo → Type 0
+IsEntryOf (records.Words s) v = ⊥
+IsEntryOf (records.Number n) v = ⊥
+IsEntryOf (records.Entry item quals) v = ⊥
+IsEntryOf (records.DataConst n) v = ⊥
+IsEntryOf (records.DataVar w mask quals) v = w ≡ v
+IsEntryOf (records.Enumerator n text help) v = ⊥
+IsEntryOf (records.Response n class text) v = ⊥
+IsEntryOf (records.Member name item label help) v = ⊥
+IsEntryOf (records.Element n w label help) v = ⊥
+
+-- one of the entries is this variable
+abbrev pub IsAmong : List Record → VarNo → Type 0
+IsAmong [] v = ⊥
+IsAmong (r ∷ rest) v = IsEntryOf r v ⊎ IsAmong rest v
 
 -- these sets before others
 abbrev pub with_sets : List Change → Result (List Change) DeviceFault

@@ -1,10 +1,11 @@
 -- A simulated device, and what it does with a request.
-use Rattle.std.specs.Prelude.{◌≡◌, ℕ, ℤ, pos, List, [], Option, Some, None, is_some, Result, Ok, Err}
+use Rattle.std.specs.Prelude.{◌≡◌, ℕ, ℤ, pos, List, [], Option, Some, None, IfSome, is_some, Result, Ok, Err}
 use Rattle.edd_syntax.specs.declared.numbers.MethNo.{MethNo}
-use Rattle.edd_syntax.specs.Answers.{Answer, Go}
+use Rattle.edd_syntax.specs.Answers.{Answer, Go, IsValidAnswer}
 use Rattle.edd_instructions.specs.declared.records.Record.{Record}
 use Rattle.edd_instructions.specs.declared.records.Request.{Request}
 use Rattle.edd_instructions.specs.declared.records.Request.TheVariants as request
+use Rattle.edd_machine.specs.Types.{types_in}
 use Rattle.edd_device.specs.declared.fault.DeviceFault.{DeviceFault}
 use Rattle.edd_device.specs.Copies.{requested, replied, code_cleared, code_of}
 use Rattle.edd_device.specs.Messages.{Message, IsMessage}
@@ -21,6 +22,11 @@ pub record Simulated : Type 0 where
 pub record Step : Type 0 where
   pub values : List ℤ
   pub answer : Option Answer
+
+-- what it answers can be taken: the code has 32 bits, and each set names a variable of the
+-- instrument and a value in its range
+abbrev pub HasValidAnswer : (instrument : List ℕ) → Step → Type 0
+HasValidAnswer instrument step = IfSome step.answer (IsValidAnswer (types_in instrument))
 
 -- how many instructions a device may execute for one request
 abbrev pub most_steps : ℕ

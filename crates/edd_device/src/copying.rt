@@ -2,6 +2,7 @@
 
 ghost use Rattle.std.specs.Prelude.{◌≡◌, ◌≢◌, List, ◌∷◌, IfErr, IfOk, OnOk, map, option_map};
 ghost use Rattle.edd_instructions.specs.declared.records.Record.{Record};
+ghost use Rattle.edd_syntax.specs.Answers.{sets_fault};
 ghost use Rattle.edd_syntax.specs.DeviceValues.{AreDeviceValues};
 ghost use Rattle.edd_machine.specs.Types.{types_in};
 ghost use Rattle.edd_port.specs.Refusals.{change_of};
@@ -128,8 +129,8 @@ fn reply_entry(
     Ok(())
 }
 
-/// The sets of an answer: what the device has for the entries of a reply.
-pub fn reply_sets(
+// The sets of the entries of a reply.
+fn collect_sets(
     alloc: Global,
     instrument: &Image<'_>,
     device: &Image<'_>,
@@ -146,6 +147,25 @@ pub fn reply_sets(
         reply_entry(instrument, device, entry, numbers, &mut sets)?;
     }
     Ok(sets)
+}
+
+/// The sets of an answer: what the device has for the entries of a reply.
+pub fn reply_sets(
+    alloc: Global,
+    instrument: &Image<'_>,
+    device: &Image<'_>,
+    reply: &[Record],
+    numbers: &[i64],
+) -> Result<Vec<(VarNo, i64)>, DeviceFault>
+    ensures sound { IfOk result (λ sets. replied instrument.now device.now reply.now numbers.now
+        ≡ Ok (map change_of sets.items)) }
+    ensures refused { IfErr result (λ fault. fault ≢ DeviceFault.Memory
+        → replied instrument.now device.now reply.now numbers.now ≡ Err fault) }
+    ensures valid { IfOk result (λ sets. sets_fault (types_in instrument.now)
+        (map change_of sets.items)
+        ≡ None) }
+{
+    collect_sets(alloc, instrument, device, reply, numbers)
 }
 
 /// Sets the code of the device's answer to 0.

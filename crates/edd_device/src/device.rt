@@ -1,10 +1,10 @@
 //! A simulated device, and what it does with the requests of a method.
 
-ghost use Rattle.std.specs.Prelude.{◌≡◌, ◌≢◌, IfErr, IfOk, IfSome, Ok, Err, OnErr, option_map};
+ghost use Rattle.std.specs.Prelude.{◌≡◌, ◌≢◌, List, IfErr, IfOk, IfSome, Ok, Err, OnErr, option_map};
 ghost use Rattle.edd_syntax.specs.Answers.{IsValidAnswer, answer_of};
-ghost use Rattle.edd_syntax.specs.DeviceValues.{AreDeviceValues};
+ghost use Rattle.edd_syntax.specs.DeviceValues.{AreDeviceValues, VariableType};
 ghost use Rattle.edd_machine.specs.Types.{types_in};
-ghost use Rattle.edd_device.specs.Devices.{IsReply, IsSent, answered, delayed, done_answer, method_for, sent, started};
+ghost use Rattle.edd_device.specs.Devices.{HasValidAnswer, IsReply, IsSent, answered, delayed, done_answer, method_for, sent, started};
 ghost use Rattle.edd_device.specs.Starts.{IsStart};
 ghost use Rattle.edd_device.specs.Taken.{message_of, now_of, step_of};
 
@@ -132,6 +132,7 @@ impl<'i, 'b> Device<'i, 'b> {
         ensures refused { IfErr result (λ fault. fault ≢ DeviceFault.Memory
             → answered self.now reply.now (now_of now) ≡ Err fault) }
         ensures values { IfOk result (λ step. step.numbers.items ≡ now.numbers.items) }
+        ensures valid { IfOk result (λ step. HasValidAnswer self.now.instrument (step_of step)) }
     {
         let numbers = now.numbers;
         let code = code_of(self.image, numbers.as_slice())?;
@@ -164,6 +165,7 @@ impl<'i, 'b> Device<'i, 'b> {
             ≡ Err fault) }
         ensures values { IfOk result (λ step. AreDeviceValues (types_in self.now.image)
             step.numbers.items) }
+        ensures valid { IfOk result (λ step. HasValidAnswer self.now.instrument (step_of step)) }
     {
         let now = self.start(alloc, values, message.request.as_slice())?;
         let next = run_if_any(alloc, self.image, method, now)?;
@@ -198,6 +200,7 @@ impl<'i, 'b> Device<'i, 'b> {
             → IsSent self.now values.now.numbers.items number transaction (Err fault)) }
         ensures values { IfOk result (λ step. AreDeviceValues (types_in self.now.image)
             step.numbers.items) }
+        ensures valid { IfOk result (λ step. HasValidAnswer self.now.instrument (step_of step)) }
     {
         let method = self.method_for(alloc, number, transaction)?;
         let message = find_message(
@@ -213,8 +216,13 @@ impl<'i, 'b> Device<'i, 'b> {
 
     // The values as they are, with this answer.
     fn stay(&self, alloc: Global, answer: Option<Answer>) -> Result<Step, AllocError>
-        ensures { IfOk result (λ step. step_of step
+        requires { IfSome (option_map answer_of answer)
+            (IsValidAnswer (types_in self.now.instrument)) }
+        ensures sound { IfOk result (λ step. step_of step
             ≡ record { values = self.now.values; answer = option_map answer_of answer }) }
+        ensures values { IfOk result (λ step. AreDeviceValues (types_in self.now.image)
+            step.numbers.items) }
+        ensures valid { IfOk result (λ step. HasValidAnswer self.now.instrument (step_of step)) }
     {
         let numbers = Vec::from_slice(alloc, self.numbers.as_slice())?;
         Ok(Step { numbers, answer })
@@ -227,6 +235,7 @@ impl<'i, 'b> Device<'i, 'b> {
             → delayed self.now seconds ≡ Err fault) }
         ensures values { IfOk result (λ step. AreDeviceValues (types_in self.now.image)
             step.numbers.items) }
+        ensures valid { IfOk result (λ step. HasValidAnswer self.now.instrument (step_of step)) }
     {
         let now = Underway {
             numbers: Vec::from_slice(alloc, self.numbers.as_slice())?,
@@ -253,6 +262,7 @@ impl<'i, 'b> Device<'i, 'b> {
             → IsReply self.now values.now.numbers.items request.now (Err fault)) }
         ensures values { IfOk result (λ step. AreDeviceValues (types_in self.now.image)
             step.numbers.items) }
+        ensures valid { IfOk result (λ step. HasValidAnswer self.now.instrument (step_of step)) }
     {
         match request {
             Request::SendCommand(number) => self.send(alloc, values, *number, 0),
@@ -286,8 +296,8 @@ impl<'i, 'b> Device<'i, 'b> {
         ensures sound { IfOk result (λ answer. IsReply self.old values.now.numbers.items
             request.now
             (Ok (record { values = self.new.values; answer = option_map answer_of answer }))) }
-        ensures valid { IfOk result (λ answer. IfSome answer
-            (λ answer. IsValidAnswer (types_in self.old.instrument) (answer_of answer))) }
+        ensures valid { IfOk result (λ answer. IfSome (option_map answer_of answer)
+            (IsValidAnswer (types_in self.old.instrument))) }
         ensures refused { IfErr result (λ fault. fault ≢ DeviceFault.Memory
             → IsReply self.old values.now.numbers.items request.now (Err fault)) }
         ensures kept { OnErr result (self.new ≡ self.old) }
@@ -300,7 +310,8 @@ impl<'i, 'b> Device<'i, 'b> {
 
 // The code 0, and nothing is set.
 fn done(alloc: Global) -> Answer
-    ensures { answer_of result ≡ done_answer }
+    ensures sound { answer_of result ≡ done_answer }
+    ensures valid { (types : List VariableType) → IsValidAnswer types (answer_of result) }
 {
     Answer::Go {
         code: 0,

@@ -5,6 +5,7 @@
 mod copying;
 mod device;
 mod fault;
+mod laws;
 mod messages;
 mod methods;
 mod names;
@@ -13,4 +14,5 @@ mod starting;
 
 pub use device::Device;
 pub use fault::DeviceFault;
+pub use laws::{replies_are_unique, sets_are_of_the_reply};
 pub use playing::Trial;

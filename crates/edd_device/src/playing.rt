@@ -169,7 +169,8 @@ impl Device<'_, '_> {
             match session.turn() {
                 Turn::Asks(request) => {
                     requests.push(request)?;
-                    if !self.meet(alloc, session, request, user)? {
+                    let is_met = self.meet(alloc, session, request, user)?;
+                    if !is_met {
                         return Ok(Ending::Waiting);
                     }
                 }

@@ -12,7 +12,7 @@ slice_set_of-numbers c = omega (
   c.from.ensures,
   variable_below c.args.device.now _ c.in-Some.variable
       (sym c.variable_named.ensures ∙ c.in-Some.is),
-  types_counted c.args.device.now c.bytes-_bytes.ensures.valid,
+  types_counted c.args.device.now c.bytes-bytes.ensures.valid,
   AllZip-long _ (types_in c.args.device.now) c.args.numbers.now c.requires,
 )
 

@@ -13,7 +13,12 @@ abbrev set : goal.After-from → Change
 set c = record { variable = c.in-Some.tie.theirs; value = c.number_at-number.result }
 
 none : (c : goal.After-from) → set_fault (types_in c.args.device.now) (set c) ≡ None
-none c = sym c.set_fault.ensures
+none c =
+    let fits : FitsSigned w64 c.number_at-number.result = search rules in
+    ap (λ (z : ℤ). set_fault (types_in c.args.device.now)
+    (record { variable = c.in-Some.tie.theirs; value = z }))
+    (sym (to_z-of_z w64 c.number_at-number.result fits))
+    ∙ sym c.set_fault.ensures
     ∙ no_fault_seen c.set_fault.result (sym c.is_some.ensures ∙ c.if-is_some.false)
 
 pub bounds-numbers-from : goal.bounds-numbers-from

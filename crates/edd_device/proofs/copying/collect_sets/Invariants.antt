@@ -1,7 +1,7 @@
 use Rattle.std.proofs.Common.{◌≡◌, drop, map}
 use Rattle.edd_port.specs.Refusals.{change_of}
 use Rattle.edd_device.specs.Copies.{replied, with_sets}
-use Rattle.edd_device.proofs.copying.reply_sets.Given as goal
+use Rattle.edd_device.proofs.copying.collect_sets.Given as goal
 
 -- the sets so far are those of the entries so far
 abbrev pub invariant-loop-entry : goal.invariant-loop-entry
