@@ -6,7 +6,7 @@ use Rattle.edd_instructions.specs.declared.records.Record.{Record}
 use Rattle.edd_device.specs.declared.fault.DeviceFault.{DeviceFault}
 use Rattle.edd_syntax.specs.declared.numbers.AttrRef.{AttrRef}
 use Rattle.edd_instructions.specs.Reading.{Reading, IsReading}
-use Rattle.edd_device.specs.Messages.{IsCarried, Message, Numbers, carried, entries, of_command}
+use Rattle.edd_device.specs.Messages.{IsCarried, IsMessage, Message, Numbers, carried, entries, of_command}
 
 -- the number of what was read at this attribute
 pub numbered : (b : List ℕ) (values : List ℤ) (ref got : AttrRef) (r : Reading)
@@ -34,10 +34,19 @@ pub carried_as : (b : List ℕ) (values : List ℤ) (command position : ℕ) (as
     → x ≡ entries q → y ≡ entries r → carried command x y ≡ m
     → IsCarried b values command position m
 carried_as b values command position asks replies q r x y m e f read_q read_r is_x is_y is_m = (
-    q,
-    r,
-    subst (λ (ref : AttrRef). IsReading b ref values q) e read_q,
-    subst (λ (ref : AttrRef). IsReading b ref values r) f read_r,
-    sym is_m ∙ ap (λ (z : Result (List Record) Trap). carried command z y) is_x
-        ∙ ap (λ (z : Result (List Record) Trap). carried command (entries q) z) is_y,
-  )
+  q,
+  r,
+  subst (λ (ref : AttrRef). IsReading b ref values q) e read_q,
+  subst (λ (ref : AttrRef). IsReading b ref values r) f read_r,
+  sym is_m ∙ ap (λ (z : Result (List Record) Trap). carried command z y) is_x
+      ∙ ap (λ (z : Result (List Record) Trap). carried command (entries q) z) is_y,
+)
+
+-- the message of numbers that are equal to these
+pub message_as : (b : List ℕ) (values : List ℤ) (n n' t t' : ℤ) (k k' : Bool)
+    (m : Result Message DeviceFault) → n ≡ n' → t ≡ t' → k ≡ k'
+    → IsMessage b values n t k m → IsMessage b values n' t' k' m
+message_as b values n n' t t' k k' m e f g is =
+    subst (λ (x : Bool). IsMessage b values n' t' x m) g
+    (subst (λ (z : ℤ). IsMessage b values n' z k m) f
+    (subst (λ (z : ℤ). IsMessage b values z t k m) e is))

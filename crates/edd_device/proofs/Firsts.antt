@@ -83,5 +83,8 @@ unfolding as_variable
 variable_below b name v e = by_found v
     (first_of (λ n. is_named b name (items.Variable (record { 0 = n }))) 0 (counts_in b).variables)
     (counts_in b).variables
-    (λ k f. omega (arith, found_below (λ n. is_named b name (items.Variable (record { 0 = n }))) 0
-    (counts_in b).variables k f)) e
+    (λ k f. omega (
+      arith,
+      found_below (λ n. is_named b name (items.Variable (record { 0 = n }))) 0
+          (counts_in b).variables k f,
+    )) e

@@ -7,4 +7,3 @@ pub mod Passing
 pub mod Repeating
 pub mod UniqueReplies
 pub mod NamedSets
-pub mod Trials

@@ -21,9 +21,9 @@ by_theirs : (v : VarNo) (o : Option VarNo) (pair : Pair)
     → option_map (as_pair v) o ≡ Some pair → v ≡ pair.ours
 by_theirs v None pair e = absurd cc
 by_theirs v (Some w) pair e = ap (λ (x : Option Pair). elim x as (λ y. VarNo) [
-    | None ↦ v
-    | Some p ↦ p.ours
-  ]) e
+  | None ↦ v
+  | Some p ↦ p.ours
+]) e
 
 ties : (i d : List ℕ) (r : Record) (pair : Pair) → tied i d r ≡ Some pair
     → IsEntryOf r pair.ours

@@ -75,8 +75,11 @@ pub inside : (types : List VariableType) (set : Change) (values : List ℤ)
     → set.variable.0 < length values
 inside types set values none are =
     let f = fits types set none in
-    omega (arith, slice_get_within types set.variable.0 f.type f.is,
-      AllZip-long IsInRange types values are)
+    omega (
+      arith,
+      slice_get_within types set.variable.0 f.type f.is,
+      AllZip-long IsInRange types values are,
+    )
 
 -- ---- values of a device
 
@@ -119,9 +122,9 @@ from_each [] [] count each = tt
 from_each [] (z ∷ values) count each = absurd (omega (arith, count))
 from_each (t ∷ types) [] count each = absurd (omega (arith, count))
 from_each (t ∷ types) (z ∷ values) count each = (
-      each 0 t z refl refl,
-      from_each types values (omega (arith, count)) (λ k u y e f. each (suc k) u y e f),
-    )
+  each 0 t z refl refl,
+  from_each types values (omega (arith, count)) (λ k u y e f. each (suc k) u y e f),
+)
 
 -- ---- the start
 

@@ -30,10 +30,10 @@ module _ (i d : List ℕ) (device : List ℤ) (r : Record) (rest : List Record) 
   replies None = replied i d rest device
   replies (Some pair) = elim (set_fault (types_in i)
       (record { variable = pair.ours; value = number_at device pair.theirs })) [
-    | Some fault ↦ Err (OutOfRange pair.ours)
-    | None ↦ with_set (record { variable = pair.ours; value = number_at device pair.theirs })
-        (replied i d rest device)
-  ]
+        | Some fault ↦ Err (OutOfRange pair.ours)
+        | None ↦ with_set (record { variable = pair.ours; value = number_at device pair.theirs })
+            (replied i d rest device)
+      ]
 
   opens : (o : Option Pair) → tied i d r ≡ o → replied i d (r ∷ rest) device ≡ replies o
   opens o e = split o (tied i d r) e
@@ -78,10 +78,10 @@ module _ (i d : List ℕ) (values device : List ℤ) (r : Record) (rest : List R
   requests None = requested i d values rest device
   requests (Some pair) = elim (set_fault (types_in d)
       (record { variable = pair.theirs; value = number_at values pair.ours })) [
-    | Some fault ↦ Err (OutOfRange pair.ours)
-    | None ↦ requested i d values rest
-        (slice_set device pair.theirs.0 (number_at values pair.ours))
-  ]
+        | Some fault ↦ Err (OutOfRange pair.ours)
+        | None ↦ requested i d values rest
+            (slice_set device pair.theirs.0 (number_at values pair.ours))
+      ]
 
   asks : (o : Option Pair) → tied i d r ≡ o → requested i d values (r ∷ rest) device ≡ requests o
   asks o e = ap requests e

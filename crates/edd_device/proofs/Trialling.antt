@@ -89,9 +89,9 @@ pub takes : (before after : Run) (q : Request) (a : Answer)
     → after.state ≡ (answered_in (contents_in before.image) before.state a).state
     → (pair : Pair) × Takes before pair after
 takes before after q a asks valid image taken state = (
-    record { request = q; answer = a },
-    record { asks = asks; valid = valid; is = same_run image state taken },
-  )
+  record { request = q; answer = a },
+  record { asks = asks; valid = valid; is = same_run image state taken },
+)
 
 -- of an answer that was not refused
 pub takes_unrefused : (before after : Run) (q : Request) (a : Answer)
@@ -122,8 +122,11 @@ moves c (suc n) s t runs more shows = by_step (step_in c s) refl
     by_step : (o : Option Effect) → step_in c s ≡ o → 1 ≤ (execute_in c (suc n) s []).steps
     by_step None is = absurd (not_stuck t (sym (ap (λ (o : Outcome). o.ending)
         (gets_stuck c n s runs is)) ∙ shows))
-    by_step (Some e) is = omega (arith, ap (λ (o : Outcome). o.steps)
-        (steps_on c n s [] e runs is))
+    by_step (Some e) is = omega (
+      arith,
+      ap (λ (o : Outcome). o.steps)
+          (steps_on c n s [] e runs is),
+    )
 
 pub at_most : (c : Contents) (n : ℕ) (s : State) → (execute_in c n s []).steps ≤ n
 at_most c n s = at_most_following (next (start_in c)) (environment_of c) n s []
@@ -189,8 +192,7 @@ refused_by first steps left now requests q fault refused answer is asks e bad =
     let here : option_map BadSet (answer_fault (environment first.image).types answer)
     ≡ play_refusal fault =
     subst (λ (b : List ℕ). option_map BadSet (answer_fault (environment b).types answer)
-    ≡ play_refusal fault) is.driving.image bad in
-    (
+    ≡ play_refusal fault) is.driving.image bad in (
       answers_of is.pairs ++ answer ∷ [],
       of_refused fault refused (answer_fault (environment first.image).types answer) _ e
           (sym (here ∙ e))
@@ -222,22 +224,6 @@ answer_falls left now after q asks pair takes =
     ∙ ap (λ (rs : List Request). length rs)
     (none_stands (contents_in now.image) now.state pair.answer) in
     omega (arith, one, none)
-
--- ---- the whole
-
--- a run from where a method starts is that of the method
-pub played_as : (b : List ℕ) (m : MethNo) (values : List ℤ) (s : State) (steps : ℕ)
-    (given : List Answer) → OpensIn b m values s
-    → played b m values steps given ≡ Some (execute_in (contents_in b) steps s given)
-played_as b m values s steps given (row, found, is) =
-    ap (λ (o : Option AttributeFields). option_map (λ (r : AttributeFields). execute_in
-    (contents_in b) steps (opening_of (contents_in b) r values) given) o) found
-    ∙ ap (λ (t : State). Some (execute_in (contents_in b) steps t given)) (sym is)
-
--- no request is pending there
-pub opens_quiet : (b : List ℕ) (m : MethNo) (values : List ℤ) (s : State) → OpensIn b m values s
-    → standing s.status ≡ []
-opens_quiet b m values s (row, found, is) = ap (λ (t : State). standing t.status) is
 
 -- ---- valid answers
 

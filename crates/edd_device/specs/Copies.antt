@@ -42,10 +42,10 @@ requested i d values (r ∷ rest) device = elim (tied i d r) [
   | None ↦ requested i d values rest device
   | Some pair ↦ elim (set_fault (types_in d)
       (record { variable = pair.theirs; value = number_at values pair.ours })) [
-    | Some fault ↦ Err (OutOfRange pair.ours)
-    | None ↦ requested i d values rest
-        (slice_set device pair.theirs.0 (number_at values pair.ours))
-  ]
+        | Some fault ↦ Err (OutOfRange pair.ours)
+        | None ↦ requested i d values rest
+            (slice_set device pair.theirs.0 (number_at values pair.ours))
+      ]
 ]
 
 -- one set more before others
@@ -85,10 +85,10 @@ replied i d (r ∷ rest) device = elim (tied i d r) [
   | None ↦ replied i d rest device
   | Some pair ↦ elim (set_fault (types_in i)
       (record { variable = pair.ours; value = number_at device pair.theirs })) [
-    | Some fault ↦ Err (OutOfRange pair.ours)
-    | None ↦ with_set (record { variable = pair.ours; value = number_at device pair.theirs })
-        (replied i d rest device)
-  ]
+        | Some fault ↦ Err (OutOfRange pair.ours)
+        | None ↦ with_set (record { variable = pair.ours; value = number_at device pair.theirs })
+            (replied i d rest device)
+      ]
 ]
 
 -- the device's values with the code of its answer set to 0

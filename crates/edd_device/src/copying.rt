@@ -28,10 +28,7 @@ struct Tie {
 fn number_at(numbers: &[i64], variable: VarNo) -> i64
     ensures { result ≡ number_at numbers.now variable }
 {
-    numbers
-        .get(usize::from(variable.0))
-        .copied()
-        .unwrap_or(0)
+    numbers.get(usize::from(variable.0)).copied().unwrap_or(0)
 }
 
 // The variables that an entry of a message ties. Names tie them and not the octets of a message, so
@@ -42,10 +39,7 @@ fn tied(instrument: &Image<'_>, device: &Image<'_>, entry: &Record) -> Option<Ti
     match entry {
         Record::DataVar { var, .. } => {
             let theirs = counterpart(instrument, device, *var)?;
-            Some(Tie {
-                ours: *var,
-                theirs,
-            })
+            Some(Tie { ours: *var, theirs })
         }
         _ => None,
     }

@@ -121,12 +121,7 @@ impl<'i, 'b> Device<'i, 'b> {
     }
 
     // The answer is made of what the device has after its method.
-    fn finish(
-        &self,
-        alloc: Global,
-        reply: &[Record],
-        now: Underway,
-    ) -> Result<Step, DeviceFault>
+    fn finish(&self, alloc: Global, reply: &[Record], now: Underway) -> Result<Step, DeviceFault>
         ensures sound { IfOk result (λ step. answered self.now reply.now (now_of now)
             ≡ Ok (step_of step)) }
         ensures refused { IfErr result (λ fault. fault ≢ DeviceFault.Memory
@@ -249,12 +244,7 @@ impl<'i, 'b> Device<'i, 'b> {
     }
 
     // What comes of a request.
-    fn step(
-        &self,
-        alloc: Global,
-        request: &Request,
-        values: &Values,
-    ) -> Result<Step, DeviceFault>
+    fn step(&self, alloc: Global, request: &Request, values: &Values) -> Result<Step, DeviceFault>
         requires { AreDeviceValues (types_in self.now.instrument) values.now.numbers.items }
         ensures sound { IfOk result (λ step. IsReply self.now values.now.numbers.items request.now
             (Ok (step_of step))) }

@@ -199,8 +199,18 @@ fn carried(
     ensures refused { IfErr result (λ fault. fault ≢ DeviceFault.Memory
         → IsCarried image.now values.now.numbers.items command position (Err fault)) }
 {
-    let request = read(alloc, image, of_command(command, Attr::Request, position), values)?;
-    let reply = read(alloc, image, of_command(command, Attr::Reply, position), values)?;
+    let request = read(
+        alloc,
+        image,
+        of_command(command, Attr::Request, position),
+        values,
+    )?;
+    let reply = read(
+        alloc,
+        image,
+        of_command(command, Attr::Reply, position),
+        values,
+    )?;
     join(command, entries(alloc, request), entries(alloc, reply))
 }
 

@@ -125,11 +125,7 @@ fn run_times(
 fn whole_seconds(seconds: i32) -> u32
     ensures { result ≡ whole_seconds seconds }
 {
-    if seconds < 0 {
-        0
-    } else {
-        seconds as u32
-    }
+    if seconds < 0 { 0 } else { seconds as u32 }
 }
 
 /// Lets so many seconds pass.

@@ -47,11 +47,7 @@ pub fn method_named(image: &Image<'_>, name: &str) -> Option<MethNo>
 }
 
 /// The device's variable of the name of one of the instrument's, if it has one.
-pub fn counterpart(
-    instrument: &Image<'_>,
-    device: &Image<'_>,
-    variable: VarNo,
-) -> Option<VarNo>
+pub fn counterpart(instrument: &Image<'_>, device: &Image<'_>, variable: VarNo) -> Option<VarNo>
     ensures { result ≡ counterpart instrument.now device.now variable }
 {
     let name = instrument.name(ItemNo::Variable(variable))?;

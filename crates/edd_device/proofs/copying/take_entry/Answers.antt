@@ -22,8 +22,11 @@ none c =
     ∙ no_fault_seen c.set_fault.result (sym c.is_some.ensures ∙ c.if-is_some.false)
 
 pub bounds-numbers-from : goal.bounds-numbers-from
-bounds-numbers-from c = omega (arith, c.from.ensures,
-  inside (types_in c.args.device.now) (set c) c.args.numbers.now (none c) c.requires)
+bounds-numbers-from c = omega (
+  arith,
+  c.from.ensures,
+  inside (types_in c.args.device.now) (set c) c.args.numbers.now (none c) c.requires,
+)
 
 pub returns-clause-values : goal.returns-clause-values
 returns-clause-values c =

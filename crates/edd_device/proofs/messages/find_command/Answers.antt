@@ -10,8 +10,11 @@ returns-then-is_number c =
     let same : to_z w32 (of_z w32 c.args.number) ≡ c.args.number =
     to_z-of_z w32 c.args.number (search rules) in
     record {
-      within = omega (arith, c.loop-command-test.true,
-        ap (λ n. n.commands) c.counts-command-end.ensures);
+      within = omega (
+        arith,
+        c.loop-command-test.true,
+        ap (λ n. n.commands) c.counts-command-end.ensures,
+      );
       here = numbered c.args.image.now c.args.values.now.numbers.items _ c.of_command.result
           (reading_of c.in_ok-taken.taken) number_read _ c.of_command.ensures
           c.in_ok-taken.ensures
@@ -39,5 +42,9 @@ returns c =
     to_z-of_z w32 c.args.number (search rules) in
     λ k h. subst (λ (z : ℤ). IsOther (NumberAt c.args.image.now
     c.args.values.now.numbers.items) z k) same
-    (c.loop-command.invariant k (omega (arith, h, c.loop-command-test.false,
-    ap (λ n. n.commands) c.counts-command-end.ensures)))
+    (c.loop-command.invariant k (omega (
+      arith,
+      h,
+      c.loop-command-test.false,
+      ap (λ n. n.commands) c.counts-command-end.ensures,
+    )))

@@ -1,7 +1,8 @@
 use Rattle.std.proofs.Common.{rules, ◌≡◌, ℕ, ℤ, Option, None, Some, sym, ap, subst, ◌∙◌, w32, to_z, of_z}
 use Rattle.std.proofs.lemmas.Int.{to_z-of_z}
 use Rattle.std.proofs.lemmas.Result.{IfOk-weaker, IfErr-weaker}
-use Rattle.edd_device.specs.Messages.{IsCommand, IsPosition}
+use Rattle.edd_device.specs.declared.fault.DeviceFault.TheVariants.{NoCommand, NoTransaction}
+use Rattle.edd_device.specs.Messages.{IsCommand, IsPosition, carried_if}
 use Rattle.edd_device.proofs.messages.find_message.Goals as goal
 
 pub returns-in_default-clause-sound : goal.returns-in_default-clause-sound
@@ -14,7 +15,7 @@ returns-in_default-clause-sound c =
       None,
       subst (λ (o : Option ℕ). IsCommand c.args.image.now c.args.values.now.numbers.items
           c.args.number o) c.in_default.is found,
-      sym h,
+      sym h ∙ ap (λ (z : ℤ). carried_if c.args.is_known (NoCommand z)) same,
     )) c.carried_if.ensures.sound
 
 pub returns-in_default-2-clause-sound : goal.returns-in_default-2-clause-sound
@@ -35,7 +36,9 @@ returns-in_default-2-clause-sound c =
         None,
         subst (λ (o : Option ℕ). IsPosition c.args.image.now c.args.values.now.numbers.items
             c.in-Some.command c.args.transaction o) c.in_default-2.is placed,
-        sym h,
+        sym h ∙ ap (λ (z : ℤ). carried_if c.args.is_known
+            (NoTransaction z (to_z w32 (of_z w32 c.args.transaction)))) same
+            ∙ ap (λ (z : ℤ). carried_if c.args.is_known (NoTransaction c.args.number z)) same',
       ),
     )) c.carried_if-in_default-2.ensures.sound
 
@@ -57,6 +60,8 @@ returns-in_default-2-clause-refused c =
         None,
         subst (λ (o : Option ℕ). IsPosition c.args.image.now c.args.values.now.numbers.items
             c.in-Some.command c.args.transaction o) c.in_default-2.is placed,
-        sym h,
+        sym h ∙ ap (λ (z : ℤ). carried_if c.args.is_known
+            (NoTransaction z (to_z w32 (of_z w32 c.args.transaction)))) same
+            ∙ ap (λ (z : ℤ). carried_if c.args.is_known (NoTransaction c.args.number z)) same',
       ),
     )) c.carried_if-in_default-2.ensures.refused

@@ -18,7 +18,7 @@ returns-then-is_number c =
           (c.is_number.ensures.0 c.if-is_number.true) ∙ c.transaction_number.ensures);
       before = subst (λ (z : ℤ). (k : ℕ) → k < c.loop-position.position
           → IsOther (TransactionAt c.args.image.now
-    c.args.values.now.numbers.items c.args.command) z k) same
+          c.args.values.now.numbers.items c.args.command) z k) same
           c.loop-position.invariant;
     }
 

@@ -16,8 +16,12 @@ loop-variable-preserved c =
     ∙ ap (λ (z : ℤ). c.loop-variable.numbers.items ++ z ∷ [])
     (to_z-of_z w64 c.in_ok-number.number fits) in
     record {
-      count = omega (arith, c.loop-variable.invariant.count, ap (λ (xs : List ℤ). length xs) items,
-        length-append c.loop-variable.numbers.items (c.in_ok-number.number ∷ []));
+      count = omega (
+        arith,
+        c.loop-variable.invariant.count,
+        ap (λ (xs : List ℤ). length xs) items,
+        length-append c.loop-variable.numbers.items (c.in_ok-number.number ∷ []),
+      );
       starts = λ k n e. grown (StartsAs c.args.image.now) c.loop-variable.numbers.items
           c.in_ok-number.number c.loop-variable.invariant.starts
           (subst (λ (j : ℕ). StartsAs c.args.image.now j c.in_ok-number.number)
