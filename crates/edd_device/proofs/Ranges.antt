@@ -1,20 +1,19 @@
 -- Values that stay in their ranges.
-use Rattle.std.proofs.Common.{◌≡◌, ℕ, zero, suc, ◌-◌, ◌*◌, ◌<◌, ◌≤◌, ◌^◌, Bool, true, false, ℤ, pos, List, [], ◌∷◌, ◌++◌, length, Option, Some, None, refl, sym, ap, subst, ◌∙◌, arith}
+use Rattle.std.proofs.Common.{◌≡◌, ℕ, zero, suc, ◌-◌, ◌*◌, ◌<◌, ◌≤◌, ◌^◌, Bool, true, false, ℤ, pos, List, [], ◌∷◌, ◌++◌, length, Option, Some, None, refl, sym, subst, ◌∙◌, arith}
 use Rattle.std.specs.Prelude.{IsTrue, slice_get, slice_set, int_le, neg_ℤ, ◌-ℤ◌, ◌&&◌, replicate}
 use Rattle.std.proofs.lemmas.Bool.Decides.{nat_tests}
 use Rattle.std.proofs.lemmas.Int.{ints}
 use Rattle.std.proofs.lemmas.Nat.{pow_pos}
-use Rattle.std.proofs.lemmas.Option.{slice_get_within, slice_get-get_or}
+use Rattle.std.proofs.lemmas.Option.{slice_get_within}
 use Rattle.std.proofs.lemmas.Slice.Zip.{AllZip-long}
-use Rattle.edd_syntax.specs.declared.numbers.VarNo.{VarNo}
 use Rattle.edd_syntax.specs.declared.types.VarType.{VarType}
 use Rattle.edd_syntax.specs.declared.types.VarType.TheVariants as var_type
 use Rattle.edd_syntax.specs.Answers.{Change, SetFault, BadVariable, OutOfRange, set_fault}
-use Rattle.edd_syntax.specs.DeviceValues.{VariableType, is_in_range, least, greatest, IsInRange, AreDeviceValues}
+use Rattle.edd_syntax.specs.DeviceValues.{VariableType, is_in_range, IsInRange, AreDeviceValues}
 use Rattle.edd_machine.specs.Types.{types_in}
 use Rattle.edd_device.specs.Messages.{number_read}
 use Rattle.edd_device.specs.Starts.{StartsAs, or_zero, unless_bad}
-use Rattle.edd_machine.proofs.SetFaults.{bad_variable, no_set_fault, out_of_range}
+use Rattle.edd_machine.proofs.SetFaults.{bad_variable, out_of_range}
 
 -- ---- 0
 

@@ -1,5 +1,5 @@
 -- The sets of a reply, one entry after the other.
-use Rattle.std.proofs.Common.{◌≡◌, ℕ, suc, ◌+◌, ◌<◌, ℤ, List, [], ◌∷◌, ◌++◌, length, map, drop, get_or, drop-cons, add-one, Option, Some, None, Result, Ok, Err, refl, sym, ap, subst, ◌∙◌, append_assoc, arith}
+use Rattle.std.proofs.Common.{◌≡◌, ℕ, ◌+◌, ◌<◌, ℤ, List, [], ◌∷◌, ◌++◌, length, drop, get_or, drop-cons, add-one, Option, Some, None, Result, Ok, Err, refl, sym, ap, subst, ◌∙◌, append_assoc}
 use Rattle.edd_syntax.specs.Answers.{Change, SetFault, set_fault, sets_fault}
 use Rattle.edd_instructions.specs.declared.records.Record.{Record}
 use Rattle.edd_machine.specs.Types.{types_in}

@@ -1,16 +1,15 @@
 -- A method that is run with a device, turn by turn.
-use Rattle.std.proofs.Common.{◌≡◌, ◌≢◌, ℕ, zero, suc, ◌+◌, ◌*◌, ◌<◌, ◌≤◌, ℤ, List, [], ◌∷◌, ◌++◌, length, map, Option, Some, None, refl, sym, ap, subst, ◌∙◌, arith}
+use Rattle.std.proofs.Common.{◌≡◌, ℕ, zero, suc, ◌+◌, ◌*◌, ◌<◌, ◌≤◌, List, [], ◌∷◌, ◌++◌, length, map, Option, Some, None, refl, sym, ap, subst, ◌∙◌, arith}
 use Rattle.std.specs.Prelude.{option_map}
-use Rattle.edd_syntax.specs.declared.numbers.MethNo.{MethNo}
 use Rattle.edd_syntax.specs.Answers.{Answer, Go, Abort, SetFault, answer_fault, IsValidAnswer}
 use Rattle.edd_syntax.specs.DeviceValues.{VariableType}
-use Rattle.edd_image.specs.Contents.{AttributeFields, Contents, contents_in}
+use Rattle.edd_image.specs.Contents.{Contents, contents_in}
 use Rattle.edd_instructions.specs.declared.records.Request.{Request}
 use Rattle.edd_instructions.specs.declared.records.Status.{Status}
 use Rattle.edd_instructions.specs.declared.records.Status.TheVariants as status
 use Rattle.edd_instructions.specs.AbortMethods.{answered_in, execute_in, next, start_in, step_in}
-use Rattle.edd_instructions.specs.Execution.{Ending, Bad, Outcome, Stuck}
-use Rattle.edd_instructions.specs.Reading.{body_of, environment_of, opening_of}
+use Rattle.edd_instructions.specs.Execution.{Bad, Outcome, Stuck}
+use Rattle.edd_instructions.specs.Reading.{environment_of}
 use Rattle.edd_instructions.specs.Steps.{State, Effect}
 use Rattle.edd_instructions.proofs.Followed.{still_asks}
 use Rattle.edd_instructions.proofs.NextMethods.{next_asks_nothing}
@@ -24,9 +23,9 @@ use Rattle.edd_port.specs.declared.turn.Turn.TheVariants as turns
 use Rattle.edd_port.specs.Books.{Pair}
 use Rattle.edd_port.specs.Drives.{Executes, Takes, standing}
 use Rattle.edd_port.specs.Faults.{play_refusal}
-use Rattle.edd_port.specs.Plays.{IsFaultOf, ending_shown, played, under}
+use Rattle.edd_port.specs.Plays.{ending_shown}
 use Rattle.edd_port.specs.Refusals.{Refusal, BadSet, refusal}
-use Rattle.edd_port.specs.Runs.{OpensIn, Run, counted, environment}
+use Rattle.edd_port.specs.Runs.{Run, environment}
 use Rattle.edd_port.specs.Turns.{turn_of, ending_of}
 use Rattle.edd_port.proofs.Accepted.{taken as accepted}
 use Rattle.edd_port.proofs.Outcomes.{gets_stuck, steps_on}

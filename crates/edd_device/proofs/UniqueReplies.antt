@@ -1,5 +1,5 @@
 -- What comes of a request is always the same.
-use Rattle.std.proofs.Common.{◌≡◌, ℕ, ◌<◌, ◌⊎◌, inl, inr, ℤ, pos, Bool, List, Option, Some, None, Result, Ok, Err, refl, sym, ap, subst, ◌∙◌}
+use Rattle.std.proofs.Common.{◌≡◌, ℕ, ◌<◌, ◌⊎◌, inl, inr, ℤ, pos, Bool, List, Option, Some, None, Result, refl, sym, ap, subst, ◌∙◌}
 use Rattle.std.specs.Prelude.{is_some}
 use Rattle.std.proofs.lemmas.Bool.{cases_order}
 use Rattle.edd_syntax.specs.declared.numbers.Attr.TheVariants as attr
@@ -10,7 +10,7 @@ use Rattle.edd_instructions.specs.Reading.{Reading}
 use Rattle.edd_instructions.proofs.UniqueReadings.{unique}
 use Rattle.edd_device.specs.declared.fault.DeviceFault.{DeviceFault}
 use Rattle.edd_device.specs.Devices.{IsReply, IsSent, Simulated, Step, method_for, sent}
-use Rattle.edd_device.specs.Messages.{AtPosition, IsCarried, IsFirst, IsFound, IsMessage, IsOther, Message, NumberAt, Numbers, OfCommand, TransactionAt, carried, entries, number_read, of_command, transaction_number}
+use Rattle.edd_device.specs.Messages.{AtPosition, IsCarried, IsFound, IsMessage, IsOther, Message, NumberAt, Numbers, OfCommand, TransactionAt, carried, entries, number_read, of_command, transaction_number}
 use Rattle.edd_device.specs.Methods.{◌>>=◌}
 
 numbers : (b : List ℕ) (values : List ℤ) (ref : AttrRef) (taken : Reading → Option ℤ)

@@ -3,7 +3,7 @@ use Rattle.std.specs.Prelude.{◌≡◌, ◌⊎◌, ℕ, ℤ, pos, List, [], ◌
 use Rattle.edd_syntax.specs.declared.numbers.VarNo.{VarNo}
 use Rattle.edd_syntax.specs.declared.types.VarType.TheVariants.{Integer}
 use Rattle.edd_syntax.specs.Answers.{Change, set_fault}
-use Rattle.edd_syntax.specs.DeviceValues.{VariableType, is_in_range}
+use Rattle.edd_syntax.specs.DeviceValues.{is_in_range}
 use Rattle.edd_instructions.specs.declared.records.Record.{Record}
 use Rattle.edd_instructions.specs.declared.records.Record.TheVariants as records
 use Rattle.edd_machine.specs.Types.{types_in}

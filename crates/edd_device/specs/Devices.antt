@@ -1,5 +1,5 @@
 -- A simulated device, and what it does with a request.
-use Rattle.std.specs.Prelude.{◌≡◌, ℕ, ℤ, pos, List, [], Option, Some, None, IfSome, is_some, Result, Ok, Err}
+use Rattle.std.specs.Prelude.{◌≡◌, ℕ, ℤ, pos, List, [], Option, Some, None, IfSome, is_some, Result, Ok}
 use Rattle.edd_syntax.specs.declared.numbers.MethNo.{MethNo}
 use Rattle.edd_syntax.specs.Answers.{Answer, Go, IsValidAnswer}
 use Rattle.edd_instructions.specs.declared.records.Record.{Record}

@@ -1,5 +1,5 @@
 -- A method that is run with a device: a run of the image under the answers that were given.
-use Rattle.std.specs.Prelude.{◌≡◌, ℕ, ℤ, List, [], ◌∷◌, ◌++◌, map, Some, option_map}
+use Rattle.std.specs.Prelude.{◌≡◌, ℕ, ℤ, List, ◌++◌, Some, option_map}
 use Rattle.edd_syntax.specs.declared.numbers.MethNo.{MethNo}
 use Rattle.edd_syntax.specs.Answers.{Answer, answer_fault}
 use Rattle.edd_instructions.specs.declared.records.Request.{Request}

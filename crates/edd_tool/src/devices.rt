@@ -87,17 +87,9 @@ fn show_trial<'a, W: Write>(
     out: &mut W,
 ) -> Result<(), Stop<'a>> {
     let trial = tried(alloc, instrument, device, script, run)?;
-    show_play(
-        alloc,
-        instrument,
-        &trial.transcript,
-        run.language,
-        out,
-    )?;
+    show_play(alloc, instrument, &trial.transcript, run.language, out)?;
     match trial.fault {
-        Some(fault) => Err(Stop::Device(fault_text(
-            alloc, instrument, device, fault,
-        )?)),
+        Some(fault) => Err(Stop::Device(fault_text(alloc, instrument, device, fault)?)),
         None => Ok(()),
     }
 }

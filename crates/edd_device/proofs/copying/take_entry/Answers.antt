@@ -1,8 +1,6 @@
-use Rattle.std.proofs.Common.{◌≡◌, None, ℤ, arith, rules, sym, ap, subst, ◌∙◌, w64, FitsSigned}
+use Rattle.std.proofs.Common.{◌≡◌, None, ℤ, arith, rules, sym, ap, ◌∙◌, w64, FitsSigned}
 use Rattle.std.proofs.lemmas.Int.{to_z-of_z}
-use Rattle.std.specs.Prelude.{slice_set}
 use Rattle.edd_syntax.specs.Answers.{Change, set_fault}
-use Rattle.edd_syntax.specs.DeviceValues.{AreDeviceValues}
 use Rattle.edd_machine.specs.Types.{types_in}
 use Rattle.edd_machine.proofs.SetFaults.{no_fault_seen}
 use Rattle.edd_device.proofs.Ranges.{inside, keeps}

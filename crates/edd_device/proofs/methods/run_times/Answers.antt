@@ -1,4 +1,4 @@
-use Rattle.std.proofs.Common.{◌≡◌, ◌≢◌, ℕ, suc, ◌+◌, ◌-◌, Err, arith, sym, ap, ◌∙◌}
+use Rattle.std.proofs.Common.{◌≡◌, ◌≢◌, Err, ◌∙◌}
 use Rattle.edd_device.specs.declared.fault.DeviceFault.{DeviceFault}
 use Rattle.edd_device.specs.declared.fault.DeviceFault.TheVariants.{Memory}
 use Rattle.edd_device.specs.Methods.{ran_times}
