@@ -7,3 +7,4 @@ pub mod Passing
 pub mod Repeating
 pub mod UniqueReplies
 pub mod NamedSets
+pub mod Talking

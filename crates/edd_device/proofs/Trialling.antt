@@ -16,22 +16,19 @@ use Rattle.edd_instructions.proofs.NextMethods.{next_asks_nothing}
 use Rattle.edd_instructions.proofs.StepCounts.{at_most_following}
 use Rattle.edd_port.specs.declared.fault.PlayFault.{PlayFault}
 use Rattle.edd_port.specs.declared.fault.PlayFault.TheVariants as play_fault
-use Rattle.edd_port.specs.declared.playing.Ending as shown_ending
-use Rattle.edd_port.specs.declared.playing.Ending.TheVariants as endings
 use Rattle.edd_port.specs.declared.turn.Turn.{Turn}
 use Rattle.edd_port.specs.declared.turn.Turn.TheVariants as turns
 use Rattle.edd_port.specs.Books.{Pair}
 use Rattle.edd_port.specs.Drives.{Executes, Takes, standing}
 use Rattle.edd_port.specs.Faults.{play_refusal}
-use Rattle.edd_port.specs.Plays.{ending_shown}
 use Rattle.edd_port.specs.Refusals.{Refusal, BadSet, refusal}
 use Rattle.edd_port.specs.Runs.{Run, environment}
-use Rattle.edd_port.specs.Turns.{turn_of, ending_of}
+use Rattle.edd_port.specs.Turns.{ending_of}
 use Rattle.edd_port.proofs.Accepted.{taken as accepted}
 use Rattle.edd_port.proofs.Outcomes.{gets_stuck, steps_on}
-use Rattle.edd_port.proofs.Drivings.{Driving, answers_of, requests_of, starts, executed, given, ends, none_stands}
+use Rattle.edd_port.proofs.Drivings.{Driving, answers_of, requests_of, starts, executed, given, none_stands}
 use Rattle.edd_port.proofs.ShownTurns.{of_refused}
-use Rattle.edd_device.specs.Trials.{IsRefused, LeadsTo, Refuses}
+use Rattle.edd_device.specs.Trials.{IsRefused, Refuses}
 
 -- With so many instructions left of these steps the session got to where it is now, and these
 -- requests were answered on the way.
@@ -40,14 +37,14 @@ pub record Going (first : Run) (steps left : ℕ) (now : Run) (requests : List R
   pub driving : Driving first steps left now pairs
   pub noted : requests ≡ requests_of pairs
 
-pub begins : (first : Run) (steps : ℕ) → first.taken ≡ 0 → Going first steps steps first []
+unfoldable pub begins : (first : Run) (steps : ℕ) → first.taken ≡ 0 → Going first steps steps first []
 begins first steps none = record {
   pairs = [];
   driving = starts first steps (omega (arith, none));
   noted = refl;
 }
 
-pub goes : (first : Run) (steps left fewer : ℕ) (now after : Run) (requests : List Request)
+unfoldable pub goes : (first : Run) (steps left fewer : ℕ) (now after : Run) (requests : List Request)
     → Going first steps left now requests → Executes left now fewer after
     → Going first steps fewer after requests
 goes first steps left fewer now after requests is to = record {
@@ -56,13 +53,13 @@ goes first steps left fewer now after requests is to = record {
   noted = is.noted;
 }
 
-map_more : {A B : Type 0} (f : A → B) (xs : List A) (x : A) → map f (xs ++ x ∷ []) ≡ map f xs ++ f x
+pub map_more : {A B : Type 0} (f : A → B) (xs : List A) (x : A) → map f (xs ++ x ∷ []) ≡ map f xs ++ f x
     ∷ []
 map_more f [] x = refl
 map_more f (y ∷ xs) x = ap (λ (ys : List _). f y ∷ ys) (map_more f xs x)
 
 -- after the pending request was answered
-pub meets : (first : Run) (steps left : ℕ) (now after : Run) (requests : List Request)
+unfoldable pub meets : (first : Run) (steps left : ℕ) (now after : Run) (requests : List Request)
     (q : Request) → Going first steps left now requests → now.state.status ≡ status.Asking q
     → (pair : Pair) → Takes now pair after → Going first steps left after (requests ++ q ∷ [])
 meets first steps left now after requests q is asks pair takes =
@@ -86,11 +83,9 @@ pub takes : (before after : Run) (q : Request) (a : Answer)
     → answer_fault (environment before.image).types a ≡ None → after.image ≡ before.image
     → after.taken ≡ before.taken
     → after.state ≡ (answered_in (contents_in before.image) before.state a).state
-    → (pair : Pair) × Takes before pair after
-takes before after q a asks valid image taken state = (
-  record { request = q; answer = a },
-  record { asks = asks; valid = valid; is = same_run image state taken },
-)
+    → Takes before (record { request = q; answer = a }) after
+takes before after q a asks valid image taken state =
+    record { asks = asks; valid = valid; is = same_run image state taken }
 
 -- of an answer that was not refused
 pub takes_unrefused : (before after : Run) (q : Request) (a : Answer)
@@ -98,7 +93,7 @@ pub takes_unrefused : (before after : Run) (q : Request) (a : Answer)
     → None ≡ refusal (environment before.image).types before.state.status a
     → after.image ≡ before.image → after.taken ≡ before.taken
     → after.state ≡ (answered_in (contents_in before.image) before.state a).state
-    → (pair : Pair) × Takes before pair after
+    → Takes before (record { request = q; answer = a }) after
 takes_unrefused before after q a asks free image taken state = takes before after q a asks
     (accepted (environment before.image).types before.state.status a (sym free)).2 image taken
     state
@@ -131,45 +126,6 @@ pub at_most : (c : Contents) (n : ℕ) (s : State) → (execute_in c n s []).ste
 at_most c n s = at_most_following (next (start_in c)) (environment_of c) n s []
 
 -- ---- ends
-
--- the run waits where the user has no answer
-pub waits : (first : Run) (steps left : ℕ) (now : Run) (requests : List Request) (q : Request)
-    → Going first steps left now requests → now.state.status ≡ status.Asking q
-    → LeadsTo first steps now (requests ++ q ∷ []) endings.Waiting
-waits first steps left now requests q is asks =
-    let d = ends first steps left now is.pairs is.driving
-    (λ runs. let clash : status.Asking q ≡ status.Running = sym asks ∙ runs in absurd cc) in
-    record {
-      given = answers_of is.pairs;
-      made = d.met ∙ ap (λ (s : State). requests_of is.pairs ++ standing s.status) (sym d.state)
-          ∙ ap (λ (st : Status). requests_of is.pairs ++ standing st) asks
-          ∙ ap (λ (rs : List Request). rs ++ q ∷ []) (sym is.noted);
-      state = d.state;
-      ends = d.ending ∙ ap (λ (st : Status). ending_of (turn_of st)) asks;
-    }
-
--- it stops where it is over or has no steps left
-pub stops : (first : Run) (steps left : ℕ) (now : Run) (requests : List Request)
-    (ending : shown_ending.Ending)
-    → Going first steps left now requests → (now.state.status ≡ status.Running → left ≡ 0)
-    → standing now.state.status ≡ []
-    → ending_of (turn_of now.state.status) ≡ ending_shown ending
-    → LeadsTo first steps now requests ending
-stops first steps left now requests ending is last nothing shows =
-    let d = ends first steps left now is.pairs is.driving last in
-    record {
-      given = answers_of is.pairs;
-      made = d.met ∙ ap (λ (s : State). requests_of is.pairs ++ standing s.status) (sym d.state)
-          ∙ ap (λ (rs : List Request). requests_of is.pairs ++ rs) nothing
-          ∙ append_nil (requests_of is.pairs)
-          ∙ sym is.noted;
-      state = d.state;
-      ends = d.ending ∙ shows;
-    }
-  where
-    append_nil : (rs : List Request) → rs ++ [] ≡ rs
-    append_nil [] = refl
-    append_nil (r ∷ rs) = ap (λ (xs : List Request). r ∷ xs) (append_nil rs)
 
 bad_ends : (c : Contents) (n : ℕ) (s : State) (q : Request) (answer : Answer)
     (rest : List Answer) (fault : SetFault) → s.status ≡ status.Asking q

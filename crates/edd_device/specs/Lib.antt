@@ -1,3 +1,4 @@
+pub mod Attending
 pub mod Copies
 pub mod Devices
 pub mod Messages

@@ -1,6 +1,6 @@
 //! A simulated device, and what it does with the requests of a method.
 
-ghost use Rattle.std.specs.Prelude.{◌≡◌, ◌≢◌, List, IfErr, IfOk, IfSome, Ok, Err, OnErr, option_map};
+ghost use Rattle.std.specs.Prelude.{◌≡◌, ◌≢◌, List, IfErr, IfOk, IfSome, None, Ok, Err, OnErr, option_map};
 ghost use Rattle.edd_syntax.specs.Answers.{IsValidAnswer, answer_of};
 ghost use Rattle.edd_syntax.specs.DeviceValues.{AreDeviceValues, VariableType};
 ghost use Rattle.edd_machine.specs.Types.{types_in};
@@ -128,6 +128,8 @@ impl<'i, 'b> Device<'i, 'b> {
             → answered self.now reply.now (now_of now) ≡ Err fault) }
         ensures values { IfOk result (λ step. step.numbers.items ≡ now.numbers.items) }
         ensures valid { IfOk result (λ step. HasValidAnswer self.now.instrument (step_of step)) }
+        ensures quiet { IfOk result (λ step. step.answer ≡ None
+            → step.numbers.items ≡ self.now.values) }
     {
         let numbers = now.numbers;
         let code = code_of(self.image, numbers.as_slice())?;
@@ -161,6 +163,8 @@ impl<'i, 'b> Device<'i, 'b> {
         ensures values { IfOk result (λ step. AreDeviceValues (types_in self.now.image)
             step.numbers.items) }
         ensures valid { IfOk result (λ step. HasValidAnswer self.now.instrument (step_of step)) }
+        ensures quiet { IfOk result (λ step. step.answer ≡ None
+            → step.numbers.items ≡ self.now.values) }
     {
         let now = self.start(alloc, values, message.request.as_slice())?;
         let next = run_if_any(alloc, self.image, method, now)?;
@@ -196,6 +200,8 @@ impl<'i, 'b> Device<'i, 'b> {
         ensures values { IfOk result (λ step. AreDeviceValues (types_in self.now.image)
             step.numbers.items) }
         ensures valid { IfOk result (λ step. HasValidAnswer self.now.instrument (step_of step)) }
+        ensures quiet { IfOk result (λ step. step.answer ≡ None
+            → step.numbers.items ≡ self.now.values) }
     {
         let method = self.method_for(alloc, number, transaction)?;
         let message = find_message(
@@ -218,6 +224,7 @@ impl<'i, 'b> Device<'i, 'b> {
         ensures values { IfOk result (λ step. AreDeviceValues (types_in self.now.image)
             step.numbers.items) }
         ensures valid { IfOk result (λ step. HasValidAnswer self.now.instrument (step_of step)) }
+        ensures kept { IfOk result (λ step. step.numbers.items ≡ self.now.values) }
     {
         let numbers = Vec::from_slice(alloc, self.numbers.as_slice())?;
         Ok(Step { numbers, answer })
@@ -231,6 +238,8 @@ impl<'i, 'b> Device<'i, 'b> {
         ensures values { IfOk result (λ step. AreDeviceValues (types_in self.now.image)
             step.numbers.items) }
         ensures valid { IfOk result (λ step. HasValidAnswer self.now.instrument (step_of step)) }
+        ensures quiet { IfOk result (λ step. step.answer ≡ None
+            → step.numbers.items ≡ self.now.values) }
     {
         let now = Underway {
             numbers: Vec::from_slice(alloc, self.numbers.as_slice())?,
@@ -253,6 +262,8 @@ impl<'i, 'b> Device<'i, 'b> {
         ensures values { IfOk result (λ step. AreDeviceValues (types_in self.now.image)
             step.numbers.items) }
         ensures valid { IfOk result (λ step. HasValidAnswer self.now.instrument (step_of step)) }
+        ensures quiet { IfOk result (λ step. step.answer ≡ None
+            → step.numbers.items ≡ self.now.values) }
     {
         match request {
             Request::SendCommand(number) => self.send(alloc, values, *number, 0),
@@ -290,6 +301,7 @@ impl<'i, 'b> Device<'i, 'b> {
             (IsValidAnswer (types_in self.old.instrument))) }
         ensures refused { IfErr result (λ fault. fault ≢ DeviceFault.Memory
             → IsReply self.old values.now.numbers.items request.now (Err fault)) }
+        ensures quiet { IfOk result (λ answer. answer ≡ None → self.new ≡ self.old) }
         ensures kept { OnErr result (self.new ≡ self.old) }
     {
         let step = self.step(alloc, request, values)?;

@@ -1,16 +1,16 @@
 //! A method that is run from its start with a device, which answers its requests.
 
-ghost use Rattle.std.specs.Prelude.{◌≡◌, ◌≢◌, ◌<◌, ◌≤◌, ◌+◌, ◌^◌, [], List, Some, None, IfErr, IfOk, OnOk, true, false};
+ghost use Rattle.std.specs.Prelude.{◌≡◌, ◌≢◌, ◌<◌, ◌≤◌, ◌+◌, ◌^◌, [], ◌∷◌, List, Some, None, map, IfErr, IfOk, OnOk, true, false};
 ghost use Rattle.edd_syntax.specs.Answers as answers;
 ghost use Rattle.edd_syntax.specs.Answers.{answer_fault, answer_of};
 ghost use Rattle.edd_syntax.specs.DeviceValues.{AreDeviceValues};
 ghost use Rattle.edd_instructions.specs.declared.records.Status.TheVariants.{Asking, Running};
 ghost use Rattle.edd_machine.specs.Types.{types_in};
-ghost use Rattle.edd_port.specs.Books.{Pair};
 ghost use Rattle.edd_port.specs.Drives.{Executes, Takes};
 ghost use Rattle.edd_port.specs.Faults.{answer_fault_of, play_fault_of_start, play_refusal};
 ghost use Rattle.edd_port.specs.Plays.{IsPlayFault};
-ghost use Rattle.edd_device.specs.Trials.{IsRefused, IsTrial, LeadsTo, Refuses};
+ghost use Rattle.edd_device.specs.Attending.{others_of, script_of};
+ghost use Rattle.edd_device.specs.Trials.{IsAnswered, IsRefused, IsTrial, LeadsTo, Refuses, first_fault};
 
 use crate::device::Device;
 use crate::fault::DeviceFault;
@@ -61,9 +61,13 @@ fn fault_of_start(fault: StartFault) -> PlayFault
 
 impl Attendance<'_> {
     // The first fault is kept.
-    fn note(&mut self, fault: DeviceFault) {
-        if self.fault.is_none() {
-            self.fault = Some(fault);
+    fn note(&mut self, fault: DeviceFault)
+        ensures script { script_of self.new ≡ script_of self.old }
+        ensures fault { self.new.fault ≡ first_fault self.old.fault fault }
+    {
+        match self.fault {
+            Some(_) => {}
+            None => self.fault = Some(fault),
         }
     }
 
@@ -71,17 +75,23 @@ impl Attendance<'_> {
     fn meet(&mut self, session: &mut Session<'_, '_>, request: Request) -> Result<bool, PlayFault>
         requires { session.old.state.status ≡ Asking request }
         ensures image { session.new.image ≡ session.old.image }
-        ensures taken { IfOk result (λ met. met ≡ true
-            → (pair : Pair) × Takes session.old pair session.new) }
-        ensures kept { IfOk result (λ met. met ≡ false → session.new ≡ session.old) }
+        ensures fault { self.new.fault ≡ self.old.fault }
+        ensures taken { IfOk result (λ met. met ≡ true → (answer : answers.Answer)
+            × (script_of self.old ≡ answer ∷ script_of self.new)
+            × Takes session.old (record { request = request; answer = answer }) session.new) }
+        ensures kept { IfOk result (λ met. met ≡ false → (session.new ≡ session.old)
+            × (script_of self.new ≡ script_of self.old)) }
         ensures refused { IfErr result (Refuses session.old) }
     {
-        let Some(answer) = self.script.get(self.next) else {
+        if self.next >= self.script.len() {
             return Ok(false);
-        };
-        self.next += 1;
+        }
+        let answer = &self.script[self.next];
         match session.answer(answer) {
-            Ok(()) => Ok(true),
+            Ok(()) => {
+                self.next += 1;
+                Ok(true)
+            }
             Err(fault) => Err(fault_of_refused(fault)),
         }
     }
@@ -92,7 +102,8 @@ fn give(session: &mut Session<'_, '_>, request: Request, answer: &Answer)
     requires asks { session.old.state.status ≡ Asking request }
     requires valid { answer_fault (types_in session.old.image) (answer_of answer.now) ≡ None }
     ensures image { session.new.image ≡ session.old.image }
-    ensures taken { (pair : Pair) × Takes session.old pair session.new }
+    ensures taken { Takes session.old
+        (record { request = request; answer = answer_of answer.now }) session.new }
 {
     match session.answer(answer) {
         Ok(()) => {}
@@ -128,9 +139,12 @@ impl Device<'_, '_> {
         requires values { AreDeviceValues (types_in self.old.instrument) session.old.state.values }
         ensures instrument { self.new.instrument ≡ self.old.instrument }
         ensures image { session.new.image ≡ session.old.image }
-        ensures taken { IfOk result (λ met. met ≡ true
-            → (pair : Pair) × Takes session.old pair session.new) }
-        ensures kept { IfOk result (λ met. met ≡ false → session.new ≡ session.old) }
+        ensures taken { IfOk result (λ met. met ≡ true → (answer : answers.Answer)
+            × Takes session.old (record { request = request; answer = answer }) session.new
+            × IsAnswered (others_of self.old user.old) session.old.state.values request answer
+            (others_of self.new user.new)) }
+        ensures kept { IfOk result (λ met. met ≡ false → (session.new ≡ session.old)
+            × (others_of self.new user.new ≡ others_of self.old user.old)) }
         ensures refused { IfErr result (Refuses session.old) }
     {
         match self.reply(alloc, &request, session.values()) {
@@ -160,7 +174,8 @@ impl Device<'_, '_> {
         requires none { requests.old.items ≡ [] }
         requires image { session.old.image ≡ self.old.instrument }
         requires starts { session.old.taken ≡ 0 }
-        ensures sound { IfOk result (LeadsTo session.old steps session.new requests.new.items) }
+        ensures sound { IfOk result (LeadsTo session.old steps (others_of self.old user.old)
+            session.new (others_of self.new user.new) requests.new.items) }
         ensures instrument { self.new.instrument ≡ self.old.instrument }
         ensures refused { IfErr result (IsRefused session.old steps) }
     {
@@ -203,8 +218,11 @@ impl Device<'_, '_> {
         steps: u32,
     ) -> Result<Trial, PlayFault>
         ensures instrument { self.new.instrument ≡ self.old.instrument }
-        ensures sound { IfOk result (λ trial. IsTrial self.old.instrument method
-            values.numbers.items steps trial.transcript) }
+        ensures sound { IfOk result (λ trial. (rest : List answers.Answer)
+            × IsTrial self.old.instrument method values.numbers.items steps
+            (record { device = self.old; script = map answer_of script.now; fault = None })
+            (record { device = self.new; script = rest; fault = trial.fault })
+            trial.transcript) }
         ensures accepted { OnOk result (AreDeviceValues (types_in self.old.instrument)
             values.numbers.items) }
         ensures refused { IfErr result (λ fault. (given : List answers.Answer)
