@@ -5,6 +5,7 @@
 ghost use Rattle.std.specs.Prelude.{◌≤◌};
 
 mod checking;
+mod devices;
 mod files;
 mod playing;
 mod requests;

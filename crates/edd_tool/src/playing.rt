@@ -11,7 +11,8 @@ use edd_syntax::numbers::{ItemNo, MethNo};
 use std::alloc::Global;
 use std::io::Write;
 
-fn method_named<'a>(image: &Image<'_>, name: &'a str) -> Result<MethNo, Stop<'a>> {
+/// The method of this name.
+pub fn method_named<'a>(image: &Image<'_>, name: &'a str) -> Result<MethNo, Stop<'a>> {
     match image.find(name) {
         Some(ItemNo::Method(number)) => Ok(number),
         _ => Err(Stop::NoMethod(name)),

@@ -3,6 +3,7 @@
 ghost use Rattle.std.specs.Prelude.{◌≤◌};
 
 use crate::checking::{check_text, choices_of, push_lints};
+use crate::devices::play_with_device;
 use crate::files::{FileFault, Files, read_all};
 use crate::playing::play_bytes;
 use crate::script::{self, ScriptFault};
@@ -31,6 +32,10 @@ pub enum Stop<'a> {
     /// The image has no method of this name.
     NoMethod(&'a str),
     Play(PlayFault),
+    /// The source of a device of this name is refused.
+    NoDevice(&'a str, Fault),
+    /// A simulated device had no answer, which is this fault of its own.
+    Device(String),
     /// Nothing is refused with this number.
     NoRefusal(u32),
     /// No lint has this name.
@@ -204,6 +209,32 @@ fn show_file<'a, F: Files, W: Write>(
     show_bytes(alloc, &bytes, &script, language, out)
 }
 
+// The source of a device, if one is given, with its name.
+fn read_device<'a, F: Files>(
+    alloc: Global,
+    files: &mut F,
+    name: Option<&'a str>,
+) -> Result<Option<(&'a str, Vec<u8>)>, Stop<'a>> {
+    match name {
+        Some(name) => Ok(Some((name, read(alloc, files, name)?))),
+        None => Ok(None),
+    }
+}
+
+fn run_method<'a, W: Write>(
+    alloc: Global,
+    bytes: &[u8],
+    device: Option<(&'a str, Vec<u8>)>,
+    script: &[u8],
+    run: Run<'a>,
+    out: &mut W,
+) -> Result<(), Stop<'a>> {
+    match device {
+        Some((name, text)) => play_with_device(alloc, bytes, name, &text, script, run, out),
+        None => play_bytes(alloc, bytes, script, run, out),
+    }
+}
+
 fn play_file<'a, F: Files, W: Write>(
     alloc: Global,
     image: &'a str,
@@ -212,8 +243,9 @@ fn play_file<'a, F: Files, W: Write>(
     out: &mut W,
 ) -> Result<(), Stop<'a>> {
     let bytes = read(alloc, files, image)?;
-    let script = read(alloc, files, run.script)?;
-    play_bytes(alloc, &bytes, &script, run, out)
+    let device = read_device(alloc, files, run.device)?;
+    let script = read_script(alloc, files, run.script)?;
+    run_method(alloc, &bytes, device, &script, run, out)
 }
 
 fn try_source<'a, F: Files, W: Write>(
@@ -224,9 +256,10 @@ fn try_source<'a, F: Files, W: Write>(
     out: &mut W,
 ) -> Result<(), Stop<'a>> {
     let text = read(alloc, files, source)?;
-    let script = read(alloc, files, run.script)?;
+    let device = read_device(alloc, files, run.device)?;
+    let script = read_script(alloc, files, run.script)?;
     let bytes = compile(alloc, &text)?;
-    play_bytes(alloc, &bytes, &script, run, out)
+    run_method(alloc, &bytes, device, &script, run, out)
 }
 
 fn check_source<'a, F: Files, W: Write>(
@@ -316,6 +349,10 @@ pub fn report<W: Write>(alloc: Global, stop: &Stop<'_>, out: &mut W) -> Result<(
         Stop::Values(fault) => print(alloc, out, format_args!("refused {fault}")),
         Stop::NoMethod(name) => print(alloc, out, format_args!("refused 301 NO_METHOD {name}")),
         Stop::Play(fault) => print(alloc, out, format_args!("refused {fault}")),
+        Stop::NoDevice(name, fault) => {
+            print(alloc, out, format_args!("refused {fault} of {name}"))
+        }
+        Stop::Device(fault) => print(alloc, out, format_args!("refused {fault}")),
         Stop::NoRefusal(number) => {
             print(
                 alloc,
@@ -346,7 +383,9 @@ pub fn status(stop: &Stop<'_>) -> u8
         | Stop::Script(_)
         | Stop::Values(_)
         | Stop::NoMethod(_)
-        | Stop::Play(_) => REFUSED,
+        | Stop::Play(_)
+        | Stop::NoDevice(_, _)
+        | Stop::Device(_) => REFUSED,
         Stop::File(_) | Stop::Output => FILE,
         Stop::Memory => MEMORY,
     }

@@ -11,7 +11,7 @@ const TITLE: &str = "# What each refusal means
 ";
 
 /// What is on the page before the section of a number.
-const PARTS: [(u32, &str); 5] = [
+const PARTS: [(u32, &str); 7] = [
     (1, "## A text that has no tokens\n"),
     (10, "## A text that the grammar has no tree for\n"),
     (20, "## A description that breaks a rule\n"),
@@ -25,6 +25,15 @@ it again.
 ",
     ),
     (201, "## Values, answers and scripts\n"),
+    (
+        270,
+        "## A simulated device without an answer
+
+What the method did is printed before it: the device had no answer, and the method was aborted.
+Of several faults the first is printed. [DEVICES](DEVICES.md) says what a device is.
+",
+    ),
+    (300, "## A script, and the method to run\n"),
 ];
 
 /// More than any number that is printed.

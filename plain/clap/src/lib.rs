@@ -92,6 +92,10 @@ impl<'a> Arg<'a> {
         self.with(|arg| arg.required(is_on))
     }
 
+    pub fn required_unless_present(self, name: &str) -> Result<Self, AllocError> {
+        Ok(self.with(|arg| arg.required_unless_present(keep(name))))
+    }
+
     pub fn help(self, text: &str) -> Self {
         self.with(|arg| arg.help(keep(text)))
     }

@@ -1,0 +1,10 @@
+pub mod Firsts
+pub mod Replies
+pub mod Ranges
+pub mod Trialling
+pub mod Finding
+pub mod Passing
+pub mod Repeating
+pub mod UniqueReplies
+pub mod NamedSets
+pub mod Talking

@@ -1,0 +1,120 @@
+//! What the program does to run a method with a device.
+
+use crate::playing::method_named;
+use crate::requests::Stop;
+use crate::script;
+use edd_command_line::Run;
+use edd_compiler::{Fault, compile};
+use edd_device::{Device, DeviceFault, Trial};
+use edd_display::show_play;
+use edd_loader::{Image, load};
+use edd_machine::Values;
+use edd_syntax::answer::Trap;
+use edd_syntax::numbers::ItemNo;
+use std::alloc::{AllocError, Global};
+use std::io::Write;
+
+fn trap_word(why: Trap) -> &'static str {
+    match why {
+        Trap::DivZero => "DIV_ZERO",
+        Trap::DivOverflow => "DIV_OVERFLOW",
+        Trap::BadShift => "BAD_SHIFT",
+        Trap::NoElement => "NO_ELEMENT",
+    }
+}
+
+fn name_in<'b>(image: &Image<'b>, item: ItemNo) -> &'b str {
+    image.name(item).unwrap_or("")
+}
+
+// A fault of a device, with what it is about: a method of the device, or what the instrument has.
+fn fault_text(
+    alloc: Global,
+    instrument: &Image<'_>,
+    device: &Image<'_>,
+    fault: DeviceFault,
+) -> Result<String, AllocError> {
+    match fault {
+        DeviceFault::Asks(method) | DeviceFault::Aborts(method) | DeviceFault::RunsOn(method) => {
+            let name = name_in(device, ItemNo::Method(method));
+            format!(in alloc; "{fault} {name}")
+        }
+        DeviceFault::Traps(method, why) => {
+            let name = name_in(device, ItemNo::Method(method));
+            let word = trap_word(why);
+            format!(in alloc; "{fault} {name} {word}")
+        }
+        DeviceFault::NoCommand(number) => format!(in alloc; "{fault} {number}"),
+        DeviceFault::NoTransaction(number, transaction) => {
+            format!(in alloc; "{fault} {number} {transaction}")
+        }
+        DeviceFault::NoMessage(command, why) => {
+            let name = name_in(instrument, ItemNo::Command(command));
+            let word = trap_word(why);
+            format!(in alloc; "{fault} {name} {word}")
+        }
+        DeviceFault::OutOfRange(variable) => {
+            let name = name_in(instrument, ItemNo::Variable(variable));
+            format!(in alloc; "{fault} {name}")
+        }
+        DeviceFault::WrongCode | DeviceFault::Memory => format!(in alloc; "{fault}"),
+    }
+}
+
+// What the method does with the device, which starts anew.
+fn tried<'a>(
+    alloc: Global,
+    instrument: &Image<'_>,
+    device: &Image<'_>,
+    script: &[u8],
+    run: Run<'a>,
+) -> Result<Trial, Stop<'a>> {
+    let script = script::parse(alloc, instrument, script)?;
+    let method = method_named(instrument, run.method)?;
+    let values = Values::new(alloc, instrument, &script.values)?;
+    let steps = u32::try_from(run.steps).unwrap_or(u32::MAX);
+    let mut device = Device::new(alloc, instrument, device)?;
+    Ok(device.play(alloc, method, values, &script.answers, steps)?)
+}
+
+// Runs the method, and prints what it did, and then the fault of the device, if it had one.
+fn show_trial<'a, W: Write>(
+    alloc: Global,
+    instrument: &Image<'_>,
+    device: &Image<'_>,
+    script: &[u8],
+    run: Run<'a>,
+    out: &mut W,
+) -> Result<(), Stop<'a>> {
+    let trial = tried(alloc, instrument, device, script, run)?;
+    show_play(alloc, instrument, &trial.transcript, run.language, out)?;
+    match trial.fault {
+        Some(fault) => Err(Stop::Device(fault_text(alloc, instrument, device, fault)?)),
+        None => Ok(()),
+    }
+}
+
+fn compiled<'a>(alloc: Global, name: &'a str, text: &[u8]) -> Result<Vec<u8>, Stop<'a>> {
+    match compile(alloc, text) {
+        Ok(bytes) => Ok(bytes),
+        Err(Fault::Memory) => Err(Stop::Memory),
+        Err(fault) => Err(Stop::NoDevice(name, fault)),
+    }
+}
+
+/// Runs a method of an image with a device, whose source is this text, and under a script for what
+/// the user is asked, and prints what it did.
+pub fn play_with_device<'a, W: Write>(
+    alloc: Global,
+    bytes: &[u8],
+    name: &'a str,
+    text: &[u8],
+    script: &[u8],
+    run: Run<'a>,
+    out: &mut W,
+) -> Result<(), Stop<'a>> {
+    let instrument = load(alloc, bytes)?;
+    let device_bytes = compiled(alloc, name, text)?;
+    let device = load(alloc, &device_bytes)?;
+    show_trial(alloc, &instrument, &device, script, run, out)
+}
