@@ -3,6 +3,7 @@
 
 ghost use Rattle.std.specs.Prelude.{◌≡◌, IfSome};
 
+mod edits;
 mod grammar;
 mod image;
 mod rules;
@@ -21,12 +22,13 @@ pub struct Explanation {
 }
 
 /// All explanations, by their numbers, in the groups in which they are told.
-const GROUPS: [&[Explanation]; 5] = [
+const GROUPS: [&[Explanation]; 6] = [
     &text::EXPLANATIONS,
     &grammar::EXPLANATIONS,
     &rules::EXPLANATIONS,
     &image::EXPLANATIONS,
     &values::EXPLANATIONS,
+    &edits::EXPLANATIONS,
 ];
 
 /// The explanation of a number, or none where nothing is refused with it.

@@ -5,7 +5,10 @@
 ghost use Rattle.std.specs.Prelude.{◌≤◌};
 
 mod checking;
+mod conversation;
 mod files;
+mod input;
+mod opening;
 mod playing;
 mod requests;
 mod script;
