@@ -1,5 +1,5 @@
 -- What a command does to a panel.
-use Rattle.std.specs.Prelude.{◌≡◌, ℤ, Option, Some, None, slice_set}
+use Rattle.std.specs.Prelude.{◌≡◌, ℕ, ℤ, Bool, not, ◌==◌, ◌⊎◌, List, [], ◌∷◌, ◌++◌, Option, Some, None, IfSome, bit_and, slice_set}
 use Rattle.edd_syntax.specs.declared.numbers.MethNo.{MethNo}
 use Rattle.edd_port.specs.Runs.{Run, OpensIn}
 use Rattle.edd_panel.specs.declared.command.Command.{Command}
@@ -8,6 +8,7 @@ use Rattle.edd_panel.specs.declared.command.Happened.{Happened}
 use Rattle.edd_panel.specs.declared.command.Happened.TheVariants as happened
 use Rattle.edd_panel.specs.declared.fault.EditFault.{EditFault}
 use Rattle.edd_panel.specs.declared.place.Field.{Field}
+use Rattle.edd_panel.specs.declared.place.Place.{Place}
 use Rattle.edd_panel.specs.Edits.{Decides}
 use Rattle.edd_panel.specs.Replies.{Replies}
 use Rattle.edd_panel.specs.Standing.{Standing}
@@ -47,6 +48,17 @@ AtVariable before f command.Abort h after = (h ≡ happened.Unknown) × (after �
 abbrev pub Starts : Standing → MethNo → Standing → Type 0
 Starts before m after = (r : Run) × (after ≡ record before { run = Some r })
     × (r.image ≡ before.image) × OpensIn before.image m before.values r.state × (r.taken ≡ 0)
+
+-- the bit of READ_ONLY among the qualifiers of an entry
+abbrev pub is_read_only : (qualifiers : ℕ) → Bool
+is_read_only qualifiers = not (bit_and qualifiers 2 == 0)
+
+-- what an entry opens, a variable or a level, is READ_ONLY where this says so
+abbrev pub KeepsReadOnly : (read_only : Bool) → Standing → Standing → Type 0
+KeepsReadOnly read_only before after =
+    IfSome after.field (λ f. (before.field ≡ Some f) ⊎ (f.read_only ≡ read_only))
+    × ((after.path ≡ before.path) ⊎ ((p : Place) × (after.path
+    ≡ before.path ++ record { place = p; read_only = read_only } ∷ [])))
 
 -- no value changes, and a run begins only where a method was started
 abbrev pub AtMenu : Standing → Happened → Standing → Type 0

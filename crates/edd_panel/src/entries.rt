@@ -1,7 +1,9 @@
 //! The entries of a screen.
 
+ghost use Rattle.std.specs.Prelude.{◌≡◌};
 ghost use Rattle.edd_syntax.specs.DeviceValues.{AreDeviceValues};
 ghost use Rattle.edd_machine.specs.Types.{types_in};
+ghost use Rattle.edd_panel.specs.Happens.{is_read_only};
 
 use crate::edits::first_number;
 use crate::found::{Found, read};
@@ -58,7 +60,9 @@ impl Entry {
         }
     }
 
-    pub fn is_read_only(&self) -> bool {
+    pub fn is_read_only(&self) -> bool
+        ensures { result ≡ is_read_only self.now.qualifiers }
+    {
         self.qualifiers & READ_ONLY != 0
     }
 }

@@ -1,6 +1,6 @@
 //! The panel: a machine over commands.
 
-ghost use Rattle.std.specs.Prelude.{◌≡◌, ◌<◌, IfNone, IfOk, IfSome, None, OnErr, OnOk, Some, length, option_map};
+ghost use Rattle.std.specs.Prelude.{◌≡◌, ◌||◌, ◌++◌, ◌∷◌, [], ◌<◌, IfNone, IfOk, IfSome, None, OnErr, OnOk, Some, length, option_map};
 ghost use Rattle.std.specs.Result.{result_err};
 ghost use Rattle.edd_syntax.specs.Answers.{answer_of};
 ghost use Rattle.edd_syntax.specs.DeviceValues.{AreDeviceValues};
@@ -8,7 +8,7 @@ ghost use Rattle.edd_machine.specs.Types.{types_in};
 ghost use Rattle.edd_port.specs.Faults.{answer_fault_of};
 ghost use Rattle.edd_port.specs.Turns.{turn_of};
 ghost use Rattle.edd_panel.specs.Advances.{Advances, answer_refusal, answered_by};
-ghost use Rattle.edd_panel.specs.Happens.{AtMenu, AtVariable, Edits, Happens, OnlyMoves, Starts};
+ghost use Rattle.edd_panel.specs.Happens.{AtMenu, AtVariable, Edits, Happens, KeepsReadOnly, is_read_only};
 ghost use Rattle.edd_panel.specs.Standing.{current, opened};
 
 use crate::command::{Command, Happened};
@@ -162,6 +162,7 @@ impl<'i, 'b> Panel<'i, 'b> {
     // Starts a method under a copy of the values.
     fn start(&mut self, alloc: Global, method: MethNo) -> Result<Happened, AllocError>
         ensures does { IfOk result (λ happened. AtMenu self.old happened self.new) }
+        ensures stays { (self.new.field ≡ self.old.field) × (self.new.path ≡ self.old.path) }
         ensures kept { OnErr result (self.new ≡ self.old) }
     {
         let numbers = Vec::from_slice(alloc, self.values.numbers.as_slice())?;
@@ -176,6 +177,8 @@ impl<'i, 'b> Panel<'i, 'b> {
 
     fn enter(&mut self, place: Place, read_only: bool) -> Result<Happened, AllocError>
         ensures does { IfOk result (λ happened. AtMenu self.old happened self.new) }
+        ensures enters { OnOk result ((self.new.field ≡ self.old.field) × (self.new.path
+            ≡ self.old.path ++ record { place = place; read_only = read_only } ∷ [])) }
         ensures kept { OnErr result (self.new ≡ self.old) }
     {
         self.path.push(Level { place, read_only })?;
@@ -189,6 +192,8 @@ impl<'i, 'b> Panel<'i, 'b> {
         read_only: bool,
     ) -> Result<Happened, AllocError>
         ensures does { IfOk result (λ happened. AtMenu self.old happened self.new) }
+        ensures fixed { OnOk result
+            (KeepsReadOnly (read_only || is_read_only entry.qualifiers) self.old self.new) }
         ensures kept { OnErr result (self.new ≡ self.old) }
     {
         if let Some(trap) = entry.trap {

@@ -43,10 +43,7 @@ enum Next {
 }
 
 // The next line, or nothing at the end. A line that is no text is one that means nothing.
-fn next_line<'a, R: Read>(
-    alloc: Global,
-    input: &mut Lines<R>,
-) -> Result<Option<String>, Stop<'a>> {
+fn next_line<'a, R: Read>(alloc: Global, input: &mut Lines<R>) -> Result<Option<String>, Stop<'a>> {
     let line = match input.next(alloc) {
         Ok(Some(line)) => line,
         Ok(None) => return Ok(None),
