@@ -9,7 +9,8 @@ import subprocess
 import sys
 
 # Debian's packages of the crates that the edition uses, and of what further systems need.
-SOURCES = ("librust-arrayvec-dev", "librust-clap-dev", "librust-serde-dev", "librust-serde-derive-dev", "librust-serde-json-dev")
+SOURCES = ("librust-arrayvec-dev", "librust-clap-dev", "librust-serde-dev", "librust-serde-derive-dev", "librust-serde-json-dev",
+           "librust-unicode-width-dev")
 COMPILER = ("rustc-web", "cargo-web")
 # A compiler with the source of its standard library, of which one is made for other systems, and their linkers.
 SYSTEMS = (*COMPILER, "rust-web-src", "lld", "gcc-multilib")

@@ -12,6 +12,7 @@ OWN = {"indexmap": "indexmap", "clap": "clap", "serde_json": "serde_json", "strs
 REAL = {
     "arrayvec": '{ version = "0.7", default-features = false }',
     "serde": '{ version = "1", features = ["derive"] }',
+    "unicode_width": '{ package = "unicode-width", version = ">=0.1.10, <0.3", default-features = false }',
 }
 # A crate that names one of these needs the system.
 SYSTEM = re.compile(r"\bHostRuntime\b|\bstd::(?:fs|env|os|path|process|rt)\b|\buse std::\{[^}]*\b(?:env|fs)\b")

@@ -4,6 +4,7 @@
 ghost use Rattle.std.specs.Prelude.{◌≡◌, IfSome};
 
 mod devices;
+mod edits;
 mod grammar;
 mod image;
 mod rules;
@@ -22,13 +23,14 @@ pub struct Explanation {
 }
 
 /// All explanations, by their numbers, in the groups in which they are told.
-const GROUPS: [&[Explanation]; 6] = [
+const GROUPS: [&[Explanation]; 7] = [
     &text::EXPLANATIONS,
     &grammar::EXPLANATIONS,
     &rules::EXPLANATIONS,
     &image::EXPLANATIONS,
     &values::EXPLANATIONS,
     &devices::EXPLANATIONS,
+    &edits::EXPLANATIONS,
 ];
 
 /// The explanation of a number, or none where nothing is refused with it.

@@ -5,8 +5,11 @@
 ghost use Rattle.std.specs.Prelude.{◌≤◌};
 
 mod checking;
+mod conversation;
 mod devices;
 mod files;
+mod input;
+mod opening;
 mod playing;
 mod requests;
 mod script;

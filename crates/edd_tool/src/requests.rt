@@ -5,6 +5,7 @@ ghost use Rattle.std.specs.Prelude.{◌≤◌};
 use crate::checking::{check_text, choices_of, push_lints};
 use crate::devices::play_with_device;
 use crate::files::{FileFault, Files, read_all};
+use crate::opening::open;
 use crate::playing::play_bytes;
 use crate::script::{self, ScriptFault};
 use crate::{COMMAND_LINE, DONE, FILE, MEMORY, REFUSED};
@@ -118,20 +119,26 @@ impl From<AllocError> for Stop<'_> {
     }
 }
 
-fn of_file<'a>(name: &'a str, fault: FileFault) -> Stop<'a> {
+/// The end of a program whose file failed.
+pub fn of_file<'a>(name: &'a str, fault: FileFault) -> Stop<'a> {
     match fault {
         FileFault::Failed => Stop::File(name),
         FileFault::Memory => Stop::Memory,
     }
 }
 
-fn read<'a, F: Files>(alloc: Global, files: &mut F, name: &'a str) -> Result<Vec<u8>, Stop<'a>> {
+/// The bytes of a file.
+pub fn read<'a, F: Files>(
+    alloc: Global,
+    files: &mut F,
+    name: &'a str,
+) -> Result<Vec<u8>, Stop<'a>> {
     let mut reader = files.open(name).map_err(|fault| of_file(name, fault))?;
     read_all(alloc, &mut reader).map_err(|fault| of_file(name, fault))
 }
 
-// No script is an empty one.
-fn read_script<'a, F: Files>(
+/// The bytes of a script. No script is an empty one.
+pub fn read_script<'a, F: Files>(
     alloc: Global,
     files: &mut F,
     name: Option<&'a str>,
@@ -332,6 +339,7 @@ pub fn answer<'a, F: Files, W: Write>(
             lints,
             form,
         } => check_source(alloc, source, &lints, form, files, out),
+        Request::Open(opening) => open(alloc, opening, files, out),
         Request::Dump { image } => dump_file(alloc, image, files, out),
         Request::Explain { number } => print_explanation(alloc, number, out),
     }

@@ -177,3 +177,31 @@ pub fn parse(alloc: Global, image: &Image<'_>, script: &[u8]) -> Result<Script, 
     }
     Ok(made)
 }
+
+// The last setting of a variable counts.
+fn note_set(given: &mut [Option<i64>], line: &Line) {
+    if let Line::Set(variable, value) = line
+        && let Some(place) = given.get_mut(usize::from(variable.0))
+    {
+        *place = Some(*value);
+    }
+}
+
+/// Reads the values that a script sets, by the variables' numbers. Its answers are passed over.
+pub fn parse_sets(
+    alloc: Global,
+    image: &Image<'_>,
+    script: &[u8],
+) -> Result<Vec<Option<i64>>, ScriptFault> {
+    let count = usize::from(image.counts().variables);
+    let mut given = Vec::with_capacity(alloc, count)?;
+    given.resize(count, None)?;
+    for (before, bytes) in script.split_inclusive(|byte| *byte == b'\n').enumerate() {
+        let line = before.saturating_add(1);
+        match parse_line(alloc, image, bytes)? {
+            None => return Err(ScriptFault::Line { line }),
+            Some(read) => note_set(given.as_mut_slice(), &read),
+        }
+    }
+    Ok(given)
+}

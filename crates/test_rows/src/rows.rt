@@ -17,7 +17,7 @@ pub struct Row<'a> {
     pub files: Vec<Given<'a>>,
     pub status: &'a str,
     pub lines: &'a str,
-    /// The bytes of the image that it writes, where the row says them.
+    /// The bytes of the file that it writes, where the row says them.
     pub image: Option<Vec<u8>>,
 }
 
@@ -104,6 +104,7 @@ impl<'a> Row<'a> {
                 self.files.push(Given { name, bytes })?;
             }
             "image" => self.image = Some(from_hex(alloc, below)?),
+            "saved" => self.image = Some(from_text(alloc, below)?),
             "more" | "times" | "numbered" | "fill" => {
                 if let Some(file) = self.files.last_mut() {
                     lengthen(alloc, &mut file.bytes, kind, name)?;
@@ -119,7 +120,8 @@ impl<'a> Row<'a> {
 
     /// Reads a row: the words, `@name NAME`, a part `@file NAME` or `@hex NAME` for each file,
     /// which `@more TEXT`, `@times COUNT TEXT`, `@numbered COUNT TEXT` and `@fill LENGTH` make
-    /// longer, `@status N` with the printed lines, and perhaps `@image`.
+    /// longer, `@status N` with the printed lines, and perhaps `@image` or `@saved` with the bytes
+    /// or the lines that are written.
     pub fn parse(alloc: Global, text: &'a str) -> Result<Row<'a>, AllocError> {
         let (words, rest) = text.split_once('\n').unwrap_or((text, ""));
         let mut row = Row::new(alloc, words);

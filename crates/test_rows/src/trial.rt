@@ -7,6 +7,9 @@ use std::fmt;
 /// The most calls of one kind that a row makes.
 pub const MOST_CALLS: u32 = 1_000_000;
 
+/// The name under which the program reads the lines of a user.
+const INPUT: &str = "/dev/stdin";
+
 /// Room for what is printed beside the row's lines.
 const ROOM: usize = 4096;
 
@@ -142,12 +145,20 @@ fn is_refusal(row: &Row<'_>, text: &str) -> bool {
     (before.is_empty() || before.ends_with('\n')) && row.lines.starts_with(before)
 }
 
-// `file NAME`, for a word of the command line.
+// `file NAME`, for a word of the command line or for the lines of a user. Before it lines of the row
+// may be printed where the program talks with a user.
 fn is_file_fault(row: &Row<'_>, text: &str) -> bool {
-    let Some(name) = text.strip_prefix("file ") else {
+    let Some(lines) = text.strip_suffix('\n') else {
         return false;
     };
-    row.words
-        .split(' ')
-        .any(|word| name.strip_suffix('\n') == Some(word))
+    let (before, last) = match lines.rsplit_once('\n') {
+        Some((before, last)) => (before, last),
+        None => ("", lines),
+    };
+    let Some(name) = last.strip_prefix("file ") else {
+        return false;
+    };
+    let is_named = name == INPUT || row.words.split(' ').any(|word| word == name);
+    let talks = row.words.starts_with("edd open ") && row.lines.starts_with(before);
+    is_named && (before.is_empty() || talks)
 }

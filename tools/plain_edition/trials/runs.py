@@ -103,11 +103,13 @@ def rows(score, program):
 def run_row(row, program):
     with tempfile.TemporaryDirectory() as room:
         for name, data in row.files:
-            with open(os.path.join(room, name), "wb") as file:
-                file.write(data)
+            if name != table.INPUT:
+                with open(os.path.join(room, name), "wb") as file:
+                    file.write(data)
         if ENDLESS in row.words:
             os.symlink(os.path.join(os.sep, "dev", "zero"), os.path.join(room, ENDLESS))
-        ran = subprocess.run([program, *row.words], cwd=room, stdin=subprocess.DEVNULL, capture_output=True, timeout=60, check=False)
+        lines = bytes(dict(row.files).get(table.INPUT, b""))
+        ran = subprocess.run([program, *row.words], cwd=room, input=lines, capture_output=True, timeout=60, check=False)
         image = None
         if row.image is not None and os.path.exists(os.path.join(room, row.words[-1])):
             with open(os.path.join(room, row.words[-1]), "rb") as file:

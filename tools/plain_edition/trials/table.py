@@ -4,6 +4,8 @@ import os
 from .. import repository
 
 ROW = b"@run "
+# The file that is the standard input.
+INPUT = "/dev/stdin"
 WORDS_OF_A_LIBRARY = ("--help", "--version", "-h", "-V", "help")
 
 
@@ -29,6 +31,8 @@ class Row:
                 self.files.append((argument.decode(), bytearray(from_hex(below))))
             case "image":
                 self.image = from_hex(below)
+            case "saved":
+                self.image = bytes(below)
             case "more" | "times" | "numbered" | "fill":
                 lengthen(self.files[-1][1], kind, argument)
             case "status":

@@ -1,0 +1,6 @@
+pub mod Advances
+pub mod Edits
+pub mod Found
+pub mod Happens
+pub mod Replies
+pub mod Standing

@@ -1,0 +1,178 @@
+//! The screen of a menu.
+
+ghost use Rattle.edd_syntax.specs.DeviceValues.{AreDeviceValues};
+ghost use Rattle.edd_machine.specs.Types.{types_in};
+
+use crate::contents::{Content, content_of};
+use crate::words::{Page, Words};
+use edd_machine::Values;
+use edd_panel::{
+    Entry, Level, Listed, Place, handling_fault, list_entries, of_variable, read, shown_place,
+};
+use edd_syntax::answer::Trap;
+use edd_syntax::numbers::{Attr, ItemNo, VarNo};
+use std::alloc::{AllocError, Global};
+
+/// What an entry leads to.
+#[derive(Drop)]
+pub enum Leads<'b> {
+    /// A variable, whose value is shown.
+    Variable {
+        content: Content<'b>,
+        unit: Option<Words<'b>>,
+        /// Whether it can't be changed here.
+        read_only: bool,
+    },
+    Menu,
+    Method,
+    /// Whether the entry is there can't be told: its VALIDITY traps.
+    Fault(Trap),
+}
+
+/// A line of a screen. An entry has a number, and a text none.
+#[derive(Drop)]
+pub enum Row<'b> {
+    Text(Words<'b>),
+    Entry { label: Words<'b>, leads: Leads<'b> },
+}
+
+/// The screen of a menu, a collection or the top.
+#[derive(Drop)]
+pub struct Screen<'b> {
+    /// The label of the menu or the collection.
+    pub title: Option<Words<'b>>,
+    /// The entries are numbered from 1, in their order.
+    pub rows: Vec<Row<'b>>,
+    /// The trap that is in their place.
+    pub trap: Option<Trap>,
+}
+
+/// Whether a variable can't be changed through an entry.
+fn is_fixed(
+    alloc: Global,
+    page: &Page<'_, '_>,
+    values: &Values,
+    variable: VarNo,
+    read_only: bool,
+) -> Result<bool, AllocError>
+    requires { AreDeviceValues (types_in page.now.image.now) values.now.numbers.items }
+{
+    if read_only {
+        return Ok(true);
+    }
+    let handling = read(
+        alloc,
+        page.image,
+        of_variable(variable, Attr::Handling),
+        values,
+    )?;
+    Ok(handling_fault(&handling).is_some())
+}
+
+// Where an entry leads that is there.
+fn leads_to<'b>(
+    alloc: Global,
+    page: &Page<'_, 'b>,
+    values: &Values,
+    item: ItemNo,
+    read_only: bool,
+) -> Result<Leads<'b>, AllocError>
+    requires { AreDeviceValues (types_in page.now.image.now) values.now.numbers.items }
+{
+    let ItemNo::Variable(variable) = item else {
+        return match item {
+            ItemNo::Method(_) => Ok(Leads::Method),
+            _ => Ok(Leads::Menu),
+        };
+    };
+    let content = content_of(alloc, page, values, variable, Attr::DisplayFormat)?;
+    let unit = page.words(alloc, values, item, Attr::ConstantUnit)?;
+    let read_only = is_fixed(alloc, page, values, variable, read_only)?;
+    Ok(Leads::Variable {
+        content,
+        unit,
+        read_only,
+    })
+}
+
+fn row_of<'b>(
+    alloc: Global,
+    page: &Page<'_, 'b>,
+    values: &Values,
+    entry: Entry,
+    read_only: bool,
+) -> Result<Row<'b>, AllocError>
+    requires { AreDeviceValues (types_in page.now.image.now) values.now.numbers.items }
+{
+    let label = page.label(alloc, values, entry.item, entry.label)?;
+    let leads = match entry.trap {
+        Some(trap) => Leads::Fault(trap),
+        None => {
+            let read_only = read_only || entry.is_read_only();
+            leads_to(alloc, page, values, entry.item, read_only)?
+        }
+    };
+    Ok(Row::Entry { label, leads })
+}
+
+fn rows_of<'b>(
+    alloc: Global,
+    page: &Page<'_, 'b>,
+    values: &Values,
+    lines: &[Listed],
+    read_only: bool,
+) -> Result<Vec<Row<'b>>, AllocError>
+    requires { AreDeviceValues (types_in page.now.image.now) values.now.numbers.items }
+{
+    let mut rows = Vec::new(alloc);
+    for line in lines {
+        match line {
+            Listed::Text(string) => {
+                if let Some(text) = page.text(*string) {
+                    rows.push(Row::Text(Words::Text(text)))?;
+                }
+            }
+            Listed::Entry(entry) => {
+                let row = row_of(alloc, page, values, *entry, read_only)?;
+                rows.push(row)?;
+            }
+        }
+    }
+    Ok(rows)
+}
+
+fn title_of<'b>(
+    alloc: Global,
+    page: &Page<'_, 'b>,
+    values: &Values,
+    place: Place,
+) -> Result<Option<Words<'b>>, AllocError>
+    requires { AreDeviceValues (types_in page.now.image.now) values.now.numbers.items }
+{
+    let item = match shown_place(alloc, page.image, values, place)? {
+        Place::Top => return Ok(None),
+        Place::Menu(menu) => ItemNo::Menu(menu),
+        Place::Collection(collection) => ItemNo::Collection(collection),
+    };
+    let label = page.label(alloc, values, item, None)?;
+    Ok(Some(label))
+}
+
+/// The screen of a level.
+pub fn make_screen<'b>(
+    alloc: Global,
+    page: &Page<'_, 'b>,
+    values: &Values,
+    level: Level,
+) -> Result<Screen<'b>, AllocError>
+    requires { AreDeviceValues (types_in page.now.image.now) values.now.numbers.items }
+{
+    let title = title_of(alloc, page, values, level.place)?;
+    let listing = list_entries(alloc, page.image, values, level.place)?;
+    let rows = rows_of(alloc, page, values, &listing.lines, level.read_only)?;
+    Ok(Screen {
+        title,
+        rows,
+        trap: listing.trap,
+    })
+}

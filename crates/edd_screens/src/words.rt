@@ -1,0 +1,102 @@
+//! The texts of items.
+
+ghost use Rattle.edd_syntax.specs.DeviceValues.{AreDeviceValues};
+ghost use Rattle.edd_machine.specs.Types.{types_in};
+
+use edd_instructions::Record;
+use edd_loader::{Image, Text};
+use edd_machine::Values;
+use edd_panel::{Found, read};
+use edd_syntax::answer::Trap;
+use edd_syntax::numbers::{Attr, AttrRef, ItemNo, StrNo};
+use std::alloc::{AllocError, Global};
+
+/// Words on a screen.
+#[derive(Clone, Copy)]
+pub enum Words<'b> {
+    Text(Text<'b>),
+    /// The name of an item that has no label.
+    Name(&'b str),
+    /// The trap that is in their place.
+    Fault(Trap),
+}
+
+/// An image, and the code of the language of its texts.
+#[derive(Clone, Copy)]
+pub struct Page<'i, 'b> {
+    pub image: &'i Image<'b>,
+    pub language: &'i str,
+}
+
+impl<'i, 'b> Page<'i, 'b> {
+    /// The text of a string.
+    pub fn text(&self, string: StrNo) -> Option<Text<'b>> {
+        self.image.text(string, self.language)
+    }
+
+    /// The text that an attribute gives.
+    pub fn words(
+        &self,
+        alloc: Global,
+        values: &Values,
+        item: ItemNo,
+        attr: Attr,
+    ) -> Result<Option<Words<'b>>, AllocError>
+        requires { AreDeviceValues (types_in self.now.image.now) values.now.numbers.items }
+    {
+        match read(alloc, self.image, AttrRef { item, attr, sub: 0 }, values)? {
+            Found::Records(records) => Ok(self.first_words(&records)),
+            Found::Trap(trap) => Ok(Some(Words::Fault(trap))),
+            Found::Nothing => Ok(None),
+        }
+    }
+
+    fn first_words(&self, records: &[Record]) -> Option<Words<'b>> {
+        match records {
+            [Record::Words(string), ..] => match self.text(*string) {
+                Some(text) => Some(Words::Text(text)),
+                None => None,
+            },
+            _ => None,
+        }
+    }
+
+    /// What an item is called: as its collection has it, else by its LABEL, else by its name.
+    pub fn label(
+        &self,
+        alloc: Global,
+        values: &Values,
+        item: ItemNo,
+        own: Option<StrNo>,
+    ) -> Result<Words<'b>, AllocError>
+        requires { AreDeviceValues (types_in self.now.image.now) values.now.numbers.items }
+    {
+        if let Some(string) = own
+            && let Some(text) = self.text(string)
+        {
+            return Ok(Words::Text(text));
+        }
+        match self.words(alloc, values, item, Attr::Label)? {
+            Some(words) => Ok(words),
+            None => Ok(Words::Name(self.image.name(item).unwrap_or(""))),
+        }
+    }
+
+    /// The help of an item, as its collection has it, or else its HELP.
+    pub fn help(
+        &self,
+        alloc: Global,
+        values: &Values,
+        item: ItemNo,
+        own: Option<StrNo>,
+    ) -> Result<Option<Words<'b>>, AllocError>
+        requires { AreDeviceValues (types_in self.now.image.now) values.now.numbers.items }
+    {
+        if let Some(string) = own
+            && let Some(text) = self.text(string)
+        {
+            return Ok(Some(Words::Text(text)));
+        }
+        self.words(alloc, values, item, Attr::Help)
+    }
+}

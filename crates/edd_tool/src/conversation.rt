@@ -1,0 +1,266 @@
+//! The lines of a user, one after the other, and what the program answers.
+
+use crate::input::Lines;
+use crate::opening::INPUT;
+use crate::requests::{Stop, of_file};
+use edd_display::print_text;
+use edd_instructions::Request;
+use edd_panel::{Command, Happened, Panel};
+use edd_panel_lines::{
+    COMMANDS, prompt_of, push_answer, push_asked, push_done, push_end, push_happened, push_help,
+    push_set, push_view,
+};
+use edd_port::Turn;
+use edd_screens::{Line, help_of, line_of};
+use edd_syntax::answer::Answer;
+use std::alloc::Global;
+use std::io::{Read, Write};
+
+/// The most instructions of a method that are executed before the user is asked whether it goes on.
+const STEPS: u32 = 1_000_000;
+
+/// The most messages that a method shows before that.
+const MESSAGES: u32 = 1_000;
+
+/// How often a method is aborted at the end: once, and then each abort method that asks.
+const ABORTS: u32 = 16;
+
+/// Where a user's lines come from, and where the program's go.
+#[derive(Drop)]
+pub struct Console<'c, R, W> {
+    pub input: Lines<R>,
+    pub out: &'c mut W,
+}
+
+// What comes after a line.
+#[derive(Clone, Copy)]
+enum Next {
+    /// All is shown again.
+    View,
+    /// The user is asked again.
+    Prompt,
+    End,
+}
+
+// The next line, or nothing at the end. A line that is no text is one that means nothing.
+fn next_line<'a, R: Read>(alloc: Global, input: &mut Lines<R>) -> Result<Option<String>, Stop<'a>> {
+    let line = match input.next(alloc) {
+        Ok(Some(line)) => line,
+        Ok(None) => return Ok(None),
+        Err(fault) => return Err(of_file(INPUT, fault)),
+    };
+    let text = str::from_utf8(&line).unwrap_or("\0");
+    Ok(Some(String::from_str(alloc, text)?))
+}
+
+// The answer to a request that needs no user. A device is asked here.
+fn own_answer(alloc: Global, request: Request) -> Option<Answer> {
+    match request {
+        Request::PutMessage(_) => Some(Answer::Go {
+            code: 0,
+            sets: Vec::new(alloc),
+        }),
+        _ => None,
+    }
+}
+
+// Shows a request and gives it an answer.
+fn give<'a, W: Write>(
+    alloc: Global,
+    panel: &mut Panel<'_, '_>,
+    request: Request,
+    answer: &Answer,
+    out: &mut W,
+    noted: &mut String,
+) -> Result<(), Stop<'a>> {
+    let mut lines = String::new(alloc);
+    push_asked(alloc, &mut lines, panel, request)?;
+    print_text(out, &lines)?;
+    if panel.answer(answer).is_ok() {
+        push_answer(noted, panel.image(), answer)?;
+    }
+    Ok(())
+}
+
+fn show_end<'a, W: Write>(alloc: Global, turn: Turn, out: &mut W) -> Result<(), Stop<'a>> {
+    let mut lines = String::new(alloc);
+    push_end(&mut lines, turn)?;
+    print_text(out, &lines)?;
+    Ok(())
+}
+
+// Lets the method go on until it asks the user or is over, and says where it is.
+fn settle<'a, W: Write>(
+    alloc: Global,
+    panel: &mut Panel<'_, '_>,
+    out: &mut W,
+    noted: &mut String,
+) -> Result<Option<Turn>, Stop<'a>> {
+    for _ in 0..MESSAGES {
+        let Some(turn) = panel.advance(STEPS) else {
+            return Ok(None);
+        };
+        let Turn::Asks(request) = turn else {
+            show_end(alloc, turn, out)?;
+            return Ok(panel.turn());
+        };
+        match own_answer(alloc, request) {
+            Some(answer) => give(alloc, panel, request, &answer, out, noted)?,
+            None => return Ok(Some(turn)),
+        }
+    }
+    Ok(panel.turn())
+}
+
+// What was done, on a line where that isn't shown by itself.
+fn show_happened<'a, W: Write>(
+    alloc: Global,
+    panel: &Panel<'_, '_>,
+    happened: &Happened,
+    out: &mut W,
+) -> Result<(), Stop<'a>> {
+    let mut lines = String::new(alloc);
+    if let Happened::Edited(variable, number) = happened {
+        push_set(&mut lines, panel.image(), *variable, *number)?;
+    }
+    push_happened(&mut lines, happened)?;
+    print_text(out, &lines)?;
+    Ok(())
+}
+
+fn take<'a, W: Write>(
+    alloc: Global,
+    panel: &mut Panel<'_, '_>,
+    command: Command,
+    out: &mut W,
+    noted: &mut String,
+) -> Result<Next, Stop<'a>> {
+    let happened = panel.take(alloc, command)?;
+    push_done(noted, panel.image(), &happened)?;
+    show_happened(alloc, panel, &happened, out)?;
+    match happened {
+        Happened::Shown
+        | Happened::Moved
+        | Happened::Edited(_, _)
+        | Happened::Started(_)
+        | Happened::Answered(_) => Ok(Next::View),
+        Happened::Refused(_)
+        | Happened::NotStarted(_)
+        | Happened::NoEntry
+        | Happened::Trapped(_)
+        | Happened::Unknown => Ok(Next::Prompt),
+    }
+}
+
+fn show_help<'a, W: Write>(
+    alloc: Global,
+    panel: &Panel<'_, '_>,
+    number: Option<i64>,
+    out: &mut W,
+) -> Result<(), Stop<'a>> {
+    let help = help_of(alloc, panel, number)?;
+    let mut lines = String::new(alloc);
+    push_help(&mut lines, help)?;
+    print_text(out, &lines)?;
+    Ok(())
+}
+
+fn take_line<'a, W: Write>(
+    alloc: Global,
+    panel: &mut Panel<'_, '_>,
+    line: &str,
+    out: &mut W,
+    noted: &mut String,
+) -> Result<Next, Stop<'a>> {
+    match line_of(alloc, panel, line)? {
+        Line::Command(command) => take(alloc, panel, command, out, noted),
+        Line::Help(number) => {
+            show_help(alloc, panel, number, out)?;
+            Ok(Next::Prompt)
+        }
+        Line::Commands => {
+            print_text(out, COMMANDS)?;
+            Ok(Next::Prompt)
+        }
+        Line::Quit => Ok(Next::End),
+        Line::Unknown => {
+            show_happened(alloc, panel, &Happened::Unknown, out)?;
+            Ok(Next::Prompt)
+        }
+    }
+}
+
+// Shows where the user is.
+fn show<'a, W: Write>(alloc: Global, panel: &Panel<'_, '_>, out: &mut W) -> Result<(), Stop<'a>> {
+    let mut lines = String::new(alloc);
+    push_view(alloc, &mut lines, panel)?;
+    print_text(out, &lines)?;
+    Ok(())
+}
+
+// Asks for a line and reads it.
+fn ask<'a, R: Read, W: Write>(
+    alloc: Global,
+    panel: &Panel<'_, '_>,
+    console: &mut Console<'_, R, W>,
+) -> Result<Option<String>, Stop<'a>> {
+    let mut lines = String::from_str(alloc, prompt_of(panel))?;
+    lines.push('\n')?;
+    print_text(console.out, &lines)?;
+    if console.out.flush().is_err() {
+        return Err(Stop::Output);
+    }
+    next_line(alloc, &mut console.input)
+}
+
+// Aborts the method that asks.
+fn abort<'a>(panel: &mut Panel<'_, '_>, noted: &mut String) -> Result<(), Stop<'a>> {
+    if panel.answer(&Answer::Abort).is_ok() {
+        push_answer(noted, panel.image(), &Answer::Abort)?;
+    }
+    Ok(())
+}
+
+// Aborts the method that asks, and each of its abort methods that does.
+fn leave<'a, W: Write>(
+    alloc: Global,
+    panel: &mut Panel<'_, '_>,
+    out: &mut W,
+    noted: &mut String,
+) -> Result<(), Stop<'a>> {
+    for _ in 0..ABORTS {
+        if !matches!(panel.turn(), Some(Turn::Asks(_))) {
+            return Ok(());
+        }
+        abort(panel, noted)?;
+        if let Some(Turn::Asks(_)) = settle(alloc, panel, out, noted)? {
+            show(alloc, panel, out)?;
+        }
+    }
+    Ok(())
+}
+
+/// Shows where the user is, takes a line, and so on, up to `q` or the end of the lines. A method
+/// that asks then is aborted. What is set and answered is noted as lines of a script.
+pub fn converse<'a, R: Read, W: Write>(
+    alloc: Global,
+    panel: &mut Panel<'_, '_>,
+    console: &mut Console<'_, R, W>,
+    noted: &mut String,
+) -> Result<(), Stop<'a>> {
+    let mut next = Next::View;
+    for _ in 0..u64::MAX {
+        if matches!(next, Next::View) {
+            settle(alloc, panel, console.out, noted)?;
+            show(alloc, panel, console.out)?;
+        }
+        next = match ask(alloc, panel, console)? {
+            Some(line) => take_line(alloc, panel, &line, console.out, noted)?,
+            None => Next::End,
+        };
+        if matches!(next, Next::End) {
+            break;
+        }
+    }
+    leave(alloc, panel, console.out, noted)
+}

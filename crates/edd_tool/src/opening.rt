@@ -1,0 +1,75 @@
+//! What the program does to open a description.
+
+use crate::conversation::{Console, converse};
+use crate::files::Files;
+use crate::input::Lines;
+use crate::requests::{Stop, of_file, read, read_script};
+use crate::script::parse_sets;
+use edd_command_line::Opening;
+use edd_compiler::compile;
+use edd_loader::{Image, load};
+use edd_machine::ValuesFault;
+use edd_panel::{Panel, start_values};
+use edd_panel_lines::push_start;
+use std::alloc::Global;
+use std::io::{Read, Write};
+
+/// The name of the file that has the user's lines.
+pub const INPUT: &str = "/dev/stdin";
+
+/// What an image begins with, and no source does.
+const MAGIC: &[u8] = b"EDI1";
+
+// The image in the bytes of a file: of a source what it is compiled to.
+fn image_of<'a>(alloc: Global, bytes: Vec<u8>) -> Result<Vec<u8>, Stop<'a>> {
+    if bytes.starts_with(MAGIC) {
+        return Ok(bytes);
+    }
+    Ok(compile(alloc, &bytes)?)
+}
+
+// Talks about an image up to the end, and gives what was set and answered as a script.
+fn talk<'a, R: Read + Drop, W: Write>(
+    alloc: Global,
+    image: &Image<'_>,
+    language: &str,
+    script: &[u8],
+    input: R,
+    out: &mut W,
+) -> Result<String, Stop<'a>> {
+    let given = parse_sets(alloc, image, script)?;
+    let values = start_values(alloc, image, &given)?;
+    let mut noted = String::new(alloc);
+    push_start(&mut noted, image, &values)?;
+    let Some(mut panel) = Panel::open(alloc, image, language, values) else {
+        return Err(Stop::Values(ValuesFault::Range));
+    };
+    let mut console = Console {
+        input: Lines::new(input),
+        out,
+    };
+    converse(alloc, &mut panel, &mut console, &mut noted)?;
+    Ok(noted)
+}
+
+/// Opens a source or an image, and does what the lines of the standard input say. All files are
+/// opened before anything else is done, and the record is written at the end.
+pub fn open<'a, F: Files, W: Write>(
+    alloc: Global,
+    opening: Opening<'a>,
+    files: &mut F,
+    out: &mut W,
+) -> Result<(), Stop<'a>> {
+    let bytes = read(alloc, files, opening.file)?;
+    let script = read_script(alloc, files, opening.script)?;
+    let input = files.open(INPUT).map_err(|fault| of_file(INPUT, fault))?;
+    let bytes = image_of(alloc, bytes)?;
+    let image = load(alloc, &bytes)?;
+    let noted = talk(alloc, &image, opening.language, &script, input, out)?;
+    match opening.record_file {
+        Some(name) => files
+            .save(name, noted.as_bytes())
+            .map_err(|fault| of_file(name, fault)),
+        None => Ok(()),
+    }
+}
