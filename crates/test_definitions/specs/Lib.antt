@@ -1,0 +1,4 @@
+pub mod Arrays
+pub mod Bytes
+pub mod Methods
+pub mod Units
