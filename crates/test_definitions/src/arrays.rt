@@ -1,6 +1,6 @@
 //! Arrays of variables, whose elements have numbers and no positions.
 
-ghost use Rattle.std.specs.Prelude.{◌≡◌, pos, negsuc, [], ◌∷◌, Some, None, Ok, Err, codes};
+ghost use Rattle.std.specs.Prelude.{◌≡◌, pos, negsuc, [], ◌∷◌, Some, None, Ok, Err};
 ghost use Rattle.edd_syntax.specs.declared.answer.Trap.TheVariants.{NoElement};
 ghost use Rattle.edd_syntax.specs.declared.numbers.Attr.TheVariants as attr;
 ghost use Rattle.edd_syntax.specs.declared.numbers.ItemNo.TheVariants as item_no;
@@ -11,11 +11,11 @@ ghost use Rattle.edd_syntax.specs.Execution.{Ended, Trapped};
 ghost use Rattle.edd_syntax.specs.Expression.{Literal};
 ghost use Rattle.edd_syntax.specs.ItemGrammar.{ItemHere};
 ghost use Rattle.edd_syntax.specs.Refusal.{DuplicateElement};
-ghost use Rattle.edd_syntax.specs.Words.{Variants, english};
 ghost use Rattle.edd_image.specs.Contents.{element_fields};
 ghost use Rattle.edd_image.specs.Layout.{element_row};
 ghost use Rattle.test_definitions.specs.Arrays.{array_item, array_tokens, at, of_item, reads, with_array, with_elements};
 ghost use Rattle.test_definitions.specs.Methods.{did, minus, ok, send, sent};
+ghost use Rattle.test_definitions.specs.Texts.{h, l, says};
 
 /// The element of a number is read, whatever its position is; another number traps.
 pub fn elements_by_number()
@@ -53,8 +53,7 @@ pub fn elements_in_attributes()
         (of_item (item_no.Array (record { 0 = 0 })) attr.Elements) (pos 1 ∷ pos 0 ∷ pos 0 ∷ [])
         ≡ Gives (Ok (Element 9 (record { 0 = 0 }) None None
         ∷ Element 5 (record { 0 = 1 })
-        (Some (Variants (record { code = english; text = codes "l" }) []))
-        (Some (Variants (record { code = english; text = codes "h" }) [])) ∷ [])) }
+        (Some (says l)) (Some (says h)) ∷ [])) }
 {}
 
 /// Two elements of one number are refused.

@@ -4,4 +4,4 @@ use Rattle.test_definitions.proofs.texts.escapes.Goals as goal
 
 pub returns : goal.returns
 unfolding words_of pieces unescape
-returns c = record { tab_and_line_feed = refl; quote_and_backslash = refl }
+returns c = record { tab_and_line_feed = refl; quote_backslash_and_bar = refl }
