@@ -10,6 +10,7 @@ mod numbers;
 mod operators;
 mod statements;
 mod texts;
+mod values;
 
 pub use aborts::{aborted_methods, listed_methods};
 pub use answers::{answered_requests, answers_set_in_order};
@@ -21,3 +22,4 @@ pub use numbers::{attribute_numbers, record_numbers, type_and_kind_numbers};
 pub use operators::{assigned_values, increments, stored_values, wrapped_values};
 pub use statements::{locals_jumped_over, switches};
 pub use texts::{escapes, texts_for_languages};
+pub use values::{comparisons, unary_values, values_of_64_bits};
