@@ -1,0 +1,4 @@
+pub mod EveryRun
+pub mod NeverStuck
+pub mod OneRun
+pub mod Used

@@ -1,0 +1,80 @@
+-- What calls on a session make of it, and the one execution that does the same.
+use Rattle.std.specs.Prelude.{◌≡◌, ℕ, ◌+◌, List, [], ◌∷◌, ◌++◌, map}
+use Rattle.edd_syntax.specs.Answers.{Answer}
+use Rattle.edd_image.specs.Contents.{contents_in}
+use Rattle.edd_instructions.specs.declared.records.Request.{Request}
+use Rattle.edd_instructions.specs.AbortMethods.{execute_in}
+use Rattle.edd_instructions.specs.Execution.{Outcome}
+use Rattle.edd_port.specs.Books.{Pair}
+use Rattle.edd_port.specs.Drives.{Takes, driven}
+use Rattle.edd_port.specs.Runs.{Run, advanced}
+use Rattle.edd_port.specs.Turns.{turn_of, ending_of}
+
+-- what was done so far: how many instructions were executed, which answers were taken, and which
+-- requests were made
+pub record Past : Type 0 where
+  pub steps : ℕ
+  pub answers : List Answer
+  pub requests : List Request
+
+-- at a session's start
+abbrev pub nothing_done : Past
+nothing_done = record { steps = 0; answers = []; requests = [] }
+
+-- an execution under these answers is done as well
+abbrev pub with_run : Past → List Answer → Outcome → Past
+with_run past answers o = record {
+  steps = past.steps + o.steps;
+  answers = past.answers ++ answers;
+  requests = past.requests ++ o.requests;
+}
+
+-- the pending request is answered as well
+abbrev pub with_answer : Past → Answer → Past
+with_answer past answer = record past { answers = past.answers ++ answer ∷ [] }
+
+-- the answers of these pairs
+abbrev pub answers_of : List Pair → List Answer
+answers_of pairs = map (λ p. p.answer) pairs
+
+-- What `advance` says of a session before and after it.
+pub record Advances (before : Run) (budget : ℕ) (after : Run) : Type 0 where
+  pub image : after.image ≡ before.image
+  pub state : after.state ≡ (advanced before budget).state
+
+-- What `drive` says of a session before and after it, where it accepted the answers of these pairs.
+pub record Drives (before : Run) (steps : ℕ) (pairs : List Pair) (after : Run) : Type 0 where
+  pub image : after.image ≡ before.image
+  pub state : after.state ≡ (driven before steps pairs).state
+  pub used : (driven before steps pairs).answers ≡ []
+
+-- This is what calls on a session, in any order and however it is cut, make of it.
+pub data Comes (first : Run) : Past → Run → Type 0 where
+  -- it was just started
+  Started : Comes first nothing_done first
+  -- it is advanced, within any budget
+  Advanced : (past : Past) (before after : Run) (budget : ℕ) → Comes first past before
+      → Advances before budget after
+      → Comes first (with_run past [] (advanced before budget)) after
+  -- the pending request is answered
+  Answered : (past : Past) (before after : Run) (pair : Pair) → Comes first past before
+      → Takes before pair after → Comes first (with_answer past pair.answer) after
+  -- a host drives it
+  Driven : (past : Past) (before after : Run) (steps : ℕ) (pairs : List Pair)
+      → Comes first past before → Drives before steps pairs after
+      → Comes first (with_run past (answers_of pairs) (driven before steps pairs)) after
+
+-- what results from a session's start within so many instructions under these answers, in one piece
+abbrev pub at_once : Run → (steps : ℕ) → List Answer → Outcome
+at_once first steps answers = execute_in (contents_in first.image) steps first.state answers
+
+-- The session is where one execution, of as many instructions and under the same answers, gets: it
+-- makes the same requests, uses all answers, and ends as the session's turn shows.
+pub record IsOneRun (first : Run) (past : Past) (now : Run) : Type 0 where
+  pub image : now.image ≡ first.image
+  pub state : now.state ≡ (at_once first past.steps past.answers).state
+  pub requests : (at_once first past.steps past.answers).requests ≡ past.requests
+  pub used : (at_once first past.steps past.answers).answers ≡ []
+  pub count : (at_once first past.steps past.answers).steps ≡ past.steps
+  pub ending : (at_once first past.steps past.answers).ending
+      ≡ ending_of (turn_of now.state.status)
