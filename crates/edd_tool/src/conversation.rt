@@ -1,10 +1,13 @@
 //! The lines of a user, one after the other, and what the program answers.
 
+use crate::devices::fault_text;
 use crate::input::Lines;
 use crate::opening::INPUT;
 use crate::requests::{Stop, of_file};
+use edd_device::{Device, DeviceFault};
 use edd_display::print_text;
 use edd_instructions::Request;
+use edd_loader::Image;
 use edd_panel::{Command, Happened, Panel};
 use edd_panel_lines::{
     COMMANDS, prompt_of, push_answer, push_asked, push_done, push_end, push_happened, push_help,
@@ -32,6 +35,22 @@ pub struct Console<'c, R, W> {
     pub out: &'c mut W,
 }
 
+/// A simulated device, which answers what needs no user.
+#[derive(Drop)]
+pub struct Partner<'i, 'b> {
+    pub device: Device<'i, 'b>,
+    pub image: &'i Image<'b>,
+}
+
+// Who answers a request.
+#[derive(Drop)]
+enum Reply {
+    Given(Answer),
+    /// The device has no answer, and this is said of it.
+    Fault(String),
+    User,
+}
+
 // What comes after a line.
 #[derive(Clone, Copy)]
 enum Next {
@@ -53,14 +72,41 @@ fn next_line<'a, R: Read>(alloc: Global, input: &mut Lines<R>) -> Result<Option<
     Ok(Some(String::from_str(alloc, text)?))
 }
 
-// The answer to a request that needs no user. A device is asked here.
-fn own_answer(alloc: Global, request: Request) -> Option<Answer> {
-    match request {
-        Request::PutMessage(_) => Some(Answer::Go {
+// What the device does with a request.
+fn ask_device<'a>(
+    alloc: Global,
+    panel: &Panel<'_, '_>,
+    request: Request,
+    partner: &mut Partner<'_, '_>,
+) -> Result<Reply, Stop<'a>> {
+    let values = panel.values();
+    let instrument = partner.device.instrument();
+    if !values.are_of(instrument) {
+        return Ok(Reply::User);
+    }
+    match partner.device.reply(alloc, &request, values) {
+        Ok(Some(answer)) => Ok(Reply::Given(answer)),
+        Ok(None) => Ok(Reply::User),
+        Err(DeviceFault::Memory) => Err(Stop::Memory),
+        Err(fault) => Ok(Reply::Fault(fault_text(alloc, instrument, partner.image, fault)?)),
+    }
+}
+
+// Who answers a request: a message is answered at once, and a device, where there is one, answers
+// what needs no user.
+fn reply_to<'a>(
+    alloc: Global,
+    panel: &Panel<'_, '_>,
+    request: Request,
+    partner: &mut Option<Partner<'_, '_>>,
+) -> Result<Reply, Stop<'a>> {
+    match (request, partner) {
+        (Request::PutMessage(_), _) => Ok(Reply::Given(Answer::Go {
             code: 0,
             sets: Vec::new(alloc),
-        }),
-        _ => None,
+        })),
+        (_, Some(partner)) => ask_device(alloc, panel, request, partner),
+        (_, None) => Ok(Reply::User),
     }
 }
 
@@ -89,10 +135,26 @@ fn show_end<'a, W: Write>(alloc: Global, turn: Turn, out: &mut W) -> Result<(), 
     Ok(())
 }
 
+// Aborts the method, whose device has no answer, and says why.
+fn give_up<'a, W: Write>(
+    alloc: Global,
+    panel: &mut Panel<'_, '_>,
+    request: Request,
+    why: &str,
+    out: &mut W,
+    noted: &mut String,
+) -> Result<(), Stop<'a>> {
+    give(alloc, panel, request, &Answer::Abort, out, noted)?;
+    let line = format!(in alloc; "refused {why}\n")?;
+    print_text(out, &line)?;
+    Ok(())
+}
+
 // Lets the method go on until it asks the user or is over, and says where it is.
 fn settle<'a, W: Write>(
     alloc: Global,
     panel: &mut Panel<'_, '_>,
+    partner: &mut Option<Partner<'_, '_>>,
     out: &mut W,
     noted: &mut String,
 ) -> Result<Option<Turn>, Stop<'a>> {
@@ -104,9 +166,10 @@ fn settle<'a, W: Write>(
             show_end(alloc, turn, out)?;
             return Ok(panel.turn());
         };
-        match own_answer(alloc, request) {
-            Some(answer) => give(alloc, panel, request, &answer, out, noted)?,
-            None => return Ok(Some(turn)),
+        match reply_to(alloc, panel, request, partner)? {
+            Reply::Given(answer) => give(alloc, panel, request, &answer, out, noted)?,
+            Reply::Fault(why) => give_up(alloc, panel, request, &why, out, noted)?,
+            Reply::User => return Ok(Some(turn)),
         }
     }
     Ok(panel.turn())
@@ -225,6 +288,7 @@ fn abort<'a>(panel: &mut Panel<'_, '_>, noted: &mut String) -> Result<(), Stop<'
 fn leave<'a, W: Write>(
     alloc: Global,
     panel: &mut Panel<'_, '_>,
+    partner: &mut Option<Partner<'_, '_>>,
     out: &mut W,
     noted: &mut String,
 ) -> Result<(), Stop<'a>> {
@@ -233,7 +297,7 @@ fn leave<'a, W: Write>(
             return Ok(());
         }
         abort(panel, noted)?;
-        if let Some(Turn::Asks(_)) = settle(alloc, panel, out, noted)? {
+        if let Some(Turn::Asks(_)) = settle(alloc, panel, partner, out, noted)? {
             show(alloc, panel, out)?;
         }
     }
@@ -241,17 +305,19 @@ fn leave<'a, W: Write>(
 }
 
 /// Shows where the user is, takes a line, and so on, up to `q` or the end of the lines. A method
-/// that asks then is aborted. What is set and answered is noted as lines of a script.
+/// that asks then is aborted. What is set and answered, by a device as well, is noted as lines of a
+/// script.
 pub fn converse<'a, R: Read, W: Write>(
     alloc: Global,
     panel: &mut Panel<'_, '_>,
+    partner: &mut Option<Partner<'_, '_>>,
     console: &mut Console<'_, R, W>,
     noted: &mut String,
 ) -> Result<(), Stop<'a>> {
     let mut next = Next::View;
     for _ in 0..u64::MAX {
         if matches!(next, Next::View) {
-            settle(alloc, panel, console.out, noted)?;
+            settle(alloc, panel, partner, console.out, noted)?;
             show(alloc, panel, console.out)?;
         }
         next = match ask(alloc, panel, console)? {
@@ -262,5 +328,5 @@ pub fn converse<'a, R: Read, W: Write>(
             break;
         }
     }
-    leave(alloc, panel, console.out, noted)
+    leave(alloc, panel, partner, console.out, noted)
 }

@@ -27,8 +27,8 @@ fn name_in<'b>(image: &Image<'b>, item: ItemNo) -> &'b str {
     image.name(item).unwrap_or("")
 }
 
-// A fault of a device, with what it is about: a method of the device, or what the instrument has.
-fn fault_text(
+/// A fault of a device, with what it is about: a method of the device, or what the instrument has.
+pub fn fault_text(
     alloc: Global,
     instrument: &Image<'_>,
     device: &Image<'_>,
@@ -94,7 +94,8 @@ fn show_trial<'a, W: Write>(
     }
 }
 
-fn compiled<'a>(alloc: Global, name: &'a str, text: &[u8]) -> Result<Vec<u8>, Stop<'a>> {
+/// The image of the source of a device.
+pub fn compiled<'a>(alloc: Global, name: &'a str, text: &[u8]) -> Result<Vec<u8>, Stop<'a>> {
     match compile(alloc, text) {
         Ok(bytes) => Ok(bytes),
         Err(Fault::Memory) => Err(Stop::Memory),

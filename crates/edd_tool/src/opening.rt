@@ -1,12 +1,14 @@
 //! What the program does to open a description.
 
-use crate::conversation::{Console, converse};
+use crate::conversation::{Console, Partner, converse};
+use crate::devices::compiled;
 use crate::files::Files;
 use crate::input::Lines;
 use crate::requests::{Stop, of_file, read, read_script};
 use crate::script::parse_sets;
 use edd_command_line::Opening;
 use edd_compiler::compile;
+use edd_device::Device;
 use edd_loader::{Image, load};
 use edd_machine::ValuesFault;
 use edd_panel::{Panel, start_values};
@@ -32,6 +34,7 @@ fn image_of<'a>(alloc: Global, bytes: Vec<u8>) -> Result<Vec<u8>, Stop<'a>> {
 fn talk<'a, R: Read + Drop, W: Write>(
     alloc: Global,
     image: &Image<'_>,
+    mut partner: Option<Partner<'_, '_>>,
     language: &str,
     script: &[u8],
     input: R,
@@ -48,8 +51,37 @@ fn talk<'a, R: Read + Drop, W: Write>(
         input: Lines::new(input),
         out,
     };
-    converse(alloc, &mut panel, &mut console, &mut noted)?;
+    converse(alloc, &mut panel, &mut partner, &mut console, &mut noted)?;
     Ok(noted)
+}
+
+// The same with a device, whose source is this text.
+fn talk_with_device<'a, R: Read + Drop, W: Write>(
+    alloc: Global,
+    image: &Image<'_>,
+    name: &'a str,
+    text: &[u8],
+    opening: Opening<'a>,
+    script: &[u8],
+    input: R,
+    out: &mut W,
+) -> Result<String, Stop<'a>> {
+    let bytes = compiled(alloc, name, text)?;
+    let device_image = load(alloc, &bytes)?;
+    let device = Device::new(alloc, image, &device_image)?;
+    let partner = Partner {
+        device,
+        image: &device_image,
+    };
+    talk(
+        alloc,
+        image,
+        Some(partner),
+        opening.language,
+        script,
+        input,
+        out,
+    )
 }
 
 /// Opens a source or an image, and does what the lines of the standard input say. All files are
@@ -61,11 +93,17 @@ pub fn open<'a, F: Files, W: Write>(
     out: &mut W,
 ) -> Result<(), Stop<'a>> {
     let bytes = read(alloc, files, opening.file)?;
+    let text = read_script(alloc, files, opening.device)?;
     let script = read_script(alloc, files, opening.script)?;
     let input = files.open(INPUT).map_err(|fault| of_file(INPUT, fault))?;
     let bytes = image_of(alloc, bytes)?;
     let image = load(alloc, &bytes)?;
-    let noted = talk(alloc, &image, opening.language, &script, input, out)?;
+    let noted = match opening.device {
+        Some(name) => {
+            talk_with_device(alloc, &image, name, &text, opening, &script, input, out)?
+        }
+        None => talk(alloc, &image, None, opening.language, &script, input, out)?,
+    };
     match opening.record_file {
         Some(name) => files
             .save(name, noted.as_bytes())
