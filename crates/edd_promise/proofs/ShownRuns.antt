@@ -1,5 +1,5 @@
 -- What `play` and sessions show of an image that agrees with a unit is what its method does.
-use Rattle.std.proofs.Common.{◌≡◌, ◌≢◌, refl, sym, ap, subst, ◌∙◌, ℕ, ◌≤◌, ◌<◌, ℤ, List, [], ◌∷◌, ◌++◌, map, Option, Some, None, inl, inr, arith}
+use Rattle.std.proofs.Common.{◌≡◌, ◌≢◌, refl, sym, ap, subst, ◌∙◌, ℕ, ◌≤◌, ◌<◌, ℤ, List, [], ◌∷◌, ◌++◌, Option, Some, None, inl, inr, arith}
 use Rattle.std.specs.Prelude.{option_map}
 use Rattle.std.specs.List.{AllByRecursion}
 use Rattle.std.proofs.lemmas.Bool.{cases_lt}
@@ -16,8 +16,8 @@ use Rattle.edd_instructions.specs.AbortMethods.{execute_in}
 use Rattle.edd_instructions.specs.Agreement.{string_numbered}
 use Rattle.edd_instructions.specs.Execution as image
 use Rattle.edd_instructions.specs.Execution.{Outcome}
-use Rattle.edd_instructions.specs.MethodAgreement.{Agrees, SameOutcome, SameRequests, ending_of}
-use Rattle.edd_instructions.specs.Reading.{body_of, environment_of, opening_of}
+use Rattle.edd_instructions.specs.MethodAgreement.{Agrees, SameOutcome, SameRequests}
+use Rattle.edd_instructions.specs.Reading.{body_of, opening_of}
 use Rattle.edd_instructions.specs.Steps.{State}
 use Rattle.edd_instructions.specs.Validity.{IsValid}
 use Rattle.edd_machine.specs.Types.{types_in}
@@ -28,10 +28,10 @@ use Rattle.edd_port.specs.declared.playing.Ending.TheVariants as ending
 use Rattle.edd_port.specs.declared.turn.Turn.{Turn}
 use Rattle.edd_port.specs.declared.turn.Turn.TheVariants as turn
 use Rattle.edd_port.specs.Books.{Pair}
-use Rattle.edd_port.specs.Drives.{AreMet, driven, standing}
+use Rattle.edd_port.specs.Drives.{driven, standing}
 use Rattle.edd_port.specs.Plays.{IsPlayFault, ending_shown, played}
 use Rattle.edd_port.specs.Refusals.{CodeFits}
-use Rattle.edd_port.specs.Runs.{OpensIn, Run}
+use Rattle.edd_port.specs.Runs.{Run}
 use Rattle.edd_port.specs.Turns as turns
 use Rattle.edd_port.specs.Turns.{turn_of}
 use Rattle.edd_promise.specs.Plays.{Shown, PlayShows, SameShown, SameSession, BeginsWith, IsRefusedPlay}

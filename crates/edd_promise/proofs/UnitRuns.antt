@@ -1,6 +1,6 @@
 -- What an image that agrees with a unit plays is what the unit's method does.
-use Rattle.std.proofs.Common.{◌≡◌, ◌≢◌, refl, sym, ap, subst, ◌∙◌, ℕ, ◌+◌, ◌-◌, ◌≤◌, Bool, true, false, cond, nat_eq, ℤ, List, [], ◌∷◌, ◌++◌, map, Option, Some, None, ◌⊎◌, inl, inr, arith}
-use Rattle.std.specs.Prelude.{option_map, IsTrue}
+use Rattle.std.proofs.Common.{◌≡◌, ◌≢◌, refl, sym, ap, subst, ◌∙◌, ℕ, ◌+◌, ◌-◌, ◌≤◌, Bool, true, false, cond, nat_eq, ℤ, List, ◌++◌, Option, Some, None, ◌⊎◌, inl, inr, arith}
+use Rattle.std.specs.Prelude.{option_map}
 use Rattle.std.specs.List.{AllByRecursion, list_all}
 use Rattle.std.specs.Option.{option_map_or}
 use Rattle.std.proofs.lemmas.Bool.{and_parts, cases_lt, eqb-true}
@@ -12,8 +12,8 @@ use Rattle.edd_syntax.specs.declared.numbers.MethNo.{MethNo}
 use Rattle.edd_syntax.specs.declared.reference.Target.{Target}
 use Rattle.edd_syntax.specs.Text.{Name}
 use Rattle.edd_syntax.specs.Item.{Item, Description}
-use Rattle.edd_syntax.specs.Numbers.{attr_from_number, has_attr, item_from_numbers, kind_of}
-use Rattle.edd_syntax.specs.Answers.{Answer, SetFault, BadVariable, OutOfRange, IsValidAnswer, answer_fault}
+use Rattle.edd_syntax.specs.Numbers.{attr_from_number, item_from_numbers}
+use Rattle.edd_syntax.specs.Answers.{Answer, SetFault, IsValidAnswer}
 use Rattle.edd_syntax.specs.DeviceValues.{VariableType, AreDeviceValues}
 use Rattle.edd_syntax.specs.Device.{environment, item_at}
 use Rattle.edd_syntax.specs.Execution as source
@@ -24,13 +24,13 @@ use Rattle.edd_image.specs.Existing.{item_exists}
 use Rattle.edd_instructions.specs.declared.records.Request.{Request}
 use Rattle.edd_instructions.specs.declared.rules.Rule.TheVariants as rule
 use Rattle.edd_instructions.specs.AbortMethods.{start_in, next, execute_in}
-use Rattle.edd_instructions.specs.Agreement.{name_numbered, string_numbered}
+use Rattle.edd_instructions.specs.Agreement.{string_numbered}
 use Rattle.edd_instructions.specs.Execution as image
 use Rattle.edd_instructions.specs.Execution.{Outcome, resumed_following}
 use Rattle.edd_instructions.specs.MethodAgreement.{Agrees, AgreesOnRuns, SameOutcome, SameRequests, ending_of}
 use Rattle.edd_instructions.specs.Reading.{body_of, environment_of, is_row_of, opening_of}
 use Rattle.edd_instructions.specs.Steps.{State}
-use Rattle.edd_instructions.specs.Validity.{IsValid, has_attribute, is_attribute_row, sub_fits}
+use Rattle.edd_instructions.specs.Validity.{IsValid, has_attribute, is_attribute_row}
 use Rattle.edd_instructions.proofs.Cutting.{cut}
 use Rattle.edd_instructions.proofs.NextMethods.{next_asks_nothing}
 use Rattle.edd_instructions.proofs.StaysOver.{stays_over_following}
