@@ -2,6 +2,7 @@
 //! `attribute`, `play`, sessions and `drive`.
 #![tactic(auto)]
 
+pub mod calls;
 mod loading;
 mod playing;
 mod reading;
