@@ -125,8 +125,8 @@ module _ (c : Contents) where
         quiet_state n runs s answers status.Aborted is (λ r e. let no_such : status.Aborted
         ≡ status.Asking r = sym is ∙ e in cc)
     by_state n runs s answers (status.Trapped why) is =
-        quiet_state n runs s answers (status.Trapped why) is (λ r e. let no_such : status.Trapped why
-        ≡ status.Asking r = sym is ∙ e in cc)
+        quiet_state n runs s answers (status.Trapped why) is
+        (λ r e. let no_such : status.Trapped why ≡ status.Asking r = sym is ∙ e in cc)
 
     without_steps : (s : State) (answers : List Answer) → s.status ≡ status.Running
         → Holds zero s answers

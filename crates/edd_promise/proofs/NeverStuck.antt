@@ -1,5 +1,5 @@
 -- In a valid image no run is stuck, and no valid answer is bad, abort methods and all.
-use Rattle.std.proofs.Common.{◌≡◌, ◌≢◌, refl, sym, ap, subst, ◌∙◌, ℕ, suc, ℤ, Bool, true, false, List, [], ◌∷◌, Option, Some, None}
+use Rattle.std.proofs.Common.{◌≡◌, refl, sym, ap, subst, ◌∙◌, ℕ, suc, ℤ, Bool, true, false, List, [], ◌∷◌, Option, Some, None}
 use Rattle.std.specs.Prelude.{option_map}
 use Rattle.std.specs.List.{AllByRecursion}
 use Rattle.edd_syntax.specs.declared.numbers.MethNo.{MethNo}
@@ -23,7 +23,7 @@ use Rattle.edd_machine.proofs.Aborting.{first_starts, first_passed, aborting_the
 use Rattle.edd_machine.proofs.Answering.{answered_there}
 use Rattle.edd_machine.proofs.BodyUnits.{is_body_unit, body_opens}
 use Rattle.edd_machine.proofs.Stepping.{valid_there, state_again, opened}
-use Rattle.edd_promise.proofs.EveryRun.{at_rest, Rests, IsKept, every_run}
+use Rattle.edd_promise.proofs.EveryRun.{at_rest, Rests, every_run}
 
 module _ (b : List ℕ) (valid : IsValid b) where
   abbrev c : Contents

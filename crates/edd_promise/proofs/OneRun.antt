@@ -8,12 +8,12 @@ use Rattle.edd_instructions.specs.Steps.{State}
 use Rattle.edd_instructions.specs.Execution.{Outcome, preceded}
 use Rattle.edd_instructions.specs.AbortMethods.{answered_in, execute_in}
 use Rattle.edd_port.specs.Books.{Pair}
-use Rattle.edd_port.specs.Drives.{Takes, driven}
-use Rattle.edd_port.specs.Runs.{Run, environment, advanced, followed}
+use Rattle.edd_port.specs.Drives.{Takes}
+use Rattle.edd_port.specs.Runs.{Run, environment, followed}
 use Rattle.edd_port.specs.Turns.{turn_of, ending_of}
 use Rattle.edd_port.proofs.Cuts.{met}
 use Rattle.edd_port.proofs.Outcomes.{halted, without_steps}
-use Rattle.edd_promise.specs.Sessions.{Past, nothing_done, with_run, with_answer, answers_of, Advances, Drives, Comes, Started, Advanced, Answered, Driven, at_once, IsOneRun}
+use Rattle.edd_promise.specs.Sessions.{Past, nothing_done, with_run, with_answer, answers_of, Comes, Started, Advanced, Answered, Driven, at_once, IsOneRun}
 use Rattle.edd_promise.proofs.Used.{continues, exactly, leaves_none}
 
 module _ (first : Run) where

@@ -1,7 +1,7 @@
 -- Runs whose answers were all used, and answers that are left over.
-use Rattle.std.proofs.Common.{◌≡◌, ◌≢◌, refl, sym, ap, subst, ◌∙◌, ℕ, zero, suc, ◌+◌, List, [], ◌∷◌, ◌++◌, Option, Some, None, append_assoc, append-nil, zero-add, arith}
+use Rattle.std.proofs.Common.{◌≡◌, ◌≢◌, refl, sym, ap, ◌∙◌, ℕ, suc, ◌+◌, List, [], ◌∷◌, ◌++◌, Option, Some, None, append_assoc, append-nil, zero-add, arith}
 use Rattle.std.specs.List.{AllByRecursion}
-use Rattle.edd_syntax.specs.Answers.{Change, Answer, answer_fault}
+use Rattle.edd_syntax.specs.Answers.{Answer, answer_fault}
 use Rattle.edd_instructions.specs.declared.records.Request.{Request}
 use Rattle.edd_instructions.specs.declared.records.Status.TheVariants as status
 use Rattle.edd_image.specs.Contents.{Contents}
@@ -14,7 +14,7 @@ use Rattle.edd_instructions.proofs.NextMethods.{next_asks_nothing}
 use Rattle.edd_port.specs.Runs.{followed}
 use Rattle.edd_port.specs.Turns.{turn_of, ending_of}
 use Rattle.edd_port.proofs.Outcomes.{halted, without_steps}
-use Rattle.edd_promise.proofs.EveryRun.{at_rest, env, follow, Rests, IsKept, every_run}
+use Rattle.edd_promise.proofs.EveryRun.{at_rest, env, follow, Rests, every_run}
 
 module _ (c : Contents) where
   -- the step of a running state, under any answers

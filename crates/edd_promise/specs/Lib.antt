@@ -1,1 +1,3 @@
+pub mod Plays
+pub mod Reads
 pub mod Sessions

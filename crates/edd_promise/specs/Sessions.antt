@@ -1,13 +1,18 @@
 -- What calls on a session make of it, and the one execution that does the same.
-use Rattle.std.specs.Prelude.{◌≡◌, ℕ, ◌+◌, List, [], ◌∷◌, ◌++◌, map}
+use Rattle.std.specs.Prelude.{◌≡◌, ℕ, ◌+◌, ℤ, List, [], ◌∷◌, ◌++◌, map}
+use Rattle.std.specs.List.{AllByRecursion}
+use Rattle.edd_syntax.specs.declared.numbers.MethNo.{MethNo}
 use Rattle.edd_syntax.specs.Answers.{Answer}
+use Rattle.edd_syntax.specs.DeviceValues.{AreDeviceValues}
 use Rattle.edd_image.specs.Contents.{contents_in}
 use Rattle.edd_instructions.specs.declared.records.Request.{Request}
 use Rattle.edd_instructions.specs.AbortMethods.{execute_in}
 use Rattle.edd_instructions.specs.Execution.{Outcome}
+use Rattle.edd_machine.specs.Types.{types_in}
 use Rattle.edd_port.specs.Books.{Pair}
-use Rattle.edd_port.specs.Drives.{Takes, driven}
-use Rattle.edd_port.specs.Runs.{Run, advanced}
+use Rattle.edd_port.specs.Drives.{AreMet, Takes, driven}
+use Rattle.edd_port.specs.Refusals.{CodeFits}
+use Rattle.edd_port.specs.Runs.{OpensIn, Run, advanced}
 use Rattle.edd_port.specs.Turns.{turn_of, ending_of}
 
 -- what was done so far: how many instructions were executed, which answers were taken, and which
@@ -37,6 +42,10 @@ with_answer past answer = record past { answers = past.answers ++ answer ∷ [] 
 abbrev pub answers_of : List Pair → List Answer
 answers_of pairs = map (λ p. p.answer) pairs
 
+-- the requests of these pairs
+abbrev pub requests_of : List Pair → List Request
+requests_of pairs = map (λ p. p.request) pairs
+
 -- What `advance` says of a session before and after it.
 pub record Advances (before : Run) (budget : ℕ) (after : Run) : Type 0 where
   pub image : after.image ≡ before.image
@@ -63,6 +72,29 @@ pub data Comes (first : Run) : Past → Run → Type 0 where
   Driven : (past : Past) (before after : Run) (steps : ℕ) (pairs : List Pair)
       → Comes first past before → Drives before steps pairs after
       → Comes first (with_run past (answers_of pairs) (driven before steps pairs)) after
+
+-- A session on this method of the image, started under these values of a device, that did this and
+-- is now here. Its answers have codes of 32 bits, as all have in the code.
+pub record IsSession (b : List ℕ) (method : MethNo) (device : List ℤ) (past : Past) (now : Run)
+    : Type 0 where
+  pub first : Run
+  pub image : first.image ≡ b
+  pub opens : OpensIn b method device first.state
+  pub accepted : AreDeviceValues (types_in b) device
+  pub comes : Comes first past now
+  pub fit : AllByRecursion CodeFits past.answers
+
+-- A session on this method of the image that a host drove from its start to here, where the answers
+-- of these pairs were accepted.
+pub record IsDriven (b : List ℕ) (method : MethNo) (device : List ℤ) (steps : ℕ)
+    (pairs : List Pair) (now : Run) : Type 0 where
+  pub first : Run
+  pub image : first.image ≡ b
+  pub opens : OpensIn b method device first.state
+  pub accepted : AreDeviceValues (types_in b) device
+  pub drives : Drives first steps pairs now
+  pub met : AreMet first.state (driven first steps pairs) (requests_of pairs)
+  pub fit : AllByRecursion CodeFits (answers_of pairs)
 
 -- what results from a session's start within so many instructions under these answers, in one piece
 abbrev pub at_once : Run → (steps : ℕ) → List Answer → Outcome
