@@ -93,17 +93,28 @@ static int is(edd_words words, const char *text)
 
 /* ---- the calls ---- */
 
+/* A size as the alignment of int64_t makes it: 4 on i386, 8 elsewhere. */
+static size_t rounded(size_t size)
+{
+    struct probe {
+        char first;
+        int64_t second;
+    };
+    const size_t unit = offsetof(struct probe, second);
+    return (size + unit - 1) / unit * unit;
+}
+
 static void try_sizes(void)
 {
     CHECK(sizeof(edd_image) == 56 && offsetof(edd_image, version) == 40 && offsetof(edd_image, strings) == 54);
     CHECK(sizeof(edd_item) == 4 && offsetof(edd_item, kind) == 2);
     CHECK(sizeof(edd_type) == 2);
     CHECK(offsetof(edd_words, is_key) == 2 * sizeof(void *));
-    CHECK(sizeof(edd_record) == 32 && offsetof(edd_record, number) == 8 && offsetof(edd_record, tag) == 22);
+    CHECK(sizeof(edd_record) == rounded(25) && offsetof(edd_record, number) == 8 && offsetof(edd_record, tag) == 22);
     CHECK(sizeof(edd_request) == 16 && offsetof(edd_request, tag) == 14);
-    CHECK(sizeof(edd_setting) == 16 && offsetof(edd_setting, variable) == 8);
+    CHECK(sizeof(edd_setting) == rounded(10) && offsetof(edd_setting, variable) == 8);
     CHECK(sizeof(edd_answer) == 12 && offsetof(edd_answer, aborts) == 8);
-    CHECK(sizeof(edd_ending) == 16 && offsetof(edd_ending, ending) == 10);
+    CHECK(sizeof(edd_ending) == rounded(11) && offsetof(edd_ending, ending) == 10);
 }
 
 static void try_load(file *it)

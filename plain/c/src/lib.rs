@@ -21,6 +21,11 @@ fn stop(_: &core::panic::PanicInfo<'_>) -> ! {
     }
 }
 
+/// Named by parts of Rust's library for 32 bits that were made for unwinding; here nothing unwinds.
+#[cfg(target_arch = "x86")]
+#[unsafe(no_mangle)]
+extern "C" fn rust_eh_personality() {}
+
 /// A name or a text, as the header has it.
 #[repr(C)]
 pub struct Words {
