@@ -58,7 +58,10 @@ module _ (i d : List ℕ) (r : Record) (rest : List Record) (device : List ℤ) 
   by_rest set here (Err fault) is f = absurd cc
 
   by_set : (pair : Pair) → tied i d r ≡ Some pair → (o : Option SetFault)
-      → set_fault (types_in i) (record { variable = pair.ours; value = number_at device pair.theirs })
+      → set_fault (types_in i) (record {
+        variable = pair.ours;
+        value = number_at device pair.theirs;
+      })
       ≡ o → Named (r ∷ rest) sets
   by_set pair is None none =
       let here = reply_set i d device r rest pair is none in

@@ -14,7 +14,8 @@ with_none (Err fault) = refl
 
 pub with_more : (sets : List Change) (set : Change) (r : Result (List Change) DeviceFault)
     → with_sets sets (with_set set r) ≡ with_sets (sets ++ set ∷ []) r
-with_more sets set (Ok rest) = ap (λ (xs : List Change). Ok xs) (sym (append_assoc sets (set ∷ []) rest))
+with_more sets set (Ok rest) = ap (λ (xs : List Change). Ok xs) (sym (append_assoc sets (set ∷ [])
+    rest))
 with_more sets set (Err fault) = refl
 
 -- the entries from one on are that one and those after it
@@ -138,7 +139,10 @@ module _ (i d : List ℕ) (r : Record) (rest : List Record) (device : List ℤ) 
   by_rest set none (Err fault) is f = absurd cc
 
   by_set : (pair : Pair) → tied i d r ≡ Some pair → (o : Option SetFault)
-      → set_fault (types_in i) (record { variable = pair.ours; value = number_at device pair.theirs })
+      → set_fault (types_in i) (record {
+        variable = pair.ours;
+        value = number_at device pair.theirs;
+      })
       ≡ o → sets_fault (types_in i) sets ≡ None
   by_set pair is None none =
       let here = reply_set i d device r rest pair is none in

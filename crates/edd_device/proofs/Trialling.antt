@@ -37,14 +37,16 @@ pub record Going (first : Run) (steps left : ℕ) (now : Run) (requests : List R
   pub driving : Driving first steps left now pairs
   pub noted : requests ≡ requests_of pairs
 
-unfoldable pub begins : (first : Run) (steps : ℕ) → first.taken ≡ 0 → Going first steps steps first []
+unfoldable pub begins : (first : Run) (steps : ℕ) → first.taken ≡ 0 → Going first steps steps first
+    []
 begins first steps none = record {
   pairs = [];
   driving = starts first steps (omega (arith, none));
   noted = refl;
 }
 
-unfoldable pub goes : (first : Run) (steps left fewer : ℕ) (now after : Run) (requests : List Request)
+unfoldable pub goes : (first : Run) (steps left fewer : ℕ) (now after : Run) (requests : List
+    Request)
     → Going first steps left now requests → Executes left now fewer after
     → Going first steps fewer after requests
 goes first steps left fewer now after requests is to = record {
@@ -53,7 +55,8 @@ goes first steps left fewer now after requests is to = record {
   noted = is.noted;
 }
 
-pub map_more : {A B : Type 0} (f : A → B) (xs : List A) (x : A) → map f (xs ++ x ∷ []) ≡ map f xs ++ f x
+pub map_more : {A B : Type 0} (f : A → B) (xs : List A) (x : A) → map f (xs ++ x ∷ []) ≡ map f xs ++
+    f x
     ∷ []
 map_more f [] x = refl
 map_more f (y ∷ xs) x = ap (λ (ys : List _). f y ∷ ys) (map_more f xs x)

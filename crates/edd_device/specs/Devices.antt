@@ -40,7 +40,8 @@ abbrev pub done : (values : List ℤ) → Step
 done values = record { values = values; answer = Some done_answer }
 
 -- the device takes the values of the request, and its code is set to 0
-abbrev pub started : Simulated → (values : List ℤ) → (request : List Record) → Result Now DeviceFault
+abbrev pub started : Simulated → (values : List ℤ) → (request : List Record) → Result Now
+    DeviceFault
 started s values request = requested s.instrument s.image values request s.values
     >>= λ device. Ok (record { values = code_cleared s.image device; left = most_steps })
 

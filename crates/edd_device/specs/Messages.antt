@@ -114,7 +114,8 @@ IsCarried b values command position m =
     × IsReading b (of_command command attr.Reply position) values r
     × (m ≡ carried command (entries q) (entries r))
 
--- where the instrument has no such command or transaction, it carries nothing if the device knows it
+-- where the instrument has no such command or transaction, it carries nothing if the device knows
+-- it
 abbrev pub carried_if : (is_known : Bool) → DeviceFault → Result Message DeviceFault
 carried_if true fault = Ok (record { request = []; reply = [] })
 carried_if false fault = Err fault

@@ -125,8 +125,8 @@ fn execute_some(session: &mut Session<'_, '_>, left: u32) -> u32
 }
 
 impl Device<'_, '_> {
-    // The answer to the pending request: the device's, else the next of the script. Where the device
-    // has a fault, the method is aborted.
+    // The answer to the pending request: the device's, else the next of the script. Where the
+    // device has a fault, the method is aborted.
     fn meet(
         &mut self,
         alloc: Global,
@@ -203,8 +203,8 @@ impl Device<'_, '_> {
     }
 
     /// Runs a method of the instrument from its start for at most so many instructions. The device
-    /// answers its requests, and a script, in its order, those that ask the user. It is a run of the
-    /// image under the answers that were given.
+    /// answers its requests, and a script, in its order, those that ask the user. It is a run of
+    /// the image under the answers that were given.
     ///
     /// Where the device has a fault, the method is aborted, and the first fault is kept. The faults
     /// of a play are `NoItem` and `WrongValues` where the method is not started, that of the first

@@ -11,7 +11,8 @@ use Rattle.edd_device.proofs.starting.start_values.Goals as goal
 pub loop-variable-preserved : goal.loop-variable-preserved
 loop-variable-preserved c =
     let fits : FitsSigned w64 c.in_ok-number.number = search rules in
-    let items : c.push.new.self.items ≡ c.loop-variable.numbers.items ++ c.in_ok-number.number ∷ [] =
+    let items : c.push.new.self.items ≡ c.loop-variable.numbers.items ++ c.in_ok-number.number ∷ []
+    =
     c.in_ok-push.ensures.items
     ∙ ap (λ (z : ℤ). c.loop-variable.numbers.items ++ z ∷ [])
     (to_z-of_z w64 c.in_ok-number.number fits) in

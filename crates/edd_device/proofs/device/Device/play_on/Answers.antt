@@ -17,9 +17,11 @@ use Rattle.edd_device.proofs.device.Device.play_on.Goals as goal
 pub loop-request-init : goal.loop-request-init
 loop-request-init c = record {
   going = subst (λ (rs : List Request). Talking c.args.session.now
-      (others_of c.args.self.now c.args.user.now) c.args.steps c.args.steps c.args.session.now (others_of c.args.self.now c.args.user.now) rs)
+      (others_of c.args.self.now c.args.user.now) c.args.steps c.args.steps c.args.session.now
+      (others_of c.args.self.now c.args.user.now) rs)
       (sym c.requires.none)
-      (starts_to_talk c.args.session.now (others_of c.args.self.now c.args.user.now) c.args.steps c.requires.starts);
+      (starts_to_talk c.args.session.now (others_of c.args.self.now c.args.user.now) c.args.steps
+      c.requires.starts);
   instrument = refl;
   image = c.requires.image;
 }
@@ -42,13 +44,17 @@ returns-then-not-is_met-clause-sound c =
     sym c.in-Asks.is ∙ c.turn.ensures.turn in
     let kept = c.in_ok-is_met-in-Asks.ensures.kept c.if-not-is_met.true in
     subst (λ (o : Others). LeadsTo c.args.session.now c.args.steps
-    (others_of c.args.self.now c.args.user.now) c.meet.new.session o c.push.new.self.items endings.Waiting) (sym kept.1)
+    (others_of c.args.self.now c.args.user.now) c.meet.new.session o c.push.new.self.items
+    endings.Waiting) (sym kept.1)
     (subst (λ (r : Run). LeadsTo c.args.session.now c.args.steps
-    (others_of c.args.self.now c.args.user.now) r (others_of c.loop-request.self c.loop-request.user) c.push.new.self.items endings.Waiting) (sym kept.0)
+    (others_of c.args.self.now c.args.user.now) r (others_of c.loop-request.self
+    c.loop-request.user) c.push.new.self.items endings.Waiting) (sym kept.0)
     (subst (λ (rs : List Request). LeadsTo c.args.session.now c.args.steps
-    (others_of c.args.self.now c.args.user.now) c.loop-request.session (others_of c.loop-request.self c.loop-request.user) rs endings.Waiting)
+    (others_of c.args.self.now c.args.user.now) c.loop-request.session (others_of
+    c.loop-request.self c.loop-request.user) rs endings.Waiting)
     (sym c.in_ok-push-in-Asks.ensures.items)
-    (waits c.args.session.now (others_of c.args.self.now c.args.user.now) c.args.steps c.loop-request.left c.loop-request.session (others_of c.loop-request.self c.loop-request.user)
+    (waits c.args.session.now (others_of c.args.self.now c.args.user.now) c.args.steps
+    c.loop-request.left c.loop-request.session (others_of c.loop-request.self c.loop-request.user)
     c.loop-request.requests.items c.in-Asks.request c.loop-request.invariant.going
     (asks_where_shown _ _ shown))))
 
@@ -66,11 +72,15 @@ loop-request-preserved-else-not-is_met c =
     sym c.in-Asks.is ∙ c.turn.ensures.turn in
     let taken = c.in_ok-is_met-in-Asks.ensures.taken c.if-not-is_met.false in
     record {
-      going = subst (λ (rs : List Request). Talking c.args.session.now (others_of c.args.self.now c.args.user.now) c.args.steps
+      going = subst (λ (rs : List Request). Talking c.args.session.now (others_of c.args.self.now
+          c.args.user.now) c.args.steps
           c.loop-request.left c.meet.new.session (others_of c.meet.new.self c.meet.new.user) rs)
           (sym c.in_ok-push-in-Asks.ensures.items)
-          (meets_one c.args.session.now (others_of c.args.self.now c.args.user.now) c.args.steps c.loop-request.left
-          c.loop-request.session c.meet.new.session (others_of c.loop-request.self c.loop-request.user) (others_of c.meet.new.self c.meet.new.user) c.loop-request.requests.items
+          (meets_one c.args.session.now (others_of c.args.self.now c.args.user.now) c.args.steps
+          c.loop-request.left
+          c.loop-request.session c.meet.new.session (others_of c.loop-request.self
+          c.loop-request.user) (others_of c.meet.new.self c.meet.new.user)
+          c.loop-request.requests.items
           c.in-Asks.request taken.0 c.loop-request.invariant.going
           (asks_where_shown _ _ shown) taken.1 taken.2);
       instrument = c.in_ok-is_met-in-Asks.ensures.instrument
@@ -83,15 +93,19 @@ pub returns-then-left-eq0-clause-sound : goal.returns-then-left-eq0-clause-sound
 returns-then-left-eq0-clause-sound c =
     let shown : turn.Spent ≡ turn_of c.loop-request.session.state.status = sym c.in-Spent.is
     ∙ c.turn.ensures.turn in
-    stops c.args.session.now (others_of c.args.self.now c.args.user.now) c.args.steps c.loop-request.left
-    c.loop-request.session (others_of c.loop-request.self c.loop-request.user) c.loop-request.requests.items endings.Spent c.loop-request.invariant.going
+    stops c.args.session.now (others_of c.args.self.now c.args.user.now) c.args.steps
+    c.loop-request.left
+    c.loop-request.session (others_of c.loop-request.self c.loop-request.user)
+    c.loop-request.requests.items endings.Spent c.loop-request.invariant.going
     (λ runs. c.if-left-eq0.true) (shows_what_stands _ turn.Spent shown)
     (ap ending_of (sym shown))
 
 pub loop-request-preserved : goal.loop-request-preserved
 loop-request-preserved c = record {
-  going = goes_on c.args.session.now (others_of c.args.self.now c.args.user.now) c.args.steps c.loop-request.left
-      c.execute_some-left.result c.loop-request.session c.execute_some-left.new.session (others_of c.loop-request.self c.loop-request.user)
+  going = goes_on c.args.session.now (others_of c.args.self.now c.args.user.now) c.args.steps
+      c.loop-request.left
+      c.execute_some-left.result c.loop-request.session c.execute_some-left.new.session (others_of
+      c.loop-request.self c.loop-request.user)
       c.loop-request.requests.items
       c.loop-request.invariant.going c.execute_some-left.ensures;
   instrument = c.loop-request.invariant.instrument;
@@ -102,8 +116,10 @@ pub returns-in-Ended-clause-sound : goal.returns-in-Ended-clause-sound
 returns-in-Ended-clause-sound c =
     let shown : turn.Ended ≡ turn_of c.loop-request.session.state.status = sym c.in-Ended.is
     ∙ c.turn.ensures.turn in
-    stops c.args.session.now (others_of c.args.self.now c.args.user.now) c.args.steps c.loop-request.left
-    c.loop-request.session (others_of c.loop-request.self c.loop-request.user) c.loop-request.requests.items endings.Ended c.loop-request.invariant.going
+    stops c.args.session.now (others_of c.args.self.now c.args.user.now) c.args.steps
+    c.loop-request.left
+    c.loop-request.session (others_of c.loop-request.self c.loop-request.user)
+    c.loop-request.requests.items endings.Ended c.loop-request.invariant.going
     (λ runs. absurd (rests_where_shown _ turn.Ended shown (λ e. cc) runs))
     (shows_what_stands _ turn.Ended shown) (ap ending_of (sym shown))
 
@@ -111,8 +127,10 @@ pub returns-in-Aborted-clause-sound : goal.returns-in-Aborted-clause-sound
 returns-in-Aborted-clause-sound c =
     let shown : turn.Aborted ≡ turn_of c.loop-request.session.state.status = sym c.in-Aborted.is
     ∙ c.turn.ensures.turn in
-    stops c.args.session.now (others_of c.args.self.now c.args.user.now) c.args.steps c.loop-request.left
-    c.loop-request.session (others_of c.loop-request.self c.loop-request.user) c.loop-request.requests.items endings.Aborted c.loop-request.invariant.going
+    stops c.args.session.now (others_of c.args.self.now c.args.user.now) c.args.steps
+    c.loop-request.left
+    c.loop-request.session (others_of c.loop-request.self c.loop-request.user)
+    c.loop-request.requests.items endings.Aborted c.loop-request.invariant.going
     (λ runs. absurd (rests_where_shown _ turn.Aborted shown (λ e. cc) runs))
     (shows_what_stands _ turn.Aborted shown) (ap ending_of (sym shown))
 
@@ -121,8 +139,10 @@ returns-in-Trapped-clause-sound c =
     let t : Turn = turn.Trapped c.in-Trapped.why in
     let shown : t ≡ turn_of c.loop-request.session.state.status = sym c.in-Trapped.is
     ∙ c.turn.ensures.turn in
-    stops c.args.session.now (others_of c.args.self.now c.args.user.now) c.args.steps c.loop-request.left
-    c.loop-request.session (others_of c.loop-request.self c.loop-request.user) c.loop-request.requests.items (endings.Trapped c.in-Trapped.why)
+    stops c.args.session.now (others_of c.args.self.now c.args.user.now) c.args.steps
+    c.loop-request.left
+    c.loop-request.session (others_of c.loop-request.self c.loop-request.user)
+    c.loop-request.requests.items (endings.Trapped c.in-Trapped.why)
     c.loop-request.invariant.going
     (λ runs. absurd (rests_where_shown _ t shown (λ e. cc) runs)) (shows_what_stands _ t shown)
     (ap ending_of (sym shown))
