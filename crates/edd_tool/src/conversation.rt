@@ -100,13 +100,15 @@ fn reply_to<'a>(
     request: Request,
     partner: &mut Option<Partner<'_, '_>>,
 ) -> Result<Reply, Stop<'a>> {
-    match (request, partner) {
-        (Request::PutMessage(_), _) => Ok(Reply::Given(Answer::Go {
+    if let Request::PutMessage(_) = request {
+        return Ok(Reply::Given(Answer::Go {
             code: 0,
             sets: Vec::new(alloc),
-        })),
-        (_, Some(partner)) => ask_device(alloc, panel, request, partner),
-        (_, None) => Ok(Reply::User),
+        }));
+    }
+    match partner {
+        Some(partner) => ask_device(alloc, panel, request, partner),
+        None => Ok(Reply::User),
     }
 }
 
