@@ -84,6 +84,13 @@ impl<'i, 'b> Device<'i, 'b> {
         self.instrument
     }
 
+    /// The image of its own description.
+    pub fn image(&self) -> &'i Image<'b>
+        ensures { result.now ≡ self.now.image }
+    {
+        self.image
+    }
+
     /// The values of its variables, by their numbers.
     pub fn numbers(&self) -> &[i64]
         ensures { result.now ≡ self.now.values }

@@ -7,7 +7,6 @@ use crate::requests::{Stop, of_file};
 use edd_device::{Device, DeviceFault};
 use edd_display::print_text;
 use edd_instructions::Request;
-use edd_loader::Image;
 use edd_panel::{Command, Happened, Panel};
 use edd_panel_lines::{
     COMMANDS, prompt_of, push_answer, push_asked, push_done, push_end, push_happened, push_help,
@@ -33,13 +32,6 @@ const ABORTS: u32 = 16;
 pub struct Console<'c, R, W> {
     pub input: Lines<R>,
     pub out: &'c mut W,
-}
-
-/// A simulated device, which answers what needs no user.
-#[derive(Drop)]
-pub struct Partner<'i, 'b> {
-    pub device: Device<'i, 'b>,
-    pub image: &'i Image<'b>,
 }
 
 // Who answers a request.
@@ -77,18 +69,18 @@ fn ask_device<'a>(
     alloc: Global,
     panel: &Panel<'_, '_>,
     request: Request,
-    partner: &mut Partner<'_, '_>,
+    device: &mut Device<'_, '_>,
 ) -> Result<Reply, Stop<'a>> {
     let values = panel.values();
-    let instrument = partner.device.instrument();
+    let instrument = device.instrument();
     if !values.are_of(instrument) {
         return Ok(Reply::User);
     }
-    match partner.device.reply(alloc, &request, values) {
+    match device.reply(alloc, &request, values) {
         Ok(Some(answer)) => Ok(Reply::Given(answer)),
         Ok(None) => Ok(Reply::User),
         Err(DeviceFault::Memory) => Err(Stop::Memory),
-        Err(fault) => Ok(Reply::Fault(fault_text(alloc, instrument, partner.image, fault)?)),
+        Err(fault) => Ok(Reply::Fault(fault_text(alloc, instrument, device.image(), fault)?)),
     }
 }
 
@@ -98,7 +90,7 @@ fn reply_to<'a>(
     alloc: Global,
     panel: &Panel<'_, '_>,
     request: Request,
-    partner: &mut Option<Partner<'_, '_>>,
+    device: &mut Option<Device<'_, '_>>,
 ) -> Result<Reply, Stop<'a>> {
     if let Request::PutMessage(_) = request {
         return Ok(Reply::Given(Answer::Go {
@@ -106,8 +98,8 @@ fn reply_to<'a>(
             sets: Vec::new(alloc),
         }));
     }
-    match partner {
-        Some(partner) => ask_device(alloc, panel, request, partner),
+    match device {
+        Some(device) => ask_device(alloc, panel, request, device),
         None => Ok(Reply::User),
     }
 }
@@ -156,7 +148,7 @@ fn give_up<'a, W: Write>(
 fn settle<'a, W: Write>(
     alloc: Global,
     panel: &mut Panel<'_, '_>,
-    partner: &mut Option<Partner<'_, '_>>,
+    device: &mut Option<Device<'_, '_>>,
     out: &mut W,
     noted: &mut String,
 ) -> Result<Option<Turn>, Stop<'a>> {
@@ -168,7 +160,7 @@ fn settle<'a, W: Write>(
             show_end(alloc, turn, out)?;
             return Ok(panel.turn());
         };
-        match reply_to(alloc, panel, request, partner)? {
+        match reply_to(alloc, panel, request, device)? {
             Reply::Given(answer) => give(alloc, panel, request, &answer, out, noted)?,
             Reply::Fault(why) => give_up(alloc, panel, request, &why, out, noted)?,
             Reply::User => return Ok(Some(turn)),
@@ -290,7 +282,7 @@ fn abort<'a>(panel: &mut Panel<'_, '_>, noted: &mut String) -> Result<(), Stop<'
 fn leave<'a, W: Write>(
     alloc: Global,
     panel: &mut Panel<'_, '_>,
-    partner: &mut Option<Partner<'_, '_>>,
+    device: &mut Option<Device<'_, '_>>,
     out: &mut W,
     noted: &mut String,
 ) -> Result<(), Stop<'a>> {
@@ -299,7 +291,7 @@ fn leave<'a, W: Write>(
             return Ok(());
         }
         abort(panel, noted)?;
-        if let Some(Turn::Asks(_)) = settle(alloc, panel, partner, out, noted)? {
+        if let Some(Turn::Asks(_)) = settle(alloc, panel, device, out, noted)? {
             show(alloc, panel, out)?;
         }
     }
@@ -312,14 +304,14 @@ fn leave<'a, W: Write>(
 pub fn converse<'a, R: Read, W: Write>(
     alloc: Global,
     panel: &mut Panel<'_, '_>,
-    partner: &mut Option<Partner<'_, '_>>,
+    device: &mut Option<Device<'_, '_>>,
     console: &mut Console<'_, R, W>,
     noted: &mut String,
 ) -> Result<(), Stop<'a>> {
     let mut next = Next::View;
     for _ in 0..u64::MAX {
         if matches!(next, Next::View) {
-            settle(alloc, panel, partner, console.out, noted)?;
+            settle(alloc, panel, device, console.out, noted)?;
             show(alloc, panel, console.out)?;
         }
         next = match ask(alloc, panel, console)? {
@@ -330,5 +322,5 @@ pub fn converse<'a, R: Read, W: Write>(
             break;
         }
     }
-    leave(alloc, panel, partner, console.out, noted)
+    leave(alloc, panel, device, console.out, noted)
 }

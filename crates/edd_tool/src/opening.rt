@@ -1,6 +1,6 @@
 //! What the program does to open a description.
 
-use crate::conversation::{Console, Partner, converse};
+use crate::conversation::{Console, converse};
 use crate::devices::compiled;
 use crate::files::Files;
 use crate::input::Lines;
@@ -34,7 +34,7 @@ fn image_of<'a>(alloc: Global, bytes: Vec<u8>) -> Result<Vec<u8>, Stop<'a>> {
 fn talk<'a, R: Read + Drop, W: Write>(
     alloc: Global,
     image: &Image<'_>,
-    mut partner: Option<Partner<'_, '_>>,
+    mut device: Option<Device<'_, '_>>,
     language: &str,
     script: &[u8],
     input: R,
@@ -51,32 +51,26 @@ fn talk<'a, R: Read + Drop, W: Write>(
         input: Lines::new(input),
         out,
     };
-    converse(alloc, &mut panel, &mut partner, &mut console, &mut noted)?;
+    converse(alloc, &mut panel, &mut device, &mut console, &mut noted)?;
     Ok(noted)
 }
 
-// The same with a device, whose source is this text.
+// The same with a device of this image.
 fn talk_with_device<'a, R: Read + Drop, W: Write>(
     alloc: Global,
+    instrument: &Image<'_>,
     image: &Image<'_>,
-    name: &'a str,
-    text: &[u8],
     opening: Opening<'a>,
     script: &[u8],
     input: R,
     out: &mut W,
 ) -> Result<String, Stop<'a>> {
-    let bytes = compiled(alloc, name, text)?;
-    let device_image = load(alloc, &bytes)?;
-    let device = Device::new(alloc, image, &device_image)?;
-    let partner = Partner {
-        device,
-        image: &device_image,
-    };
+    let device = Device::new(alloc, instrument, image)?;
+    let instrument = device.instrument();
     talk(
         alloc,
-        image,
-        Some(partner),
+        instrument,
+        Some(device),
         opening.language,
         script,
         input,
@@ -100,7 +94,9 @@ pub fn open<'a, F: Files, W: Write>(
     let image = load(alloc, &bytes)?;
     let noted = match opening.device {
         Some(name) => {
-            talk_with_device(alloc, &image, name, &text, opening, &script, input, out)?
+            let device_bytes = compiled(alloc, name, &text)?;
+            let device = load(alloc, &device_bytes)?;
+            talk_with_device(alloc, &image, &device, opening, &script, input, out)?
         }
         None => talk(alloc, &image, None, opening.language, &script, input, out)?,
     };
