@@ -7,7 +7,7 @@
  * structs of yours. docs/EMBEDDING.md is the way in; docs/IMAGE.md says what an image is.
  *
  * Every call answers a status: EDD_OK, or a number that says why it did not do what was asked, and then
- * nothing that you passed has changed.
+ * nothing that you passed has changed, but that edd_attribute says how much room it needs.
  *
  * What you owe, and nothing else is asked of you:
  *  - A pointer is to as many elements as its length says. With a length of 0 it may be any pointer but
@@ -199,7 +199,7 @@ enum {
 enum {
     EDD_RECORD_WORDS = 1,      /* text */
     EDD_RECORD_NUMBER = 2,     /* value */
-    EDD_RECORD_ENTRY = 3,      /* kind, item, qualifiers: an entry of a menu or collection */
+    EDD_RECORD_ENTRY = 3,      /* kind, item, qualifiers: an entry of a menu */
     EDD_RECORD_CONSTANT = 4,   /* value: an octet of a transaction */
     EDD_RECORD_VARIABLE = 5,   /* item, number (a mask, 0 for none), qualifiers: of a transaction */
     EDD_RECORD_ENUMERATOR = 6, /* value, text, help */

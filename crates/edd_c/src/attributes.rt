@@ -1,6 +1,6 @@
 //! What an attribute is under the values of a device.
 
-ghost use Rattle.std.specs.Prelude.{◌≡◌, ◌≢◌, List, None, Some, length, map};
+ghost use Rattle.std.specs.Prelude.{◌≡◌, ◌≢◌, ◌⊎◌, List, None, Some, length, map};
 ghost use Rattle.edd_syntax.specs.declared.numbers.AttrRef.{AttrRef};
 ghost use Rattle.edd_instructions.specs.declared.records.Record.{Record};
 ghost use Rattle.edd_instructions.specs.Validity.{IsValid};
@@ -37,6 +37,10 @@ pub extern "C" fn edd_attribute(
         × (ref_of kind number attribute sub ≡ Some ref)
         × IsAttributeFault bytes.now ref values.now (length records.old)
         (AttributeFault.Room given.new) }
+    ensures refused { result ≢ 0 → result ≢ 260 → ((result ≡ 203) × (ref_of kind number attribute sub
+        ≡ None)) ⊎ ((ref : AttrRef) × (fault : AttributeFault)
+        × (ref_of kind number attribute sub ≡ Some ref) × (result ≡ attribute_status fault)
+        × IsAttributeFault bytes.now ref values.now (length records.old) fault) }
     ensures other { result ≡ 260 → ¬ AreOf image.now bytes.now }
     ensures kept { result ≢ 0 → records.new ≡ records.old }
     ensures given_kept { result ≢ 0 → result ≢ 261 → given.new ≡ given.old }

@@ -1,6 +1,6 @@
 //! Names, texts, types and elements.
 
-ghost use Rattle.std.specs.Prelude.{◌≡◌, ◌≢◌, None, Some, option_and_then, option_map};
+ghost use Rattle.std.specs.Prelude.{◌≡◌, ◌≢◌, ◌⊎◌, None, Some, option_and_then, option_map};
 ghost use Rattle.std.specs.List.{slice_get};
 ghost use Rattle.edd_syntax.specs.declared.numbers.ItemNo.{ItemNo};
 ghost use Rattle.edd_syntax.specs.Elements.{element_variable};
@@ -32,6 +32,7 @@ pub extern "C" fn edd_find(
         × IsFirstNamed (contents_in bytes.now) name.now found }
     ensures none { result ≡ 203 → (found : ItemNo)
         → name_numbered (contents_in bytes.now) found ≢ Some name.now }
+    ensures refused { result ≢ 0 → (result ≡ 203) ⊎ (result ≡ 260) }
     ensures other { result ≡ 260 → ¬ AreOf image.now bytes.now }
     ensures kept { result ≢ 0 → item.new ≡ item.old }
 {
@@ -63,6 +64,7 @@ pub extern "C" fn edd_name<'b>(
     ensures none { result ≡ 203
         → option_and_then (name_numbered (contents_in bytes.now)) (item_from_numbers kind number)
         ≡ None }
+    ensures refused { result ≢ 0 → (result ≡ 203) ⊎ (result ≡ 260) }
     ensures other { result ≡ 260 → ¬ AreOf image.now bytes.now }
     ensures kept { result ≢ 0 → name.new ≡ name.old }
 {
@@ -94,6 +96,7 @@ pub extern "C" fn edd_text<'b>(
         ≡ Some (shown text.new) }
     ensures none { result ≡ 203
         → string_numbered (contents_in bytes.now) (record { 0 = string }) ≡ None }
+    ensures refused { result ≢ 0 → (result ≡ 203) ⊎ (result ≡ 260) }
     ensures other { result ≡ 260 → ¬ AreOf image.now bytes.now }
     ensures kept { result ≢ 0 → text.new ≡ text.old }
 {
@@ -123,6 +126,7 @@ pub extern "C" fn edd_variable(
         ≡ Some type_found.new }
     ensures none { result ≡ 203
         → slice_get (environment_of (contents_in bytes.now)).types variable ≡ None }
+    ensures refused { result ≢ 0 → (result ≡ 203) ⊎ (result ≡ 260) }
     ensures other { result ≡ 260 → ¬ AreOf image.now bytes.now }
     ensures kept { result ≢ 0 → type_found.new ≡ type_found.old }
 {
@@ -154,6 +158,7 @@ pub extern "C" fn edd_element(
     ensures none { result ≡ 203
         → element_variable (contents_in bytes.now).elements (record { 0 = array }) number
         ≡ None }
+    ensures refused { result ≢ 0 → (result ≡ 203) ⊎ (result ≡ 260) }
     ensures other { result ≡ 260 → ¬ AreOf image.now bytes.now }
     ensures kept { result ≢ 0 → variable.new ≡ variable.old }
 {
