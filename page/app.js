@@ -20,7 +20,7 @@ class App {
         this.image = new Image(window.CodeMirror, find("image-lines"), (line) => this.goTo(line));
         this.run = new Run(find("run-list"));
         this.communicator = new Communicator(find("screen"), find("asked-dialog"), find("said"),
-            (event) => this.run.add(event), () => this.showDevice());
+            { tell: (event) => this.run.add(event), changed: () => this.showDevice(), restart: () => this.openAnew() });
         this.listen();
         await this.first();
         document.body.dataset.ready = performance.now();
@@ -140,7 +140,15 @@ class App {
         this.desk.speak(list.value);
     }
 
+    /** Shows the variables of the device, once for all changes of a frame. */
     showDevice() {
+        this.drawing ??= requestAnimationFrame(() => {
+            this.drawing = null;
+            this.drawDevice();
+        });
+    }
+
+    drawDevice() {
         const values = this.desk ? this.desk.device() : [];
         find("no-device").hidden = values.length > 0;
         find("device-values").replaceChildren(...values.map((it) => {

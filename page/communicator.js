@@ -1,7 +1,8 @@
 // The communicator: menus, variables and methods of a desk, as the engine gives them.
 
-/** How many instructions a method executes before the page is shown again. */
+/** How many instructions a method executes, and how many requests are answered, before the page is shown again. */
 const STEPS = 200_000;
+const REPLIES = 20;
 
 function element(name, className, text) {
     const made = document.createElement(name);
@@ -20,9 +21,9 @@ function button(text, className, clicked) {
 const pause = (milliseconds) => new Promise((done) => setTimeout(done, milliseconds));
 
 export class Communicator {
-    /** `tell` is given each event of a run, `changed` is called where values may be new. */
-    constructor(place, dialog, status, tell, changed) {
-        Object.assign(this, { place, dialog, status, tell, changed, desk: null, path: [], titles: [] });
+    /** `tell` is given each event of a run, `changed` is called where values may be new, `restart` begins with a new desk. */
+    constructor(place, dialog, status, { tell, changed, restart }) {
+        Object.assign(this, { place, dialog, status, tell, changed, restart, desk: null, path: [], titles: [], replies: 0 });
         dialog.addEventListener("cancel", (event) => {
             event.preventDefault();
             this.abort?.();
@@ -330,15 +331,25 @@ export class Communicator {
         }
     }
 
+    /** Lets the page be shown, with a way out of a method that never asks. A dialog that is clicked has to stay the same. */
+    async rest(row) {
+        if (!this.dialog.open || !this.dialog.querySelector(".still")) {
+            this.ask(row, element("p", "still", "The method still runs"), [button("Start anew", "abort", () => this.restart())]);
+        }
+        await pause(0);
+        return true;
+    }
+
     /** Says whether the method goes on. */
     async step(desk, row) {
+        this.replies += 1;
+        if (this.replies % REPLIES === 0) {
+            return this.rest(row);
+        }
         const gone = desk.go(STEPS);
         this.tell({ changes: gone.changes, said: gone.said });
-        this.changed();
         if (gone.turn === "runs") {
-            this.ask(row, element("p", "", "The method still runs"), []);
-            await pause(0);
-            return true;
+            return this.rest(row);
         }
         if (gone.turn !== "asks") {
             this.said(gone.said);
@@ -370,6 +381,7 @@ export class Communicator {
         const replied = desk.reply();
         if (replied.is_answered) {
             this.tell({ step: replied.step, said: replied.said, by: "device" });
+            this.changed();
             return;
         }
         if (asks.asks === "wait") {

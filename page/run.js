@@ -1,5 +1,8 @@
 // The list of what methods asked, what was answered, and what changed.
 
+/** How many lines are kept. */
+const MOST = 2000;
+
 export class Run {
     constructor(list) {
         this.list = list;
@@ -14,7 +17,21 @@ export class Run {
         item.className = className;
         item.textContent = text;
         this.list.append(item);
-        item.scrollIntoView({ block: "nearest" });
+        if (this.list.childElementCount > MOST) {
+            this.list.firstElementChild.remove();
+        }
+        this.scroll();
+    }
+
+    /** Shows the last line, once for all lines of a frame. */
+    scroll() {
+        if (!this.isScrolling) {
+            this.isScrolling = true;
+            requestAnimationFrame(() => {
+                this.isScrolling = false;
+                this.list.scrollTop = this.list.scrollHeight;
+            });
+        }
     }
 
     add(event) {

@@ -19,6 +19,9 @@ VARIABLE mode { LABEL "Mode"; TYPE ENUMERATED { { 0, "Simple" } { 1, "Full" } } 
 VARIABLE flags { LABEL "Flags"; TYPE BIT_ENUMERATED { { 1, "Dry" } { 2, "Full" } } }
 VARIABLE high { LABEL "High alarm"; VALIDITY IF (mode == 1) { TRUE; } ELSE { FALSE; } TYPE INTEGER (2); }
 """
+DEVICE = """MANUFACTURER 1, DEVICE_TYPE 1, DEVICE_REVISION 1, DD_REVISION 1
+VARIABLE level { LABEL "Level"; TYPE UNSIGNED_INTEGER (2); }
+"""
 # A text that fills as many bytes as a source may have.
 MOST = 1 << 20
 
@@ -162,6 +165,20 @@ def delays(counts, browser):
         time.sleep(0.05)
     browser.sees("said", "end ended")
     counts.check("3900" in browser.text("device-values"), f"the device at its open end: {browser.text('device-values')!r}")
+
+
+def endless(counts, browser):
+    """Methods that never end keep the page alive, and it can start anew."""
+    for body in ("while (1) { }", 'while (1) PUT_MESSAGE("again");', "while (1) send_command(1);"):
+        more = 'COMMAND c { NUMBER 1; OPERATION READ; TRANSACTION { REPLY { level } } }\n'
+        browser.source(f"{LEVEL.replace('high }', 'high, endless }')}{more}METHOD endless {{ LABEL \"Endless\"; DEFINITION {{ {body} }} }}\n")
+        browser.script("window.app.device.write(arguments[0]); window.app.open()", DEVICE)
+        browser.click("#screen .entry", "Endless")
+        browser.sees("asked-dialog", "The method still runs")
+        browser.click("#asked-dialog button", "Start anew")
+        browser.until(lambda: not browser.script("return document.getElementById('asked-dialog').open"), "the end of a method")
+        browser.click("#screen .entry", "Level")
+        counts.check("New value" in browser.screen(), f"the page after {body}")
 
 
 def languages(counts, browser):
@@ -416,7 +433,8 @@ def test(chosen=()):
         browser.open()
         for name, action, *more in (
                 ("the first screen", first_example), ("a changed text", changed_text), ("faults", faults), ("edits", edits),
-                ("a calibration", to_its_end, program), ("an abort", aborted), ("delays", delays), ("languages", languages),
+                ("a calibration", to_its_end, program), ("an abort", aborted), ("delays", delays), ("endless methods", endless),
+                ("languages", languages),
                 ("the image", image_lines), ("texts that are kept", kept_texts), ("the keyboard", keyboard), ("looks", looks),
                 ("key presses", speed), ("the longest text", longest), ("sources", every_source, program),
                 ("images", hostile, program), ("wild calls", wild_calls), ("the console", quiet)):
