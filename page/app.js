@@ -11,9 +11,9 @@ const find = (id) => document.getElementById(id);
 
 class App {
     async start() {
-        this.engine = await Engine.at("edd.wasm");
+        const [engine, examples] = await Promise.all([Engine.at("edd.wasm"), fetch("examples.json").then((it) => it.json())]);
+        Object.assign(this, { engine, examples });
         this.engine.restarted = () => { this.desk = null; };
-        this.examples = await (await fetch("examples.json")).json();
         defineEddl(window.CodeMirror, this.engine);
         this.source = this.editor("source", "Source of the instrument");
         this.device = this.editor("device", "Source of the device");
@@ -48,7 +48,8 @@ class App {
     async example(name) {
         const example = this.examples.find((it) => it.name === name);
         const text = async (file) => (file ? (await fetch(`examples/${file}`)).text() : "");
-        this.write(await text(example.source), await text(example.device), example.name);
+        const [source, device] = await Promise.all([text(example.source), text(example.device)]);
+        this.write(source, device, example.name);
         this.keep();
     }
 

@@ -20,6 +20,7 @@ export class Engine {
             throw new Error(`${url}: ${answer.status}`);
         }
         const engine = new Engine();
+        // Any server of files will do, also one that doesn't know the type of a module.
         engine.module = await WebAssembly.compile(await answer.arrayBuffer());
         engine.begin();
         return engine;
