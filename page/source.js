@@ -28,21 +28,26 @@ export class Source {
 
     /** Puts a text in the place of the one that is there, which Undo brings back. */
     write(text) {
-        clearTimeout(this.timer);
+        this.typed = null;
         this.isQuiet = true;
         this.editor.setValue(text);
         this.isQuiet = false;
         this.look();
     }
 
-    /** A text that is looked at for long is looked at less often, so that typing stays fast. */
+    /**
+     * Looks at the text, and tells of it once the findings are painted. A text that is looked at for long is looked at less
+     * often, so that typing stays fast.
+     */
     later(changed) {
-        clearTimeout(this.timer);
-        this.timer = setTimeout(() => {
+        const typed = {};
+        this.typed = typed;
+        const next = (action, wait) => setTimeout(() => this.typed === typed && action(), wait);
+        next(() => {
             const start = performance.now();
             this.look();
-            changed();
             this.spent = performance.now() - start;
+            requestAnimationFrame(() => next(changed, 0));
         }, (this.spent ?? 0) > 40 ? 3 * this.spent : 0);
     }
 
