@@ -14,8 +14,8 @@ RESULT = re.compile(r"^test result: .* (\d+) passed; (\d+) failed", re.MULTILINE
 
 
 def written():
-    """The edition with the fuzzing, in its folder."""
-    edition = workspace.Edition(own=["fuzz"])
+    """The edition with the fuzzing and the module of the page, in its folder."""
+    edition = workspace.Edition(own=["fuzz", "page"])
     edition.write(FOLDER)
     return edition
 

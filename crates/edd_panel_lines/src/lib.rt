@@ -9,7 +9,11 @@ mod sheets;
 mod texts;
 mod views;
 
+pub use numbers::{push_content, push_number};
 pub use records::{push_answer, push_done, push_set, push_start};
+pub use requests::push_request;
+pub use sheets::push_kind;
+pub use texts::{push_text, push_trap, push_words};
 pub use views::{prompt_of, push_asked, push_end, push_happened, push_help, push_view};
 
 /// The commands, for `?`.

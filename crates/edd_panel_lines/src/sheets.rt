@@ -17,10 +17,10 @@ fn type_word(of: VarType) -> &'static str {
     }
 }
 
-// The type and the size in octets.
-fn push_kind(line: &mut String, kind: VarKind) -> Result<(), AllocError> {
+/// Appends the type and the size in octets.
+pub fn push_kind(line: &mut String, kind: VarKind) -> Result<(), AllocError> {
     let word = type_word(kind.var_type);
-    if write!(line, "  {word} {}", kind.size).is_err() {
+    if write!(line, "{word} {}", kind.size).is_err() {
         return Err(AllocError);
     }
     Ok(())
@@ -93,6 +93,7 @@ fn is_numeric(sheet: &Sheet<'_>) -> bool {
 fn push_head(alloc: Global, lines: &mut String, sheet: &Sheet<'_>) -> Result<(), AllocError> {
     push_words(lines, sheet.label)?;
     if let Some(kind) = sheet.kind {
+        lines.push_str("  ")?;
         push_kind(lines, kind)?;
     }
     lines.push_str("\nvalue ")?;
