@@ -29,26 +29,33 @@ class Refused:
     def __init__(self, room):
         self.room, self.library = room, library(room)
 
-    def run(self, words, number):
+    def run(self, words, number, typed=b""):
         """The status, the lines, and whether a request was refused."""
         environment = {**os.environ, "REFUSE": str(number), "LD_PRELOAD": self.library}
-        ran = subprocess.run(words, cwd=self.room, env=environment, stdin=subprocess.DEVNULL, capture_output=True, check=False)
+        ran = subprocess.run(words, cwd=self.room, env=environment, input=typed, capture_output=True, check=False)
         return ran.returncode, ran.stdout, b"refused\n" in ran.stderr
 
-    def requests(self, words):
+    def requests(self, words, typed=b""):
         """How many requests a run makes: the most that is refused."""
         least, most = 0, 1
-        while self.run(words, most)[2]:
+        while self.run(words, most, typed)[2]:
             least, most = most, 2 * most
         while most - least > 1:
             middle = (least + most) // 2
-            least, most = (middle, most) if self.run(words, middle)[2] else (least, middle)
+            least, most = (middle, most) if self.run(words, middle, typed)[2] else (least, middle)
         return least
+
+
+# What is typed at `open`: a help, a variable, and a method that asks once.
+TYPED = b"h 1\n1\n\n3\n\nq\n"
 
 
 def commands(examples):
     """Command lines, and which of their words are files that are read."""
     source, script = os.path.join(examples, "valve_positioner.edd"), os.path.join(examples, "valve_positioner.ends.script")
+    device = os.path.join(examples, "valve_positioner.device.edd")
+    yield from ((["open", source, "--device", device], (1, 3)), (["open", "image", "--record", "made"], (1,)))
+    yield (["try", source, "calibrate", "--device", device], (1, 4))
     yield from ((["compile", source, "made"], (1,)), (["view", source, script], (1, 2)), (["check", source], (1,)))
     yield from ((["check", "wrong"], (1,)), (["check", "wrong", "--format", "json"], (1,)), (["show", "image"], (1,)))
     yield from ((["dump", "image"], (1,)), (["play", "image", "calibrate", script], (1, 3)), (["try", source, "calibrate", script], (1, 3)))
@@ -65,9 +72,9 @@ def of_program(score, program):
             wrong.write(file.read().replace("LABEL", "LABLE", 2))
         for words, files in commands(os.path.join(repository.TOP, "examples")):
             before = refused.requests([program, *[MISSING if at in files else word for at, word in enumerate(words)]])
-            every = refused.requests([program, *words])
+            every = refused.requests([program, *words], TYPED)
             for number in range(1 + len(words[0]) % APART, every + 1, APART):
-                status, lines, _ = refused.run([program, *words], number)
+                status, lines, _ = refused.run([program, *words], number, TYPED)
                 is_answered = status == MEMORY and lines.endswith(b"no memory\n")
                 aborted += not is_answered
                 behind += number > before
