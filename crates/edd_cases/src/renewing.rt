@@ -1,0 +1,223 @@
+//! A test with what was seen in place of what was expected.
+
+ghost use Rattle.std.specs.Prelude.{◌≡◌, ◌++◌, ◌∷◌, [], IfOk};
+ghost use Rattle.edd_cases.specs.Expected.{texts};
+ghost use Rattle.edd_cases.specs.Renewed.{staying_of, kept_of, seen_of};
+
+use crate::cases::Case;
+use crate::lines::{Line, Says};
+use crate::printed::Seen;
+use std::alloc::{AllocError, Global};
+
+/// A piece of a test that is written anew.
+#[derive(Clone, Copy)]
+pub enum Piece<'a> {
+    /// A line that stays as it is, with its end.
+    Kept(&'a str),
+    /// A line that was seen, without its end.
+    Seen(&'a str),
+}
+
+// How many lines of a test there are up to the last one that says something: blank lines and
+// comments behind it belong to what follows.
+fn count_said(lines: &[Line<'_>]) -> usize {
+    let mut count = 0;
+    let mut before: usize = 0;
+    for line in lines {
+        before = before.saturating_add(1);
+        if !matches!(line.says, Says::Nothing) {
+            count = before;
+        }
+    }
+    count
+}
+
+// Adds the lines that were seen up to this turn, and gives those that are left.
+fn add_turn<'s, 'a>(
+    pieces: &mut Vec<Piece<'a>>,
+    left: &'s [Seen<'a>],
+    turn: usize,
+) -> Result<&'s [Seen<'a>], AllocError>
+    ensures kept { IfOk result (λ rest. kept_of pieces.new.items ≡ kept_of pieces.old.items) }
+    ensures seen { IfOk result (λ rest. seen_of pieces.new.items ++ texts rest.now
+        ≡ seen_of pieces.old.items ++ texts left.now) }
+{
+    let mut rest = left;
+    while let [next, others @ ..] = rest {
+        if turn < next.turn {
+            return Ok(rest);
+        }
+        pieces.push(Piece::Seen(next.text))?;
+        rest = others;
+    }
+    Ok(rest)
+}
+
+// Adds all lines that were seen.
+fn add_seen<'a>(pieces: &mut Vec<Piece<'a>>, left: &[Seen<'a>]) -> Result<(), AllocError>
+    ensures kept { IfOk result (λ u. kept_of pieces.new.items ≡ kept_of pieces.old.items) }
+    ensures seen { IfOk result (λ u. seen_of pieces.new.items
+        ≡ seen_of pieces.old.items ++ texts left.now) }
+{
+    for next in left {
+        pieces.push(Piece::Seen(next.text))?;
+    }
+    Ok(())
+}
+
+// Adds the next line that was seen, if it belongs to this turn, and gives those that are left.
+fn add_next<'s, 'a>(
+    pieces: &mut Vec<Piece<'a>>,
+    left: &'s [Seen<'a>],
+    turn: usize,
+) -> Result<&'s [Seen<'a>], AllocError>
+    ensures kept { IfOk result (λ rest. kept_of pieces.new.items ≡ kept_of pieces.old.items) }
+    ensures seen { IfOk result (λ rest. seen_of pieces.new.items ++ texts rest.now
+        ≡ seen_of pieces.old.items ++ texts left.now) }
+{
+    match left {
+        [next, others @ ..] if next.turn <= turn => {
+            pieces.push(Piece::Seen(next.text))?;
+            Ok(others)
+        }
+        _ => Ok(left),
+    }
+}
+
+// Adds a line that stays, or nothing for one that was expected.
+fn add_kept<'a>(pieces: &mut Vec<Piece<'a>>, line: Line<'a>) -> Result<(), AllocError>
+    ensures kept { IfOk result (λ u. kept_of pieces.new.items
+        ≡ kept_of pieces.old.items ++ staying_of (line ∷ [])) }
+    ensures seen { IfOk result (λ u. seen_of pieces.new.items ≡ seen_of pieces.old.items) }
+{
+    match line.says {
+        Says::Whole(_) => Ok(()),
+        _ => {
+            pieces.push(Piece::Kept(line.raw))?;
+            Ok(())
+        }
+    }
+}
+
+// Adds what is there in place of a line of the test, and gives the lines that are left of those that
+// were seen.
+fn add_line<'s, 'a>(
+    pieces: &mut Vec<Piece<'a>>,
+    line: Line<'a>,
+    left: &'s [Seen<'a>],
+    turn: usize,
+) -> Result<&'s [Seen<'a>], AllocError>
+    ensures kept { IfOk result (λ rest. kept_of pieces.new.items
+        ≡ kept_of pieces.old.items ++ staying_of (line ∷ [])) }
+    ensures seen { IfOk result (λ rest. seen_of pieces.new.items ++ texts rest.now
+        ≡ seen_of pieces.old.items ++ texts left.now) }
+{
+    let rest = match line.says {
+        Says::Whole(_) => add_next(pieces, left, turn)?,
+        Says::Typed(_) => add_turn(pieces, left, turn)?,
+        _ => left,
+    };
+    add_kept(pieces, line)?;
+    Ok(rest)
+}
+
+// Adds the lines up to the last one that says something, and then all that is left of what was seen.
+fn add_said<'a>(
+    pieces: &mut Vec<Piece<'a>>,
+    lines: &[Line<'a>],
+    seen: &[Seen<'a>],
+) -> Result<(), AllocError>
+    ensures kept { IfOk result (λ u. kept_of pieces.new.items
+        ≡ kept_of pieces.old.items ++ staying_of lines.now) }
+    ensures seen { IfOk result (λ u. seen_of pieces.new.items
+        ≡ seen_of pieces.old.items ++ texts seen.now) }
+{
+    let mut left = seen;
+    let mut turn: usize = 0;
+    for line in lines {
+        left = add_line(pieces, *line, left, turn)?;
+        if let Says::Typed(_) = line.says {
+            turn = turn.saturating_add(1);
+        }
+    }
+    add_seen(pieces, left)
+}
+
+// Adds the lines behind these.
+fn add_behind<'a>(pieces: &mut Vec<Piece<'a>>, lines: &[Line<'a>]) -> Result<(), AllocError>
+    ensures kept { IfOk result (λ u. kept_of pieces.new.items
+        ≡ kept_of pieces.old.items ++ staying_of lines.now) }
+    ensures seen { IfOk result (λ u. seen_of pieces.new.items ≡ seen_of pieces.old.items) }
+{
+    for line in lines {
+        add_kept(pieces, *line)?;
+    }
+    Ok(())
+}
+
+/// The lines of a test in order, those that were seen in place of those that it expects. What was
+/// printed before the user was asked for a line stands before that line, and all that is left
+/// behind the last line that says something.
+pub fn renewed<'a>(
+    alloc: Global,
+    case: &Case<'a>,
+    seen: &[Seen<'a>],
+) -> Result<Vec<Piece<'a>>, AllocError>
+    ensures kept { IfOk result (λ pieces. kept_of pieces.items
+        ≡ staying_of case.now.lines.items) }
+    ensures seen { IfOk result (λ pieces. seen_of pieces.items ≡ texts seen.now) }
+{
+    let count = count_said(&case.lines).min(case.lines.len());
+    let (said, behind) = case.lines.split_at(count);
+    let mut pieces = Vec::new(alloc);
+    add_said(&mut pieces, said, seen)?;
+    add_behind(&mut pieces, behind)?;
+    Ok(pieces)
+}
+
+// A line that was seen. Where it ends with a CR it needs another one, since that of the end of a
+// line is dropped.
+fn push_seen(file: &mut String, text: &str, end: &str) -> Result<(), AllocError> {
+    if !file.is_empty() && !file.ends_with('\n') {
+        file.push_str(end)?;
+    }
+    file.push('=')?;
+    if !text.is_empty() {
+        file.push(' ')?;
+    }
+    file.push_str(text)?;
+    file.push_str(if text.ends_with('\r') { "\r\n" } else { end })
+}
+
+// How the first line of a test ends.
+fn end_of(case: &Case<'_>) -> &'static str {
+    match case.lines.first() {
+        Some(line) if line.raw.ends_with("\r\n") => "\r\n",
+        _ => "\n",
+    }
+}
+
+/// Appends the pieces to the file that is written anew. Lines that were seen end as the first line
+/// of the test does.
+pub fn push_renewed(
+    file: &mut String,
+    case: &Case<'_>,
+    pieces: &[Piece<'_>],
+) -> Result<(), AllocError> {
+    let end = end_of(case);
+    for piece in pieces {
+        match piece {
+            Piece::Kept(raw) => file.push_str(raw)?,
+            Piece::Seen(text) => push_seen(file, text, end)?,
+        }
+    }
+    Ok(())
+}
+
+/// Appends lines as they are to the file that is written anew.
+pub fn push_as_it_is(file: &mut String, lines: &[Line<'_>]) -> Result<(), AllocError> {
+    for line in lines {
+        file.push_str(line.raw)?;
+    }
+    Ok(())
+}
