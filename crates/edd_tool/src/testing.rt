@@ -194,7 +194,10 @@ pub fn test_files<'a, F: Files, W: Write>(
 ) -> Result<(), Stop<'a>> {
     let mut texts = Vec::new(alloc);
     for name in names {
-        texts.push(read(alloc, files, *name)?)?;
+        let bytes = read(alloc, files, *name)?;
+        if texts.push(bytes).is_err() {
+            return Err(Stop::Memory);
+        }
     }
     let mut tally = Tally::nothing();
     for (name, bytes) in names.iter().zip(&texts) {
