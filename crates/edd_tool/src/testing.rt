@@ -155,7 +155,7 @@ fn test_all<'a, F: Files, W: Write>(
     }
     if given.is_update && file.as_bytes() != bytes {
         files
-            .save(given.name, file.as_bytes())
+            .renew(given.name, file.as_bytes())
             .map_err(|fault| of_file(given.name, fault))?;
         print(alloc, out, format_args!("updated {}", given.name))?;
     }

@@ -114,7 +114,7 @@ fn judge(row: &Row<'_>, printed: Printed, has_no_file: bool, has_no_output: bool
         return Verdict::Refused;
     }
     let is_right = if has_no_file {
-        printed.status == 3 && is_file_fault(row, text)
+        printed.status == 3 && (is_file_fault(row, text) || text == row.lines)
     } else if has_no_output {
         // A write that fails can come in the middle of a letter.
         printed.status == 3 && row.lines.as_bytes().starts_with(printed.bytes.as_slice())
