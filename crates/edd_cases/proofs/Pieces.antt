@@ -7,7 +7,7 @@ pub taken_more : {X Y : Type 0} (f : X → Option Y) (xs : List X) (x : X)
 taken_more f [] x = refl
 taken_more f (y ∷ xs) x =
     elim (f y) as (λ o. cons_option o (filter_map f (xs ++ x ∷ []))
-        ≡ cons_option o (filter_map f xs) ++ cons_option (f x) []) [
+    ≡ cons_option o (filter_map f xs) ++ cons_option (f x) []) [
       | None ↦ taken_more f xs x
       | Some z ↦ ap (λ l. z ∷ l) (taken_more f xs x)
     ]

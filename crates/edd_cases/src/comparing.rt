@@ -11,6 +11,10 @@ use crate::printed::Seen;
 use crate::settings::Form;
 use std::alloc::{AllocError, Global};
 
+const NO_MORE_LINES: &str = "no more lines";
+
+const NO_SUCH_LINE: &str = "no such line";
+
 /// The first line that differs, by the number of the line of the file that expects it.
 #[derive(Clone, Copy)]
 pub enum Difference<'a> {
@@ -131,21 +135,18 @@ pub fn push_difference(
     lines: &mut String,
     difference: Difference<'_>,
 ) -> Result<(), AllocError> {
-    let told = match difference {
+    let (line, expected, seen) = match difference {
         Difference::Other {
             line,
             expected,
             seen,
-        } => format!(in alloc; "  line {line}: expected {expected}\n  line {line}: seen {seen}\n")?,
-        Difference::End { line, expected } => {
-            format!(in alloc; "  line {line}: expected {expected}\n  line {line}: seen no more lines\n")?
-        }
-        Difference::Nowhere { line, expected } => {
-            format!(in alloc; "  line {line}: expected {expected}\n  line {line}: seen no such line\n")?
-        }
-        Difference::More { line, seen } => {
-            format!(in alloc; "  line {line}: expected no more lines\n  line {line}: seen {seen}\n")?
-        }
+        } => (line, expected, seen),
+        Difference::End { line, expected } => (line, expected, NO_MORE_LINES),
+        Difference::Nowhere { line, expected } => (line, expected, NO_SUCH_LINE),
+        Difference::More { line, seen } => (line, NO_MORE_LINES, seen),
     };
+    let told = format!(in alloc;
+        "  line {line}: expected {expected}\n  line {line}: seen {seen}\n"
+    )?;
     lines.push_str(&told)
 }

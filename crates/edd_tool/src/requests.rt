@@ -354,9 +354,7 @@ pub fn answer<'a, F: Files, W: Write>(
             form,
         } => check_source(alloc, source, &lints, form, files, out),
         Request::Open(opening) => open(alloc, opening, files, out),
-        Request::Test { files: names, is_update } => {
-            test_files(alloc, &names, is_update, files, out)
-        }
+        Request::Test { names, is_update } => test_files(alloc, &names, is_update, files, out),
         Request::Dump { image } => dump_file(alloc, image, files, out),
         Request::Explain { number } => print_explanation(alloc, number, out),
     }

@@ -4,8 +4,8 @@ use crate::files::{FileFault, Files};
 use crate::opening::open_bytes;
 use crate::requests::{Stop, of_file, read, read_bytes, report, run_method, show_bytes};
 use edd_cases::{
-    Case, Description, Ended, Form, Kind, Misread, Printed, Tally, TestFault, Tests, beside, compare,
-    push_as_it_is, push_difference, push_renewed, read_tests, renewed,
+    Case, Description, Ended, Form, Kind, Misread, Printed, Tally, TestFault, Tests, beside,
+    compare, push_as_it_is, push_difference, push_renewed, read_tests, renewed,
 };
 use edd_command_line::Run;
 use edd_compiler::compile;
@@ -128,10 +128,18 @@ fn test_case<'a, F: Files, W: Write>(
         push_as_it_is(file, &case.lines)?;
     }
     let Some(difference) = differs else {
-        print(alloc, out, format_args!("passed {}: {}", given.name, case.name))?;
+        print(
+            alloc,
+            out,
+            format_args!("passed {}: {}", given.name, case.name),
+        )?;
         return Ok(Ended::Passed);
     };
-    print(alloc, out, format_args!("failed {}: {}", given.name, case.name))?;
+    print(
+        alloc,
+        out,
+        format_args!("failed {}: {}", given.name, case.name),
+    )?;
     let mut lines = String::new(alloc);
     push_difference(alloc, &mut lines, difference)?;
     print_text(out, &lines)?;
@@ -179,7 +187,11 @@ fn test_file<'a, F: Files, W: Write>(
         return Err(Stop::Memory);
     }
     tally.count(Ended::Refused);
-    print(alloc, out, format_args!("{}:{line}: refused {fault}", given.name))?;
+    print(
+        alloc,
+        out,
+        format_args!("{}:{line}: refused {fault}", given.name),
+    )?;
     Ok(())
 }
 

@@ -4,5 +4,5 @@ use Rattle.edd_cases.proofs.renewing.add_behind.Given as goal
 
 abbrev pub invariant-loop-line : goal.invariant-loop-line
 invariant-loop-line l = (kept_of l.pieces.items ++ staying_of (drop l.line-index l.lines)
-        ≡ kept_of l.fn.pieces.items ++ staying_of l.lines)
+    ≡ kept_of l.fn.pieces.items ++ staying_of l.lines)
     × (seen_of l.pieces.items ≡ seen_of l.fn.pieces.items)
