@@ -11,14 +11,14 @@ abbrev staying : Says → (raw : List ℕ) → Option (List ℕ)
 staying (says.Whole text) raw = None
 staying _ raw = Some raw
 
-abbrev stays : Line → Option (List ℕ)
+abbrev pub stays : Line → Option (List ℕ)
 stays line = staying line.says line.raw.now
 
 -- the lines of a test that stay, with their ends
 abbrev pub staying_of : List Line → List (List ℕ)
 staying_of = filter_map stays
 
-abbrev kept : Piece → Option (List ℕ)
+abbrev pub kept : Piece → Option (List ℕ)
 kept (piece.Kept raw) = Some raw.now
 kept (piece.Seen text) = None
 
@@ -26,7 +26,7 @@ kept (piece.Seen text) = None
 abbrev pub kept_of : List Piece → List (List ℕ)
 kept_of = filter_map kept
 
-abbrev seen : Piece → Option (List ℕ)
+abbrev pub seen : Piece → Option (List ℕ)
 seen (piece.Kept raw) = None
 seen (piece.Seen text) = Some text.now
 

@@ -1,6 +1,6 @@
 //! What was printed, beside what is expected.
 
-ghost use Rattle.std.specs.Prelude.{◌≡◌, option_map, is_none};
+ghost use Rattle.std.specs.Prelude.{◌≡◌, [], option_map, is_none};
 ghost use Rattle.edd_cases.specs.Expected as expected;
 ghost use Rattle.edd_cases.specs.Expected.{texts, passes};
 ghost use Rattle.edd_cases.specs.Steps as steps;
@@ -47,8 +47,14 @@ fn behind_next<'s, 'a>(text: &str, left: &'s [Seen<'a>]) -> Option<&'s [Seen<'a>
         ≡ steps.behind_next text.now (texts left.now) }
 {
     match left {
-        [next, others @ ..] if next.text == text => Some(others),
-        _ => None,
+        [next, others @ ..] => {
+            if next.text == text {
+                Some(others)
+            } else {
+                None
+            }
+        }
+        [] => None,
     }
 }
 
@@ -71,10 +77,15 @@ fn behind<'s, 'a>(text: &str, left: &'s [Seen<'a>]) -> Option<&'s [Seen<'a>]>
 fn past<'s, 'a>(form: Form, says: Says<'a>, left: &'s [Seen<'a>]) -> Option<&'s [Seen<'a>]>
     ensures { option_map (λ rest. texts rest.now) result ≡ steps.past form says (texts left.now) }
 {
-    match (form, says) {
-        (Form::Whole, Says::Whole(text)) => behind_next(text, left),
-        (Form::Parts, Says::Part(text)) => behind(text, left),
-        _ => Some(left),
+    match form {
+        Form::Whole => match says {
+            Says::Whole(text) => behind_next(text, left),
+            _ => Some(left),
+        },
+        Form::Parts => match says {
+            Says::Part(text) => behind(text, left),
+            _ => Some(left),
+        },
     }
 }
 
@@ -105,6 +116,19 @@ fn last_of(case: &Case<'_>) -> usize {
     last
 }
 
+// What was printed behind all that a test expects.
+fn more<'a>(case: &Case<'a>, left: &[Seen<'a>]) -> Option<Difference<'a>>
+    ensures { is_none result ≡ expected.same [] (texts left.now) }
+{
+    match left {
+        [first, ..] => Some(Difference::More {
+            line: last_of(case),
+            seen: first.text,
+        }),
+        [] => None,
+    }
+}
+
 /// Whether a run of the test has printed what it expects: nothing where it has, else the first line
 /// that differs.
 #[tactic(auto, using(crate::proofs::Meeting::first_line_met))]
@@ -120,12 +144,9 @@ pub fn compare<'a>(case: &Case<'a>, seen: &[Seen<'a>]) -> Option<Difference<'a>>
         }
         number = number.saturating_add(1);
     }
-    match (case.form, left) {
-        (Form::Whole, [more, ..]) => Some(Difference::More {
-            line: last_of(case),
-            seen: more.text,
-        }),
-        _ => None,
+    match case.form {
+        Form::Whole => more(case, left),
+        Form::Parts => None,
     }
 }
 

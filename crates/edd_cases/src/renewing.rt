@@ -33,6 +33,7 @@ fn count_said(lines: &[Line<'_>]) -> usize {
 }
 
 // Adds the lines that were seen up to this turn, and gives those that are left.
+#[tactic(auto, using(crate::proofs::Pieces::seen_keeps, crate::proofs::Pieces::seen_more))]
 fn add_turn<'s, 'a>(
     pieces: &mut Vec<Piece<'a>>,
     left: &'s [Seen<'a>],
@@ -54,6 +55,7 @@ fn add_turn<'s, 'a>(
 }
 
 // Adds all lines that were seen.
+#[tactic(auto, using(crate::proofs::Pieces::seen_keeps, crate::proofs::Pieces::seen_more))]
 fn add_seen<'a>(pieces: &mut Vec<Piece<'a>>, left: &[Seen<'a>]) -> Result<(), AllocError>
     ensures kept { IfOk result (λ u. kept_of pieces.new.items ≡ kept_of pieces.old.items) }
     ensures seen { IfOk result (λ u. seen_of pieces.new.items
@@ -66,6 +68,7 @@ fn add_seen<'a>(pieces: &mut Vec<Piece<'a>>, left: &[Seen<'a>]) -> Result<(), Al
 }
 
 // Adds the next line that was seen, if it belongs to this turn, and gives those that are left.
+#[tactic(auto, using(crate::proofs::Pieces::seen_keeps, crate::proofs::Pieces::seen_more))]
 fn add_next<'s, 'a>(
     pieces: &mut Vec<Piece<'a>>,
     left: &'s [Seen<'a>],
@@ -76,15 +79,19 @@ fn add_next<'s, 'a>(
         ≡ seen_of pieces.old.items ++ texts left.now) }
 {
     match left {
-        [next, others @ ..] if next.turn <= turn => {
+        [next, others @ ..] => {
+            if turn < next.turn {
+                return Ok(left);
+            }
             pieces.push(Piece::Seen(next.text))?;
             Ok(others)
         }
-        _ => Ok(left),
+        [] => Ok(left),
     }
 }
 
 // Adds a line that stays, or nothing for one that was expected.
+#[tactic(auto, using(crate::proofs::Pieces::kept_keeps, crate::proofs::Pieces::kept_more))]
 fn add_kept<'a>(pieces: &mut Vec<Piece<'a>>, line: Line<'a>) -> Result<(), AllocError>
     ensures kept { IfOk result (λ u. kept_of pieces.new.items
         ≡ kept_of pieces.old.items ++ staying_of (line ∷ [])) }
@@ -122,6 +129,7 @@ fn add_line<'s, 'a>(
 }
 
 // Adds the lines up to the last one that says something, and then all that is left of what was seen.
+#[tactic(auto, using(crate::proofs::Pieces::taken_first))]
 fn add_said<'a>(
     pieces: &mut Vec<Piece<'a>>,
     lines: &[Line<'a>],
@@ -144,6 +152,7 @@ fn add_said<'a>(
 }
 
 // Adds the lines behind these.
+#[tactic(auto, using(crate::proofs::Pieces::taken_first))]
 fn add_behind<'a>(pieces: &mut Vec<Piece<'a>>, lines: &[Line<'a>]) -> Result<(), AllocError>
     ensures kept { IfOk result (λ u. kept_of pieces.new.items
         ≡ kept_of pieces.old.items ++ staying_of lines.now) }
@@ -158,6 +167,7 @@ fn add_behind<'a>(pieces: &mut Vec<Piece<'a>>, lines: &[Line<'a>]) -> Result<(),
 /// The lines of a test in order, those that were seen in place of those that it expects. What was
 /// printed before the user was asked for a line stands before that line, and all that is left
 /// behind the last line that says something.
+#[tactic(auto, using(crate::proofs::Pieces::taken_both))]
 pub fn renewed<'a>(
     alloc: Global,
     case: &Case<'a>,
