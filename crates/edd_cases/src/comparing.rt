@@ -9,11 +9,6 @@ use crate::cases::Case;
 use crate::lines::Says;
 use crate::printed::Seen;
 use crate::settings::Form;
-use std::alloc::{AllocError, Global};
-
-const NO_MORE_LINES: &str = "no more lines";
-
-const NO_SUCH_LINE: &str = "no such line";
 
 /// The first line that differs, by the number of the line of the file that expects it.
 #[derive(Clone, Copy)]
@@ -148,26 +143,4 @@ pub fn compare<'a>(case: &Case<'a>, seen: &[Seen<'a>]) -> Option<Difference<'a>>
         Form::Whole => more(case, left),
         Form::Parts => None,
     }
-}
-
-/// Appends the lines that tell a difference.
-pub fn push_difference(
-    alloc: Global,
-    lines: &mut String,
-    difference: Difference<'_>,
-) -> Result<(), AllocError> {
-    let (line, expected, seen) = match difference {
-        Difference::Other {
-            line,
-            expected,
-            seen,
-        } => (line, expected, seen),
-        Difference::End { line, expected } => (line, expected, NO_MORE_LINES),
-        Difference::Nowhere { line, expected } => (line, expected, NO_SUCH_LINE),
-        Difference::More { line, seen } => (line, NO_MORE_LINES, seen),
-    };
-    let told = format!(in alloc;
-        "  line {line}: expected {expected}\n  line {line}: seen {seen}\n"
-    )?;
-    lines.push_str(&told)
 }

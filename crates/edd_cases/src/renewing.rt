@@ -207,9 +207,9 @@ fn end_of(case: &Case<'_>) -> &'static str {
     }
 }
 
-/// Appends the pieces to the file that is written anew. Lines that were seen end as the first line
-/// of the test does.
-pub fn push_renewed(
+// Appends the pieces to the file that is written anew. Lines that were seen end as the first line of
+// the test does.
+fn push_renewed(
     file: &mut String,
     case: &Case<'_>,
     pieces: &[Piece<'_>],
@@ -230,4 +230,20 @@ pub fn push_as_it_is(file: &mut String, lines: &[Line<'_>]) -> Result<(), AllocE
         file.push_str(line.raw)?;
     }
     Ok(())
+}
+
+/// Appends a test to the file that is written anew: with what was seen, or as it is.
+pub fn push_case<'a>(
+    alloc: Global,
+    file: &mut String,
+    case: &Case<'a>,
+    seen: &[Seen<'a>],
+    is_renewed: bool,
+) -> Result<(), AllocError> {
+    if is_renewed {
+        let pieces = renewed(alloc, case, seen)?;
+        push_renewed(file, case, &pieces)
+    } else {
+        push_as_it_is(file, &case.lines)
+    }
 }

@@ -5,7 +5,7 @@ use crate::opening::open_bytes;
 use crate::requests::{Stop, of_file, read, read_bytes, report, run_method, show_bytes};
 use edd_cases::{
     Case, Description, Ended, Form, Kind, Misread, Printed, Tally, TestFault, Tests, beside,
-    compare, push_as_it_is, push_difference, push_renewed, read_tests, renewed,
+    compare, ending_of, push_as_it_is, push_case, read_tests,
 };
 use edd_command_line::Run;
 use edd_compiler::compile;
@@ -51,6 +51,18 @@ fn device_of<'a, F: Files>(
     }
 }
 
+// The image in the bytes of a file: of a source what it is compiled to.
+fn image_of<'a>(
+    alloc: Global,
+    description: Description<'a>,
+    bytes: Vec<u8>,
+) -> Result<Vec<u8>, Stop<'a>> {
+    match description {
+        Description::Source(_) => Ok(compile(alloc, &bytes)?),
+        Description::Image(_) => Ok(bytes),
+    }
+}
+
 // Runs a test as the commands `try` and `play`, `view` and `show`, or `open` would.
 fn run<'a, F: Files>(
     alloc: Global,
@@ -61,12 +73,9 @@ fn run<'a, F: Files>(
 ) -> Result<(), Stop<'a>> {
     let bytes = read_beside(alloc, given, case.description.name(), files)?;
     let device = device_of(alloc, given, case, files)?;
-    let script = case.script(alloc)?;
-    let script = script.as_bytes();
-    let image = match case.description {
-        Description::Source(_) => compile(alloc, &bytes)?,
-        Description::Image(_) => bytes,
-    };
+    let lines = case.script(alloc)?;
+    let script = lines.as_bytes();
+    let image = image_of(alloc, case.description, bytes)?;
     match case.kind {
         Kind::Method(method) => {
             let run = Run {
@@ -81,8 +90,8 @@ fn run<'a, F: Files>(
         Kind::Show => show_bytes(alloc, &image, script, case.language, out),
         Kind::Open => {
             let typed = case.typed(alloc)?;
-            let typed = typed.as_bytes();
-            open_bytes(alloc, &image, device, script, case.language, typed, out)?;
+            let input = typed.as_bytes();
+            open_bytes(alloc, &image, device, script, case.language, input, out)?;
             Ok(())
         }
     }
@@ -119,31 +128,16 @@ fn test_case<'a, F: Files, W: Write>(
 ) -> Result<Ended, Stop<'a>> {
     let printed = printed(alloc, given, case, files)?;
     let seen = printed.lines(alloc)?;
-    let mut differs = compare(case, &seen);
-    if differs.is_some() && given.is_update && case.form == Form::Whole {
-        let pieces = renewed(alloc, case, &seen)?;
-        push_renewed(file, case, &pieces)?;
-        differs = None;
-    } else {
-        push_as_it_is(file, &case.lines)?;
-    }
-    let Some(difference) = differs else {
-        print(
-            alloc,
-            out,
-            format_args!("passed {}: {}", given.name, case.name),
-        )?;
-        return Ok(Ended::Passed);
-    };
-    print(
-        alloc,
-        out,
-        format_args!("failed {}: {}", given.name, case.name),
-    )?;
-    let mut lines = String::new(alloc);
-    push_difference(alloc, &mut lines, difference)?;
+    let found = compare(case, &seen);
+    let is_renewed = found.is_some() && given.is_update && case.form == Form::Whole;
+    push_case(alloc, file, case, &seen, is_renewed)?;
+    let differs = if is_renewed { None } else { found };
+    let lines = ending_of(alloc, given.name, case.name, differs)?;
     print_text(out, &lines)?;
-    Ok(Ended::Failed)
+    match differs {
+        None => Ok(Ended::Passed),
+        Some(_) => Ok(Ended::Failed),
+    }
 }
 
 // Runs the tests of a file, and writes it anew where what was seen in it differs.
