@@ -12,32 +12,32 @@ use crate::settings::Form;
 
 /// The first line that differs, by the number of the line of the file that expects it.
 #[derive(Clone, Copy)]
-pub enum Difference<'a> {
+pub enum Difference<'c, 'p> {
     /// This is the next line, and another one was printed.
     Other {
         line: usize,
-        expected: &'a str,
-        seen: &'a str,
+        expected: &'c str,
+        seen: &'p str,
     },
     /// This is the next line, and no more lines were printed.
     End {
         line: usize,
-        expected: &'a str,
+        expected: &'c str,
     },
     /// This is none of the lines that are left.
     Nowhere {
         line: usize,
-        expected: &'a str,
+        expected: &'c str,
     },
     /// More was printed than the test expects, whose last line this is.
     More {
         line: usize,
-        seen: &'a str,
+        seen: &'p str,
     },
 }
 
 // What is behind the next line, which is this text.
-fn behind_next<'s, 'a>(text: &str, left: &'s [Seen<'a>]) -> Option<&'s [Seen<'a>]>
+fn behind_next<'s, 'p>(text: &str, left: &'s [Seen<'p>]) -> Option<&'s [Seen<'p>]>
     ensures { option_map (λ rest. texts rest.now) result
         ≡ steps.behind_next text.now (texts left.now) }
 {
@@ -54,7 +54,7 @@ fn behind_next<'s, 'a>(text: &str, left: &'s [Seen<'a>]) -> Option<&'s [Seen<'a>
 }
 
 // What is behind the first line that is this text.
-fn behind<'s, 'a>(text: &str, left: &'s [Seen<'a>]) -> Option<&'s [Seen<'a>]>
+fn behind<'s, 'p>(text: &str, left: &'s [Seen<'p>]) -> Option<&'s [Seen<'p>]>
     ensures { option_map (λ rest. texts rest.now) result
         ≡ expected.behind text.now (texts left.now) }
 {
@@ -69,7 +69,7 @@ fn behind<'s, 'a>(text: &str, left: &'s [Seen<'a>]) -> Option<&'s [Seen<'a>]>
 }
 
 // What is left of what was printed behind what a line of a test of this form expects of it.
-fn past<'s, 'a>(form: Form, says: Says<'a>, left: &'s [Seen<'a>]) -> Option<&'s [Seen<'a>]>
+fn past<'s, 'p>(form: Form, says: Says<'_>, left: &'s [Seen<'p>]) -> Option<&'s [Seen<'p>]>
     ensures { option_map (λ rest. texts rest.now) result ≡ steps.past form says (texts left.now) }
 {
     match form {
@@ -85,7 +85,7 @@ fn past<'s, 'a>(form: Form, says: Says<'a>, left: &'s [Seen<'a>]) -> Option<&'s 
 }
 
 // Why a line of the test is not met by what is left.
-fn difference<'a>(line: usize, says: Says<'a>, left: &[Seen<'a>]) -> Difference<'a> {
+fn difference<'c, 'p>(line: usize, says: Says<'c>, left: &[Seen<'p>]) -> Difference<'c, 'p> {
     match (says, left.first()) {
         (Says::Whole(expected), Some(next)) => Difference::Other {
             line,
@@ -112,7 +112,7 @@ fn last_of(case: &Case<'_>) -> usize {
 }
 
 // What was printed behind all that a test expects.
-fn more<'a>(case: &Case<'a>, left: &[Seen<'a>]) -> Option<Difference<'a>>
+fn more<'c, 'p>(case: &Case<'c>, left: &[Seen<'p>]) -> Option<Difference<'c, 'p>>
     ensures { is_none result ≡ expected.same [] (texts left.now) }
 {
     match left {
@@ -127,7 +127,7 @@ fn more<'a>(case: &Case<'a>, left: &[Seen<'a>]) -> Option<Difference<'a>>
 /// Whether a run of the test has printed what it expects: nothing where it has, else the first line
 /// that differs.
 #[tactic(auto, using(crate::proofs::Meeting::first_line_met))]
-pub fn compare<'a>(case: &Case<'a>, seen: &[Seen<'a>]) -> Option<Difference<'a>>
+pub fn compare<'c, 'p>(case: &Case<'c>, seen: &[Seen<'p>]) -> Option<Difference<'c, 'p>>
     ensures { is_none result ≡ passes case.now.form case.now.lines.items (texts seen.now) }
 {
     let mut left = seen;

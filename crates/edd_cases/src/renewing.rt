@@ -11,11 +11,11 @@ use std::alloc::{AllocError, Global};
 
 /// A piece of a test that is written anew.
 #[derive(Clone, Copy)]
-pub enum Piece<'a> {
+pub enum Piece<'c, 'p> {
     /// A line that stays as it is, with its end.
-    Kept(&'a str),
+    Kept(&'c str),
     /// A line that was seen, without its end.
-    Seen(&'a str),
+    Seen(&'p str),
 }
 
 // How many lines of a test there are up to the last one that says something: blank lines and
@@ -34,11 +34,11 @@ fn count_said(lines: &[Line<'_>]) -> usize {
 
 // Adds the lines that were seen up to this turn, and gives those that are left.
 #[tactic(auto, using(crate::proofs::Pieces::seen_keeps, crate::proofs::Pieces::seen_more))]
-fn add_turn<'s, 'a>(
-    pieces: &mut Vec<Piece<'a>>,
-    left: &'s [Seen<'a>],
+fn add_turn<'s, 'c, 'p>(
+    pieces: &mut Vec<Piece<'c, 'p>>,
+    left: &'s [Seen<'p>],
     turn: usize,
-) -> Result<&'s [Seen<'a>], AllocError>
+) -> Result<&'s [Seen<'p>], AllocError>
     ensures kept { IfOk result (λ rest. kept_of pieces.new.items ≡ kept_of pieces.old.items) }
     ensures seen { IfOk result (λ rest. seen_of pieces.new.items ++ texts rest.now
         ≡ seen_of pieces.old.items ++ texts left.now) }
@@ -56,7 +56,7 @@ fn add_turn<'s, 'a>(
 
 // Adds all lines that were seen.
 #[tactic(auto, using(crate::proofs::Pieces::seen_keeps, crate::proofs::Pieces::seen_more))]
-fn add_seen<'a>(pieces: &mut Vec<Piece<'a>>, left: &[Seen<'a>]) -> Result<(), AllocError>
+fn add_seen<'c, 'p>(pieces: &mut Vec<Piece<'c, 'p>>, left: &[Seen<'p>]) -> Result<(), AllocError>
     ensures kept { IfOk result (λ u. kept_of pieces.new.items ≡ kept_of pieces.old.items) }
     ensures seen { IfOk result (λ u. seen_of pieces.new.items
         ≡ seen_of pieces.old.items ++ texts left.now) }
@@ -69,11 +69,11 @@ fn add_seen<'a>(pieces: &mut Vec<Piece<'a>>, left: &[Seen<'a>]) -> Result<(), Al
 
 // Adds the next line that was seen, if it belongs to this turn, and gives those that are left.
 #[tactic(auto, using(crate::proofs::Pieces::seen_keeps, crate::proofs::Pieces::seen_more))]
-fn add_next<'s, 'a>(
-    pieces: &mut Vec<Piece<'a>>,
-    left: &'s [Seen<'a>],
+fn add_next<'s, 'c, 'p>(
+    pieces: &mut Vec<Piece<'c, 'p>>,
+    left: &'s [Seen<'p>],
     turn: usize,
-) -> Result<&'s [Seen<'a>], AllocError>
+) -> Result<&'s [Seen<'p>], AllocError>
     ensures kept { IfOk result (λ rest. kept_of pieces.new.items ≡ kept_of pieces.old.items) }
     ensures seen { IfOk result (λ rest. seen_of pieces.new.items ++ texts rest.now
         ≡ seen_of pieces.old.items ++ texts left.now) }
@@ -92,7 +92,7 @@ fn add_next<'s, 'a>(
 
 // Adds a line that stays, or nothing for one that was expected.
 #[tactic(auto, using(crate::proofs::Pieces::kept_keeps, crate::proofs::Pieces::kept_more))]
-fn add_kept<'a>(pieces: &mut Vec<Piece<'a>>, line: Line<'a>) -> Result<(), AllocError>
+fn add_kept<'c, 'p>(pieces: &mut Vec<Piece<'c, 'p>>, line: Line<'c>) -> Result<(), AllocError>
     ensures kept { IfOk result (λ u. kept_of pieces.new.items
         ≡ kept_of pieces.old.items ++ staying_of (line ∷ [])) }
     ensures seen { IfOk result (λ u. seen_of pieces.new.items ≡ seen_of pieces.old.items) }
@@ -108,12 +108,12 @@ fn add_kept<'a>(pieces: &mut Vec<Piece<'a>>, line: Line<'a>) -> Result<(), Alloc
 
 // Adds what is there in place of a line of the test, and gives the lines that are left of those that
 // were seen.
-fn add_line<'s, 'a>(
-    pieces: &mut Vec<Piece<'a>>,
-    line: Line<'a>,
-    left: &'s [Seen<'a>],
+fn add_line<'s, 'c, 'p>(
+    pieces: &mut Vec<Piece<'c, 'p>>,
+    line: Line<'c>,
+    left: &'s [Seen<'p>],
     turn: usize,
-) -> Result<&'s [Seen<'a>], AllocError>
+) -> Result<&'s [Seen<'p>], AllocError>
     ensures kept { IfOk result (λ rest. kept_of pieces.new.items
         ≡ kept_of pieces.old.items ++ staying_of (line ∷ [])) }
     ensures seen { IfOk result (λ rest. seen_of pieces.new.items ++ texts rest.now
@@ -130,10 +130,10 @@ fn add_line<'s, 'a>(
 
 // Adds the lines up to the last one that says something, and then all that is left of what was seen.
 #[tactic(auto, using(crate::proofs::Pieces::taken_first))]
-fn add_said<'a>(
-    pieces: &mut Vec<Piece<'a>>,
-    lines: &[Line<'a>],
-    seen: &[Seen<'a>],
+fn add_said<'c, 'p>(
+    pieces: &mut Vec<Piece<'c, 'p>>,
+    lines: &[Line<'c>],
+    seen: &[Seen<'p>],
 ) -> Result<(), AllocError>
     ensures kept { IfOk result (λ u. kept_of pieces.new.items
         ≡ kept_of pieces.old.items ++ staying_of lines.now) }
@@ -153,7 +153,7 @@ fn add_said<'a>(
 
 // Adds the lines behind these.
 #[tactic(auto, using(crate::proofs::Pieces::taken_first))]
-fn add_behind<'a>(pieces: &mut Vec<Piece<'a>>, lines: &[Line<'a>]) -> Result<(), AllocError>
+fn add_behind<'c, 'p>(pieces: &mut Vec<Piece<'c, 'p>>, lines: &[Line<'c>]) -> Result<(), AllocError>
     ensures kept { IfOk result (λ u. kept_of pieces.new.items
         ≡ kept_of pieces.old.items ++ staying_of lines.now) }
     ensures seen { IfOk result (λ u. seen_of pieces.new.items ≡ seen_of pieces.old.items) }
@@ -168,11 +168,11 @@ fn add_behind<'a>(pieces: &mut Vec<Piece<'a>>, lines: &[Line<'a>]) -> Result<(),
 /// printed before the user was asked for a line stands before that line, and all that is left
 /// behind the last line that says something.
 #[tactic(auto, using(crate::proofs::Pieces::taken_both))]
-pub fn renewed<'a>(
+pub fn renewed<'c, 'p>(
     alloc: Global,
-    case: &Case<'a>,
-    seen: &[Seen<'a>],
-) -> Result<Vec<Piece<'a>>, AllocError>
+    case: &Case<'c>,
+    seen: &[Seen<'p>],
+) -> Result<Vec<Piece<'c, 'p>>, AllocError>
     ensures kept { IfOk result (λ pieces. kept_of pieces.items
         ≡ staying_of case.now.lines.items) }
     ensures seen { IfOk result (λ pieces. seen_of pieces.items ≡ texts seen.now) }
@@ -212,7 +212,7 @@ fn end_of(case: &Case<'_>) -> &'static str {
 fn push_renewed(
     file: &mut String,
     case: &Case<'_>,
-    pieces: &[Piece<'_>],
+    pieces: &[Piece<'_, '_>],
 ) -> Result<(), AllocError> {
     let end = end_of(case);
     for piece in pieces {
@@ -233,11 +233,11 @@ pub fn push_as_it_is(file: &mut String, lines: &[Line<'_>]) -> Result<(), AllocE
 }
 
 /// Appends a test to the file that is written anew: with what was seen, or as it is.
-pub fn push_case<'a>(
+pub fn push_case(
     alloc: Global,
     file: &mut String,
-    case: &Case<'a>,
-    seen: &[Seen<'a>],
+    case: &Case<'_>,
+    seen: &[Seen<'_>],
     is_renewed: bool,
 ) -> Result<(), AllocError> {
     if is_renewed {

@@ -8,7 +8,7 @@ const NO_MORE_LINES: &str = "no more lines";
 const NO_SUCH_LINE: &str = "no such line";
 
 // The number of the line, what is expected on it, and what was seen.
-fn told<'a>(difference: Difference<'a>) -> (usize, &'a str, &'a str) {
+fn told<'c, 'p>(difference: Difference<'c, 'p>) -> (usize, &'c str, &'p str) {
     match difference {
         Difference::Other {
             line,
@@ -24,7 +24,7 @@ fn told<'a>(difference: Difference<'a>) -> (usize, &'a str, &'a str) {
 fn push_difference(
     alloc: Global,
     lines: &mut String,
-    difference: Difference<'_>,
+    difference: Difference<'_, '_>,
 ) -> Result<(), AllocError> {
     let (line, expected, seen) = told(difference);
     let expects = format!(in alloc; "  line {line}: expected {expected}\n")?;
@@ -38,7 +38,7 @@ pub fn ending_of(
     alloc: Global,
     file: &str,
     name: &str,
-    differs: Option<Difference<'_>>,
+    differs: Option<Difference<'_, '_>>,
 ) -> Result<String, AllocError> {
     match differs {
         None => format!(in alloc; "passed {file}: {name}\n"),
