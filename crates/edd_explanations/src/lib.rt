@@ -8,6 +8,7 @@ mod edits;
 mod grammar;
 mod image;
 mod rules;
+mod testing;
 mod text;
 mod values;
 
@@ -23,7 +24,7 @@ pub struct Explanation {
 }
 
 /// All explanations, by their numbers, in the groups in which they are told.
-const GROUPS: [&[Explanation]; 7] = [
+const GROUPS: [&[Explanation]; 8] = [
     &text::EXPLANATIONS,
     &grammar::EXPLANATIONS,
     &rules::EXPLANATIONS,
@@ -31,6 +32,7 @@ const GROUPS: [&[Explanation]; 7] = [
     &values::EXPLANATIONS,
     &devices::EXPLANATIONS,
     &edits::EXPLANATIONS,
+    &testing::EXPLANATIONS,
 ];
 
 /// The explanation of a number, or none where nothing is refused with it.

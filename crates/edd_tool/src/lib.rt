@@ -14,6 +14,7 @@ mod playing;
 mod requests;
 mod script;
 mod system;
+mod testing;
 
 pub use edd_compiler::{Fault, compile};
 use edd_display::ShowFault;

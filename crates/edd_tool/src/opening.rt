@@ -4,7 +4,7 @@ use crate::conversation::{Console, converse};
 use crate::devices::compiled;
 use crate::files::Files;
 use crate::input::Lines;
-use crate::requests::{Stop, of_file, read, read_script};
+use crate::requests::{Stop, of_file, read, read_device, read_script};
 use crate::script::parse_sets;
 use edd_command_line::Opening;
 use edd_compiler::compile;
@@ -60,7 +60,7 @@ fn talk_with_device<'a, R: Read + Drop, W: Write>(
     alloc: Global,
     instrument: &Image<'_>,
     image: &Image<'_>,
-    opening: Opening<'a>,
+    language: &str,
     script: &[u8],
     input: R,
     out: &mut W,
@@ -71,11 +71,33 @@ fn talk_with_device<'a, R: Read + Drop, W: Write>(
         alloc,
         instrument,
         Some(device),
-        opening.language,
+        language,
         script,
         input,
         out,
     )
+}
+
+/// Opens an image, with a device where there is one, and does what the lines of the user say. Gives
+/// what was set and answered as a script.
+pub fn open_bytes<'a, R: Read + Drop, W: Write>(
+    alloc: Global,
+    bytes: &[u8],
+    device: Option<(&'a str, Vec<u8>)>,
+    script: &[u8],
+    language: &str,
+    input: R,
+    out: &mut W,
+) -> Result<String, Stop<'a>> {
+    let image = load(alloc, bytes)?;
+    match device {
+        Some((name, text)) => {
+            let device_bytes = compiled(alloc, name, &text)?;
+            let device = load(alloc, &device_bytes)?;
+            talk_with_device(alloc, &image, &device, language, script, input, out)
+        }
+        None => talk(alloc, &image, None, language, script, input, out),
+    }
 }
 
 /// Opens a source or an image, and does what the lines of the standard input say. All files are
@@ -87,19 +109,11 @@ pub fn open<'a, F: Files, W: Write>(
     out: &mut W,
 ) -> Result<(), Stop<'a>> {
     let bytes = read(alloc, files, opening.file)?;
-    let text = read_script(alloc, files, opening.device)?;
+    let device = read_device(alloc, files, opening.device)?;
     let script = read_script(alloc, files, opening.script)?;
     let input = files.open(INPUT).map_err(|fault| of_file(INPUT, fault))?;
     let bytes = image_of(alloc, bytes)?;
-    let image = load(alloc, &bytes)?;
-    let noted = match opening.device {
-        Some(name) => {
-            let device_bytes = compiled(alloc, name, &text)?;
-            let device = load(alloc, &device_bytes)?;
-            talk_with_device(alloc, &image, &device, opening, &script, input, out)?
-        }
-        None => talk(alloc, &image, None, opening.language, &script, input, out)?,
-    };
+    let noted = open_bytes(alloc, &bytes, device, &script, opening.language, input, out)?;
     match opening.record_file {
         Some(name) => files
             .save(name, noted.as_bytes())

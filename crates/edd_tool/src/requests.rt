@@ -8,6 +8,7 @@ use crate::files::{FileFault, Files, read_all};
 use crate::opening::open;
 use crate::playing::play_bytes;
 use crate::script::{self, ScriptFault};
+use crate::testing::test_files;
 use crate::{COMMAND_LINE, DONE, FILE, MEMORY, REFUSED};
 use edd_command_line::{Form, Lints, NoRequest, Request, Run};
 use edd_compiler::{Fault, compile};
@@ -26,6 +27,8 @@ pub enum Stop<'a> {
     Help(String),
     CommandLine(String),
     File(&'a str),
+    /// A file that a file of tests names.
+    Named(String),
     NotCompiled(Fault),
     NotLoaded(LoadFault),
     Script(ScriptFault),
@@ -127,14 +130,23 @@ pub fn of_file<'a>(name: &'a str, fault: FileFault) -> Stop<'a> {
     }
 }
 
+/// The bytes of a file, or why there are none.
+pub fn read_bytes<F: Files>(
+    alloc: Global,
+    files: &mut F,
+    name: &str,
+) -> Result<Vec<u8>, FileFault> {
+    let mut reader = files.open(name)?;
+    read_all(alloc, &mut reader)
+}
+
 /// The bytes of a file.
 pub fn read<'a, F: Files>(
     alloc: Global,
     files: &mut F,
     name: &'a str,
 ) -> Result<Vec<u8>, Stop<'a>> {
-    let mut reader = files.open(name).map_err(|fault| of_file(name, fault))?;
-    read_all(alloc, &mut reader).map_err(|fault| of_file(name, fault))
+    read_bytes(alloc, files, name).map_err(|fault| of_file(name, fault))
 }
 
 /// The bytes of a script. No script is an empty one.
@@ -178,7 +190,8 @@ fn show_under<'a, W: Write>(
     Ok(())
 }
 
-fn show_bytes<'a, W: Write>(
+/// Shows an image under a script.
+pub fn show_bytes<'a, W: Write>(
     alloc: Global,
     bytes: &[u8],
     script: &[u8],
@@ -216,8 +229,8 @@ fn show_file<'a, F: Files, W: Write>(
     show_bytes(alloc, &bytes, &script, language, out)
 }
 
-// The source of a device, if one is given, with its name.
-fn read_device<'a, F: Files>(
+/// The source of a device, if one is given, with its name.
+pub fn read_device<'a, F: Files>(
     alloc: Global,
     files: &mut F,
     name: Option<&'a str>,
@@ -228,7 +241,8 @@ fn read_device<'a, F: Files>(
     }
 }
 
-fn run_method<'a, W: Write>(
+/// Runs a method of an image, with a device where there is one, and prints what it did.
+pub fn run_method<'a, W: Write>(
     alloc: Global,
     bytes: &[u8],
     device: Option<(&'a str, Vec<u8>)>,
@@ -340,6 +354,7 @@ pub fn answer<'a, F: Files, W: Write>(
             form,
         } => check_source(alloc, source, &lints, form, files, out),
         Request::Open(opening) => open(alloc, opening, files, out),
+        Request::Test { names, is_update } => test_files(alloc, &names, is_update, files, out),
         Request::Dump { image } => dump_file(alloc, image, files, out),
         Request::Explain { number } => print_explanation(alloc, number, out),
     }
@@ -351,6 +366,7 @@ pub fn report<W: Write>(alloc: Global, stop: &Stop<'_>, out: &mut W) -> Result<(
         Stop::Help(text) | Stop::CommandLine(text) => print_text(out, text),
         Stop::Shown => Ok(()),
         Stop::File(name) => print(alloc, out, format_args!("file {name}")),
+        Stop::Named(name) => print(alloc, out, format_args!("file {name}")),
         Stop::NotCompiled(fault) => print(alloc, out, format_args!("refused {fault}")),
         Stop::NotLoaded(fault) => print(alloc, out, format_args!("refused {fault}")),
         Stop::Script(fault) => print(alloc, out, format_args!("refused {fault}")),
@@ -394,7 +410,7 @@ pub fn status(stop: &Stop<'_>) -> u8
         | Stop::Play(_)
         | Stop::NoDevice(_, _)
         | Stop::Device(_) => REFUSED,
-        Stop::File(_) | Stop::Output => FILE,
+        Stop::File(_) | Stop::Named(_) | Stop::Output => FILE,
         Stop::Memory => MEMORY,
     }
 }

@@ -1,5 +1,6 @@
 //! The script of a run: the values of variables, and the answers to the requests of a method.
 
+use edd_cases::without_end;
 use edd_loader::Image;
 use edd_syntax::answer::Answer;
 use edd_syntax::numbers::{ItemNo, VarNo};
@@ -115,13 +116,9 @@ fn line_of(alloc: Global, image: &Image<'_>, text: &str) -> Result<Option<Line>,
     }
 }
 
-// The text of a line, without its end. A CR belongs to the end only before an LF.
+// The text of a line, without its end.
 fn text_of(bytes: &[u8]) -> Option<&str> {
-    let text = str::from_utf8(bytes).ok()?;
-    match text.strip_suffix('\n') {
-        None => Some(text),
-        Some(line) => Some(line.strip_suffix('\r').unwrap_or(line)),
-    }
+    Some(without_end(str::from_utf8(bytes).ok()?))
 }
 
 fn parse_line(alloc: Global, image: &Image<'_>, bytes: &[u8]) -> Result<Option<Line>, AllocError> {

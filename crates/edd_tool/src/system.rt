@@ -2,6 +2,7 @@
 
 ghost use Rattle.std.specs.Prelude.{◌≤◌};
 
+use crate::opening::INPUT;
 use crate::{FileFault, Files};
 use edd_system::{Opened, SystemFiles};
 use std::io::Write;
@@ -9,12 +10,14 @@ use std::{io, rt};
 
 #[derive(Drop)]
 struct ProgramFiles<'a, R> {
+    rt: &'a R,
     files: SystemFiles<'a, R>,
 }
 
 impl<'a, R: rt::Files + Input + Print + AllocGlobal> ProgramFiles<'a, R> {
     fn new(rt: &'a R) -> ProgramFiles<'a, R> {
         ProgramFiles {
+            rt,
             files: SystemFiles::new(rt),
         }
     }
@@ -37,6 +40,15 @@ impl<R: rt::Files + Input + Print + AllocGlobal> Files for ProgramFiles<'_, R> {
 
     fn save(&mut self, name: &str, bytes: &[u8]) -> Result<(), FileFault> {
         self.files.save(name, bytes).map_err(|error| fault(&error))
+    }
+
+    // What was read to its end is no longer in use; the lines of the standard input are gone.
+    fn renew(&mut self, name: &str, bytes: &[u8]) -> Result<(), FileFault> {
+        if name == INPUT {
+            return Err(FileFault::Failed);
+        }
+        let mut files = SystemFiles::new(self.rt);
+        files.save(name, bytes).map_err(|error| fault(&error))
     }
 }
 

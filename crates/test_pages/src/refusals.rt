@@ -11,7 +11,7 @@ const TITLE: &str = "# What each refusal means
 ";
 
 /// What is on the page before the section of a number.
-const PARTS: [(u32, &str); 7] = [
+const PARTS: [(u32, &str); 8] = [
     (1, "## A text that has no tokens\n"),
     (10, "## A text that the grammar has no tree for\n"),
     (20, "## A description that breaks a rule\n"),
@@ -31,6 +31,14 @@ it again.
 
 What the method did is printed before it: the device had no answer, and the method was aborted.
 Of several faults the first is printed. [DEVICES](DEVICES.md) says what a device is.
+",
+    ),
+    (
+        290,
+        "## A file of tests
+
+`edd test` prints the file and the line before the refusal, as `valve.test:3: refused 291
+UNKNOWN_LINE`. [TESTING](TESTING.md) says what a file of tests is.
 ",
     ),
     (300, "## A script, and the method to run\n"),

@@ -114,7 +114,7 @@ fn judge(row: &Row<'_>, printed: Printed, has_no_file: bool, has_no_output: bool
         return Verdict::Refused;
     }
     let is_right = if has_no_file {
-        printed.status == 3 && is_file_fault(row, text)
+        printed.status == 3 && (is_file_fault(row, text) || text == row.lines)
     } else if has_no_output {
         // A write that fails can come in the middle of a letter.
         printed.status == 3 && row.lines.as_bytes().starts_with(printed.bytes.as_slice())
@@ -145,8 +145,19 @@ fn is_refusal(row: &Row<'_>, text: &str) -> bool {
     (before.is_empty() || before.ends_with('\n')) && row.lines.starts_with(before)
 }
 
-// `file NAME`, for a word of the command line or for the lines of a user. Before it lines of the row
-// may be printed where the program talks with a user.
+// Whether lines are printed before all files were read.
+fn prints_between(words: &str) -> bool {
+    words.starts_with("edd open ") || words.starts_with("edd test ")
+}
+
+fn is_file_of(row: &Row<'_>, name: &str) -> bool {
+    name == INPUT
+        || row.words.split(' ').any(|word| word == name)
+        || row.files.iter().any(|file| file.name == name)
+}
+
+// `file NAME`, for a word of the command line, for the lines of a user or for what a file of tests
+// names. Before it lines of the row may be printed.
 fn is_file_fault(row: &Row<'_>, text: &str) -> bool {
     let Some(lines) = text.strip_suffix('\n') else {
         return false;
@@ -158,7 +169,6 @@ fn is_file_fault(row: &Row<'_>, text: &str) -> bool {
     let Some(name) = last.strip_prefix("file ") else {
         return false;
     };
-    let is_named = name == INPUT || row.words.split(' ').any(|word| word == name);
-    let talks = row.words.starts_with("edd open ") && row.lines.starts_with(before);
-    is_named && (before.is_empty() || talks)
+    let goes_on = prints_between(row.words) && row.lines.starts_with(before);
+    is_file_of(row, name) && (before.is_empty() || goes_on)
 }

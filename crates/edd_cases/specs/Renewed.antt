@@ -1,0 +1,35 @@
+-- A test with what was seen in place of what it expects.
+use Rattle.std.specs.Prelude.{ℕ, List, Option, Some, None, filter_map}
+use Rattle.edd_cases.specs.declared.lines.Line.{Line}
+use Rattle.edd_cases.specs.declared.lines.Says.{Says}
+use Rattle.edd_cases.specs.declared.lines.Says.TheVariants as says
+use Rattle.edd_cases.specs.declared.renewing.Piece.{Piece}
+use Rattle.edd_cases.specs.declared.renewing.Piece.TheVariants as piece
+
+-- all lines but those with `=` stay
+abbrev staying : Says → (raw : List ℕ) → Option (List ℕ)
+staying (says.Whole text) raw = None
+staying _ raw = Some raw
+
+abbrev pub stays : Line → Option (List ℕ)
+stays line = staying line.says line.raw.now
+
+-- the lines of a test that stay, with their ends
+abbrev pub staying_of : List Line → List (List ℕ)
+staying_of = filter_map stays
+
+abbrev pub kept : Piece → Option (List ℕ)
+kept (piece.Kept raw) = Some raw.now
+kept (piece.Seen text) = None
+
+-- the lines of the test among the pieces
+abbrev pub kept_of : List Piece → List (List ℕ)
+kept_of = filter_map kept
+
+abbrev pub seen : Piece → Option (List ℕ)
+seen (piece.Kept raw) = None
+seen (piece.Seen text) = Some text.now
+
+-- the lines that were seen among the pieces
+abbrev pub seen_of : List Piece → List (List ℕ)
+seen_of = filter_map seen

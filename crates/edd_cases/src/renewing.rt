@@ -1,0 +1,249 @@
+//! A test with what was seen in place of what was expected.
+
+ghost use Rattle.std.specs.Prelude.{◌≡◌, ◌++◌, ◌∷◌, [], IfOk};
+ghost use Rattle.edd_cases.specs.Expected.{texts};
+ghost use Rattle.edd_cases.specs.Renewed.{staying_of, kept_of, seen_of};
+
+use crate::cases::Case;
+use crate::lines::{Line, Says};
+use crate::printed::Seen;
+use std::alloc::{AllocError, Global};
+
+/// A piece of a test that is written anew.
+#[derive(Clone, Copy)]
+pub enum Piece<'c, 'p> {
+    /// A line that stays as it is, with its end.
+    Kept(&'c str),
+    /// A line that was seen, without its end.
+    Seen(&'p str),
+}
+
+// How many lines of a test there are up to the last one that says something: blank lines and
+// comments behind it belong to what follows.
+fn count_said(lines: &[Line<'_>]) -> usize {
+    let mut count = 0;
+    let mut before: usize = 0;
+    for line in lines {
+        before = before.saturating_add(1);
+        if !matches!(line.says, Says::Nothing) {
+            count = before;
+        }
+    }
+    count
+}
+
+// Adds the lines that were seen up to this turn, and gives those that are left.
+#[tactic(auto, using(crate::proofs::Pieces::seen_keeps, crate::proofs::Pieces::seen_more))]
+fn add_turn<'s, 'c, 'p>(
+    pieces: &mut Vec<Piece<'c, 'p>>,
+    left: &'s [Seen<'p>],
+    turn: usize,
+) -> Result<&'s [Seen<'p>], AllocError>
+    ensures kept { IfOk result (λ rest. kept_of pieces.new.items ≡ kept_of pieces.old.items) }
+    ensures seen { IfOk result (λ rest. seen_of pieces.new.items ++ texts rest.now
+        ≡ seen_of pieces.old.items ++ texts left.now) }
+{
+    let mut rest = left;
+    while let [next, others @ ..] = rest {
+        if turn < next.turn {
+            return Ok(rest);
+        }
+        pieces.push(Piece::Seen(next.text))?;
+        rest = others;
+    }
+    Ok(rest)
+}
+
+// Adds all lines that were seen.
+#[tactic(auto, using(crate::proofs::Pieces::seen_keeps, crate::proofs::Pieces::seen_more))]
+fn add_seen<'c, 'p>(pieces: &mut Vec<Piece<'c, 'p>>, left: &[Seen<'p>]) -> Result<(), AllocError>
+    ensures kept { IfOk result (λ u. kept_of pieces.new.items ≡ kept_of pieces.old.items) }
+    ensures seen { IfOk result (λ u. seen_of pieces.new.items
+        ≡ seen_of pieces.old.items ++ texts left.now) }
+{
+    for next in left {
+        pieces.push(Piece::Seen(next.text))?;
+    }
+    Ok(())
+}
+
+// Adds the next line that was seen, if it belongs to this turn, and gives those that are left.
+#[tactic(auto, using(crate::proofs::Pieces::seen_keeps, crate::proofs::Pieces::seen_more))]
+fn add_next<'s, 'c, 'p>(
+    pieces: &mut Vec<Piece<'c, 'p>>,
+    left: &'s [Seen<'p>],
+    turn: usize,
+) -> Result<&'s [Seen<'p>], AllocError>
+    ensures kept { IfOk result (λ rest. kept_of pieces.new.items ≡ kept_of pieces.old.items) }
+    ensures seen { IfOk result (λ rest. seen_of pieces.new.items ++ texts rest.now
+        ≡ seen_of pieces.old.items ++ texts left.now) }
+{
+    match left {
+        [next, others @ ..] => {
+            if turn < next.turn {
+                return Ok(left);
+            }
+            pieces.push(Piece::Seen(next.text))?;
+            Ok(others)
+        }
+        [] => Ok(left),
+    }
+}
+
+// Adds a line that stays, or nothing for one that was expected.
+#[tactic(auto, using(crate::proofs::Pieces::kept_keeps, crate::proofs::Pieces::kept_more))]
+fn add_kept<'c, 'p>(pieces: &mut Vec<Piece<'c, 'p>>, line: Line<'c>) -> Result<(), AllocError>
+    ensures kept { IfOk result (λ u. kept_of pieces.new.items
+        ≡ kept_of pieces.old.items ++ staying_of (line ∷ [])) }
+    ensures seen { IfOk result (λ u. seen_of pieces.new.items ≡ seen_of pieces.old.items) }
+{
+    match line.says {
+        Says::Whole(_) => Ok(()),
+        _ => {
+            pieces.push(Piece::Kept(line.raw))?;
+            Ok(())
+        }
+    }
+}
+
+// Adds what is there in place of a line of the test, and gives the lines that are left of those that
+// were seen.
+fn add_line<'s, 'c, 'p>(
+    pieces: &mut Vec<Piece<'c, 'p>>,
+    line: Line<'c>,
+    left: &'s [Seen<'p>],
+    turn: usize,
+) -> Result<&'s [Seen<'p>], AllocError>
+    ensures kept { IfOk result (λ rest. kept_of pieces.new.items
+        ≡ kept_of pieces.old.items ++ staying_of (line ∷ [])) }
+    ensures seen { IfOk result (λ rest. seen_of pieces.new.items ++ texts rest.now
+        ≡ seen_of pieces.old.items ++ texts left.now) }
+{
+    let rest = match line.says {
+        Says::Whole(_) => add_next(pieces, left, turn)?,
+        Says::Typed(_) => add_turn(pieces, left, turn)?,
+        _ => left,
+    };
+    add_kept(pieces, line)?;
+    Ok(rest)
+}
+
+// Adds the lines up to the last one that says something, and then all that is left of what was seen.
+#[tactic(auto, using(crate::proofs::Pieces::taken_first))]
+fn add_said<'c, 'p>(
+    pieces: &mut Vec<Piece<'c, 'p>>,
+    lines: &[Line<'c>],
+    seen: &[Seen<'p>],
+) -> Result<(), AllocError>
+    ensures kept { IfOk result (λ u. kept_of pieces.new.items
+        ≡ kept_of pieces.old.items ++ staying_of lines.now) }
+    ensures seen { IfOk result (λ u. seen_of pieces.new.items
+        ≡ seen_of pieces.old.items ++ texts seen.now) }
+{
+    let mut left = seen;
+    let mut turn: usize = 0;
+    for line in lines {
+        left = add_line(pieces, *line, left, turn)?;
+        if let Says::Typed(_) = line.says {
+            turn = turn.saturating_add(1);
+        }
+    }
+    add_seen(pieces, left)
+}
+
+// Adds the lines behind these.
+#[tactic(auto, using(crate::proofs::Pieces::taken_first))]
+fn add_behind<'c, 'p>(pieces: &mut Vec<Piece<'c, 'p>>, lines: &[Line<'c>]) -> Result<(), AllocError>
+    ensures kept { IfOk result (λ u. kept_of pieces.new.items
+        ≡ kept_of pieces.old.items ++ staying_of lines.now) }
+    ensures seen { IfOk result (λ u. seen_of pieces.new.items ≡ seen_of pieces.old.items) }
+{
+    for line in lines {
+        add_kept(pieces, *line)?;
+    }
+    Ok(())
+}
+
+/// The lines of a test in order, those that were seen in place of those that it expects. What was
+/// printed before the user was asked for a line stands before that line, and all that is left
+/// behind the last line that says something.
+#[tactic(auto, using(crate::proofs::Pieces::taken_both))]
+pub fn renewed<'c, 'p>(
+    alloc: Global,
+    case: &Case<'c>,
+    seen: &[Seen<'p>],
+) -> Result<Vec<Piece<'c, 'p>>, AllocError>
+    ensures kept { IfOk result (λ pieces. kept_of pieces.items
+        ≡ staying_of case.now.lines.items) }
+    ensures seen { IfOk result (λ pieces. seen_of pieces.items ≡ texts seen.now) }
+{
+    let count = count_said(&case.lines).min(case.lines.len());
+    let (said, behind) = case.lines.split_at(count);
+    let mut pieces = Vec::new(alloc);
+    add_said(&mut pieces, said, seen)?;
+    add_behind(&mut pieces, behind)?;
+    Ok(pieces)
+}
+
+// A line that was seen. Where it ends with a CR it needs another one, since that of the end of a
+// line is dropped.
+fn push_seen(file: &mut String, text: &str, end: &str) -> Result<(), AllocError> {
+    if !file.is_empty() && !file.ends_with('\n') {
+        file.push_str(end)?;
+    }
+    file.push('=')?;
+    if !text.is_empty() {
+        file.push(' ')?;
+    }
+    file.push_str(text)?;
+    file.push_str(if text.ends_with('\r') { "\r\n" } else { end })
+}
+
+// How the first line of a test ends.
+fn end_of(case: &Case<'_>) -> &'static str {
+    match case.lines.first() {
+        Some(line) if line.raw.ends_with("\r\n") => "\r\n",
+        _ => "\n",
+    }
+}
+
+// Appends the pieces to the file that is written anew. Lines that were seen end as the first line of
+// the test does.
+fn push_renewed(
+    file: &mut String,
+    case: &Case<'_>,
+    pieces: &[Piece<'_, '_>],
+) -> Result<(), AllocError> {
+    let end = end_of(case);
+    for piece in pieces {
+        match piece {
+            Piece::Kept(raw) => file.push_str(raw)?,
+            Piece::Seen(text) => push_seen(file, text, end)?,
+        }
+    }
+    Ok(())
+}
+
+/// Appends lines as they are to the file that is written anew.
+pub fn push_as_it_is(file: &mut String, lines: &[Line<'_>]) -> Result<(), AllocError> {
+    for line in lines {
+        file.push_str(line.raw)?;
+    }
+    Ok(())
+}
+
+/// Appends a test to the file that is written anew: with what was seen, or as it is.
+pub fn push_case(
+    alloc: Global,
+    file: &mut String,
+    case: &Case<'_>,
+    seen: &[Seen<'_>],
+    is_renewed: bool,
+) -> Result<(), AllocError> {
+    if is_renewed {
+        let pieces = renewed(alloc, case, seen)?;
+        push_renewed(file, case, &pieces)
+    } else {
+        push_as_it_is(file, &case.lines)
+    }
+}

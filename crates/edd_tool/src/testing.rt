@@ -1,0 +1,222 @@
+//! What the program does to run the tests of a maker.
+
+use crate::files::{FileFault, Files};
+use crate::opening::open_bytes;
+use crate::requests::{Stop, of_file, read, read_bytes, report, run_method, show_bytes};
+use edd_cases::{
+    Case, Description, Ended, Form, Kind, Misread, Printed, Tally, TestFault, Tests, beside,
+    compare, ending_of, push_as_it_is, push_case, read_tests,
+};
+use edd_command_line::Run;
+use edd_compiler::compile;
+use edd_display::{print, print_text};
+use std::alloc::Global;
+use std::io::Write;
+
+// A file of tests, and what is to be done with it.
+#[derive(Clone, Copy)]
+struct Given<'a> {
+    name: &'a str,
+    is_update: bool,
+}
+
+// The bytes of a file that the file of tests names.
+fn read_beside<'a, F: Files>(
+    alloc: Global,
+    given: Given<'_>,
+    name: &str,
+    files: &mut F,
+) -> Result<Vec<u8>, Stop<'a>> {
+    let path = beside(alloc, given.name, name)?;
+    let fault = match read_bytes(alloc, files, &path) {
+        Ok(bytes) => return Ok(bytes),
+        Err(fault) => fault,
+    };
+    match fault {
+        FileFault::Failed => Err(Stop::Named(path)),
+        FileFault::Memory => Err(Stop::Memory),
+    }
+}
+
+// The source of the device of a test that has one, under the name that the test gives.
+fn device_of<'a, F: Files>(
+    alloc: Global,
+    given: Given<'_>,
+    case: &Case<'a>,
+    files: &mut F,
+) -> Result<Option<(&'a str, Vec<u8>)>, Stop<'a>> {
+    match (case.kind, case.device) {
+        (Kind::Show, _) | (_, None) => Ok(None),
+        (_, Some(name)) => Ok(Some((name, read_beside(alloc, given, name, files)?))),
+    }
+}
+
+// The image in the bytes of a file: of a source what it is compiled to.
+fn image_of<'a>(
+    alloc: Global,
+    description: Description<'a>,
+    bytes: Vec<u8>,
+) -> Result<Vec<u8>, Stop<'a>> {
+    match description {
+        Description::Source(_) => Ok(compile(alloc, &bytes)?),
+        Description::Image(_) => Ok(bytes),
+    }
+}
+
+// Runs a test as the commands `try` and `play`, `view` and `show`, or `open` would.
+fn run<'a, F: Files>(
+    alloc: Global,
+    given: Given<'_>,
+    case: &Case<'a>,
+    files: &mut F,
+    out: &mut Printed,
+) -> Result<(), Stop<'a>> {
+    let bytes = read_beside(alloc, given, case.description.name(), files)?;
+    let device = device_of(alloc, given, case, files)?;
+    let lines = case.script(alloc)?;
+    let script = lines.as_bytes();
+    let image = image_of(alloc, case.description, bytes)?;
+    match case.kind {
+        Kind::Method(method) => {
+            let run = Run {
+                method,
+                device: None,
+                script: None,
+                language: case.language,
+                steps: case.steps,
+            };
+            run_method(alloc, &image, device, script, run, out)
+        }
+        Kind::Show => show_bytes(alloc, &image, script, case.language, out),
+        Kind::Open => {
+            let typed = case.typed(alloc)?;
+            let input = typed.as_bytes();
+            open_bytes(alloc, &image, device, script, case.language, input, out)?;
+            Ok(())
+        }
+    }
+}
+
+// What a test prints. What the program would stop with is the last line of it, but for a file that
+// can't be read.
+fn printed<'a, F: Files>(
+    alloc: Global,
+    given: Given<'a>,
+    case: &Case<'_>,
+    files: &mut F,
+) -> Result<Printed, Stop<'a>> {
+    let mut out = Printed::nothing(alloc);
+    match run(alloc, given, case, files, &mut out) {
+        Ok(()) => Ok(out),
+        Err(Stop::Named(path)) => Err(Stop::Named(path)),
+        Err(stop) => match report(alloc, &stop, &mut out) {
+            Ok(()) => Ok(out),
+            Err(_) => Err(Stop::Memory),
+        },
+    }
+}
+
+// Runs a test, appends its lines to the file that may be written anew, and says how it ended. One
+// that is written anew has passed.
+fn test_case<'a, F: Files, W: Write>(
+    alloc: Global,
+    given: Given<'a>,
+    case: &Case<'_>,
+    files: &mut F,
+    out: &mut W,
+    file: &mut String,
+) -> Result<Ended, Stop<'a>> {
+    let printed = printed(alloc, given, case, files)?;
+    let seen = printed.lines(alloc)?;
+    let found = compare(case, &seen);
+    let is_renewed = found.is_some() && given.is_update && case.form == Form::Whole;
+    push_case(alloc, file, case, &seen, is_renewed)?;
+    let differs = if is_renewed { None } else { found };
+    let lines = ending_of(alloc, given.name, case.name, differs)?;
+    print_text(out, &lines)?;
+    match differs {
+        None => Ok(Ended::Passed),
+        Some(_) => Ok(Ended::Failed),
+    }
+}
+
+// Runs the tests of a file, and writes it anew where what was seen in it differs.
+fn test_all<'a, F: Files, W: Write>(
+    alloc: Global,
+    given: Given<'a>,
+    bytes: &[u8],
+    tests: &Tests<'_>,
+    files: &mut F,
+    out: &mut W,
+    tally: &mut Tally,
+) -> Result<(), Stop<'a>> {
+    let mut file = String::new(alloc);
+    push_as_it_is(&mut file, &tests.head)?;
+    for case in &tests.cases {
+        tally.count(test_case(alloc, given, case, files, out, &mut file)?);
+    }
+    if given.is_update && file.as_bytes() != bytes {
+        files
+            .renew(given.name, file.as_bytes())
+            .map_err(|fault| of_file(given.name, fault))?;
+        print(alloc, out, format_args!("updated {}", given.name))?;
+    }
+    Ok(())
+}
+
+// Runs the tests of a file, or says why it is not read.
+fn test_file<'a, F: Files, W: Write>(
+    alloc: Global,
+    given: Given<'a>,
+    bytes: &[u8],
+    files: &mut F,
+    out: &mut W,
+    tally: &mut Tally,
+) -> Result<(), Stop<'a>> {
+    let Misread { line, fault } = match read_tests(alloc, bytes) {
+        Ok(tests) => return test_all(alloc, given, bytes, &tests, files, out, tally),
+        Err(misread) => misread,
+    };
+    if let TestFault::Memory = fault {
+        return Err(Stop::Memory);
+    }
+    tally.count(Ended::Refused);
+    print(
+        alloc,
+        out,
+        format_args!("{}:{line}: refused {fault}", given.name),
+    )?;
+    Ok(())
+}
+
+/// Runs the tests of all files, which are read before anything else is done, and says which of them
+/// passed. With `is_update` what was seen is written in place of what was expected.
+pub fn test_files<'a, F: Files, W: Write>(
+    alloc: Global,
+    names: &[&'a str],
+    is_update: bool,
+    files: &mut F,
+    out: &mut W,
+) -> Result<(), Stop<'a>> {
+    let mut texts = Vec::new(alloc);
+    for name in names {
+        let bytes = read(alloc, files, *name)?;
+        if texts.push(bytes).is_err() {
+            return Err(Stop::Memory);
+        }
+    }
+    let mut tally = Tally::nothing();
+    for (name, bytes) in names.iter().zip(&texts) {
+        let given = Given {
+            name: *name,
+            is_update,
+        };
+        test_file(alloc, given, bytes, files, out, &mut tally)?;
+    }
+    print_text(out, &tally.line(alloc)?)?;
+    if tally.has_passed() {
+        Ok(())
+    } else {
+        Err(Stop::Shown)
+    }
+}
