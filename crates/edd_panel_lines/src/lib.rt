@@ -2,6 +2,7 @@
 #![tactic(auto)]
 
 mod numbers;
+mod offers;
 mod records;
 mod requests;
 mod screens;
@@ -9,6 +10,7 @@ mod sheets;
 mod texts;
 mod views;
 
+pub use offers::{Offers, offers_of};
 pub use records::{push_answer, push_done, push_set, push_start};
 pub use views::{prompt_of, push_asked, push_end, push_happened, push_help, push_view};
 

@@ -4,6 +4,7 @@ use crate::conversation::{Console, converse};
 use crate::devices::compiled;
 use crate::files::Files;
 use crate::input::Lines;
+use crate::keys::{Terminal, converse_by_keys};
 use crate::requests::{Stop, of_file, read, read_script};
 use crate::script::parse_sets;
 use edd_command_line::Opening;
@@ -35,7 +36,7 @@ fn talk<'a, R: Read + Drop, W: Write>(
     alloc: Global,
     image: &Image<'_>,
     mut device: Option<Device<'_, '_>>,
-    language: &str,
+    opening: Opening<'a>,
     script: &[u8],
     input: R,
     out: &mut W,
@@ -44,14 +45,22 @@ fn talk<'a, R: Read + Drop, W: Write>(
     let values = start_values(alloc, image, &given)?;
     let mut noted = String::new(alloc);
     push_start(&mut noted, image, &values)?;
-    let Some(mut panel) = Panel::open(alloc, image, language, values) else {
+    let Some(mut panel) = Panel::open(alloc, image, opening.language, values) else {
         return Err(Stop::Values(ValuesFault::Range));
     };
-    let mut console = Console {
-        input: Lines::new(input),
-        out,
-    };
-    converse(alloc, &mut panel, &mut device, &mut console, &mut noted)?;
+    match opening.keys {
+        Some(size) => {
+            let mut terminal = Terminal::new(input, size, out);
+            converse_by_keys(alloc, &mut panel, &mut device, &mut terminal, &mut noted)?;
+        }
+        None => {
+            let mut console = Console {
+                input: Lines::new(input),
+                out,
+            };
+            converse(alloc, &mut panel, &mut device, &mut console, &mut noted)?;
+        }
+    }
     Ok(noted)
 }
 
@@ -71,7 +80,7 @@ fn talk_with_device<'a, R: Read + Drop, W: Write>(
         alloc,
         instrument,
         Some(device),
-        opening.language,
+        opening,
         script,
         input,
         out,
@@ -98,7 +107,7 @@ pub fn open<'a, F: Files, W: Write>(
             let device = load(alloc, &device_bytes)?;
             talk_with_device(alloc, &image, &device, opening, &script, input, out)?
         }
-        None => talk(alloc, &image, None, opening.language, &script, input, out)?,
+        None => talk(alloc, &image, None, opening, &script, input, out)?,
     };
     match opening.record_file {
         Some(name) => files

@@ -10,6 +10,11 @@ pub const MOST_CALLS: u32 = 1_000_000;
 /// The name under which the program reads the lines of a user.
 const INPUT: &str = "/dev/stdin";
 
+const ESCAPE: u8 = 0x1b;
+
+/// What a screen ends with where keys are read.
+const SCREEN_END: &str = "\u{241b}[J";
+
 /// Room for what is printed beside the row's lines.
 const ROOM: usize = 4096;
 
@@ -48,6 +53,22 @@ impl fmt::Display for Printed {
         }
         Ok(())
     }
+}
+
+// The bytes that were printed, with the picture of ESC in its place.
+fn pictured(alloc: Global, bytes: Vec<u8>) -> Result<Vec<u8>, AllocError> {
+    if !bytes.contains(&ESCAPE) {
+        return Ok(bytes);
+    }
+    let mut shown = Vec::with_capacity(alloc, bytes.len())?;
+    for byte in &bytes {
+        if *byte == ESCAPE {
+            shown.extend_from_slice("\u{241b}".as_bytes())?;
+        } else {
+            shown.push(*byte)?;
+        }
+    }
+    Ok(shown)
 }
 
 fn passes(trial: Trial, failing: Trial, count: u32) -> Passes {
@@ -92,6 +113,7 @@ pub fn run(
     };
     let status = edd_tool::run(alloc, words.as_slice(), &mut files, &mut out);
     let MemoryOutput { bytes, writes: _ } = out;
+    let bytes = pictured(alloc, bytes)?;
     let MemoryFiles { saved, .. } = files;
     let has_no_file = opens.has_failed() || reads.has_failed() || saves.has_failed();
     let has_no_output = writes.has_failed();
@@ -137,12 +159,21 @@ fn is_image(row: &Row<'_>, saved: &[u8]) -> bool {
     }
 }
 
-// Whole lines of the row, and then `no memory`.
+// Whole lines of the row, and then `no memory`. A screen that asks has no end of a line, so there one
+// comes before.
 fn is_refusal(row: &Row<'_>, text: &str) -> bool {
     let Some(before) = text.strip_suffix("no memory\n") else {
         return false;
     };
-    (before.is_empty() || before.ends_with('\n')) && row.lines.starts_with(before)
+    match before.strip_suffix('\n') {
+        Some(whole) => row.lines.starts_with(before) || is_screen(row, whole),
+        None => before.is_empty(),
+    }
+}
+
+// Whether this is what the row prints up to the end of a screen.
+fn is_screen(row: &Row<'_>, printed: &str) -> bool {
+    printed.ends_with(SCREEN_END) && row.lines.starts_with(printed)
 }
 
 // `file NAME`, for a word of the command line or for the lines of a user. Before it lines of the row

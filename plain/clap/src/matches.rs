@@ -9,16 +9,22 @@ use std::vec::Vec;
 pub struct ArgMatches<'a> {
     texts: RealVec<(RealString, Vec<&'a str>)>,
     numbers: RealVec<(RealString, u32)>,
+    flags: RealVec<RealString>,
     inner: Option<(&'a str, Box<ArgMatches<'a>>)>,
 }
 
 impl<'a> ArgMatches<'a> {
     pub(crate) fn of(found: &clap::ArgMatches) -> Self {
         let (mut texts, mut numbers) = (RealVec::new(), RealVec::new());
+        let mut flags = RealVec::new();
         for id in found.ids() {
             let name = id.as_str();
             if let Ok(Some(number)) = found.try_get_one::<u32>(name) {
                 numbers.push((name.into(), *number));
+            } else if let Ok(Some(is_given)) = found.try_get_one::<bool>(name) {
+                if *is_given {
+                    flags.push(name.into());
+                }
             } else if let Ok(Some(all)) = found.try_get_many::<RealString>(name) {
                 texts.push((
                     name.into(),
@@ -32,6 +38,7 @@ impl<'a> ArgMatches<'a> {
         ArgMatches {
             texts,
             numbers,
+            flags,
             inner,
         }
     }
@@ -52,6 +59,10 @@ impl<'a> ArgMatches<'a> {
             .iter()
             .find(|(of, _)| of == name)
             .map(|(_, number)| T::from(*number))
+    }
+
+    pub fn get_flag(&self, name: &str) -> bool {
+        self.flags.iter().any(|of| of == name)
     }
 
     pub fn subcommand(&self) -> Option<(&'a str, &ArgMatches<'a>)> {

@@ -1,0 +1,298 @@
+//! The keys of a user on a terminal, one after the other, and the screens that the program draws.
+
+ghost use Rattle.std.specs.Prelude.{◌<◌};
+
+use crate::conversation::{Next, follow, leave, settle};
+use crate::files::FileFault;
+use crate::input::Bytes;
+use crate::opening::INPUT;
+use crate::requests::{Stop, of_file};
+use edd_command_line::Size;
+use edd_device::Device;
+use edd_display::print_text;
+use edd_keys::{
+    Act, Frame, KEYS, Key, KeyBytes, Keypad, Shown, Stage, Taken, Window, height_beside, push_frame,
+};
+use edd_panel::{Command, Panel};
+use edd_panel_lines::{Offers, offers_of, prompt_of};
+use edd_port::Turn;
+use edd_screens::{Line, line_of};
+use std::alloc::{AllocError, Global};
+use std::io::{Read, Write};
+
+/// A terminal in raw mode.
+#[derive(Drop)]
+pub struct Terminal<'t, R, W> {
+    bytes: Bytes<R>,
+    keys: KeyBytes,
+    size: Size,
+    out: &'t mut W,
+}
+
+impl<'t, R: Read, W: Write> Terminal<'t, R, W> {
+    pub fn new(input: R, size: Size, out: &'t mut W) -> Terminal<'t, R, W> {
+        Terminal {
+            bytes: Bytes::new(input),
+            keys: KeyBytes::new(),
+            size,
+            out,
+        }
+    }
+
+    // The next key, or nothing at the end.
+    fn key(&mut self) -> Result<Option<Key>, FileFault> {
+        for _ in 0..u64::MAX {
+            let Some(byte) = self.bytes.next()? else {
+                break;
+            };
+            match self.keys.take(byte) {
+                Taken::Key(key) => return Ok(Some(key)),
+                Taken::Before(key) => {
+                    self.bytes.put_back();
+                    return Ok(Some(key));
+                }
+                Taken::Nothing => {}
+            }
+            if self.bytes.is_alone()
+                && let Some(key) = self.keys.pause()
+            {
+                return Ok(Some(key));
+            }
+        }
+        Ok(self.keys.pause())
+    }
+}
+
+// What is on the screen: the panel, or a page that is read.
+#[derive(Drop)]
+struct Screen {
+    stage: Stage,
+    offers: Offers,
+    height: usize,
+}
+
+// What the keys have led to, and what is told below the screen up to the next key.
+#[derive(Drop)]
+struct Desk {
+    keypad: Keypad,
+    told: Vec<u8>,
+}
+
+fn stage_of(panel: &Panel<'_, '_>) -> Stage {
+    match panel.turn() {
+        Some(Turn::Asks(_)) => Stage::Question,
+        Some(_) => Stage::Pause,
+        None => match panel.field() {
+            Some(_) => Stage::Variable,
+            None => Stage::Menu,
+        },
+    }
+}
+
+// How many levels the user is below the top. The variable that is open and the method that runs are
+// levels, and so is a page that is read.
+fn depth_of(panel: &Panel<'_, '_>, stage: Stage) -> usize {
+    let place = match stage_of(panel) {
+        Stage::Menu => 0,
+        _ => 1,
+    };
+    let page = match stage {
+        Stage::Page => 1,
+        _ => 0,
+    };
+    panel.depth().saturating_add(place).saturating_add(page)
+}
+
+// What is shown: the panel with what is told below it, or what is told alone where that leaves no
+// room.
+fn screen_now(
+    alloc: Global,
+    panel: &Panel<'_, '_>,
+    bits: Option<i64>,
+    told: &str,
+    rows: usize,
+) -> Result<Screen, AllocError> {
+    let offers = offers_of(alloc, panel, bits)?;
+    match height_beside(rows, offers.numbers.len(), told.lines().count()) {
+        Some(height) => Ok(Screen {
+            stage: stage_of(panel),
+            offers,
+            height,
+        }),
+        None => Ok(Screen {
+            stage: Stage::Page,
+            offers: Offers::of_text(alloc, told)?,
+            height: rows.saturating_sub(1),
+        }),
+    }
+}
+
+fn shown_of<'s>(screen: &'s Screen) -> Shown<'s> {
+    Shown {
+        stage: screen.stage,
+        numbers: screen.offers.numbers.as_slice(),
+        begins: screen.offers.value,
+        bits: screen.offers.bits,
+    }
+}
+
+// Draws the screen.
+fn draw<'a, W: Write>(
+    alloc: Global,
+    panel: &Panel<'_, '_>,
+    screen: &Screen,
+    window: Window,
+    desk: &Desk,
+    columns: usize,
+    out: &mut W,
+) -> Result<(), Stop<'a>> {
+    let is_page = screen.stage == Stage::Page;
+    let frame = Frame {
+        lines: &screen.offers.lines,
+        window,
+        told: if is_page { "" } else { desk.told() },
+        prompt: if is_page { "Enter?" } else { prompt_of(panel) },
+        typed: desk.keypad.typed(),
+        columns,
+    };
+    let mut text = String::new(alloc);
+    push_frame(&mut text, &frame)?;
+    print_text(out, &text)?;
+    if out.flush().is_err() {
+        return Err(Stop::Output);
+    }
+    Ok(())
+}
+
+// The line that a key stands for, if it stands for one.
+fn line_asked(
+    alloc: Global,
+    panel: &Panel<'_, '_>,
+    act: Act,
+) -> Result<Option<Line>, AllocError> {
+    match act {
+        Act::Nothing => Ok(None),
+        Act::Number(number) => Ok(Some(Line::Command(Command::Number(number)))),
+        Act::Line(text) => Ok(Some(line_of(alloc, panel, &text)?)),
+        Act::Enter => Ok(Some(Line::Command(Command::Enter))),
+        Act::Back => Ok(Some(Line::Command(Command::Back))),
+        Act::Abort => Ok(Some(Line::Command(Command::Abort))),
+        Act::Help(number) => Ok(Some(Line::Help(number))),
+        Act::Keys => Ok(Some(Line::Commands)),
+        Act::Quit => Ok(Some(Line::Quit)),
+    }
+}
+
+// What is told is kept in memory, so a write of it fails only for lack of that.
+fn told_in_memory<'a, T>(result: Result<T, Stop<'a>>) -> Result<T, Stop<'a>> {
+    match result {
+        Err(Stop::Output) => Err(Stop::Memory),
+        other => other,
+    }
+}
+
+impl Desk {
+    fn told(&self) -> &str {
+        str::from_utf8(self.told.as_slice()).unwrap_or("")
+    }
+
+    // A key on a page: it is read on, or left.
+    fn read(&mut self, act: &Act) -> Next {
+        match act {
+            Act::Nothing => {}
+            Act::Quit => return Next::End,
+            _ => self.told.clear(),
+        }
+        Next::Prompt
+    }
+
+    // Does what a line asks for, and lets the method that runs go on.
+    fn follow<'a>(
+        &mut self,
+        alloc: Global,
+        panel: &mut Panel<'_, '_>,
+        device: &mut Option<Device<'_, '_>>,
+        line: Line,
+        noted: &mut String,
+    ) -> Result<Next, Stop<'a>> {
+        if matches!(line, Line::Commands) {
+            print_text(&mut self.told, KEYS)?;
+            return Ok(Next::Prompt);
+        }
+        let stage = stage_of(panel);
+        let next = follow(alloc, panel, line, &mut self.told, noted)?;
+        if matches!(next, Next::View) {
+            self.keypad.leave(stage);
+            settle(alloc, panel, device, &mut self.told, noted)?;
+        }
+        Ok(next)
+    }
+}
+
+// Draws the screen, takes a key, and does what it asks for.
+fn take_key<'a, R: Read, W: Write>(
+    alloc: Global,
+    panel: &mut Panel<'_, '_>,
+    device: &mut Option<Device<'_, '_>>,
+    terminal: &mut Terminal<'_, R, W>,
+    desk: &mut Desk,
+    noted: &mut String,
+) -> Result<Next, Stop<'a>> {
+    let size = terminal.size;
+    let screen = screen_now(alloc, panel, desk.keypad.bits(), desk.told(), size.rows)?;
+    let shown = shown_of(&screen);
+    let depth = depth_of(panel, screen.stage);
+    let window = desk.keypad.arrive(depth, &shown, screen.height)?;
+    draw(alloc, panel, &screen, window, desk, size.columns, terminal.out)?;
+    let key = terminal.key().map_err(|fault| of_file(INPUT, fault))?;
+    let Some(key) = key else {
+        return Ok(Next::End);
+    };
+    let act = desk.keypad.press(alloc, key, &shown, window.height)?;
+    if screen.stage == Stage::Page {
+        return Ok(desk.read(&act));
+    }
+    desk.told.clear();
+    match line_asked(alloc, panel, act)? {
+        Some(line) => told_in_memory(desk.follow(alloc, panel, device, line, noted)),
+        None => Ok(Next::Prompt),
+    }
+}
+
+fn take_keys<'a, R: Read, W: Write>(
+    alloc: Global,
+    panel: &mut Panel<'_, '_>,
+    device: &mut Option<Device<'_, '_>>,
+    terminal: &mut Terminal<'_, R, W>,
+    noted: &mut String,
+) -> Result<(), Stop<'a>> {
+    let mut desk = Desk {
+        keypad: Keypad::new(alloc),
+        told: Vec::new(alloc),
+    };
+    for _ in 0..u64::MAX {
+        let next = take_key(alloc, panel, device, terminal, &mut desk, noted)?;
+        if matches!(next, Next::End) {
+            break;
+        }
+    }
+    Ok(())
+}
+
+/// Draws where the user is, takes a key, and so on, up to the key that ends or the end of the
+/// input. What comes then, and what is noted, is as where a user types lines.
+pub fn converse_by_keys<'a, R: Read, W: Write>(
+    alloc: Global,
+    panel: &mut Panel<'_, '_>,
+    device: &mut Option<Device<'_, '_>>,
+    terminal: &mut Terminal<'_, R, W>,
+    noted: &mut String,
+) -> Result<(), Stop<'a>> {
+    let ended = take_keys(alloc, panel, device, terminal, noted);
+    // The cursor goes below the screen.
+    if !matches!(ended, Err(Stop::Output)) {
+        print_text(terminal.out, "\n")?;
+    }
+    ended?;
+    leave(alloc, panel, device, terminal.out, noted)
+}
