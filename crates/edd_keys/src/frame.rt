@@ -1,8 +1,8 @@
 //! How a screen is drawn, by the escape sequences of terminals.
 
+use crate::widths::{columns_of, width_of};
 use crate::window::Window;
 use std::alloc::AllocError;
-use unicode_width::UnicodeWidthChar;
 
 /// Puts the cursor at the first row.
 const HOME: &str = "\x1b[H";
@@ -17,20 +17,16 @@ const REVERSE: &str = "\x1b[7m";
 
 const PLAIN: &str = "\x1b[0m";
 
-/// What a screen has: of the lines those that are in the window, then what is told, and a row that
+/// What a screen has: of the rows those that are in the window, then what is told, and a row that
 /// asks, with what was typed.
 #[derive(Clone, Copy)]
 pub struct Frame<'a> {
-    pub lines: &'a str,
+    pub rows: &'a str,
     pub window: Window,
     pub told: &'a str,
     pub prompt: &'a str,
     pub typed: &'a str,
     pub columns: usize,
-}
-
-fn width_of(character: char) -> usize {
-    character.width().unwrap_or(0)
 }
 
 // As much of a text as so many columns take.
@@ -44,14 +40,6 @@ fn push_cut(screen: &mut String, text: &str, columns: usize) -> Result<(), Alloc
         screen.push(character)?;
     }
     Ok(())
-}
-
-fn columns_of(text: &str) -> usize {
-    let mut columns = 0usize;
-    for character in text.chars() {
-        columns = columns.saturating_add(width_of(character));
-    }
-    columns
 }
 
 // The end of a text, as much as so many columns take.
@@ -84,7 +72,7 @@ fn push_selected(screen: &mut String, text: &str, columns: usize) -> Result<(), 
 fn push_window(screen: &mut String, frame: &Frame<'_>) -> Result<(), AllocError> {
     let window = frame.window;
     for (place, line) in frame
-        .lines
+        .rows
         .lines()
         .enumerate()
         .skip(window.first)

@@ -1,4 +1,4 @@
-//! The keys that mean something.
+//! The keys that mean something, and what else a terminal says.
 
 #[derive(Clone, Copy, PartialEq, Eq, Debug)]
 pub enum Key {
@@ -19,4 +19,9 @@ pub enum Key {
     Interrupt,
     /// Ctrl-D
     EndOfInput,
+    /// No key: what the terminal answers where it is asked for its last row and column.
+    Size {
+        rows: u16,
+        columns: u16,
+    },
 }

@@ -14,17 +14,24 @@ pub enum Taken {
     Before(Key),
 }
 
+/// How many numbers of a sequence are kept.
+const KEPT: usize = 2;
+
+// The first numbers of a sequence, and the place of the one that is read.
+#[derive(Clone, Copy)]
+struct Numbers {
+    numbers: [u16; KEPT],
+    place: usize,
+}
+
 // What has begun and is not whole.
 #[derive(Clone, Copy)]
 enum Begun {
     Nothing,
     /// ESC
     Escape,
-    /// ESC and `[`, and the first number after them.
-    Sequence {
-        number: u8,
-        is_first: bool,
-    },
+    /// ESC and `[`, and the numbers after them.
+    Sequence(Numbers),
     /// ESC and `O`
     Letter,
     /// Bytes of a character, which has this many.
@@ -54,7 +61,7 @@ fn of_letter(letter: u8) -> Taken {
     }
 }
 
-fn of_number(number: u8) -> Taken {
+fn of_number(number: u16) -> Taken {
     match number {
         1 | 7 => Taken::Key(Key::Home),
         4 | 8 => Taken::Key(Key::End),
@@ -84,10 +91,35 @@ fn of_character(bytes: &[u8]) -> Taken {
     }
 }
 
-fn with_digit(number: u8, digit: u8) -> u8 {
-    number
-        .saturating_mul(10)
-        .saturating_add(digit.wrapping_sub(b'0'))
+impl Numbers {
+    fn none() -> Numbers {
+        Numbers {
+            numbers: [0; KEPT],
+            place: 0,
+        }
+    }
+
+    fn add_digit(&mut self, digit: u8) {
+        if let Some(number) = self.numbers.get_mut(self.place) {
+            *number = number
+                .saturating_mul(10)
+                .saturating_add(u16::from(digit.wrapping_sub(b'0')));
+        }
+    }
+
+    // What a sequence with these numbers and this end says.
+    fn ended(self, end: u8) -> Taken {
+        let [first, second] = self.numbers;
+        match end {
+            b'~' => of_number(first),
+            // With a first row it would be a key.
+            b'R' if first > 1 && second > 0 => Taken::Key(Key::Size {
+                rows: first,
+                columns: second,
+            }),
+            _ => of_letter(end),
+        }
+    }
 }
 
 impl KeyBytes {
@@ -124,10 +156,7 @@ impl KeyBytes {
     fn after_escape(&mut self, byte: u8) -> Taken {
         match byte {
             b'[' => {
-                self.begun = Begun::Sequence {
-                    number: 0,
-                    is_first: true,
-                };
+                self.begun = Begun::Sequence(Numbers::none());
                 Taken::Nothing
             }
             b'O' => {
@@ -142,31 +171,22 @@ impl KeyBytes {
     }
 
     // Within a sequence, which ends with a letter or `~`. What can't be in one begins anew.
-    fn in_sequence(&mut self, number: u8, is_first: bool, byte: u8) -> Taken {
+    fn in_sequence(&mut self, numbers: Numbers, byte: u8) -> Taken {
+        let mut numbers = numbers;
         match byte {
             b'0'..=b'9' => {
-                let number = if is_first {
-                    with_digit(number, byte)
-                } else {
-                    number
-                };
-                self.begun = Begun::Sequence { number, is_first };
+                numbers.add_digit(byte);
+                self.begun = Begun::Sequence(numbers);
                 Taken::Nothing
             }
             b' '..=b'?' => {
-                self.begun = Begun::Sequence {
-                    number,
-                    is_first: false,
-                };
+                numbers.place = numbers.place.saturating_add(1);
+                self.begun = Begun::Sequence(numbers);
                 Taken::Nothing
             }
             b'@'..=b'~' => {
                 self.begun = Begun::Nothing;
-                if byte == b'~' {
-                    of_number(number)
-                } else {
-                    of_letter(byte)
-                }
+                numbers.ended(byte)
             }
             _ => {
                 self.begun = Begun::Nothing;
@@ -208,7 +228,7 @@ impl KeyBytes {
         match self.begun {
             Begun::Nothing => self.begin(byte),
             Begun::Escape => self.after_escape(byte),
-            Begun::Sequence { number, is_first } => self.in_sequence(number, is_first, byte),
+            Begun::Sequence(numbers) => self.in_sequence(numbers, byte),
             Begun::Letter => self.after_letter(byte),
             Begun::Character { bytes, count, of } => self.in_character(bytes, count, of, byte),
         }

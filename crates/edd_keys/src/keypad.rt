@@ -290,6 +290,7 @@ impl Keypad {
                 self.turn(key, shown, height);
                 Ok(Act::Nothing)
             }
+            Key::Size { .. } => Ok(Act::Nothing),
         }
     }
 
@@ -304,7 +305,7 @@ impl Keypad {
             Key::Enter => Ok(self.set(alloc, shown)),
             Key::Escape => Ok(Act::Back),
             Key::Left if self.typed.is_empty() => Ok(Act::Back),
-            Key::Left | Key::Right => Ok(Act::Nothing),
+            Key::Left | Key::Right | Key::Size { .. } => Ok(Act::Nothing),
             Key::Interrupt | Key::EndOfInput => Ok(Act::Quit),
             _ => self.at_value(key, shown, height),
         }
@@ -320,7 +321,7 @@ impl Keypad {
         match key {
             Key::Enter => Ok(self.reply(alloc, shown)),
             Key::Escape | Key::Interrupt | Key::EndOfInput => Ok(Act::Abort),
-            Key::Left | Key::Right => Ok(Act::Nothing),
+            Key::Left | Key::Right | Key::Size { .. } => Ok(Act::Nothing),
             _ => self.at_value(key, shown, height),
         }
     }
@@ -353,6 +354,7 @@ impl Keypad {
             | Key::Right
             | Key::Backspace
             | Key::Character(_) => Act::Back,
+            Key::Size { .. } => Act::Nothing,
         }
     }
 

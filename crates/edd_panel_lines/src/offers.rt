@@ -32,14 +32,6 @@ impl Offers {
         }
     }
 
-    /// A text of whole lines, which stand for nothing.
-    pub fn of_text(alloc: Global, text: &str) -> Result<Offers, AllocError> {
-        let mut offers = Offers::new(alloc);
-        offers.lines.push_str(text)?;
-        offers.pass()?;
-        Ok(offers)
-    }
-
     // The lines that were added stand for nothing.
     fn pass(&mut self) -> Result<(), AllocError> {
         let known = self.numbers.len();

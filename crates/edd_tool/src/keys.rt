@@ -11,10 +11,11 @@ use edd_command_line::Size;
 use edd_device::Device;
 use edd_display::print_text;
 use edd_keys::{
-    Act, Frame, KEYS, Key, KeyBytes, Keypad, Shown, Stage, Taken, Window, height_beside, push_frame,
+    Act, Frame, KEYS, Key, KeyBytes, Keypad, Rows, Shown, Stage, Taken, Window, fold,
+    height_beside, push_frame,
 };
 use edd_panel::{Command, Panel};
-use edd_panel_lines::{Offers, offers_of, prompt_of};
+use edd_panel_lines::{offers_of, prompt_of};
 use edd_port::Turn;
 use edd_screens::{Line, line_of};
 use std::alloc::{AllocError, Global};
@@ -63,11 +64,14 @@ impl<'t, R: Read, W: Write> Terminal<'t, R, W> {
     }
 }
 
-// What is on the screen: the panel, or a page that is read.
+// What is on the screen: the panel with what is told below it, or a page that is read.
 #[derive(Drop)]
 struct Screen {
     stage: Stage,
-    offers: Offers,
+    rows: Rows,
+    value: Option<i64>,
+    bits: Option<i64>,
+    told: String,
     height: usize,
 }
 
@@ -110,19 +114,27 @@ fn screen_now(
     panel: &Panel<'_, '_>,
     bits: Option<i64>,
     told: &str,
-    rows: usize,
+    size: Size,
 ) -> Result<Screen, AllocError> {
     let offers = offers_of(alloc, panel, bits)?;
-    match height_beside(rows, offers.numbers.len(), told.lines().count()) {
+    let rows = fold(alloc, &offers.lines, &offers.numbers, size.columns)?;
+    let told = fold(alloc, told, &[], size.columns)?;
+    match height_beside(size.rows, rows.numbers.len(), told.numbers.len()) {
         Some(height) => Ok(Screen {
             stage: stage_of(panel),
-            offers,
+            rows,
+            value: offers.value,
+            bits: offers.bits,
+            told: told.text,
             height,
         }),
         None => Ok(Screen {
             stage: Stage::Page,
-            offers: Offers::of_text(alloc, told)?,
-            height: rows.saturating_sub(1),
+            rows: told,
+            value: None,
+            bits: None,
+            told: String::new(alloc),
+            height: size.rows.saturating_sub(1),
         }),
     }
 }
@@ -130,9 +142,9 @@ fn screen_now(
 fn shown_of<'s>(screen: &'s Screen) -> Shown<'s> {
     Shown {
         stage: screen.stage,
-        numbers: screen.offers.numbers.as_slice(),
-        begins: screen.offers.value,
-        bits: screen.offers.bits,
+        numbers: screen.rows.numbers.as_slice(),
+        begins: screen.value,
+        bits: screen.bits,
     }
 }
 
@@ -142,17 +154,20 @@ fn draw<'a, W: Write>(
     panel: &Panel<'_, '_>,
     screen: &Screen,
     window: Window,
-    desk: &Desk,
+    typed: &str,
     columns: usize,
     out: &mut W,
 ) -> Result<(), Stop<'a>> {
-    let is_page = screen.stage == Stage::Page;
+    let prompt = match screen.stage {
+        Stage::Page => "Enter?",
+        _ => prompt_of(panel),
+    };
     let frame = Frame {
-        lines: &screen.offers.lines,
+        rows: &screen.rows.text,
         window,
-        told: if is_page { "" } else { desk.told() },
-        prompt: if is_page { "Enter?" } else { prompt_of(panel) },
-        typed: desk.keypad.typed(),
+        told: &screen.told,
+        prompt,
+        typed,
         columns,
     };
     let mut text = String::new(alloc);
@@ -239,15 +254,30 @@ fn take_key<'a, R: Read, W: Write>(
     noted: &mut String,
 ) -> Result<Next, Stop<'a>> {
     let size = terminal.size;
-    let screen = screen_now(alloc, panel, desk.keypad.bits(), desk.told(), size.rows)?;
+    let screen = screen_now(alloc, panel, desk.keypad.bits(), desk.told(), size)?;
     let shown = shown_of(&screen);
     let depth = depth_of(panel, screen.stage);
     let window = desk.keypad.arrive(depth, &shown, screen.height)?;
-    draw(alloc, panel, &screen, window, desk, size.columns, terminal.out)?;
+    draw(
+        alloc,
+        panel,
+        &screen,
+        window,
+        desk.keypad.typed(),
+        size.columns,
+        terminal.out,
+    )?;
     let key = terminal.key().map_err(|fault| of_file(INPUT, fault))?;
     let Some(key) = key else {
         return Ok(Next::End);
     };
+    if let Key::Size { rows, columns } = key {
+        terminal.size = Size {
+            rows: usize::from(rows),
+            columns: usize::from(columns),
+        };
+        return Ok(Next::Prompt);
+    }
     let act = desk.keypad.press(alloc, key, &shown, window.height)?;
     if screen.stage == Stage::Page {
         return Ok(desk.read(&act));
