@@ -50,7 +50,12 @@ pub fn rows<'a>(alloc: Global) -> Arg<'a> {
 }
 
 pub fn columns<'a>(alloc: Global) -> Arg<'a> {
-    count(alloc, COLUMNS, "80", "The columns of the terminal, for --keys")
+    count(
+        alloc,
+        COLUMNS,
+        "80",
+        "The columns of the terminal, for --keys",
+    )
 }
 
 // The number of an option, as at least this many; the usual one where it isn't known.

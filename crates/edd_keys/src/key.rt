@@ -20,8 +20,5 @@ pub enum Key {
     /// Ctrl-D
     EndOfInput,
     /// No key: what the terminal answers where it is asked for its last row and column.
-    Size {
-        rows: u16,
-        columns: u16,
-    },
+    Size { rows: u16, columns: u16 },
 }

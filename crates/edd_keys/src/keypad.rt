@@ -242,10 +242,7 @@ impl Keypad {
                 Ok(Act::Nothing)
             }
             'b' => Ok(Act::Back),
-            'h' => Ok(Act::Help(selected_number(
-                shown.numbers,
-                self.mark.selected,
-            ))),
+            'h' => Ok(Act::Help(selected_number(shown.numbers, self.mark.selected))),
             'q' => Ok(Act::Quit),
             '?' => Ok(Act::Keys),
             _ => Ok(Act::Nothing),

@@ -100,11 +100,7 @@ impl Offers {
         Ok(())
     }
 
-    fn add_question(
-        &mut self,
-        panel: &Panel<'_, '_>,
-        request: Request,
-    ) -> Result<(), AllocError> {
+    fn add_question(&mut self, panel: &Panel<'_, '_>, request: Request) -> Result<(), AllocError> {
         let page = page_of(panel);
         push_question(&mut self.lines, &page, request)?;
         self.pass()?;

@@ -16,7 +16,11 @@ fn push_string(lines: &mut String, page: &Page<'_, '_>, string: StrNo) -> Result
 }
 
 /// Appends the choices, numbered from 1.
-pub fn push_choices(lines: &mut String, page: &Page<'_, '_>, choices: StrNo) -> Result<(), AllocError> {
+pub fn push_choices(
+    lines: &mut String,
+    page: &Page<'_, '_>,
+    choices: StrNo,
+) -> Result<(), AllocError> {
     let mut number = 0i64;
     for choice in text_of_choices(page.image, choices, page.language).split(';') {
         number = number.saturating_add(1);

@@ -11,7 +11,8 @@ use edd_instructions::Record;
 use edd_loader::Text;
 use edd_machine::Values;
 use edd_panel::{
-    EditFault, EditRules, Field, Found, bits_of, first_number, handling_fault, of_variable, read, rules_of,
+    EditFault, EditRules, Field, Found, bits_of, first_number, handling_fault, of_variable, read,
+    rules_of,
 };
 use edd_syntax::answer::Trap;
 use edd_syntax::numbers::{Attr, ItemNo};

@@ -180,11 +180,7 @@ fn draw<'a, W: Write>(
 }
 
 // The line that a key stands for, if it stands for one.
-fn line_asked(
-    alloc: Global,
-    panel: &Panel<'_, '_>,
-    act: Act,
-) -> Result<Option<Line>, AllocError> {
+fn line_asked(alloc: Global, panel: &Panel<'_, '_>, act: Act) -> Result<Option<Line>, AllocError> {
     match act {
         Act::Nothing => Ok(None),
         Act::Number(number) => Ok(Some(Line::Command(Command::Number(number)))),

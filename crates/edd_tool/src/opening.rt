@@ -76,15 +76,7 @@ fn talk_with_device<'a, R: Read + Drop, W: Write>(
 ) -> Result<String, Stop<'a>> {
     let device = Device::new(alloc, instrument, image)?;
     let instrument = device.instrument();
-    talk(
-        alloc,
-        instrument,
-        Some(device),
-        opening,
-        script,
-        input,
-        out,
-    )
+    talk(alloc, instrument, Some(device), opening, script, input, out)
 }
 
 /// Opens a source or an image, and does what the lines of the standard input say. All files are
