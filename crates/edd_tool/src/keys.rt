@@ -40,6 +40,13 @@ impl<'t, R: Read, W: Write> Terminal<'t, R, W> {
         }
     }
 
+    fn resize(&mut self, rows: u16, columns: u16) {
+        self.size = Size {
+            rows: usize::from(rows),
+            columns: usize::from(columns),
+        };
+    }
+
     // The next key, or nothing at the end.
     fn key(&mut self) -> Result<Option<Key>, FileFault> {
         for _ in 0..u64::MAX {
@@ -139,7 +146,7 @@ fn screen_now(
     }
 }
 
-fn shown_of<'s>(screen: &'s Screen) -> Shown<'s> {
+fn shown_of(screen: &Screen) -> Shown<'_> {
     Shown {
         stage: screen.stage,
         numbers: screen.rows.numbers.as_slice(),
@@ -238,6 +245,49 @@ impl Desk {
         }
         Ok(next)
     }
+
+    // Does what a key asks for where this was shown.
+    fn take<'a>(
+        &mut self,
+        alloc: Global,
+        panel: &mut Panel<'_, '_>,
+        device: &mut Option<Device<'_, '_>>,
+        stage: Stage,
+        act: Act,
+        noted: &mut String,
+    ) -> Result<Next, Stop<'a>> {
+        if stage == Stage::Page {
+            return Ok(self.read(&act));
+        }
+        self.told.clear();
+        match line_asked(alloc, panel, act)? {
+            Some(line) => told_in_memory(self.follow(alloc, panel, device, line, noted)),
+            None => Ok(Next::Prompt),
+        }
+    }
+}
+
+// Draws the screen, and says which rows of it are seen.
+fn show<'a, R: Read, W: Write>(
+    alloc: Global,
+    panel: &Panel<'_, '_>,
+    screen: &Screen,
+    terminal: &mut Terminal<'_, R, W>,
+    keypad: &mut Keypad,
+) -> Result<Window, Stop<'a>> {
+    let depth = depth_of(panel, screen.stage);
+    let window = keypad.arrive(depth, &shown_of(screen), screen.height)?;
+    let columns = terminal.size.columns;
+    draw(
+        alloc,
+        panel,
+        screen,
+        window,
+        keypad.typed(),
+        columns,
+        terminal.out,
+    )?;
+    Ok(window)
 }
 
 // Draws the screen, takes a key, and does what it asks for.
@@ -249,39 +299,21 @@ fn take_key<'a, R: Read, W: Write>(
     desk: &mut Desk,
     noted: &mut String,
 ) -> Result<Next, Stop<'a>> {
-    let size = terminal.size;
-    let screen = screen_now(alloc, panel, desk.keypad.bits(), desk.told(), size)?;
-    let shown = shown_of(&screen);
-    let depth = depth_of(panel, screen.stage);
-    let window = desk.keypad.arrive(depth, &shown, screen.height)?;
-    draw(
-        alloc,
-        panel,
-        &screen,
-        window,
-        desk.keypad.typed(),
-        size.columns,
-        terminal.out,
-    )?;
+    let bits = desk.keypad.bits();
+    let screen = screen_now(alloc, panel, bits, desk.told(), terminal.size)?;
+    let window = show(alloc, panel, &screen, terminal, &mut desk.keypad)?;
     let key = terminal.key().map_err(|fault| of_file(INPUT, fault))?;
-    let Some(key) = key else {
-        return Ok(Next::End);
-    };
-    if let Key::Size { rows, columns } = key {
-        terminal.size = Size {
-            rows: usize::from(rows),
-            columns: usize::from(columns),
-        };
-        return Ok(Next::Prompt);
-    }
-    let act = desk.keypad.press(alloc, key, &shown, window.height)?;
-    if screen.stage == Stage::Page {
-        return Ok(desk.read(&act));
-    }
-    desk.told.clear();
-    match line_asked(alloc, panel, act)? {
-        Some(line) => told_in_memory(desk.follow(alloc, panel, device, line, noted)),
-        None => Ok(Next::Prompt),
+    match key {
+        None => Ok(Next::End),
+        Some(Key::Size { rows, columns }) => {
+            terminal.resize(rows, columns);
+            Ok(Next::Prompt)
+        }
+        Some(key) => {
+            let shown = shown_of(&screen);
+            let act = desk.keypad.press(alloc, key, &shown, window.height)?;
+            desk.take(alloc, panel, device, screen.stage, act, noted)
+        }
     }
 }
 
