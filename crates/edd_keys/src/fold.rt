@@ -1,13 +1,14 @@
 //! Lines as the rows of a terminal.
 
+use crate::shown::Offer;
 use crate::widths::{columns_of, width_of};
 use std::alloc::{AllocError, Global};
 
-/// Rows, and for each the number that it stands for, if it stands for one.
+/// Rows, and what each offers, if it offers something.
 #[derive(Drop)]
 pub struct Rows {
     pub text: String,
-    pub numbers: Vec<Option<i64>>,
+    pub offers: Vec<Option<Offer>>,
 }
 
 // Rows that are made, and how many columns are left of the last one.
@@ -19,9 +20,9 @@ struct Folding {
 }
 
 impl Folding {
-    fn end_row(&mut self, number: Option<i64>) -> Result<(), AllocError> {
+    fn end_row(&mut self, offer: Option<Offer>) -> Result<(), AllocError> {
         self.rows.text.push('\n')?;
-        self.rows.numbers.push(number)?;
+        self.rows.offers.push(offer)?;
         self.left = self.columns;
         Ok(())
     }
@@ -62,17 +63,17 @@ impl Folding {
     }
 }
 
-/// Lines as rows of so many columns. One that stands for a number is one row, of which only what
-/// has room is seen; any other is broken between words.
+/// Lines as rows of so many columns. One that offers something is one row, of which only what has
+/// room is seen; any other is broken between words.
 pub fn fold(
     alloc: Global,
     lines: &str,
-    numbers: &[Option<i64>],
+    offers: &[Option<Offer>],
     columns: usize,
 ) -> Result<Rows, AllocError> {
     let rows = Rows {
         text: String::new(alloc),
-        numbers: Vec::new(alloc),
+        offers: Vec::new(alloc),
     };
     let mut folding = Folding {
         rows,
@@ -80,10 +81,10 @@ pub fn fold(
         left: columns,
     };
     for (place, line) in lines.lines().enumerate() {
-        match numbers.get(place) {
-            Some(Some(number)) => {
+        match offers.get(place) {
+            Some(Some(offer)) => {
                 folding.rows.text.push_str(line)?;
-                folding.end_row(Some(*number))?;
+                folding.end_row(Some(*offer))?;
             }
             _ => folding.add_line(line)?,
         }

@@ -1,27 +1,30 @@
 //! The state of a user's keys: what is selected at each level, what is typed, and which lines are
 //! seen.
 
-ghost use Rattle.std.specs.Prelude.{◌≡◌, ◌<◌, ℤ, IfOk, IfSome, Ok, Some, string_len};
-ghost use Rattle.edd_keys.specs.Numbers.{number_at};
+ghost use Rattle.std.specs.Prelude.{◌≡◌, ◌<◌, IfOk, IfSome, Ok, Some, string_len};
+ghost use Rattle.edd_keys.specs.Offers.{offer_at};
 ghost use Rattle.edd_keys.specs.Windows.{Holds};
 
 use crate::act::Act;
 use crate::key::Key;
-use crate::moves::{at_or_after, at_or_before, selected_number, with_number};
-use crate::shown::{Shown, Stage};
+use crate::moves::{at_or_after, at_or_before, selected_offer, with_about, with_number};
+use crate::shown::{Offer, Shown, Stage};
 use crate::window::{Window, first_around};
 use std::alloc::{AllocError, Global};
 use std::mem;
 
-// What is selected at a level, if that was said yet, and the first line that is seen.
+// What is selected at a level, if that was said yet, with what its line offered, and the first line
+// that is seen.
 #[derive(Clone, Copy)]
 struct Mark {
     selected: Option<usize>,
+    offer: Option<Offer>,
     first: usize,
 }
 
 const NEW: Mark = Mark {
     selected: None,
+    offer: None,
     first: 0,
 };
 
@@ -45,35 +48,49 @@ fn with_changed(bits: i64, number: i64) -> i64 {
     }
 }
 
-// The line that is selected of those that can be, at or beside the one that was.
-fn select(shown: &Shown<'_>, selected: Option<usize>) -> Option<usize> {
-    let numbers = shown.numbers;
-    if let Some(line) = selected {
-        return match at_or_after(numbers, line) {
-            Some(line) => Some(line),
-            None => at_or_before(numbers, line),
+// The line that is selected where one was: that which is about the same, or else the next one.
+fn select_again(offers: &[Option<Offer>], line: usize, was: Option<Offer>) -> Option<usize> {
+    if let Some(was) = was {
+        let is_same = match selected_offer(offers, Some(line)) {
+            Some(offer) => offer.about == was.about,
+            None => false,
         };
+        if !is_same && let Some(line) = with_about(offers, was.about) {
+            return Some(line);
+        }
+    }
+    match at_or_after(offers, line) {
+        Some(line) => Some(line),
+        None => at_or_before(offers, line),
+    }
+}
+
+// The line that is selected of those that can be.
+fn select(shown: &Shown<'_>, mark: Mark) -> Option<usize> {
+    let offers = shown.offers;
+    if let Some(line) = mark.selected {
+        return select_again(offers, line, mark.offer);
     }
     if let Some(number) = shown.begins
-        && let Some(line) = with_number(numbers, number)
+        && let Some(line) = with_number(offers, number)
     {
         return Some(line);
     }
-    at_or_after(numbers, 0)
+    at_or_after(offers, 0)
 }
 
 // The line that a key selects; where there is none in its direction, the one that is selected.
-fn select_by(numbers: &[Option<i64>], line: usize, key: Key, height: usize) -> usize {
+fn select_by(offers: &[Option<Offer>], line: usize, key: Key, height: usize) -> usize {
     let found = match key {
         Key::Up => match line.checked_sub(1) {
-            Some(above) => at_or_before(numbers, above),
+            Some(above) => at_or_before(offers, above),
             None => None,
         },
-        Key::Down => at_or_after(numbers, line.saturating_add(1)),
-        Key::Home => at_or_after(numbers, 0),
-        Key::End => at_or_before(numbers, usize::MAX),
-        Key::PageUp => at_or_after(numbers, line.saturating_sub(height)),
-        Key::PageDown => at_or_before(numbers, line.saturating_add(height)),
+        Key::Down => at_or_after(offers, line.saturating_add(1)),
+        Key::Home => at_or_after(offers, 0),
+        Key::End => at_or_before(offers, usize::MAX),
+        Key::PageUp => at_or_after(offers, line.saturating_sub(height)),
+        Key::PageDown => at_or_before(offers, line.saturating_add(height)),
         _ => None,
     };
     found.unwrap_or(line)
@@ -130,8 +147,8 @@ impl Keypad {
         requires { 0 < height }
         ensures { Holds result height line }
     {
-        let last = shown.numbers.len().saturating_sub(height);
-        let first = if at_or_after(shown.numbers, 0) == Some(line) {
+        let last = shown.offers.len().saturating_sub(height);
+        let first = if at_or_after(shown.offers, 0) == Some(line) {
             0
         } else {
             self.mark.first.min(last)
@@ -153,15 +170,20 @@ impl Keypad {
     {
         self.go_to(depth)?;
         let height = height.max(1);
-        let selected = select(shown, self.mark.selected);
+        let selected = select(shown, self.mark);
         let first = match selected {
             Some(line) => self.first_with(shown, line, height),
             None => {
-                let last = shown.numbers.len().saturating_sub(height);
+                let last = shown.offers.len().saturating_sub(height);
                 self.mark.first.min(last)
             }
         };
-        self.mark = Mark { selected, first };
+        let offer = selected_offer(shown.offers, selected);
+        self.mark = Mark {
+            selected,
+            offer,
+            first,
+        };
         Ok(Window {
             first,
             height,
@@ -173,8 +195,9 @@ impl Keypad {
     fn turn(&mut self, key: Key, shown: &Shown<'_>, height: usize) {
         match self.mark.selected {
             Some(line) => {
-                let line = select_by(shown.numbers, line, key, height);
+                let line = select_by(shown.offers, line, key, height);
                 self.mark.selected = Some(line);
+                self.mark.offer = None;
                 self.typed.clear();
             }
             None => self.mark.first = scroll_by(self.mark.first, key, height),
@@ -188,21 +211,20 @@ impl Keypad {
 
     // The number at the line that is selected, or Enter where none is.
     fn number(&self, shown: &Shown<'_>) -> Act
-        ensures { (number : ℤ)
-            → number_at shown.now.numbers.now self.now.mark.selected ≡ Some number
-            → result ≡ Act.Number number }
+        ensures { (offer : Offer) → offer_at shown.now.offers.now self.now.mark.selected ≡ Some offer
+            → result ≡ Act.Number offer.number }
     {
-        match selected_number(shown.numbers, self.mark.selected) {
-            Some(number) => Act::Number(number),
+        match selected_offer(shown.offers, self.mark.selected) {
+            Some(offer) => Act::Number(offer.number),
             None => Act::Enter,
         }
     }
 
     // Enter at a menu.
     fn open(&mut self, alloc: Global, shown: &Shown<'_>) -> Act
-        ensures { string_len self.old.typed ≡ 0 → (number : ℤ)
-            → number_at shown.now.numbers.now self.old.mark.selected ≡ Some number
-            → result ≡ Act.Number number }
+        ensures { string_len self.old.typed ≡ 0 → (offer : Offer)
+            → offer_at shown.now.offers.now self.old.mark.selected ≡ Some offer
+            → result ≡ Act.Number offer.number }
     {
         if self.typed.is_empty() {
             self.number(shown)
@@ -234,6 +256,14 @@ impl Keypad {
         }
     }
 
+    // The help of what is selected.
+    fn help(&self, shown: &Shown<'_>) -> Act {
+        match selected_offer(shown.offers, self.mark.selected) {
+            Some(offer) => Act::Help(Some(offer.number)),
+            None => Act::Help(None),
+        }
+    }
+
     // A character at a menu: a digit of the number of an entry, or a command.
     fn command(&mut self, character: char, shown: &Shown<'_>) -> Result<Act, AllocError> {
         match character {
@@ -242,7 +272,7 @@ impl Keypad {
                 Ok(Act::Nothing)
             }
             'b' => Ok(Act::Back),
-            'h' => Ok(Act::Help(selected_number(shown.numbers, self.mark.selected))),
+            'h' => Ok(self.help(shown)),
             'q' => Ok(Act::Quit),
             '?' => Ok(Act::Keys),
             _ => Ok(Act::Nothing),
@@ -251,12 +281,12 @@ impl Keypad {
 
     // A character of a value. A space changes the bits that are selected, where nothing is typed.
     fn write(&mut self, character: char, shown: &Shown<'_>) -> Result<Act, AllocError> {
-        let number = selected_number(shown.numbers, self.mark.selected);
+        let offer = selected_offer(shown.offers, self.mark.selected);
         if character == ' '
             && self.typed.is_empty()
-            && let (Some(bits), Some(number)) = (shown.bits, number)
+            && let (Some(bits), Some(offer)) = (shown.bits, offer)
         {
-            self.bits = Some(with_changed(bits, number));
+            self.bits = Some(with_changed(bits, offer.number));
             return Ok(Act::Nothing);
         }
         self.typed.push(character)?;
@@ -270,9 +300,9 @@ impl Keypad {
         shown: &Shown<'_>,
         height: usize,
     ) -> Result<Act, AllocError>
-        ensures { key ≡ Key.Enter → string_len self.old.typed ≡ 0 → (number : ℤ)
-            → number_at shown.now.numbers.now self.old.mark.selected ≡ Some number
-            → result ≡ Ok (Act.Number number) }
+        ensures { key ≡ Key.Enter → string_len self.old.typed ≡ 0 → (offer : Offer)
+            → offer_at shown.now.offers.now self.old.mark.selected ≡ Some offer
+            → result ≡ Ok (Act.Number offer.number) }
     {
         match key {
             Key::Enter | Key::Right => Ok(self.open(alloc, shown)),
@@ -365,9 +395,8 @@ impl Keypad {
         height: usize,
     ) -> Result<Act, AllocError>
         ensures { shown.now.stage ≡ Stage.Menu → key ≡ Key.Enter → string_len self.old.typed ≡ 0
-            → (number : ℤ)
-            → number_at shown.now.numbers.now self.old.mark.selected ≡ Some number
-            → result ≡ Ok (Act.Number number) }
+            → (offer : Offer) → offer_at shown.now.offers.now self.old.mark.selected ≡ Some offer
+            → result ≡ Ok (Act.Number offer.number) }
     {
         let act = match shown.stage {
             Stage::Menu => self.at_menu(alloc, key, shown, height)?,

@@ -19,7 +19,7 @@ pub use frame::{Frame, push_frame};
 pub use key::Key;
 pub use key_bytes::{KeyBytes, Taken};
 pub use keypad::Keypad;
-pub use shown::{Shown, Stage};
+pub use shown::{Offer, Shown, Stage};
 pub use window::{Window, height_beside};
 
 /// The keys, for `?`.

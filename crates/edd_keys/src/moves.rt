@@ -1,12 +1,14 @@
-//! Ways over lines, of which those with a number can be selected.
+//! Ways over lines, of which those that offer something can be selected.
 
 ghost use Rattle.std.specs.Prelude.{◌≡◌};
-ghost use Rattle.edd_keys.specs.Numbers.{number_at};
+ghost use Rattle.edd_keys.specs.Offers.{offer_at};
+
+use crate::shown::Offer;
 
 /// The first line from this one on that can be selected.
-pub fn at_or_after(numbers: &[Option<i64>], line: usize) -> Option<usize> {
-    for (place, number) in numbers.iter().enumerate() {
-        if place >= line && number.is_some() {
+pub fn at_or_after(offers: &[Option<Offer>], line: usize) -> Option<usize> {
+    for (place, offer) in offers.iter().enumerate() {
+        if place >= line && offer.is_some() {
             return Some(place);
         }
     }
@@ -14,10 +16,10 @@ pub fn at_or_after(numbers: &[Option<i64>], line: usize) -> Option<usize> {
 }
 
 /// The last line up to this one that can be selected.
-pub fn at_or_before(numbers: &[Option<i64>], line: usize) -> Option<usize> {
+pub fn at_or_before(offers: &[Option<Offer>], line: usize) -> Option<usize> {
     let mut found = None;
-    for (place, number) in numbers.iter().enumerate() {
-        if place <= line && number.is_some() {
+    for (place, offer) in offers.iter().enumerate() {
+        if place <= line && offer.is_some() {
             found = Some(place);
         }
     }
@@ -25,22 +27,36 @@ pub fn at_or_before(numbers: &[Option<i64>], line: usize) -> Option<usize> {
 }
 
 /// The first line with this number.
-pub fn with_number(numbers: &[Option<i64>], wanted: i64) -> Option<usize> {
-    for (place, number) in numbers.iter().enumerate() {
-        if *number == Some(wanted) {
+pub fn with_number(offers: &[Option<Offer>], number: i64) -> Option<usize> {
+    for (place, offer) in offers.iter().enumerate() {
+        if let Some(offer) = offer
+            && offer.number == number
+        {
             return Some(place);
         }
     }
     None
 }
 
-/// The number at a line, if one is selected and has one.
-pub fn selected_number(numbers: &[Option<i64>], line: Option<usize>) -> Option<i64>
-    ensures { result ≡ number_at numbers.now line }
+/// The first line that is about this.
+pub fn with_about(offers: &[Option<Offer>], about: i64) -> Option<usize> {
+    for (place, offer) in offers.iter().enumerate() {
+        if let Some(offer) = offer
+            && offer.about == about
+        {
+            return Some(place);
+        }
+    }
+    None
+}
+
+/// What the line that is selected offers.
+pub fn selected_offer(offers: &[Option<Offer>], selected: Option<usize>) -> Option<Offer>
+    ensures { result ≡ offer_at offers.now selected }
 {
-    match line {
-        Some(line) => match numbers.get(line) {
-            Some(number) => *number,
+    match selected {
+        Some(line) => match offers.get(line) {
+            Some(offer) => *offer,
             None => None,
         },
         None => None,

@@ -15,11 +15,20 @@ pub enum Stage {
     Page,
 }
 
-/// What is shown: for each line the number that it stands for, if it stands for one.
+/// What a line offers.
+#[derive(Clone, Copy, PartialEq, Eq, Debug)]
+pub struct Offer {
+    /// The number of an entry or of a choice, or a value.
+    pub number: i64,
+    /// What the line is about, which is kept where its place and its number change.
+    pub about: i64,
+}
+
+/// What is shown, with what each line offers, if it offers something.
 #[derive(Clone, Copy)]
 pub struct Shown<'a> {
     pub stage: Stage,
-    pub numbers: &'a [Option<i64>],
+    pub offers: &'a [Option<Offer>],
     /// The number that is selected at first; the first one without it.
     pub begins: Option<i64>,
     /// Where each number stands for bits of a value, the value.

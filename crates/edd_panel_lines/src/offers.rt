@@ -1,53 +1,67 @@
-//! What is shown of a panel, with what each line stands for.
+//! What is shown of a panel, with what each line offers.
 
 use crate::requests::{push_choices, push_question};
 use crate::screens::{push_rows, push_title};
 use crate::sheets::{push_choice, push_faults, push_value};
 use crate::views::{field_asked, push_view};
 use edd_instructions::Request;
+use edd_keys::Offer;
 use edd_panel::{Field, Panel};
 use edd_port::Turn;
 use edd_screens::{Content, Row, Screen, Sheet, page_of, screen_of, sheet_of};
+use edd_syntax::numbers::ItemNo;
 use std::alloc::{AllocError, Global};
 
-/// Lines, and for each the number that it stands for, if it does: that of an entry, a value, bits
-/// or a choice.
+/// Lines, and what each offers, if it does: an entry, a value, bits or a choice.
 #[derive(Drop)]
 pub struct Offers {
     pub lines: String,
-    pub numbers: Vec<Option<i64>>,
+    pub offers: Vec<Option<Offer>>,
     /// The value that a variable has, where one of the lines is to stand for it.
     pub value: Option<i64>,
     /// The value whose bits the numbers are.
     pub bits: Option<i64>,
 }
 
+// A number that is about nothing else.
+fn itself(number: i64) -> Offer {
+    Offer {
+        number,
+        about: number,
+    }
+}
+
+// A number that no other item has.
+fn code_of(item: ItemNo) -> i64 {
+    (i64::from(item.kind().number()) << 16) | i64::from(item.index())
+}
+
 impl Offers {
     fn new(alloc: Global) -> Offers {
         Offers {
             lines: String::new(alloc),
-            numbers: Vec::new(alloc),
+            offers: Vec::new(alloc),
             value: None,
             bits: None,
         }
     }
 
-    // The lines that were added stand for nothing.
+    // The lines that were added offer nothing.
     fn pass(&mut self) -> Result<(), AllocError> {
-        let known = self.numbers.len();
+        let known = self.offers.len();
         for _ in self.lines.lines().skip(known) {
-            self.numbers.push(None)?;
+            self.offers.push(None)?;
         }
         Ok(())
     }
 
     // The lines that were added are numbered from 1.
     fn count(&mut self) -> Result<(), AllocError> {
-        let known = self.numbers.len();
+        let known = self.offers.len();
         let mut number = 0i64;
         for _ in self.lines.lines().skip(known) {
             number = number.saturating_add(1);
-            self.numbers.push(Some(number))?;
+            self.offers.push(Some(itself(number)))?;
         }
         Ok(())
     }
@@ -57,10 +71,13 @@ impl Offers {
         let mut number = 0i64;
         for row in rows {
             match row {
-                Row::Text(_) => self.numbers.push(None)?,
-                Row::Entry { .. } => {
+                Row::Text(_) => self.offers.push(None)?,
+                Row::Entry { item, .. } => {
                     number = number.saturating_add(1);
-                    self.numbers.push(Some(number))?;
+                    self.offers.push(Some(Offer {
+                        number,
+                        about: code_of(*item),
+                    }))?;
                 }
             }
         }
@@ -74,13 +91,13 @@ impl Offers {
         self.count_rows(&screen.rows)
     }
 
-    // The choices of a variable; they stand for nothing where it can't be set.
+    // The choices of a variable; they offer nothing where it can't be set.
     fn add_choices(&mut self, sheet: &Sheet<'_>) -> Result<(), AllocError> {
         for choice in &sheet.choices {
             push_choice(&mut self.lines, &sheet.content, choice)?;
-            self.numbers.push(match sheet.refused {
+            self.offers.push(match sheet.refused {
                 Some(_) => None,
-                None => Some(choice.value),
+                None => Some(itself(choice.value)),
             })?;
         }
         Ok(())

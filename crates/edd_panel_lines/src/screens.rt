@@ -85,7 +85,7 @@ pub fn push_rows(alloc: Global, lines: &mut String, rows: &[Row<'_>]) -> Result<
                 push_words(lines, *words)?;
                 lines.push('\n')?;
             }
-            Row::Entry { label, leads } => {
+            Row::Entry { label, leads, .. } => {
                 number = number.saturating_add(1);
                 push_entry(alloc, lines, number, width, *label, leads)?;
             }

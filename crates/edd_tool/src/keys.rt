@@ -1,6 +1,6 @@
 //! The keys of a user on a terminal, one after the other, and the screens that the program draws.
 
-ghost use Rattle.std.specs.Prelude.{◌<◌};
+ghost use Rattle.std.specs.Prelude.{◌≡◌, ℤ, Ok, Some};
 
 use crate::conversation::{Next, follow, leave, settle};
 use crate::files::FileFault;
@@ -124,9 +124,9 @@ fn screen_now(
     size: Size,
 ) -> Result<Screen, AllocError> {
     let offers = offers_of(alloc, panel, bits)?;
-    let rows = fold(alloc, &offers.lines, &offers.numbers, size.columns)?;
+    let rows = fold(alloc, &offers.lines, &offers.offers, size.columns)?;
     let told = fold(alloc, told, &[], size.columns)?;
-    match height_beside(size.rows, rows.numbers.len(), told.numbers.len()) {
+    match height_beside(size.rows, rows.offers.len(), told.offers.len()) {
         Some(height) => Ok(Screen {
             stage: stage_of(panel),
             rows,
@@ -149,7 +149,7 @@ fn screen_now(
 fn shown_of(screen: &Screen) -> Shown<'_> {
     Shown {
         stage: screen.stage,
-        numbers: screen.rows.numbers.as_slice(),
+        offers: screen.rows.offers.as_slice(),
         begins: screen.value,
         bits: screen.bits,
     }
@@ -187,7 +187,10 @@ fn draw<'a, W: Write>(
 }
 
 // The line that a key stands for, if it stands for one.
-fn line_asked(alloc: Global, panel: &Panel<'_, '_>, act: Act) -> Result<Option<Line>, AllocError> {
+fn line_asked(alloc: Global, panel: &Panel<'_, '_>, act: Act) -> Result<Option<Line>, AllocError>
+    ensures { (number : ℤ) → act ≡ Act.Number number
+        → result ≡ Ok (Some (Line.Command (Command.Number number))) }
+{
     match act {
         Act::Nothing => Ok(None),
         Act::Number(number) => Ok(Some(Line::Command(Command::Number(number)))),
