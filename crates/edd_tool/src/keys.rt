@@ -28,6 +28,8 @@ pub struct Terminal<'t, R, W> {
     keys: KeyBytes,
     size: Size,
     out: &'t mut W,
+    /// Whether there is a screen below which the cursor goes at the end.
+    is_drawn: bool,
 }
 
 impl<'t, R: Read, W: Write> Terminal<'t, R, W> {
@@ -37,6 +39,7 @@ impl<'t, R: Read, W: Write> Terminal<'t, R, W> {
             keys: KeyBytes::new(),
             size,
             out,
+            is_drawn: false,
         }
     }
 
@@ -290,6 +293,7 @@ fn show<'a, R: Read, W: Write>(
         columns,
         terminal.out,
     )?;
+    terminal.is_drawn = true;
     Ok(window)
 }
 
@@ -350,8 +354,7 @@ pub fn converse_by_keys<'a, R: Read, W: Write>(
     noted: &mut String,
 ) -> Result<(), Stop<'a>> {
     let ended = take_keys(alloc, panel, device, terminal, noted);
-    // The cursor goes below the screen.
-    if !matches!(ended, Err(Stop::Output)) {
+    if terminal.is_drawn && !matches!(ended, Err(Stop::Output)) {
         print_text(terminal.out, "\n")?;
     }
     ended?;

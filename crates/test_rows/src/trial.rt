@@ -10,8 +10,6 @@ pub const MOST_CALLS: u32 = 1_000_000;
 /// The name under which the program reads the lines of a user.
 const INPUT: &str = "/dev/stdin";
 
-const ESCAPE: u8 = 0x1b;
-
 /// What a screen ends with where keys are read.
 const SCREEN_END: &str = "\u{241b}[J";
 
@@ -53,22 +51,6 @@ impl fmt::Display for Printed {
         }
         Ok(())
     }
-}
-
-// The bytes that were printed, with the picture of ESC in its place.
-fn pictured(alloc: Global, bytes: Vec<u8>) -> Result<Vec<u8>, AllocError> {
-    if !bytes.contains(&ESCAPE) {
-        return Ok(bytes);
-    }
-    let mut shown = Vec::with_capacity(alloc, bytes.len())?;
-    for byte in &bytes {
-        if *byte == ESCAPE {
-            shown.extend_from_slice("\u{241b}".as_bytes())?;
-        } else {
-            shown.push(*byte)?;
-        }
-    }
-    Ok(shown)
 }
 
 fn passes(trial: Trial, failing: Trial, count: u32) -> Passes {
@@ -113,7 +95,6 @@ pub fn run(
     };
     let status = edd_tool::run(alloc, words.as_slice(), &mut files, &mut out);
     let MemoryOutput { bytes, writes: _ } = out;
-    let bytes = pictured(alloc, bytes)?;
     let MemoryFiles { saved, .. } = files;
     let has_no_file = opens.has_failed() || reads.has_failed() || saves.has_failed();
     let has_no_output = writes.has_failed();
