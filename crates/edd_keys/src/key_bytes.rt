@@ -109,7 +109,8 @@ impl Numbers {
 
     // What a sequence with these numbers and this end says.
     fn ended(self, end: u8) -> Taken {
-        let [first, second] = self.numbers;
+        let first = self.numbers[0];
+        let second = self.numbers[1];
         match end {
             b'~' => of_number(first),
             // With a first row it would be a key.

@@ -3,22 +3,22 @@
 #![tactic(auto)]
 
 mod act;
-mod fold;
 mod frame;
 mod key;
 mod key_bytes;
 mod keypad;
 mod moves;
+mod rows;
 mod shown;
 mod widths;
 mod window;
 
 pub use act::Act;
-pub use fold::{Rows, fold};
 pub use frame::{Frame, push_frame};
 pub use key::Key;
 pub use key_bytes::{KeyBytes, Taken};
 pub use keypad::Keypad;
+pub use rows::{Rows, fold};
 pub use shown::{Offer, Shown, Stage};
 pub use window::{Window, height_beside};
 
