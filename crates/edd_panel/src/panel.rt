@@ -226,6 +226,13 @@ impl<'i, 'b> Panel<'i, 'b> {
         }
     }
 
+    /// How many levels the user is below the top.
+    pub fn depth(&self) -> usize
+        ensures { result ≡ length self.now.path }
+    {
+        self.path.len()
+    }
+
     fn choose(&mut self, alloc: Global, number: i64) -> Result<Happened, AllocError>
         ensures does { IfOk result (λ happened. AtMenu self.old happened self.new) }
         ensures kept { OnErr result (self.new ≡ self.old) }

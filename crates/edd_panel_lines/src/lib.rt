@@ -2,6 +2,7 @@
 #![tactic(auto)]
 
 mod numbers;
+mod offers;
 mod records;
 mod requests;
 mod screens;
@@ -10,6 +11,7 @@ mod texts;
 mod views;
 
 pub use numbers::{push_content, push_number};
+pub use offers::{Offers, offers_of};
 pub use records::{push_answer, push_done, push_set, push_start};
 pub use requests::push_request;
 pub use sheets::push_kind;

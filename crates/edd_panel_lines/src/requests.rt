@@ -15,8 +15,12 @@ fn push_string(lines: &mut String, page: &Page<'_, '_>, string: StrNo) -> Result
     }
 }
 
-// The choices, numbered from 1.
-fn push_choices(lines: &mut String, page: &Page<'_, '_>, choices: StrNo) -> Result<(), AllocError> {
+/// Appends the choices, numbered from 1.
+pub fn push_choices(
+    lines: &mut String,
+    page: &Page<'_, '_>,
+    choices: StrNo,
+) -> Result<(), AllocError> {
     let mut number = 0i64;
     for choice in text_of_choices(page.image, choices, page.language).split(';') {
         number = number.saturating_add(1);
@@ -39,19 +43,20 @@ fn push_command(lines: &mut String, word: &str, numbers: &[i32]) -> Result<(), A
     lines.push('\n')
 }
 
-/// Appends the lines of a request. Those of the variable that GET_DEV_VAR_VALUE asks for are not
-/// among them.
-pub fn push_request(
+/// Appends the line of a request, without what can be chosen.
+pub fn push_question(
     lines: &mut String,
     page: &Page<'_, '_>,
     request: Request,
 ) -> Result<(), AllocError> {
     match request {
-        Request::PutMessage(text) | Request::Acknowledge(text) | Request::GetDevVarValue(text, _) =>
-            {
-                push_string(lines, page, text)?;
-                lines.push('\n')
-            }
+        Request::PutMessage(text)
+        | Request::Acknowledge(text)
+        | Request::GetDevVarValue(text, _)
+        | Request::SelectFromList(text, _) => {
+            push_string(lines, page, text)?;
+            lines.push('\n')
+        }
         Request::Delay(time, text) => {
             lines.push_str("wait ")?;
             push_decimal(lines, i64::from(time))?;
@@ -59,16 +64,25 @@ pub fn push_request(
             push_string(lines, page, text)?;
             lines.push('\n')
         }
-        Request::SelectFromList(text, choices) => {
-            push_string(lines, page, text)?;
-            lines.push('\n')?;
-            push_choices(lines, page, choices)
-        }
         Request::SendCommand(number) => push_command(lines, "send_command", &[number]),
         Request::SendCommandTrans(number, transaction) => {
             push_command(lines, "send_command_trans", &[number, transaction])
         }
         Request::SaveValues => push_command(lines, "save_values", &[]),
+    }
+}
+
+/// Appends the lines of a request. Those of the variable that GET_DEV_VAR_VALUE asks for are not
+/// among them.
+pub fn push_request(
+    lines: &mut String,
+    page: &Page<'_, '_>,
+    request: Request,
+) -> Result<(), AllocError> {
+    push_question(lines, page, request)?;
+    match request {
+        Request::SelectFromList(_, choices) => push_choices(lines, page, choices),
+        _ => Ok(()),
     }
 }
 

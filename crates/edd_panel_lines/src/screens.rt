@@ -74,7 +74,8 @@ fn push_entry(
     lines.push('\n')
 }
 
-fn push_rows(alloc: Global, lines: &mut String, rows: &[Row<'_>]) -> Result<(), AllocError> {
+/// Appends the lines of entries and texts, one for each.
+pub fn push_rows(alloc: Global, lines: &mut String, rows: &[Row<'_>]) -> Result<(), AllocError> {
     let width = width_of(alloc, rows)?;
     let mut number = 0u32;
     for row in rows {
@@ -84,7 +85,7 @@ fn push_rows(alloc: Global, lines: &mut String, rows: &[Row<'_>]) -> Result<(), 
                 push_words(lines, *words)?;
                 lines.push('\n')?;
             }
-            Row::Entry { label, leads } => {
+            Row::Entry { label, leads, .. } => {
                 number = number.saturating_add(1);
                 push_entry(alloc, lines, number, width, *label, leads)?;
             }
@@ -93,12 +94,8 @@ fn push_rows(alloc: Global, lines: &mut String, rows: &[Row<'_>]) -> Result<(), 
     Ok(())
 }
 
-/// Appends the lines of a screen.
-pub fn push_screen(
-    alloc: Global,
-    lines: &mut String,
-    screen: &Screen<'_>,
-) -> Result<(), AllocError> {
+/// Appends the lines of a screen that are above its rows.
+pub fn push_title(lines: &mut String, screen: &Screen<'_>) -> Result<(), AllocError> {
     match screen.title {
         Some(title) => push_words(lines, title)?,
         None => lines.push_str("Top")?,
@@ -111,5 +108,15 @@ pub fn push_screen(
     } else if screen.rows.is_empty() {
         push_line(lines, "    nothing is here")?;
     }
+    Ok(())
+}
+
+/// Appends the lines of a screen.
+pub fn push_screen(
+    alloc: Global,
+    lines: &mut String,
+    screen: &Screen<'_>,
+) -> Result<(), AllocError> {
+    push_title(lines, screen)?;
     push_rows(alloc, lines, &screen.rows)
 }

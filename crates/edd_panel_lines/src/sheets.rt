@@ -63,7 +63,8 @@ fn mark_of(content: &Content<'_>, choice: &Choice<'_>) -> &'static str {
     }
 }
 
-fn push_choice(
+/// Appends the line of a choice.
+pub fn push_choice(
     lines: &mut String,
     content: &Content<'_>,
     choice: &Choice<'_>,
@@ -105,8 +106,8 @@ fn push_head(alloc: Global, lines: &mut String, sheet: &Sheet<'_>) -> Result<(),
     lines.push('\n')
 }
 
-/// Appends the lines of a variable that is edited.
-pub fn push_sheet(alloc: Global, lines: &mut String, sheet: &Sheet<'_>) -> Result<(), AllocError> {
+/// Appends the lines of a variable that are above its choices.
+pub fn push_value(alloc: Global, lines: &mut String, sheet: &Sheet<'_>) -> Result<(), AllocError> {
     push_head(alloc, lines, sheet)?;
     if is_numeric(sheet) {
         let size = match sheet.kind {
@@ -116,9 +117,11 @@ pub fn push_sheet(alloc: Global, lines: &mut String, sheet: &Sheet<'_>) -> Resul
         push_bound(alloc, lines, "at least ", sheet.lowest, size, sheet.format)?;
         push_bound(alloc, lines, "at most ", sheet.highest, size, sheet.format)?;
     }
-    for choice in &sheet.choices {
-        push_choice(lines, &sheet.content, choice)?;
-    }
+    Ok(())
+}
+
+/// Appends the lines of a variable that are below its choices.
+pub fn push_faults(lines: &mut String, sheet: &Sheet<'_>) -> Result<(), AllocError> {
     if let Some(trap) = sheet.trap {
         lines.push_str("  ")?;
         push_fault(lines, trap)?;
@@ -130,4 +133,13 @@ pub fn push_sheet(alloc: Global, lines: &mut String, sheet: &Sheet<'_>) -> Resul
         }
     }
     Ok(())
+}
+
+/// Appends the lines of a variable that is edited.
+pub fn push_sheet(alloc: Global, lines: &mut String, sheet: &Sheet<'_>) -> Result<(), AllocError> {
+    push_value(alloc, lines, sheet)?;
+    for choice in &sheet.choices {
+        push_choice(lines, &sheet.content, choice)?;
+    }
+    push_faults(lines, sheet)
 }

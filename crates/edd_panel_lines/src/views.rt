@@ -11,8 +11,8 @@ use edd_screens::{Words, page_of, screen_of, sheet_of};
 use std::alloc::{AllocError, Global};
 use std::fmt::Write as _;
 
-// The variable that a request asks for.
-fn field_asked(request: Request) -> Option<Field> {
+/// The variable that a request asks for.
+pub fn field_asked(request: Request) -> Option<Field> {
     match request {
         Request::GetDevVarValue(_, variable) => Some(Field {
             variable,

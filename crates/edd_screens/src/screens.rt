@@ -33,7 +33,11 @@ pub enum Leads<'b> {
 #[derive(Drop)]
 pub enum Row<'b> {
     Text(Words<'b>),
-    Entry { label: Words<'b>, leads: Leads<'b> },
+    Entry {
+        item: ItemNo,
+        label: Words<'b>,
+        leads: Leads<'b>,
+    },
 }
 
 /// The screen of a menu, a collection or the top.
@@ -112,7 +116,11 @@ fn row_of<'b>(
             leads_to(alloc, page, values, entry.item, read_only)?
         }
     };
-    Ok(Row::Entry { label, leads })
+    Ok(Row::Entry {
+        item: entry.item,
+        label,
+        leads,
+    })
 }
 
 fn rows_of<'b>(

@@ -11,7 +11,8 @@ use edd_instructions::Record;
 use edd_loader::Text;
 use edd_machine::Values;
 use edd_panel::{
-    EditFault, EditRules, Field, Found, first_number, handling_fault, of_variable, read, rules_of,
+    EditFault, EditRules, Field, Found, bits_of, first_number, handling_fault, of_variable, read,
+    rules_of,
 };
 use edd_syntax::answer::Trap;
 use edd_syntax::numbers::{Attr, ItemNo};
@@ -51,6 +52,25 @@ pub struct Sheet<'b> {
     pub trap: Option<Trap>,
     /// Why it can't be changed here, whatever the number, if it can't.
     pub refused: Option<EditFault>,
+}
+
+impl Sheet<'_> {
+    /// Shows these bits in place of those of the value, where it has bits.
+    pub fn show_bits(&mut self, alloc: Global, number: i64) -> Result<(), AllocError> {
+        if !matches!(self.content, Content::Bits { .. }) {
+            return Ok(());
+        }
+        let mut labels = Vec::new(alloc);
+        for choice in &self.choices {
+            if bits_of(choice.value) & bits_of(number) != 0
+                && let Some(label) = choice.label
+            {
+                labels.push(label)?;
+            }
+        }
+        self.content = Content::Bits { number, labels };
+        Ok(())
+    }
 }
 
 fn bound_of(found: &Found) -> Bound {

@@ -43,9 +43,9 @@ enum Reply {
     User,
 }
 
-// What comes after a line.
+/// What comes after a line or a key.
 #[derive(Clone, Copy)]
-enum Next {
+pub enum Next {
     /// All is shown again.
     View,
     /// The user is asked again.
@@ -144,8 +144,8 @@ fn give_up<'a, W: Write>(
     Ok(())
 }
 
-// Lets the method go on until it asks the user or is over, and says where it is.
-fn settle<'a, W: Write>(
+/// Lets the method go on until it asks the user or is over, and says where it is.
+pub fn settle<'a, W: Write>(
     alloc: Global,
     panel: &mut Panel<'_, '_>,
     device: &mut Option<Device<'_, '_>>,
@@ -222,14 +222,15 @@ fn show_help<'a, W: Write>(
     Ok(())
 }
 
-fn take_line<'a, W: Write>(
+/// Does what a line asks for.
+pub fn follow<'a, W: Write>(
     alloc: Global,
     panel: &mut Panel<'_, '_>,
-    line: &str,
+    line: Line,
     out: &mut W,
     noted: &mut String,
 ) -> Result<Next, Stop<'a>> {
-    match line_of(alloc, panel, line)? {
+    match line {
         Line::Command(command) => take(alloc, panel, command, out, noted),
         Line::Help(number) => {
             show_help(alloc, panel, number, out)?;
@@ -245,6 +246,17 @@ fn take_line<'a, W: Write>(
             Ok(Next::Prompt)
         }
     }
+}
+
+fn take_line<'a, W: Write>(
+    alloc: Global,
+    panel: &mut Panel<'_, '_>,
+    line: &str,
+    out: &mut W,
+    noted: &mut String,
+) -> Result<Next, Stop<'a>> {
+    let line = line_of(alloc, panel, line)?;
+    follow(alloc, panel, line, out, noted)
 }
 
 // Shows where the user is.
@@ -278,8 +290,8 @@ fn abort<'a>(panel: &mut Panel<'_, '_>, noted: &mut String) -> Result<(), Stop<'
     Ok(())
 }
 
-// Aborts the method that asks, and each of its abort methods that does.
-fn leave<'a, W: Write>(
+/// Aborts the method that asks, and each of its abort methods that does.
+pub fn leave<'a, W: Write>(
     alloc: Global,
     panel: &mut Panel<'_, '_>,
     device: &mut Option<Device<'_, '_>>,

@@ -1,4 +1,4 @@
-//! The lines of a user.
+//! What a user types: bytes, and lines of them.
 
 use crate::files::FileFault;
 use std::alloc::Global;
@@ -9,9 +9,9 @@ const LONGEST: u32 = 1_048_576;
 
 const PIECE: usize = 512;
 
-/// Lines that are read from their file when they are asked for, and not before.
+/// Bytes that are read from their file when they are asked for, and not before.
 #[derive(Drop)]
-pub struct Lines<R> {
+pub struct Bytes<R> {
     input: R,
     piece: [u8; PIECE],
     // The place of the next byte in the piece, and the end of what was read into it.
@@ -19,9 +19,15 @@ pub struct Lines<R> {
     end: usize,
 }
 
-impl<R: Read> Lines<R> {
-    pub fn new(input: R) -> Lines<R> {
-        Lines {
+/// Lines that are read so.
+#[derive(Drop)]
+pub struct Lines<R> {
+    bytes: Bytes<R>,
+}
+
+impl<R: Read> Bytes<R> {
+    pub fn new(input: R) -> Bytes<R> {
+        Bytes {
             input,
             piece: [0; PIECE],
             next: 0,
@@ -29,8 +35,8 @@ impl<R: Read> Lines<R> {
         }
     }
 
-    // The next byte, or nothing at the end.
-    fn byte(&mut self) -> Result<Option<u8>, FileFault> {
+    /// The next byte, or nothing at the end.
+    pub fn next(&mut self) -> Result<Option<u8>, FileFault> {
         if self.next >= self.end {
             let Ok(count) = self.input.read(&mut self.piece) else {
                 return Err(FileFault::Failed);
@@ -46,11 +52,29 @@ impl<R: Read> Lines<R> {
         Ok(byte)
     }
 
+    /// Has the last byte come again.
+    pub fn put_back(&mut self) {
+        self.next = self.next.saturating_sub(1);
+    }
+
+    /// Whether the last byte came alone, with no other behind it.
+    pub fn is_alone(&self) -> bool {
+        self.end == 1 && self.next == 1
+    }
+}
+
+impl<R: Read> Lines<R> {
+    pub fn new(input: R) -> Lines<R> {
+        Lines {
+            bytes: Bytes::new(input),
+        }
+    }
+
     /// The next line without its end, or nothing at the end of the file.
     pub fn next(&mut self, alloc: Global) -> Result<Option<Vec<u8>>, FileFault> {
         let mut line = Vec::new(alloc);
         for _ in 0..LONGEST {
-            let Some(byte) = self.byte()? else {
+            let Some(byte) = self.bytes.next()? else {
                 return if line.is_empty() {
                     Ok(None)
                 } else {

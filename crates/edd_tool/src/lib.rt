@@ -9,6 +9,7 @@ mod conversation;
 mod devices;
 mod files;
 mod input;
+mod keys;
 mod opening;
 mod playing;
 mod requests;

@@ -4,9 +4,10 @@ use crate::conversation::{Console, converse};
 use crate::devices::compiled;
 use crate::files::Files;
 use crate::input::Lines;
+use crate::keys::{Terminal, converse_by_keys};
 use crate::requests::{Stop, of_file, read, read_device, read_script};
 use crate::script::parse_sets;
-use edd_command_line::Opening;
+use edd_command_line::{Opening, Size};
 use edd_compiler::compile;
 use edd_device::Device;
 use edd_loader::{Image, load};
@@ -22,6 +23,14 @@ pub const INPUT: &str = "/dev/stdin";
 /// What an image begins with, and no source does.
 const MAGIC: &[u8] = b"EDI1";
 
+/// How a user is talked to.
+#[derive(Clone, Copy)]
+pub struct Manner<'l> {
+    pub language: &'l str,
+    /// Where keys are read and no lines, the size of their terminal.
+    pub keys: Option<Size>,
+}
+
 // The image in the bytes of a file: of a source what it is compiled to.
 fn image_of<'a>(alloc: Global, bytes: Vec<u8>) -> Result<Vec<u8>, Stop<'a>> {
     if bytes.starts_with(MAGIC) {
@@ -35,7 +44,7 @@ fn talk<'a, R: Read + Drop, W: Write>(
     alloc: Global,
     image: &Image<'_>,
     mut device: Option<Device<'_, '_>>,
-    language: &str,
+    manner: Manner<'_>,
     script: &[u8],
     input: R,
     out: &mut W,
@@ -44,14 +53,22 @@ fn talk<'a, R: Read + Drop, W: Write>(
     let values = start_values(alloc, image, &given)?;
     let mut noted = String::new(alloc);
     push_start(&mut noted, image, &values)?;
-    let Some(mut panel) = Panel::open(alloc, image, language, values) else {
+    let Some(mut panel) = Panel::open(alloc, image, manner.language, values) else {
         return Err(Stop::Values(ValuesFault::Range));
     };
-    let mut console = Console {
-        input: Lines::new(input),
-        out,
-    };
-    converse(alloc, &mut panel, &mut device, &mut console, &mut noted)?;
+    match manner.keys {
+        Some(size) => {
+            let mut terminal = Terminal::new(input, size, out);
+            converse_by_keys(alloc, &mut panel, &mut device, &mut terminal, &mut noted)?;
+        }
+        None => {
+            let mut console = Console {
+                input: Lines::new(input),
+                out,
+            };
+            converse(alloc, &mut panel, &mut device, &mut console, &mut noted)?;
+        }
+    }
     Ok(noted)
 }
 
@@ -60,22 +77,14 @@ fn talk_with_device<'a, R: Read + Drop, W: Write>(
     alloc: Global,
     instrument: &Image<'_>,
     image: &Image<'_>,
-    language: &str,
+    manner: Manner<'_>,
     script: &[u8],
     input: R,
     out: &mut W,
 ) -> Result<String, Stop<'a>> {
     let device = Device::new(alloc, instrument, image)?;
     let instrument = device.instrument();
-    talk(
-        alloc,
-        instrument,
-        Some(device),
-        language,
-        script,
-        input,
-        out,
-    )
+    talk(alloc, instrument, Some(device), manner, script, input, out)
 }
 
 /// Opens an image, with a device where there is one, and does what the lines of the user say. Gives
@@ -85,7 +94,7 @@ pub fn open_bytes<'a, R: Read + Drop, W: Write>(
     bytes: &[u8],
     device: Option<(&'a str, Vec<u8>)>,
     script: &[u8],
-    language: &str,
+    manner: Manner<'_>,
     input: R,
     out: &mut W,
 ) -> Result<String, Stop<'a>> {
@@ -94,9 +103,9 @@ pub fn open_bytes<'a, R: Read + Drop, W: Write>(
         Some((name, text)) => {
             let device_bytes = compiled(alloc, name, &text)?;
             let device = load(alloc, &device_bytes)?;
-            talk_with_device(alloc, &image, &device, language, script, input, out)
+            talk_with_device(alloc, &image, &device, manner, script, input, out)
         }
-        None => talk(alloc, &image, None, language, script, input, out),
+        None => talk(alloc, &image, None, manner, script, input, out),
     }
 }
 
@@ -113,7 +122,11 @@ pub fn open<'a, F: Files, W: Write>(
     let script = read_script(alloc, files, opening.script)?;
     let input = files.open(INPUT).map_err(|fault| of_file(INPUT, fault))?;
     let bytes = image_of(alloc, bytes)?;
-    let noted = open_bytes(alloc, &bytes, device, &script, opening.language, input, out)?;
+    let manner = Manner {
+        language: opening.language,
+        keys: opening.keys,
+    };
+    let noted = open_bytes(alloc, &bytes, device, &script, manner, input, out)?;
     match opening.record_file {
         Some(name) => files
             .save(name, noted.as_bytes())

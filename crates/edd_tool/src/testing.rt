@@ -1,7 +1,7 @@
 //! What the program does to run the tests of a maker.
 
 use crate::files::{FileFault, Files};
-use crate::opening::open_bytes;
+use crate::opening::{Manner, open_bytes};
 use crate::requests::{Stop, of_file, read, read_bytes, report, run_method, show_bytes};
 use edd_cases::{
     Case, Description, Ended, Form, Kind, Misread, Printed, Tally, TestFault, Tests, beside,
@@ -91,7 +91,11 @@ fn run<'a, F: Files>(
         Kind::Open => {
             let typed = case.typed(alloc)?;
             let input = typed.as_bytes();
-            open_bytes(alloc, &image, device, script, case.language, input, out)?;
+            let manner = Manner {
+                language: case.language,
+                keys: None,
+            };
+            open_bytes(alloc, &image, device, script, manner, input, out)?;
             Ok(())
         }
     }

@@ -124,7 +124,13 @@ impl<'a> Files for MemoryFiles<'a> {
     }
 }
 
-/// Keeps what is written, in room that was made beforehand. Takes at most eleven bytes a write.
+const ESCAPE: u8 = 0x1b;
+
+/// What stands for it in rows.
+const PICTURE: &str = "\u{241b}";
+
+/// Keeps what is written, in room that was made beforehand, with a picture in the place of ESC. Takes
+/// at most eleven bytes a write.
 #[derive(Drop)]
 pub struct MemoryOutput<'a> {
     pub bytes: Vec<u8>,
@@ -137,7 +143,12 @@ impl Write for MemoryOutput<'_> {
             return Err(io::Error::from(io::ErrorKind::Other));
         }
         let count = buf.len().min(11);
-        self.bytes.extend_from_slice(&buf[..count])?;
+        for byte in &buf[..count] {
+            match *byte {
+                ESCAPE => self.bytes.extend_from_slice(PICTURE.as_bytes())?,
+                other => self.bytes.push(other)?,
+            }
+        }
         Ok(count)
     }
 

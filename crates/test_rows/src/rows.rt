@@ -30,10 +30,22 @@ fn from_hex(alloc: Global, digits: &str) -> Result<Vec<u8>, AllocError> {
     Ok(bytes)
 }
 
+// The control character whose picture stands for it, as that of ESC does; any other one is itself.
+fn unpictured(character: char) -> char {
+    let code = u32::from(character);
+    match character {
+        '\u{2400}'..='\u{241f}' => char::from_u32(code.wrapping_sub(0x2400)).unwrap_or(character),
+        '\u{2421}' => '\u{7f}',
+        _ => character,
+    }
+}
+
 fn from_text(alloc: Global, text: &str) -> Result<Vec<u8>, AllocError> {
-    let mut bytes = Vec::new(alloc);
-    bytes.extend_from_slice(text.as_bytes())?;
-    Ok(bytes)
+    let mut typed = String::with_capacity(alloc, text.len())?;
+    for character in text.chars() {
+        typed.push(unpictured(character))?;
+    }
+    Ok(typed.into_bytes())
 }
 
 // `count` times the piece.
@@ -73,7 +85,7 @@ fn lengthen(alloc: Global, bytes: &mut Vec<u8>, kind: &str, words: &str) -> Resu
             let missing = number(words).saturating_sub(bytes.len());
             push_times(bytes, missing, " ")
         }
-        _ => bytes.extend_from_slice(words.as_bytes()),
+        _ => bytes.extend_from_slice(&from_text(alloc, words)?),
     }
 }
 
@@ -121,7 +133,8 @@ impl<'a> Row<'a> {
     /// Reads a row: the words, `@name NAME`, a part `@file NAME` or `@hex NAME` for each file,
     /// which `@more TEXT`, `@times COUNT TEXT`, `@numbered COUNT TEXT` and `@fill LENGTH` make
     /// longer, `@status N` with the printed lines, and perhaps `@image` or `@saved` with the bytes
-    /// or the lines that are written.
+    /// or the lines that are written. In files the pictures of control characters stand for these,
+    /// and in the printed lines that of ESC does.
     pub fn parse(alloc: Global, text: &'a str) -> Result<Row<'a>, AllocError> {
         let (words, rest) = text.split_once('\n').unwrap_or((text, ""));
         let mut row = Row::new(alloc, words);

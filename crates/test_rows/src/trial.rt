@@ -10,6 +10,9 @@ pub const MOST_CALLS: u32 = 1_000_000;
 /// The name under which the program reads the lines of a user.
 const INPUT: &str = "/dev/stdin";
 
+/// What a screen ends with where keys are read.
+const SCREEN_END: &str = "\u{241b}[J";
+
 /// Room for what is printed beside the row's lines.
 const ROOM: usize = 4096;
 
@@ -137,12 +140,21 @@ fn is_image(row: &Row<'_>, saved: &[u8]) -> bool {
     }
 }
 
-// Whole lines of the row, and then `no memory`.
+// Whole lines of the row, and then `no memory`. A screen that asks has no end of a line, so there one
+// comes before.
 fn is_refusal(row: &Row<'_>, text: &str) -> bool {
     let Some(before) = text.strip_suffix("no memory\n") else {
         return false;
     };
-    (before.is_empty() || before.ends_with('\n')) && row.lines.starts_with(before)
+    match before.strip_suffix('\n') {
+        Some(whole) => row.lines.starts_with(before) || is_screen(row, whole),
+        None => before.is_empty(),
+    }
+}
+
+// Whether this is what the row prints up to the end of a screen.
+fn is_screen(row: &Row<'_>, printed: &str) -> bool {
+    printed.ends_with(SCREEN_END) && row.lines.starts_with(printed)
 }
 
 // Whether lines are printed before all files were read.

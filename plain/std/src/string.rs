@@ -72,6 +72,10 @@ impl String {
         self.0.clear();
     }
 
+    pub fn pop(&mut self) -> Option<char> {
+        self.0.pop()
+    }
+
     /// `write!` to a text, which fails for lack of memory alone.
     pub fn write_fmt(&mut self, arguments: fmt::Arguments<'_>) -> Result<(), AllocError> {
         fmt::Write::write_fmt(self, arguments).map_err(|_| AllocError)

@@ -1,0 +1,362 @@
+//! The keys of a user on a terminal, one after the other, and the screens that the program draws.
+
+ghost use Rattle.std.specs.Prelude.{◌≡◌, ℤ, Ok, Some};
+
+use crate::conversation::{Next, follow, leave, settle};
+use crate::files::FileFault;
+use crate::input::Bytes;
+use crate::opening::INPUT;
+use crate::requests::{Stop, of_file};
+use edd_command_line::Size;
+use edd_device::Device;
+use edd_display::print_text;
+use edd_keys::{
+    Act, Frame, KEYS, Key, KeyBytes, Keypad, Rows, Shown, Stage, Taken, Window, fold,
+    height_beside, push_frame,
+};
+use edd_panel::{Command, Panel};
+use edd_panel_lines::{offers_of, prompt_of};
+use edd_port::Turn;
+use edd_screens::{Line, line_of};
+use std::alloc::{AllocError, Global};
+use std::io::{Read, Write};
+
+/// A terminal in raw mode.
+#[derive(Drop)]
+pub struct Terminal<'t, R, W> {
+    bytes: Bytes<R>,
+    keys: KeyBytes,
+    size: Size,
+    out: &'t mut W,
+    /// Whether there is a screen below which the cursor goes at the end.
+    is_drawn: bool,
+}
+
+impl<'t, R: Read, W: Write> Terminal<'t, R, W> {
+    pub fn new(input: R, size: Size, out: &'t mut W) -> Terminal<'t, R, W> {
+        Terminal {
+            bytes: Bytes::new(input),
+            keys: KeyBytes::new(),
+            size,
+            out,
+            is_drawn: false,
+        }
+    }
+
+    fn resize(&mut self, rows: u16, columns: u16) {
+        self.size = Size {
+            rows: usize::from(rows),
+            columns: usize::from(columns),
+        };
+    }
+
+    // The next key, or nothing at the end.
+    fn key(&mut self) -> Result<Option<Key>, FileFault> {
+        for _ in 0..u64::MAX {
+            let Some(byte) = self.bytes.next()? else {
+                break;
+            };
+            match self.keys.take(byte) {
+                Taken::Key(key) => return Ok(Some(key)),
+                Taken::Before(key) => {
+                    self.bytes.put_back();
+                    return Ok(Some(key));
+                }
+                Taken::Nothing => {}
+            }
+            if self.bytes.is_alone()
+                && let Some(key) = self.keys.pause()
+            {
+                return Ok(Some(key));
+            }
+        }
+        Ok(self.keys.pause())
+    }
+}
+
+// What is on the screen: the panel with what is told below it, or a page that is read.
+#[derive(Drop)]
+struct Screen {
+    stage: Stage,
+    rows: Rows,
+    value: Option<i64>,
+    bits: Option<i64>,
+    told: String,
+    height: usize,
+}
+
+// What the keys have led to, and what is told below the screen up to the next key.
+#[derive(Drop)]
+struct Desk {
+    keypad: Keypad,
+    told: Vec<u8>,
+}
+
+fn stage_of(panel: &Panel<'_, '_>) -> Stage {
+    match panel.turn() {
+        Some(Turn::Asks(_)) => Stage::Question,
+        Some(_) => Stage::Pause,
+        None => match panel.field() {
+            Some(_) => Stage::Variable,
+            None => Stage::Menu,
+        },
+    }
+}
+
+// How many levels the user is below the top. The variable that is open and the method that runs are
+// levels, and so is a page that is read.
+fn depth_of(panel: &Panel<'_, '_>, stage: Stage) -> usize {
+    let place = match stage_of(panel) {
+        Stage::Menu => 0,
+        _ => 1,
+    };
+    let page = match stage {
+        Stage::Page => 1,
+        _ => 0,
+    };
+    panel.depth().saturating_add(place).saturating_add(page)
+}
+
+// What is shown: the panel with what is told below it, or what is told alone where that leaves no
+// room.
+fn screen_now(
+    alloc: Global,
+    panel: &Panel<'_, '_>,
+    bits: Option<i64>,
+    told: &str,
+    size: Size,
+) -> Result<Screen, AllocError> {
+    let offers = offers_of(alloc, panel, bits)?;
+    let rows = fold(alloc, &offers.lines, &offers.offers, size.columns)?;
+    let told = fold(alloc, told, &[], size.columns)?;
+    match height_beside(size.rows, rows.offers.len(), told.offers.len()) {
+        Some(height) => Ok(Screen {
+            stage: stage_of(panel),
+            rows,
+            value: offers.value,
+            bits: offers.bits,
+            told: told.text,
+            height,
+        }),
+        None => Ok(Screen {
+            stage: Stage::Page,
+            rows: told,
+            value: None,
+            bits: None,
+            told: String::new(alloc),
+            height: size.rows.saturating_sub(1),
+        }),
+    }
+}
+
+fn shown_of(screen: &Screen) -> Shown<'_> {
+    Shown {
+        stage: screen.stage,
+        offers: screen.rows.offers.as_slice(),
+        begins: screen.value,
+        bits: screen.bits,
+    }
+}
+
+// Draws the screen.
+fn draw<'a, W: Write>(
+    alloc: Global,
+    panel: &Panel<'_, '_>,
+    screen: &Screen,
+    window: Window,
+    typed: &str,
+    columns: usize,
+    out: &mut W,
+) -> Result<(), Stop<'a>> {
+    let prompt = match screen.stage {
+        Stage::Page => "Enter?",
+        _ => prompt_of(panel),
+    };
+    let frame = Frame {
+        rows: &screen.rows.text,
+        window,
+        told: &screen.told,
+        prompt,
+        typed,
+        columns,
+    };
+    let mut text = String::new(alloc);
+    push_frame(&mut text, &frame)?;
+    print_text(out, &text)?;
+    if out.flush().is_err() {
+        return Err(Stop::Output);
+    }
+    Ok(())
+}
+
+// The line that a key stands for, if it stands for one.
+fn line_asked(alloc: Global, panel: &Panel<'_, '_>, act: Act) -> Result<Option<Line>, AllocError>
+    ensures { (number : ℤ) → act ≡ Act.Number number
+        → result ≡ Ok (Some (Line.Command (Command.Number number))) }
+{
+    match act {
+        Act::Nothing => Ok(None),
+        Act::Number(number) => Ok(Some(Line::Command(Command::Number(number)))),
+        Act::Line(text) => Ok(Some(line_of(alloc, panel, &text)?)),
+        Act::Enter => Ok(Some(Line::Command(Command::Enter))),
+        Act::Back => Ok(Some(Line::Command(Command::Back))),
+        Act::Abort => Ok(Some(Line::Command(Command::Abort))),
+        Act::Help(number) => Ok(Some(Line::Help(number))),
+        Act::Keys => Ok(Some(Line::Commands)),
+        Act::Quit => Ok(Some(Line::Quit)),
+    }
+}
+
+// What is told is kept in memory, so a write of it fails only for lack of that.
+fn told_in_memory<'a, T>(result: Result<T, Stop<'a>>) -> Result<T, Stop<'a>> {
+    match result {
+        Err(Stop::Output) => Err(Stop::Memory),
+        other => other,
+    }
+}
+
+impl Desk {
+    fn told(&self) -> &str {
+        str::from_utf8(self.told.as_slice()).unwrap_or("")
+    }
+
+    // A key on a page: it is read on, or left.
+    fn read(&mut self, act: &Act) -> Next {
+        match act {
+            Act::Nothing => {}
+            Act::Quit => return Next::End,
+            _ => self.told.clear(),
+        }
+        Next::Prompt
+    }
+
+    // Does what a line asks for, and lets the method that runs go on.
+    fn follow<'a>(
+        &mut self,
+        alloc: Global,
+        panel: &mut Panel<'_, '_>,
+        device: &mut Option<Device<'_, '_>>,
+        line: Line,
+        noted: &mut String,
+    ) -> Result<Next, Stop<'a>> {
+        if matches!(line, Line::Commands) {
+            print_text(&mut self.told, KEYS)?;
+            return Ok(Next::Prompt);
+        }
+        let stage = stage_of(panel);
+        let next = follow(alloc, panel, line, &mut self.told, noted)?;
+        if matches!(next, Next::View) {
+            self.keypad.leave(stage);
+            settle(alloc, panel, device, &mut self.told, noted)?;
+        }
+        Ok(next)
+    }
+
+    // Does what a key asks for where this was shown.
+    fn take<'a>(
+        &mut self,
+        alloc: Global,
+        panel: &mut Panel<'_, '_>,
+        device: &mut Option<Device<'_, '_>>,
+        stage: Stage,
+        act: Act,
+        noted: &mut String,
+    ) -> Result<Next, Stop<'a>> {
+        if stage == Stage::Page {
+            return Ok(self.read(&act));
+        }
+        self.told.clear();
+        match line_asked(alloc, panel, act)? {
+            Some(line) => told_in_memory(self.follow(alloc, panel, device, line, noted)),
+            None => Ok(Next::Prompt),
+        }
+    }
+}
+
+// Draws the screen, and says which rows of it are seen.
+fn show<'a, R: Read, W: Write>(
+    alloc: Global,
+    panel: &Panel<'_, '_>,
+    screen: &Screen,
+    terminal: &mut Terminal<'_, R, W>,
+    keypad: &mut Keypad,
+) -> Result<Window, Stop<'a>> {
+    let depth = depth_of(panel, screen.stage);
+    let window = keypad.arrive(depth, &shown_of(screen), screen.height)?;
+    let columns = terminal.size.columns;
+    draw(
+        alloc,
+        panel,
+        screen,
+        window,
+        keypad.typed(),
+        columns,
+        terminal.out,
+    )?;
+    terminal.is_drawn = true;
+    Ok(window)
+}
+
+// Draws the screen, takes a key, and does what it asks for.
+fn take_key<'a, R: Read, W: Write>(
+    alloc: Global,
+    panel: &mut Panel<'_, '_>,
+    device: &mut Option<Device<'_, '_>>,
+    terminal: &mut Terminal<'_, R, W>,
+    desk: &mut Desk,
+    noted: &mut String,
+) -> Result<Next, Stop<'a>> {
+    let bits = desk.keypad.bits();
+    let screen = screen_now(alloc, panel, bits, desk.told(), terminal.size)?;
+    let window = show(alloc, panel, &screen, terminal, &mut desk.keypad)?;
+    let key = terminal.key().map_err(|fault| of_file(INPUT, fault))?;
+    match key {
+        None => Ok(Next::End),
+        Some(Key::Size { rows, columns }) => {
+            terminal.resize(rows, columns);
+            Ok(Next::Prompt)
+        }
+        Some(key) => {
+            let shown = shown_of(&screen);
+            let act = desk.keypad.press(alloc, key, &shown, window.height)?;
+            desk.take(alloc, panel, device, screen.stage, act, noted)
+        }
+    }
+}
+
+fn take_keys<'a, R: Read, W: Write>(
+    alloc: Global,
+    panel: &mut Panel<'_, '_>,
+    device: &mut Option<Device<'_, '_>>,
+    terminal: &mut Terminal<'_, R, W>,
+    noted: &mut String,
+) -> Result<(), Stop<'a>> {
+    let mut desk = Desk {
+        keypad: Keypad::new(alloc),
+        told: Vec::new(alloc),
+    };
+    for _ in 0..u64::MAX {
+        let next = take_key(alloc, panel, device, terminal, &mut desk, noted)?;
+        if matches!(next, Next::End) {
+            break;
+        }
+    }
+    Ok(())
+}
+
+/// Draws where the user is, takes a key, and so on, up to the key that ends or the end of the
+/// input. What comes then, and what is noted, is as where a user types lines.
+pub fn converse_by_keys<'a, R: Read, W: Write>(
+    alloc: Global,
+    panel: &mut Panel<'_, '_>,
+    device: &mut Option<Device<'_, '_>>,
+    terminal: &mut Terminal<'_, R, W>,
+    noted: &mut String,
+) -> Result<(), Stop<'a>> {
+    let ended = take_keys(alloc, panel, device, terminal, noted);
+    if terminal.is_drawn && !matches!(ended, Err(Stop::Output)) {
+        print_text(terminal.out, "\n")?;
+    }
+    ended?;
+    leave(alloc, panel, device, terminal.out, noted)
+}
