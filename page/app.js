@@ -204,7 +204,9 @@ class App {
         find("file").addEventListener("change", (event) => this.read(event.target.files[0]));
         find("save-source").addEventListener("click", () => this.saveFile(`${this.fileName()}.edd`, this.source.text()));
         find("save-image").addEventListener("click", () => this.bytes && this.saveFile(`${this.fileName()}.edi`, this.bytes));
-        find("save-script").addEventListener("click", () => this.saveScript());
+        find("save-script").addEventListener("click", () => this.saveRun("script", (method, script) => script));
+        find("save-test").addEventListener("click", () => this.saveRun("test", (method, script) =>
+            `source ${this.fileName()}.edd\n\ntest ${method}\nmethod ${method}\n${script}`));
         find("clear-run").addEventListener("click", () => this.run.clear());
         document.querySelectorAll("#parts button").forEach((it) => it.addEventListener("click", () => {
             this.part(it.dataset.part);
@@ -279,10 +281,11 @@ class App {
         return this.name || "instrument";
     }
 
-    saveScript() {
+    /** Saves what `text` makes of the last method and its script. */
+    saveRun(ending, text) {
         try {
             const [method, script] = this.desk.script();
-            this.saveFile(`${this.fileName()}.${method}.script`, script);
+            this.saveFile(`${this.fileName()}.${method}.${ending}`, text(method, script));
         } catch (error) {
             find("said").textContent = "no method was run";
         }

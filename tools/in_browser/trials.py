@@ -1,6 +1,7 @@
 """Tries the page in a browser as its users would."""
 import os
 import re
+import shutil
 import subprocess
 import tempfile
 import time
@@ -113,6 +114,11 @@ def to_its_end(counts, browser, program):
     counts.check(requests_of(lines) == requests_of_run(run), f"the requests of the program: {lines!r}, and of the page: {run!r}")
     for words in ("end ended", "value factor 1041", "value reference_flow 500"):
         counts.check(words in lines, f"{words!r} in what the program does: {lines!r}")
+    browser.click("#save-test")
+    name, test = browser.saved(".calibrate.test")
+    updated, again = tested(program, "flow_transmitter", name, test)
+    counts.check("1 passed, 0 failed" in updated and "updated" in updated, f"the saved test: {updated!r}")
+    counts.check(again.endswith("1 passed, 0 failed\n") and "updated" not in again, f"the saved test again: {again!r}")
 
 
 def tried(program, example, method, script):
@@ -121,6 +127,16 @@ def tried(program, example, method, script):
         file.flush()
         words = [program, "try", os.path.join(pages.EXAMPLES, f"{example}.edd"), method, file.name]
         return subprocess.run(words, capture_output=True, text=True, timeout=60, check=False).stdout
+
+
+def tested(program, example, name, test):
+    """What is said of a saved test, beside its source, when its lines are written and after that."""
+    with tempfile.TemporaryDirectory() as room:
+        shutil.copy(os.path.join(pages.EXAMPLES, f"{example}.edd"), room)
+        with open(os.path.join(room, name), "w", encoding="utf-8") as file:
+            file.write(test)
+        return [subprocess.run([program, "test", name, *more], cwd=room, capture_output=True, text=True, timeout=60, check=False).stdout
+                for more in (["--update"], [])]
 
 
 def requests_of(lines):
