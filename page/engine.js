@@ -98,6 +98,11 @@ export class Engine {
         return this.bytes("compile", text);
     }
 
+    /** Throws why bytes are no image. */
+    load(image) {
+        this.bytes("load", image);
+    }
+
     dump(image) {
         return this.text("dump", image);
     }

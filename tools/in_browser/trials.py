@@ -321,8 +321,11 @@ def is_text(data):
 
 def hostile(counts, browser, program):
     listed = [*images.hostile().values(), *images.damaged(program)]
-    for data in listed:
+    for number, data in enumerate(listed):
         browser.bytes("window.app.readImage(bytes)", data)
+        said = browser.bytes("try { window.app.engine.load(bytes); return '' } catch (it) { return it.message }", data)
+        status, lines = images.says(program, "show", data)
+        counts.check(said == (elsewhere.refusal(lines) if status else ""), f"image {number}: {said!r}, not {lines[:100]!r}")
     wrong = browser.complaints()
     counts.check(wrong == [], f"exceptions of images: {wrong[:2]}")
     browser.script("return window.app.example('flow_transmitter')")

@@ -6,6 +6,7 @@ use crate::{json, places, states};
 use edd_check::{Choices, Format, ReportFault};
 use edd_compiler::Fault;
 use edd_display::ShowFault;
+use edd_loader::LoadFault;
 use std::alloc::Global;
 use std::vec::Vec;
 
@@ -136,6 +137,19 @@ pub extern "C" fn is_image(bytes: u32) -> u32 {
             .get(bytes)
             .is_ok_and(|bytes| bytes.starts_with(MAGIC)),
     )
+}
+
+fn load_image(image: &[u8]) -> Result<Vec<u8>, Stop> {
+    match edd_loader::load(Global, image) {
+        Ok(_) => Ok(Vec::new(Global)),
+        Err(fault) => Err(Stop::of(&fault, matches!(fault, LoadFault::Memory))),
+    }
+}
+
+/// Whether an image is one, or why it is refused.
+#[cfg_attr(target_family = "wasm", unsafe(no_mangle))]
+pub extern "C" fn load(image: u32) -> u32 {
+    with_bytes(image, load_image)
 }
 
 fn dump_image(image: &[u8]) -> Result<Vec<u8>, Stop> {
