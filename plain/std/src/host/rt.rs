@@ -62,8 +62,23 @@ pub struct Stdin;
 
 impl Read for Stdin {
     fn read(&mut self, room: &mut [u8]) -> Result<usize> {
-        real::io::Read::read(&mut real::io::stdin(), room)
+        read_input(room)
     }
+}
+
+// Rust's own input takes memory at its first use and reads ahead, so its descriptor is read.
+#[cfg(unix)]
+#[allow(unsafe_code)]
+fn read_input(room: &mut [u8]) -> Result<usize> {
+    use real::os::fd::FromRawFd;
+    // SAFETY: the descriptor stays open, since the file is not dropped.
+    let mut input = core::mem::ManuallyDrop::new(unsafe { real::fs::File::from_raw_fd(0) });
+    real::io::Read::read(&mut *input, room)
+}
+
+#[cfg(not(unix))]
+fn read_input(room: &mut [u8]) -> Result<usize> {
+    real::io::Read::read(&mut real::io::stdin(), room)
 }
 
 /// The standard output. Nothing is held back.
