@@ -70,7 +70,7 @@ fn behind<'s, 'p>(text: &str, left: &'s [Seen<'p>]) -> Option<&'s [Seen<'p>]>
 
 // What is left of what was printed behind what a line of a test of this form expects of it.
 fn past<'s, 'p>(form: Form, says: Says<'_>, left: &'s [Seen<'p>]) -> Option<&'s [Seen<'p>]>
-    ensures { option_map (λ rest. texts rest.now) result ≡ steps.past form says (texts left.now) }
+    ensures { option_map (λ rest. texts rest.now) result ≡ steps.past form says.entry (texts left.now) }
 {
     match form {
         Form::Whole => match says {
@@ -85,7 +85,7 @@ fn past<'s, 'p>(form: Form, says: Says<'_>, left: &'s [Seen<'p>]) -> Option<&'s 
 }
 
 // Why a line of the test is not met by what is left.
-fn difference<'c, 'p>(line: usize, says: Says<'c>, left: &[Seen<'p>]) -> Difference<'c, 'p> {
+fn unmet<'c, 'p>(line: usize, says: Says<'c>, left: &[Seen<'p>]) -> Difference<'c, 'p> {
     match (says, left.first()) {
         (Says::Whole(expected), Some(next)) => Difference::Other {
             line,
@@ -135,7 +135,7 @@ pub fn compare<'c, 'p>(case: &Case<'c>, seen: &[Seen<'p>]) -> Option<Difference<
     for line in &case.lines {
         match past(case.form, line.says, left) {
             Some(rest) => left = rest,
-            None => return Some(difference(number, line.says, left)),
+            None => return Some(unmet(number, line.says, left)),
         }
         number = number.saturating_add(1);
     }
