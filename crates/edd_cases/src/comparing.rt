@@ -70,7 +70,7 @@ fn behind<'s, 'p>(text: &str, left: &'s [Seen<'p>]) -> Option<&'s [Seen<'p>]>
 
 // What is left of what was printed behind what a line of a test of this form expects of it.
 fn past<'s, 'p>(form: Form, says: Says<'_>, left: &'s [Seen<'p>]) -> Option<&'s [Seen<'p>]>
-    ensures { option_map (λ rest. texts rest.now) result ≡ steps.past form says (texts left.now) }
+    ensures { option_map (λ rest. texts rest.now) result ≡ steps.past form says.entry (texts left.now) }
 {
     match form {
         Form::Whole => match says {

@@ -94,7 +94,7 @@ fn add_next<'s, 'c, 'p>(
 #[tactic(auto, using(crate::proofs::Pieces::kept_keeps, crate::proofs::Pieces::kept_more))]
 fn add_kept<'c, 'p>(pieces: &mut Vec<Piece<'c, 'p>>, line: Line<'c>) -> Result<(), AllocError>
     ensures kept { IfOk result (λ u. kept_of pieces.new.items
-        ≡ kept_of pieces.old.items ++ staying_of (line ∷ [])) }
+        ≡ kept_of pieces.old.items ++ staying_of (line.entry ∷ [])) }
     ensures seen { IfOk result (λ u. seen_of pieces.new.items ≡ seen_of pieces.old.items) }
 {
     match line.says {
@@ -115,7 +115,7 @@ fn add_line<'s, 'c, 'p>(
     turn: usize,
 ) -> Result<&'s [Seen<'p>], AllocError>
     ensures kept { IfOk result (λ rest. kept_of pieces.new.items
-        ≡ kept_of pieces.old.items ++ staying_of (line ∷ [])) }
+        ≡ kept_of pieces.old.items ++ staying_of (line.entry ∷ [])) }
     ensures seen { IfOk result (λ rest. seen_of pieces.new.items ++ texts rest.now
         ≡ seen_of pieces.old.items ++ texts left.now) }
 {
