@@ -1,5 +1,5 @@
 -- Which lines are seen.
-use Rattle.std.specs.Prelude.{ℕ, ◌≤◌, ◌<◌, ◌+◌, ◌×◌}
+use Rattle.std.specs.Prelude.{ℕ, ◌≤◌, ◌<◌, ◌+◌}
 
 -- the window of this height from the first line on holds the line
 abbrev pub Holds : ℕ → ℕ → ℕ → Type 0
