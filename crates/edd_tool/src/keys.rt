@@ -208,8 +208,8 @@ fn line_asked(alloc: Global, panel: &Panel<'_, '_>, act: Act) -> Result<Option<L
 }
 
 // What is told is kept in memory, so a write of it fails only for lack of that.
-fn told_in_memory<'a, T>(result: Result<T, Stop<'a>>) -> Result<T, Stop<'a>> {
-    match result {
+fn told_in_memory<'a, T>(told: Result<T, Stop<'a>>) -> Result<T, Stop<'a>> {
+    match told {
         Err(Stop::Output) => Err(Stop::Memory),
         other => other,
     }
