@@ -1,9 +1,9 @@
 -- What is taken of a list, and what a piece that is added changes of it.
-use Rattle.std.proofs.Common.{◌≡◌, ℕ, List, [], ◌∷◌, ◌++◌, Option, Some, None, refl, ap, sym, ◌∙◌, append-nil}
+use Rattle.std.proofs.Common.{◌≡◌, ℕ, List, [], ◌∷◌, ◌++◌, Option, Some, None, refl, ap, ◌∙◌, append-nil}
 use Rattle.std.specs.List.{filter_map, cons_option}
 use Rattle.edd_cases.specs.declared.renewing.Piece.{Piece}
 use Rattle.edd_cases.specs.declared.renewing.Piece.TheVariants as piece
-use Rattle.edd_cases.specs.Renewed.{kept, kept_of, seen, seen_of}
+use Rattle.edd_cases.specs.Renewed.{kept, kept_of}
 
 pub taken_both : {X Y : Type 0} (f : X → Option Y) (xs ys : List X)
     → filter_map f (xs ++ ys) ≡ filter_map f xs ++ filter_map f ys
@@ -23,14 +23,6 @@ taken_first f x xs = taken_both f (x ∷ []) xs
 pub seen_keeps : (pieces : List Piece) (text : _)
     → kept_of (pieces ++ piece.Seen text ∷ []) ≡ kept_of pieces
 seen_keeps pieces text = taken_both kept pieces (piece.Seen text ∷ []) ∙ append-nil (kept_of pieces)
-
-pub seen_more : (pieces : List Piece) (text : _)
-    → seen_of (pieces ++ piece.Seen text ∷ []) ≡ seen_of pieces ++ text.now ∷ []
-seen_more pieces text = taken_both seen pieces (piece.Seen text ∷ [])
-
-pub kept_keeps : (pieces : List Piece) (raw : _)
-    → seen_of (pieces ++ piece.Kept raw ∷ []) ≡ seen_of pieces
-kept_keeps pieces raw = taken_both seen pieces (piece.Kept raw ∷ []) ∙ append-nil (seen_of pieces)
 
 pub kept_more : (pieces : List Piece) (raw : _)
     → kept_of (pieces ++ piece.Kept raw ∷ []) ≡ kept_of pieces ++ raw.now ∷ []

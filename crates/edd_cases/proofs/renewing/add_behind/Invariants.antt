@@ -1,8 +1,7 @@
 use Rattle.std.proofs.Common.{◌≡◌, ◌++◌, drop}
-use Rattle.edd_cases.specs.Renewed.{kept_of, seen_of, staying_of}
+use Rattle.edd_cases.specs.Renewed.{kept_of, staying_of}
 use Rattle.edd_cases.proofs.renewing.add_behind.Given as goal
 
 abbrev pub invariant-loop-line : goal.invariant-loop-line
-invariant-loop-line l = (kept_of l.pieces.items ++ staying_of (drop l.line-index l.lines)
-    ≡ kept_of l.fn.pieces.items ++ staying_of l.lines)
-    × (seen_of l.pieces.items ≡ seen_of l.fn.pieces.items)
+invariant-loop-line l = kept_of l.pieces.items ++ staying_of (drop l.line-index l.lines)
+    ≡ kept_of l.fn.pieces.items ++ staying_of l.lines
