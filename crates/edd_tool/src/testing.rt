@@ -64,7 +64,7 @@ fn image_of<'a>(
 }
 
 // Runs a test as the commands `try` and `play`, `view` and `show`, or `open` would.
-fn run<'a, F: Files>(
+fn run_case<'a, F: Files>(
     alloc: Global,
     given: Given<'_>,
     case: &Case<'a>,
@@ -103,14 +103,14 @@ fn run<'a, F: Files>(
 
 // What a test prints. What the program would stop with is the last line of it, but for a file that
 // can't be read.
-fn printed<'a, F: Files>(
+fn output_of<'a, F: Files>(
     alloc: Global,
     given: Given<'a>,
     case: &Case<'_>,
     files: &mut F,
 ) -> Result<Printed, Stop<'a>> {
     let mut out = Printed::nothing(alloc);
-    match run(alloc, given, case, files, &mut out) {
+    match run_case(alloc, given, case, files, &mut out) {
         Ok(()) => Ok(out),
         Err(Stop::Named(path)) => Err(Stop::Named(path)),
         Err(stop) => match report(alloc, &stop, &mut out) {
@@ -130,7 +130,7 @@ fn test_case<'a, F: Files, W: Write>(
     out: &mut W,
     file: &mut String,
 ) -> Result<Ended, Stop<'a>> {
-    let printed = printed(alloc, given, case, files)?;
+    let printed = output_of(alloc, given, case, files)?;
     let seen = printed.lines(alloc)?;
     let found = compare(case, &seen);
     let is_renewed = found.is_some() && given.is_update && case.form == Form::Whole;
