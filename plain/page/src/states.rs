@@ -177,7 +177,7 @@ fn screen_text(screen: &Screen<'_>) -> Result<ScreenText, AllocError> {
                 read_only: false,
                 trap: None,
             },
-            Row::Entry { label, leads } => {
+            Row::Entry { label, leads, .. } => {
                 number += 1;
                 entry_text(words_text(*label)?, leads, number)?
             }
