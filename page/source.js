@@ -6,6 +6,10 @@ const OPTIONS = {
     extraKeys: { Tab: false, "Shift-Tab": false },
 };
 
+/** What is quick and what is slow, in milliseconds. */
+const QUICK = 30;
+const SLOW = 60;
+
 /** The units of UTF-16 before a column that counts characters from 1. */
 function unitsBefore(line, column) {
     return [...line].slice(0, column - 1).join("").length;
@@ -17,9 +21,10 @@ export class Source {
         this.engine = engine;
         this.list = list;
         this.marks = [];
+        this.spent = 0;
         this.editor = CodeMirror(place, { ...OPTIONS });
         this.editor.getInputField().setAttribute("aria-label", label);
-        this.editor.on("change", () => this.isQuiet || this.later(changed));
+        this.editor.on("changes", () => this.isQuiet || this.later(changed));
     }
 
     text() {
@@ -36,19 +41,24 @@ export class Source {
     }
 
     /**
-     * Looks at the text, and tells of it once the findings are painted. A text that is looked at for long is looked at less
-     * often, so that typing stays fast.
+     * Looks at the text, and tells of it once the findings are painted. Where that is quick it is done before what was typed is
+     * painted, else after it, and less often where it takes long.
      */
     later(changed) {
         const typed = {};
         this.typed = typed;
         const next = (action, wait) => setTimeout(() => this.typed === typed && action(), wait);
-        next(() => {
+        const look = () => {
             const start = performance.now();
             this.look();
             this.spent = performance.now() - start;
             requestAnimationFrame(() => next(changed, 0));
-        }, (this.spent ?? 0) > 40 ? 3 * this.spent : 0);
+        };
+        if (this.spent < QUICK) {
+            look();
+        } else {
+            next(look, this.spent > SLOW ? 3 * this.spent : 0);
+        }
     }
 
     /** Shows the findings of the text as it is. */
