@@ -6,6 +6,9 @@ from .. import repository
 ROW = b"@run "
 # The file that is the standard input.
 INPUT = "/dev/stdin"
+# The pictures of control characters, which stand for them in files, and in what is printed that of ESC does.
+PICTURES = {0x2400 + code: code for code in range(0x20)} | {0x2421: 0x7f}
+ESCAPE_PICTURE = "\u241b".encode()
 WORDS_OF_A_LIBRARY = ("--help", "--version", "-h", "-V", "help")
 
 
@@ -26,7 +29,7 @@ class Row:
             case "name":
                 self.name = argument.decode()
             case "file":
-                self.files.append((argument.decode(), bytearray(below)))
+                self.files.append((argument.decode(), bytearray(unpictured(below))))
             case "hex":
                 self.files.append((argument.decode(), bytearray(from_hex(below))))
             case "image":
@@ -36,7 +39,7 @@ class Row:
             case "more" | "times" | "numbered" | "fill":
                 lengthen(self.files[-1][1], kind, argument)
             case "status":
-                self.status, self.lines = int(argument), below
+                self.status, self.lines = int(argument), below.replace(ESCAPE_PICTURE, b"\x1b")
             case _:
                 raise ValueError(f"a part of a row that is not known: {kind}")
 
@@ -61,7 +64,15 @@ def lengthen(data, kind, argument):
     elif kind == "fill":
         data += b" " * max(0, int(argument) - len(data))
     else:
-        data += argument
+        data += unpictured(argument)
+
+
+def unpictured(text):
+    """A text in which pictures stand for control characters, with these; what is no text is as it is."""
+    try:
+        return text.decode().translate(PICTURES).encode()
+    except UnicodeDecodeError:
+        return text
 
 
 def parts(crate):
