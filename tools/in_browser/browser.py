@@ -7,15 +7,10 @@ import time
 
 from plain_edition import packages
 
-try:
-    from selenium import webdriver
-    from selenium.webdriver.chrome.service import Service
-    from selenium.webdriver.common.by import By
-    from selenium.webdriver.common.keys import Keys
-except ImportError:
-    # Debian's package is for Debian's own Python.
-    raise packages.Missing("there is no selenium for this Python: run it by /usr/bin/python3, after "
-                           + packages.apt_get(["python3-selenium"])) from None
+from selenium import webdriver
+from selenium.webdriver.chrome.service import Service
+from selenium.webdriver.common.by import By
+from selenium.webdriver.common.keys import Keys
 
 __all__ = ["Browser", "Keys"]
 PATIENCE = 20

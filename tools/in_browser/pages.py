@@ -5,6 +5,7 @@ import http.server
 import json
 import os
 import shutil
+import subprocess
 import threading
 
 from plain_edition import packages, repository, systems, workspace
@@ -16,12 +17,12 @@ MODULE = os.path.join(repository.MADE, "page_module")
 # What the module is built of, and the system that it is built for.
 LIBRARIES = ["edd_check", "edd_device", "edd_dump", "edd_explanations", "edd_panel_lines"]
 WASM, PARTS = "wasm32-unknown-unknown", "std,panic_abort"
-# The editor, and what of it is used.
-EDITOR = "/usr/share/javascript/codemirror"
-EDITOR_FILES = ("lib/codemirror.js", "lib/codemirror.css", "addon/edit/matchbrackets.js", "addon/edit/closebrackets.js",
-                "addon/fold/foldcode.js", "addon/fold/foldgutter.js", "addon/fold/foldgutter.css", "addon/fold/brace-fold.js")
-LICENSE = "/usr/share/doc/libjs-codemirror/copyright"
-BUILDING = (*packages.COMPILER, "rust-web-src", "lld", "libjs-codemirror")
+# The package of the editor, and what of it is used.
+EDITOR = "libjs-codemirror"
+EDITOR_FILES = ("/codemirror/lib/codemirror.js", "/codemirror/lib/codemirror.css", "/addon/edit/matchbrackets.js", "/addon/edit/closebrackets.js",
+                "/addon/fold/foldcode.js", "/addon/fold/foldgutter.js", "/addon/fold/foldgutter.css", "/addon/fold/brace-fold.js")
+LICENSE = "/copyright"
+BUILDING = (*packages.COMPILER, "rust-web-src", "lld", EDITOR)
 TESTING = ("chromium", "chromium-driver", "python3-selenium")
 # The example that is shown first.
 FIRST = "flow_transmitter"
@@ -60,6 +61,16 @@ def examples():
         yield {"name": name, "title": name.replace("_", " ").capitalize(), "source": f"{name}.edd", "device": device if has_device else ""}
 
 
+def editor_files():
+    """The files of the editor by their names on the page."""
+    ran = subprocess.run(["dpkg", "-L", EDITOR], capture_output=True, text=True, check=False)
+    listed = ran.stdout.splitlines()
+    found = {os.path.basename(end): next((it for it in listed if it.endswith(end)), "") for end in (*EDITOR_FILES, LICENSE)}
+    if not all(found.values()):
+        raise packages.Missing("there is no editor: " + packages.apt_get([EDITOR]))
+    return found
+
+
 def copy(source, out, name):
     place = os.path.join(out, name)
     os.makedirs(os.path.dirname(place), exist_ok=True)
@@ -68,16 +79,15 @@ def copy(source, out, name):
 
 def build(out):
     """Writes the page into the folder, and gives its files with their sizes."""
-    if not os.path.isdir(EDITOR):
-        raise packages.Missing("there is no editor: " + packages.apt_get(["libjs-codemirror"]))
+    editor = editor_files()
     wasm = module()
-    shutil.rmtree(os.path.join(out, "examples"), ignore_errors=True)
+    for folder in ("codemirror", "examples"):
+        shutil.rmtree(os.path.join(out, folder), ignore_errors=True)
     copy(wasm, out, "edd.wasm")
     for path in sorted(glob.glob(os.path.join(SOURCES, "*.*"))):
         copy(path, out, os.path.basename(path))
-    for path in EDITOR_FILES:
-        copy(os.path.join(EDITOR, path), out, os.path.join("codemirror", os.path.basename(path)))
-    copy(LICENSE, out, "codemirror/COPYRIGHT")
+    for name, path in editor.items():
+        copy(path, out, os.path.join("codemirror", name))
     listed = list(examples())
     for example in listed:
         for name in filter(None, (example["source"], example["device"])):
