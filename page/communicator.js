@@ -297,17 +297,18 @@ export class Communicator {
         return () => group.querySelector(":checked")?.value ?? sheet.entered;
     }
 
-    /** Each bit is set or cleared by itself; a method is given all at once. */
+    /** Each bit is set or cleared by itself; a method is given all at once, with those that have no name as they were. */
     bits(sheet, form, take, isAsked) {
-        const group = this.options(sheet, form, "checkbox", (box) => {
-            if (!isAsked && !take(`${box.checked ? "+" : "-"}${box.value}`, true)) {
+        let number = BigInt(sheet.entered || 0);
+        this.options(sheet, form, "checkbox", (box) => {
+            const bit = BigInt(box.value);
+            if (isAsked) {
+                number = box.checked ? number | bit : number & ~bit;
+            } else if (!take(`${box.checked ? "+" : "-"}${bit}`, true)) {
                 box.checked = !box.checked;
             }
         });
-        if (!isAsked) {
-            return () => "";
-        }
-        return () => String([...group.querySelectorAll(":checked")].reduce((sum, box) => sum | BigInt(box.value), 0n));
+        return () => (isAsked ? String(number) : "");
     }
 
     /** Lets a method go on, shows what it asks, and gives it the answers, up to its end. */

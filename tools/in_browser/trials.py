@@ -83,6 +83,18 @@ def edits(counts, browser):
     counts.check("3 Dry, Full" in browser.screen(), f"bits: {browser.screen()!r}")
 
 
+def asked_bits(counts, browser):
+    """A method that asks for bits gets those that were changed, and one that no enumerator names stays as it was."""
+    body = 'flags = 4; GET_DEV_VAR_VALUE("Which flags?", flags);'
+    browser.source(f"{LEVEL.replace('high }', 'high, ask }')}METHOD ask {{ LABEL \"Ask\"; DEFINITION {{ {body} }} }}\n")
+    browser.script("window.app.device.write(''); window.app.open()")
+    browser.click("#screen .entry", "Ask")
+    browser.click("#asked-dialog .option", "Full")
+    browser.click("#asked-dialog button", "OK")
+    browser.sees("said", "end ended")
+    counts.check("answer 0 flags=6" in browser.text("run-list"), f"the answer: {browser.text('run-list')!r}")
+
+
 def calibrate(browser, example="flow_transmitter"):
     browser.script("return window.app.example(arguments[0])", example)
     browser.sees("screen", "Calibrate")
@@ -455,7 +467,7 @@ def test(chosen=()):
         browser.theme("light")
         browser.open()
         for name, action, *more in (
-                ("the first screen", first_example), ("a changed text", changed_text), ("faults", faults), ("edits", edits),
+                ("the first screen", first_example), ("a changed text", changed_text), ("faults", faults), ("edits", edits), ("asked bits", asked_bits),
                 ("a calibration", to_its_end, program), ("an abort", aborted), ("delays", delays), ("endless methods", endless),
                 ("languages", languages),
                 ("the image", image_lines), ("texts that are kept", kept_texts), ("the keyboard", keyboard), ("looks", looks),
