@@ -14,7 +14,7 @@ use Rattle.edd_image.specs.Contents.{contents_of}
 use Rattle.edd_image.specs.Layout.{AreSections}
 use Rattle.edd_instructions.specs.Reading.{environment_of}
 use Rattle.edd_image.specs.Strings.{string_bytes}
-use Rattle.edd_instructions.specs.Agreement.{identification_in, count_in, AgreesOnData}
+use Rattle.edd_instructions.specs.Agreement.{identification_in, count_in, version_for, AgreesOnData}
 use Rattle.edd_assembly.specs.Assembly.{Lowered, assembled}
 use Rattle.edd_assembly.specs.LoweredUnits.{AreUnitsOf}
 use Rattle.edd_assembly.proofs.AttributesAgree.{attribute_agrees}
@@ -43,6 +43,10 @@ module _ (unit : Description Target) (lowered : List Lowered) (strings : List Wo
   unfolding assembled
   types_agree = types_read unit.items
 
+  version_agrees : (contents_of (assembled unit lowered strings)).version ≡ version_for unit
+  unfolding assembled
+  version_agrees = refl
+
   elements_agree : (contents_of (assembled unit lowered strings)).elements
       ≡ (environment unit).elements
   unfolding assembled
@@ -58,6 +62,7 @@ pub sections_agree_on_data : (unit : Description Target) (lowered : List Lowered
     → AreSections (assembled unit lowered (map string_of words))
     → AgreesOnData unit (contents_of (assembled unit lowered (map string_of words)))
 sections_agree_on_data unit lowered words units sections = record {
+  version = version_agrees unit lowered (map string_of words);
   identification = identification_agrees unit lowered (map string_of words);
   counts = counts_agree unit lowered (map string_of words);
   names = names_agree unit lowered (map string_of words);

@@ -219,9 +219,11 @@ count_in c kind.Collection = c.collections
 count_in c kind.Method = c.methods
 count_in c kind.Array = c.arrays
 
--- Identification, counts, names, types, and every attribute for all values of a device are those of
--- the description, and the numbers of strings stand for its strings.
+-- The version is the one that the description needs; identification, counts, names, types, and every
+-- attribute for all values of a device are those of the description, and the numbers of strings stand
+-- for its strings.
 pub record AgreesOnData (unit : Description Target) (c : Contents) : Type 0 where
+  pub version : c.version ≡ version_for unit
   pub identification : identification_in c ≡ unit.identification
   pub counts : (k : Kind) → count_in c.counts k ≡ count_of k unit.items
   pub names : (i : ItemNo) → name_numbered c i ≡ option_map (λ x. x.name) (item_at unit i)

@@ -3,6 +3,7 @@ pub mod ArrayLaws
 pub mod Belonging
 pub mod Bits
 pub mod CondRows
+pub mod Effects
 pub mod ElementSort
 pub mod ElementRows
 pub mod EveryAttribute

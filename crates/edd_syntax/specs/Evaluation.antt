@@ -1,17 +1,22 @@
 -- The values of expressions in methods.
-use Rattle.std.specs.Prelude.{true, false, not, ℤ, pos, List, [], ◌∷◌, Option, Some, None}
+use Rattle.std.specs.Prelude.{true, false, not, ℤ, pos, List, [], ◌∷◌, Option, Some, None, option_map, ⊤}
 use Rattle.edd_syntax.specs.declared.numbers.ItemNo.TheVariants as item_no
+use Rattle.edd_syntax.specs.declared.numbers.MethNo.{MethNo}
+use Rattle.edd_syntax.specs.declared.numbers.VarNo.{VarNo}
 use Rattle.edd_syntax.specs.declared.operators.Operator.TheVariants as operator
 use Rattle.edd_syntax.specs.declared.operators.IncrementOperator.{IncrementOperator}
 use Rattle.edd_syntax.specs.declared.operators.IncrementOperator.TheVariants.{PreIncrement, PostIncrement, PreDecrement, PostDecrement}
 use Rattle.edd_syntax.specs.declared.operators.Builtin.{Builtin}
 use Rattle.edd_syntax.specs.declared.operators.Builtin.TheVariants as builtin
+use Rattle.edd_syntax.specs.declared.operators.Parameter.{Parameter}
+use Rattle.edd_syntax.specs.declared.operators.Parameter.TheVariants as parameter
 use Rattle.edd_syntax.specs.Reference.{Target, Local, Item, Function}
 use Rattle.edd_syntax.specs.Expression as expr
 use Rattle.edd_syntax.specs.Expression.{Expr, Literal, Decimal, Reference, Indexed, Parentheses, Unary, Binary, Compare, LogicalAnd, LogicalOr, Conditional, Assign, CompoundAssign, Increment, Call, Arguments, Nil, Cons}
 use Rattle.edd_syntax.specs.TwosComplement.{wrap, truth, is_zero, operate, compare, apply}
 use Rattle.edd_syntax.specs.Words.{Words, words_of}
 use Rattle.edd_syntax.specs.Device.{Environment}
+use Rattle.edd_syntax.specs.SubsetRules.{parameters}
 use Rattle.edd_syntax.specs.MethodState as asks
 use Rattle.edd_syntax.specs.MethodState.{Aborted, Action, pure, stop, ◌>>=◌, ◌>>◌, number, read, read_element, assign, add_abort_method, ask}
 
@@ -24,6 +29,45 @@ pub data Given : Type 0 where
 abbrev pub referred : Expr Target → Option Target
 referred (Reference from) = Some from
 referred _ = None
+
+-- a variable of the device as an argument, with its value
+pub record DeviceValue : Type 0 where
+  pub variable : VarNo
+  pub value : ℤ
+
+-- what stands for a parameter of this sort
+abbrev pub FittingOne : Parameter → Type 0
+FittingOne parameter.Text = Words
+FittingOne parameter.Number = ℤ
+FittingOne parameter.DeviceVariable = DeviceValue
+FittingOne parameter.Method = MethNo
+
+-- one for each parameter, in their order
+abbrev pub Fitting : List Parameter → Type 0
+Fitting [] = ⊤
+Fitting (p ∷ parameters) = FittingOne p × Fitting parameters
+
+-- an argument for a parameter, if it fits
+abbrev pub fitted_one : (p : Parameter) → Given → Option (FittingOne p)
+fitted_one parameter.Text (Text text) = Some text
+fitted_one parameter.Text (Number value of) = None
+fitted_one parameter.Number (Text text) = None
+fitted_one parameter.Number (Number value of) = Some value
+fitted_one parameter.DeviceVariable (Number value (Some (Item (item_no.Variable v)))) =
+    Some (record { variable = v; value = value })
+fitted_one parameter.DeviceVariable _ = None
+fitted_one parameter.Method (Number value (Some (Item (item_no.Method m)))) = Some m
+fitted_one parameter.Method _ = None
+
+-- the arguments for the parameters, if they are as many and each fits
+abbrev pub fitted : (parameters : List Parameter) → List Given → Option (Fitting parameters)
+fitted [] [] = Some tt
+fitted [] (g ∷ given) = None
+fitted (p ∷ parameters) [] = None
+fitted (p ∷ parameters) (g ∷ given) = elim (fitted_one p g) [
+  | Some first ↦ option_map (λ rest. (first, rest)) (fitted parameters given)
+  | None ↦ None
+]
 
 module _ (env : Environment) where
   -- `++` and `--` store 1 more or 1 less; before the reference their value is what is read back,
@@ -48,54 +92,39 @@ module _ (env : Environment) where
     assign env to new
     pure old
 
-  -- arguments that no checked unit gives to the function have no effect
-  abbrev pub mismatch : Action ℤ
-  mismatch = pure (pos 0)
-
   -- what a function does with its arguments: it asks the host, reads or stores a variable, aborts,
-  -- or lists an abort method
+  -- or lists an abort method; the value of a store is 0
+  abbrev pub effect_of : (f : Builtin) → Fitting (parameters f) → Action ℤ
+  effect_of builtin.PutMessage given = ask (asks.PutMessage given.0)
+  effect_of builtin.Acknowledge given = ask (asks.Acknowledge given.0)
+  effect_of builtin.Delay given = ask (asks.Delay given.0 given.1.0)
+  effect_of builtin.GetDevVarValue given = ask (asks.GetDevVarValue given.0 given.1.0.variable)
+  effect_of builtin.SelectFromList given = ask (asks.SelectFromList given.0 given.1.0)
+  effect_of builtin.SendCommand given = ask (asks.SendCommand given.0)
+  effect_of builtin.SendCommandTrans given = ask (asks.SendCommandTrans given.0 given.1.0)
+  effect_of builtin.SaveValues given = ask asks.SaveValues
+  effect_of builtin.IvarValue given = pure given.0.value
+  effect_of builtin.LvarValue given = pure given.0.value
+  effect_of builtin.Iassign given =
+      assign env (Item (item_no.Variable given.0.variable)) given.1.0 >> pure (pos 0)
+  effect_of builtin.Lassign given =
+      assign env (Item (item_no.Variable given.0.variable)) given.1.0 >> pure (pos 0)
+  effect_of builtin.Abort given = stop Aborted
+  effect_of builtin.ProcessAbort given = stop Aborted
+  effect_of builtin.AddAbortMethod given = add_abort_method given.0
+
+  -- Arguments that don't fit the parameters have no effect and the value 0: the rules of the
+  -- profile refuse such a call.
   abbrev pub call_builtin : Builtin → List Given → Action ℤ
-  call_builtin builtin.PutMessage (Text text ∷ []) = ask (asks.PutMessage text)
-  call_builtin builtin.PutMessage _ = mismatch
-  call_builtin builtin.Acknowledge (Text text ∷ []) = ask (asks.Acknowledge text)
-  call_builtin builtin.Acknowledge _ = mismatch
-  call_builtin builtin.Delay (Number seconds _ ∷ Text text ∷ []) = ask (asks.Delay seconds text)
-  call_builtin builtin.Delay _ = mismatch
-  call_builtin builtin.GetDevVarValue (Text text ∷ Number _ (Some (Item (item_no.Variable v)))
-      ∷ []) = ask (asks.GetDevVarValue text v)
-  call_builtin builtin.GetDevVarValue _ = mismatch
-  call_builtin builtin.SelectFromList (Text text ∷ Text choices ∷ []) =
-      ask (asks.SelectFromList text choices)
-  call_builtin builtin.SelectFromList _ = mismatch
-  call_builtin builtin.SendCommand (Number n _ ∷ []) = ask (asks.SendCommand n)
-  call_builtin builtin.SendCommand _ = mismatch
-  call_builtin builtin.SendCommandTrans (Number n _ ∷ Number transaction _ ∷ []) =
-      ask (asks.SendCommandTrans n transaction)
-  call_builtin builtin.SendCommandTrans _ = mismatch
-  call_builtin builtin.SaveValues [] = ask asks.SaveValues
-  call_builtin builtin.SaveValues _ = mismatch
-  call_builtin builtin.IvarValue (Number value _ ∷ []) = pure value
-  call_builtin builtin.IvarValue _ = mismatch
-  call_builtin builtin.LvarValue (Number value _ ∷ []) = pure value
-  call_builtin builtin.LvarValue _ = mismatch
-  call_builtin builtin.Iassign (Number _ (Some to) ∷ Number value _ ∷ []) =
-      assign env to value >> pure (pos 0)
-  call_builtin builtin.Iassign _ = mismatch
-  call_builtin builtin.Lassign (Number _ (Some to) ∷ Number value _ ∷ []) =
-      assign env to value >> pure (pos 0)
-  call_builtin builtin.Lassign _ = mismatch
-  call_builtin builtin.Abort [] = stop Aborted
-  call_builtin builtin.Abort _ = mismatch
-  call_builtin builtin.ProcessAbort [] = stop Aborted
-  call_builtin builtin.ProcessAbort _ = mismatch
-  call_builtin builtin.AddAbortMethod (Number _ (Some (Item (item_no.Method m))) ∷ []) =
-      add_abort_method m
-  call_builtin builtin.AddAbortMethod _ = mismatch
+  call_builtin f given = elim (fitted (parameters f) given) [
+    | Some arguments ↦ effect_of f arguments
+    | None ↦ pure (pos 0)
+  ]
 
   unfoldable pub call : Target → List Given → Action ℤ
   call (Function f) given = call_builtin f given
-  call (Local slot) given = mismatch
-  call (Item i) given = mismatch
+  call (Local slot) given = pure (pos 0)
+  call (Item i) given = pure (pos 0)
 
   -- the value of an expression: operands from left to right, each number of 32 bits
   unfoldable mutual

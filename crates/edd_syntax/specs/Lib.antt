@@ -6,6 +6,7 @@ pub mod Attributes
 pub mod Conditional
 pub mod Device
 pub mod DeviceValues
+pub mod EffectLaw
 pub mod Elements
 pub mod Evaluation
 pub mod Execution

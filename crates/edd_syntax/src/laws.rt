@@ -1,5 +1,6 @@
 //! Laws of the meaning of the source.
 
+ghost use Rattle.edd_syntax.specs.EffectLaw.{FittingCallsHaveTheirEffect};
 ghost use Rattle.edd_syntax.specs.MoreTurns.{StatementsStay, BodiesStay, RunsStay};
 ghost use Rattle.edd_syntax.specs.WrappingLaw.{WrappingKeepsTheNumber};
 
@@ -19,4 +20,10 @@ pub fn runs_stay()
 /// power of the width from what it was.
 pub fn wrapping_keeps_the_number()
     ensures { WrappingKeepsTheNumber }
+{}
+
+/// A builtin has an effect on all arguments that fit its parameters: of a checked description no
+/// call is without one.
+pub fn fitting_calls_have_their_effect()
+    ensures { FittingCallsHaveTheirEffect }
 {}
