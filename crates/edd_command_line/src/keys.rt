@@ -1,6 +1,6 @@
 //! The words of `open` that say whether it reads lines or keys.
 
-use crate::Size;
+use crate::{Keys, Size};
 use clap::{Arg, ArgAction, ArgMatches};
 use std::alloc::Global;
 
@@ -11,6 +11,8 @@ const KEYS: &str = "keys";
 const ROWS: &str = "rows";
 
 const COLUMNS: &str = "columns";
+
+const SECONDS: &str = "seconds";
 
 const MOST: i64 = 10_000;
 
@@ -58,6 +60,13 @@ pub fn columns<'a>(alloc: Global) -> Arg<'a> {
     )
 }
 
+pub fn seconds<'a>(alloc: Global) -> Arg<'a> {
+    Arg::new(alloc, SECONDS)
+        .long(SECONDS)
+        .action(ArgAction::SetTrue)
+        .help("A read that gives nothing says that a second has passed, for --keys")
+}
+
 // The number of an option, as at least this many; the usual one where it isn't known.
 fn number_of(of: &ArgMatches<'_>, id: &str, least: u32, usual: usize) -> usize {
     match of.get_one::<u32>(id) {
@@ -66,13 +75,16 @@ fn number_of(of: &ArgMatches<'_>, id: &str, least: u32, usual: usize) -> usize {
     }
 }
 
-/// The size of the terminal whose keys are read, unless lines are read.
-pub fn keys_of(of: &ArgMatches<'_>) -> Option<Size> {
+/// The terminal whose keys are read, unless lines are read.
+pub fn keys_of(of: &ArgMatches<'_>) -> Option<Keys> {
     if !of.get_flag(KEYS) || of.get_flag(LINES) {
         return None;
     }
-    Some(Size {
-        rows: number_of(of, ROWS, 2, USUAL.rows),
-        columns: number_of(of, COLUMNS, 1, USUAL.columns),
+    Some(Keys {
+        size: Size {
+            rows: number_of(of, ROWS, 2, USUAL.rows),
+            columns: number_of(of, COLUMNS, 1, USUAL.columns),
+        },
+        has_seconds: of.get_flag(SECONDS),
     })
 }

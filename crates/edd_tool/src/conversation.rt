@@ -85,22 +85,22 @@ fn ask_device<'a>(
 }
 
 // Who answers a request: a message is answered at once, and a device, where there is one, answers
-// what needs no user.
+// what needs no user. A delay that is held is left to the user.
 fn reply_to<'a>(
     alloc: Global,
     panel: &Panel<'_, '_>,
     request: Request,
     device: &mut Option<Device<'_, '_>>,
+    holds_delays: bool,
 ) -> Result<Reply, Stop<'a>> {
-    if let Request::PutMessage(_) = request {
-        return Ok(Reply::Given(Answer::Go {
+    match (request, device) {
+        (Request::PutMessage(_), _) => Ok(Reply::Given(Answer::Go {
             code: 0,
             sets: Vec::new(alloc),
-        }));
-    }
-    match device {
-        Some(device) => ask_device(alloc, panel, request, device),
-        None => Ok(Reply::User),
+        })),
+        (Request::Delay(_, _), _) if holds_delays => Ok(Reply::User),
+        (_, Some(device)) => ask_device(alloc, panel, request, device),
+        (_, None) => Ok(Reply::User),
     }
 }
 
@@ -144,11 +144,33 @@ fn give_up<'a, W: Write>(
     Ok(())
 }
 
-/// Lets the method go on until it asks the user or is over, and says where it is.
+/// Gives the pending request its answer, and says whether it needed no user.
+pub fn reply<'a, W: Write>(
+    alloc: Global,
+    panel: &mut Panel<'_, '_>,
+    device: &mut Option<Device<'_, '_>>,
+    holds_delays: bool,
+    out: &mut W,
+    noted: &mut String,
+) -> Result<bool, Stop<'a>> {
+    let Some(Turn::Asks(request)) = panel.turn() else {
+        return Ok(false);
+    };
+    match reply_to(alloc, panel, request, device, holds_delays)? {
+        Reply::Given(answer) => give(alloc, panel, request, &answer, out, noted)?,
+        Reply::Fault(why) => give_up(alloc, panel, request, &why, out, noted)?,
+        Reply::User => return Ok(false),
+    }
+    Ok(true)
+}
+
+/// Lets the method go on until it asks the user or is over, and says where it is. A delay is the
+/// user's where delays are held.
 pub fn settle<'a, W: Write>(
     alloc: Global,
     panel: &mut Panel<'_, '_>,
     device: &mut Option<Device<'_, '_>>,
+    holds_delays: bool,
     out: &mut W,
     noted: &mut String,
 ) -> Result<Option<Turn>, Stop<'a>> {
@@ -156,14 +178,12 @@ pub fn settle<'a, W: Write>(
         let Some(turn) = panel.advance(STEPS) else {
             return Ok(None);
         };
-        let Turn::Asks(request) = turn else {
+        if !matches!(turn, Turn::Asks(_)) {
             show_end(alloc, turn, out)?;
             return Ok(panel.turn());
-        };
-        match reply_to(alloc, panel, request, device)? {
-            Reply::Given(answer) => give(alloc, panel, request, &answer, out, noted)?,
-            Reply::Fault(why) => give_up(alloc, panel, request, &why, out, noted)?,
-            Reply::User => return Ok(Some(turn)),
+        }
+        if !reply(alloc, panel, device, holds_delays, out, noted)? {
+            return Ok(Some(turn));
         }
     }
     Ok(panel.turn())
@@ -303,7 +323,7 @@ pub fn leave<'a, W: Write>(
             return Ok(());
         }
         abort(panel, noted)?;
-        if let Some(Turn::Asks(_)) = settle(alloc, panel, device, out, noted)? {
+        if let Some(Turn::Asks(_)) = settle(alloc, panel, device, false, out, noted)? {
             show(alloc, panel, out)?;
         }
     }
@@ -323,7 +343,7 @@ pub fn converse<'a, R: Read, W: Write>(
     let mut next = Next::View;
     for _ in 0..u64::MAX {
         if matches!(next, Next::View) {
-            settle(alloc, panel, device, console.out, noted)?;
+            settle(alloc, panel, device, false, console.out, noted)?;
             show(alloc, panel, console.out)?;
         }
         next = match ask(alloc, panel, console)? {

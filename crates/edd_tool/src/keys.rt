@@ -2,14 +2,15 @@
 
 ghost use Rattle.std.specs.Prelude.{◌≡◌, ℤ, Ok, Some};
 
-use crate::conversation::{Next, follow, leave, settle};
+use crate::conversation::{Next, follow, leave, reply, settle};
 use crate::files::FileFault;
 use crate::input::Bytes;
 use crate::opening::INPUT;
 use crate::requests::{Stop, of_file};
-use edd_command_line::Size;
+use edd_command_line::{Keys, Size};
 use edd_device::Device;
 use edd_display::print_text;
+use edd_instructions::Request;
 use edd_keys::{
     Act, Frame, KEYS, Key, KeyBytes, Keypad, Rows, Shown, Stage, Taken, Window, fold,
     height_beside, push_frame,
@@ -21,23 +22,39 @@ use edd_screens::{Line, line_of};
 use std::alloc::{AllocError, Global};
 use std::io::{Read, Write};
 
+/// After so many seconds without a key the input is at its end: a day.
+const IDLE: u32 = 86_400;
+
 /// A terminal in raw mode.
 #[derive(Drop)]
 pub struct Terminal<'t, R, W> {
     bytes: Bytes<R>,
     keys: KeyBytes,
     size: Size,
+    has_seconds: bool,
+    /// How many seconds have passed since the last key.
+    idle: u32,
     out: &'t mut W,
     /// Whether there is a screen below which the cursor goes at the end.
     is_drawn: bool,
 }
 
+// What comes from a terminal: a key, a second without one, or the end.
+#[derive(Clone, Copy)]
+enum Event {
+    Key(Key),
+    Second,
+    End,
+}
+
 impl<'t, R: Read, W: Write> Terminal<'t, R, W> {
-    pub fn new(input: R, size: Size, out: &'t mut W) -> Terminal<'t, R, W> {
+    pub fn new(input: R, keys: Keys, out: &'t mut W) -> Terminal<'t, R, W> {
         Terminal {
             bytes: Bytes::new(input),
             keys: KeyBytes::new(),
-            size,
+            size: keys.size,
+            has_seconds: keys.has_seconds,
+            idle: 0,
             out,
             is_drawn: false,
         }
@@ -50,27 +67,48 @@ impl<'t, R: Read, W: Write> Terminal<'t, R, W> {
         };
     }
 
-    // The next key, or nothing at the end.
-    fn key(&mut self) -> Result<Option<Key>, FileFault> {
-        for _ in 0..u64::MAX {
-            let Some(byte) = self.bytes.next()? else {
-                break;
-            };
-            match self.keys.take(byte) {
-                Taken::Key(key) => return Ok(Some(key)),
-                Taken::Before(key) => {
-                    self.bytes.put_back();
-                    return Ok(Some(key));
-                }
-                Taken::Nothing => {}
+    // What a byte makes of those before it, if that is a key.
+    fn key_of(&mut self, byte: u8) -> Option<Key> {
+        match self.keys.take(byte) {
+            Taken::Key(key) => Some(key),
+            Taken::Before(key) => {
+                self.bytes.put_back();
+                Some(key)
             }
-            if self.bytes.is_alone()
-                && let Some(key) = self.keys.pause()
-            {
-                return Ok(Some(key));
+            Taken::Nothing if self.bytes.is_alone() => self.keys.pause(),
+            Taken::Nothing => None,
+        }
+    }
+
+    // What a read that gave nothing says.
+    fn silence(&mut self) -> Event {
+        if let Some(key) = self.keys.pause() {
+            return Event::Key(key);
+        }
+        if !self.has_seconds || self.idle >= IDLE {
+            return Event::End;
+        }
+        self.idle = self.idle.saturating_add(1);
+        Event::Second
+    }
+
+    // What comes next; a second counts where one is waited for, and is passed over elsewhere.
+    fn next(&mut self, counts: bool) -> Result<Event, FileFault> {
+        for _ in 0..u64::MAX {
+            let event = match self.bytes.next()? {
+                Some(byte) => {
+                    self.idle = 0;
+                    self.key_of(byte).map(Event::Key)
+                }
+                None => Some(self.silence()),
+            };
+            match event {
+                Some(Event::Second) if !counts => {}
+                Some(event) => return Ok(event),
+                None => {}
             }
         }
-        Ok(self.keys.pause())
+        Ok(Event::End)
     }
 }
 
@@ -90,6 +128,9 @@ struct Screen {
 struct Desk {
     keypad: Keypad,
     told: Vec<u8>,
+    /// Whether the seconds of a delay are counted, and how many of the pending one have passed.
+    has_seconds: bool,
+    waited: u32,
 }
 
 fn stage_of(panel: &Panel<'_, '_>) -> Stage {
@@ -100,6 +141,14 @@ fn stage_of(panel: &Panel<'_, '_>) -> Stage {
             Some(_) => Stage::Variable,
             None => Stage::Menu,
         },
+    }
+}
+
+// The seconds of the pending delay, if one is pending.
+fn seconds_of(panel: &Panel<'_, '_>) -> Option<u32> {
+    match panel.turn() {
+        Some(Turn::Asks(Request::Delay(seconds, _))) => Some(seconds.max(0).unsigned_abs()),
+        _ => None,
     }
 }
 
@@ -164,19 +213,21 @@ fn draw<'a, W: Write>(
     panel: &Panel<'_, '_>,
     screen: &Screen,
     window: Window,
+    left: Option<u32>,
     typed: &str,
     columns: usize,
     out: &mut W,
 ) -> Result<(), Stop<'a>> {
-    let prompt = match screen.stage {
-        Stage::Page => "Enter?",
-        _ => prompt_of(panel),
+    let prompt = match (screen.stage, left) {
+        (Stage::Page, _) => String::from_str(alloc, "Enter?")?,
+        (_, Some(left)) => format!(in alloc; "{left} s left, Enter?")?,
+        (_, None) => String::from_str(alloc, prompt_of(panel))?,
     };
     let frame = Frame {
         rows: &screen.rows.text,
         window,
         told: &screen.told,
-        prompt,
+        prompt: &prompt,
         typed,
         columns,
     };
@@ -244,12 +295,30 @@ impl Desk {
             return Ok(Next::Prompt);
         }
         let stage = stage_of(panel);
-        let next = follow(alloc, panel, line, &mut self.told, noted)?;
+        let holds = self.has_seconds;
+        let is_over = matches!(line, Line::Command(Command::Enter))
+            && seconds_of(panel).is_some()
+            && reply(alloc, panel, device, false, &mut self.told, noted)?;
+        let next = if is_over {
+            Next::View
+        } else {
+            follow(alloc, panel, line, &mut self.told, noted)?
+        };
         if matches!(next, Next::View) {
+            self.waited = 0;
             self.keypad.leave(stage);
-            settle(alloc, panel, device, &mut self.told, noted)?;
+            settle(alloc, panel, device, holds, &mut self.told, noted)?;
         }
         Ok(next)
+    }
+
+    // How many seconds the pending delay has left, where they are counted.
+    fn seconds_left(&self, panel: &Panel<'_, '_>, stage: Stage) -> Option<u32> {
+        if !self.has_seconds || stage == Stage::Page {
+            return None;
+        }
+        let seconds = seconds_of(panel)?;
+        Some(seconds.saturating_sub(self.waited))
     }
 
     // Does what a key asks for where this was shown.
@@ -278,6 +347,7 @@ fn show<'a, R: Read, W: Write>(
     alloc: Global,
     panel: &Panel<'_, '_>,
     screen: &Screen,
+    left: Option<u32>,
     terminal: &mut Terminal<'_, R, W>,
     keypad: &mut Keypad,
 ) -> Result<Window, Stop<'a>> {
@@ -289,6 +359,7 @@ fn show<'a, R: Read, W: Write>(
         panel,
         screen,
         window,
+        left,
         keypad.typed(),
         columns,
         terminal.out,
@@ -297,7 +368,8 @@ fn show<'a, R: Read, W: Write>(
     Ok(window)
 }
 
-// Draws the screen, takes a key, and does what it asks for.
+// Draws the screen, takes a key, and does what it asks for. A delay whose time is over goes on as by
+// Enter.
 fn take_key<'a, R: Read, W: Write>(
     alloc: Global,
     panel: &mut Panel<'_, '_>,
@@ -308,20 +380,29 @@ fn take_key<'a, R: Read, W: Write>(
 ) -> Result<Next, Stop<'a>> {
     let bits = desk.keypad.bits();
     let screen = screen_now(alloc, panel, bits, desk.told(), terminal.size)?;
-    let window = show(alloc, panel, &screen, terminal, &mut desk.keypad)?;
-    let key = terminal.key().map_err(|fault| of_file(INPUT, fault))?;
-    match key {
-        None => Ok(Next::End),
-        Some(Key::Size { rows, columns }) => {
+    let left = desk.seconds_left(panel, screen.stage);
+    let window = show(alloc, panel, &screen, left, terminal, &mut desk.keypad)?;
+    let event = terminal
+        .next(left.is_some())
+        .map_err(|fault| of_file(INPUT, fault))?;
+    let act = match event {
+        Event::End => return Ok(Next::End),
+        Event::Second => {
+            desk.waited = desk.waited.saturating_add(1);
+            if left.unwrap_or(0) > 1 {
+                return Ok(Next::Prompt);
+            }
+            Act::Enter
+        }
+        Event::Key(Key::Size { rows, columns }) => {
             terminal.resize(rows, columns);
-            Ok(Next::Prompt)
+            return Ok(Next::Prompt);
         }
-        Some(key) => {
-            let shown = shown_of(&screen);
-            let act = desk.keypad.press(alloc, key, &shown, window.height)?;
-            desk.take(alloc, panel, device, screen.stage, act, noted)
-        }
-    }
+        Event::Key(key) => desk
+            .keypad
+            .press(alloc, key, &shown_of(&screen), window.height)?,
+    };
+    desk.take(alloc, panel, device, screen.stage, act, noted)
 }
 
 fn take_keys<'a, R: Read, W: Write>(
@@ -334,6 +415,8 @@ fn take_keys<'a, R: Read, W: Write>(
     let mut desk = Desk {
         keypad: Keypad::new(alloc),
         told: Vec::new(alloc),
+        has_seconds: terminal.has_seconds,
+        waited: 0,
     };
     for _ in 0..u64::MAX {
         let next = take_key(alloc, panel, device, terminal, &mut desk, noted)?;

@@ -7,7 +7,7 @@ use crate::input::Lines;
 use crate::keys::{Terminal, converse_by_keys};
 use crate::requests::{Stop, of_file, read, read_device, read_script};
 use crate::script::parse_sets;
-use edd_command_line::{Opening, Size};
+use edd_command_line::{Keys, Opening};
 use edd_compiler::compile;
 use edd_device::Device;
 use edd_loader::{Image, load};
@@ -27,8 +27,8 @@ const MAGIC: &[u8] = b"EDI1";
 #[derive(Clone, Copy)]
 pub struct Manner<'l> {
     pub language: &'l str,
-    /// Where keys are read and no lines, the size of their terminal.
-    pub keys: Option<Size>,
+    /// Where keys are read and no lines, their terminal.
+    pub keys: Option<Keys>,
 }
 
 // The image in the bytes of a file: of a source what it is compiled to.
@@ -57,8 +57,8 @@ fn talk<'a, R: Read + Drop, W: Write>(
         return Err(Stop::Values(ValuesFault::Range));
     };
     match manner.keys {
-        Some(size) => {
-            let mut terminal = Terminal::new(input, size, out);
+        Some(keys) => {
+            let mut terminal = Terminal::new(input, keys, out);
             converse_by_keys(alloc, &mut panel, &mut device, &mut terminal, &mut noted)?;
         }
         None => {

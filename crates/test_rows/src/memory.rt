@@ -62,13 +62,37 @@ const LEAST_READ: usize = 7;
 /// The file of this name has no end, and its reads do not count.
 const ENDLESS: &str = "endless";
 
+/// What a user types is in it.
+const INPUT: &str = "/dev/stdin";
+
+/// Among what a user types it stands for a read that gives nothing.
+const PAUSE: u8 = 0x16;
+
 /// Gives at most seven bytes a read, and more of a long file.
 #[derive(Drop)]
 pub struct MemoryReader<'a> {
     rest: &'a [u8],
     most: usize,
     is_endless: bool,
+    has_pauses: bool,
     reads: &'a Passes,
+}
+
+impl MemoryReader<'_> {
+    // What is typed up to the next pause; at a pause nothing.
+    fn typed(&mut self, buf: &mut [u8]) -> usize {
+        let mut count = 0;
+        for (place, byte) in buf.iter_mut().zip(self.rest.iter()) {
+            if *byte == PAUSE {
+                break;
+            }
+            *place = *byte;
+            count += 1;
+        }
+        let passed = if count == 0 { 1 } else { count };
+        self.rest = self.rest.get(passed..).unwrap_or(&[]);
+        count
+    }
 }
 
 impl Read for MemoryReader<'_> {
@@ -80,6 +104,9 @@ impl Read for MemoryReader<'_> {
             return Err(io::Error::from(io::ErrorKind::Other));
         }
         let room = buf.len().min(self.most);
+        if self.has_pauses {
+            return Ok(self.typed(&mut buf[..room]));
+        }
         self.rest.read(&mut buf[..room])
     }
 }
@@ -96,6 +123,7 @@ impl<'a> Files for MemoryFiles<'a> {
                 rest: b"",
                 most: 0,
                 is_endless: true,
+                has_pauses: false,
                 reads: self.reads,
             });
         }
@@ -105,6 +133,7 @@ impl<'a> Files for MemoryFiles<'a> {
                     rest: file.bytes.as_slice(),
                     most: LEAST_READ.saturating_add(file.bytes.len() / 256),
                     is_endless: false,
+                    has_pauses: name == INPUT,
                     reads: self.reads,
                 });
             }
